@@ -1,0 +1,76 @@
+-- When a word writes a number up to a limit.
+use Rattle.std.proofs.Common.{◌≡◌, ◌<◌, ◌≤◌, ◌+◌, ◌*◌, ℕ, Bool, true, false, cond, ◌&&◌, List, [], ◌∷◌, Option, Some, None, length, get_or, take, refl, sym, ap, ◌∙◌, arith, rules, leb, ltb, ◌-◌, ◌^◌}
+use Rattle.std.proofs.lemmas.Bool.{le-leb, leb-true, le-ltb, lt-ltb}
+use Rattle.std.proofs.lemmas.Str.Parse.{IsNumeralModel, numerals_by_value, tells_all_ascii_digits, digit_at, digits_value-take-le}
+use Rattle.std.proofs.lemmas.Int.Digits.{digits_value_more, digits_more}
+use Rattle.std.proofs.lemmas.List.{take_all}
+use Rattle.std.specs.Str.{all_ascii_digits}
+use Rattle.std.specs.Str.Parse.{digits_value, AllDigits}
+use Rattle.std.specs.Char.{digit_value, is_ascii_digit}
+use Rattle.mc_command.specs.Words.{is_nonempty}
+use Rattle.mc_command.specs.Numbers.{number_up_to, is_numeral}
+
+pub own : IsNumeralModel (λ ds. all_ascii_digits ds ≡ true) (digits_value 10)
+own = numerals_by_value _ tells_all_ascii_digits
+
+chosen : (a b c : Bool) (n : ℕ) → (a ≡ true → b ≡ true → c ≡ true → Some n ≡ None) → cond ((a && b) && c) (Some n) None ≡ None
+chosen true true true n h = h refl refl refl
+chosen true true false n h = refl
+chosen true false c n h = refl
+chosen false b c n h = refl
+
+pub number-none : (limit : ℕ) (word : List ℕ) → (AllDigits 10 word → digits_value 10 word ≤ limit → 0 < length word → Some (digits_value 10 word) ≡ None) → number_up_to limit word ≡ None
+number-none limit [] refused = refl
+number-none limit (b ∷ word) refused =
+    chosen true (all_ascii_digits (b ∷ word)) (leb (digits_value 10 (b ∷ word)) limit) (digits_value 10 (b ∷ word))
+    (λ _ digits le. refused (own.to (b ∷ word) digits) (leb-true _ _ le) (omega arith))
+
+pub number-some : (limit : ℕ) (word : List ℕ) → AllDigits 10 word → digits_value 10 word ≤ limit → 0 < length word → number_up_to limit word ≡ Some (digits_value 10 word)
+number-some limit [] digits le some = absurd (omega arith)
+number-some limit (b ∷ word) digits le some =
+    let d : all_ascii_digits (b ∷ word) ≡ true = own.from (b ∷ word) digits in
+    let l : leb (digits_value 10 (b ∷ word)) limit ≡ true = le-leb _ _ le in
+    ap (λ (t : Bool). cond (t && leb (digits_value 10 (b ∷ word)) limit) (Some (digits_value 10 (b ∷ word))) None) d
+    ∙ ap (λ (t : Bool). cond t (Some (digits_value 10 (b ∷ word))) None) l
+
+digit_value-is : (b : ℕ) → 48 ≤ b → b < 58 → digit_value b ≡ b - 48
+digit_value-is b low high =
+    let l : ltb b 48 ≡ false = le-ltb b 48 low in
+    let h : ltb b 58 ≡ true = lt-ltb b 58 high in
+    rw (l, h) refl
+
+-- one digit more
+module _ (word : List ℕ) (i : ℕ) (inside : i < length word) (n : ℕ) (value : n ≡ digits_value 10 (take i word)) where
+  abbrev byte : ℕ
+  byte = get_or word i 0
+
+  more : digits_value 10 (take (i + 1) word) ≡ n * 10 + digit_value byte
+  more = rw value (digits_value_more 10 word i inside)
+
+  pub value-more : 48 ≤ byte → byte < 58 → n * 10 + (byte - 48) ≡ digits_value 10 (take (i + 1) word)
+  value-more low high = sym (more ∙ ap (λ d. n * 10 + d) (digit_value-is byte low high))
+
+  pub digits-more : AllDigits 10 (take i word) → 48 ≤ byte → byte < 58 → AllDigits 10 (take (i + 1) word)
+  digits-more digits low high = digits_more 10 word i inside digits (rw (digit_value-is byte low high) (omega arith))
+
+  -- another byte than a digit
+  pub none-other : (limit : ℕ) → (48 ≤ byte → byte < 58 → ⊥) → number_up_to limit word ≡ None
+  none-other limit other = number-none limit word (λ digits le some. let at = digit_at word i digits inside in absurd (other at.0 (omega (arith, at.1))))
+
+  pub none-mul : (limit : ℕ) → limit < 2 ^ 64 → (n * 10 < 2 ^ 64 → ⊥) → number_up_to limit word ≡ None
+  none-mul limit small over = number-none limit word (λ digits le some. absurd (over (omega (arith, more, digits_value-take-le 10 word (i + 1) (omega arith)))))
+
+  pub none-add : (limit : ℕ) → limit < 2 ^ 64 → 48 ≤ byte → byte < 58 → (n * 10 + (byte - 48) < 2 ^ 64 → ⊥) → number_up_to limit word ≡ None
+  none-add limit small low high over =
+      number-none limit word (λ digits le some. absurd (over (omega (arith, value-more low high, digits_value-take-le 10 word (i + 1) (omega arith)))))
+
+-- all of the word was read
+module _ (word : List ℕ) (i : ℕ) (end : length word ≤ i) (n : ℕ) (value : n ≡ digits_value 10 (take i word)) (some : 0 < length word) (limit : ℕ) where
+  whole : n ≡ digits_value 10 word
+  whole = value ∙ ap (digits_value 10) (take_all i word end)
+
+  pub whole-some : AllDigits 10 (take i word) → n ≤ limit → number_up_to limit word ≡ Some n
+  whole-some digits le = number-some limit word (rw take_all at digits) (rw (← whole) le) some ∙ ap Some (sym whole)
+
+  pub whole-none : limit < n → number_up_to limit word ≡ None
+  whole-none over = number-none limit word (λ digits le some. absurd (omega (arith, whole)))

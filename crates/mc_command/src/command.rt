@@ -1,0 +1,170 @@
+ghost use Rattle.std.specs.Prelude.{◌≡◌, ◌<◌, [], ◌∷◌, length, slice_get};
+ghost use Rattle.mc_command.specs.Commands.{steps, is_quiet, IsSingle};
+
+use crate::bytes::Bytes;
+use crate::keys::Keys;
+use crate::step::{KeyStep, Verb};
+
+/// A command whose keys and block lie in the input. A quiet one ended in `noreply`.
+#[derive(Drop)]
+pub enum Command<'a> {
+    /// set, add, replace, append, prepend
+    Store {
+        verb: Verb,
+        key: Bytes<'a>,
+        flags: u32,
+        exptime: i64,
+        block: Bytes<'a>,
+        quiet: bool,
+    },
+    /// cas
+    Cas {
+        key: Bytes<'a>,
+        flags: u32,
+        exptime: i64,
+        block: Bytes<'a>,
+        unique: u64,
+        quiet: bool,
+    },
+    /// get, gets
+    Get {
+        keys: Keys<'a>,
+        with_unique: bool,
+    },
+    /// gat, gats
+    GetTouch {
+        exptime: i64,
+        keys: Keys<'a>,
+        with_unique: bool,
+    },
+    /// touch
+    Touch {
+        key: Bytes<'a>,
+        exptime: i64,
+        quiet: bool,
+    },
+    /// delete
+    Delete {
+        key: Bytes<'a>,
+        quiet: bool,
+    },
+    /// incr, decr
+    Count {
+        key: Bytes<'a>,
+        up: bool,
+        by: u64,
+        quiet: bool,
+    },
+    /// flush_all, with a delay of 0 where none is given
+    FlushAll {
+        delay: u64,
+        quiet: bool,
+    },
+    Version,
+    Quit,
+}
+
+/// How many steps the command has: one a key for a retrieval, none for version and quit, one for every other.
+pub fn steps_of(command: &Command<'_>) -> usize
+    ensures { result ≡ length (steps command.now) }
+{
+    match command {
+        Command::Get { keys, .. } | Command::GetTouch { keys, .. } => keys.len(),
+        Command::Version | Command::Quit => 0,
+        _ => 1,
+    }
+}
+
+/// Whether the command ended in `noreply`.
+pub fn is_quiet(command: &Command<'_>) -> bool
+    ensures { result ≡ is_quiet command.now }
+{
+    match command {
+        Command::Store { quiet, .. }
+        | Command::Cas { quiet, .. }
+        | Command::Touch { quiet, .. }
+        | Command::Delete { quiet, .. }
+        | Command::Count { quiet, .. }
+        | Command::FlushAll { quiet, .. } => *quiet,
+        Command::Get { .. } | Command::GetTouch { .. } | Command::Version | Command::Quit => false,
+    }
+}
+
+/// Step `at` of the command, counted from 0.
+pub fn step_at<'a>(command: &Command<'a>, at: usize) -> KeyStep<'a>
+    requires { at < length (steps command.now) }
+    ensures { slice_get (steps command.now) at ≡ Some result }
+{
+    match command {
+        Command::Get { keys, .. } => KeyStep::Read {
+            key: key_at(keys, at),
+        },
+        Command::GetTouch { exptime, keys, .. } => KeyStep::ReadTouch {
+            key: key_at(keys, at),
+            exptime: *exptime,
+        },
+        _ => only_step(command),
+    }
+}
+
+fn key_at<'a>(keys: &Keys<'a>, at: usize) -> Bytes<'a>
+    requires { at < length keys.now }
+    ensures { slice_get keys.now at ≡ Some result }
+{
+    match keys.get(at) {
+        Some(key) => Bytes::of(key),
+        None => unreachable!(),
+    }
+}
+
+/// The step of a command that has just one.
+fn only_step<'a>(command: &Command<'a>) -> KeyStep<'a>
+    requires { IsSingle command.now }
+    ensures { steps command.now ≡ result ∷ [] }
+{
+    match command {
+        Command::Store {
+            verb,
+            key,
+            flags,
+            exptime,
+            block,
+            ..
+        } => KeyStep::Store {
+            verb: *verb,
+            key: Bytes::of(key.as_slice()),
+            flags: *flags,
+            exptime: *exptime,
+            block: Bytes::of(block.as_slice()),
+        },
+        Command::Cas {
+            key,
+            flags,
+            exptime,
+            block,
+            unique,
+            ..
+        } => KeyStep::Cas {
+            key: Bytes::of(key.as_slice()),
+            flags: *flags,
+            exptime: *exptime,
+            block: Bytes::of(block.as_slice()),
+            unique: *unique,
+        },
+        Command::Touch { key, exptime, .. } => KeyStep::Touch {
+            key: Bytes::of(key.as_slice()),
+            exptime: *exptime,
+        },
+        Command::Delete { key, .. } => KeyStep::Delete {
+            key: Bytes::of(key.as_slice()),
+        },
+        Command::Count { key, up, by, .. } => KeyStep::Count {
+            key: Bytes::of(key.as_slice()),
+            up: *up,
+            by: *by,
+        },
+        Command::FlushAll { delay, .. } => KeyStep::Flush { delay: *delay },
+        Command::Get { .. } | Command::GetTouch { .. } | Command::Version | Command::Quit =>
+            unreachable!(),
+    }
+}

@@ -1,0 +1,22 @@
+//! Commands as they are lent, their steps on keys, the replies, and the plain store.
+#![tactic(auto)]
+
+mod block;
+mod bytes;
+mod command;
+mod fault;
+mod keys;
+mod number;
+mod reply;
+mod step;
+mod words;
+
+pub use block::Block;
+pub use bytes::Bytes;
+pub use command::{Command, is_quiet, step_at, steps_of};
+pub use fault::LineFault;
+pub use keys::Keys;
+pub use number::number_up_to;
+pub use reply::Reply;
+pub use step::{KeyStep, StepFault, Steps, Verb};
+pub use words::{Words, first_word};

@@ -1,0 +1,111 @@
+ghost use Rattle.std.specs.Prelude.{◌≡◌};
+ghost use Rattle.mc_command.specs.declared.step.StepFault.TheVariants.{NoMemory};
+
+use crate::bytes::Bytes;
+use crate::reply::Reply;
+use mc_time::Moment;
+use std::alloc::{AllocError, AllocFailed, Global};
+use thiserror::Error;
+
+/// How a storage command stores (protocol.txt, "Storage commands").
+#[derive(Clone, Copy, Debug, PartialEq, Eq)]
+pub enum Verb {
+    /// In any case.
+    Set,
+    /// Only where no item stands.
+    Add,
+    /// Only where an item stands.
+    Replace,
+    /// The block after the standing item's.
+    Append,
+    /// The block before the standing item's.
+    Prepend,
+}
+
+/// What a command asks of one key.
+#[derive(Drop)]
+pub enum KeyStep<'a> {
+    Store {
+        verb: Verb,
+        key: Bytes<'a>,
+        flags: u32,
+        exptime: i64,
+        block: Bytes<'a>,
+    },
+    Cas {
+        key: Bytes<'a>,
+        flags: u32,
+        exptime: i64,
+        block: Bytes<'a>,
+        unique: u64,
+    },
+    Read {
+        key: Bytes<'a>,
+    },
+    ReadTouch {
+        key: Bytes<'a>,
+        exptime: i64,
+    },
+    Touch {
+        key: Bytes<'a>,
+        exptime: i64,
+    },
+    Delete {
+        key: Bytes<'a>,
+    },
+    Count {
+        key: Bytes<'a>,
+        up: bool,
+        by: u64,
+    },
+    Flush {
+        delay: u64,
+    },
+}
+
+/// Why a step was not taken. The store is as it was.
+#[derive(Debug, Drop, Error)]
+pub enum StepFault {
+    /// A growth was refused.
+    #[error("out of memory")]
+    NoMemory,
+    /// The write would draw the last unique number.
+    #[error("out of unique numbers")]
+    NumbersSpent,
+}
+
+impl From<AllocError> for StepFault {
+    ghost from_gives = { λ _ e. e ≡ NoMemory };
+
+    fn from(_e: AllocError) -> StepFault {
+        StepFault::NoMemory
+    }
+}
+
+impl<T: Drop> From<AllocFailed<T>> for StepFault {
+    ghost from_gives = { λ _ e. e ≡ NoMemory };
+
+    fn from(_e: AllocFailed<T>) -> StepFault {
+        StepFault::NoMemory
+    }
+}
+
+/// A store that takes steps.
+pub trait Steps {
+    ghost use Rattle.std.specs.Prelude.{◌≡◌, ◌≤◌, ℕ, length, IfOk, OnErr, Err};
+    ghost use Rattle.mc_command.specs.declared.step.KeyStep.{KeyStep};
+    ghost use Rattle.mc_command.specs.declared.reply.Reply.{Reply};
+    ghost use Rattle.mc_command.specs.Commands.{key_of};
+
+    /// The step may be taken at that moment with that reply, from one state to the other.
+    ghost took: { Self → KeyStep → ℕ → Reply → Self → Type 0 };
+    /// The unique numbers that the step needs at that moment are spent.
+    ghost spent: { Self → KeyStep → ℕ → Type 0 };
+
+    /// Takes one step on one key. Where it isn't taken the store is as it was.
+    fn step(&mut self, alloc: Global, step: &KeyStep<'_>, now: Moment) -> Result<Reply, StepFault>
+        requires { length (key_of step.now) ≤ 250 }
+        ensures took { IfOk result (λ reply. took self.old step.now now reply self.new) }
+        ensures spent { result ≡ Err StepFault.NumbersSpent → spent self.old step.now now }
+        ensures err { OnErr result (self.new ≡ self.old) };
+}

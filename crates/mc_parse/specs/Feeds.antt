@@ -1,0 +1,24 @@
+-- What a feed holds.
+use Rattle.std.specs.Prelude.{◌≡◌, ℕ, ◌-◌, List, [], ◌++◌, ◌⊎◌, length, drop}
+
+-- the greatest charge, how many bytes are still to be passed over, and the bytes that came and weren't read yet
+pub record Unread : Type 0 where
+  pub greatest : ℕ
+  pub passed : ℕ
+  pub bytes : List ℕ
+
+-- the bytes to be passed that have come are dropped
+abbrev pub settled : Unread → Unread
+settled u = record { greatest = u.greatest; passed = u.passed - length u.bytes; bytes = drop u.passed u.bytes }
+
+-- a piece of the stream has come
+abbrev pub pushed : Unread → List ℕ → Unread
+pushed u piece = settled (record u { bytes = u.bytes ++ piece })
+
+-- a unit was read: so many bytes are dropped, and so many behind them are to be passed over
+abbrev pub read : Unread → (len passed : ℕ) → Unread
+read u len passed = settled (record u { passed = passed; bytes = drop len u.bytes })
+
+-- no byte is unread while some are still to be passed over
+abbrev pub IsSettled : Unread → Type 0
+IsSettled u = (u.passed ≡ 0) ⊎ (u.bytes ≡ [])

@@ -1,0 +1,6 @@
+pub mod Exptimes
+pub mod Lines
+pub mod Units
+pub mod Peeks
+pub mod Streams
+pub mod Feeds

@@ -1,0 +1,176 @@
+-- What the words of a line say, or the first fault of the line.
+use Rattle.std.specs.Prelude.{ℕ, ◌+◌, ◌-◌, ◌^◌, ◌&&◌, Bool, true, false, List, [], ◌∷◌, length, Result, Ok, Err, Option, Some, None, nat_le, if◌then◌else◌, codes}
+use Rattle.std.specs.Str.{bytes_eq}
+use Rattle.std.specs.List.{list_all}
+use Rattle.mc_command.specs.Words.{is_nonempty}
+use Rattle.mc_command.specs.Numbers.{number_up_to}
+use Rattle.mc_command.specs.declared.command.Command.{Command}
+use Rattle.mc_command.specs.declared.command.Command.TheVariants.{Store as StoreCommand, Cas as CasCommand, Get, GetTouch, Touch, Delete, Count, FlushAll, Version, Quit}
+use Rattle.mc_command.specs.declared.step.Verb.{Verb}
+use Rattle.mc_command.specs.declared.step.Verb.TheVariants.{Set, Add, Replace, Append, Prepend}
+use Rattle.mc_command.specs.declared.fault.LineFault.{LineFault}
+use Rattle.mc_command.specs.declared.fault.LineFault.TheVariants.{Unknown, BadFormat, BadDelta, TooLarge}
+use Rattle.mc_parse.specs.declared.line.Line.{Line}
+use Rattle.mc_parse.specs.declared.line.Line.TheVariants.{Bare, Block}
+use Rattle.mc_parse.specs.declared.line.Head.{Head}
+use Rattle.mc_parse.specs.declared.line.Head.TheVariants.{Store, Cas}
+use Rattle.mc_parse.specs.declared.name.Name.{Name}
+use Rattle.mc_parse.specs.declared.name.Name.TheVariants.{StoreName, CasName, GetName, GetTouchName, TouchName, DeleteName, CountName, FlushName, VersionName, QuitName}
+use Rattle.mc_parse.specs.Exptimes.{exptime_of, delay_of}
+
+-- the command that a word names
+abbrev pub name_of : List ℕ → Option Name
+name_of word =
+    if bytes_eq word (codes "get") then Some (GetName false)
+    else if bytes_eq word (codes "set") then Some (StoreName Set)
+    else if bytes_eq word (codes "gets") then Some (GetName true)
+    else if bytes_eq word (codes "add") then Some (StoreName Add)
+    else if bytes_eq word (codes "replace") then Some (StoreName Replace)
+    else if bytes_eq word (codes "append") then Some (StoreName Append)
+    else if bytes_eq word (codes "prepend") then Some (StoreName Prepend)
+    else if bytes_eq word (codes "cas") then Some CasName
+    else if bytes_eq word (codes "gat") then Some (GetTouchName false)
+    else if bytes_eq word (codes "gats") then Some (GetTouchName true)
+    else if bytes_eq word (codes "touch") then Some TouchName
+    else if bytes_eq word (codes "delete") then Some DeleteName
+    else if bytes_eq word (codes "incr") then Some (CountName true)
+    else if bytes_eq word (codes "decr") then Some (CountName false)
+    else if bytes_eq word (codes "flush_all") then Some FlushName
+    else if bytes_eq word (codes "version") then Some VersionName
+    else if bytes_eq word (codes "quit") then Some QuitName
+    else None
+
+-- the first fault comes
+infixl 10 ◌>>=◌
+abbrev pub ◌>>=◌ : {A B : Type 0} → Result A LineFault → (A → Result B LineFault) → Result B LineFault
+Ok x >>= f = f x
+Err fault >>= f = Err fault
+
+-- a malformed word is this fault
+abbrev pub formed : {A : Type 0} → LineFault → Option A → Result A LineFault
+formed fault None = Err fault
+formed fault (Some x) = Ok x
+
+-- a key has 1 to 250 bytes; as a word of a line it has no space and no line feed
+abbrev pub is_key : List ℕ → Bool
+is_key word = is_nonempty word && nat_le (length word) 250
+
+abbrev pub key_formed : List ℕ → Result (List ℕ) LineFault
+key_formed word = if is_key word then Ok word else Err BadFormat
+
+-- [noreply]
+abbrev pub ending : List (List ℕ) → Result Bool LineFault
+ending [] = Ok false
+ending (word ∷ []) = if bytes_eq word (codes "noreply") then Ok true else Err Unknown
+ending (word ∷ more ∷ rest) = Err Unknown
+
+-- a line whose item is too large is passed over with its block and the two bytes behind it
+abbrev pub fitting : ℕ → List ℕ → ℕ → Head → Result Line LineFault
+fitting greatest key len head = if nat_le (48 + length key + len) greatest then Ok (Block head len) else Err (TooLarge (len + 2))
+
+-- <key> <flags> <exptime> <bytes> [noreply]
+abbrev pub store_line : ℕ → Verb → List (List ℕ) → Result Line LineFault
+store_line greatest verb (key ∷ flags ∷ exptime ∷ bytes ∷ rest) = do
+  quiet ← ending rest
+  k ← key_formed key
+  f ← formed BadFormat (number_up_to (2 ^ 32 - 1) flags)
+  e ← formed BadFormat (exptime_of exptime)
+  n ← formed BadFormat (number_up_to 2147483645 bytes)
+  fitting greatest k n (Store verb k f e quiet)
+store_line greatest verb args = Err Unknown
+
+-- <key> <flags> <exptime> <bytes> <cas unique> [noreply]
+abbrev pub cas_line : ℕ → List (List ℕ) → Result Line LineFault
+cas_line greatest (key ∷ flags ∷ exptime ∷ bytes ∷ unique ∷ rest) = do
+  quiet ← ending rest
+  k ← key_formed key
+  f ← formed BadFormat (number_up_to (2 ^ 32 - 1) flags)
+  e ← formed BadFormat (exptime_of exptime)
+  n ← formed BadFormat (number_up_to 2147483645 bytes)
+  u ← formed BadFormat (number_up_to (2 ^ 64 - 1) unique)
+  fitting greatest k n (Cas k f e u quiet)
+cas_line greatest args = Err Unknown
+
+-- a retrieval of these keys
+abbrev pub keys_line : List (List ℕ) → Command → Result Line LineFault
+keys_line keys command = if list_all is_key keys then Ok (Bare command) else Err BadFormat
+
+-- <key>*, at least one
+abbrev pub get_line : Bool → List (List ℕ) → Result Line LineFault
+get_line with_unique [] = Err Unknown
+get_line with_unique (key ∷ keys) = keys_line (key ∷ keys) (Get (key ∷ keys) with_unique)
+
+-- <exptime> <key>*, at least one key
+abbrev pub get_touch_line : Bool → List (List ℕ) → Result Line LineFault
+get_touch_line with_unique (exptime ∷ key ∷ keys) = do
+  e ← formed BadFormat (exptime_of exptime)
+  keys_line (key ∷ keys) (GetTouch e (key ∷ keys) with_unique)
+get_touch_line with_unique args = Err Unknown
+
+-- <key> <exptime> [noreply]
+abbrev pub touch_line : List (List ℕ) → Result Line LineFault
+touch_line (key ∷ exptime ∷ rest) = do
+  quiet ← ending rest
+  k ← key_formed key
+  e ← formed BadFormat (exptime_of exptime)
+  Ok (Bare (Touch k e quiet))
+touch_line args = Err Unknown
+
+-- [0] [noreply]
+abbrev pub delete_ending : List (List ℕ) → Result Bool LineFault
+delete_ending [] = Ok false
+delete_ending (word ∷ rest) = if bytes_eq word (codes "0") then ending rest else ending (word ∷ rest)
+
+-- <key> [0] [noreply]
+abbrev pub delete_line : List (List ℕ) → Result Line LineFault
+delete_line [] = Err Unknown
+delete_line (key ∷ rest) = do
+  quiet ← delete_ending rest
+  k ← key_formed key
+  Ok (Bare (Delete k quiet))
+
+-- <key> <value> [noreply]
+abbrev pub count_line : Bool → List (List ℕ) → Result Line LineFault
+count_line up (key ∷ value ∷ rest) = do
+  quiet ← ending rest
+  k ← key_formed key
+  by ← formed BadDelta (number_up_to (2 ^ 64 - 1) value)
+  Ok (Bare (Count k up by quiet))
+count_line up args = Err Unknown
+
+abbrev pub delayed : List ℕ → Bool → Result Line LineFault
+delayed word quiet = do
+  delay ← formed BadFormat (delay_of word)
+  Ok (Bare (FlushAll delay quiet))
+
+-- [delay] [noreply]; a lone word other than noreply is the delay
+abbrev pub flush_line : List (List ℕ) → Result Line LineFault
+flush_line [] = Ok (Bare (FlushAll 0 false))
+flush_line (word ∷ []) = if bytes_eq word (codes "noreply") then Ok (Bare (FlushAll 0 true)) else delayed word false
+flush_line (delay ∷ word ∷ rest) = do
+  quiet ← ending (word ∷ rest)
+  delayed delay quiet
+
+-- nothing more
+abbrev pub lone_line : Command → List (List ℕ) → Result Line LineFault
+lone_line command [] = Ok (Bare command)
+lone_line command (word ∷ args) = Err Unknown
+
+-- what a line of this name says
+abbrev pub named_line : ℕ → Option Name → List (List ℕ) → Result Line LineFault
+named_line greatest None args = Err Unknown
+named_line greatest (Some (StoreName verb)) args = store_line greatest verb args
+named_line greatest (Some CasName) args = cas_line greatest args
+named_line greatest (Some (GetName with_unique)) args = get_line with_unique args
+named_line greatest (Some (GetTouchName with_unique)) args = get_touch_line with_unique args
+named_line greatest (Some TouchName) args = touch_line args
+named_line greatest (Some DeleteName) args = delete_line args
+named_line greatest (Some (CountName up)) args = count_line up args
+named_line greatest (Some FlushName) args = flush_line args
+named_line greatest (Some VersionName) args = lone_line Version args
+named_line greatest (Some QuitName) args = lone_line Quit args
+
+-- what the words of a line say, where a charge may be at most greatest
+abbrev pub meaning : ℕ → List (List ℕ) → Result Line LineFault
+meaning greatest [] = Err Unknown
+meaning greatest (name ∷ args) = named_line greatest (name_of name) args

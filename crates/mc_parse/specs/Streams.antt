@@ -1,0 +1,49 @@
+-- The units of a stream.
+use Rattle.std.specs.Prelude.{◌≡◌, ℕ, Bool, true, false, List, [], ◌∷◌, ◌++◌, drop}
+use Rattle.std.specs.Bool.{MatchBool}
+use Rattle.mc_command.specs.declared.command.Command.{Command}
+use Rattle.mc_command.specs.declared.command.Command.TheVariants.{Store, Cas, Get, GetTouch, Touch, Delete, Count, FlushAll, Version, Quit}
+use Rattle.mc_command.specs.declared.fault.LineFault.{LineFault}
+use Rattle.mc_command.specs.declared.fault.LineFault.TheVariants.{Unknown, BadFormat, BadDelta, TooLarge, BadChunk}
+use Rattle.mc_parse.specs.Units.{ProtocolUnit, Request, Fault, LongLine, Spells}
+use Rattle.mc_parse.specs.Peeks.{BeginsWithNone}
+
+abbrev pub is_quit : Command → Bool
+is_quit Quit = true
+is_quit Version = false
+is_quit (Store verb key flags exptime block quiet) = false
+is_quit (Cas key flags exptime block unique quiet) = false
+is_quit (Get keys with_unique) = false
+is_quit (GetTouch exptime keys with_unique) = false
+is_quit (Touch key exptime quiet) = false
+is_quit (Delete key quiet) = false
+is_quit (Count key up by quiet) = false
+is_quit (FlushAll delay quiet) = false
+
+-- a unit that ends its stream: quit, and a line that is too long
+abbrev pub is_last : ProtocolUnit → Bool
+is_last (Request command) = is_quit command
+is_last (Fault fault) = false
+is_last LongLine = true
+
+-- how many bytes a fault passes over behind its line
+abbrev pub fault_passes : LineFault → ℕ
+fault_passes (TooLarge passed) = passed
+fault_passes Unknown = 0
+fault_passes BadFormat = 0
+fault_passes BadDelta = 0
+fault_passes BadChunk = 0
+
+-- how many bytes are passed over after a unit
+abbrev pub passed_after : ProtocolUnit → ℕ
+passed_after (Request command) = 0
+passed_after (Fault fault) = fault_passes fault
+passed_after LongLine = 0
+
+-- These are the units of a stream of which so many bytes are still to be passed over: a front of the rest spells the
+-- first, and what comes after it has the others; after the last unit nothing is read. There are none where no front spells anything.
+abbrev pub AreUnits : (greatest passed : ℕ) → List ℕ → List ProtocolUnit → Type 0
+AreUnits greatest passed bytes [] = BeginsWithNone greatest (drop passed bytes)
+AreUnits greatest passed bytes (unit ∷ units) =
+    (front : List ℕ) × (rest : List ℕ) × (drop passed bytes ≡ front ++ rest) × Spells greatest unit front
+    × MatchBool (is_last unit) (units ≡ []) (AreUnits greatest (passed_after unit) rest units)

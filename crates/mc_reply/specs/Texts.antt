@@ -1,0 +1,112 @@
+-- The texts that turns are answered with.
+use Rattle.std.specs.Prelude.{ℕ, ◌+◌, ◌==◌, Bool, true, false, List, [], ◌∷◌, ◌++◌, length, codes, decimal, if◌then◌else◌, Option, Some, None, slice_get}
+use Rattle.mc_command.specs.Commands.{is_quiet}
+use Rattle.mc_command.specs.declared.command.Command.{Command}
+use Rattle.mc_command.specs.declared.command.Command.TheVariants.{Store, Cas, Get, GetTouch, Touch, Delete, Count, FlushAll, Version, Quit}
+use Rattle.mc_command.specs.declared.reply.Reply.{Reply}
+use Rattle.mc_command.specs.declared.reply.Reply.TheVariants.{Stored, NotStored, Exists, NotFound, Miss, Hit, Touched, Deleted, Number, NotNumeric, TooLarge, NoChunk, Flushed}
+use Rattle.mc_command.specs.declared.fault.LineFault.{LineFault}
+use Rattle.mc_command.specs.declared.fault.LineFault.TheVariants.{Unknown, BadFormat, BadDelta, TooLarge as TooLargeLine, BadChunk}
+
+-- what is said of a reply that isn't a retrieval's
+abbrev pub said : Reply → List ℕ
+said Stored = codes "STORED\r\n"
+said NotStored = codes "NOT_STORED\r\n"
+said Exists = codes "EXISTS\r\n"
+said NotFound = codes "NOT_FOUND\r\n"
+said Miss = []
+said (Hit flags unique block) = []
+said Touched = codes "TOUCHED\r\n"
+said Deleted = codes "DELETED\r\n"
+said (Number number) = decimal number ++ codes "\r\n"
+said NotNumeric = codes "CLIENT_ERROR cannot increment or decrement non-numeric value\r\n"
+said TooLarge = codes "SERVER_ERROR object too large for cache\r\n"
+said NoChunk = codes "SERVER_ERROR out of memory storing object\r\n"
+said Flushed = codes "OK\r\n"
+
+-- a space and the unique number, for gets and gats
+abbrev pub unique_text : Bool → ℕ → List ℕ
+unique_text true unique = codes " " ++ decimal unique
+unique_text false unique = []
+
+-- VALUE <key> <flags> <bytes> [<cas unique>], and the block
+abbrev pub hit_text : List ℕ → Bool → (flags unique : ℕ) → List ℕ → List ℕ
+hit_text key with_unique flags unique block =
+    codes "VALUE " ++ key ++ codes " " ++ decimal flags ++ codes " " ++ decimal (length block) ++ unique_text with_unique unique ++ codes "\r\n"
+    ++ block ++ codes "\r\n"
+
+-- what a retrieval tells of a key: nothing of one that isn't found
+abbrev pub key_text : List ℕ → Bool → Reply → List ℕ
+key_text key with_unique (Hit flags unique block) = hit_text key with_unique flags unique block
+key_text key with_unique Stored = []
+key_text key with_unique NotStored = []
+key_text key with_unique Exists = []
+key_text key with_unique NotFound = []
+key_text key with_unique Miss = []
+key_text key with_unique Touched = []
+key_text key with_unique Deleted = []
+key_text key with_unique (Number number) = []
+key_text key with_unique NotNumeric = []
+key_text key with_unique TooLarge = []
+key_text key with_unique NoChunk = []
+key_text key with_unique Flushed = []
+
+-- the same of the key at a place, if there is one
+abbrev pub asked_text : Option (List ℕ) → Bool → Reply → List ℕ
+asked_text None with_unique reply = []
+asked_text (Some key) with_unique reply = key_text key with_unique reply
+
+-- END after the last key
+abbrev pub end_text : (count at : ℕ) → List ℕ
+end_text count at = if at + 1 == count then codes "END\r\n" else []
+
+-- the text of the reply to step `at` of a retrieval of these keys
+abbrev pub retrieval_text : List (List ℕ) → Bool → ℕ → Reply → List ℕ
+retrieval_text keys with_unique at reply = asked_text (slice_get keys at) with_unique reply ++ end_text (length keys) at
+
+-- a quiet command is answered nothing
+abbrev pub unless_quiet : Bool → List ℕ → List ℕ
+unless_quiet true text = []
+unless_quiet false text = text
+
+-- the text of the reply to step `at` of a command
+abbrev pub reply_text : Command → ℕ → Reply → List ℕ
+reply_text (Store verb key flags exptime block quiet) at reply = unless_quiet quiet (said reply)
+reply_text (Cas key flags exptime block unique quiet) at reply = unless_quiet quiet (said reply)
+reply_text (Get keys with_unique) at reply = retrieval_text keys with_unique at reply
+reply_text (GetTouch exptime keys with_unique) at reply = retrieval_text keys with_unique at reply
+reply_text (Touch key exptime quiet) at reply = unless_quiet quiet (said reply)
+reply_text (Delete key quiet) at reply = unless_quiet quiet (said reply)
+reply_text (Count key up by quiet) at reply = unless_quiet quiet (said reply)
+reply_text (FlushAll delay quiet) at reply = unless_quiet quiet (said reply)
+reply_text Version at reply = []
+reply_text Quit at reply = []
+
+-- the text of a command that takes no step
+abbrev pub plain_text : Command → List ℕ
+plain_text Version = codes "VERSION 1.6.0\r\n"
+plain_text Quit = []
+plain_text (Store verb key flags exptime block quiet) = []
+plain_text (Cas key flags exptime block unique quiet) = []
+plain_text (Get keys with_unique) = []
+plain_text (GetTouch exptime keys with_unique) = []
+plain_text (Touch key exptime quiet) = []
+plain_text (Delete key quiet) = []
+plain_text (Count key up by quiet) = []
+plain_text (FlushAll delay quiet) = []
+
+-- the text of a line's fault, which a noreply doesn't silence
+abbrev pub fault_text : LineFault → List ℕ
+fault_text Unknown = codes "ERROR\r\n"
+fault_text BadFormat = codes "CLIENT_ERROR bad command line format\r\n"
+fault_text BadDelta = codes "CLIENT_ERROR invalid numeric delta argument\r\n"
+fault_text (TooLargeLine passed) = codes "SERVER_ERROR object too large for cache\r\n"
+fault_text BadChunk = codes "CLIENT_ERROR bad data chunk\r\n"
+
+-- the text of a line that is too long
+abbrev pub long_text : List ℕ
+long_text = codes "CLIENT_ERROR line too long\r\n"
+
+-- the text of a step whose unique numbers are spent
+abbrev pub spent_text : Command → List ℕ
+spent_text command = unless_quiet (is_quiet command) (codes "SERVER_ERROR out of unique numbers\r\n")

@@ -1,0 +1,84 @@
+-- The turns of a session.
+use Rattle.std.specs.Prelude.{◌≡◌, ◌⊎◌, ℕ, ◌+◌, ◌<◌, ◌==◌, Bool, true, false, List, [], ◌++◌, length, drop, max, if◌then◌else◌, slice_get, MatchOption}
+use Rattle.mc_command.specs.Commands.{steps}
+use Rattle.mc_command.specs.declared.command.Command.{Command}
+use Rattle.mc_command.specs.declared.step.KeyStep.{KeyStep}
+use Rattle.mc_command.specs.declared.reply.Reply.{Reply}
+use Rattle.mc_parse.specs.Units.{ProtocolUnit, Request, Fault, LongLine, Spells}
+use Rattle.mc_parse.specs.Peeks.{BeginsWithNone}
+use Rattle.mc_parse.specs.Streams.{is_last, passed_after}
+use Rattle.mc_parse.specs.Feeds.{Unread, pushed, settled}
+use Rattle.mc_reply.specs.Texts.{reply_text, plain_text, fault_text, long_text, spent_text}
+
+-- what contracts see of a session: the unread part of its stream, how many turns of its first unit were taken, its
+-- output, and whether it is open
+pub record SessionState : Type 0 where
+  pub unread : Unread
+  pub taken : ℕ
+  pub out : List ℕ
+  pub is_open : Bool
+
+-- how many turns a unit has: one for each step of a command, and at least one
+abbrev pub turn_count : ProtocolUnit → ℕ
+turn_count (Request command) = max 1 (length (steps command))
+turn_count (Fault fault) = 1
+turn_count LongLine = 1
+
+module _ {S : Type 0} (took : S → KeyStep → ℕ → Reply → S → Type 0) (spent : S → KeyStep → ℕ → Type 0) where
+  -- a step is answered with the text of its reply, or its unique numbers are spent
+  abbrev pub AnswersStep : Command → ℕ → KeyStep → ℕ → S → S → List ℕ → Type 0
+  AnswersStep command at step now before after text =
+      ((reply : Reply) × took before step now reply after × (text ≡ reply_text command at reply))
+      ⊎ (spent before step now × (after ≡ before) × (text ≡ spent_text command))
+
+  -- turn `at` of a unit at a moment takes the store from before to after, and has this text
+  abbrev pub Answers : ProtocolUnit → ℕ → ℕ → S → S → List ℕ → Type 0
+  Answers (Request command) at now before after text =
+      MatchOption (slice_get (steps command) at) ((text ≡ plain_text command) × (after ≡ before)) (λ step. AnswersStep command at step now before after text)
+  Answers (Fault fault) at now before after text = (text ≡ fault_text fault) × (after ≡ before)
+  Answers LongLine at now before after text = (text ≡ long_text) × (after ≡ before)
+
+-- nothing is unread
+abbrev pub nothing_unread : ℕ → Unread
+nothing_unread greatest = record { greatest = greatest; passed = 0; bytes = [] }
+
+-- a session that was fed nothing
+abbrev pub opened : ℕ → SessionState
+opened greatest = record { unread = nothing_unread greatest; taken = 0; out = []; is_open = true }
+
+-- a session that is closed keeps its output alone
+abbrev pub closed : SessionState → SessionState
+closed s = record { unread = nothing_unread s.unread.greatest; taken = 0; out = s.out; is_open = false }
+
+-- a session that is open takes a piece of its stream
+abbrev pub fed : SessionState → List ℕ → SessionState
+fed s piece = if s.is_open then record s { unread = pushed s.unread piece } else s
+
+-- so many bytes of the output were sent
+abbrev pub sent : SessionState → ℕ → SessionState
+sent s n = record s { out = drop n s.out }
+
+-- The session after a turn of a unit: its text is told. With the last turn of the unit the unit is read, and the bytes
+-- that it passes over are dropped as they come; with the last unit of the stream the session is closed.
+abbrev pub moved : SessionState → ProtocolUnit → List ℕ → List ℕ → SessionState
+moved s unit rest text =
+    if is_last unit then closed (record s { out = s.out ++ text })
+    else if s.taken + 1 == turn_count unit then
+      record s { unread = settled (record { greatest = s.unread.greatest; passed = passed_after unit; bytes = rest }); taken = 0; out = s.out ++ text }
+    else record s { taken = s.taken + 1; out = s.out ++ text }
+
+-- the next turn of the session's stream was taken at a moment, with a store
+pub record TakesTurn {S : Type 0} (took : S → KeyStep → ℕ → Reply → S → Type 0) (spent : S → KeyStep → ℕ → Type 0) (now : ℕ) (old new : SessionState) (before after : S) : Type 0 where
+  pub unit : ProtocolUnit
+  pub front : List ℕ
+  pub rest : List ℕ
+  pub text : List ℕ
+  pub parts : drop old.unread.passed old.unread.bytes ≡ front ++ rest
+  pub spelled : Spells old.unread.greatest unit front
+  pub due : old.taken < turn_count unit
+  pub answers : Answers took spent unit old.taken now before after text
+  pub moves : new ≡ moved old unit rest text
+
+-- no turn is due: no front of what is unread spells anything
+abbrev pub NoTurnDue : SessionState → Type 0
+NoTurnDue s = BeginsWithNone s.unread.greatest (drop s.unread.passed s.unread.bytes)
