@@ -176,7 +176,7 @@ feed_free xs n le none =
         let inside : k < n = omega (arith, length-take n xs) in
         none k (omega arith) inside (eq-eqb _ _ (sym (get_or-take n xs k 0 inside) ∙ get_or_default (take n xs) k 0 d h ∙ is)))
 
-none_in : (greatest : ℕ) (bytes : List ℕ) → NoFeed bytes → length bytes ≤ 65536 → (unit : ProtocolUnit) (front more : List ℕ) → bytes ≡ front ++ more → Spells greatest unit front → ⊥
+pub none_in : (greatest : ℕ) (bytes : List ℕ) → NoFeed bytes → length bytes ≤ 65536 → (unit : ProtocolUnit) (front more : List ℕ) → bytes ≡ front ++ more → Spells greatest unit front → ⊥
 none_in greatest bytes none short LongLine front more e h = omega (arith, ap length e, length-append front more, h.0)
 none_in greatest bytes none short (Request c) front more e h = no_line bytes h.text (h.rest ++ more) none (e ∙ parted front h.line h.text h.rest more h.parts h.is_line.ended)
 none_in greatest bytes none short (Fault f) front more e h = no_line bytes h.text (h.rest ++ more) none (e ∙ parted front h.line h.text h.rest more h.parts h.is_line.ended)
