@@ -21,4 +21,4 @@ pub use number::number_up_to;
 pub use plain::PlainStore;
 pub use reply::Reply;
 pub use step::{KeyStep, StepFault, Steps, Verb};
-pub use words::{Words, first_word};
+pub use words::{Words, first_word, first_word_len};
