@@ -110,8 +110,8 @@ class Bench:
         self.program, self.runs = program, runs
 
     def run(self, stream, to_file=True):
-        """The median seconds of several runs, what was written in bytes, and the most memory."""
-        seconds, memory, wrote = [], 0, 0
+        """Of several runs the median seconds, those of the processor, the bytes written and the most memory."""
+        seconds, processor, memory, wrote = [], [], 0, 0
         with tempfile.TemporaryFile() as given:
             given.write(stream)
             for _ in range(self.runs):
@@ -121,12 +121,14 @@ class Bench:
                     if found["status"] != 0:
                         sys.exit(f"the program ended with status {found['status']}")
                     seconds.append(found["seconds"])
+                    processor.append(found["processor"])
                     memory = max(memory, found["memory"])
                     wrote = os.fstat(out.fileno()).st_size
-        return statistics.median(seconds), wrote, memory
+        return statistics.median(seconds), statistics.median(processor), wrote, memory
 
     def rates(self, counts, only):
-        print(f"{'commands':<17}{'number':>9}{'seconds':>9}{'a second':>12}{'MB/s in':>9}{'MB/s out':>9}  time over input, against the row above")
+        print("Time over input says by how much the processor's time grew, over how much the input did, since the row above.\n")
+        print(f"{'commands':<17}{'number':>9}{'seconds':>9}{'processor':>11}{'a second':>12}{'MB/s in':>9}{'MB/s out':>9}  time over input")
         for name, make in COMMANDS.items():
             if only not in name:
                 continue
@@ -134,26 +136,26 @@ class Bench:
             for count in counts:
                 before, commands = make(count)
                 stream = before + b"".join(commands)
-                seconds, wrote, _ = self.run(stream)
+                seconds, processor, wrote, _ = self.run(stream)
                 size = len(stream)
-                growth = f"{seconds / last[0] / (size / last[1]):.2f}" if last else ""
-                last = seconds, size
+                growth = f"{processor / last[0] / (size / last[1]):.2f}" if last else ""
+                last = max(processor, 1e-9), size
                 shown = f"{len(commands) / seconds:>12,.0f}{size / MEGA / seconds:>9.1f}{wrote / MEGA / seconds:>9.1f}"
-                print(f"{name:<17}{len(commands):>9,}{seconds:>9.3f}{shown}  {growth}", flush=True)
+                print(f"{name:<17}{len(commands):>9,}{seconds:>9.3f}{processor:>11.3f}{shown}  {growth}", flush=True)
 
     def lines(self, keys):
         """What a key costs in lines of more and more of them, all keys being hits."""
         names = [b"k%d" % it for it in range(10_000)]
         before = b"".join(stored(b"set", it, more=b" noreply") for it in names)
-        idle, _, _ = self.run(before)
-        print(f"\n{'keys in a line':<17}{'lines':>9}{'seconds':>9}{'ns a key':>12}  against the cheapest")
+        _, idle, _, _ = self.run(before)
+        print(f"\n{'keys in a line':<17}{'lines':>9}{'seconds':>9}{'ns a key':>12}  against the cheapest (of the processor's time)")
         found = []
         for each in [1, 10, 100, 1000, 10_000]:
             lines = max(keys // each, 1)
             asked = [names[it % len(names)] for it in range(lines * each)]
             made = [b"get " + b" ".join(asked[it * each : (it + 1) * each]) + b"\r\n" for it in range(lines)]
-            seconds, _, _ = self.run(before + b"".join(made))
-            found.append((each, lines, seconds, max(seconds - idle, 0) / (lines * each) * 1e9))
+            seconds, processor, _, _ = self.run(before + b"".join(made))
+            found.append((each, lines, seconds, max(processor - idle, 0) / (lines * each) * 1e9))
         least = min(it[3] for it in found) or 1
         for each, lines, seconds, cost in found:
             print(f"{each:<17,}{lines:>9,}{seconds:>9.3f}{cost:>12.0f}  {cost / least:.2f}", flush=True)
@@ -170,7 +172,7 @@ class Bench:
             "1,000 gets of one item of 1 MB": one + b"get big\r\n" * 1000,
         }
         for name, stream in inputs.items():
-            _, _, memory = self.run(stream, to_file=False)
+            _, _, _, memory = self.run(stream, to_file=False)
             print(f"{name:<45}{len(stream) / MEGA:>9.1f}{memory / MEGA:>14.1f}", flush=True)
 
 

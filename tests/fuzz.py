@@ -154,7 +154,7 @@ def compare(report, program, count, seed):
         stream = b"".join(pieces)
         size = source.size(len(stream))
         found = faults(program, stream, source.now, size)
-        if found and report.failed < 20:
+        if found and report.failed < report.TOLD:
             pieces = shorter(program, pieces, source.now, size)
             found = faults(program, b"".join(pieces), source.now, size) or found
             found.append(f"--now {source.now}, input {rows.shown(b''.join(pieces), 2000)}")

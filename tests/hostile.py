@@ -26,6 +26,7 @@ def check(report, program):
         ("help on a device that is full", full_device_of_help),
         ("an input that cannot be read", unreadable_input),
         ("memory that runs out", memory_runs_out),
+        ("an argument that is not text", argument_not_text),
     ]:
         report.count(name, faults(program))
 
@@ -140,6 +141,13 @@ def memory_runs_out(program):
         started = subprocess.Popen([program, *ARGS], stdin=given, stdout=subprocess.PIPE, stderr=subprocess.PIPE, preexec_fn=limited)
         ran = rows.outcome(started)
     found = ended(ran, 1, b"mcserver: out of memory\n")
-    if ran.stdout != b"STORED\r\n" * (len(ran.stdout or b"") // 8):
+    if not (b"STORED\r\n" * 60).startswith(ran.stdout):
         found.append(f"it wrote {rows.shown(ran.stdout)}")
     return found
+
+
+def argument_not_text(program):
+    started = subprocess.Popen([program, "--stdin", b"\xff"], stdin=subprocess.DEVNULL, stdout=subprocess.PIPE, stderr=subprocess.PIPE)
+    ran = rows.outcome(started)
+    found = [] if b"error:" in ran.stderr else [f"standard error is {rows.shown(ran.stderr)}"]
+    return found + ended(ran, 2, ran.stderr)

@@ -35,17 +35,20 @@ BYTEWISE, PIECE = 4096, 4093
 
 
 class Report:
-    """Counts, and says what failed."""
+    """Counts, and says what failed: of the first failures how, of later ones the name."""
+
+    TOLD = 30
 
     def __init__(self):
         self.passed = self.failed = 0
 
     def count(self, name, faults):
-        if faults:
-            self.failed += 1
-            print(f"FAILED {name}", *(f"    {line}" for fault in faults for line in fault.split("\n")), sep="\n", flush=True)
-        else:
+        if not faults:
             self.passed += 1
+            return
+        self.failed += 1
+        lines = [line for fault in faults for line in fault.split("\n")] if self.failed <= self.TOLD else []
+        print(f"FAILED {name}", *(f"    {line}" for line in lines), sep="\n", flush=True)
 
     def end(self):
         print(f"{self.passed} passed, {self.failed} failed", flush=True)
