@@ -3,6 +3,8 @@
 
 ghost use Rattle.std.specs.Prelude.{◌≡◌, ◌≢◌};
 ghost use Rattle.std.specs.Process.{exit_status};
+ghost use Rattle.std.specs.IoError.{error_kind};
+ghost use Rattle.std.specs.declared.io.ErrorKind.TheVariants as io_kind;
 ghost use Rattle.clap.specs.Words.{kind_of};
 ghost use Rattle.clap.specs.declared.error.kind.ErrorKind.TheVariants as kind;
 
@@ -90,7 +92,10 @@ fn shown(rt: &HostRuntime, error: &clap::Error) -> ExitCode
 }
 
 /// The words of the command line could not be read: memory is wanting, or one isn't text.
-fn not_read(rt: &HostRuntime, error: &io::Error) -> ExitCode {
+fn not_read(rt: &HostRuntime, error: &io::Error) -> ExitCode
+    ensures memory { error_kind error.now ≡ io_kind.OutOfMemory → exit_status result ≡ 1 }
+    ensures text { error_kind error.now ≢ io_kind.OutOfMemory → exit_status result ≡ 2 }
+{
     if error.kind() == io::ErrorKind::OutOfMemory {
         return said(rt, ending(&Err(ServeFault::NoMemory)));
     }
