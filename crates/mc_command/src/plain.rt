@@ -1,6 +1,8 @@
 //! The plain store: an ordered map, which takes each step as the plain machine does.
 
 mod item;
+#[cfg(test)]
+mod tests;
 
 ghost use Rattle.std.specs.Prelude.{◌≡◌, ◌≤◌, ℕ, length, decimal, Some, Err, IsErr, IfOk, OnErr};
 ghost use Rattle.std.specs.Option.{option_copied};
