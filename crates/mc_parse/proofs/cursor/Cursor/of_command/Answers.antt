@@ -1,0 +1,12 @@
+use Rattle.std.proofs.Common.{subst}
+use Rattle.mc_parse.specs.Units.{Request}
+use Rattle.mc_parse.specs.Peeks.{IsSpelled}
+use Rattle.mc_parse.proofs.cursor.Cursor.of_command.Goals as goal
+
+pub returns-in-Get-clause-some : goal.returns-in-Get-clause-some
+returns-in-Get-clause-some c =
+    λ greatest h. c.of_line.ensures.points greatest _ (subst (λ k. IsSpelled greatest (Request k, c.args.len) c.args.unread.now) c.in-Get.is h) c.len.ensures
+
+pub returns-in-GetTouch-clause-some : goal.returns-in-GetTouch-clause-some
+returns-in-GetTouch-clause-some c =
+    λ greatest h. c.of_line-in-GetTouch.ensures.points greatest _ (subst (λ k. IsSpelled greatest (Request k, c.args.len) c.args.unread.now) c.in-GetTouch.is h) c.len-in-GetTouch.ensures
