@@ -1,4 +1,4 @@
--- A note of the turns that were taken fits the bytes: before the first turn, one turn on, and where bytes come behind it.
+-- A note of the turns that were taken fits the bytes: before the first turn, and one turn on.
 use Rattle.std.proofs.Common.{◌≡◌, ◌==◌, ◌<◌, ◌≤◌, ◌+◌, ◌-◌, if◌then◌else◌, ℕ, Bool, true, false, List, [], ◌∷◌, ◌++◌, length, take, drop, refl, sym, ap, ◌∙◌, subst, arith, ℤ, Option, Some, None, Result, Ok, Err, length-append, length-drop}
 use Rattle.std.proofs.Math.Seq.{take-append_seam}
 use Rattle.std.proofs.lemmas.List.{append-nil, drop-drop, take-take, length-take, length-take-le, take-append-le, take_all}
@@ -145,28 +145,5 @@ module _ (greatest : ℕ) (bytes : List ℕ) (len : ℕ) (exptime : Option ℤ) 
         unit = Request (retrieval exptime keys with_unique);
         spelled = h;
         left = ap Request (ap (λ ws. retrieval exptime ws with_unique) keys_left ∙ sym (retrieval_whole exptime keys with_unique));
-      };
-    }
-
--- where bytes come behind them
-pub spelled_more : (greatest : ℕ) (unit : ProtocolUnit) (len : ℕ) (bytes more : List ℕ) → IsSpelled greatest (unit, len) bytes → IsSpelled greatest (unit, len) (bytes ++ more)
-spelled_more greatest unit len bytes more h = record {
-  within = omega (arith, h.within, length-append bytes more);
-  spelled = subst (Spells greatest unit) (sym (take-append-le len bytes more h.within)) h.spelled;
-}
-
-pub points_more : (greatest : ℕ) (cursor : Cursor) (bytes more : List ℕ) → PointsInto greatest cursor bytes → PointsInto greatest cursor (bytes ++ more)
-points_more greatest cursor bytes more h =
-    let same : text_left cursor (bytes ++ more) ≡ text_left cursor bytes = ap (drop cursor.from) (take-append-le cursor.to bytes more h.within.inside) in
-    record {
-      within = record {
-        ordered = h.within.ordered;
-        inside = omega (arith, h.within.inside, length-append bytes more);
-        counted = h.within.counted ∙ ap (λ t. length (words t)) (sym same);
-      };
-      left = record {
-        unit = h.left.unit;
-        spelled = spelled_more greatest h.left.unit cursor.len bytes more h.left.spelled;
-        left = ap (λ t. Request (retrieval cursor.exptime (words t) cursor.with_unique)) same ∙ h.left.left;
       };
     }

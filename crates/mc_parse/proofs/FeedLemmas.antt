@@ -4,9 +4,8 @@ use Rattle.std.proofs.Math.Seq.{drop-append-add, drop-nil}
 use Rattle.std.proofs.Math.ListN.{drop_of_length-le}
 use Rattle.std.proofs.lemmas.Bool.{cases_lt}
 use Rattle.std.proofs.lemmas.List.{drop-append-le, append_assoc}
-use Rattle.mc_command.specs.declared.command.Command.TheVariants.{Store as StoreCommand, Cas as CasCommand, Get, GetTouch, Touch, Delete, Count, FlushAll, Version, Quit}
 use Rattle.mc_parse.specs.declared.cursor.Cursor.{Cursor}
-use Rattle.mc_parse.specs.Units.{ProtocolUnit, Request, Fault, LongLine}
+use Rattle.mc_parse.specs.Units.{ProtocolUnit}
 use Rattle.mc_parse.specs.Peeks.{BeginsWithNone, IsSpelled, IsLeft, left_of}
 use Rattle.mc_parse.specs.Feeds.{Unread, pushed, settled, IsKept}
 use Rattle.mc_parse.proofs.UnitLemmas.{none_in}
@@ -31,29 +30,10 @@ none_yet greatest passed start cursor buffer bytes kept some is =
     let nothing : drop passed bytes ≡ [] = ap (drop passed) (is ∙ drop_of_length-le buffer read) ∙ drop-nil passed in
     subst (BeginsWithNone greatest) (sym nothing) (record { none = none_in greatest [] tt (omega arith) })
 
--- a unit that was found is left of itself before its first turn
-left_whole : (unit : ProtocolUnit) → unit ≡ left_of unit 0
-left_whole (Request (Get keys with_unique)) = refl
-left_whole (Request (GetTouch exptime keys with_unique)) = refl
-left_whole (Request (StoreCommand verb key flags exptime block quiet)) = refl
-left_whole (Request (CasCommand key flags exptime block unique quiet)) = refl
-left_whole (Request (Touch key exptime quiet)) = refl
-left_whole (Request (Delete key quiet)) = refl
-left_whole (Request (Count key up by quiet)) = refl
-left_whole (Request (FlushAll delay quiet)) = refl
-left_whole (Request Version) = refl
-left_whole (Request Quit) = refl
-left_whole (Fault fault) = refl
-left_whole LongLine = refl
-
 -- what was found is what is left, where turns leave it whole
 pub left_found : (greatest taken passed : ℕ) (bytes : List ℕ) (found : Option (ProtocolUnit × ℕ)) → IfSome found (λ p. (passed ≡ 0) × IsSpelled greatest p bytes) → ((unit : ProtocolUnit) (len : ℕ) → IsSpelled greatest (unit, len) bytes → left_of unit taken ≡ unit) → IfSome found (λ p. (passed ≡ 0) × IsLeft greatest taken p bytes)
 left_found greatest taken passed bytes None h whole = tt
 left_found greatest taken passed bytes (Some (unit, len)) h whole = (h.0, record { unit = unit; spelled = h.1; left = sym (whole unit len h.1) })
-
--- before the first turn they do
-pub left_first : (greatest passed : ℕ) (bytes : List ℕ) (found : Option (ProtocolUnit × ℕ)) → IfSome found (λ p. (passed ≡ 0) × IsSpelled greatest p bytes) → IfSome found (λ p. (passed ≡ 0) × IsLeft greatest 0 p bytes)
-left_first greatest passed bytes found h = left_found greatest 0 passed bytes found h (λ unit len _. sym (left_whole unit))
 
 abbrev unread : ℕ → ℕ → List ℕ → Unread
 unread greatest passed bytes = record { greatest = greatest; passed = passed; bytes = bytes }
