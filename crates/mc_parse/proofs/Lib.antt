@@ -1,4 +1,5 @@
 pub mod LineLemmas
+pub mod LineWords
 pub mod UnitLemmas
 pub mod BeginLemmas
 pub mod StreamLemmas
