@@ -4,4 +4,6 @@ pub mod UnitLemmas
 pub mod BeginLemmas
 pub mod StreamLemmas
 pub mod KeyLemmas
+pub mod RetrievalLemmas
+pub mod CursorLemmas
 pub mod FeedLemmas
