@@ -1,6 +1,6 @@
 -- What a run of a session did until now, and what its parts do.
 use Rattle.std.specs.Prelude.{◌≡◌, ◌⊎◌, ℕ, List, [], ◌++◌, Option, IsFalse}
-use Rattle.std.specs.Io.KnownBytes.{Appends, Consumes, Keeps, IsAtEnd}
+use Rattle.std.specs.Io.KnownBytes.{Appends, Consumes, IsAtEnd}
 use Rattle.mc_command.specs.declared.step.KeyStep.{KeyStep}
 use Rattle.mc_command.specs.declared.reply.Reply.{Reply}
 use Rattle.mc_session.specs.Turns.{SessionState, opened, fed, NoTurnDue}
@@ -20,7 +20,7 @@ pub record Writes (old new : SessionState) (writer_old writer_new : Option (List
 -- a piece was read, or nothing was
 pub data Reads : (old new : SessionState) (reader_old reader_new : Option (List ℕ)) → Type 0 where
   fed_piece : {old new : SessionState} {reader_old reader_new : Option (List ℕ)} (piece : List ℕ) → Consumes reader_old reader_new piece → new ≡ fed old piece → Reads old new reader_old reader_new
-  read_nothing : {old new : SessionState} {reader_old reader_new : Option (List ℕ)} → Keeps reader_old reader_new → new ≡ old → Reads old new reader_old reader_new
+  read_nothing : {old new : SessionState} {reader_old reader_new : Option (List ℕ)} → Consumes reader_old reader_new [] → new ≡ old → Reads old new reader_old reader_new
 
 -- nothing is left to be written, and the session closed or its stream is at its end
 pub record HasEnded (session : SessionState) (reader : Option (List ℕ)) : Type 0 where
