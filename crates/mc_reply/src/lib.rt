@@ -1,6 +1,10 @@
 //! Replies as bytes.
 #![tactic(auto)]
 
-mod write;
+mod numbers;
+mod retrieval;
+#[cfg(test)]
+mod tests;
+mod texts;
 
-pub use write::{write, write_fault, write_plain, write_spent, write_too_long};
+pub use texts::{write, write_fault, write_plain, write_spent, write_too_long};
