@@ -55,11 +55,12 @@ pub fn serve<R: Read, W: Write, S: Steps, C: Clock>(
         (R.remaining reader.old) (R.remaining reader.new) (W.contents writer.old) (W.contents writer.new) }
 {
     let mut session = Session::new(alloc, greatest);
-    let Ok(mut piece) = vec![in alloc; 0; PIECE] else {
+    let Ok(mut buffer) = vec![in alloc; 0; PIECE] else {
         return Err(ServeFault::NoMemory);
     };
+    let piece = buffer.as_mut_slice();
     for _ in 0..TURNS {
-        if round(alloc, reader, writer, &mut session, store, clock, &mut piece)? {
+        if round(alloc, reader, writer, &mut session, store, clock, piece)? {
             return Ok(());
         }
     }
