@@ -1,2 +1,4 @@
 pub mod NumberLemmas
 pub mod WordLemmas
+pub mod ItemLemmas
+pub mod PlainLemmas

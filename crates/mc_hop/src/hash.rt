@@ -1,0 +1,79 @@
+/// What stands under a key in a table.
+pub trait Keyed {
+    ghost use Rattle.std.specs.Prelude.{◌≡◌, ℕ, List};
+
+    /// The hash and the key, as contracts see them.
+    ghost hash_of: { Self → ℕ };
+
+    ghost key_of: { Self → List ℕ };
+
+    /// The hash of its key.
+    fn hash(&self) -> u64
+        ensures { result ≡ hash_of self.now };
+
+    /// Its key.
+    fn key(&self) -> &[u8]
+        ensures { result.now ≡ key_of self.now };
+}
+
+/// A function from keys to hashes.
+pub trait KeyHash {
+    ghost use Rattle.std.specs.Prelude.{◌≡◌, ℕ, List};
+
+    /// The hash of a key, as contracts see it.
+    ghost hash_of: { Self → List ℕ → ℕ };
+
+    /// The hash of the key. The cost grows with its length.
+    fn hash(&self, key: &[u8]) -> u64
+        ensures { result ≡ hash_of self.now key.now };
+}
+
+/// FNV-1a of 64 bits.
+#[derive(Clone, Copy, Debug, PartialEq, Eq)]
+pub struct Fnv;
+
+/// The hash of no byte.
+const OFFSET: u64 = 14695981039346656037;
+
+/// What the hash is multiplied by after each byte.
+const PRIME: u64 = 1099511628211;
+
+impl KeyHash for Fnv {
+    ghost use Rattle.mc_hop.specs.Hash.{fnv};
+
+    ghost hash_of = { λ hasher key. fnv key };
+
+    fn hash(&self, key: &[u8]) -> u64 {
+        key.iter().fold(
+            OFFSET,
+            |hash, byte| (hash ^ u64::from(*byte)).wrapping_mul(PRIME),
+        )
+    }
+}
+
+/// One hash for all keys, for tests of what collisions do.
+#[derive(Clone, Copy, Debug, PartialEq, Eq)]
+pub struct Constant(pub u64);
+
+impl KeyHash for Constant {
+    ghost hash_of = { λ hasher key. hasher.0 };
+
+    fn hash(&self, _key: &[u8]) -> u64 {
+        self.0
+    }
+}
+
+#[cfg(test)]
+mod tests {
+    use super::*;
+    use std::test::*;
+
+    #[test]
+    fn hashes_that_others_publish(rt: HostRuntime) {
+        assert_eq!(rt; Fnv.hash(b""), 0xcbf29ce484222325);
+        assert_eq!(rt; Fnv.hash(b"a"), 0xaf63dc4c8601ec8c);
+        assert_eq!(rt; Fnv.hash(b"b"), 0xaf63df4c8601f1a5);
+        assert_eq!(rt; Fnv.hash(b"foobar"), 0x85944171f73967e8);
+        assert_eq!(rt; Constant(7).hash(b"foobar"), 7);
+    }
+}

@@ -1,0 +1,6 @@
+pub mod LineLemmas
+pub mod UnitLemmas
+pub mod BeginLemmas
+pub mod StreamLemmas
+pub mod KeyLemmas
+pub mod FeedLemmas
