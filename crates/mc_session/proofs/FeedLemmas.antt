@@ -27,7 +27,7 @@ passed_along n first later (inr beyond) =
 pub pushed-settled : (u : Unread) (more : List ℕ) → pushed (settled u) more ≡ pushed u more
 pushed-settled u more =
     let count : (u.passed - length u.bytes) - length (drop u.passed u.bytes ++ more) ≡ u.passed - length (u.bytes ++ more) =
-        omega (arith, length-append u.bytes more, length-append (drop u.passed u.bytes) more, length-drop u.passed u.bytes) in
+    omega (arith, length-append u.bytes more, length-append (drop u.passed u.bytes) more, length-drop u.passed u.bytes) in
     ap (λ n. unread_of u.greatest n (drop (u.passed - length u.bytes) (drop u.passed u.bytes ++ more))) count
     ∙ ap (unread_of u.greatest (u.passed - length (u.bytes ++ more))) (passed_along u.passed u.bytes more (cases_lt u.passed (length u.bytes)))
 

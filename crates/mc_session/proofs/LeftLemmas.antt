@@ -29,8 +29,8 @@ first_left (x ∷ xs) (suc n) = first_left xs n
 same_test : (a b c d : ℕ) → (a ≡ b → c ≡ d) → (c ≡ d → a ≡ b) → (a == b) ≡ (c == d)
 same_test a b c d there back =
     let by_case : (a ≡ b) ⊎ (a ≡ b → ⊥) → (a == b) ≡ (c == d) = ⊎_elim
-        (λ e. eq-eqb a b e ∙ sym (eq-eqb c d (there e)))
-        (λ e. ne_eqb a b e ∙ sym (ne_eqb c d (λ f. e (back f)))) in
+    (λ e. eq-eqb a b e ∙ sym (eq-eqb c d (there e)))
+    (λ e. ne_eqb a b e ∙ sym (ne_eqb c d (λ f. e (back f)))) in
     by_case (cases_eq a b)
 
 -- the steps that are left

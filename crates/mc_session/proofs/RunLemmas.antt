@@ -68,14 +68,25 @@ module _ {S : Type 0} (took : S → KeyStep → ℕ → Reply → S → Type 0) 
   turn_open : (now : ℕ) (unread : Unread) (taken : ℕ) (out : List ℕ) (new : SessionState) (before after : S) (more : List ℕ) (is_open : Bool)
       → TakesTurn took spent now (session_of unread taken out is_open) new before after → TakesTurn took spent now (fed (session_of unread taken out is_open) more) (fed new more) before after
   turn_open now unread taken out new before after more true taken_turn = record {
-    unit = taken_turn.unit; front = taken_turn.front; rest = taken_turn.rest ++ more; text = taken_turn.text;
+    unit = taken_turn.unit;
+    front = taken_turn.front;
+    rest = taken_turn.rest ++ more;
+    text = taken_turn.text;
     parts = front_stays unread taken_turn.front taken_turn.rest more (spells_bytes unread.greatest taken_turn.unit taken_turn.front taken_turn.spelled) taken_turn.parts;
-    spelled = taken_turn.spelled; due = taken_turn.due; answers = taken_turn.answers;
+    spelled = taken_turn.spelled;
+    due = taken_turn.due;
+    answers = taken_turn.answers;
     moves = ap (λ s. fed s more) taken_turn.moves ∙ moved_more unread taken out taken_turn.unit taken_turn.rest taken_turn.text more (is_last taken_turn.unit) (taken + 1 == turn_count taken_turn.unit);
   }
   turn_open now unread taken out new before after more false taken_turn = record {
-    unit = taken_turn.unit; front = taken_turn.front; rest = taken_turn.rest; text = taken_turn.text;
-    parts = taken_turn.parts; spelled = taken_turn.spelled; due = taken_turn.due; answers = taken_turn.answers;
+    unit = taken_turn.unit;
+    front = taken_turn.front;
+    rest = taken_turn.rest;
+    text = taken_turn.text;
+    parts = taken_turn.parts;
+    spelled = taken_turn.spelled;
+    due = taken_turn.due;
+    answers = taken_turn.answers;
     moves = ap (λ s. fed s more) taken_turn.moves ∙ moved_closed unread taken out taken_turn.unit taken_turn.rest taken_turn.text more (is_last taken_turn.unit) (taken + 1 == turn_count taken_turn.unit);
   }
 
@@ -85,8 +96,14 @@ module _ {S : Type 0} (took : S → KeyStep → ℕ → Reply → S → Type 0) 
   -- and with earlier output in front
   pub turn_written : (now : ℕ) (old new : SessionState) (before after : S) (written : List ℕ) → TakesTurn took spent now old new before after → TakesTurn took spent now (with_written written old) (with_written written new) before after
   turn_written now old new before after written taken_turn = record {
-    unit = taken_turn.unit; front = taken_turn.front; rest = taken_turn.rest; text = taken_turn.text;
-    parts = taken_turn.parts; spelled = taken_turn.spelled; due = taken_turn.due; answers = taken_turn.answers;
+    unit = taken_turn.unit;
+    front = taken_turn.front;
+    rest = taken_turn.rest;
+    text = taken_turn.text;
+    parts = taken_turn.parts;
+    spelled = taken_turn.spelled;
+    due = taken_turn.due;
+    answers = taken_turn.answers;
     moves = ap (with_written written) taken_turn.moves ∙ moved_written old taken_turn.unit taken_turn.rest taken_turn.text written (is_last taken_turn.unit) (old.taken + 1 == turn_count taken_turn.unit);
   }
 

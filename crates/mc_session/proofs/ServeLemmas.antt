@@ -49,7 +49,10 @@ module _ {S : Type 0} (took : S → KeyStep → ℕ → Reply → S → Type 0) 
   -- a turn
   pub goes_on_turn : (now : ℕ) → may_give now → (old new : SessionState) (before after : S) (reader writer : Option (List ℕ)) → TakesTurn took spent now old new before after → GoesOn took spent may_give old new before after reader reader writer writer
   goes_on_turn now gives old new before after reader writer taken greatest first reader_old writer_old served = record {
-    read = served.read; written = served.written; consumes = served.consumes; appends = served.appends;
+    read = served.read;
+    written = served.written;
+    consumes = served.consumes;
+    appends = served.appends;
     run = turn now served.run gives (turn_written took spent now old new before after served.written taken);
   }
 
@@ -60,7 +63,9 @@ module _ {S : Type 0} (took : S → KeyStep → ℕ → Reply → S → Type 0) 
       ap (λ out. with_out out old) (ap (λ out. served.written ++ out) writes.parts ∙ sym (append_assoc served.written writes.part new.out))
       ∙ ap (with_out ((served.written ++ writes.part) ++ new.out)) (sym writes.same) in
       record {
-        read = served.read; written = served.written ++ writes.part; consumes = served.consumes;
+        read = served.read;
+        written = served.written ++ writes.part;
+        consumes = served.consumes;
         run = subst (λ s. Run took spent may_give (fed (opened greatest) served.read) first s store) same served.run;
         appends = Appends-trans writer_first writer_old writer_new served.written writes.part served.appends writes.appends;
       }
@@ -76,12 +81,16 @@ module _ {S : Type 0} (took : S → KeyStep → ℕ → Reply → S → Type 0) 
   -- a read
   pub goes_on_read : (old new : SessionState) (store : S) (reader_old reader_new writer : Option (List ℕ)) → Reads old new reader_old reader_new → GoesOn took spent may_give old new store store reader_old reader_new writer writer
   goes_on_read old new store reader_old reader_new writer (fed_piece piece consumes is) greatest first reader_first writer_first served = record {
-    read = served.read ++ piece; written = served.written; appends = served.appends;
+    read = served.read ++ piece;
+    written = served.written;
+    appends = served.appends;
     consumes = Consumes-trans reader_first reader_old reader_new served.read piece served.consumes consumes;
     run = subst (λ s. Run took spent may_give (fed (opened greatest) (served.read ++ piece)) first (with_written served.written s) store) (sym is) (longer greatest first store served.read served.written piece old served.run);
   }
   goes_on_read old new store reader_old reader_new writer (read_nothing consumes is) greatest first reader_first writer_first served = record {
-    read = served.read; written = served.written; appends = served.appends;
+    read = served.read;
+    written = served.written;
+    appends = served.appends;
     consumes = subst (Consumes reader_first reader_new) (append-nil served.read) (Consumes-trans reader_first reader_old reader_new served.read [] served.consumes consumes);
     run = subst (λ s. Run took spent may_give (fed (opened greatest) served.read) first (with_written served.written s) store) (sym is) served.run;
   }
@@ -94,8 +103,14 @@ module _ {S : Type 0} (took : S → KeyStep → ℕ → Reply → S → Type 0) 
   pub serves : (greatest : ℕ) (first store : S) (reader_old reader_new writer_old writer_new : Option (List ℕ)) (session : SessionState) → HasServed took spent may_give greatest first store reader_old reader_new writer_old writer_new session
       → Serves took spent may_give greatest first store reader_old reader_new writer_old writer_new
   serves greatest first store reader_old reader_new writer_old writer_new session served = record {
-    read = served.read; last = with_written served.written session; written = served.written; unwritten = session.out;
-    consumes = served.consumes; run = served.run; texts = refl; appends = served.appends;
+    read = served.read;
+    last = with_written served.written session;
+    written = served.written;
+    unwritten = session.out;
+    consumes = served.consumes;
+    run = served.run;
+    texts = refl;
+    appends = served.appends;
   }
 
   -- a whole run
@@ -104,8 +119,12 @@ module _ {S : Type 0} (took : S → KeyStep → ℕ → Reply → S → Type 0) 
   serves_all greatest first store reader_old reader_new writer_old writer_new session served ended =
       let all : served.written ≡ served.written ++ session.out = sym (append-nil served.written) ∙ ap (λ out. served.written ++ out) (sym ended.written) in
       record {
-        read = served.read; last = with_written served.written session; consumes = served.consumes; run = served.run;
-        appends = subst (Appends writer_old writer_new) all served.appends; ended = ended.ended;
+        read = served.read;
+        last = with_written served.written session;
+        consumes = served.consumes;
+        run = served.run;
+        appends = subst (Appends writer_old writer_new) all served.appends;
+        ended = ended.ended;
       }
 
   -- refused before a step was decided
@@ -118,7 +137,8 @@ module _ {S : Type 0} (took : S → KeyStep → ℕ → Reply → S → Type 0) 
   unfolding serves
   refused_decided now gives old new before after reader writer taken greatest first reader_old writer_old served =
       record {
-        between = before; serves = serves greatest first before reader_old reader writer_old writer old served;
+        between = before;
+        serves = serves greatest first before reader_old reader writer_old writer old served;
         decided = inr (now, gives, with_written served.written new, turn_written took spent now old new before after served.written taken);
       }
 

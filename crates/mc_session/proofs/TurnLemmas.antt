@@ -90,8 +90,14 @@ module _ {S : Type 0} (took : S → KeyStep → ℕ → Reply → S → Type 0) 
   turn_of : (answered : AnswersFound took spent now found before after) (whole : ProtocolUnit) → IsNext old.unread old.taken answered.unit answered.len whole
       → TakesTurn took spent now old (moved old whole (drop answered.len old.unread.bytes) answered.text) before after
   turn_of answered whole is = record {
-    unit = whole; front = take answered.len old.unread.bytes; rest = drop answered.len old.unread.bytes; text = answered.text;
-    parts = is.parts; spelled = is.spelled; due = is.due; moves = refl;
+    unit = whole;
+    front = take answered.len old.unread.bytes;
+    rest = drop answered.len old.unread.bytes;
+    text = answered.text;
+    parts = is.parts;
+    spelled = is.spelled;
+    due = is.due;
+    moves = refl;
     answers = answers_left took spent now before after answered.text whole old.taken is.due (subst (λ unit. Answers took spent unit 0 now before after answered.text) is.left answered.answers);
   }
 
@@ -112,8 +118,8 @@ module _ {S : Type 0} (took : S → KeyStep → ℕ → Reply → S → Type 0) 
         let answered = tells.answered in
         let whole = next_found law old.unread old.taken found answered.unit answered.len peeked within answered.is_found in
         let moves : new ≡ moved old whole.0 (drop answered.len old.unread.bytes) answered.text =
-            is ∙ ap (λ next. gone_on next (record old { out = out })) (next_is whole.0 whole.1) ∙ ap (λ out. gone_on (next_of whole.0 old.taken answered.len) (record old { out = out })) tells.told
-            ∙ gone_on_moved old whole.0 answered.len answered.text (is_last whole.0) (old.taken + 1 == turn_count whole.0) in
+        is ∙ ap (λ next. gone_on next (record old { out = out })) (next_is whole.0 whole.1) ∙ ap (λ out. gone_on (next_of whole.0 old.taken answered.len) (record old { out = out })) tells.told
+        ∙ gone_on_moved old whole.0 answered.len answered.text (is_last whole.0) (old.taken + 1 == turn_count whole.0) in
         subst (λ s. TakesTurn took spent now old s before after) (sym moves) (turn_of answered whole.0 whole.1)
 
     -- the turns of the unit can be counted
@@ -121,8 +127,8 @@ module _ {S : Type 0} (took : S → KeyStep → ℕ → Reply → S → Type 0) 
     few_turns whole is = ⊎_elim
         (λ some. is.few some)
         (λ none. let start : old.taken ≡ 0 = omega (arith, none) in
-            let all : turn_count tells.answered.unit ≡ turn_count whole = ap turn_count is.left ∙ ap (λ n. turn_count (left_of whole n)) start ∙ all_left whole in
-            subst (λ n. n < 2 ^ 64) all tells.few)
+        let all : turn_count tells.answered.unit ≡ turn_count whole = ap turn_count is.left ∙ ap (λ n. turn_count (left_of whole n)) start ∙ all_left whole in
+        subst (λ n. n < 2 ^ 64) all tells.few)
         (cases_lt 0 old.taken)
 
     more_due : (whole : ProtocolUnit) → IsNext old.unread old.taken tells.answered.unit tells.answered.len whole → (old.taken + 1 == turn_count whole) ≡ false → IsWithin old.unread (old.taken + 1)
@@ -154,7 +160,9 @@ module _ {S : Type 0} (took : S → KeyStep → ℕ → Reply → S → Type 0) 
   tells_unsent told next sent is some within =
       let tells : Tells took spent now found next before after old new = subst TellsSome is some in
       record {
-        answered = tells.answered; next_is = tells.next_is; few = tells.few;
+        answered = tells.answered;
+        next_is = tells.next_is;
+        few = tells.few;
         told = ap (drop sent) tells.told ∙ drop-append-le sent old tells.answered.text within;
       }
 

@@ -9,3 +9,6 @@ mod session;
 
 pub use serving::{ServeFault, serve};
 pub use session::{Session, Turn, TurnFault};
+
+#[cfg(test)]
+mod tests;

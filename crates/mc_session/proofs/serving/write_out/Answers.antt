@@ -13,6 +13,6 @@ loop-preserved g c =
     Writes-more c.args.session.now c.loop.session c.match-write.session (g.W.Write.contents c.args.writer.now) mid last c.loop.invariant
     (elim c.match-write.branch [
       | in-Ok w ↦ subst (λ s. Writes c.loop.session s mid last) (sym (w.session-is ∙ w.sent.ensures))
-      (Writes-front c.loop.session w.in-Ok.written mid last (subst (λ out. Appends mid last (take w.in-Ok.written out)) c.out-in-loop.ensures w.in-Ok.ensures.bytes))
+          (Writes-front c.loop.session w.in-Ok.written mid last (subst (λ out. Appends mid last (take w.in-Ok.written out)) c.out-in-loop.ensures w.in-Ok.ensures.bytes))
       | in-Err+else-ne w ↦ subst (λ s. Writes c.loop.session s mid last) (sym w.session-is) (Writes-kept c.loop.session mid last w.in-Err.ensures.bytes)
     ])
