@@ -2,7 +2,7 @@
 use Rattle.std.specs.Prelude.{◌≡◌, ℕ, List, map, Option, Some, None}
 use Rattle.std.specs.declared.vec.Vec.{Vec}
 use Rattle.std.specs.declared.alloc.Global.{Global}
-use Rattle.std.specs.FinMap.{from_entries, get, insert}
+use Rattle.std.specs.FinMap.{from_entries, insert}
 use Rattle.mc_time.specs.declared.expiry.Expiry.{Expiry}
 use Rattle.mc_command.specs.Plain.{Plain, Items, Entry, Row, Change, Leaves, Writes, Expires, Removes, Outcome, changed, without_dead, standing}
 use Rattle.mc_command.specs.declared.reply.Reply.{Reply}
