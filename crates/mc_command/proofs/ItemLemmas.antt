@@ -6,7 +6,7 @@ use Rattle.std.specs.Cmp.{eq_by_cmp_equiv, IsEquivalence}
 use Rattle.std.specs.Cmp.Lexicographic.{slice_cmp, nat_list_cmp_total}
 use Rattle.std.specs.declared.cmp.Ordering.{Ordering}
 use Rattle.std.specs.declared.cmp.Ordering.TheVariants.{Less, Equal, Greater}
-use Rattle.std.specs.FinMap.{get, insert, remove, retain_keys, from_entries, find, get-from_entries, get-insert, get-remove, get-retain_keys, same_map, slice_cmp-IsAntisymmetric, nat_cmp-IsAntisymmetric, IsAntisymmetric}
+use Rattle.std.specs.FinMap.{get, insert, remove, from_entries, find, get-from_entries, get-insert, get-remove, get-retain_keys, same_map, slice_cmp-IsAntisymmetric, nat_cmp-IsAntisymmetric, IsAntisymmetric}
 use Rattle.std.specs.BTreeMap.{is_at, insert_entry}
 use Rattle.std.specs.Map.{lookup, set_value, keys_of}
 use Rattle.std.specs.List.{filter, AllByRecursion, IsDistinct}
@@ -103,14 +103,14 @@ item_at-insert_entry (e ∷ es) k i q =
       | Greater ↦ λ h.
           ap (cond (is_at (bytes_cmp q) e.0.items) (Some e.1)) (item_at-insert_entry es k i q)
           ∙ swapped (is_at (bytes_cmp q) e.0.items) (is_at (bytes_cmp q) k.items) (Some i) (Some e.1) (item_at es q)
-            (λ a b. let at : bytes_cmp q e.0.items ≡ Equal = is_equal _ a in let same : q ≡ k.items = exact q k.items (is_equal _ b) in cc)
+          (λ a b. let at : bytes_cmp q e.0.items ≡ Equal = is_equal _ a in let same : q ≡ k.items = exact q k.items (is_equal _ b) in cc)
     ] refl
 
 pub items_of-insert_entry : (es : Entries) (k : Vec ℕ Global) (i : Entry) → items_of (insert_entry key_cmp es k i) ≡ insert (items_of es) k.items i
 items_of-insert_entry es k i =
     same_map nat_list_cmp_total exact _ _ (λ q.
-        get-items_of _ q ∙ item_at-insert_entry es k i q
-        ∙ sym (get-insert nat_list_cmp_total (items_of es) k.items i q ∙ ap (cond (same_bytes q k.items) (Some i)) (get-items_of es q)))
+    get-items_of _ q ∙ item_at-insert_entry es k i q
+    ∙ sym (get-insert nat_list_cmp_total (items_of es) k.items i q ∙ ap (cond (same_bytes q k.items) (Some i)) (get-items_of es q)))
 
 -- a removal, which the map's calls state at each key that a map may have
 key_or_none : (es : Entries) (q : List ℕ) → ((k : Vec ℕ Global) × (k.items ≡ q)) ⊎ (item_at es q ≡ None)
@@ -128,15 +128,15 @@ none_either false o h = h
 pub items_of-removed : (es fs : Entries) (q : List ℕ) → ((k : Vec ℕ Global) → item_at fs k.items ≡ cond (is_at (bytes_cmp q) k.items) None (item_at es k.items)) → items_of fs ≡ remove (items_of es) q
 items_of-removed es fs q without =
     let at : (p : List ℕ) → item_at fs p ≡ cond (same_bytes q p) None (item_at es p) = λ p.
-        let found : (k : Vec ℕ Global) → k.items ≡ p → item_at fs p ≡ cond (same_bytes q p) None (item_at es p) = λ k same.
-            subst (λ (t : List ℕ). item_at fs t ≡ cond (same_bytes q t) None (item_at es t)) same (without k) in
-        ⊎_elim (λ h. found h.0 h.1)
-        (λ none. ⊎_elim (λ h. found h.0 h.1) (λ gone. gone ∙ sym (none_either (same_bytes q p) (item_at es p) none)) (key_or_none fs p))
-        (key_or_none es p) in
+    let found : (k : Vec ℕ Global) → k.items ≡ p → item_at fs p ≡ cond (same_bytes q p) None (item_at es p) = λ k same.
+    subst (λ (t : List ℕ). item_at fs t ≡ cond (same_bytes q t) None (item_at es t)) same (without k) in
+    ⊎_elim (λ h. found h.0 h.1)
+    (λ none. ⊎_elim (λ h. found h.0 h.1) (λ gone. gone ∙ sym (none_either (same_bytes q p) (item_at es p) none)) (key_or_none fs p))
+    (key_or_none es p) in
     same_map nat_list_cmp_total exact _ _ (λ p.
-        get-items_of fs p ∙ at p
-        ∙ ap (λ b. cond b None (item_at es p)) (laws.symm q p)
-        ∙ sym (get-remove nat_list_cmp_total (items_of es) q p ∙ ap (cond (same_bytes p q) None) (get-items_of es p)))
+    get-items_of fs p ∙ at p
+    ∙ ap (λ b. cond b None (item_at es p)) (laws.symm q p)
+    ∙ sym (get-remove nat_list_cmp_total (items_of es) q p ∙ ap (cond (same_bytes p q) None) (get-items_of es p)))
 
 -- a write through the value at a key that is there
 pairs-set_value : (es : Entries) (q : List ℕ) (i : Entry) → pairs (set_value (λ (k : Vec ℕ Global). is_at (bytes_cmp q) k.items) es i) ≡ set_value (same_bytes q) (pairs es) i
@@ -151,9 +151,9 @@ pub items_of-set_value : (es : Entries) (q : List ℕ) (i : Entry) → IsSome (i
 items_of-set_value es q i some =
     ap from_entries (pairs-set_value es q i)
     ∙ same_map nat_list_cmp_total exact _ _ (λ p.
-        get-pairs _ p ∙ lookup-set_value laws (same_bytes q) (λ x y h. laws.congr q x y h) p i (pairs es) (rw lookup-pairs some)
-        ∙ ap (λ b. cond b (Some i) (lookup (same_bytes p) (pairs es))) (laws.symm q p)
-        ∙ sym (get-insert nat_list_cmp_total (items_of es) q i p ∙ ap (cond (same_bytes p q) (Some i)) (get-pairs (pairs es) p)))
+    get-pairs _ p ∙ lookup-set_value laws (same_bytes q) (λ x y h. laws.congr q x y h) p i (pairs es) (rw lookup-pairs some)
+    ∙ ap (λ b. cond b (Some i) (lookup (same_bytes p) (pairs es))) (laws.symm q p)
+    ∙ sym (get-insert nat_list_cmp_total (items_of es) q i p ∙ ap (cond (same_bytes p q) (Some i)) (get-pairs (pairs es) p)))
 
 -- what an item is alive as
 pub alive-is : (cut : Option ℕ) (now : ℕ) (o : Option Entry) (item : Entry) → o ≡ Some item → is_dead item.expiry item.updated cut now ≡ false → alive cut now o ≡ Some item
@@ -183,11 +183,11 @@ pub items_of-filter : (es : Entries) (cut : Option ℕ) (now : ℕ) → IsStrict
 items_of-filter es cut now sorted =
     ap from_entries (pairs-filter es (lives cut now))
     ∙ same_map nat_list_cmp_total exact _ _ (λ q.
-        get-pairs _ q ∙ lookup-filter-values laws (lives cut now) q (pairs es) (distinct es sorted)
-        ∙ ap (option_filter (lives cut now)) (sym (get-pairs (pairs es) q))
-        ∙ kept_alive cut now (get (items_of es) q)
-        ∙ sym (get-retain_keys (items_of es) (λ key. is_some (alive cut now (get (items_of es) key))) q
-          (λ x h. ap (λ (k : List ℕ). is_some (alive cut now (get (items_of es) k))) (sym (exact q x h)))))
+    get-pairs _ q ∙ lookup-filter-values laws (lives cut now) q (pairs es) (distinct es sorted)
+    ∙ ap (option_filter (lives cut now)) (sym (get-pairs (pairs es) q))
+    ∙ kept_alive cut now (get (items_of es) q)
+    ∙ sym (get-retain_keys (items_of es) (λ key. is_some (alive cut now (get (items_of es) key))) q
+    (λ x h. ap (λ (k : List ℕ). is_some (alive cut now (get (items_of es) k))) (sym (exact q x h)))))
 
 -- an insertion after a removal of the same key
 chosen_twice : (b : Bool) (x y z : Option Entry) → cond b x (cond b y z) ≡ cond b x z
@@ -197,10 +197,10 @@ chosen_twice false x y z = refl
 pub insert-remove : (items : Items) (k : List ℕ) (i : Entry) → insert (remove items k) k i ≡ insert items k i
 insert-remove items k i =
     same_map nat_list_cmp_total exact _ _ (λ q.
-        get-insert nat_list_cmp_total (remove items k) k i q
-        ∙ ap (cond (same_bytes q k) (Some i)) (get-remove nat_list_cmp_total items k q)
-        ∙ chosen_twice (same_bytes q k) (Some i) None (get items q)
-        ∙ sym (get-insert nat_list_cmp_total items k i q))
+    get-insert nat_list_cmp_total (remove items k) k i q
+    ∙ ap (cond (same_bytes q k) (Some i)) (get-remove nat_list_cmp_total items k q)
+    ∙ chosen_twice (same_bytes q k) (Some i) None (get items q)
+    ∙ sym (get-insert nat_list_cmp_total items k i q))
 
 -- another expiry in the item that the entries have at a key
 pub re_expired-is : (old : Plain) (es fs : Entries) (q : List ℕ) (item other : Entry) (expiry : Expiry)
@@ -212,7 +212,7 @@ pub re_expired-is : (old : Plain) (es fs : Entries) (q : List ℕ) (item other :
 re_expired-is old es fs q item other expiry at found set is =
     let here : get old.items q ≡ Some item = ap (λ (m : Items). get m q) at ∙ get-items_of es q ∙ found in
     let items : items_of fs ≡ insert old.items q (record item { expiry = expiry }) =
-        ap items_of set ∙ items_of-set_value es q other (rw found refl) ∙ ap (insert (items_of es) q) is ∙ ap (λ (m : Items). insert m q (record item { expiry = expiry })) (sym at) in
+    ap items_of set ∙ items_of-set_value es q other (rw found refl) ∙ ap (insert (items_of es) q) is ∙ ap (λ (m : Items). insert m q (record item { expiry = expiry })) (sym at) in
     ap (λ (m : Items). let s : Plain = record old { items = m } in s) items ∙ ap (λ (o : Option Entry). re_expired o q expiry old) (sym here)
 
 pub re_expired-none : (old : Plain) (es : Entries) (q : List ℕ) (expiry : Expiry) → old.items ≡ items_of es → item_at es q ≡ None → old ≡ re_expired (get old.items q) q expiry old

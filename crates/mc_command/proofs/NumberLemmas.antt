@@ -1,5 +1,5 @@
 -- When a word writes a number up to a limit.
-use Rattle.std.proofs.Common.{◌≡◌, ◌<◌, ◌≤◌, ◌+◌, ◌*◌, ℕ, Bool, true, false, cond, ◌&&◌, List, [], ◌∷◌, Option, Some, None, length, get_or, take, refl, sym, ap, ◌∙◌, arith, rules, leb, ltb, ◌-◌, ◌^◌}
+use Rattle.std.proofs.Common.{◌≡◌, ◌<◌, ◌≤◌, ◌+◌, ◌*◌, ℕ, Bool, true, false, cond, ◌&&◌, List, [], ◌∷◌, Some, None, length, get_or, take, refl, sym, ap, ◌∙◌, arith, leb, ltb, ◌-◌, ◌^◌}
 use Rattle.std.proofs.lemmas.Bool.{le-leb, leb-true, le-ltb, lt-ltb}
 use Rattle.std.proofs.lemmas.Str.Parse.{IsNumeralModel, numerals_by_value, tells_all_ascii_digits, digit_at, digits_value-take-le}
 use Rattle.std.proofs.lemmas.Int.Digits.{digits_value_more, digits_more}
@@ -9,10 +9,10 @@ use Rattle.std.specs.Str.Parse.{digits_value, AllDigits}
 use Rattle.std.specs.Char.{digit_value, is_ascii_digit}
 use Rattle.std.specs.Prelude.{nat_le, drop}
 use Rattle.std.specs.List.{take_while, list_all}
-use Rattle.mc_command.specs.Words.{is_nonempty, is_space}
+use Rattle.mc_command.specs.Words.{is_space}
 use Rattle.mc_command.specs.Plain.{number_of}
 use Rattle.mc_command.proofs.WordLemmas.{length-take_while}
-use Rattle.mc_command.specs.Numbers.{number_up_to, is_numeral}
+use Rattle.mc_command.specs.Numbers.{number_up_to}
 
 pub own : IsNumeralModel (λ ds. all_ascii_digits ds ≡ true) (digits_value 10)
 own = numerals_by_value _ tells_all_ascii_digits

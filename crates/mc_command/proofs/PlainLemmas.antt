@@ -1,5 +1,5 @@
 -- A write, as the plain machine has it.
-use Rattle.std.proofs.Common.{◌≡◌, ◌≢◌, ◌≤◌, ◌+◌, ◌^◌, ◌-◌, ℕ, Bool, false, eqb, ltb, List, Option, Some, None, refl, ap, sym, ◌∙◌}
+use Rattle.std.proofs.Common.{◌≡◌, ◌≢◌, ◌≤◌, ◌+◌, ℕ, false, eqb, ltb, List, Option, Some, None, refl, ap, sym, ◌∙◌}
 use Rattle.std.proofs.lemmas.Bool.{ne_eqb, le-ltb}
 use Rattle.std.specs.FinMap.{insert}
 use Rattle.mc_time.specs.declared.expiry.Expiry.{Expiry}
@@ -39,6 +39,6 @@ pub write-is : (reply : Reply) (old : Plain) (item : Option Entry) (key : List �
     → changed reply (Writes flags expiry block) key (without_dead item key old) now ≡ Answered reply (record old { items = items_of fs; next_unique = old.next_unique + 1 })
 write-is reply old item key flags expiry block now es fs k stored at put same is fits left =
     let items : insert old.items key (record { flags = flags; expiry = expiry; block = block; unique = old.next_unique; updated = now }) ≡ items_of fs =
-        sym (ap items_of put ∙ items_of-insert_entry es k stored ∙ ap (λ (m : Items). insert m k.items stored) (sym at) ∙ ap (λ (t : List ℕ). insert old.items t stored) same ∙ ap (insert old.items key) is) in
+    sym (ap items_of put ∙ items_of-insert_entry es k stored ∙ ap (λ (m : Items). insert m k.items stored) (sym at) ∙ ap (λ (t : List ℕ). insert old.items t stored) same ∙ ap (insert old.items key) is) in
     written-is reply old item key flags expiry block now fits left
     ∙ ap (λ (m : Items). Answered reply (record old { items = m; next_unique = old.next_unique + 1 })) items

@@ -2,9 +2,10 @@
 use Rattle.std.specs.Prelude.{◌≡◌, ℕ, List, map, Option, Some, None}
 use Rattle.std.specs.declared.vec.Vec.{Vec}
 use Rattle.std.specs.declared.alloc.Global.{Global}
-use Rattle.std.specs.FinMap.{from_entries, get, insert}
+use Rattle.std.specs.FinMap.{from_entries, insert}
 use Rattle.mc_time.specs.declared.expiry.Expiry.{Expiry}
-use Rattle.mc_command.specs.Plain.{Plain, Items, Entry, Row, Change, Leaves, Writes, Expires, Removes}
+use Rattle.mc_command.specs.Plain.{Plain, Items, Entry, Row, Change, Leaves, Writes, Expires, Removes, Outcome, changed, without_dead, standing}
+use Rattle.mc_command.specs.declared.reply.Reply.{Reply}
 use Rattle.mc_command.specs.declared.reply.Reply.TheVariants.{Stored, NotStored}
 use Rattle.mc_command.specs.declared.plain.item.Written.{Written}
 
@@ -23,6 +24,10 @@ IsWrite Removes = ⊥
 abbrev pub stored_row : Option Written → Row
 stored_row None = (NotStored, Leaves)
 stored_row (Some w) = (Stored, Writes w.flags w.expiry w.block)
+
+-- a write at a key, whose dead item is dropped first
+abbrev pub writing : Reply → Written → List ℕ → Plain → ℕ → Outcome
+writing reply w key old now = changed reply (Writes w.flags w.expiry w.block) key (without_dead (standing old key now) key old) now
 
 -- a row that stores a block
 abbrev pub WritesStored : Row → Type 0

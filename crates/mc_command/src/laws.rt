@@ -14,23 +14,20 @@ ghost use Rattle.mc_command.specs.Laws.{IsOnKey, AgreeAt, AgreeAfter};
 pub fn other_keys_stay()
     ensures { (old new : Plain) (step : KeyStep) (now : ℕ) (reply : Reply) (other : List ℕ) →
         IsOnKey step → plain old step now ≡ Answered reply new → other ≢ key_of step → get new.items other ≡ get old.items other }
-{
-}
+{}
 
 /// A step on one key depends on that key's item, the cut, the next unique number and the greatest charge alone: states
 /// that agree there give one answer, and agree there after it.
 pub fn one_key_decides()
     ensures { (a b : Plain) (step : KeyStep) (now : ℕ) →
         IsOnKey step → AgreeAt (key_of step) a b → AgreeAfter (key_of step) (plain a step now) (plain b step now) }
-{
-}
+{}
 
 /// An item that is dead stays so, while nothing changes it and no flush comes.
 pub fn the_dead_stay_dead()
     ensures { (expiry : Expiry) (updated : ℕ) (cut : Option ℕ) (now later : ℕ) →
         now ≤ later → is_dead expiry updated cut now ≡ true → is_dead expiry updated cut later ≡ true }
-{
-}
+{}
 
 /// A flush at once leaves no item. One with a delay leaves those that are alive, and none of them stands at its moment
 /// or later while it was updated before that.
@@ -41,5 +38,4 @@ pub fn flushes_empty()
         0 < delay → plain old (KeyStep.Flush delay) now ≡ Answered reply new → get new.items key ≡ alive old.cut now (get old.items key) }
     ensures later { (old new : Plain) (delay now later : ℕ) (reply : Reply) (item : Entry) →
         0 < delay → plain old (KeyStep.Flush delay) now ≡ Answered reply new → moment_named delay now ≤ later → item.updated < moment_named delay now → alive new.cut later (Some item) ≡ None }
-{
-}
+{}

@@ -8,11 +8,11 @@ ghost use Rattle.std.specs.Prelude.{◌≡◌, ◌≤◌, ℕ, length, decimal, 
 ghost use Rattle.std.specs.Option.{option_copied};
 ghost use Rattle.std.specs.FinMap.{get, remove};
 ghost use Rattle.mc_command.specs.Commands.{key_of};
-ghost use Rattle.mc_command.specs.Items.{re_expired};
-ghost use Rattle.mc_command.specs.Plain.{opening, plain, applied, changed, standing, without_dead, flushed, Answered, Spent, Writes, store_row, cas_row, read_row, read_touch_row, touch_row, delete_row, count_row, counted, living, CopiesBlock, MayFail};
+ghost use Rattle.mc_command.specs.Items.{re_expired, writing};
+ghost use Rattle.mc_command.specs.Plain.{opening, plain, applied, standing, without_dead, flushed, Answered, Spent, store_row, cas_row, read_row, read_touch_row, touch_row, delete_row, count_row, counted, living, CopiesBlock, MayFail};
 
-use crate::plain::item::{Given, Item, Written};
 use crate::number::number_of;
+use crate::plain::item::{Given, Item, Written};
 use crate::reply::Reply;
 use crate::step::{KeyStep, StepFault, Steps, Verb};
 use itoa::Buffer;
@@ -44,12 +44,12 @@ impl Model for PlainStore {
     ghost coded = { coded_plain };
 
     ghost view = { λ s. record {
-        greatest = s.greatest;
-        limit = s.limit;
-        items = items_of s.items.entries;
-        cut = s.cut;
-        next_unique = s.next_unique;
-        pages = [];
+      greatest = s.greatest;
+      limit = s.limit;
+      items = items_of s.items.entries;
+      cut = s.cut;
+      next_unique = s.next_unique;
+      pages = [];
     } };
 }
 
@@ -116,9 +116,9 @@ impl PlainStore {
     ) -> Result<Reply, StepFault>
         requires key { length key.now ≤ 250 }
         requires reply { CopiesBlock reply }
-        ensures took { IfOk result (λ answer. changed reply (Writes written.flags written.expiry written.block) key.now (without_dead (standing self.old key.now now) key.now self.old) now ≡ Answered answer self.new) }
-        ensures refused { OnErr result (MayFail (changed reply (Writes written.flags written.expiry written.block) key.now (without_dead (standing self.old key.now now) key.now self.old) now)) }
-        ensures spent { result ≡ Err StepFault.NumbersSpent → changed reply (Writes written.flags written.expiry written.block) key.now (without_dead (standing self.old key.now now) key.now self.old) now ≡ Spent }
+        ensures took { IfOk result (λ answer. writing reply written key.now self.old now ≡ Answered answer self.new) }
+        ensures refused { OnErr result (MayFail (writing reply written key.now self.old now)) }
+        ensures spent { result ≡ Err StepFault.NumbersSpent → writing reply written key.now self.old now ≡ Spent }
         ensures err { OnErr result (self.new ≡ self.old) }
     {
         let charge = CHUNK_HEAD + key.len() + written.block.bytes().len();
@@ -314,12 +314,7 @@ impl Steps for PlainStore {
 
     ghost spent = { λ old step now. plain old step now ≡ Spent };
 
-    fn step(
-        &mut self,
-        alloc: Global,
-        step: &KeyStep<'_>,
-        now: Moment,
-    ) -> Result<Reply, StepFault>
+    fn step(&mut self, alloc: Global, step: &KeyStep<'_>, now: Moment) -> Result<Reply, StepFault>
         requires { length (key_of step.now) ≤ 250 }
         ensures took { IfOk result (λ reply. plain self.old step.now now ≡ Answered reply self.new) }
         ensures spent { result ≡ Err StepFault.NumbersSpent → plain self.old step.now now ≡ Spent }

@@ -30,11 +30,11 @@ impl Model for Item {
     ghost coded = { coded_entry };
 
     ghost view = { λ i. record {
-        flags = i.flags;
-        expiry = i.expiry;
-        block = i.block;
-        unique = i.unique;
-        updated = i.updated;
+      flags = i.flags;
+      expiry = i.expiry;
+      block = i.block;
+      unique = i.unique;
+      updated = i.updated;
     } };
 }
 
@@ -71,9 +71,9 @@ impl<'a> Given<'a> {
     /// The write of what is given.
     pub(crate) fn written(&self, alloc: Global) -> Result<Written, AllocError>
         ensures { IfOk result (λ written. written ≡ record {
-            flags = self.now.flags;
-            expiry = self.now.expiry;
-            block = self.now.block.now;
+          flags = self.now.flags;
+          expiry = self.now.expiry;
+          block = self.now.block.now;
         }) }
     {
         Ok(Written {
@@ -113,11 +113,11 @@ impl Item {
     /// The item of a write that drew this unique number at this moment.
     pub(crate) fn of(written: Written, unique: u64, updated: Moment) -> Item
         ensures { result ≡ record {
-            flags = written.flags;
-            expiry = written.expiry;
-            block = written.block;
-            unique = unique;
-            updated = updated;
+          flags = written.flags;
+          expiry = written.expiry;
+          block = written.block;
+          unique = unique;
+          updated = updated;
         } }
     {
         Item {

@@ -1,7 +1,7 @@
 //! The protocol's worked examples at their moments, and each kind of step once. Where an allocation is refused the store
 //! answers as before, and takes the step when it is asked again.
 
-ghost use Rattle.std.specs.Prelude.{◌≡◌, ◌≤◌, length};
+ghost use Rattle.std.specs.Prelude.{◌≤◌, length};
 ghost use Rattle.mc_command.specs.Commands.{key_of};
 
 use super::*;
@@ -9,233 +9,332 @@ use crate::bytes::Bytes;
 use std::process::Abort;
 use std::test::Fail;
 
-fn store_step<'a>(verb: Verb, key: &'a [u8], exptime: i64, block: &'a [u8]) -> KeyStep<'a>
-    ensures { key_of result ≡ key.now }
+/// What is asked of a key.
+#[derive(Clone, Copy)]
+enum Ask {
+    Store(Verb, i64, &'static [u8]),
+    Cas(u64, &'static [u8]),
+    Get,
+    Gat(i64),
+    Touch(i64),
+    Delete,
+    Incr(u64),
+    Decr(u64),
+    Flush(u64),
+}
+
+/// What it is answered.
+#[derive(Clone, Copy)]
+enum Want {
+    Told(&'static str),
+    Hit(u64, &'static [u8]),
+}
+
+type Row = (u64, &'static [u8], Ask, Want);
+
+fn step_of(key: &[u8], ask: Ask) -> KeyStep<'_>
+    requires { length key.now ≤ 250 }
+    ensures { length (key_of result) ≤ 250 }
 {
-    KeyStep::Store {
-        verb,
-        key: Bytes::of(key),
-        flags: 7,
-        exptime,
-        block: Bytes::of(block),
+    let key = Bytes::of(key);
+    match ask {
+        Ask::Store(verb, exptime, block) => KeyStep::Store {
+            verb,
+            key,
+            flags: 7,
+            exptime,
+            block: Bytes::of(block),
+        },
+        Ask::Cas(unique, block) => KeyStep::Cas {
+            key,
+            flags: 7,
+            exptime: 0,
+            block: Bytes::of(block),
+            unique,
+        },
+        Ask::Get => KeyStep::Read { key },
+        Ask::Gat(exptime) => KeyStep::ReadTouch { key, exptime },
+        Ask::Touch(exptime) => KeyStep::Touch { key, exptime },
+        Ask::Delete => KeyStep::Delete { key },
+        Ask::Incr(by) => KeyStep::Count { key, up: true, by },
+        Ask::Decr(by) => KeyStep::Count { key, up: false, by },
+        Ask::Flush(delay) => KeyStep::Flush { delay },
     }
 }
 
-/// A store whose steps are asked again where memory is refused.
-#[derive(Drop)]
-struct Patient {
-    alloc: Global,
-    store: PlainStore,
-}
-
-impl Patient {
-    fn new(alloc: Global, greatest: u64) -> Result<Patient, AllocError> {
-        Ok(Patient {
-            alloc,
-            store: PlainStore::new(alloc, 64, greatest)?,
-        })
-    }
-
-    /// What a read of the key is answered.
-    fn read(&mut self, key: &[u8], now: u64) -> Result<Reply, StepFault>
-        requires { length key.now ≤ 250 }
-    {
-        let step = KeyStep::Read {
-            key: Bytes::of(key),
-        };
-        let now = Moment::from_seconds_at_most(now);
-        match self.store.step(self.alloc, &step, now) {
-            Err(StepFault::NoMemory) => self.store.step(self.alloc, &step, now),
-            answer => answer,
-        }
-    }
-
-    /// Takes the step. Where memory is refused the key's item is as it was, and the step is taken when asked again.
-    fn take(
-        &mut self,
-        rt: &impl Abort,
-        key: &[u8],
-        step: &KeyStep<'_>,
-        now: u64,
-    ) -> Result<Reply, StepFault>
-        requires key { length key.now ≤ 250 }
-        requires step { length (key_of step.now) ≤ 250 }
-    {
-        let before = self.read(key, now)?;
-        let moment = Moment::from_seconds_at_most(now);
-        match self.store.step(self.alloc, step, moment) {
-            Err(StepFault::NoMemory) => {
-                let after = self.read(key, now)?;
-                assert!(rt; is_same_read(&before, &after), "a refused step changed the item");
-                self.store.step(self.alloc, step, moment)
-            }
-            answer => answer,
-        }
+fn told(reply: &Reply) -> &'static str {
+    match reply {
+        Reply::Stored => "stored",
+        Reply::NotStored => "not stored",
+        Reply::Exists => "exists",
+        Reply::NotFound => "not found",
+        Reply::Miss => "miss",
+        Reply::Hit { .. } => "hit",
+        Reply::Touched => "touched",
+        Reply::Deleted => "deleted",
+        Reply::Number(0) => "number 0",
+        Reply::Number(_) => "another number",
+        Reply::NotNumeric => "not numeric",
+        Reply::TooLarge => "too large",
+        Reply::NoChunk => "no chunk",
+        Reply::Flushed => "flushed",
     }
 }
 
-fn is_same_read(a: &Reply, b: &Reply) -> bool {
-    match (a, b) {
-        (Reply::Miss, Reply::Miss) => true,
-        (
+fn is_wanted(reply: &Reply, want: Want) -> bool {
+    match want {
+        Want::Told(text) => told(reply) == text,
+        Want::Hit(wanted, bytes) => match reply {
             Reply::Hit {
                 flags,
                 unique,
                 block,
-            },
-            Reply::Hit {
-                flags: other_flags,
-                unique: other_unique,
-                block: other,
-            },
-        ) => flags == other_flags && unique == other_unique && block.bytes() == other.bytes(),
-        _ => false,
+            } => *flags == 7 && *unique == wanted && block.bytes() == bytes,
+            _ => false,
+        },
     }
 }
 
-fn is_hit(reply: &Reply, unique: u64, block: &[u8]) -> bool {
-    match reply {
+fn is_same_read(a: &Reply, b: &Reply) -> bool {
+    match b {
         Reply::Hit {
             flags: 7,
-            unique: found,
-            block: bytes,
-        } => *found == unique && bytes.bytes() == block,
-        _ => false,
+            unique,
+            block,
+        } => match a {
+            Reply::Hit {
+                flags: 7,
+                unique: other,
+                block: bytes,
+            } => unique == other && block.bytes() == bytes.bytes(),
+            _ => false,
+        },
+        _ => told(a) == told(b),
     }
+}
+
+/// The step's answer, asked for again where memory is refused.
+fn asked(
+    store: &mut PlainStore,
+    alloc: Global,
+    step: &KeyStep<'_>,
+    now: Moment,
+) -> Result<Reply, StepFault>
+    requires { length (key_of step.now) ≤ 250 }
+{
+    match store.step(alloc, step, now) {
+        Err(StepFault::NoMemory) => store.step(alloc, step, now),
+        answer => answer,
+    }
+}
+
+/// Takes the step. Where memory is refused, the key's item is as it was.
+fn take(
+    rt: &impl Abort,
+    store: &mut PlainStore,
+    alloc: Global,
+    key: &[u8],
+    step: &KeyStep<'_>,
+    now: Moment,
+) -> Result<Reply, StepFault>
+    requires key { length key.now ≤ 250 }
+    requires step { length (key_of step.now) ≤ 250 }
+{
+    let read = step_of(key, Ask::Get);
+    let before = asked(store, alloc, &read, now)?;
+    if let Ok(reply) = store.step(alloc, step, now) {
+        return Ok(reply);
+    }
+    let after = asked(store, alloc, &read, now)?;
+    assert!(rt;
+        is_same_read(&before, &after),
+        "a refused step changed the item"
+    );
+    store.step(alloc, step, now)
+}
+
+fn answers(rt: &impl Abort, alloc: Global, greatest: u64, rows: &[Row]) -> Result<(), Fail> {
+    let mut store = PlainStore::new(alloc, 64, greatest)?;
+    for (seconds, key, ask, want) in rows {
+        assert!(rt; key.len() <= 250);
+        let now = Moment::from_seconds_at_most(*seconds);
+        let step = step_of(key, *ask);
+        let reply = take(rt, &mut store, alloc, key, &step, now)?;
+        assert!(rt; is_wanted(&reply, *want), "at {seconds}: {}", told(&reply));
+    }
+    Ok(())
 }
 
 #[test]
 fn exptimes_up_to_30_days_count_from_now(rt: HostRuntime) -> Result<(), Fail> {
-    let mut store = Patient::new(rt.alloc(), 1048576)?;
-    let relative = store_step(Verb::Set, b"a", 2592000, b"x");
-    let absolute = store_step(Verb::Set, b"b", 2592001, b"y");
-    assert!(rt; matches!(store.take(&rt, b"a", &relative, 1000)?, Reply::Stored));
-    assert!(rt; matches!(store.take(&rt, b"b", &absolute, 1000)?, Reply::Stored));
-    assert!(rt; is_hit(&store.read(b"b", 2592000)?, 2, b"y"));
-    assert!(rt; matches!(store.read(b"b", 2592001)?, Reply::Miss));
-    assert!(rt; is_hit(&store.read(b"a", 2592999)?, 1, b"x"));
-    assert!(rt; matches!(store.read(b"a", 2593000)?, Reply::Miss));
-    Ok(())
+    let rows: [Row; 6] = [
+        (
+            1000,
+            b"a",
+            Ask::Store(Verb::Set, 2592000, b"x"),
+            Want::Told("stored"),
+        ),
+        (
+            1000,
+            b"b",
+            Ask::Store(Verb::Set, 2592001, b"y"),
+            Want::Told("stored"),
+        ),
+        (2592000, b"b", Ask::Get, Want::Hit(2, b"y")),
+        (2592001, b"b", Ask::Get, Want::Told("miss")),
+        (2592999, b"a", Ask::Get, Want::Hit(1, b"x")),
+        (2593000, b"a", Ask::Get, Want::Told("miss")),
+    ];
+    answers(&rt, rt.alloc(), 1048576, &rows)
 }
 
 #[test]
 fn a_flush_comes_after_its_delay(rt: HostRuntime) -> Result<(), Fail> {
-    let mut store = Patient::new(rt.alloc(), 1048576)?;
-    let flush = KeyStep::Flush { delay: 10 };
-    let before = store_step(Verb::Set, b"a", 0, b"x");
-    let at_once = store_step(Verb::Set, b"b", 0, b"y");
-    assert!(rt; matches!(store.take(&rt, b"a", &flush, 1000)?, Reply::Flushed));
-    assert!(rt; matches!(store.take(&rt, b"a", &before, 1005)?, Reply::Stored));
-    assert!(rt; is_hit(&store.read(b"a", 1009)?, 1, b"x"));
-    assert!(rt; matches!(store.read(b"a", 1010)?, Reply::Miss));
-    assert!(rt; matches!(store.take(&rt, b"b", &at_once, 1010)?, Reply::Stored));
-    assert!(rt; is_hit(&store.read(b"b", 1011)?, 2, b"y"));
-    Ok(())
+    let rows: [Row; 8] = [
+        (1000, b"a", Ask::Flush(10), Want::Told("flushed")),
+        (
+            1005,
+            b"a",
+            Ask::Store(Verb::Set, 0, b"x"),
+            Want::Told("stored"),
+        ),
+        (1009, b"a", Ask::Get, Want::Hit(1, b"x")),
+        (1010, b"a", Ask::Get, Want::Told("miss")),
+        (
+            1010,
+            b"b",
+            Ask::Store(Verb::Set, 0, b"y"),
+            Want::Told("stored"),
+        ),
+        (1011, b"b", Ask::Get, Want::Hit(2, b"y")),
+        (1011, b"b", Ask::Flush(0), Want::Told("flushed")),
+        (1011, b"b", Ask::Get, Want::Told("miss")),
+    ];
+    answers(&rt, rt.alloc(), 1048576, &rows)
 }
 
 #[test]
-fn appends_and_prepends_keep_flags(rt: HostRuntime) -> Result<(), Fail> {
-    let mut store = Patient::new(rt.alloc(), 1048576)?;
-    let append = store_step(Verb::Append, b"a", 0, b"c");
-    let set = store_step(Verb::Set, b"a", 0, b"b");
-    let prepend = store_step(Verb::Prepend, b"a", 0, b"a");
-    let add = store_step(Verb::Add, b"a", 0, b"d");
-    let replace = store_step(Verb::Replace, b"a", 0, b"e");
-    assert!(rt; matches!(store.take(&rt, b"a", &append, 1000)?, Reply::NotStored));
-    assert!(rt; matches!(store.take(&rt, b"a", &set, 1000)?, Reply::Stored));
-    assert!(rt; matches!(store.take(&rt, b"a", &append, 1000)?, Reply::Stored));
-    assert!(rt; matches!(store.take(&rt, b"a", &prepend, 1000)?, Reply::Stored));
-    assert!(rt; is_hit(&store.read(b"a", 1000)?, 3, b"abc"));
-    assert!(rt; matches!(store.take(&rt, b"a", &add, 1000)?, Reply::NotStored));
-    assert!(rt; matches!(store.take(&rt, b"a", &replace, 1000)?, Reply::Stored));
-    assert!(rt; is_hit(&store.read(b"a", 1000)?, 4, b"e"));
-    Ok(())
+fn storage_commands_store_on_their_condition(rt: HostRuntime) -> Result<(), Fail> {
+    let rows: [Row; 12] = [
+        (
+            1000,
+            b"a",
+            Ask::Store(Verb::Append, 0, b"x"),
+            Want::Told("not stored"),
+        ),
+        (1000, b"a", Ask::Cas(1, b"y"), Want::Told("not found")),
+        (
+            1000,
+            b"a",
+            Ask::Store(Verb::Set, 0, b"b"),
+            Want::Told("stored"),
+        ),
+        (
+            1000,
+            b"a",
+            Ask::Store(Verb::Append, 0, b"c"),
+            Want::Told("stored"),
+        ),
+        (
+            1000,
+            b"a",
+            Ask::Store(Verb::Prepend, 0, b"a"),
+            Want::Told("stored"),
+        ),
+        (1000, b"a", Ask::Get, Want::Hit(3, b"abc")),
+        (
+            1000,
+            b"a",
+            Ask::Store(Verb::Add, 0, b"d"),
+            Want::Told("not stored"),
+        ),
+        (
+            1000,
+            b"a",
+            Ask::Store(Verb::Replace, 0, b"e"),
+            Want::Told("stored"),
+        ),
+        (1000, b"a", Ask::Cas(4, b"y"), Want::Told("stored")),
+        (1000, b"a", Ask::Cas(4, b"z"), Want::Told("exists")),
+        (1000, b"a", Ask::Get, Want::Hit(5, b"y")),
+        (
+            1000,
+            b"b",
+            Ask::Store(Verb::Add, -1, b"x"),
+            Want::Told("stored"),
+        ),
+    ];
+    answers(&rt, rt.alloc(), 1048576, &rows)
 }
 
 #[test]
-fn cas_stores_once(rt: HostRuntime) -> Result<(), Fail> {
-    let mut store = Patient::new(rt.alloc(), 1048576)?;
-    let set = store_step(Verb::Set, b"a", 0, b"x");
-    let cas = KeyStep::Cas {
-        key: Bytes::of(b"a"),
-        flags: 7,
-        exptime: 0,
-        block: Bytes::of(b"y"),
-        unique: 1,
-    };
-    assert!(rt; matches!(store.take(&rt, b"a", &cas, 1000)?, Reply::NotFound));
-    assert!(rt; matches!(store.take(&rt, b"a", &set, 1000)?, Reply::Stored));
-    assert!(rt; matches!(store.take(&rt, b"a", &cas, 1000)?, Reply::Stored));
-    assert!(rt; matches!(store.take(&rt, b"a", &cas, 1000)?, Reply::Exists));
-    assert!(rt; is_hit(&store.read(b"a", 1000)?, 2, b"y"));
-    Ok(())
-}
-
-#[test]
-fn touches_and_deletes(rt: HostRuntime) -> Result<(), Fail> {
-    let mut store = Patient::new(rt.alloc(), 1048576)?;
-    let set = store_step(Verb::Set, b"a", 0, b"x");
-    let gat = KeyStep::ReadTouch {
-        key: Bytes::of(b"a"),
-        exptime: 10,
-    };
-    let touch = KeyStep::Touch {
-        key: Bytes::of(b"a"),
-        exptime: -1,
-    };
-    let delete = KeyStep::Delete {
-        key: Bytes::of(b"a"),
-    };
-    assert!(rt; matches!(store.take(&rt, b"a", &touch, 1000)?, Reply::NotFound));
-    assert!(rt; matches!(store.take(&rt, b"a", &set, 1000)?, Reply::Stored));
-    assert!(rt; is_hit(&store.take(&rt, b"a", &gat, 1000)?, 1, b"x"));
-    assert!(rt; is_hit(&store.read(b"a", 1009)?, 1, b"x"));
-    assert!(rt; matches!(store.take(&rt, b"a", &touch, 1009)?, Reply::Touched));
-    assert!(rt; matches!(store.read(b"a", 1009)?, Reply::Miss));
-    assert!(rt; matches!(store.take(&rt, b"a", &delete, 1009)?, Reply::NotFound));
-    assert!(rt; matches!(store.take(&rt, b"a", &set, 1009)?, Reply::Stored));
-    assert!(rt; matches!(store.take(&rt, b"a", &delete, 1009)?, Reply::Deleted));
-    assert!(rt; matches!(store.take(&rt, b"a", &gat, 1009)?, Reply::Miss));
-    Ok(())
+fn touches_set_the_expiry_and_deletes_remove(rt: HostRuntime) -> Result<(), Fail> {
+    let rows: [Row; 10] = [
+        (1000, b"a", Ask::Touch(0), Want::Told("not found")),
+        (
+            1000,
+            b"a",
+            Ask::Store(Verb::Set, 0, b"x"),
+            Want::Told("stored"),
+        ),
+        (1000, b"a", Ask::Gat(10), Want::Hit(1, b"x")),
+        (1009, b"a", Ask::Get, Want::Hit(1, b"x")),
+        (1009, b"a", Ask::Touch(-1), Want::Told("touched")),
+        (1009, b"a", Ask::Get, Want::Told("miss")),
+        (1009, b"a", Ask::Delete, Want::Told("not found")),
+        (
+            1009,
+            b"a",
+            Ask::Store(Verb::Set, 0, b"x"),
+            Want::Told("stored"),
+        ),
+        (1009, b"a", Ask::Delete, Want::Told("deleted")),
+        (1009, b"a", Ask::Gat(0), Want::Told("miss")),
+    ];
+    answers(&rt, rt.alloc(), 1048576, &rows)
 }
 
 #[test]
 fn counts_wrap_up_and_stop_at_zero(rt: HostRuntime) -> Result<(), Fail> {
-    let mut store = Patient::new(rt.alloc(), 1048576)?;
-    let greatest = store_step(Verb::Set, b"n", 0, b"18446744073709551615");
-    let other = store_step(Verb::Set, b"n", 0, b"12x");
-    let up = KeyStep::Count {
-        key: Bytes::of(b"n"),
-        up: true,
-        by: 1,
-    };
-    let down = KeyStep::Count {
-        key: Bytes::of(b"n"),
-        up: false,
-        by: 5,
-    };
-    assert!(rt; matches!(store.take(&rt, b"n", &up, 1000)?, Reply::NotFound));
-    assert!(rt; matches!(store.take(&rt, b"n", &greatest, 1000)?, Reply::Stored));
-    assert!(rt; matches!(store.take(&rt, b"n", &up, 1000)?, Reply::Number(0)));
-    assert!(rt; matches!(store.take(&rt, b"n", &up, 1000)?, Reply::Number(1)));
-    assert!(rt; matches!(store.take(&rt, b"n", &down, 1000)?, Reply::Number(0)));
-    assert!(rt; is_hit(&store.read(b"n", 1000)?, 4, b"0"));
-    assert!(rt; matches!(store.take(&rt, b"n", &other, 1000)?, Reply::Stored));
-    assert!(rt; matches!(store.take(&rt, b"n", &up, 1000)?, Reply::NotNumeric));
-    Ok(())
+    let rows: [Row; 7] = [
+        (1000, b"n", Ask::Incr(1), Want::Told("not found")),
+        (
+            1000,
+            b"n",
+            Ask::Store(Verb::Set, 0, b"18446744073709551615"),
+            Want::Told("stored"),
+        ),
+        (1000, b"n", Ask::Incr(1), Want::Told("number 0")),
+        (1000, b"n", Ask::Decr(5), Want::Told("number 0")),
+        (1000, b"n", Ask::Get, Want::Hit(3, b"0")),
+        (
+            1000,
+            b"n",
+            Ask::Store(Verb::Set, 0, b"12x"),
+            Want::Told("stored"),
+        ),
+        (1000, b"n", Ask::Incr(1), Want::Told("not numeric")),
+    ];
+    answers(&rt, rt.alloc(), 1048576, &rows)
 }
 
 #[test]
 fn what_is_too_large_is_not_written(rt: HostRuntime) -> Result<(), Fail> {
-    // 48 bytes beside a key of one byte and a block of one or two.
-    let mut store = Patient::new(rt.alloc(), 50)?;
-    let set = store_step(Verb::Set, b"a", 0, b"x");
-    let append = store_step(Verb::Append, b"a", 0, b"y");
-    let flush = KeyStep::Flush { delay: 0 };
-    assert!(rt; matches!(store.take(&rt, b"a", &set, 1000)?, Reply::Stored));
-    assert!(rt; matches!(store.take(&rt, b"a", &append, 1000)?, Reply::TooLarge));
-    assert!(rt; is_hit(&store.read(b"a", 1000)?, 1, b"x"));
-    assert!(rt; matches!(store.take(&rt, b"a", &flush, 1000)?, Reply::Flushed));
-    assert!(rt; matches!(store.read(b"a", 1000)?, Reply::Miss));
-    Ok(())
+    // A charge is 48 bytes beside the key and the block.
+    let rows: [Row; 3] = [
+        (
+            1000,
+            b"a",
+            Ask::Store(Verb::Set, 0, b"x"),
+            Want::Told("stored"),
+        ),
+        (
+            1000,
+            b"a",
+            Ask::Store(Verb::Append, 0, b"y"),
+            Want::Told("too large"),
+        ),
+        (1000, b"a", Ask::Get, Want::Hit(1, b"x")),
+    ];
+    answers(&rt, rt.alloc(), 50, &rows)
 }

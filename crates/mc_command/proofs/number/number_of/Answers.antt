@@ -1,4 +1,4 @@
-use Rattle.std.proofs.Common.{◌≡◌, ap, sym, ◌∙◌, arith}
+use Rattle.std.proofs.Common.{sym, ◌∙◌}
 use Rattle.mc_command.proofs.NumberLemmas.{number_of-yes}
 use Rattle.mc_command.proofs.number.number_of.Goals as goal
 

@@ -1,5 +1,5 @@
-use Rattle.std.proofs.Common.{◌∙◌, sym, ap, arith, ⊎_elim}
-use Rattle.mc_command.proofs.NumberLemmas.{none-other, none-mul, none-add, value-more, digits-more, whole-some, whole-none}
+use Rattle.std.proofs.Common.{◌∙◌, sym, arith, ⊎_elim}
+use Rattle.mc_command.proofs.NumberLemmas.{none-other, none-mul, none-add, value-more, digits-more, whole-some}
 use Rattle.mc_command.proofs.number.number_up_to.Goals as goal
 
 pub returns-then-not-is_ascii_digit : goal.returns-then-not-is_ascii_digit

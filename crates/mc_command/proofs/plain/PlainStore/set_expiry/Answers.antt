@@ -1,4 +1,4 @@
-use Rattle.std.proofs.Common.{ap, [], sym, refl, ◌∙◌}
+use Rattle.std.proofs.Common.{[], sym, refl}
 use Rattle.mc_command.proofs.ItemLemmas.{re_expired-is, re_expired-none}
 use Rattle.mc_command.proofs.plain.PlainStore.set_expiry.Goals as goal
 use Rattle.mc_command.proofs.plain.PlainStore.set_expiry.Goals.{in-Some, in_default}

@@ -1,4 +1,4 @@
-use Rattle.std.proofs.Common.{[], refl, arith, ◌≤◌, ◌+◌, length}
+use Rattle.std.proofs.Common.{[], refl, arith}
 use Rattle.mc_command.specs.Plain.{Plain, standing}
 use Rattle.mc_command.specs.Items.{items_of}
 use Rattle.mc_command.proofs.PlainLemmas.{write-is}
