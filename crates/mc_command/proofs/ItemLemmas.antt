@@ -77,7 +77,7 @@ distinct : (es : Entries) → IsStrictlySortedBy key_cmp (keys_of es) → IsDist
 distinct es h = distinct_bytes es (IsDistinct-from_sorted key_cmp (keys_of es) h)
 
 -- an insertion
-is_equal : (o : Ordering) → is_eq o ≡ true → o ≡ Equal
+pub is_equal : (o : Ordering) → is_eq o ≡ true → o ≡ Equal
 is_equal Less h = cc
 is_equal Equal h = refl
 is_equal Greater h = cc

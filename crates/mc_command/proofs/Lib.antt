@@ -2,3 +2,4 @@ pub mod NumberLemmas
 pub mod WordLemmas
 pub mod ItemLemmas
 pub mod PlainLemmas
+pub mod LawLemmas

@@ -3,3 +3,4 @@ pub mod Numbers
 pub mod Commands
 pub mod Plain
 pub mod Items
+pub mod Laws

@@ -1,10 +1,13 @@
 //! The plain store: an ordered map, which takes each step as the plain machine does.
 
 mod item;
+#[cfg(test)]
+mod tests;
 
-ghost use Rattle.std.specs.Prelude.{◌≡◌, ◌≤◌, ℕ, length, decimal, Some, Err, Option, IsOk, IfOk, OnErr};
+ghost use Rattle.std.specs.Prelude.{◌≡◌, ◌≤◌, ℕ, length, decimal, Some, Err, IsErr, IfOk, OnErr};
 ghost use Rattle.std.specs.Option.{option_copied};
 ghost use Rattle.std.specs.FinMap.{get, remove};
+ghost use Rattle.mc_command.specs.Commands.{key_of};
 ghost use Rattle.mc_command.specs.Items.{re_expired};
 ghost use Rattle.mc_command.specs.Plain.{opening, plain, applied, changed, standing, without_dead, flushed, Answered, Spent, Writes, store_row, cas_row, read_row, read_touch_row, touch_row, delete_row, count_row, counted, living, CopiesBlock, MayFail};
 
@@ -316,7 +319,15 @@ impl Steps for PlainStore {
         alloc: Global,
         step: &KeyStep<'_>,
         now: Moment,
-    ) -> Result<Reply, StepFault> {
+    ) -> Result<Reply, StepFault>
+        requires { length (key_of step.now) ≤ 250 }
+        ensures took { IfOk result (λ reply. plain self.old step.now now ≡ Answered reply self.new) }
+        ensures spent { result ≡ Err StepFault.NumbersSpent → plain self.old step.now now ≡ Spent }
+        ensures err { OnErr result (self.new ≡ self.old) }
+        // With the numbers spent a write is refused, and a step that copies no block never is.
+        ensures numbers { plain self.old step.now now ≡ Spent → IsErr result }
+        ensures refused { OnErr result (MayFail (plain self.old step.now now)) }
+    {
         match step {
             KeyStep::Store {
                 verb,

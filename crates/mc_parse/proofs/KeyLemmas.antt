@@ -1,5 +1,5 @@
 -- No key of a command that is spelled is longer than 250 bytes.
-use Rattle.std.proofs.Common.{◌≡◌, ◌≤◌, ℕ, true, false, List, length, take, drop, map, refl, sym, ap, ◌∙◌, subst, Result, Ok, Err, if◌then◌else◌, Option, Some, None}
+use Rattle.std.proofs.Common.{◌≡◌, ◌≤◌, ℕ, true, false, List, length, take, drop, map, refl, sym, ap, ◌∙◌, subst, Result, Ok, Err, if◌then◌else◌, Option, Some, None, IfSome}
 use Rattle.std.specs.List.{All}
 use Rattle.std.specs.Str.{bytes_eq}
 use Rattle.std.proofs.Common.{◌∷◌, []}
@@ -23,7 +23,7 @@ use Rattle.mc_parse.specs.Peeks.{IsSpelled, IsLeft, left_of}
 use Rattle.mc_parse.proofs.LineLemmas.{short_keys, short_block_keys}
 
 -- where a block completes a command it is this one
-stored_is : (head : Head) (block ended : List ℕ) (command : Command) → Request command ≡ stored head block ended → command ≡ with_block head block
+pub stored_is : (head : Head) (block ended : List ℕ) (command : Command) → Request command ≡ stored head block ended → command ≡ with_block head block
 stored_is head block ended command =
     elim (bytes_eq ended (13 ∷ 10 ∷ [])) as (λ b. Request command ≡ (if b then Request (with_block head block) else Fault BadChunk) → command ≡ with_block head block) [
       | true ↦ λ e. cc
@@ -69,8 +69,14 @@ left_command greatest taken bytes (Request whole) command len is left =
 left_command greatest taken bytes (Fault fault) command len is left = absurd (cc)
 left_command greatest taken bytes LongLine command len is left = absurd (cc)
 
--- the keys that are left of a unit are short
-pub keys_after : (greatest taken : ℕ) (bytes : List ℕ) (found : Option (ProtocolUnit × ℕ)) (command : Command) (len : ℕ) → ((p : ProtocolUnit × ℕ) → found ≡ Some p → IsLeft greatest taken p bytes) → found ≡ Some (Request command, len) → HasShortKeys command
-keys_after greatest taken bytes found command len is e =
-    let h = is (Request command, len) e in
+-- whatever was found, its keys are short
+pub found_keys : (greatest : ℕ) (bytes : List ℕ) (found : Option (ProtocolUnit × ℕ)) → IfSome found (λ p. IsSpelled greatest p bytes) → (command : Command) (len : ℕ) → found ≡ Some (Request command, len) → HasShortKeys command
+found_keys greatest bytes found is command len e =
+    let h : IsSpelled greatest (Request command, len) bytes = subst (λ o. IfSome o (λ p. IsSpelled greatest p bytes)) e is in
+    spelled_keys greatest command len bytes h
+
+-- and so they are where it is what is left of a unit
+pub left_found_keys : (greatest taken : ℕ) (bytes : List ℕ) (found : Option (ProtocolUnit × ℕ)) → IfSome found (λ p. IsLeft greatest taken p bytes) → (command : Command) (len : ℕ) → found ≡ Some (Request command, len) → HasShortKeys command
+left_found_keys greatest taken bytes found is command len e =
+    let h : IsLeft greatest taken (Request command, len) bytes = subst (λ o. IfSome o (λ p. IsLeft greatest taken p bytes)) e is in
     left_command greatest taken bytes h.unit command len h.spelled h.left

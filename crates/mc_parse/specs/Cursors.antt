@@ -12,6 +12,11 @@ abbrev pub retrieval : Option ℤ → List (List ℕ) → Bool → Command
 retrieval None keys with_unique = Get keys with_unique
 retrieval (Some exptime) keys with_unique = GetTouch exptime keys with_unique
 
+-- how many words of a retrieval's line come before the keys: its name, and the exptime where it has one
+abbrev pub words_before : Option ℤ → ℕ
+words_before None = 1
+words_before (Some exptime) = 2
+
 -- the text of the keys that are left
 abbrev pub text_left : Cursor → List ℕ → List ℕ
 text_left cursor bytes = drop cursor.from (take cursor.to bytes)

@@ -332,3 +332,6 @@ fn exptime_formed(word: &[u8]) -> Result<i64, LineFault>
 {
     exptime_of(word).ok_or(LineFault::BadFormat)
 }
+
+#[cfg(test)]
+mod tests;
