@@ -1,7 +1,7 @@
--- A note of the turns that were taken fits the bytes: before the first turn, and one turn on.
-use Rattle.std.proofs.Common.{◌≡◌, ◌==◌, ◌<◌, ◌≤◌, ◌+◌, ◌-◌, if◌then◌else◌, ℕ, Bool, true, false, List, [], ◌∷◌, ◌++◌, length, take, drop, refl, sym, ap, ◌∙◌, subst, arith, ℤ, Option, Some, None, Result, Ok, Err, length-append, length-drop}
-use Rattle.std.proofs.Math.Seq.{take-append_seam}
-use Rattle.std.proofs.lemmas.List.{append-nil, drop-drop, take-take, length-take, length-take-le, take-append-le, take_all}
+-- A note of the turns that were taken fits the bytes: before the first turn, one turn on, and behind the last key.
+use Rattle.std.proofs.Common.{◌≡◌, ◌==◌, ◌<◌, ◌≤◌, ◌+◌, ◌-◌, if◌then◌else◌, ℕ, Bool, true, false, List, [], ◌∷◌, ◌++◌, length, take, drop, refl, sym, ap, ◌∙◌, subst, arith, ℤ, ◌⊎◌, inl, inr, Option, Some, None, Result, Ok, Err, length-append, length-drop}
+use Rattle.std.proofs.Math.Seq.{take-append_seam, drop-nil}
+use Rattle.std.proofs.lemmas.List.{append-nil, nil_from_length, drop-drop, take-take, length-take, length-take-le, take-append-le, take_all}
 use Rattle.std.specs.Str.Lines.{strip_carriage_return}
 use Rattle.std.specs.List.{slice_index}
 use Rattle.mc_command.specs.Words.{words}
@@ -22,27 +22,27 @@ use Rattle.mc_parse.proofs.KeyLemmas.{stored_is}
 use Rattle.mc_parse.proofs.RetrievalLemmas.{keys_behind}
 
 -- turns after turns
-step_more : (command : Command) (taken : ℕ) → after_steps (after_steps command taken) 1 ≡ after_steps command (taken + 1)
-step_more (Get keys with_unique) taken = ap (λ ks. Get ks with_unique) (drop-drop 1 taken keys)
-step_more (GetTouch exptime keys with_unique) taken = ap (λ ks. GetTouch exptime ks with_unique) (drop-drop 1 taken keys)
-step_more (StoreCommand verb key flags exptime block quiet) taken = refl
-step_more (CasCommand key flags exptime block unique quiet) taken = refl
-step_more (Touch key exptime quiet) taken = refl
-step_more (Delete key quiet) taken = refl
-step_more (Count key up by quiet) taken = refl
-step_more (FlushAll delay quiet) taken = refl
-step_more Version taken = refl
-step_more Quit taken = refl
+step_more : (command : Command) (taken more : ℕ) → after_steps (after_steps command taken) more ≡ after_steps command (taken + more)
+step_more (Get keys with_unique) taken more = ap (λ ks. Get ks with_unique) (drop-drop more taken keys)
+step_more (GetTouch exptime keys with_unique) taken more = ap (λ ks. GetTouch exptime ks with_unique) (drop-drop more taken keys)
+step_more (StoreCommand verb key flags exptime block quiet) taken more = refl
+step_more (CasCommand key flags exptime block unique quiet) taken more = refl
+step_more (Touch key exptime quiet) taken more = refl
+step_more (Delete key quiet) taken more = refl
+step_more (Count key up by quiet) taken more = refl
+step_more (FlushAll delay quiet) taken more = refl
+step_more Version taken more = refl
+step_more Quit taken more = refl
 
-turn_more : (unit : ProtocolUnit) (taken : ℕ) → left_of (left_of unit taken) 1 ≡ left_of unit (taken + 1)
-turn_more (Request command) taken = ap Request (step_more command taken)
-turn_more (Fault fault) taken = refl
-turn_more LongLine taken = refl
+turn_more : (unit : ProtocolUnit) (taken more : ℕ) → left_of (left_of unit taken) more ≡ left_of unit (taken + more)
+turn_more (Request command) taken more = ap Request (step_more command taken more)
+turn_more (Fault fault) taken more = refl
+turn_more LongLine taken more = refl
 
--- one turn of a retrieval
-retrieval_next : (exptime : Option ℤ) (keys : List (List ℕ)) (with_unique : Bool) → after_steps (retrieval exptime keys with_unique) 1 ≡ retrieval exptime (drop 1 keys) with_unique
-retrieval_next None keys with_unique = refl
-retrieval_next (Some exptime) keys with_unique = refl
+-- turns of a retrieval
+retrieval_more : (exptime : Option ℤ) (keys : List (List ℕ)) (with_unique : Bool) (more : ℕ) → after_steps (retrieval exptime keys with_unique) more ≡ retrieval exptime (drop more keys) with_unique
+retrieval_more None keys with_unique more = refl
+retrieval_more (Some exptime) keys with_unique more = refl
 
 -- none of them
 retrieval_whole : (exptime : Option ℤ) (keys : List (List ℕ)) (with_unique : Bool) → after_steps (retrieval exptime keys with_unique) 0 ≡ retrieval exptime keys with_unique
@@ -73,9 +73,9 @@ module _ (cursor : Cursor) (bytes text : List ℕ) (n left : ℕ) (is_text : tex
       spelled = h.left.spelled;
       left =
           ap (λ ws. Request (retrieval cursor.exptime ws cursor.with_unique)) next_words
-          ∙ sym (ap Request (retrieval_next cursor.exptime (words (text_left cursor bytes)) cursor.with_unique))
+          ∙ sym (ap Request (retrieval_more cursor.exptime (words (text_left cursor bytes)) cursor.with_unique 1))
           ∙ ap (λ u. left_of u 1) h.left.left
-          ∙ turn_more h.left.unit cursor.taken;
+          ∙ turn_more h.left.unit cursor.taken 1;
     };
   }
 

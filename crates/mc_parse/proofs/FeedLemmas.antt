@@ -7,7 +7,7 @@ use Rattle.std.proofs.lemmas.List.{drop-append-le, append_assoc}
 use Rattle.mc_parse.specs.declared.cursor.Cursor.{Cursor}
 use Rattle.mc_parse.specs.Units.{ProtocolUnit}
 use Rattle.mc_parse.specs.Peeks.{BeginsWithNone, IsSpelled, IsLeft, left_of}
-use Rattle.mc_parse.specs.Feeds.{Unread, pushed, settled, IsKept}
+use Rattle.mc_parse.specs.Feeds.{Unread, pushed, settled, IsSettled, IsKept}
 use Rattle.mc_parse.proofs.UnitLemmas.{none_in}
 
 -- bytes are passed over of what came first, and then of what came later
@@ -20,7 +20,17 @@ passed_along n first later (inr beyond) =
     let is : n ≡ length first + k = omega arith in
     rw (drop_of_length-le first beyond) (sym (ap (λ m. drop m (first ++ later)) is ∙ drop-append-add first later k))
 
--- where bytes are still to be passed over none is unread, so no front spells anything
+abbrev unread : ℕ → ℕ → List ℕ → Unread
+unread greatest passed bytes = record { greatest = greatest; passed = passed; bytes = bytes }
+
+-- no byte is unread while some are to be passed over
+pub kept_settled : (greatest passed start : ℕ) (cursor : Option Cursor) (buffer : List ℕ) → IsKept greatest passed start cursor buffer → IsSettled (unread greatest passed (drop start buffer))
+kept_settled greatest passed start cursor buffer kept = elim kept.settled as (λ _. IsSettled (unread greatest passed (drop start buffer))) [
+  | inl none ↦ inl none
+  | inr all ↦ inr (drop_of_length-le buffer (omega arith))
+]
+
+-- so no front spells anything then
 pub none_yet : (greatest passed start : ℕ) (cursor : Option Cursor) (buffer bytes : List ℕ) → IsKept greatest passed start cursor buffer → 0 < passed → bytes ≡ drop start buffer → BeginsWithNone greatest (drop passed bytes)
 none_yet greatest passed start cursor buffer bytes kept some is =
     let read : length buffer ≤ start = elim kept.settled as (λ _. length buffer ≤ start) [
@@ -34,9 +44,6 @@ none_yet greatest passed start cursor buffer bytes kept some is =
 pub left_found : (greatest taken passed : ℕ) (bytes : List ℕ) (found : Option (ProtocolUnit × ℕ)) → IfSome found (λ p. (passed ≡ 0) × IsSpelled greatest p bytes) → ((unit : ProtocolUnit) (len : ℕ) → IsSpelled greatest (unit, len) bytes → left_of unit taken ≡ unit) → IfSome found (λ p. (passed ≡ 0) × IsLeft greatest taken p bytes)
 left_found greatest taken passed bytes None h whole = tt
 left_found greatest taken passed bytes (Some (unit, len)) h whole = (h.0, record { unit = unit; spelled = h.1; left = sym (whole unit len h.1) })
-
-abbrev unread : ℕ → ℕ → List ℕ → Unread
-unread greatest passed bytes = record { greatest = greatest; passed = passed; bytes = bytes }
 
 -- pieces that come one after another leave what they leave joined
 pub pushed_twice : (u : Unread) (piece more : List ℕ) → pushed (pushed u piece) more ≡ pushed u (piece ++ more)

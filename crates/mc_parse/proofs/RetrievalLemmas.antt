@@ -19,22 +19,22 @@ use Rattle.mc_parse.specs.Exptimes.{exptime_of, delay_of}
 use Rattle.mc_parse.specs.Lines.{◌>>=◌, formed, is_key, key_formed, keys_formed, ending, delete_ending, delayed, fitting, name_of, store_line, cas_line, get_line, get_touch_line, touch_line, delete_line, count_line, flush_line, lone_line, named_line, meaning}
 use Rattle.mc_parse.specs.Cursors.{retrieval, words_before}
 
--- where the command is a retrieval, these are its arguments
-abbrev pub HasKeys : Command → List (List ℕ) → Type 0
-HasKeys (Get keys with_unique) args = args ≡ keys
-HasKeys (GetTouch exptime keys with_unique) args = drop 1 args ≡ keys
-HasKeys (StoreCommand verb key flags exptime block quiet) args = Unit {0}
-HasKeys (CasCommand key flags exptime block unique quiet) args = Unit {0}
-HasKeys (Touch key exptime quiet) args = Unit {0}
-HasKeys (Delete key quiet) args = Unit {0}
-HasKeys (Count key up by quiet) args = Unit {0}
-HasKeys (FlushAll delay quiet) args = Unit {0}
-HasKeys Version args = Unit {0}
-HasKeys Quit args = Unit {0}
+-- where the command is a retrieval, its keys are among these words
+abbrev pub KeysAre : Command → List (List ℕ) → Type 0
+KeysAre (Get keys with_unique) args = args ≡ keys
+KeysAre (GetTouch exptime keys with_unique) args = drop 1 args ≡ keys
+KeysAre (StoreCommand verb key flags exptime block quiet) args = Unit {0}
+KeysAre (CasCommand key flags exptime block unique quiet) args = Unit {0}
+KeysAre (Touch key exptime quiet) args = Unit {0}
+KeysAre (Delete key quiet) args = Unit {0}
+KeysAre (Count key up by quiet) args = Unit {0}
+KeysAre (FlushAll delay quiet) args = Unit {0}
+KeysAre Version args = Unit {0}
+KeysAre Quit args = Unit {0}
 
 -- the same of a line's meaning
 abbrev pub Tells : Result Line LineFault → List (List ℕ) → Type 0
-Tells (Ok (Bare command)) args = HasKeys command args
+Tells (Ok (Bare command)) args = KeysAre command args
 Tells (Ok (Block head len)) args = Unit {0}
 Tells (Err fault) args = Unit {0}
 

@@ -135,17 +135,18 @@ pub fn cursor_after(known: Option<Cursor>, greatest: u64, unread: &[u8], taken: 
     }
 }
 
-/// The cursor after `taken` turns.
+/// The cursor after `taken` turns. It costs as much as the keys that it passes.
 fn moved_to(mut cursor: Cursor, unread: &[u8], taken: usize) -> Cursor
     requires within { IsWithin cursor unread.now }
     requires ahead { cursor.taken ≤ taken }
     ensures points { (greatest : ℕ) → PointsInto greatest cursor unread.now → PointsInto greatest result unread.now }
     ensures taken { result.taken ≡ taken }
 {
-    while cursor.taken < taken {
+    while cursor.taken < taken && cursor.left > 0 {
         cursor = cursor.next(unread);
     }
-    cursor
+    // Behind the last key all turns leave the same.
+    Cursor { taken, ..cursor }
 }
 
 /// Where the keys begin in the text of a retrieval's line: behind its name, and behind the exptime where it has one.

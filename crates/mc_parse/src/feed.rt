@@ -131,8 +131,8 @@ impl Feed {
         requires { len ≤ length self.old.bytes }
         ensures { self.new ≡ read self.old len passed }
     {
+        let left = self.held() - len;
         self.cursor = None;
-        let left = self.buffer.len() - self.start - len;
         let dropped = passed.min(left as u64);
         self.passed = passed - dropped;
         self.start += len + dropped as usize;
@@ -154,7 +154,8 @@ impl Feed {
 
     /// How many bytes are unread. Bytes that are passed over are never held.
     pub fn held(&self) -> usize
-        ensures { result ≡ length self.now.bytes }
+        ensures unread { result ≡ length self.now.bytes }
+        ensures settled { IsSettled self.now }
     {
         self.buffer.len() - self.start
     }

@@ -1,0 +1,177 @@
+use super::*;
+use mc_command::{Command, Keys, LineFault, Verb};
+use std::alloc::{AllocError, Global};
+use std::test::*;
+
+const GREATEST: u64 = 1048576;
+
+/// A line of `len` bytes without its end: version, and spaces behind it.
+fn long_line(alloc: Global, len: usize) -> Result<Vec<u8>, AllocError> {
+    let mut line = Vec::new(alloc);
+    line.extend_from_slice(b"version")?;
+    line.resize(len, b' ')?;
+    Ok(line)
+}
+
+fn key_is(keys: &Keys<'_>, at: usize, key: &[u8]) -> bool {
+    match keys.get(at) {
+        Some(found) => found == key,
+        None => false,
+    }
+}
+
+#[test]
+fn a_set_and_what_follows(rt: HostRuntime) {
+    let unread = b"set a 5 0 3\r\nabc\r\nget a\r\n";
+    match peek_at(GREATEST, unread) {
+        Peek::Whole(
+            Command::Store {
+                verb,
+                key,
+                flags,
+                exptime,
+                block,
+                quiet,
+            },
+            len,
+        ) => {
+            assert_eq!(rt; len, 18);
+            assert!(rt; matches!(verb, Verb::Set));
+            assert_eq!(rt; flags, 5);
+            assert_eq!(rt; exptime, 0);
+            assert!(rt; !quiet);
+            assert!(rt; key.as_slice() == b"a".as_slice());
+            assert!(rt; block.as_slice() == b"abc".as_slice());
+        }
+        _ => assert!(rt; false),
+    }
+}
+
+#[test]
+fn faults_and_more(rt: HostRuntime) {
+    let cases: [(&[u8], LineFault, usize); 6] = [
+        (b"set a 0 0 3\r\nabcdef\r\n", LineFault::BadChunk, 18),
+        (b"set a 0 0 3\r\nabc\nget a\r\n", LineFault::BadChunk, 18),
+        (b"def\r\n", LineFault::Unknown, 5),
+        (b"\r\n", LineFault::Unknown, 2),
+        (b"get\r\n", LineFault::Unknown, 5),
+        (b"set a 4294967296 0 1\r\n", LineFault::BadFormat, 22),
+    ];
+    for (unread, fault, len) in cases {
+        assert!(rt; matches!(peek_at(GREATEST, unread), Peek::Bad(found, at) if found == fault && at == len));
+    }
+    let version = peek_at(GREATEST, b"  version  \r\n");
+    assert!(rt; matches!(version, Peek::Whole(Command::Version, 13)));
+    // A line feed ends a line by itself, and one carriage return before it says nothing.
+    let version = peek_at(GREATEST, b"version\n");
+    assert!(rt; matches!(version, Peek::Whole(Command::Version, 8)));
+    let twice = peek_at(GREATEST, b"version\r\r\n");
+    assert!(rt; matches!(twice, Peek::Bad(LineFault::Unknown, 10)));
+    assert!(rt; matches!(peek_at(GREATEST, b"set a 0 0 5\r\nab"), Peek::More));
+    assert!(rt; matches!(peek_at(GREATEST, b"set a 0 0 5\r\nabcde\r"), Peek::More));
+    assert!(rt; matches!(peek_at(GREATEST, b""), Peek::More));
+}
+
+#[test]
+fn the_longest_line(rt: HostRuntime) -> Result<(), AllocError> {
+    let mut longest = long_line(rt.alloc(), 65536)?;
+    assert!(rt; matches!(peek_at(GREATEST, &longest), Peek::More));
+    longest.push(b'\n')?;
+    assert!(rt; matches!(peek_at(GREATEST, &longest), Peek::Whole(Command::Version, 65537)));
+    let mut longer = long_line(rt.alloc(), 65537)?;
+    assert!(rt; matches!(peek_at(GREATEST, &longer), Peek::TooLong));
+    longer.push(b'\n')?;
+    assert!(rt; matches!(peek_at(GREATEST, &longer), Peek::TooLong));
+    Ok(())
+}
+
+#[test]
+fn a_block_that_is_passed_over(rt: HostRuntime) -> Result<(), AllocError> {
+    let mut feed = Feed::new(rt.alloc(), 100);
+    feed.push(b"set a 0 0 200\r\nxyz")?;
+    assert!(rt; matches!(feed.peek(), Peek::Bad(LineFault::TooLarge { passed: 202 }, 15)));
+    feed.done(15);
+    assert_eq!(rt; feed.held(), 0);
+    for _ in 0..199 {
+        feed.push(b"x")?;
+        assert_eq!(rt; feed.held(), 0);
+        assert!(rt; matches!(feed.peek(), Peek::More));
+    }
+    feed.push(b"version\r\nqu")?;
+    assert!(rt; matches!(feed.peek(), Peek::Whole(Command::Version, 9)));
+    feed.done_passing(9, 0);
+    assert_eq!(rt; feed.held(), 2);
+    assert!(rt; matches!(feed.peek(), Peek::More));
+    feed.push(b"it\r\n")?;
+    assert!(rt; matches!(feed.peek(), Peek::Whole(Command::Quit, 6)));
+    feed.clear();
+    assert_eq!(rt; feed.held(), 0);
+    Ok(())
+}
+
+#[test]
+fn a_retrieval_in_turns(rt: HostRuntime) -> Result<(), AllocError> {
+    let mut feed = Feed::new(rt.alloc(), GREATEST);
+    feed.push(b"gats 60 one  two three \r\nquit\r\n")?;
+    for (taken, key, left) in [(0, b"one".as_slice(), 3), (1, b"two", 2), (2, b"three", 1)] {
+        // Found by reading the line from its beginning, and then by the note.
+        for _ in 0..2 {
+            match feed.peek_after(taken) {
+                Peek::Whole(
+                    Command::GetTouch {
+                        exptime,
+                        keys,
+                        with_unique,
+                    },
+                    len,
+                ) => {
+                    assert_eq!(rt; exptime, 60);
+                    assert!(rt; with_unique);
+                    assert_eq!(rt; keys.len(), left);
+                    assert!(rt; key_is(&keys, 0, key));
+                    assert_eq!(rt; len, 25);
+                }
+                _ => assert!(rt; false),
+            }
+            feed.mark(taken);
+        }
+        // What comes behind changes nothing.
+        feed.push(b"version\r\n")?;
+    }
+    match feed.peek_after(usize::MAX) {
+        Peek::Whole(Command::GetTouch { keys, .. }, 25) => assert_eq!(rt; keys.len(), 0),
+        _ => assert!(rt; false),
+    }
+    feed.done(25);
+    assert!(rt; matches!(feed.peek_after(1), Peek::Whole(Command::Quit, 6)));
+    Ok(())
+}
+
+#[test]
+fn a_push_that_is_refused(rt: HostRuntime) -> Result<(), AllocError> {
+    let mut feed = Feed::new(rt.alloc(), GREATEST);
+    let pieces: [&[u8]; 4] = [
+        b"set a 0 0 100\r\nxyz",
+        b"0123456789012345678901234567890123456789012345678901234567890123456789",
+        b"012345678901234567890123456",
+        b"\r\nget a\r\n",
+    ];
+    for piece in pieces {
+        let held = feed.held();
+        if feed.push(piece).is_err() {
+            assert_eq!(rt; feed.held(), held);
+            assert!(rt; matches!(feed.peek(), Peek::More));
+            feed.push(piece)?;
+        }
+    }
+    match feed.peek() {
+        Peek::Whole(Command::Store { block, .. }, len) => {
+            assert_eq!(rt; len, 117);
+            assert_eq!(rt; block.as_slice().len(), 100);
+        }
+        _ => assert!(rt; false),
+    }
+    feed.done(117);
+    assert!(rt; matches!(feed.peek(), Peek::Whole(Command::Get { .. }, 7)));
+    Ok(())
+}
