@@ -12,7 +12,6 @@ mod peek;
 
 pub use feed::Feed;
 pub use laws::{cutting_does_not_matter, no_spelling_begins_another, one_list_of_units};
-pub use line_laws::{words_hold_no_space_or_feed, keys_of_a_line_are_keys};
 pub use line::{Head, Line, line_of};
 pub use line_laws::{keys_of_a_line_are_keys, words_hold_no_space_or_feed};
 pub use name::Name;
