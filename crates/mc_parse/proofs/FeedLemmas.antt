@@ -51,8 +51,8 @@ pushed_twice u piece more =
     let first = u.bytes ++ piece in
     let joined : first ++ more ≡ u.bytes ++ (piece ++ more) = append_assoc u.bytes piece more in
     let count : (u.passed - length first) - length (drop u.passed first ++ more) ≡ u.passed - length (u.bytes ++ (piece ++ more)) =
-        omega (arith, ap length joined, length-append first more, length-append (drop u.passed first) more, length-drop u.passed first) in
+    omega (arith, ap length joined, length-append first more, length-append (drop u.passed first) more, length-drop u.passed first) in
     let kept : drop (u.passed - length first) (drop u.passed first ++ more) ≡ drop u.passed (u.bytes ++ (piece ++ more)) =
-        passed_along u.passed first more (cases_lt u.passed (length first)) ∙ ap (drop u.passed) joined in
+    passed_along u.passed first more (cases_lt u.passed (length first)) ∙ ap (drop u.passed) joined in
     ap (λ n. unread u.greatest n (drop (u.passed - length first) (drop u.passed first ++ more))) count
     ∙ ap (unread u.greatest (u.passed - length (u.bytes ++ (piece ++ more)))) kept

@@ -5,9 +5,11 @@ use Rattle.mc_session.proofs.ServeLemmas.{served_nothing, refused_first, serves,
 use Rattle.mc_session.proofs.serving.serve.Goals as goal
 
 pub loop-init : goal.loop-init
-loop-init g c = (omega (arith, c.as_mut_slice-piece.ensures.len, c.in-Ok.ensures.len),
-    subst (λ (s : SessionState). HasServed g.S.Steps.took g.S.Steps.spent (g.C.Clock.may_give c.args.clock.now) c.args.greatest c.args.store.now c.args.store.now (g.R.Read.remaining c.args.reader.now) (g.R.Read.remaining c.args.reader.now) (g.W.Write.contents c.args.writer.now) (g.W.Write.contents c.args.writer.now) s) (sym c.new-session.ensures)
-    (served_nothing g.S.Steps.took g.S.Steps.spent (g.C.Clock.may_give c.args.clock.now) c.args.greatest c.args.store.now (g.R.Read.remaining c.args.reader.now) (g.W.Write.contents c.args.writer.now)))
+loop-init g c = (
+  omega (arith, c.as_mut_slice-piece.ensures.len, c.in-Ok.ensures.len),
+  subst (λ (s : SessionState). HasServed g.S.Steps.took g.S.Steps.spent (g.C.Clock.may_give c.args.clock.now) c.args.greatest c.args.store.now c.args.store.now (g.R.Read.remaining c.args.reader.now) (g.R.Read.remaining c.args.reader.now) (g.W.Write.contents c.args.writer.now) (g.W.Write.contents c.args.writer.now) s) (sym c.new-session.ensures)
+      (served_nothing g.S.Steps.took g.S.Steps.spent (g.C.Clock.may_give c.args.clock.now) c.args.greatest c.args.store.now (g.R.Read.remaining c.args.reader.now) (g.W.Write.contents c.args.writer.now)),
+)
 
 pub returns-in_default-clause-memory : goal.returns-in_default-clause-memory
 returns-in_default-clause-memory g c = λ _. refused_first g.S.Steps.took g.S.Steps.spent (g.C.Clock.may_give c.args.clock.now) c.args.greatest c.args.store.now (g.R.Read.remaining c.args.reader.now) (g.W.Write.contents c.args.writer.now)
@@ -33,5 +35,7 @@ returns-in-Err-clause-memory g c = λ is.
     c.in-Err.ensures.memory (cc) c.args.greatest c.args.store.now (g.R.Read.remaining c.args.reader.now) (g.W.Write.contents c.args.writer.now) c.loop.invariant.1
 
 pub loop-preserved : goal.loop-preserved
-loop-preserved g c = (omega (arith, c.round.auto.piece),
-    c.in-Ok-false.ensures.ok c.args.greatest c.args.store.now (g.R.Read.remaining c.args.reader.now) (g.W.Write.contents c.args.writer.now) c.loop.invariant.1)
+loop-preserved g c = (
+  omega (arith, c.round.auto.piece),
+  c.in-Ok-false.ensures.ok c.args.greatest c.args.store.now (g.R.Read.remaining c.args.reader.now) (g.W.Write.contents c.args.writer.now) c.loop.invariant.1,
+)
