@@ -63,10 +63,14 @@ module _ (greatest : ℕ) (bytes : List ℕ) (end : ℕ) (inside : end < length 
   begins_block head len is (inl few) = inl (none_line greatest bytes end line head len is few)
   begins_block head len is (inr enough) =
       let rest = drop (end + 1) bytes in
-      inr (stored head (take len rest) (take 2 (drop len rest)), end + 1 + (len + 2), record {
-        within = omega (arith, length-drop (end + 1) bytes);
-        spelled = stored_spelled greatest head (take len rest) (take 2 (drop len rest)) (take (end + 1 + (len + 2)) bytes) (spells_block greatest bytes end line head len rest (take len rest) (take 2 (drop len rest)) _ is refl enough refl refl refl);
-      })
+      inr (
+        stored head (take len rest) (take 2 (drop len rest)),
+        end + 1 + (len + 2),
+        record {
+          within = omega (arith, length-drop (end + 1) bytes);
+          spelled = stored_spelled greatest head (take len rest) (take 2 (drop len rest)) (take (end + 1 + (len + 2)) bytes) (spells_block greatest bytes end line head len rest (take len rest) (take 2 (drop len rest)) _ is refl enough refl refl refl);
+        },
+      )
 
   begins_said : (m : Result Line LineFault) → said ≡ m → Begins greatest bytes
   begins_said (Err fault) is = inr (Fault fault, end + 1, record { within = omega arith; spelled = spells_bare greatest bytes end line (Fault fault) (subst (λ m. Completes m [] (Fault fault)) (sym is) (refl, refl)) })

@@ -1,5 +1,5 @@
 -- What a feed holds after its pieces.
-use Rattle.std.proofs.Common.{◌≡◌, ◌<◌, ◌≤◌, ◌+◌, ◌-◌, ℕ, ◌⊎◌, inl, inr, List, [], ◌∷◌, ◌++◌, length, take, drop, refl, sym, ap, ◌∙◌, subst, arith, length-append, length-drop, Option, Some, None, IfSome}
+use Rattle.std.proofs.Common.{◌≡◌, ◌<◌, ◌≤◌, ◌+◌, ◌-◌, ℕ, ◌⊎◌, inl, inr, List, [], ◌++◌, length, drop, refl, sym, ap, ◌∙◌, subst, arith, length-append, length-drop, Option, Some, None, IfSome}
 use Rattle.std.proofs.Math.Seq.{drop-append-add, drop-nil}
 use Rattle.std.proofs.Math.ListN.{drop_of_length-le}
 use Rattle.std.proofs.lemmas.Bool.{cases_lt}
@@ -7,7 +7,7 @@ use Rattle.std.proofs.lemmas.List.{drop-append-le, append_assoc}
 use Rattle.mc_parse.specs.declared.cursor.Cursor.{Cursor}
 use Rattle.mc_parse.specs.Units.{ProtocolUnit}
 use Rattle.mc_parse.specs.Peeks.{BeginsWithNone, IsSpelled, IsLeft, left_of}
-use Rattle.mc_parse.specs.Feeds.{Unread, pushed, settled, IsSettled, IsKept}
+use Rattle.mc_parse.specs.Feeds.{Unread, pushed, IsSettled, IsKept}
 use Rattle.mc_parse.proofs.UnitLemmas.{none_in}
 
 -- bytes are passed over of what came first, and then of what came later
@@ -51,8 +51,8 @@ pushed_twice u piece more =
     let first = u.bytes ++ piece in
     let joined : first ++ more ≡ u.bytes ++ (piece ++ more) = append_assoc u.bytes piece more in
     let count : (u.passed - length first) - length (drop u.passed first ++ more) ≡ u.passed - length (u.bytes ++ (piece ++ more)) =
-        omega (arith, ap length joined, length-append first more, length-append (drop u.passed first) more, length-drop u.passed first) in
+    omega (arith, ap length joined, length-append first more, length-append (drop u.passed first) more, length-drop u.passed first) in
     let kept : drop (u.passed - length first) (drop u.passed first ++ more) ≡ drop u.passed (u.bytes ++ (piece ++ more)) =
-        passed_along u.passed first more (cases_lt u.passed (length first)) ∙ ap (drop u.passed) joined in
+    passed_along u.passed first more (cases_lt u.passed (length first)) ∙ ap (drop u.passed) joined in
     ap (λ n. unread u.greatest n (drop (u.passed - length first) (drop u.passed first ++ more))) count
     ∙ ap (unread u.greatest (u.passed - length (u.bytes ++ (piece ++ more)))) kept

@@ -1,6 +1,6 @@
 -- No spelling begins another.
-use Rattle.std.proofs.Common.{◌≡◌, ◌≢◌, ◌<◌, ◌≤◌, ◌+◌, ℕ, List, [], ◌∷◌, ◌++◌, length, take, drop, refl, sym, ap, ◌∙◌, subst, arith, rules, Result, Ok, Err, append_assoc, length-append, ℤ, get_or, Option, Some, None, IfSome}
-use Rattle.std.proofs.lemmas.List.{take_at, drop_at, append-nil, take-append-drop, take_all, take-take, take_more, length-take, length-drop, length-take-le, get_or-take, get_or_default}
+use Rattle.std.proofs.Common.{◌≡◌, ◌≢◌, ◌<◌, ◌≤◌, ◌+◌, ℕ, List, [], ◌∷◌, ◌++◌, length, take, drop, refl, sym, ap, ◌∙◌, subst, arith, Result, Ok, Err, append_assoc, length-append, get_or, Option, Some, None, IfSome}
+use Rattle.std.proofs.lemmas.List.{append-nil, take-append-drop, take_all, take-take, take_more, length-take, length-drop, length-take-le, get_or-take, get_or_default}
 use Rattle.std.proofs.lemmas.List.Elements.{recursion_from_All}
 use Rattle.std.proofs.lemmas.Bool.{eqb-true, eq-eqb}
 use Rattle.memchr.specs.Find.{IsFirstByte, Nowhere, Passes, is_byte}
@@ -138,12 +138,14 @@ module _ (greatest : ℕ) (bytes : List ℕ) (end : ℕ) (line : IsLine (take (e
   -- with a block and two bytes more it spells a set or a fault
   pub spells_block : (head : Head) (len : ℕ) (rest block ended : List ℕ) (unit : ProtocolUnit) → meant ≡ Ok (Block head len) → rest ≡ drop (end + 1) bytes → len + 2 ≤ length rest → block ≡ take len rest → ended ≡ take 2 (drop len rest) → unit ≡ stored head block ended → SpellsLine greatest unit (take (end + 1 + (len + 2)) bytes)
   spells_block head len rest block ended unit is r enough b e u =
-      spells_line unit (len + 2) (subst (λ m. Completes m (take (len + 2) (drop (end + 1) bytes)) unit) (sym is)
-        ( block, ended
-        , ap (take (len + 2)) (sym r) ∙ take-add len 2 rest ∙ ap (λ k. k ++ take 2 (drop len rest)) (sym b) ∙ ap (λ k. block ++ k) (sym e)
-        , ap length b ∙ length-take-le len rest (omega arith)
-        , ap length e ∙ length-take-le 2 (drop len rest) (omega (arith, length-drop len rest))
-        , u))
+      spells_line unit (len + 2) (subst (λ m. Completes m (take (len + 2) (drop (end + 1) bytes)) unit) (sym is) (
+        block,
+        ended,
+        ap (take (len + 2)) (sym r) ∙ take-add len 2 rest ∙ ap (λ k. k ++ take 2 (drop len rest)) (sym b) ∙ ap (λ k. block ++ k) (sym e),
+        ap length b ∙ length-take-le len rest (omega arith),
+        ap length e ∙ length-take-le 2 (drop len rest) (omega (arith, length-drop len rest)),
+        u,
+      ))
 
   none_of : (unit : ProtocolUnit) (front more : List ℕ) (head : Head) (len : ℕ) → meant ≡ Ok (Block head len) → length (drop (end + 1) bytes) < len + 2 → bytes ≡ front ++ more → SpellsLine greatest unit front → ⊥
   none_of unit front more head len is few e h =
@@ -173,8 +175,8 @@ no_line (b ∷ bytes) (c ∷ t) y h e = no_line bytes t y h.1 (cc)
 feed_free : (xs : List ℕ) (n : ℕ) → n ≤ length xs → Nowhere (Passes (is_byte 10) xs) 0 n → NoFeed (take n xs)
 feed_free xs n le none =
     recursion_from_All _ (take n xs) (λ k d h. λ is.
-        let inside : k < n = omega (arith, length-take n xs) in
-        none k (omega arith) inside (eq-eqb _ _ (sym (get_or-take n xs k 0 inside) ∙ get_or_default (take n xs) k 0 d h ∙ is)))
+    let inside : k < n = omega (arith, length-take n xs) in
+    none k (omega arith) inside (eq-eqb _ _ (sym (get_or-take n xs k 0 inside) ∙ get_or_default (take n xs) k 0 d h ∙ is)))
 
 pub none_in : (greatest : ℕ) (bytes : List ℕ) → NoFeed bytes → length bytes ≤ 65536 → (unit : ProtocolUnit) (front more : List ℕ) → bytes ≡ front ++ more → Spells greatest unit front → ⊥
 none_in greatest bytes none short LongLine front more e h = omega (arith, ap length e, length-append front more, h.0)

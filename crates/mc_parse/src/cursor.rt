@@ -51,8 +51,13 @@ impl Cursor {
         ensures none { (taken : ℕ) → result ≡ None → after_steps command.now taken ≡ command.now }
     {
         match command {
-            Command::Get { keys, with_unique } =>
-                Some(Cursor::of_line(unread, len, keys.len(), *with_unique, None)),
+            Command::Get { keys, with_unique } => Some(Cursor::of_line(
+                unread,
+                len,
+                keys.len(),
+                *with_unique,
+                None,
+            )),
             Command::GetTouch {
                 exptime,
                 keys,
@@ -63,7 +68,13 @@ impl Cursor {
     }
 
     /// The same, where so many bytes spell a retrieval of so many keys.
-    fn of_line(unread: &[u8], len: usize, left: usize, with_unique: bool, exptime: Option<i64>) -> Cursor
+    fn of_line(
+        unread: &[u8],
+        len: usize,
+        left: usize,
+        with_unique: bool,
+        exptime: Option<i64>,
+    ) -> Cursor
         requires some { 0 < len }
         requires inside { len ≤ length unread.now }
         ensures points { (greatest : ℕ) (keys : List (List ℕ)) → IsSpelled greatest (Request (retrieval exptime keys with_unique), len) unread.now → left ≡ length keys → PointsInto greatest result unread.now }
@@ -123,7 +134,12 @@ impl Cursor {
 
 /// The cursor after `taken` turns of the unit that the bytes begin with, which starts from a known one where it can. There
 /// is none where turns leave the unit whole.
-pub fn cursor_after(known: Option<Cursor>, greatest: u64, unread: &[u8], taken: usize) -> Option<Cursor>
+pub fn cursor_after(
+    known: Option<Cursor>,
+    greatest: u64,
+    unread: &[u8],
+    taken: usize,
+) -> Option<Cursor>
     requires { IfSome known (λ cursor. PointsInto greatest cursor unread.now) }
     ensures some { IfSome result (λ cursor. PointsInto greatest cursor unread.now) }
     ensures taken { IfSome result (λ cursor. cursor.taken ≡ taken) }

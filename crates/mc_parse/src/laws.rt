@@ -9,19 +9,16 @@ ghost use Rattle.mc_parse.specs.Feeds.{Unread, pushed};
 pub fn no_spelling_begins_another()
     ensures { (greatest : ℕ) (u v : ProtocolUnit) (a b x y : List ℕ) →
         Spells greatest u a → Spells greatest v b → a ++ x ≡ b ++ y → (u ≡ v) × (a ≡ b) }
-{
-}
+{}
 
 /// A stream has one list of units, and no other.
 pub fn one_list_of_units()
     ensures some { (greatest passed : ℕ) (bytes : List ℕ) → (units : List ProtocolUnit) × AreUnits greatest passed bytes units }
     ensures same { (greatest passed : ℕ) (bytes : List ℕ) (units others : List ProtocolUnit) →
         AreUnits greatest passed bytes units → AreUnits greatest passed bytes others → units ≡ others }
-{
-}
+{}
 
 /// Pieces that come one after another leave what they leave joined.
 pub fn cutting_does_not_matter()
     ensures { (unread : Unread) (piece more : List ℕ) → pushed (pushed unread piece) more ≡ pushed unread (piece ++ more) }
-{
-}
+{}

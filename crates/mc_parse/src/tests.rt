@@ -27,7 +27,10 @@ fn is_gats_60(peek: Peek<'_>, left: usize, first: &[u8]) -> bool {
             exptime,
             keys,
             with_unique,
-        } => exptime == 60 && with_unique && keys.len() == left && keys.get(0).unwrap_or(b"") == first,
+        } => exptime == 60
+            && with_unique
+            && keys.len() == left
+            && keys.get(0).unwrap_or(b"") == first,
         _ => false,
     }
 }
@@ -89,7 +92,9 @@ fn faults_and_more(rt: HostRuntime) {
         (b"set a 4294967296 0 1\r\n", LineFault::BadFormat, 22),
     ];
     for (unread, fault, len) in cases {
-        assert!(rt; matches!(peek_at(GREATEST, unread), Peek::Bad(found, at) if found == fault && at == len));
+        assert!(rt;
+            matches!(peek_at(GREATEST, unread), Peek::Bad(found, at) if found == fault && at == len)
+        );
     }
     let version = peek_at(GREATEST, b"  version  \r\n");
     assert!(rt; matches!(version, Peek::Whole(Command::Version, 13)));
@@ -108,7 +113,12 @@ fn the_longest_line(rt: HostRuntime) -> Result<(), AllocError> {
     let mut longest = long_line(rt.alloc(), 65536)?;
     assert!(rt; matches!(peek_at(GREATEST, &longest), Peek::More));
     longest.push(b'\n')?;
-    assert!(rt; matches!(peek_at(GREATEST, &longest), Peek::Whole(Command::Version, 65537)));
+    assert!(rt;
+        matches!(
+            peek_at(GREATEST, &longest),
+            Peek::Whole(Command::Version, 65537)
+        )
+    );
     let mut longer = long_line(rt.alloc(), 65537)?;
     assert!(rt; matches!(peek_at(GREATEST, &longer), Peek::TooLong));
     longer.push(b'\n')?;
@@ -120,7 +130,12 @@ fn the_longest_line(rt: HostRuntime) -> Result<(), AllocError> {
 fn a_block_that_is_passed_over(rt: HostRuntime) -> Result<(), AllocError> {
     let mut feed = Feed::new(rt.alloc(), 100);
     feed.push(b"set a 0 0 200\r\nxyz")?;
-    assert!(rt; matches!(feed.peek(), Peek::Bad(LineFault::TooLarge { passed: 202 }, 15)));
+    assert!(rt;
+        matches!(
+            feed.peek(),
+            Peek::Bad(LineFault::TooLarge { passed: 202 }, 15)
+        )
+    );
     assert_eq!(rt; pass_unit(&mut feed), Some(15));
     assert_eq!(rt; feed.held(), 0);
     for _ in 0..199 {
