@@ -1,7 +1,7 @@
 -- A note of the turns that were taken fits the bytes: before the first turn, one turn on, and behind the last key.
-use Rattle.std.proofs.Common.{◌≡◌, ◌==◌, ◌<◌, ◌≤◌, ◌+◌, ◌-◌, if◌then◌else◌, ℕ, Bool, true, false, List, [], ◌∷◌, ◌++◌, length, take, drop, refl, sym, ap, ◌∙◌, subst, arith, ℤ, ◌⊎◌, inl, inr, Option, Some, None, Result, Ok, Err, length-append, length-drop}
-use Rattle.std.proofs.Math.Seq.{take-append_seam, drop-nil}
-use Rattle.std.proofs.lemmas.List.{append-nil, nil_from_length, drop-drop, take-take, length-take, length-take-le, take-append-le, take_all}
+use Rattle.std.proofs.Common.{◌≡◌, ◌==◌, ◌≤◌, ◌+◌, ◌-◌, if◌then◌else◌, ℕ, Bool, true, false, List, [], ◌∷◌, ◌++◌, length, take, drop, refl, sym, ap, ◌∙◌, arith, ℤ, Option, Some, None, Result, Ok, Err, length-append, length-drop}
+use Rattle.std.proofs.Math.Seq.{take-append_seam}
+use Rattle.std.proofs.lemmas.List.{append-nil, drop-drop, take-take, length-take, length-take-le, take_all}
 use Rattle.std.specs.Str.Lines.{strip_carriage_return}
 use Rattle.std.specs.List.{slice_index}
 use Rattle.mc_command.specs.Words.{words}
@@ -15,9 +15,9 @@ use Rattle.mc_parse.specs.declared.line.Head.{Head}
 use Rattle.mc_parse.specs.declared.line.Head.TheVariants.{Store, Cas}
 use Rattle.mc_parse.specs.declared.cursor.Cursor.{Cursor}
 use Rattle.mc_parse.specs.Lines.{meaning}
-use Rattle.mc_parse.specs.Units.{ProtocolUnit, Request, Fault, LongLine, Completes, with_block, SpellsLine, Spells}
-use Rattle.mc_parse.specs.Peeks.{IsSpelled, IsLeft, left_of}
-use Rattle.mc_parse.specs.Cursors.{retrieval, words_before, text_left, retrieval_left, IsWithin, PointsInto}
+use Rattle.mc_parse.specs.Units.{ProtocolUnit, Request, Fault, LongLine, Completes, with_block, SpellsLine}
+use Rattle.mc_parse.specs.Peeks.{IsSpelled, left_of}
+use Rattle.mc_parse.specs.Cursors.{retrieval, words_before, text_left, IsWithin, PointsInto}
 use Rattle.mc_parse.proofs.KeyLemmas.{stored_is}
 use Rattle.mc_parse.proofs.RetrievalLemmas.{keys_behind}
 

@@ -1,5 +1,5 @@
 -- What a feed holds after its pieces.
-use Rattle.std.proofs.Common.{◌≡◌, ◌<◌, ◌≤◌, ◌+◌, ◌-◌, ℕ, ◌⊎◌, inl, inr, List, [], ◌∷◌, ◌++◌, length, take, drop, refl, sym, ap, ◌∙◌, subst, arith, length-append, length-drop, Option, Some, None, IfSome}
+use Rattle.std.proofs.Common.{◌≡◌, ◌<◌, ◌≤◌, ◌+◌, ◌-◌, ℕ, ◌⊎◌, inl, inr, List, [], ◌++◌, length, drop, refl, sym, ap, ◌∙◌, subst, arith, length-append, length-drop, Option, Some, None, IfSome}
 use Rattle.std.proofs.Math.Seq.{drop-append-add, drop-nil}
 use Rattle.std.proofs.Math.ListN.{drop_of_length-le}
 use Rattle.std.proofs.lemmas.Bool.{cases_lt}
@@ -7,7 +7,7 @@ use Rattle.std.proofs.lemmas.List.{drop-append-le, append_assoc}
 use Rattle.mc_parse.specs.declared.cursor.Cursor.{Cursor}
 use Rattle.mc_parse.specs.Units.{ProtocolUnit}
 use Rattle.mc_parse.specs.Peeks.{BeginsWithNone, IsSpelled, IsLeft, left_of}
-use Rattle.mc_parse.specs.Feeds.{Unread, pushed, settled, IsSettled, IsKept}
+use Rattle.mc_parse.specs.Feeds.{Unread, pushed, IsSettled, IsKept}
 use Rattle.mc_parse.proofs.UnitLemmas.{none_in}
 
 -- bytes are passed over of what came first, and then of what came later

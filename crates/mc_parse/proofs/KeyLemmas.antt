@@ -1,5 +1,5 @@
 -- No key of a command that is spelled is longer than 250 bytes.
-use Rattle.std.proofs.Common.{◌≡◌, ◌≤◌, ℕ, true, false, List, length, take, drop, map, refl, sym, ap, ◌∙◌, subst, Result, Ok, Err, if◌then◌else◌, Option, Some, None, IfSome}
+use Rattle.std.proofs.Common.{◌≡◌, ◌≤◌, ℕ, true, false, List, length, map, refl, sym, subst, Result, Ok, Err, if◌then◌else◌, Option, Some, IfSome}
 use Rattle.std.specs.List.{All}
 use Rattle.std.specs.Str.{bytes_eq}
 use Rattle.std.proofs.Common.{◌∷◌, []}
@@ -18,7 +18,7 @@ use Rattle.mc_parse.specs.declared.line.Line.{Line}
 use Rattle.mc_parse.specs.declared.line.Line.TheVariants.{Bare, Block}
 use Rattle.mc_parse.specs.declared.line.Head.{Head}
 use Rattle.mc_parse.specs.Lines.{meaning}
-use Rattle.mc_parse.specs.Units.{ProtocolUnit, Request, Fault, LongLine, Completes, with_block, stored, SpellsLine, Spells}
+use Rattle.mc_parse.specs.Units.{ProtocolUnit, Request, Fault, LongLine, Completes, with_block, stored}
 use Rattle.mc_parse.specs.Peeks.{IsSpelled, IsLeft, left_of}
 use Rattle.mc_parse.proofs.LineLemmas.{short_keys, short_block_keys}
 

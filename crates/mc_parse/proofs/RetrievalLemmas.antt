@@ -1,5 +1,5 @@
 -- The keys of a retrieval are the words of its line behind its name, and behind the exptime of gat and gats.
-use Rattle.std.proofs.Common.{◌≡◌, ℕ, ◌-◌, ◌^◌, ◌+◌, Bool, true, false, cond, ◌&&◌, List, [], ◌∷◌, length, drop, refl, sym, ap, ◌∙◌, subst, ℤ, Option, Some, None, Result, Ok, Err, leb, if◌then◌else◌}
+use Rattle.std.proofs.Common.{◌≡◌, ℕ, ◌-◌, ◌^◌, ◌+◌, Bool, true, false, cond, List, [], ◌∷◌, length, drop, refl, subst, ℤ, Option, Some, None, Result, Ok, Err, leb, if◌then◌else◌}
 use Rattle.std.specs.Prelude.{codes}
 use Rattle.std.specs.List.{list_all}
 use Rattle.std.specs.Str.{bytes_eq}
@@ -16,7 +16,7 @@ use Rattle.mc_parse.specs.declared.line.Head.TheVariants.{Store, Cas}
 use Rattle.mc_parse.specs.declared.name.Name.{Name}
 use Rattle.mc_parse.specs.declared.name.Name.TheVariants.{Store as StoreName, Cas as CasName, Get as GetName, GetTouch as GetTouchName, Touch as TouchName, Delete as DeleteName, Count as CountName, FlushAll as FlushName, Version as VersionName, Quit as QuitName}
 use Rattle.mc_parse.specs.Exptimes.{exptime_of, delay_of}
-use Rattle.mc_parse.specs.Lines.{◌>>=◌, formed, is_key, key_formed, keys_formed, ending, delete_ending, delayed, fitting, name_of, store_line, cas_line, get_line, get_touch_line, touch_line, delete_line, count_line, flush_line, lone_line, named_line, meaning}
+use Rattle.mc_parse.specs.Lines.{◌>>=◌, formed, is_key, key_formed, keys_formed, ending, delete_ending, delayed, fitting, name_of, store_line, cas_line, get_touch_line, touch_line, delete_line, count_line, flush_line, lone_line, named_line, meaning}
 use Rattle.mc_parse.specs.Cursors.{retrieval, words_before}
 
 -- where the command is a retrieval, its keys are among these words

@@ -1,6 +1,6 @@
 -- No spelling begins another.
-use Rattle.std.proofs.Common.{◌≡◌, ◌≢◌, ◌<◌, ◌≤◌, ◌+◌, ℕ, List, [], ◌∷◌, ◌++◌, length, take, drop, refl, sym, ap, ◌∙◌, subst, arith, rules, Result, Ok, Err, append_assoc, length-append, ℤ, get_or, Option, Some, None, IfSome}
-use Rattle.std.proofs.lemmas.List.{take_at, drop_at, append-nil, take-append-drop, take_all, take-take, take_more, length-take, length-drop, length-take-le, get_or-take, get_or_default}
+use Rattle.std.proofs.Common.{◌≡◌, ◌≢◌, ◌<◌, ◌≤◌, ◌+◌, ℕ, List, [], ◌∷◌, ◌++◌, length, take, drop, refl, sym, ap, ◌∙◌, subst, arith, Result, Ok, Err, append_assoc, length-append, get_or, Option, Some, None, IfSome}
+use Rattle.std.proofs.lemmas.List.{append-nil, take-append-drop, take_all, take-take, take_more, length-take, length-drop, length-take-le, get_or-take, get_or_default}
 use Rattle.std.proofs.lemmas.List.Elements.{recursion_from_All}
 use Rattle.std.proofs.lemmas.Bool.{eqb-true, eq-eqb}
 use Rattle.memchr.specs.Find.{IsFirstByte, Nowhere, Passes, is_byte}

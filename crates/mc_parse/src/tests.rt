@@ -1,5 +1,9 @@
+ghost use Rattle.std.specs.Prelude.{◌≡◌};
+ghost use Rattle.std.specs.Option.{option_map};
+ghost use Rattle.mc_parse.specs.Peeks.{unit_of};
+
 use super::*;
-use mc_command::{Command, Keys, LineFault, Verb};
+use mc_command::{Command, LineFault, Verb};
 use std::alloc::{AllocError, Global};
 use std::test::*;
 
@@ -13,29 +17,59 @@ fn long_line(alloc: Global, len: usize) -> Result<Vec<u8>, AllocError> {
     Ok(line)
 }
 
-fn key_is(keys: &Keys<'_>, at: usize, key: &[u8]) -> bool {
-    match keys.get(at) {
-        Some(found) => found == key,
-        None => false,
+/// Whether it is a gats with exptime 60 that has so many keys left, and this one first if any.
+fn is_gats_60(peek: Peek<'_>, left: usize, first: &[u8]) -> bool {
+    let Peek::Whole(command, 25) = peek else {
+        return false;
+    };
+    match command {
+        Command::GetTouch {
+            exptime,
+            keys,
+            with_unique,
+        } => exptime == 60
+            && with_unique
+            && keys.len() == left
+            && keys.get(0).unwrap_or(b"") == first,
+        _ => false,
     }
+}
+
+/// How many bytes spell what was found.
+fn len_of(peek: Peek<'_>) -> Option<usize>
+    ensures { result ≡ option_map (λ found. found.1) (unit_of peek.entry) }
+{
+    match peek {
+        Peek::Whole(_, len) | Peek::Bad(_, len) => Some(len),
+        Peek::TooLong => Some(65537),
+        Peek::More => None,
+    }
+}
+
+/// Passes over the unit that the unread bytes begin with, and says how many bytes spelled it.
+fn pass_unit(feed: &mut Feed) -> Option<usize> {
+    let len = len_of(feed.peek())?;
+    feed.done(len);
+    Some(len)
 }
 
 #[test]
 fn a_set_and_what_follows(rt: HostRuntime) {
     let unread = b"set a 5 0 3\r\nabc\r\nget a\r\n";
-    match peek_at(GREATEST, unread) {
-        Peek::Whole(
-            Command::Store {
-                verb,
-                key,
-                flags,
-                exptime,
-                block,
-                quiet,
-            },
-            len,
-        ) => {
-            assert_eq!(rt; len, 18);
+    let Peek::Whole(command, len) = peek_at(GREATEST, unread) else {
+        assert!(rt; false);
+        return;
+    };
+    assert_eq!(rt; len, 18);
+    match command {
+        Command::Store {
+            verb,
+            key,
+            flags,
+            exptime,
+            block,
+            quiet,
+        } => {
             assert!(rt; matches!(verb, Verb::Set));
             assert_eq!(rt; flags, 5);
             assert_eq!(rt; exptime, 0);
@@ -102,7 +136,7 @@ fn a_block_that_is_passed_over(rt: HostRuntime) -> Result<(), AllocError> {
             Peek::Bad(LineFault::TooLarge { passed: 202 }, 15)
         )
     );
-    feed.done(15);
+    assert_eq!(rt; pass_unit(&mut feed), Some(15));
     assert_eq!(rt; feed.held(), 0);
     for _ in 0..199 {
         feed.push(b"x")?;
@@ -111,7 +145,7 @@ fn a_block_that_is_passed_over(rt: HostRuntime) -> Result<(), AllocError> {
     }
     feed.push(b"version\r\nqu")?;
     assert!(rt; matches!(feed.peek(), Peek::Whole(Command::Version, 9)));
-    feed.done_passing(9, 0);
+    assert_eq!(rt; pass_unit(&mut feed), Some(9));
     assert_eq!(rt; feed.held(), 2);
     assert!(rt; matches!(feed.peek(), Peek::More));
     feed.push(b"it\r\n")?;
@@ -128,33 +162,14 @@ fn a_retrieval_in_turns(rt: HostRuntime) -> Result<(), AllocError> {
     for (taken, key, left) in [(0, b"one".as_slice(), 3), (1, b"two", 2), (2, b"three", 1)] {
         // Found by reading the line from its beginning, and then by the note.
         for _ in 0..2 {
-            match feed.peek_after(taken) {
-                Peek::Whole(
-                    Command::GetTouch {
-                        exptime,
-                        keys,
-                        with_unique,
-                    },
-                    len,
-                ) => {
-                    assert_eq!(rt; exptime, 60);
-                    assert!(rt; with_unique);
-                    assert_eq!(rt; keys.len(), left);
-                    assert!(rt; key_is(&keys, 0, key));
-                    assert_eq!(rt; len, 25);
-                }
-                _ => assert!(rt; false),
-            }
+            assert!(rt; is_gats_60(feed.peek_after(taken), left, key));
             feed.mark(taken);
         }
         // What comes behind changes nothing.
         feed.push(b"version\r\n")?;
     }
-    match feed.peek_after(usize::MAX) {
-        Peek::Whole(Command::GetTouch { keys, .. }, 25) => assert_eq!(rt; keys.len(), 0),
-        _ => assert!(rt; false),
-    }
-    feed.done(25);
+    assert!(rt; is_gats_60(feed.peek_after(usize::MAX), 0, b""));
+    assert_eq!(rt; pass_unit(&mut feed), Some(25));
     assert!(rt; matches!(feed.peek_after(1), Peek::Whole(Command::Quit, 6)));
     Ok(())
 }
@@ -176,14 +191,7 @@ fn a_push_that_is_refused(rt: HostRuntime) -> Result<(), AllocError> {
             feed.push(piece)?;
         }
     }
-    match feed.peek() {
-        Peek::Whole(Command::Store { block, .. }, len) => {
-            assert_eq!(rt; len, 117);
-            assert_eq!(rt; block.as_slice().len(), 100);
-        }
-        _ => assert!(rt; false),
-    }
-    feed.done(117);
+    assert_eq!(rt; pass_unit(&mut feed), Some(117));
     assert!(rt; matches!(feed.peek(), Peek::Whole(Command::Get { .. }, 7)));
     Ok(())
 }

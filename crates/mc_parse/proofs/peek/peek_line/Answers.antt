@@ -1,8 +1,6 @@
-use Rattle.std.proofs.Common.{arith, ◌∙◌, sym, ap, ◌≡◌, subst, refl, [], Ok, ◌<◌, ◌+◌, length, drop, take, length-drop}
+use Rattle.std.proofs.Common.{arith, ◌∙◌, sym, ap, subst, refl, [], Ok, ◌+◌, take, length-drop}
 use Rattle.std.specs.Str.{bytes_eq}
-use Rattle.std.proofs.lemmas.Int.{to_z-of_z}
-use Rattle.mc_parse.specs.declared.line.Line.TheVariants.{Bare, Block}
-use Rattle.mc_parse.specs.Units.{Completes, Request, Fault}
+use Rattle.mc_parse.specs.Units.{Completes, Request}
 use Rattle.mc_parse.proofs.UnitLemmas.{spells_bare, spells_block, none_line, meant_is, stored_whole, stored_fault}
 use Rattle.mc_parse.proofs.peek.peek_line.Goals as goal
 
