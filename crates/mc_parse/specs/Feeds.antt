@@ -1,5 +1,5 @@
 -- What a feed holds.
-use Rattle.std.specs.Prelude.{◌≡◌, ℕ, ◌-◌, List, [], ◌++◌, ◌⊎◌, length, drop}
+use Rattle.std.specs.Prelude.{◌≡◌, ◌≤◌, ℕ, ◌-◌, List, [], ◌++◌, ◌⊎◌, length, drop}
 
 -- the greatest charge, how many bytes are still to be passed over, and the bytes that came and weren't read yet
 pub record Unread : Type 0 where
@@ -22,3 +22,8 @@ read u len passed = settled (record u { passed = passed; bytes = drop len u.byte
 -- no byte is unread while some are still to be passed over
 abbrev pub IsSettled : Unread → Type 0
 IsSettled u = (u.passed ≡ 0) ⊎ (u.bytes ≡ [])
+
+-- How a feed keeps its bytes: of those in its buffer so many were read, and none is unread while some are to be passed over.
+pub record IsKept (passed start : ℕ) (buffer : List ℕ) : Type 0 where
+  pub inside : start ≤ length buffer
+  pub settled : (passed ≡ 0) ⊎ (start ≡ length buffer)

@@ -1,4 +1,7 @@
+ghost use Rattle.std.specs.Prelude.{◌≡◌, ◌≤◌, ◌-◌, [], drop, length, IsTrue};
+
 use crate::peek::{Peek, peek_at};
+use mc_command::LineFault;
 use std::alloc::{AllocError, Global};
 use std::marker::Model;
 
@@ -6,6 +9,7 @@ use std::marker::Model;
 /// passed over, and the unread bytes.
 #[derive(Drop)]
 pub struct Feed {
+    alloc: Global,
     greatest: u64,
     /// How many bytes are still to be passed over.
     passed: u64,
@@ -15,14 +19,14 @@ pub struct Feed {
 }
 
 impl Model for Feed {
-    ghost use Rattle.std.specs.Prelude.{◌≤◌, drop, length};
-    ghost use Rattle.mc_parse.specs.Feeds.{Unread};
+    ghost use Rattle.std.specs.Prelude.{drop};
+    ghost use Rattle.mc_parse.specs.Feeds.{Unread, IsKept};
 
     ghost Value = { Unread };
 
     ghost view = { λ f. record { greatest = f.greatest; passed = f.passed; bytes = drop f.start f.buffer.items } };
 
-    ghost invariant = { λ f. f.start ≤ length f.buffer.items };
+    ghost invariant = { λ f. IsKept f.passed f.start f.buffer.items };
 }
 
 impl Feed {
@@ -38,7 +42,13 @@ impl Feed {
     pub fn new(alloc: Global, greatest: u64) -> Feed
         ensures { result ≡ record { greatest = greatest; passed = 0; bytes = [] } }
     {
-        Feed { greatest, passed: 0, buffer: Vec::new(alloc), start: 0 }
+        Feed {
+            alloc,
+            greatest,
+            passed: 0,
+            buffer: Vec::new(alloc),
+            start: 0,
+        }
     }
 
     /// Takes the next piece of the stream. What is to be passed over of it isn't kept. Refused, the feed is as it was.
@@ -46,6 +56,15 @@ impl Feed {
         ensures ok { OnOk result (self.new ≡ pushed self.old piece.now) }
         ensures err { OnErr result (self.new ≡ self.old) }
     {
+        let skipped = (piece.len() as u64).min(self.passed);
+        let (_, kept) = piece.split_at(skipped as usize);
+        if wants_room(&self.buffer, self.start, kept.len()) {
+            drop_front(&mut self.buffer, self.start);
+            self.start = 0;
+        }
+        self.buffer.extend_from_slice(kept)?;
+        self.passed -= skipped;
+        Ok(())
     }
 
     /// What the unread bytes begin with. It takes no memory.
@@ -59,6 +78,11 @@ impl Feed {
         // No key of a command is longer than 250 bytes.
         ensures keys { (command : Command) (len : ℕ) → unit_of result ≡ Some (Request command, len) → HasShortKeys command }
     {
+        if self.passed > 0 {
+            return Peek::More;
+        }
+        let (_, unread) = self.buffer.as_slice().split_at(self.start);
+        peek_at(self.greatest, unread)
     }
 
     /// The same after `taken` turns of the first unit: of a retrieval, the retrieval of the keys that are left. Where
@@ -68,6 +92,7 @@ impl Feed {
         ensures none { unit_of result ≡ None → BeginsWithNone self.now.greatest (drop self.now.passed self.now.bytes) }
         ensures keys { (command : Command) (len : ℕ) → unit_of result ≡ Some (Request command, len) → HasShortKeys command }
     {
+        Peek::More
     }
 
     /// Notes that `taken` turns of the first unit were taken, so that `peek_after` finds the next one at once.
@@ -82,6 +107,11 @@ impl Feed {
         requires { (unit : ProtocolUnit) × IsSpelled self.old.greatest (unit, len) self.old.bytes × (self.old.passed ≡ 0) }
         ensures { (unit : ProtocolUnit) → IsSpelled self.old.greatest (unit, len) self.old.bytes → self.new ≡ read self.old len (passed_after unit) }
     {
+        let passed = match self.peek() {
+            Peek::Bad(LineFault::TooLarge { passed }, _) => passed,
+            _ => 0,
+        };
+        self.done_passing(len, passed);
     }
 
     /// The same where the caller knows how many bytes the unit passes over, which spares a look at it.
@@ -89,12 +119,23 @@ impl Feed {
         requires { len ≤ length self.old.bytes }
         ensures { self.new ≡ read self.old len passed }
     {
+        let left = self.buffer.len() - self.start - len;
+        let dropped = passed.min(left as u64);
+        self.passed = passed - dropped;
+        self.start += len + dropped as usize;
+        if self.start == self.buffer.len() {
+            empty(&mut self.buffer, self.alloc);
+            self.start = 0;
+        }
     }
 
     /// Drops what is unread and what is to be passed over. It takes no memory.
     pub fn clear(&mut self)
         ensures { self.new ≡ record { greatest = self.old.greatest; passed = 0; bytes = [] } }
     {
+        empty(&mut self.buffer, self.alloc);
+        self.start = 0;
+        self.passed = 0;
     }
 
     /// How many bytes are unread. Bytes that are passed over are never held.
@@ -102,5 +143,42 @@ impl Feed {
         ensures { result ≡ length self.now.bytes }
     {
         self.buffer.len() - self.start
+    }
+}
+
+/// The greatest buffer that is kept while it is empty.
+const KEPT: usize = 65536;
+
+/// Whether the front that was read is to be dropped before so many bytes are added: they find no room behind the unread
+/// bytes, and these are no more than what was read, so that each byte moves at most as often as one is read.
+fn wants_room(buffer: &Vec<u8>, start: usize, added: usize) -> bool
+    requires { start ≤ length buffer.now.items }
+    ensures { IsTrue result → length buffer.now.items - start ≤ start }
+{
+    let held = buffer.len();
+    held - start <= start && buffer.capacity().saturating_sub(held) < added
+}
+
+/// Drops the front of a buffer, where what is left is no longer than the front.
+fn drop_front(buffer: &mut Vec<u8>, start: usize)
+    requires inside { start ≤ length buffer.old.items }
+    requires half { length buffer.old.items - start ≤ start }
+    ensures { buffer.new.items ≡ drop start buffer.old.items }
+{
+    let left = buffer.len() - start;
+    let (front, rest) = buffer.as_mut_slice().split_at_mut(start);
+    let (onto, _) = front.split_at_mut(left);
+    onto.copy_from_slice(rest);
+    buffer.truncate(left);
+}
+
+/// Empties a buffer. One that grew large is given back.
+fn empty(buffer: &mut Vec<u8>, alloc: Global)
+    ensures { buffer.new.items ≡ [] }
+{
+    if buffer.capacity() > KEPT {
+        *buffer = Vec::new(alloc);
+    } else {
+        buffer.clear();
     }
 }

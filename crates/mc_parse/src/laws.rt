@@ -3,7 +3,7 @@
 ghost use Rattle.std.specs.Prelude.{◌≡◌, ℕ, List, ◌++◌};
 ghost use Rattle.mc_parse.specs.Units.{Spells, ProtocolUnit};
 ghost use Rattle.mc_parse.specs.Streams.{AreUnits};
-ghost use Rattle.mc_parse.specs.Feeds.{Unread, pushed, IsSettled};
+ghost use Rattle.mc_parse.specs.Feeds.{Unread, pushed};
 
 /// No spelling begins another.
 pub fn no_spelling_begins_another()
@@ -22,6 +22,6 @@ pub fn one_list_of_units()
 
 /// Pieces that come one after another leave what they leave joined.
 pub fn cutting_does_not_matter()
-    ensures { (unread : Unread) (piece more : List ℕ) → IsSettled unread → pushed (pushed unread piece) more ≡ pushed unread (piece ++ more) }
+    ensures { (unread : Unread) (piece more : List ℕ) → pushed (pushed unread piece) more ≡ pushed unread (piece ++ more) }
 {
 }

@@ -1,8 +1,11 @@
-ghost use Rattle.std.specs.Prelude.{◌≡◌, ℕ, IfSome};
-ghost use Rattle.mc_parse.specs.Units.{ProtocolUnit};
+ghost use Rattle.std.specs.Prelude.{◌≡◌, ◌+◌, ◌<◌, ℕ, length, take, IfSome};
+ghost use Rattle.std.specs.Str.Lines.{strip_carriage_return};
+ghost use Rattle.mc_parse.specs.Units.{ProtocolUnit, IsLine, with_block};
 ghost use Rattle.mc_parse.specs.Peeks.{unit_of, IsSpelled, BeginsWithNone};
 
-use mc_command::{Command, LineFault};
+use crate::line::{Head, Line, line_of};
+use mc_command::{Bytes, Command, LineFault};
+use memchr::memchr;
 
 /// What the unread bytes begin with.
 #[derive(Drop)]
@@ -17,14 +20,106 @@ pub enum Peek<'a> {
     TooLong,
 }
 
-/// What bytes begin with, where none is to be passed over and a charge may be at most `greatest`.
+/// The longest line, without its end.
+const LONGEST: usize = 65536;
+
+/// What bytes begin with, where none is to be passed over and a charge may be at most `greatest`. It looks at the first
+/// line, and of a block only at the two bytes behind it.
 pub fn peek_at(greatest: u64, unread: &[u8]) -> Peek<'_>
     // What it finds is spelled by the front that it counts.
     ensures found { IfSome (unit_of result) (λ found. IsSpelled greatest found unread.now) }
-    // It finds nothing only where no front spells anything.
+    // It finds nothing only where no front spells anything: the bytes have the list of no units (`AreUnits`).
     ensures none { unit_of result ≡ None → BeginsWithNone greatest unread.now }
     // Whatever a front spells is what it finds.
     ensures only { (unit : ProtocolUnit) (len : ℕ) → IsSpelled greatest (unit, len) unread.now → unit_of result ≡ Some (unit, len) }
 {
-    Peek::More
+    first_unit(greatest, unread)
+}
+
+/// The same. That nothing else is spelled follows from the two clauses.
+fn first_unit(greatest: u64, unread: &[u8]) -> Peek<'_>
+    ensures found { IfSome (unit_of result) (λ found. IsSpelled greatest found unread.now) }
+    ensures none { unit_of result ≡ None → BeginsWithNone greatest unread.now }
+{
+    let (front, _) = unread.split_at(unread.len().min(LONGEST + 1));
+    match memchr(b'\n', front) {
+        None if front.len() > LONGEST => Peek::TooLong,
+        None => Peek::More,
+        Some(end) => peek_line(greatest, unread, end),
+    }
+}
+
+/// The unread bytes begin with a line whose line feed is at `end`.
+fn peek_line(greatest: u64, unread: &[u8], end: usize) -> Peek<'_>
+    requires line { IsLine (take (end + 1) unread.now) (take end unread.now) }
+    requires inside { end < length unread.now }
+    ensures found { IfSome (unit_of result) (λ found. IsSpelled greatest found unread.now) }
+    ensures none { unit_of result ≡ None → BeginsWithNone greatest unread.now }
+{
+    let (text, _) = unread.split_at(end);
+    let (_, rest) = unread.split_at(end + 1);
+    match line_of(greatest, without_carriage_return(text)) {
+        Err(fault) => Peek::Bad(fault, end + 1),
+        Ok(Line::Bare(command)) => Peek::Whole(command, end + 1),
+        Ok(Line::Block(head, len)) => {
+            let len = len as usize;
+            if rest.len() < len + 2 {
+                return Peek::More;
+            }
+            let (block, after) = rest.split_at(len);
+            let (ended, _) = after.split_at(2);
+            if ended == b"\r\n".as_slice() {
+                Peek::Whole(with_block(head, block), end + 1 + (len + 2))
+            } else {
+                Peek::Bad(LineFault::BadChunk, end + 1 + (len + 2))
+            }
+        }
+    }
+}
+
+/// The command that a block makes of a line's head.
+fn with_block<'a>(head: Head<'a>, block: &'a [u8]) -> Command<'a>
+    ensures { result ≡ with_block head.entry block.now }
+{
+    let block = Bytes::of(block);
+    match head {
+        Head::Store {
+            verb,
+            key,
+            flags,
+            exptime,
+            quiet,
+        } => Command::Store {
+            verb,
+            key,
+            flags,
+            exptime,
+            block,
+            quiet,
+        },
+        Head::Cas {
+            key,
+            flags,
+            exptime,
+            unique,
+            quiet,
+        } => Command::Cas {
+            key,
+            flags,
+            exptime,
+            block,
+            unique,
+            quiet,
+        },
+    }
+}
+
+/// The text of a line, without the carriage return at its end.
+pub fn without_carriage_return(text: &[u8]) -> &[u8]
+    ensures { result.now ≡ strip_carriage_return text.now }
+{
+    match text.last() {
+        Some(b'\r') => &text[..text.len() - 1],
+        _ => text,
+    }
 }

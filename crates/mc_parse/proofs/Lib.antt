@@ -1,0 +1,4 @@
+pub mod UnitLemmas
+pub mod BeginLemmas
+pub mod StreamLemmas
+pub mod FeedLemmas
