@@ -2,3 +2,4 @@ pub mod UnitLemmas
 pub mod BeginLemmas
 pub mod StreamLemmas
 pub mod FeedLemmas
+pub mod LineLemmas

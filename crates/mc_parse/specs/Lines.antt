@@ -5,7 +5,7 @@ use Rattle.std.specs.List.{list_all}
 use Rattle.mc_command.specs.Words.{is_nonempty}
 use Rattle.mc_command.specs.Numbers.{number_up_to}
 use Rattle.mc_command.specs.declared.command.Command.{Command}
-use Rattle.mc_command.specs.declared.command.Command.TheVariants.{Store as StoreCommand, Cas as CasCommand, Get, GetTouch, Touch, Delete, Count, FlushAll, Version, Quit}
+use Rattle.mc_command.specs.declared.command.Command.TheVariants.{Get, GetTouch, Touch, Delete, Count, FlushAll, Version, Quit}
 use Rattle.mc_command.specs.declared.step.Verb.{Verb}
 use Rattle.mc_command.specs.declared.step.Verb.TheVariants.{Set, Add, Replace, Append, Prepend}
 use Rattle.mc_command.specs.declared.fault.LineFault.{LineFault}
@@ -15,7 +15,7 @@ use Rattle.mc_parse.specs.declared.line.Line.TheVariants.{Bare, Block}
 use Rattle.mc_parse.specs.declared.line.Head.{Head}
 use Rattle.mc_parse.specs.declared.line.Head.TheVariants.{Store, Cas}
 use Rattle.mc_parse.specs.declared.name.Name.{Name}
-use Rattle.mc_parse.specs.declared.name.Name.TheVariants.{StoreName, CasName, GetName, GetTouchName, TouchName, DeleteName, CountName, FlushName, VersionName, QuitName}
+use Rattle.mc_parse.specs.declared.name.Name.TheVariants.{Store as StoreName, Cas as CasName, Get as GetName, GetTouch as GetTouchName, Touch as TouchName, Delete as DeleteName, Count as CountName, FlushAll as FlushName, Version as VersionName, Quit as QuitName}
 use Rattle.mc_parse.specs.Exptimes.{exptime_of, delay_of}
 
 -- the command that a word names
@@ -91,21 +91,24 @@ cas_line greatest (key ∷ flags ∷ exptime ∷ bytes ∷ unique ∷ rest) = do
   fitting greatest k n (Cas k f e u quiet)
 cas_line greatest args = Err Unknown
 
--- a retrieval of these keys
-abbrev pub keys_line : List (List ℕ) → Command → Result Line LineFault
-keys_line keys command = if list_all is_key keys then Ok (Bare command) else Err BadFormat
-
 -- <key>*, at least one
-abbrev pub get_line : Bool → List (List ℕ) → Result Line LineFault
-get_line with_unique [] = Err Unknown
-get_line with_unique (key ∷ keys) = keys_line (key ∷ keys) (Get (key ∷ keys) with_unique)
+abbrev pub keys_formed : List (List ℕ) → Result (List (List ℕ)) LineFault
+keys_formed [] = Err Unknown
+keys_formed (key ∷ keys) = if list_all is_key (key ∷ keys) then Ok (key ∷ keys) else Err BadFormat
 
--- <exptime> <key>*, at least one key
+-- <key>*
+abbrev pub get_line : Bool → List (List ℕ) → Result Line LineFault
+get_line with_unique args = do
+  keys ← keys_formed args
+  Ok (Bare (Get keys with_unique))
+
+-- <exptime> <key>*
 abbrev pub get_touch_line : Bool → List (List ℕ) → Result Line LineFault
-get_touch_line with_unique (exptime ∷ key ∷ keys) = do
+get_touch_line with_unique [] = Err Unknown
+get_touch_line with_unique (exptime ∷ args) = do
+  keys ← keys_formed args
   e ← formed BadFormat (exptime_of exptime)
-  keys_line (key ∷ keys) (GetTouch e (key ∷ keys) with_unique)
-get_touch_line with_unique args = Err Unknown
+  Ok (Bare (GetTouch e keys with_unique))
 
 -- <key> <exptime> [noreply]
 abbrev pub touch_line : List (List ℕ) → Result Line LineFault
@@ -157,20 +160,21 @@ lone_line command [] = Ok (Bare command)
 lone_line command (word ∷ args) = Err Unknown
 
 -- what a line of this name says
-abbrev pub named_line : ℕ → Option Name → List (List ℕ) → Result Line LineFault
-named_line greatest None args = Err Unknown
-named_line greatest (Some (StoreName verb)) args = store_line greatest verb args
-named_line greatest (Some CasName) args = cas_line greatest args
-named_line greatest (Some (GetName with_unique)) args = get_line with_unique args
-named_line greatest (Some (GetTouchName with_unique)) args = get_touch_line with_unique args
-named_line greatest (Some TouchName) args = touch_line args
-named_line greatest (Some DeleteName) args = delete_line args
-named_line greatest (Some (CountName up)) args = count_line up args
-named_line greatest (Some FlushName) args = flush_line args
-named_line greatest (Some VersionName) args = lone_line Version args
-named_line greatest (Some QuitName) args = lone_line Quit args
+abbrev pub named_line : ℕ → Name → List (List ℕ) → Result Line LineFault
+named_line greatest (StoreName verb) args = store_line greatest verb args
+named_line greatest CasName args = cas_line greatest args
+named_line greatest (GetName with_unique) args = get_line with_unique args
+named_line greatest (GetTouchName with_unique) args = get_touch_line with_unique args
+named_line greatest TouchName args = touch_line args
+named_line greatest DeleteName args = delete_line args
+named_line greatest (CountName up) args = count_line up args
+named_line greatest FlushName args = flush_line args
+named_line greatest VersionName args = lone_line Version args
+named_line greatest QuitName args = lone_line Quit args
 
 -- what the words of a line say, where a charge may be at most greatest
 abbrev pub meaning : ℕ → List (List ℕ) → Result Line LineFault
 meaning greatest [] = Err Unknown
-meaning greatest (name ∷ args) = named_line greatest (name_of name) args
+meaning greatest (word ∷ args) = do
+  name ← formed Unknown (name_of word)
+  named_line greatest name args
