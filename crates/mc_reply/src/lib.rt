@@ -1,6 +1,8 @@
 //! Replies as bytes.
 #![tactic(auto)]
 
-mod write;
+mod numbers;
+mod retrieval;
+mod texts;
 
-pub use write::{write, write_fault, write_plain, write_spent, write_too_long};
+pub use texts::{write, write_fault, write_plain, write_spent, write_too_long};

@@ -1,0 +1,83 @@
+ghost use Rattle.std.specs.Prelude.{◌≡◌, ◌++◌, ◌<◌, take, length, codes, OnOk, OnErr};
+ghost use Rattle.mc_reply.specs.Texts.{retrieval_text, end_text};
+
+use crate::numbers::Numbers;
+use mc_command::{Keys, Reply};
+use std::alloc::AllocError;
+
+/// Appends what a retrieval tells of key `at`, and `END` after the last. Only a hit reads the key. Refused, the vector
+/// is unchanged.
+pub(crate) fn write_retrieval(
+    keys: &Keys<'_>,
+    with_unique: bool,
+    at: usize,
+    reply: &Reply,
+    out: &mut Vec<u8>,
+) -> Result<(), AllocError>
+    requires { at < length keys.now }
+    ensures ok { OnOk result (out.new.items ≡ out.old.items ++ retrieval_text keys.now with_unique at reply.now) }
+    ensures err { OnErr result (out.new.items ≡ out.old.items) }
+{
+    let end = end_of(keys.len(), at);
+    let Reply::Hit {
+        flags,
+        unique,
+        block,
+    } = reply
+    else {
+        return out.extend_from_slice(end);
+    };
+    let Some(key) = keys.get(at) else {
+        unreachable!()
+    };
+    let mut numbers = Numbers::new();
+    if with_unique {
+        numbers.put_number(*unique);
+        numbers.put_space();
+    }
+    let block = block.bytes();
+    numbers.put_number(block.len() as u64);
+    numbers.put_space();
+    numbers.put_number(*flags as u64);
+    numbers.put_space();
+    let before = out.len();
+    let result = append_hit(key, numbers.as_slice(), block, end, out);
+    if result.is_err() {
+        out.truncate(before);
+    }
+    result
+}
+
+/// `END` where `at` is the last of `count`.
+fn end_of(count: usize, at: usize) -> &'static [u8]
+    requires { at < count }
+    ensures { result.now ≡ end_text count at }
+{
+    if at + 1 == count { b"END\r\n" } else { b"" }
+}
+
+/// Appends the parts of a hit, with room for all of them made once.
+fn append_hit(
+    key: &[u8],
+    numbers: &[u8],
+    block: &[u8],
+    end: &[u8],
+    out: &mut Vec<u8>,
+) -> Result<(), AllocError>
+    ensures ok { OnOk result (out.new.items ≡ out.old.items ++ codes "VALUE " ++ key.now ++ numbers.now ++ block.now ++ codes "\r\n" ++ end.now) }
+    ensures err { OnErr result (take (length out.old.items) out.new.items ≡ out.old.items) }
+{
+    let room = key
+        .len()
+        .saturating_add(block.len())
+        .saturating_add(numbers.len())
+        .saturating_add(end.len())
+        .saturating_add(8);
+    out.reserve(room)?;
+    out.extend_from_slice(b"VALUE ")?;
+    out.extend_from_slice(key)?;
+    out.extend_from_slice(numbers)?;
+    out.extend_from_slice(block)?;
+    out.extend_from_slice(b"\r\n")?;
+    out.extend_from_slice(end)
+}

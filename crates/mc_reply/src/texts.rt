@@ -1,0 +1,119 @@
+ghost use Rattle.std.specs.Prelude.{◌≡◌, ◌++◌, ◌<◌, length, codes, decimal, OnOk, OnErr};
+ghost use Rattle.mc_command.specs.Commands.{steps};
+ghost use Rattle.mc_reply.specs.Texts.{reply_text, fault_text, plain_text, long_text, spent_text, said};
+
+use crate::numbers::Numbers;
+use crate::retrieval::write_retrieval;
+use mc_command::{Command, LineFault, Reply, is_quiet};
+use std::alloc::AllocError;
+
+/// Appends the text of the reply to step `at`, with `END` after the last key of a retrieval, and nothing where the
+/// command is quiet. Refused, the vector is unchanged.
+pub fn write(
+    command: &Command<'_>,
+    at: usize,
+    reply: &Reply,
+    out: &mut Vec<u8>,
+) -> Result<(), AllocError>
+    requires { at < length (steps command.now) }
+    ensures ok { OnOk result (out.new.items ≡ out.old.items ++ reply_text command.now at reply.now) }
+    ensures err { OnErr result (out.new.items ≡ out.old.items) }
+{
+    match command {
+        Command::Get { keys, with_unique }
+        | Command::GetTouch {
+            keys,
+            with_unique,
+            ..
+        } => write_retrieval(keys, *with_unique, at, reply, out),
+        _ => {
+            if is_quiet(command) {
+                return Ok(());
+            }
+            write_said(reply, out)
+        }
+    }
+}
+
+/// Appends the text of a reply that isn't a retrieval's. Refused, the vector is unchanged.
+fn write_said(reply: &Reply, out: &mut Vec<u8>) -> Result<(), AllocError>
+    ensures ok { OnOk result (out.new.items ≡ out.old.items ++ said reply.now) }
+    ensures err { OnErr result (out.new.items ≡ out.old.items) }
+{
+    let text: &[u8] = match reply {
+        Reply::Number(number) => return write_number(*number, out),
+        Reply::Stored => b"STORED\r\n",
+        Reply::NotStored => b"NOT_STORED\r\n",
+        Reply::Exists => b"EXISTS\r\n",
+        Reply::NotFound => b"NOT_FOUND\r\n",
+        Reply::Touched => b"TOUCHED\r\n",
+        Reply::Deleted => b"DELETED\r\n",
+        Reply::NotNumeric => b"CLIENT_ERROR cannot increment or decrement non-numeric value\r\n",
+        Reply::TooLarge => b"SERVER_ERROR object too large for cache\r\n",
+        Reply::NoChunk => b"SERVER_ERROR out of memory storing object\r\n",
+        Reply::Flushed => b"OK\r\n",
+        Reply::Miss | Reply::Hit { .. } => b"",
+    };
+    out.extend_from_slice(text)
+}
+
+/// Appends a number as a line. Refused, the vector is unchanged.
+fn write_number(number: u64, out: &mut Vec<u8>) -> Result<(), AllocError>
+    ensures ok { OnOk result (out.new.items ≡ out.old.items ++ decimal number ++ codes "\r\n") }
+    ensures err { OnErr result (out.new.items ≡ out.old.items) }
+{
+    let mut numbers = Numbers::new();
+    numbers.put_number(number);
+    out.extend_from_slice(numbers.as_slice())
+}
+
+/// Appends the text of a line's fault. Refused, the vector is unchanged.
+pub fn write_fault(fault: &LineFault, out: &mut Vec<u8>) -> Result<(), AllocError>
+    ensures ok { OnOk result (out.new.items ≡ out.old.items ++ fault_text fault.now) }
+    ensures err { OnErr result (out.new.items ≡ out.old.items) }
+{
+    out.extend_from_slice(fault_bytes(fault))
+}
+
+fn fault_bytes(fault: &LineFault) -> &'static [u8]
+    ensures { result.now ≡ fault_text fault.now }
+{
+    match fault {
+        LineFault::Unknown => b"ERROR\r\n",
+        LineFault::BadFormat => b"CLIENT_ERROR bad command line format\r\n",
+        LineFault::BadDelta => b"CLIENT_ERROR invalid numeric delta argument\r\n",
+        LineFault::TooLarge { .. } => b"SERVER_ERROR object too large for cache\r\n",
+        LineFault::BadChunk => b"CLIENT_ERROR bad data chunk\r\n",
+    }
+}
+
+/// Appends the text of version or quit, and nothing for a command with steps. Refused, the vector is unchanged.
+pub fn write_plain(command: &Command<'_>, out: &mut Vec<u8>) -> Result<(), AllocError>
+    ensures ok { OnOk result (out.new.items ≡ out.old.items ++ plain_text command.now) }
+    ensures err { OnErr result (out.new.items ≡ out.old.items) }
+{
+    match command {
+        Command::Version => out.extend_from_slice(b"VERSION 1.6.0\r\n"),
+        _ => Ok(()),
+    }
+}
+
+/// Appends the text of a line that is too long. Refused, the vector is unchanged.
+pub fn write_too_long(out: &mut Vec<u8>) -> Result<(), AllocError>
+    ensures ok { OnOk result (out.new.items ≡ out.old.items ++ long_text) }
+    ensures err { OnErr result (out.new.items ≡ out.old.items) }
+{
+    out.extend_from_slice(b"CLIENT_ERROR line too long\r\n")
+}
+
+/// Appends the text of a step whose unique numbers are spent, and nothing where the command is quiet. Refused, the
+/// vector is unchanged.
+pub fn write_spent(command: &Command<'_>, out: &mut Vec<u8>) -> Result<(), AllocError>
+    ensures ok { OnOk result (out.new.items ≡ out.old.items ++ spent_text command.now) }
+    ensures err { OnErr result (out.new.items ≡ out.old.items) }
+{
+    if is_quiet(command) {
+        return Ok(());
+    }
+    out.extend_from_slice(b"SERVER_ERROR out of unique numbers\r\n")
+}
