@@ -1,2 +1,5 @@
 pub mod ConnectionLemmas
 pub mod StandLemmas
+pub mod SessionLemmas
+pub mod TurnLemmas
+pub mod WorldLemmas

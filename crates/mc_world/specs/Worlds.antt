@@ -88,7 +88,7 @@ module _ (hash : List ℕ → ℕ) (shelves : ℕ) where
   Happens old (Turn n) new = MatchOption (open_connection n old.connections) (new ≡ old) (λ connection. Turns old n connection new)
   Happens old (Clock now) new = new ≡ record old { now = now }
   Happens old (Grow shelf) new = new ≡ old
-  Happens old (Purge shelf) new = new ≡ (if nat_lt shelf shelves then record old { state = purged (λ key. hash key % shelves == shelf) old.now old.state } else old)
+  Happens old (Purge shelf) new = new ≡ record old { state = if nat_lt shelf shelves then purged (λ key. hash key % shelves == shelf) old.now old.state else old.state }
   Happens old (Close n) new = new ≡ at_connection old n ended
 
   -- events, one after another

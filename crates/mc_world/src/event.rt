@@ -30,3 +30,18 @@ pub struct Refused {
     /// Whether the event's step stands in the store. Its text isn't told.
     pub decided: bool,
 }
+
+impl<'a> Event<'a> {
+    ghost use Rattle.std.specs.Prelude.{◌≡◌};
+    ghost use Rattle.mc_world.specs.Worlds.{named};
+
+    /// The session that it names, if it names one.
+    pub fn session(&self) -> Option<u32>
+        ensures { result ≡ named self.now }
+    {
+        match self {
+            Event::Piece(number, _) | Event::Turn(number) | Event::Close(number) => Some(*number),
+            Event::Open | Event::Clock(_) | Event::Grow(_) | Event::Purge(_) => None,
+        }
+    }
+}

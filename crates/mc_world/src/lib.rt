@@ -2,5 +2,8 @@
 #![tactic(auto)]
 
 mod event;
+mod sessions;
+mod world;
 
 pub use event::{Event, Refused};
+pub use world::World;

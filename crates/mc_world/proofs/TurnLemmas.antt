@@ -1,0 +1,76 @@
+-- Turns over a store are turns over what contracts see of it.
+use Rattle.std.proofs.Common.{◌≡◌, ◌⊎◌, inl, inr, ℕ, ◌<◌, List, [], ◌∷◌, Option, Some, None, refl, sym, ap, ◌∙◌, subst}
+use Rattle.std.specs.List.{slice_get}
+use Rattle.std.specs.Option.{MatchOption}
+use Rattle.mc_command.specs.Commands.{steps}
+use Rattle.mc_command.specs.declared.command.Command.{Command}
+use Rattle.mc_command.specs.declared.step.KeyStep.{KeyStep}
+use Rattle.mc_command.specs.declared.reply.Reply.{Reply}
+use Rattle.mc_parse.specs.Units.{ProtocolUnit, Request, Fault, LongLine}
+use Rattle.mc_reply.specs.Texts.{plain_text}
+use Rattle.mc_session.specs.Turns.{SessionState, Answers, AnswersStep, TakesTurn, NoTurnDue}
+use Rattle.mc_world.specs.Worlds.{put, open_session}
+use Rattle.mc_world.specs.Sessions.{TurnOf, DecidedOf}
+
+module _ {S T : Type 0} (took : S → KeyStep → ℕ → Reply → S → Type 0) (spent : S → KeyStep → ℕ → Type 0) (took' : T → KeyStep → ℕ → Reply → T → Type 0) (spent' : T → KeyStep → ℕ → Type 0) (f : S → T)
+    (takes : (b : S) (step : KeyStep) (now : ℕ) (reply : Reply) (a : S) → took b step now reply a → took' (f b) step now reply (f a)) (spends : (b : S) (step : KeyStep) (now : ℕ) → spent b step now → spent' (f b) step now) where
+  step_seen : (command : Command) (at : ℕ) (step : KeyStep) (now : ℕ) (b a : S) (text : List ℕ) → AnswersStep took spent command at step now b a text → AnswersStep took' spent' command at step now (f b) (f a) text
+  step_seen command at step now b a text (inl (reply, t, e)) = inl (reply, takes b step now reply a t, e)
+  step_seen command at step now b a text (inr (s, e, t)) = inr (spends b step now s, ap f e, t)
+
+  request_seen : (command : Command) (at now : ℕ) (b a : S) (text : List ℕ) (o : Option KeyStep) → MatchOption o ((text ≡ plain_text command) × (a ≡ b)) (λ step. AnswersStep took spent command at step now b a text)
+    → MatchOption o ((text ≡ plain_text command) × (f a ≡ f b)) (λ step. AnswersStep took' spent' command at step now (f b) (f a) text)
+  request_seen command at now b a text None h = (h.0, ap f h.1)
+  request_seen command at now b a text (Some step) h = step_seen command at step now b a text h
+
+  answers_seen : (unit : ProtocolUnit) (at now : ℕ) (b a : S) (text : List ℕ) → Answers took spent unit at now b a text → Answers took' spent' unit at now (f b) (f a) text
+  answers_seen (Request command) at now b a text h = request_seen command at now b a text (slice_get (steps command) at) h
+  answers_seen (Fault fault) at now b a text h = (h.0, ap f h.1)
+  answers_seen LongLine at now b a text h = (h.0, ap f h.1)
+
+  takes_seen : (now : ℕ) (old new : SessionState) (b a : S) → TakesTurn took spent now old new b a → TakesTurn took' spent' now old new (f b) (f a)
+  takes_seen now old new b a h = record {
+    unit = h.unit; front = h.front; rest = h.rest; text = h.text; parts = h.parts; spelled = h.spelled; due = h.due;
+    answers = answers_seen h.unit old.taken now b a h.text h.answers;
+    moves = h.moves;
+  }
+
+  of_seen : (n now : ℕ) (old new : List SessionState) (b a : S) (o : Option SessionState)
+    → MatchOption o ((new ≡ old) × (a ≡ b)) (λ session. (NoTurnDue session × (new ≡ old) × (a ≡ b)) ⊎ ((next : SessionState) × TakesTurn took spent now session next b a × (new ≡ put n old next)))
+    → MatchOption o ((new ≡ old) × (f a ≡ f b)) (λ session. (NoTurnDue session × (new ≡ old) × (f a ≡ f b)) ⊎ ((next : SessionState) × TakesTurn took' spent' now session next (f b) (f a) × (new ≡ put n old next)))
+  of_seen n now old new b a None h = (h.0, ap f h.1)
+  of_seen n now old new b a (Some session) (inl h) = inl (h.0, h.1, ap f h.2)
+  of_seen n now old new b a (Some session) (inr h) = inr (h.0, takes_seen now session h.0 b a h.1, h.2)
+
+  pub turn_seen : (n now : ℕ) (old new : List SessionState) (b a : S) → TurnOf took spent n now old new b a → TurnOf took' spent' n now old new (f b) (f a)
+  turn_seen n now old new b a h = of_seen n now old new b a (open_session n old) h
+
+  pub decided_seen : (n now : ℕ) (old : List SessionState) (b a : S) → DecidedOf took spent n now old b a → DecidedOf took' spent' n now old (f b) (f a)
+  decided_seen n now old b a h = (h.0, h.1, h.2, takes_seen now h.0 h.1 b a h.3)
+
+-- What each step keeps, and what nothing changes where there is no step, a turn keeps.
+module _ {S : Type 0} (took : S → KeyStep → ℕ → Reply → S → Type 0) (spent : S → KeyStep → ℕ → Type 0) (Keeps : S → S → Type 0) (each : (b : S) (step : KeyStep) (now : ℕ) (reply : Reply) (a : S) → took b step now reply a → Keeps b a) (none : (b a : S) → a ≡ b → Keeps b a) where
+  step_keeps : (command : Command) (at : ℕ) (step : KeyStep) (now : ℕ) (b a : S) (text : List ℕ) → AnswersStep took spent command at step now b a text → Keeps b a
+  step_keeps command at step now b a text (inl (reply, t, e)) = each b step now reply a t
+  step_keeps command at step now b a text (inr (s, e, t)) = none b a e
+
+  request_keeps : (command : Command) (at now : ℕ) (b a : S) (text : List ℕ) (o : Option KeyStep) → MatchOption o ((text ≡ plain_text command) × (a ≡ b)) (λ step. AnswersStep took spent command at step now b a text) → Keeps b a
+  request_keeps command at now b a text None h = none b a h.1
+  request_keeps command at now b a text (Some step) h = step_keeps command at step now b a text h
+
+  answers_keep : (unit : ProtocolUnit) (at now : ℕ) (b a : S) (text : List ℕ) → Answers took spent unit at now b a text → Keeps b a
+  answers_keep (Request command) at now b a text h = request_keeps command at now b a text (slice_get (steps command) at) h
+  answers_keep (Fault fault) at now b a text h = none b a h.1
+  answers_keep LongLine at now b a text h = none b a h.1
+
+  of_keeps : (n now : ℕ) (old new : List SessionState) (b a : S) (o : Option SessionState)
+    → MatchOption o ((new ≡ old) × (a ≡ b)) (λ session. (NoTurnDue session × (new ≡ old) × (a ≡ b)) ⊎ ((next : SessionState) × TakesTurn took spent now session next b a × (new ≡ put n old next))) → Keeps b a
+  of_keeps n now old new b a None h = none b a h.1
+  of_keeps n now old new b a (Some session) (inl h) = none b a h.2
+  of_keeps n now old new b a (Some session) (inr h) = answers_keep h.1.unit session.taken now b a h.1.text h.1.answers
+
+  pub turn_keeps : (n now : ℕ) (old new : List SessionState) (b a : S) → TurnOf took spent n now old new b a → Keeps b a
+  turn_keeps n now old new b a h = of_keeps n now old new b a (open_session n old) h
+
+  pub decided_keeps : (n now : ℕ) (old : List SessionState) (b a : S) → DecidedOf took spent n now old b a → Keeps b a
+  decided_keeps n now old b a h = answers_keep h.3.unit h.0.taken now b a h.3.text h.3.answers

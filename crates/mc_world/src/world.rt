@@ -1,0 +1,96 @@
+ghost use Rattle.std.specs.Prelude.{◌≡◌, ◌≤◌, [], IfOk, IfErr, OnOk};
+ghost use Rattle.mc_command.specs.Plain.{opening};
+ghost use Rattle.mc_world.specs.Worlds.{Told, ToldUntil, named};
+ghost use Rattle.mc_world.specs.Sessions.{Done, Undone, world_of};
+
+use crate::event::{Event, Refused};
+use crate::sessions::Sessions;
+use mc_hop::KeyHash;
+use mc_session::TurnFault;
+use mc_shelf::{Settings, Store};
+use mc_time::Moment;
+use std::alloc::{AllocError, Global};
+
+/// How many entries of a shelf one event of growth moves at most.
+const MOVED: usize = 8;
+
+/// A store, a moment, and the sessions that use the store in turn.
+#[derive(Drop)]
+pub struct World<K: KeyHash + Drop> {
+    greatest: u64,
+    store: Store<K>,
+    now: Moment,
+    sessions: Sessions,
+}
+
+impl<K: KeyHash + Drop> World<K> {
+    /// A world with a store of no items and no sessions.
+    pub fn new(
+        alloc: Global,
+        settings: Settings,
+        hasher: K,
+        now: Moment,
+    ) -> Result<World<K>, AllocError>
+        requires pages { 1 ≤ settings.pages × settings.pages ≤ 65536 }
+        requires greatest { settings.greatest ≡ 1048576 }
+        requires shelves { settings.shelves ≡ 64 }
+        ensures world { IfOk result (λ world. world_of world ≡ record {
+            greatest = settings.greatest;
+            state = opening settings.pages settings.greatest;
+            now = now;
+            sessions = [];
+        }) }
+        ensures settings { IfOk result (λ world. world.store.settings ≡ settings) }
+        ensures hasher { IfOk result (λ world. world.store.hasher ≡ hasher) }
+    {
+        Ok(World {
+            greatest: settings.greatest,
+            store: Store::new(alloc, settings, hasher)?,
+            now,
+            sessions: Sessions::new(alloc),
+        })
+    }
+
+    /// Takes the events in order. Where memory runs out in one, the events before it are done, the session that it names
+    /// is closed, and no later one is run.
+    pub fn run(&mut self, alloc: Global, events: &[Event<'_>]) -> Result<(), Refused>
+        ensures ok { OnOk result (Told (K.hash_of self.old.store.hasher) self.old.store.settings.shelves (world_of self.old) events.now (world_of self.new)) }
+        ensures err { IfErr result (λ refused. ToldUntil (K.hash_of self.old.store.hasher) self.old.store.settings.shelves refused (world_of self.old) events.now (world_of self.new)) }
+        ensures settings { self.new.store.settings ≡ self.old.store.settings }
+        ensures hasher { self.new.store.hasher ≡ self.old.store.hasher }
+    {
+        for (at, event) in events.iter().enumerate() {
+            if let Err(fault) = self.happen(alloc, event) {
+                return Err(Refused {
+                    at,
+                    session: event.session(),
+                    decided: fault.decided,
+                });
+            }
+        }
+        Ok(())
+    }
+
+    /// Takes one event. Refused, the session that it names is closed.
+    fn happen(&mut self, alloc: Global, event: &Event<'_>) -> Result<(), TurnFault>
+        ensures ok { OnOk result (Done (K.hash_of self.old.store.hasher) self.old.store.settings.shelves (world_of self.old) event.now (world_of self.new)) }
+        ensures err { IfErr result (λ fault. Undone fault.decided (world_of self.old) event.now (world_of self.new)) }
+        ensures settings { self.new.store.settings ≡ self.old.store.settings }
+        ensures hasher { self.new.store.hasher ≡ self.old.store.hasher }
+    {
+        match event {
+            Event::Open => self.sessions.open(alloc, self.greatest)?,
+            Event::Piece(number, piece) => self.sessions.feed(*number, piece.as_slice())?,
+            Event::Turn(number) => {
+                let _ = self.sessions.turn(alloc, *number, &mut self.store, self.now)?;
+            }
+            Event::Clock(now) => self.now = *now,
+            Event::Grow(shelf) => {
+                let _ = self.store.grow(*shelf, MOVED);
+            }
+            Event::Purge(shelf) => self.store.purge(*shelf, self.now),
+            Event::Close(number) => self.sessions.close(*number),
+        }
+        Ok(())
+    }
+}
