@@ -1,2 +1,5 @@
 pub mod NumberLemmas
 pub mod WordLemmas
+pub mod ItemLemmas
+pub mod PlainLemmas
+pub mod LawLemmas

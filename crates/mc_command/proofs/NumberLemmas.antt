@@ -7,7 +7,11 @@ use Rattle.std.proofs.lemmas.List.{take_all}
 use Rattle.std.specs.Str.{all_ascii_digits}
 use Rattle.std.specs.Str.Parse.{digits_value, AllDigits}
 use Rattle.std.specs.Char.{digit_value, is_ascii_digit}
-use Rattle.mc_command.specs.Words.{is_nonempty}
+use Rattle.std.specs.Prelude.{nat_le, drop}
+use Rattle.std.specs.List.{take_while, list_all}
+use Rattle.mc_command.specs.Words.{is_nonempty, is_space}
+use Rattle.mc_command.specs.Plain.{number_of}
+use Rattle.mc_command.proofs.WordLemmas.{length-take_while}
 use Rattle.mc_command.specs.Numbers.{number_up_to, is_numeral}
 
 pub own : IsNumeralModel (λ ds. all_ascii_digits ds ≡ true) (digits_value 10)
@@ -74,3 +78,16 @@ module _ (word : List ℕ) (i : ℕ) (end : length word ≤ i) (n : ℕ) (value 
 
   pub whole-none : limit < n → number_up_to limit word ≡ None
   whole-none over = number-none limit word (λ digits le some. absurd (omega (arith, whole)))
+
+-- the digits of a block, and what follows them
+number_of-as : (block digits rest : List ℕ) (n : ℕ) → n ≡ length (take_while is_ascii_digit block) → digits ≡ take n block → rest ≡ drop n block
+    → number_of block ≡ cond (nat_le (length digits) 20 && list_all is_space rest) (number_up_to (2 ^ 64 - 1) digits) None
+number_of-as block digits rest n len front back =
+    let at : take_while is_ascii_digit block ≡ digits = ap (λ k. take k block) (sym (len ∙ length-take_while is_ascii_digit block)) ∙ sym front in
+    let after : drop (length (take_while is_ascii_digit block)) block ≡ rest = ap (λ k. drop k block) (sym len) ∙ sym back in
+    rw (after, at) refl
+
+pub number_of-yes : (block : List ℕ) (n : ℕ) (digits rest : List ℕ) → n ≡ length (take_while is_ascii_digit block) → digits ≡ take n block → rest ≡ drop n block → length digits ≤ 20 → list_all is_space rest ≡ true → number_of block ≡ number_up_to (2 ^ 64 - 1) digits
+number_of-yes block n digits rest len front back few blank =
+    let a : nat_le (length digits) 20 ≡ true = le-leb _ _ few in
+    number_of-as block digits rest n len front back ∙ rw (a, blank) refl

@@ -2,3 +2,5 @@ pub mod Words
 pub mod Numbers
 pub mod Commands
 pub mod Plain
+pub mod Items
+pub mod Laws

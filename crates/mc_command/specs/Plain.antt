@@ -16,7 +16,7 @@ use Rattle.mc_command.specs.declared.step.Verb.TheVariants.{Set, Add, Replace, A
 use Rattle.mc_command.specs.declared.step.KeyStep.{KeyStep}
 use Rattle.mc_command.specs.declared.step.KeyStep.TheVariants.{Store, Cas, Read, ReadTouch, Touch, Delete, Count, Flush}
 use Rattle.mc_command.specs.declared.reply.Reply.{Reply}
-use Rattle.mc_command.specs.declared.reply.Reply.TheVariants.{Stored, NotStored, Exists, NotFound, Miss, Hit, Touched, Deleted, Number, NotNumeric, TooLarge, Flushed}
+use Rattle.mc_command.specs.declared.reply.Reply.TheVariants.{Stored, NotStored, Exists, NotFound, Miss, Hit, Touched, Deleted, Number, NotNumeric, TooLarge, NoChunk, Flushed}
 
 -- an item under a key
 pub record Entry : Type 0 where
@@ -123,17 +123,6 @@ abbrev pub count_row : Bool → ℕ → Option Entry → Row
 count_row up by None = (NotFound, Leaves)
 count_row up by (Some old) = number_row old up by (number_of old.block)
 
--- the row of a step on one key, by the item that stands under the key
-abbrev pub row : KeyStep → ℕ → Option Entry → Row
-row (Store verb key flags exptime block) now item = store_row verb flags (expiry_of exptime now) block item
-row (Cas key flags exptime block unique) now item = cas_row flags (expiry_of exptime now) block unique item
-row (Read key) now item = read_row item
-row (ReadTouch key exptime) now item = read_touch_row (expiry_of exptime now) item
-row (Touch key exptime) now item = touch_row (expiry_of exptime now) item
-row (Delete key) now item = delete_row item
-row (Count key up by) now item = count_row up by item
-row (Flush delay) now item = (Flushed, Leaves)
-
 -- an item that isn't dead
 abbrev pub alive : Option ℕ → ℕ → Option Entry → Option Entry
 alive cut now None = None
@@ -170,11 +159,11 @@ changed reply (Writes flags expiry block) key old now =
 changed reply (Expires item expiry) key old now = Answered reply (record old { items = insert old.items key (record item { expiry = expiry }) })
 changed reply Removes key old now = Answered reply (record old { items = remove old.items key })
 
--- a step on one key: its dead item is dropped, and then the row applies
-abbrev pub at_key : KeyStep → List ℕ → Plain → ℕ → Outcome
-at_key step key old now =
+-- a row at a key: the key's dead item is dropped, and then the row applies to the item that stands
+abbrev pub applied : (Option Entry → Row) → List ℕ → Plain → ℕ → Outcome
+applied of key old now =
     let item = standing old key now in
-    let told = row step now item in
+    let told = of item in
     changed told.0 told.1 key (without_dead item key old) now
 
 -- A flush at once leaves no item and no flush that waits. One with a delay drops what is dead, and from its moment on what
@@ -186,14 +175,35 @@ flushed delay old now =
 
 -- one step at a moment
 abbrev pub plain : Plain → KeyStep → ℕ → Outcome
+plain old (Store verb key flags exptime block) now = applied (store_row verb flags (expiry_of exptime now) block) key old now
+plain old (Cas key flags exptime block unique) now = applied (cas_row flags (expiry_of exptime now) block unique) key old now
+plain old (Read key) now = applied read_row key old now
+plain old (ReadTouch key exptime) now = applied (read_touch_row (expiry_of exptime now)) key old now
+plain old (Touch key exptime) now = applied (touch_row (expiry_of exptime now)) key old now
+plain old (Delete key) now = applied delete_row key old now
+plain old (Count key up by) now = applied (count_row up by) key old now
 plain old (Flush delay) now = Answered Flushed (flushed delay old now)
-plain old (Store verb key flags exptime block) now = at_key (Store verb key flags exptime block) key old now
-plain old (Cas key flags exptime block unique) now = at_key (Cas key flags exptime block unique) key old now
-plain old (Read key) now = at_key (Read key) key old now
-plain old (ReadTouch key exptime) now = at_key (ReadTouch key exptime) key old now
-plain old (Touch key exptime) now = at_key (Touch key exptime) key old now
-plain old (Delete key) now = at_key (Delete key) key old now
-plain old (Count key up by) now = at_key (Count key up by) key old now
+
+-- a reply that a block is copied for, or that comes after one was
+abbrev pub CopiesBlock : Reply → Type 0
+CopiesBlock Stored = Unit {0}
+CopiesBlock NotStored = ⊥
+CopiesBlock Exists = ⊥
+CopiesBlock NotFound = ⊥
+CopiesBlock Miss = ⊥
+CopiesBlock (Hit flags unique block) = Unit {0}
+CopiesBlock Touched = ⊥
+CopiesBlock Deleted = ⊥
+CopiesBlock (Number number) = Unit {0}
+CopiesBlock NotNumeric = ⊥
+CopiesBlock TooLarge = Unit {0}
+CopiesBlock NoChunk = Unit {0}
+CopiesBlock Flushed = ⊥
+
+-- what may end in a fault: the unique numbers are spent, or memory is needed
+abbrev pub MayFail : Outcome → Type 0
+MayFail (Answered reply new) = CopiesBlock reply
+MayFail Spent = Unit {0}
 
 -- how a proof stores an expiry, an entry, and the state
 abbrev pub expiry_moment : Expiry → Option ℕ

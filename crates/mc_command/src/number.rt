@@ -1,5 +1,9 @@
-ghost use Rattle.std.specs.Prelude.{◌≡◌};
+ghost use Rattle.std.specs.Prelude.{◌≡◌, length};
+ghost use Rattle.std.specs.List.{take_while, list_all};
+ghost use Rattle.std.specs.Char.{is_ascii_digit};
+ghost use Rattle.mc_command.specs.Words.{is_space};
 ghost use Rattle.mc_command.specs.Numbers.{number_up_to};
+ghost use Rattle.mc_command.specs.Plain.{number_of};
 
 /// The number that one or more decimal digits write, where it is at most `limit`. Leading zeros are allowed.
 pub fn number_up_to(limit: u64, word: &[u8]) -> Option<u64>
@@ -18,4 +22,30 @@ pub fn number_up_to(limit: u64, word: &[u8]) -> Option<u64>
             .checked_add(u64::from(*byte - b'0'))?;
     }
     if number <= limit { Some(number) } else { None }
+}
+
+/// The number that a block is: 1 to 20 digits of a value below 2^64, and then any number of spaces.
+pub(crate) fn number_of(block: &[u8]) -> Option<u64>
+    ensures { result ≡ number_of block.now }
+{
+    let (digits, rest) = block.split_at(digits_len(block));
+    if digits.len() <= 20 && is_blank(rest) {
+        number_up_to(u64::MAX, digits)
+    } else {
+        None
+    }
+}
+
+/// How many digits a text begins with.
+fn digits_len(text: &[u8]) -> usize
+    ensures { result ≡ length (take_while is_ascii_digit text.now) }
+{
+    text.iter().take_while(|byte| byte.is_ascii_digit()).count()
+}
+
+/// Whether a text has nothing but spaces.
+fn is_blank(text: &[u8]) -> bool
+    ensures { result ≡ list_all is_space text.now }
+{
+    text.iter().all(|byte| *byte == b' ')
 }

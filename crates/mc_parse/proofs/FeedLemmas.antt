@@ -1,10 +1,14 @@
 -- What a feed holds after its pieces.
-use Rattle.std.proofs.Common.{◌≡◌, ◌<◌, ◌≤◌, ◌+◌, ◌-◌, ℕ, ◌⊎◌, inl, inr, List, [], ◌∷◌, ◌++◌, length, take, drop, refl, sym, ap, ◌∙◌, subst, arith, length-append, length-drop}
-use Rattle.std.proofs.Math.Seq.{drop-append-add}
+use Rattle.std.proofs.Common.{◌≡◌, ◌<◌, ◌≤◌, ◌+◌, ◌-◌, ℕ, ◌⊎◌, inl, inr, List, [], ◌∷◌, ◌++◌, length, take, drop, refl, sym, ap, ◌∙◌, subst, arith, length-append, length-drop, Option, Some, None, IfSome}
+use Rattle.std.proofs.Math.Seq.{drop-append-add, drop-nil}
 use Rattle.std.proofs.Math.ListN.{drop_of_length-le}
 use Rattle.std.proofs.lemmas.Bool.{cases_lt}
 use Rattle.std.proofs.lemmas.List.{drop-append-le, append_assoc}
-use Rattle.mc_parse.specs.Feeds.{Unread, pushed, settled}
+use Rattle.mc_parse.specs.declared.cursor.Cursor.{Cursor}
+use Rattle.mc_parse.specs.Units.{ProtocolUnit}
+use Rattle.mc_parse.specs.Peeks.{BeginsWithNone, IsSpelled, IsLeft, left_of}
+use Rattle.mc_parse.specs.Feeds.{Unread, pushed, settled, IsKept}
+use Rattle.mc_parse.proofs.UnitLemmas.{none_in}
 
 -- bytes are passed over of what came first, and then of what came later
 passed_along : (n : ℕ) (first later : List ℕ) → (n < length first) ⊎ (length first ≤ n) → drop (n - length first) (drop n first ++ later) ≡ drop n (first ++ later)
@@ -15,6 +19,21 @@ passed_along n first later (inr beyond) =
     let k = n - length first in
     let is : n ≡ length first + k = omega arith in
     rw (drop_of_length-le first beyond) (sym (ap (λ m. drop m (first ++ later)) is ∙ drop-append-add first later k))
+
+-- where bytes are still to be passed over none is unread, so no front spells anything
+pub none_yet : (greatest passed start : ℕ) (cursor : Option Cursor) (buffer bytes : List ℕ) → IsKept greatest passed start cursor buffer → 0 < passed → bytes ≡ drop start buffer → BeginsWithNone greatest (drop passed bytes)
+none_yet greatest passed start cursor buffer bytes kept some is =
+    let read : length buffer ≤ start = elim kept.settled as (λ _. length buffer ≤ start) [
+      | inl none ↦ absurd (omega arith)
+      | inr all ↦ omega arith
+    ] in
+    let nothing : drop passed bytes ≡ [] = ap (drop passed) (is ∙ drop_of_length-le buffer read) ∙ drop-nil passed in
+    subst (BeginsWithNone greatest) (sym nothing) (record { none = none_in greatest [] tt (omega arith) })
+
+-- what was found is what is left, where turns leave it whole
+pub left_found : (greatest taken passed : ℕ) (bytes : List ℕ) (found : Option (ProtocolUnit × ℕ)) → IfSome found (λ p. (passed ≡ 0) × IsSpelled greatest p bytes) → ((unit : ProtocolUnit) (len : ℕ) → IsSpelled greatest (unit, len) bytes → left_of unit taken ≡ unit) → IfSome found (λ p. (passed ≡ 0) × IsLeft greatest taken p bytes)
+left_found greatest taken passed bytes None h whole = tt
+left_found greatest taken passed bytes (Some (unit, len)) h whole = (h.0, record { unit = unit; spelled = h.1; left = sym (whole unit len h.1) })
 
 abbrev unread : ℕ → ℕ → List ℕ → Unread
 unread greatest passed bytes = record { greatest = greatest; passed = passed; bytes = bytes }

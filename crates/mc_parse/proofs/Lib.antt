@@ -1,5 +1,9 @@
+pub mod LineLemmas
+pub mod LineWords
 pub mod UnitLemmas
 pub mod BeginLemmas
 pub mod StreamLemmas
+pub mod KeyLemmas
+pub mod RetrievalLemmas
+pub mod CursorLemmas
 pub mod FeedLemmas
-pub mod LineLemmas

@@ -1,14 +1,14 @@
--- The keys and the block of a command that a line spells are short.
-use Rattle.std.proofs.Common.{◌≡◌, ◌≤◌, ℕ, Bool, true, false, cond, ◌&&◌, List, [], ◌∷◌, Result, Ok, Err, Some, None, length, arith, leb, ◌+◌, ◌-◌, ◌^◌, refl}
+-- The keys of a command that a line spells are keys, and its block is short.
+use Rattle.std.proofs.Common.{◌≡◌, ◌≢◌, ◌≤◌, ℕ, Bool, true, false, cond, ◌&&◌, List, [], ◌∷◌, Result, Ok, Err, Some, None, length, arith, leb, ◌+◌, ◌-◌, ◌^◌, refl}
 use Rattle.std.specs.Prelude.{codes}
 use Rattle.std.specs.Result.{IfOk}
-use Rattle.std.specs.List.{All, list_all}
+use Rattle.std.specs.List.{All, AllByRecursion, list_all}
 use Rattle.std.specs.Str.{bytes_eq}
 use Rattle.std.specs.Str.Parse.{digits_value}
 use Rattle.std.proofs.lemmas.Bool.{leb-true}
-use Rattle.std.proofs.lemmas.List.Elements.{All-nil, All-cons, All-map}
+use Rattle.std.proofs.lemmas.List.Elements.{All-nil, All-cons, All-map, recursion_from_All}
 use Rattle.std.proofs.lemmas.Result.{IfOk-at_ok}
-use Rattle.mc_command.specs.Words.{is_nonempty}
+use Rattle.mc_command.specs.Words.{words, is_nonempty}
 use Rattle.mc_command.specs.Numbers.{number_up_to, is_numeral}
 use Rattle.mc_command.specs.Commands.{HasShortKeys, key_of}
 use Rattle.mc_command.specs.declared.step.KeyStep.{KeyStep}
@@ -25,16 +25,9 @@ use Rattle.mc_parse.specs.declared.line.Head.TheVariants.{Store, Cas}
 use Rattle.mc_parse.specs.declared.name.Name.{Name}
 use Rattle.mc_parse.specs.declared.name.Name.TheVariants.{Store as StoreName, Cas as CasName, Get as GetName, GetTouch as GetTouchName, Touch as TouchName, Delete as DeleteName, Count as CountName, FlushAll as FlushName, Version as VersionName, Quit as QuitName}
 use Rattle.mc_parse.specs.Exptimes.{exptime_of, delay_of}
-use Rattle.mc_parse.specs.Lines.{◌>>=◌, formed, is_key, key_formed, keys_formed, ending, delete_ending, delayed, fitting, name_of, store_line, cas_line, get_line, get_touch_line, touch_line, delete_line, count_line, flush_line, lone_line, named_line, meaning}
+use Rattle.mc_parse.specs.Lines.{◌>>=◌, formed, is_key, key_formed, keys_formed, ending, delete_ending, delayed, fitting, name_of, store_line, cas_line, get_line, get_touch_line, touch_line, delete_line, count_line, flush_line, lone_line, named_line, meaning, IsWord, IsKey, IsKeyed, HasKeys}
 use Rattle.mc_parse.specs.Units.{with_block}
-
-abbrev IsShort : List ℕ → Type 0
-IsShort key = length key ≤ 250
-
--- the keys of the line's command are short, whatever its block, and so is the block
-abbrev pub IsShortLine : Line → Type 0
-IsShortLine (Bare command) = HasShortKeys command
-IsShortLine (Block head len) = ((block : List ℕ) → HasShortKeys (with_block head block)) × (len ≤ 2147483645)
+use Rattle.mc_parse.proofs.LineWords.{words_are_words}
 
 -- what holds at the end of two steps
 next : {A B : Type 0} (P : A → Type 0) (Q : B → Type 0) (r : Result A LineFault) (f : A → Result B LineFault) → IfOk r P → ((x : A) → P x → IfOk (f x) Q) → IfOk (r >>= f) Q
@@ -46,154 +39,205 @@ after : {A B : Type 0} (Q : B → Type 0) (r : Result A LineFault) (f : A → Re
 after Q (Ok x) f more = more x
 after Q (Err fault) f more = tt
 
-both_true : (a b : Bool) → (a && b) ≡ true → b ≡ true
-both_true true b h = h
-both_true false b h = absurd (cc)
-
-is_key-short : (word : List ℕ) → is_key word ≡ true → IsShort word
-is_key-short word h = leb-true (length word) 250 (both_true (is_nonempty word) (leb (length word) 250) h)
-
--- a choice by a test
-chosen : {A : Type 0} (P : A → Type 0) (b : Bool) (x y : A) → (b ≡ true → P x) → (b ≡ false → P y) → P (cond b x y)
-chosen P true x y yes_ no_ = yes_ refl
-chosen P false x y yes_ no_ = no_ refl
-
-key-short : (word : List ℕ) → IfOk (key_formed word) IsShort
-key-short word = chosen (λ r. IfOk r IsShort) (is_key word) (Ok word) (Err BadFormat) (is_key-short word) (λ _. tt)
-
 first_true : (a b : Bool) → (a && b) ≡ true → a ≡ true
 first_true true b h = refl
 first_true false b h = absurd (cc)
 
-all-short : (ws : List (List ℕ)) → list_all is_key ws ≡ true → All IsShort ws
-all-short [] h = All-nil IsShort
-all-short (w ∷ ws) h =
-    All-cons IsShort w ws (is_key-short w (first_true (is_key w) (list_all is_key ws) h)) (all-short ws (both_true (is_key w) (list_all is_key ws) h))
+both_true : (a b : Bool) → (a && b) ≡ true → b ≡ true
+both_true true b h = h
+both_true false b h = absurd (cc)
 
-keys-short : (ws : List (List ℕ)) → IfOk (keys_formed ws) (All IsShort)
-keys-short [] = tt
-keys-short (key ∷ keys) = chosen (λ r. IfOk r (All IsShort)) (list_all is_key (key ∷ keys)) (Ok (key ∷ keys)) (Err BadFormat) (all-short (key ∷ keys)) (λ _. tt)
+-- a choice by a test
+chosen : {A : Type 0} (P : A → Type 0) (b : Bool) (x y : A) → (b ≡ true → P x) → (b ≡ false → P y) → P (cond b x y)
+chosen P true x y when_true when_false = when_true refl
+chosen P false x y when_true when_false = when_false refl
 
-number-short : (limit : ℕ) (word : List ℕ) → IfOk (formed BadFormat (number_up_to limit word)) (λ n. n ≤ limit)
-number-short limit word =
+-- a word that passes as a key is at most 250 bytes long
+is_key-short : (word : List ℕ) → is_key word ≡ true → length word ≤ 250
+is_key-short word h = leb-true (length word) 250 (both_true (is_nonempty word) (leb (length word) 250) h)
+
+-- a number is at most its limit
+number-within : (limit : ℕ) (word : List ℕ) → IfOk (formed BadFormat (number_up_to limit word)) (λ n. n ≤ limit)
+number-within limit word =
     chosen (λ o. IfOk (formed BadFormat o) (λ n. n ≤ limit)) (is_numeral word && leb (digits_value 10 word) limit) (Some (digits_value 10 word)) None
     (λ h. leb-true (digits_value 10 word) limit (both_true (is_numeral word) (leb (digits_value 10 word) limit) h)) (λ _. tt)
 
--- a command of one step
-single : (step : KeyStep) → IsShort (key_of step) → All (λ s. length (key_of s) ≤ 250) (step ∷ [])
-single step held = All-cons (λ s. length (key_of s) ≤ 250) step [] held (All-nil (λ s. length (key_of s) ≤ 250))
+-- What holds of each word that passes as a key holds of each key of what the line says.
+module _ (P : List ℕ → Type 0) where
+  -- it holds of each of these words that passes as a key
+  abbrev pub Holds : List (List ℕ) → Type 0
+  Holds ws = AllByRecursion (λ w. is_key w ≡ true → P w) ws
 
-fitting-short : (greatest : ℕ) (key : List ℕ) (len : ℕ) (head : Head) → ((block : List ℕ) → HasShortKeys (with_block head block)) → len ≤ 2147483645 → IfOk (fitting greatest key len head) IsShortLine
-fitting-short greatest key len head keys short =
-    chosen (λ r. IfOk r IsShortLine) (leb (48 + length key + len) greatest) (Ok (Block head len)) (Err (TooLarge (len + 2))) (λ _. (keys, short)) (λ _. tt)
+  -- it holds of the keys of the line's command, whatever its block, and the block is short
+  abbrev pub IsLineOf : Line → Type 0
+  IsLineOf (Bare command) = HasKeys P command
+  IsLineOf (Block head len) = ((block : List ℕ) → HasKeys P (with_block head block)) × (len ≤ 2147483645)
 
-store_line-short : (greatest : ℕ) (verb : Verb) (args : List (List ℕ)) → IfOk (store_line greatest verb args) IsShortLine
-store_line-short greatest verb [] = tt
-store_line-short greatest verb (key ∷ []) = tt
-store_line-short greatest verb (key ∷ flags ∷ []) = tt
-store_line-short greatest verb (key ∷ flags ∷ exptime ∷ []) = tt
-store_line-short greatest verb (key ∷ flags ∷ exptime ∷ bytes ∷ rest) =
-    after IsShortLine (ending rest) _ (λ quiet.
-    next IsShort IsShortLine (key_formed key) _ (key-short key) (λ k k_short.
-    after IsShortLine (formed BadFormat (number_up_to (2 ^ 32 - 1) flags)) _ (λ f.
-    after IsShortLine (formed BadFormat (exptime_of exptime)) _ (λ e.
-    next (λ n. n ≤ 2147483645) IsShortLine (formed BadFormat (number_up_to 2147483645 bytes)) _ (number-short 2147483645 bytes) (λ n n_short.
-    fitting-short greatest k n (Store verb k f e quiet) (λ block. single (StoreStep verb k f e block) k_short) n_short)))))
+  key-of : (word : List ℕ) → (is_key word ≡ true → P word) → IfOk (key_formed word) P
+  key-of word held = chosen (λ r. IfOk r P) (is_key word) (Ok word) (Err BadFormat) held (λ _. tt)
 
-cas_line-short : (greatest : ℕ) (args : List (List ℕ)) → IfOk (cas_line greatest args) IsShortLine
-cas_line-short greatest [] = tt
-cas_line-short greatest (key ∷ []) = tt
-cas_line-short greatest (key ∷ flags ∷ []) = tt
-cas_line-short greatest (key ∷ flags ∷ exptime ∷ []) = tt
-cas_line-short greatest (key ∷ flags ∷ exptime ∷ bytes ∷ []) = tt
-cas_line-short greatest (key ∷ flags ∷ exptime ∷ bytes ∷ unique ∷ rest) =
-    after IsShortLine (ending rest) _ (λ quiet.
-    next IsShort IsShortLine (key_formed key) _ (key-short key) (λ k k_short.
-    after IsShortLine (formed BadFormat (number_up_to (2 ^ 32 - 1) flags)) _ (λ f.
-    after IsShortLine (formed BadFormat (exptime_of exptime)) _ (λ e.
-    next (λ n. n ≤ 2147483645) IsShortLine (formed BadFormat (number_up_to 2147483645 bytes)) _ (number-short 2147483645 bytes) (λ n n_short.
-    after IsShortLine (formed BadFormat (number_up_to (2 ^ 64 - 1) unique)) _ (λ u.
-    fitting-short greatest k n (Cas k f e u quiet) (λ block. single (CasStep k f e block u) k_short) n_short))))))
+  all-of : (ws : List (List ℕ)) → Holds ws → list_all is_key ws ≡ true → All P ws
+  all-of [] held h = All-nil P
+  all-of (w ∷ ws) held h =
+      All-cons P w ws (held.0 (first_true (is_key w) (list_all is_key ws) h)) (all-of ws held.1 (both_true (is_key w) (list_all is_key ws) h))
 
-get_line-short : (with_unique : Bool) (args : List (List ℕ)) → IfOk (get_line with_unique args) IsShortLine
-get_line-short with_unique args =
-    next (All IsShort) IsShortLine (keys_formed args) _ (keys-short args) (λ keys short.
-    All-map (λ s. length (key_of s) ≤ 250) ReadStep keys short)
+  keys-of : (ws : List (List ℕ)) → Holds ws → IfOk (keys_formed ws) (All P)
+  keys-of [] held = tt
+  keys-of (key ∷ keys) held = chosen (λ r. IfOk r (All P)) (list_all is_key (key ∷ keys)) (Ok (key ∷ keys)) (Err BadFormat) (all-of (key ∷ keys) held) (λ _. tt)
 
-get_touch_line-short : (with_unique : Bool) (args : List (List ℕ)) → IfOk (get_touch_line with_unique args) IsShortLine
-get_touch_line-short with_unique [] = tt
-get_touch_line-short with_unique (exptime ∷ args) =
-    next (All IsShort) IsShortLine (keys_formed args) _ (keys-short args) (λ keys short.
-    after IsShortLine (formed BadFormat (exptime_of exptime)) _ (λ e.
-    All-map (λ s. length (key_of s) ≤ 250) (λ key. ReadTouchStep key e) keys short))
+  -- a command of one step
+  single : (step : KeyStep) → IsKeyed P step → All (IsKeyed P) (step ∷ [])
+  single step held = All-cons (IsKeyed P) step [] held (All-nil (IsKeyed P))
 
-touch_line-short : (args : List (List ℕ)) → IfOk (touch_line args) IsShortLine
-touch_line-short [] = tt
-touch_line-short (key ∷ []) = tt
-touch_line-short (key ∷ exptime ∷ rest) =
-    after IsShortLine (ending rest) _ (λ quiet.
-    next IsShort IsShortLine (key_formed key) _ (key-short key) (λ k k_short.
-    after IsShortLine (formed BadFormat (exptime_of exptime)) _ (λ e.
-    single (TouchStep k e) k_short)))
+  fitting-of : (greatest : ℕ) (key : List ℕ) (len : ℕ) (head : Head) → ((block : List ℕ) → HasKeys P (with_block head block)) → len ≤ 2147483645 → IfOk (fitting greatest key len head) IsLineOf
+  fitting-of greatest key len head keys short =
+      chosen (λ r. IfOk r IsLineOf) (leb (48 + length key + len) greatest) (Ok (Block head len)) (Err (TooLarge (len + 2))) (λ _. (keys, short)) (λ _. tt)
 
-delete_line-short : (args : List (List ℕ)) → IfOk (delete_line args) IsShortLine
-delete_line-short [] = tt
-delete_line-short (key ∷ rest) =
-    after IsShortLine (delete_ending rest) _ (λ quiet.
-    next IsShort IsShortLine (key_formed key) _ (key-short key) (λ k k_short.
-    single (DeleteStep k) k_short))
+  store_line-of : (greatest : ℕ) (verb : Verb) (args : List (List ℕ)) → Holds args → IfOk (store_line greatest verb args) IsLineOf
+  store_line-of greatest verb [] held = tt
+  store_line-of greatest verb (key ∷ []) held = tt
+  store_line-of greatest verb (key ∷ flags ∷ []) held = tt
+  store_line-of greatest verb (key ∷ flags ∷ exptime ∷ []) held = tt
+  store_line-of greatest verb (key ∷ flags ∷ exptime ∷ bytes ∷ rest) held =
+      after IsLineOf (ending rest) _ (λ quiet.
+      next P IsLineOf (key_formed key) _ (key-of key held.0) (λ k keyed.
+      after IsLineOf (formed BadFormat (number_up_to (2 ^ 32 - 1) flags)) _ (λ f.
+      after IsLineOf (formed BadFormat (exptime_of exptime)) _ (λ e.
+      next (λ n. n ≤ 2147483645) IsLineOf (formed BadFormat (number_up_to 2147483645 bytes)) _ (number-within 2147483645 bytes) (λ n within.
+      fitting-of greatest k n (Store verb k f e quiet) (λ block. single (StoreStep verb k f e block) keyed) within)))))
 
-count_line-short : (up : Bool) (args : List (List ℕ)) → IfOk (count_line up args) IsShortLine
-count_line-short up [] = tt
-count_line-short up (key ∷ []) = tt
-count_line-short up (key ∷ value ∷ rest) =
-    after IsShortLine (ending rest) _ (λ quiet.
-    next IsShort IsShortLine (key_formed key) _ (key-short key) (λ k k_short.
-    after IsShortLine (formed BadDelta (number_up_to (2 ^ 64 - 1) value)) _ (λ by.
-    single (CountStep k up by) k_short)))
+  cas_line-of : (greatest : ℕ) (args : List (List ℕ)) → Holds args → IfOk (cas_line greatest args) IsLineOf
+  cas_line-of greatest [] held = tt
+  cas_line-of greatest (key ∷ []) held = tt
+  cas_line-of greatest (key ∷ flags ∷ []) held = tt
+  cas_line-of greatest (key ∷ flags ∷ exptime ∷ []) held = tt
+  cas_line-of greatest (key ∷ flags ∷ exptime ∷ bytes ∷ []) held = tt
+  cas_line-of greatest (key ∷ flags ∷ exptime ∷ bytes ∷ unique ∷ rest) held =
+      after IsLineOf (ending rest) _ (λ quiet.
+      next P IsLineOf (key_formed key) _ (key-of key held.0) (λ k keyed.
+      after IsLineOf (formed BadFormat (number_up_to (2 ^ 32 - 1) flags)) _ (λ f.
+      after IsLineOf (formed BadFormat (exptime_of exptime)) _ (λ e.
+      next (λ n. n ≤ 2147483645) IsLineOf (formed BadFormat (number_up_to 2147483645 bytes)) _ (number-within 2147483645 bytes) (λ n within.
+      after IsLineOf (formed BadFormat (number_up_to (2 ^ 64 - 1) unique)) _ (λ u.
+      fitting-of greatest k n (Cas k f e u quiet) (λ block. single (CasStep k f e block u) keyed) within))))))
 
--- a flush has no key
-flush-short : (delay : ℕ) (quiet : Bool) → IsShortLine (Bare (FlushAll delay quiet))
-flush-short delay quiet = single (FlushStep delay) (omega arith)
+  get_line-of : (with_unique : Bool) (args : List (List ℕ)) → Holds args → IfOk (get_line with_unique args) IsLineOf
+  get_line-of with_unique args held = next (All P) IsLineOf (keys_formed args) _ (keys-of args held) (λ keys keyed. All-map (IsKeyed P) ReadStep keys keyed)
 
-delayed-short : (word : List ℕ) (quiet : Bool) → IfOk (delayed word quiet) IsShortLine
-delayed-short word quiet = after IsShortLine (formed BadFormat (delay_of word)) _ (λ delay. flush-short delay quiet)
+  get_touch_line-of : (with_unique : Bool) (args : List (List ℕ)) → Holds args → IfOk (get_touch_line with_unique args) IsLineOf
+  get_touch_line-of with_unique [] held = tt
+  get_touch_line-of with_unique (exptime ∷ args) held =
+      next (All P) IsLineOf (keys_formed args) _ (keys-of args held.1) (λ keys keyed.
+      after IsLineOf (formed BadFormat (exptime_of exptime)) _ (λ e.
+      All-map (IsKeyed P) (λ key. ReadTouchStep key e) keys keyed))
 
-flush_line-short : (args : List (List ℕ)) → IfOk (flush_line args) IsShortLine
-flush_line-short [] = flush-short 0 false
-flush_line-short (word ∷ []) =
-    chosen (λ r. IfOk r IsShortLine) (bytes_eq word (codes "noreply")) (Ok (Bare (FlushAll 0 true))) (delayed word false) (λ _. flush-short 0 true) (λ _. delayed-short word false)
-flush_line-short (delay ∷ word ∷ rest) = after IsShortLine (ending (word ∷ rest)) _ (λ quiet. delayed-short delay quiet)
+  touch_line-of : (args : List (List ℕ)) → Holds args → IfOk (touch_line args) IsLineOf
+  touch_line-of [] held = tt
+  touch_line-of (key ∷ []) held = tt
+  touch_line-of (key ∷ exptime ∷ rest) held =
+      after IsLineOf (ending rest) _ (λ quiet.
+      next P IsLineOf (key_formed key) _ (key-of key held.0) (λ k keyed.
+      after IsLineOf (formed BadFormat (exptime_of exptime)) _ (λ e.
+      single (TouchStep k e) keyed)))
 
-lone_line-short : (command : Command) (args : List (List ℕ)) → HasShortKeys command → IfOk (lone_line command args) IsShortLine
-lone_line-short command [] short = short
-lone_line-short command (word ∷ args) short = tt
+  delete_line-of : (args : List (List ℕ)) → Holds args → IfOk (delete_line args) IsLineOf
+  delete_line-of [] held = tt
+  delete_line-of (key ∷ rest) held =
+      after IsLineOf (delete_ending rest) _ (λ quiet.
+      next P IsLineOf (key_formed key) _ (key-of key held.0) (λ k keyed.
+      single (DeleteStep k) keyed))
 
-named_line-short : (greatest : ℕ) (name : Name) (args : List (List ℕ)) → IfOk (named_line greatest name args) IsShortLine
-named_line-short greatest (StoreName verb) args = store_line-short greatest verb args
-named_line-short greatest CasName args = cas_line-short greatest args
-named_line-short greatest (GetName with_unique) args = get_line-short with_unique args
-named_line-short greatest (GetTouchName with_unique) args = get_touch_line-short with_unique args
-named_line-short greatest TouchName args = touch_line-short args
-named_line-short greatest DeleteName args = delete_line-short args
-named_line-short greatest (CountName up) args = count_line-short up args
-named_line-short greatest FlushName args = flush_line-short args
-named_line-short greatest VersionName args = lone_line-short Version args (All-nil (λ s. length (key_of s) ≤ 250))
-named_line-short greatest QuitName args = lone_line-short Quit args (All-nil (λ s. length (key_of s) ≤ 250))
+  count_line-of : (up : Bool) (args : List (List ℕ)) → Holds args → IfOk (count_line up args) IsLineOf
+  count_line-of up [] held = tt
+  count_line-of up (key ∷ []) held = tt
+  count_line-of up (key ∷ value ∷ rest) held =
+      after IsLineOf (ending rest) _ (λ quiet.
+      next P IsLineOf (key_formed key) _ (key-of key held.0) (λ k keyed.
+      after IsLineOf (formed BadDelta (number_up_to (2 ^ 64 - 1) value)) _ (λ by.
+      single (CountStep k up by) keyed)))
 
--- what any line says is short
-pub meaning-short : (greatest : ℕ) (ws : List (List ℕ)) → IfOk (meaning greatest ws) IsShortLine
-meaning-short greatest [] = tt
-meaning-short greatest (word ∷ args) = after IsShortLine (formed Unknown (name_of word)) _ (λ name. named_line-short greatest name args)
+  -- a flush has no key
+  flush-of : (delay : ℕ) (quiet : Bool) → IsLineOf (Bare (FlushAll delay quiet))
+  flush-of delay quiet = single (FlushStep delay) tt
+
+  delayed-of : (word : List ℕ) (quiet : Bool) → IfOk (delayed word quiet) IsLineOf
+  delayed-of word quiet = after IsLineOf (formed BadFormat (delay_of word)) _ (λ delay. flush-of delay quiet)
+
+  flush_line-of : (args : List (List ℕ)) → IfOk (flush_line args) IsLineOf
+  flush_line-of [] = flush-of 0 false
+  flush_line-of (word ∷ []) =
+      chosen (λ r. IfOk r IsLineOf) (bytes_eq word (codes "noreply")) (Ok (Bare (FlushAll 0 true))) (delayed word false) (λ _. flush-of 0 true) (λ _. delayed-of word false)
+  flush_line-of (delay ∷ word ∷ rest) = after IsLineOf (ending (word ∷ rest)) _ (λ quiet. delayed-of delay quiet)
+
+  lone_line-of : (command : Command) (args : List (List ℕ)) → HasKeys P command → IfOk (lone_line command args) IsLineOf
+  lone_line-of command [] keyed = keyed
+  lone_line-of command (word ∷ args) keyed = tt
+
+  named_line-of : (greatest : ℕ) (name : Name) (args : List (List ℕ)) → Holds args → IfOk (named_line greatest name args) IsLineOf
+  named_line-of greatest (StoreName verb) args held = store_line-of greatest verb args held
+  named_line-of greatest CasName args held = cas_line-of greatest args held
+  named_line-of greatest (GetName with_unique) args held = get_line-of with_unique args held
+  named_line-of greatest (GetTouchName with_unique) args held = get_touch_line-of with_unique args held
+  named_line-of greatest TouchName args held = touch_line-of args held
+  named_line-of greatest DeleteName args held = delete_line-of args held
+  named_line-of greatest (CountName up) args held = count_line-of up args held
+  named_line-of greatest FlushName args held = flush_line-of args
+  named_line-of greatest VersionName args held = lone_line-of Version args (All-nil (IsKeyed P))
+  named_line-of greatest QuitName args held = lone_line-of Quit args (All-nil (IsKeyed P))
+
+  -- what any line says
+  pub meaning-of : (greatest : ℕ) (ws : List (List ℕ)) → Holds ws → IfOk (meaning greatest ws) IsLineOf
+  meaning-of greatest [] held = tt
+  meaning-of greatest (word ∷ args) held = after IsLineOf (formed Unknown (name_of word)) _ (λ name. named_line-of greatest name args held.1)
+
+abbrev IsShort : List ℕ → Type 0
+IsShort key = length key ≤ 250
+
+-- words that pass as keys are short
+short_words : (ws : List (List ℕ)) → Holds IsShort ws
+short_words [] = tt
+short_words (w ∷ ws) = (is_key-short w, short_words ws)
+
+-- a step's key that is short, said of `key_of`
+key_of-short : (step : KeyStep) → IsKeyed IsShort step → length (key_of step) ≤ 250
+key_of-short (StoreStep verb key flags exptime block) short = short
+key_of-short (CasStep key flags exptime block unique) short = short
+key_of-short (ReadStep key) short = short
+key_of-short (ReadTouchStep key exptime) short = short
+key_of-short (TouchStep key exptime) short = short
+key_of-short (DeleteStep key) short = short
+key_of-short (CountStep key up by) short = short
+key_of-short (FlushStep delay) short = omega arith
+
+HasShortKeys-from : (command : Command) → HasKeys IsShort command → HasShortKeys command
+HasShortKeys-from command keyed k d inside = key_of-short _ (keyed k d inside)
 
 -- no key of a command that a line spells is longer than 250 bytes
 pub short_keys : (greatest : ℕ) (ws : List (List ℕ)) (command : Command) → meaning greatest ws ≡ Ok (Bare command) → HasShortKeys command
-short_keys greatest ws command meant = IfOk-at_ok IsShortLine meant (meaning-short greatest ws)
+short_keys greatest ws command meant = HasShortKeys-from command (IfOk-at_ok (IsLineOf IsShort) meant (meaning-of IsShort greatest ws (short_words ws)))
 
 -- nor of one that a line and its block spell
 pub short_block_keys : (greatest : ℕ) (ws : List (List ℕ)) (head : Head) (len : ℕ) (block : List ℕ) → meaning greatest ws ≡ Ok (Block head len) → HasShortKeys (with_block head block)
-short_block_keys greatest ws head len block meant = (IfOk-at_ok IsShortLine meant (meaning-short greatest ws)).0 block
+short_block_keys greatest ws head len block meant =
+    HasShortKeys-from (with_block head block) ((IfOk-at_ok (IsLineOf IsShort) meant (meaning-of IsShort greatest ws (short_words ws))).0 block)
 
 -- and no block is longer than 2147483645 bytes
 pub short_block : (greatest : ℕ) (ws : List (List ℕ)) (head : Head) (len : ℕ) → meaning greatest ws ≡ Ok (Block head len) → len ≤ 2147483645
-short_block greatest ws head len meant = (IfOk-at_ok IsShortLine meant (meaning-short greatest ws)).1
+short_block greatest ws head len meant = (IfOk-at_ok (IsLineOf IsShort) meant (meaning-of IsShort greatest ws (short_words ws))).1
+
+-- words of a text without a line feed that pass as keys are keys
+key_words : (ws : List (List ℕ)) → AllByRecursion IsWord ws → Holds IsKey ws
+key_words [] held = tt
+key_words (w ∷ ws) held = ((λ h. (held.0, is_key-short w h)), key_words ws held.1)
+
+text_words : (text : List ℕ) → All (λ b. b ≢ 10) text → Holds IsKey (words text)
+text_words text one_line = key_words (words text) (recursion_from_All IsWord (words text) (words_are_words text one_line))
+
+-- the keys of a command that a line of a text without a line feed spells are keys
+pub keys_are_keys : (greatest : ℕ) (text : List ℕ) (command : Command) → All (λ b. b ≢ 10) text → meaning greatest (words text) ≡ Ok (Bare command) → HasKeys IsKey command
+keys_are_keys greatest text command one_line meant = IfOk-at_ok (IsLineOf IsKey) meant (meaning-of IsKey greatest (words text) (text_words text one_line))
+
+-- the same of a command that a line and its block spell
+pub block_keys_are_keys : (greatest : ℕ) (text : List ℕ) (head : Head) (len : ℕ) (block : List ℕ) → All (λ b. b ≢ 10) text → meaning greatest (words text) ≡ Ok (Block head len) → HasKeys IsKey (with_block head block)
+block_keys_are_keys greatest text head len block one_line meant =
+    (IfOk-at_ok (IsLineOf IsKey) meant (meaning-of IsKey greatest (words text) (text_words text one_line))).0 block

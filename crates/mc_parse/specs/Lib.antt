@@ -4,3 +4,4 @@ pub mod Units
 pub mod Peeks
 pub mod Streams
 pub mod Feeds
+pub mod Cursors

@@ -1,13 +1,16 @@
--- What the words of a line say, or the first fault of the line.
-use Rattle.std.specs.Prelude.{ℕ, ◌+◌, ◌-◌, ◌^◌, ◌&&◌, Bool, true, false, List, [], ◌∷◌, length, Result, Ok, Err, Option, Some, None, nat_le, if◌then◌else◌, codes}
+-- What the words of a line say, or the first fault of the line; and what its words and keys are.
+use Rattle.std.specs.Prelude.{◌≢◌, ◌<◌, ◌≤◌, ℕ, ◌+◌, ◌-◌, ◌^◌, ◌&&◌, Bool, true, false, List, [], ◌∷◌, length, All, Result, Ok, Err, Option, Some, None, nat_le, if◌then◌else◌, codes}
 use Rattle.std.specs.Str.{bytes_eq}
 use Rattle.std.specs.List.{list_all}
 use Rattle.mc_command.specs.Words.{is_nonempty}
 use Rattle.mc_command.specs.Numbers.{number_up_to}
+use Rattle.mc_command.specs.Commands.{steps}
 use Rattle.mc_command.specs.declared.command.Command.{Command}
 use Rattle.mc_command.specs.declared.command.Command.TheVariants.{Get, GetTouch, Touch, Delete, Count, FlushAll, Version, Quit}
 use Rattle.mc_command.specs.declared.step.Verb.{Verb}
 use Rattle.mc_command.specs.declared.step.Verb.TheVariants.{Set, Add, Replace, Append, Prepend}
+use Rattle.mc_command.specs.declared.step.KeyStep.{KeyStep}
+use Rattle.mc_command.specs.declared.step.KeyStep.TheVariants.{Store as StoreStep, Cas as CasStep, Read as ReadStep, ReadTouch as ReadTouchStep, Touch as TouchStep, Delete as DeleteStep, Count as CountStep, Flush as FlushStep}
 use Rattle.mc_command.specs.declared.fault.LineFault.{LineFault}
 use Rattle.mc_command.specs.declared.fault.LineFault.TheVariants.{Unknown, BadFormat, BadDelta, TooLarge}
 use Rattle.mc_parse.specs.declared.line.Line.{Line}
@@ -178,3 +181,26 @@ meaning greatest [] = Err Unknown
 meaning greatest (word ∷ args) = do
   name ← formed Unknown (name_of word)
   named_line greatest name args
+
+-- a run of bytes other than the space and the line feed
+abbrev pub IsWord : List ℕ → Type 0
+IsWord word = (0 < length word) × All (λ b. (b ≢ 32) × (b ≢ 10)) word
+
+-- such a run of at most 250 bytes
+abbrev pub IsKey : List ℕ → Type 0
+IsKey key = IsWord key × (length key ≤ 250)
+
+-- this holds of the step's key; a flush has none
+abbrev pub IsKeyed : (List ℕ → Type 0) → KeyStep → Type 0
+IsKeyed P (StoreStep verb key flags exptime block) = P key
+IsKeyed P (CasStep key flags exptime block unique) = P key
+IsKeyed P (ReadStep key) = P key
+IsKeyed P (ReadTouchStep key exptime) = P key
+IsKeyed P (TouchStep key exptime) = P key
+IsKeyed P (DeleteStep key) = P key
+IsKeyed P (CountStep key up by) = P key
+IsKeyed P (FlushStep delay) = Unit {0}
+
+-- this holds of each key of the command
+abbrev pub HasKeys : (List ℕ → Type 0) → Command → Type 0
+HasKeys P command = All (IsKeyed P) (steps command)

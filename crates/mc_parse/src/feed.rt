@@ -1,5 +1,6 @@
 ghost use Rattle.std.specs.Prelude.{◌≡◌, ◌≤◌, ◌-◌, [], drop, length, IsTrue};
 
+use crate::cursor::{Cursor, cursor_after};
 use crate::peek::{Peek, peek_at};
 use mc_command::LineFault;
 use std::alloc::{AllocError, Global};
@@ -16,6 +17,8 @@ pub struct Feed {
     buffer: Vec<u8>,
     /// How many bytes of the buffer were read.
     start: usize,
+    /// Where the retrieval stands that the unread bytes begin with, if turns of it were noted.
+    cursor: Option<Cursor>,
 }
 
 impl Model for Feed {
@@ -26,7 +29,7 @@ impl Model for Feed {
 
     ghost view = { λ f. record { greatest = f.greatest; passed = f.passed; bytes = drop f.start f.buffer.items } };
 
-    ghost invariant = { λ f. IsKept f.passed f.start f.buffer.items };
+    ghost invariant = { λ f. IsKept f.greatest f.passed f.start f.cursor f.buffer.items };
 }
 
 impl Feed {
@@ -48,6 +51,7 @@ impl Feed {
             passed: 0,
             buffer: Vec::new(alloc),
             start: 0,
+            cursor: None,
         }
     }
 
@@ -81,8 +85,7 @@ impl Feed {
         if self.passed > 0 {
             return Peek::More;
         }
-        let (_, unread) = self.buffer.as_slice().split_at(self.start);
-        peek_at(self.greatest, unread)
+        peek_at(self.greatest, self.unread())
     }
 
     /// The same after `taken` turns of the first unit: of a retrieval, the retrieval of the keys that are left. Where
@@ -92,13 +95,22 @@ impl Feed {
         ensures none { unit_of result ≡ None → BeginsWithNone self.now.greatest (drop self.now.passed self.now.bytes) }
         ensures keys { (command : Command) (len : ℕ) → unit_of result ≡ Some (Request command, len) → HasShortKeys command }
     {
-        Peek::More
+        if taken == 0 || self.passed > 0 {
+            return self.peek();
+        }
+        let unread = self.unread();
+        match cursor_after(self.cursor, self.greatest, unread, taken) {
+            Some(cursor) => cursor.peek(unread),
+            None => self.peek(),
+        }
     }
 
     /// Notes that `taken` turns of the first unit were taken, so that `peek_after` finds the next one at once.
     pub fn mark(&mut self, taken: usize)
         ensures { self.new ≡ self.old }
     {
+        let cursor = cursor_after(self.cursor, self.greatest, self.unread(), taken);
+        self.cursor = cursor;
     }
 
     /// Passes over the unit that the unread bytes begin with, which `peek` found to be spelled by `len` bytes. The bytes
@@ -119,6 +131,7 @@ impl Feed {
         requires { len ≤ length self.old.bytes }
         ensures { self.new ≡ read self.old len passed }
     {
+        self.cursor = None;
         let left = self.buffer.len() - self.start - len;
         let dropped = passed.min(left as u64);
         self.passed = passed - dropped;
@@ -136,6 +149,7 @@ impl Feed {
         empty(&mut self.buffer, self.alloc);
         self.start = 0;
         self.passed = 0;
+        self.cursor = None;
     }
 
     /// How many bytes are unread. Bytes that are passed over are never held.
@@ -143,6 +157,14 @@ impl Feed {
         ensures { result ≡ length self.now.bytes }
     {
         self.buffer.len() - self.start
+    }
+
+    /// The bytes that came and weren't read.
+    fn unread(&self) -> &[u8]
+        ensures { result.now ≡ self.now.bytes }
+    {
+        let (_, unread) = self.buffer.as_slice().split_at(self.start);
+        unread
     }
 }
 

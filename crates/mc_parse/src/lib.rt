@@ -1,6 +1,7 @@
 //! Partial input as lent commands.
 #![tactic(auto)]
 
+mod cursor;
 mod exptime;
 mod feed;
 mod laws;

@@ -1,9 +1,12 @@
-ghost use Rattle.std.specs.Prelude.{◌≡◌, [], ◌∷◌, Err};
+ghost use Rattle.std.specs.Prelude.{◌≡◌, ◌-◌, ◌^◌, [], ◌∷◌};
 ghost use Rattle.std.specs.Result.{MatchResult};
 ghost use Rattle.mc_command.specs.Words.{words};
-ghost use Rattle.mc_command.specs.declared.fault.LineFault.TheVariants.{Unknown, BadFormat, BadDelta};
+ghost use Rattle.mc_command.specs.Numbers.{number_up_to};
+ghost use Rattle.mc_command.specs.declared.fault.LineFault.TheVariants.{Unknown, BadFormat};
+ghost use Rattle.mc_parse.specs.Exptimes.{exptime_of};
 ghost use Rattle.mc_parse.specs.Lines.{
   meaning,
+  formed,
   key_formed,
   keys_formed,
   ending,
@@ -63,7 +66,7 @@ const LONGEST_BLOCK: u64 = 2147483645;
 pub fn line_of(greatest: u64, text: &[u8]) -> Result<Line<'_>, LineFault>
     ensures { result ≡ meaning greatest (words text.now) }
 {
-    let (name, args) = first_word(text).ok_or(LineFault::Unknown)?;
+    let (name, args) = next_word(text)?;
     match name_of(name).ok_or(LineFault::Unknown)? {
         Name::Store(verb) => store_line(greatest, verb, args),
         Name::Cas => cas_line(greatest, args),
@@ -81,22 +84,22 @@ pub fn line_of(greatest: u64, text: &[u8]) -> Result<Line<'_>, LineFault>
 fn store_line(greatest: u64, verb: Verb, args: &[u8]) -> Result<Line<'_>, LineFault>
     ensures { result ≡ store_line greatest verb (words args.now) }
 {
-    let (key, rest) = first_word(args).ok_or(LineFault::Unknown)?;
-    let (flags, rest) = first_word(rest).ok_or(LineFault::Unknown)?;
-    let (exptime, rest) = first_word(rest).ok_or(LineFault::Unknown)?;
-    let (bytes, rest) = first_word(rest).ok_or(LineFault::Unknown)?;
+    let (key, rest) = next_word(args)?;
+    let (flags, rest) = next_word(rest)?;
+    let (exptime, rest) = next_word(rest)?;
+    let (bytes, rest) = next_word(rest)?;
     let quiet = ending(rest)?;
-    let key_bytes = key_formed(key)?;
-    let flags = number_up_to(u64::from(u32::MAX), flags).ok_or(LineFault::BadFormat)? as u32;
-    let exptime = exptime_of(exptime).ok_or(LineFault::BadFormat)?;
-    let len = number_up_to(LONGEST_BLOCK, bytes).ok_or(LineFault::BadFormat)? as u32;
+    let key = key_formed(key)?;
+    let flags = flags_formed(flags)?;
+    let exptime = exptime_formed(exptime)?;
+    let len = bytes_formed(bytes)?;
     fitting(
         greatest,
-        key,
+        key.as_slice(),
         len,
         Head::Store {
             verb,
-            key: key_bytes,
+            key,
             flags,
             exptime,
             quiet,
@@ -107,42 +110,29 @@ fn store_line(greatest: u64, verb: Verb, args: &[u8]) -> Result<Line<'_>, LineFa
 fn cas_line(greatest: u64, args: &[u8]) -> Result<Line<'_>, LineFault>
     ensures { result ≡ cas_line greatest (words args.now) }
 {
-    let (key, rest) = first_word(args).ok_or(LineFault::Unknown)?;
-    let (flags, rest) = first_word(rest).ok_or(LineFault::Unknown)?;
-    let (exptime, rest) = first_word(rest).ok_or(LineFault::Unknown)?;
-    let (bytes, rest) = first_word(rest).ok_or(LineFault::Unknown)?;
-    let (unique, rest) = first_word(rest).ok_or(LineFault::Unknown)?;
+    let (key, rest) = next_word(args)?;
+    let (flags, rest) = next_word(rest)?;
+    let (exptime, rest) = next_word(rest)?;
+    let (bytes, rest) = next_word(rest)?;
+    let (unique, rest) = next_word(rest)?;
     let quiet = ending(rest)?;
-    let key_bytes = key_formed(key)?;
-    let flags = number_up_to(u64::from(u32::MAX), flags).ok_or(LineFault::BadFormat)? as u32;
-    let exptime = exptime_of(exptime).ok_or(LineFault::BadFormat)?;
-    let len = number_up_to(LONGEST_BLOCK, bytes).ok_or(LineFault::BadFormat)? as u32;
+    let key = key_formed(key)?;
+    let flags = flags_formed(flags)?;
+    let exptime = exptime_formed(exptime)?;
+    let len = bytes_formed(bytes)?;
     let unique = number_up_to(u64::MAX, unique).ok_or(LineFault::BadFormat)?;
     fitting(
         greatest,
-        key,
+        key.as_slice(),
         len,
         Head::Cas {
-            key: key_bytes,
+            key,
             flags,
             exptime,
             unique,
             quiet,
         },
     )
-}
-
-/// The line of a block of `len` bytes, unless its item would be too large.
-fn fitting<'a>(greatest: u64, key: &[u8], len: u32, head: Head<'a>) -> Result<Line<'a>, LineFault>
-    ensures { result ≡ fitting greatest key.now len head.entry }
-{
-    if 48 + key.len() as u64 + u64::from(len) <= greatest {
-        Ok(Line::Block(head, len))
-    } else {
-        Err(LineFault::TooLarge {
-            passed: u64::from(len) + 2,
-        })
-    }
 }
 
 fn get_line(with_unique: bool, args: &[u8]) -> Result<Line<'_>, LineFault>
@@ -155,9 +145,9 @@ fn get_line(with_unique: bool, args: &[u8]) -> Result<Line<'_>, LineFault>
 fn get_touch_line(with_unique: bool, args: &[u8]) -> Result<Line<'_>, LineFault>
     ensures { result ≡ get_touch_line with_unique (words args.now) }
 {
-    let (exptime, rest) = first_word(args).ok_or(LineFault::Unknown)?;
+    let (exptime, rest) = next_word(args)?;
     let keys = keys_formed(rest)?;
-    let exptime = exptime_of(exptime).ok_or(LineFault::BadFormat)?;
+    let exptime = exptime_formed(exptime)?;
     Ok(Line::Bare(Command::GetTouch {
         exptime,
         keys,
@@ -168,11 +158,11 @@ fn get_touch_line(with_unique: bool, args: &[u8]) -> Result<Line<'_>, LineFault>
 fn touch_line(args: &[u8]) -> Result<Line<'_>, LineFault>
     ensures { result ≡ touch_line (words args.now) }
 {
-    let (key, rest) = first_word(args).ok_or(LineFault::Unknown)?;
-    let (exptime, rest) = first_word(rest).ok_or(LineFault::Unknown)?;
+    let (key, rest) = next_word(args)?;
+    let (exptime, rest) = next_word(rest)?;
     let quiet = ending(rest)?;
     let key = key_formed(key)?;
-    let exptime = exptime_of(exptime).ok_or(LineFault::BadFormat)?;
+    let exptime = exptime_formed(exptime)?;
     Ok(Line::Bare(Command::Touch {
         key,
         exptime,
@@ -183,7 +173,7 @@ fn touch_line(args: &[u8]) -> Result<Line<'_>, LineFault>
 fn delete_line(args: &[u8]) -> Result<Line<'_>, LineFault>
     ensures { result ≡ delete_line (words args.now) }
 {
-    let (key, rest) = first_word(args).ok_or(LineFault::Unknown)?;
+    let (key, rest) = next_word(args)?;
     let quiet = delete_ending(rest)?;
     let key = key_formed(key)?;
     Ok(Line::Bare(Command::Delete { key, quiet }))
@@ -192,8 +182,8 @@ fn delete_line(args: &[u8]) -> Result<Line<'_>, LineFault>
 fn count_line(up: bool, args: &[u8]) -> Result<Line<'_>, LineFault>
     ensures { result ≡ count_line up (words args.now) }
 {
-    let (key, rest) = first_word(args).ok_or(LineFault::Unknown)?;
-    let (value, rest) = first_word(rest).ok_or(LineFault::Unknown)?;
+    let (key, rest) = next_word(args)?;
+    let (value, rest) = next_word(rest)?;
     let quiet = ending(rest)?;
     let key = key_formed(key)?;
     let by = number_up_to(u64::MAX, value).ok_or(LineFault::BadDelta)?;
@@ -210,6 +200,7 @@ fn flush_line(args: &[u8]) -> Result<Line<'_>, LineFault>
         }));
     };
     let quiet = ending(rest)?;
+    // Of two words the first is the delay, whatever it is.
     if !quiet && word == b"noreply".as_slice() {
         return Ok(Line::Bare(Command::FlushAll {
             delay: 0,
@@ -220,6 +211,7 @@ fn flush_line(args: &[u8]) -> Result<Line<'_>, LineFault>
     Ok(Line::Bare(Command::FlushAll { delay, quiet }))
 }
 
+/// The line of a command that is its name alone.
 fn lone_line<'a>(command: Command<'a>, args: &[u8]) -> Result<Line<'a>, LineFault>
     ensures { result ≡ lone_line command.entry (words args.now) }
 {
@@ -229,13 +221,38 @@ fn lone_line<'a>(command: Command<'a>, args: &[u8]) -> Result<Line<'a>, LineFaul
     }
 }
 
-/// The end of a line that may be `noreply`.
+/// A word that has to stand, and what follows it.
+fn next_word(text: &[u8]) -> Result<(&[u8], &[u8]), LineFault>
+    ensures { MatchResult result (λ p. words text.now ≡ p.0.now ∷ words p.1.now) (λ fault. (fault ≡ Unknown) × (words text.now ≡ [])) }
+{
+    first_word(text).ok_or(LineFault::Unknown)
+}
+
+/// The end of a line: nothing, or `noreply`, which makes the command quiet.
 fn ending(args: &[u8]) -> Result<bool, LineFault>
     ensures { result ≡ ending (words args.now) }
 {
-    let Some((word, rest)) = first_word(args) else {
-        return Ok(false);
-    };
+    match first_word(args) {
+        None => Ok(false),
+        Some((word, rest)) => noreply(word, rest),
+    }
+}
+
+/// The same for a delete, which may have a 0 before it.
+fn delete_ending(args: &[u8]) -> Result<bool, LineFault>
+    ensures { result ≡ delete_ending (words args.now) }
+{
+    match first_word(args) {
+        None => Ok(false),
+        Some((word, rest)) if word == b"0".as_slice() => ending(rest),
+        Some((word, rest)) => noreply(word, rest),
+    }
+}
+
+/// The end of a line that goes on with a word, which has to be `noreply` and the last.
+fn noreply(word: &[u8], rest: &[u8]) -> Result<bool, LineFault>
+    ensures { result ≡ ending (word.now ∷ words rest.now) }
+{
     if word == b"noreply".as_slice() && first_word(rest).is_none() {
         Ok(true)
     } else {
@@ -243,13 +260,17 @@ fn ending(args: &[u8]) -> Result<bool, LineFault>
     }
 }
 
-/// The end of a delete, which may have a 0 before the `noreply`.
-fn delete_ending(args: &[u8]) -> Result<bool, LineFault>
-    ensures { result ≡ delete_ending (words args.now) }
+/// The line of a head whose block has `len` bytes, unless its item would be charged more than `greatest`.
+fn fitting<'a>(greatest: u64, key: &[u8], len: u32, head: Head<'a>) -> Result<Line<'a>, LineFault>
+    ensures { result ≡ fitting greatest key.now len head.entry }
 {
-    match first_word(args) {
-        Some((word, rest)) if word == b"0".as_slice() => ending(rest),
-        _ => ending(args),
+    let len_wide = u64::from(len);
+    if 48 + key.len() as u64 + len_wide <= greatest {
+        Ok(Line::Block(head, len))
+    } else {
+        Err(LineFault::TooLarge {
+            passed: len_wide + 2,
+        })
     }
 }
 
@@ -263,12 +284,12 @@ fn key_formed(word: &[u8]) -> Result<Bytes<'_>, LineFault>
     }
 }
 
-/// The keys that the words of a text are, counted as they are tested.
-fn keys_formed(args: &[u8]) -> Result<Keys<'_>, LineFault>
-    ensures { result ≡ keys_formed (words args.now) }
+/// The keys that the words of a text are, at least one. They are tested and counted in one walk.
+fn keys_formed(text: &[u8]) -> Result<Keys<'_>, LineFault>
+    ensures { result ≡ keys_formed (words text.now) }
 {
     let mut count: usize = 0;
-    for word in Words::of(args) {
+    for word in Words::of(text) {
         if !is_key(word) {
             return Err(LineFault::BadFormat);
         }
@@ -277,12 +298,40 @@ fn keys_formed(args: &[u8]) -> Result<Keys<'_>, LineFault>
     if count == 0 {
         return Err(LineFault::Unknown);
     }
-    Ok(Keys::counted(args, count))
+    Ok(Keys::counted(text, count))
 }
 
-/// A word of a line holds no space and no line feed, so its length alone is asked.
+/// A word of a line holds no space and no line feed, so its length is all that is asked.
 fn is_key(word: &[u8]) -> bool
     ensures { result ≡ is_key word.now }
 {
     !word.is_empty() && word.len() <= LONGEST_KEY
 }
+
+fn flags_formed(word: &[u8]) -> Result<u32, LineFault>
+    ensures { result ≡ formed BadFormat (number_up_to (2 ^ 32 - 1) word.now) }
+{
+    match number_up_to(u64::from(u32::MAX), word) {
+        Some(flags) => Ok(flags as u32),
+        None => Err(LineFault::BadFormat),
+    }
+}
+
+/// The length of a block.
+fn bytes_formed(word: &[u8]) -> Result<u32, LineFault>
+    ensures { result ≡ formed BadFormat (number_up_to 2147483645 word.now) }
+{
+    match number_up_to(LONGEST_BLOCK, word) {
+        Some(len) => Ok(len as u32),
+        None => Err(LineFault::BadFormat),
+    }
+}
+
+fn exptime_formed(word: &[u8]) -> Result<i64, LineFault>
+    ensures { result ≡ formed BadFormat (exptime_of word.now) }
+{
+    exptime_of(word).ok_or(LineFault::BadFormat)
+}
+
+#[cfg(test)]
+mod tests;

@@ -45,8 +45,17 @@ impl Numbers {
         self.start = itoa::write_digits(number, &mut self.bytes, self.start);
     }
 
-    /// Puts a space before the text.
-    pub fn put_space(&mut self)
+    /// Puts a space and the digits of a number before the text.
+    pub fn put_word(&mut self, number: u64)
+        requires room { length self.old + 21 ≤ 65 }
+        ensures text { self.new ≡ codes " " ++ decimal number ++ self.old }
+        ensures length { length self.new ≤ length self.old + 21 }
+    {
+        self.put_number(number);
+        self.put_space();
+    }
+
+    fn put_space(&mut self)
         requires room { length self.old + 1 ≤ 65 }
         ensures { self.new ≡ codes " " ++ self.old }
     {

@@ -1,12 +1,12 @@
-ghost use Rattle.std.specs.Prelude.{◌≡◌, ◌++◌, ◌<◌, take, length, codes, OnOk, OnErr};
+ghost use Rattle.std.specs.Prelude.{◌≡◌, ◌++◌, ◌<◌, ◌+◌, take, length, codes, vec_capacity, OnOk, OnErr};
 ghost use Rattle.mc_reply.specs.Texts.{retrieval_text, end_text};
 
 use crate::numbers::Numbers;
 use mc_command::{Keys, Reply};
 use std::alloc::AllocError;
 
-/// Appends what a retrieval tells of key `at`, and `END` after the last. Only a hit reads the key. Refused, the vector
-/// is unchanged.
+/// Appends what a retrieval tells of key `at`, and `END` after the last. Only a hit reads the key. It is refused as
+/// `write` is.
 pub(crate) fn write_retrieval(
     keys: &Keys<'_>,
     with_unique: bool,
@@ -17,6 +17,7 @@ pub(crate) fn write_retrieval(
     requires { at < length keys.now }
     ensures ok { OnOk result (out.new.items ≡ out.old.items ++ retrieval_text keys.now with_unique at reply.now) }
     ensures err { OnErr result (out.new.items ≡ out.old.items) }
+    ensures full { OnErr result (vec_capacity out.old < length out.old.items + length (retrieval_text keys.now with_unique at reply.now)) }
 {
     let end = end_of(keys.len(), at);
     let Reply::Hit {
@@ -32,14 +33,11 @@ pub(crate) fn write_retrieval(
     };
     let mut numbers = Numbers::new();
     if with_unique {
-        numbers.put_number(*unique);
-        numbers.put_space();
+        numbers.put_word(*unique);
     }
     let block = block.bytes();
-    numbers.put_number(block.len() as u64);
-    numbers.put_space();
-    numbers.put_number(*flags as u64);
-    numbers.put_space();
+    numbers.put_word(block.len() as u64);
+    numbers.put_word(*flags as u64);
     let before = out.len();
     let result = append_hit(key, numbers.as_slice(), block, end, out);
     if result.is_err() {
@@ -56,7 +54,8 @@ fn end_of(count: usize, at: usize) -> &'static [u8]
     if at + 1 == count { b"END\r\n" } else { b"" }
 }
 
-/// Appends the parts of a hit, with room for all of them made once.
+/// Appends the parts of a hit, with room for all of them made once. What a refusal leaves behind the old text is the
+/// caller's to drop.
 fn append_hit(
     key: &[u8],
     numbers: &[u8],
@@ -66,6 +65,7 @@ fn append_hit(
 ) -> Result<(), AllocError>
     ensures ok { OnOk result (out.new.items ≡ out.old.items ++ codes "VALUE " ++ key.now ++ numbers.now ++ block.now ++ codes "\r\n" ++ end.now) }
     ensures err { OnErr result (take (length out.old.items) out.new.items ≡ out.old.items) }
+    ensures full { OnErr result (vec_capacity out.old < length out.old.items + length (codes "VALUE " ++ key.now ++ numbers.now ++ block.now ++ codes "\r\n" ++ end.now)) }
 {
     let room = key
         .len()

@@ -64,7 +64,7 @@ abbrev pub moved : SessionState → ProtocolUnit → List ℕ → List ℕ → S
 moved s unit rest text =
     if is_last unit then closed (record s { out = s.out ++ text })
     else if s.taken + 1 == turn_count unit then
-      record s { unread = settled (record { greatest = s.unread.greatest; passed = passed_after unit; bytes = rest }); taken = 0; out = s.out ++ text }
+    record s { unread = settled (record { greatest = s.unread.greatest; passed = passed_after unit; bytes = rest }); taken = 0; out = s.out ++ text }
     else record s { taken = s.taken + 1; out = s.out ++ text }
 
 -- the next turn of the session's stream was taken at a moment, with a store

@@ -13,6 +13,7 @@ pub trait Clock {
 }
 
 /// A clock that stands at its moment.
+#[derive(Clone, Copy)]
 pub struct Fixed(pub Moment);
 
 impl Clock for Fixed {

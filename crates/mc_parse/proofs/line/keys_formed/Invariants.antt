@@ -7,5 +7,5 @@ use Rattle.mc_parse.proofs.line.keys_formed.Given as goal
 -- the words that are left, of which the others were tested and counted
 abbrev pub invariant-loop-word : goal.invariant-loop-word
 invariant-loop-word l =
-    (l.count + length l.word-iterator ≡ length (words l.fn.args)) ×
-    (list_all is_key (words l.fn.args) ≡ list_all is_key l.word-iterator)
+    (l.count + length l.word-iterator ≡ length (words l.fn.text)) ×
+    (list_all is_key (words l.fn.text) ≡ list_all is_key l.word-iterator)

@@ -1,0 +1,195 @@
+#!/usr/bin/env python3
+"""Measures the built program on pipelined input through --stdin.
+
+Inputs are made beforehand and lie in files, and outputs go to files. Each figure is the median of
+several runs of a fresh process. It is no test: nothing here fails for being slow.
+
+    bench/bench.py [--program PATH] [--runs N] [--commands N] [--only WORD]
+"""
+import argparse
+import os
+import statistics
+import sys
+import tempfile
+
+ROOT = os.path.dirname(os.path.dirname(os.path.realpath(__file__)))
+sys.path.insert(0, f"{ROOT}/tests")
+
+import measure  # noqa: E402
+
+ARGS = ["--stdin", "--now", "1000"]
+SECONDS = 300
+VALUE = b"v" * 100
+KEYS = 1000
+MEGA = 1_000_000
+
+
+def key(number):
+    """A key of 32 bytes."""
+    return b"key-%028d" % number
+
+
+def stored(verb, name, block=VALUE, more=b""):
+    return b"%s %s 0 0 %d%s\r\n%s\r\n" % (verb, name, len(block), more, block)
+
+
+def preload(block=VALUE):
+    return b"".join(stored(b"set", key(it), block, b" noreply") for it in range(KEYS))
+
+
+# ---- inputs: each gives what goes before, and then so many commands
+
+
+def sets(count):
+    return b"", [stored(b"set", key(it % KEYS)) for it in range(count)]
+
+
+def new_keys(count):
+    return b"", [stored(b"set", key(it)) for it in range(count)]
+
+
+def gets(count):
+    return preload(), [b"get %s\r\n" % key(it % KEYS) for it in range(count)]
+
+
+def misses(count):
+    return preload(), [b"get %s\r\n" % key(KEYS + it % KEYS) for it in range(count)]
+
+
+def adds(count):
+    return preload(), [stored(b"add", key(it % KEYS)) for it in range(count)]
+
+
+def appends(count):
+    pairs = [(stored(b"set", key(it % KEYS)), stored(b"append", key(it % KEYS))) for it in range(count // 2)]
+    return b"", [it for pair in pairs for it in pair]
+
+
+def swaps(count):
+    # the write number n of a store draws the unique number n
+    return preload(), [stored(b"cas", key(it % KEYS), more=b" %d" % (it + 1)) for it in range(count)]
+
+
+def increments(count):
+    return preload(b"0"), [b"incr %s 7\r\n" % key(it % KEYS) for it in range(count)]
+
+
+def touches(count):
+    return preload(), [b"touch %s 100\r\n" % key(it % KEYS) for it in range(count)]
+
+
+def touching_gets(count):
+    return preload(), [b"gat 100 %s\r\n" % key(it % KEYS) for it in range(count)]
+
+
+def deletes(count):
+    pairs = [(stored(b"set", key(it % KEYS)), b"delete %s\r\n" % key(it % KEYS)) for it in range(count // 2)]
+    return b"", [it for pair in pairs for it in pair]
+
+
+COMMANDS = {
+    "set": sets,
+    "set of new keys": new_keys,
+    "get": gets,
+    "get of nothing": misses,
+    "add, refused": adds,
+    "set and append": appends,
+    "cas": swaps,
+    "incr": increments,
+    "touch": touches,
+    "gat": touching_gets,
+    "set and delete": deletes,
+}
+
+
+# ---- runs
+
+
+class Bench:
+    def __init__(self, program, runs):
+        self.program, self.runs = program, runs
+
+    def run(self, stream, to_file=True):
+        """Of several runs the median seconds, those of the processor, the bytes written and the most memory."""
+        seconds, processor, memory, wrote = [], [], 0, 0
+        with tempfile.TemporaryFile() as given:
+            given.write(stream)
+            for _ in range(self.runs):
+                with tempfile.TemporaryFile() if to_file else open(os.devnull, "wb") as out:
+                    given.seek(0)
+                    found = measure.run([self.program, *ARGS], SECONDS, given, out)
+                    if found["status"] != 0:
+                        sys.exit(f"the program ended with status {found['status']}")
+                    seconds.append(found["seconds"])
+                    processor.append(found["processor"])
+                    memory = max(memory, found["memory"])
+                    wrote = os.fstat(out.fileno()).st_size
+        return statistics.median(seconds), statistics.median(processor), wrote, memory
+
+    def rates(self, counts, only):
+        print("Time over input says by how much the processor's time grew, over how much the input did, since the row above.\n")
+        print(f"{'commands':<17}{'number':>9}{'seconds':>9}{'processor':>11}{'a second':>12}{'MB/s in':>9}{'MB/s out':>9}  time over input")
+        for name, make in COMMANDS.items():
+            if only not in name:
+                continue
+            last = None
+            for count in counts:
+                before, commands = make(count)
+                stream = before + b"".join(commands)
+                seconds, processor, wrote, _ = self.run(stream)
+                size = len(stream)
+                growth = f"{processor / last[0] / (size / last[1]):.2f}" if last else ""
+                last = max(processor, 1e-9), size
+                shown = f"{len(commands) / seconds:>12,.0f}{size / MEGA / seconds:>9.1f}{wrote / MEGA / seconds:>9.1f}"
+                print(f"{name:<17}{len(commands):>9,}{seconds:>9.3f}{processor:>11.3f}{shown}  {growth}", flush=True)
+
+    def lines(self, keys):
+        """What a key costs in lines of more and more of them, all keys being hits."""
+        names = [b"k%d" % it for it in range(10_000)]
+        before = b"".join(stored(b"set", it, more=b" noreply") for it in names)
+        _, idle, _, _ = self.run(before)
+        print(f"\n{'keys in a line':<17}{'lines':>9}{'seconds':>9}{'ns a key':>12}  against the cheapest (of the processor's time)")
+        found = []
+        for each in [1, 10, 100, 1000, 10_000]:
+            lines = max(keys // each, 1)
+            asked = [names[it % len(names)] for it in range(lines * each)]
+            made = [b"get " + b" ".join(asked[it * each : (it + 1) * each]) + b"\r\n" for it in range(lines)]
+            seconds, processor, _, _ = self.run(before + b"".join(made))
+            found.append((each, lines, seconds, max(processor - idle, 0) / (lines * each) * 1e9))
+        least = min(it[3] for it in found) or 1
+        for each, lines, seconds, cost in found:
+            print(f"{each:<17,}{lines:>9,}{seconds:>9.3f}{cost:>12.0f}  {cost / least:.2f}", flush=True)
+
+    def memory(self):
+        print(f"\n{'the most memory':<45}{'MB in':>9}{'MB of memory':>14}")
+        one = stored(b"set", b"big", b"b" * MEGA)
+        count = 50 * MEGA // len(stored(b"set", key(0)))
+        inputs = {
+            "nothing": b"",
+            "sets of 1,000 keys of 100 bytes": b"".join(sets(count)[1]),
+            "lines that are no command": b"no such command\r\n" * (50 * MEGA // 17),
+            "one block that is too large": b"set a 0 0 %d\r\n" % (50 * MEGA) + b"x" * (50 * MEGA) + b"\r\n",
+            "1,000 gets of one item of 1 MB": one + b"get big\r\n" * 1000,
+        }
+        for name, stream in inputs.items():
+            _, _, _, memory = self.run(stream, to_file=False)
+            print(f"{name:<45}{len(stream) / MEGA:>9.1f}{memory / MEGA:>14.1f}", flush=True)
+
+
+def main():
+    parser = argparse.ArgumentParser(description=__doc__, formatter_class=argparse.RawDescriptionHelpFormatter)
+    parser.add_argument("--program", default=f"{ROOT}/crates/mc_server/out/mc_server")
+    parser.add_argument("--runs", type=int, default=5)
+    parser.add_argument("--commands", type=int, default=100_000, help="the least number; twice and four times it are measured too")
+    parser.add_argument("--only", default="", metavar="WORD", help="the commands whose names have this word, and nothing else")
+    given = parser.parse_args()
+    bench = Bench(os.path.abspath(given.program), given.runs)
+    bench.rates([given.commands * it for it in (1, 2, 4)], given.only)
+    if not given.only:
+        bench.lines(2 * given.commands)
+        bench.memory()
+    return 0
+
+
+if __name__ == "__main__":
+    sys.exit(main())

@@ -1,0 +1,184 @@
+-- What a step does to the items under other keys, and what it depends on.
+use Rattle.std.proofs.Common.{◌≡◌, ◌≢◌, ◌≤◌, ◌<◌, ◌+◌, ◌&&◌, ◌||◌, ℕ, Bool, true, false, cond, leb, ltb, eqb, List, Option, Some, None, refl, sym, ap, subst, ◌∙◌, arith}
+use Rattle.std.proofs.lemmas.Bool.{le-leb, leb-true, lt-ltb, ne_eqb, false_from_ne_true}
+use Rattle.std.specs.Prelude.{is_some}
+use Rattle.std.specs.Cmp.Lexicographic.{nat_list_cmp_total}
+use Rattle.std.specs.FinMap.{get, insert, remove, get-insert, get-remove, get-retain_keys, get-empty}
+use Rattle.mc_time.specs.declared.expiry.Expiry.{Expiry}
+use Rattle.mc_time.specs.declared.expiry.Expiry.TheVariants.{Never, At}
+use Rattle.mc_time.specs.Death.{is_dead, is_expired, is_flushed, moment_named, expiry_of}
+use Rattle.mc_command.specs.declared.reply.Reply.{Reply}
+use Rattle.mc_command.specs.declared.reply.Reply.TheVariants.{TooLarge}
+use Rattle.mc_command.specs.declared.step.KeyStep.{KeyStep}
+use Rattle.mc_command.specs.declared.step.KeyStep.TheVariants.{Store, Cas, Read, ReadTouch, Touch, Delete, Count, Flush}
+use Rattle.mc_command.specs.Commands.{key_of}
+use Rattle.mc_command.specs.Plain.{Plain, Entry, Items, Row, Outcome, Change, Leaves, Writes, Expires, Removes, Answered, Spent, plain, applied, changed, charge, written, without_dead, standing, alive, living, flushed, store_row, cas_row, read_row, read_touch_row, touch_row, delete_row, count_row}
+use Rattle.mc_command.specs.Laws.{IsOnKey, AgreeAt, AgreeAfter}
+use Rattle.mc_command.proofs.ItemLemmas.{bytes_cmp, same_bytes, laws, exact, is_equal}
+
+-- other bytes
+other_bytes : (other key : List ℕ) → other ≢ key → same_bytes other key ≡ false
+other_bytes other key ne = false_from_ne_true _ (λ h. ne (exact other key (is_equal (bytes_cmp other key) h)))
+
+inserted_other : (items : Items) (key other : List ℕ) (item : Entry) → other ≢ key → get (insert items key item) other ≡ get items other
+inserted_other items key other item ne = get-insert nat_list_cmp_total items key item other ∙ ap (λ b. cond b (Some item) (get items other)) (other_bytes other key ne)
+
+removed_other : (items : Items) (key other : List ℕ) → other ≢ key → get (remove items key) other ≡ get items other
+removed_other items key other ne = get-remove nat_list_cmp_total items key other ∙ ap (λ b. cond b None (get items other)) (other_bytes other key ne)
+
+without_dead_other : (item : Option Entry) (key other : List ℕ) (old : Plain) → other ≢ key → get (without_dead item key old).items other ≡ get old.items other
+without_dead_other None key other old ne = removed_other old.items key other ne
+without_dead_other (Some item) key other old ne = refl
+
+-- the state that an answer leaves has what the old one has at this key
+abbrev Keeps : Plain → List ℕ → Outcome → Type 0
+Keeps old other (Answered reply new) = get new.items other ≡ get old.items other
+Keeps old other Spent = Unit {0}
+
+write_keeps : (too_large spent : Bool) (reply : Reply) (old new : Plain) (other : List ℕ) → get new.items other ≡ get old.items other → Keeps old other (cond too_large (Answered TooLarge old) (cond spent Spent (Answered reply new)))
+write_keeps true spent reply old new other h = refl
+write_keeps false true reply old new other h = tt
+write_keeps false false reply old new other h = h
+
+changed_keeps : (reply : Reply) (change : Change) (key : List ℕ) (old : Plain) (now : ℕ) (other : List ℕ) → other ≢ key → Keeps old other (changed reply change key old now)
+changed_keeps reply Leaves key old now other ne = refl
+changed_keeps reply (Writes flags expiry block) key old now other ne =
+    write_keeps (ltb old.greatest (charge key block)) (eqb old.next_unique 18446744073709551615) reply old (written old key flags expiry block now) other (inserted_other old.items key other _ ne)
+changed_keeps reply (Expires item expiry) key old now other ne = inserted_other old.items key other _ ne
+changed_keeps reply Removes key old now other ne = removed_other old.items key other ne
+
+keeps_from : (outcome : Outcome) (mid old new : Plain) (reply : Reply) (other : List ℕ) → Keeps mid other outcome → get mid.items other ≡ get old.items other → outcome ≡ Answered reply new → get new.items other ≡ get old.items other
+keeps_from outcome mid old new reply other kept before is = subst (Keeps mid other) is kept ∙ before
+
+applied_keeps : (of : Option Entry → Row) (key : List ℕ) (old new : Plain) (now : ℕ) (reply : Reply) (other : List ℕ) → other ≢ key → applied of key old now ≡ Answered reply new → get new.items other ≡ get old.items other
+applied_keeps of key old new now reply other ne is =
+    let item = standing old key now in
+    let mid = without_dead item key old in
+    keeps_from (applied of key old now) mid old new reply other (changed_keeps (of item).0 (of item).1 key mid now other ne) (without_dead_other item key other old ne) is
+
+pub other_keys : (old new : Plain) (step : KeyStep) (now : ℕ) (reply : Reply) (other : List ℕ) → IsOnKey step → plain old step now ≡ Answered reply new → other ≢ key_of step → get new.items other ≡ get old.items other
+other_keys old new (Store verb key flags exptime block) now reply other on is ne = applied_keeps (store_row verb flags (expiry_of exptime now) block) key old new now reply other ne is
+other_keys old new (Cas key flags exptime block unique) now reply other on is ne = applied_keeps (cas_row flags (expiry_of exptime now) block unique) key old new now reply other ne is
+other_keys old new (Read key) now reply other on is ne = applied_keeps read_row key old new now reply other ne is
+other_keys old new (ReadTouch key exptime) now reply other on is ne = applied_keeps (read_touch_row (expiry_of exptime now)) key old new now reply other ne is
+other_keys old new (Touch key exptime) now reply other on is ne = applied_keeps (touch_row (expiry_of exptime now)) key old new now reply other ne is
+other_keys old new (Delete key) now reply other on is ne = applied_keeps delete_row key old new now reply other ne is
+other_keys old new (Count key up by) now reply other on is ne = applied_keeps (count_row up by) key old new now reply other ne is
+other_keys old new (Flush delay) now reply other on is ne = absurd on
+
+-- the same change at the same key of two states that agree there
+insert_agrees : (m n : Items) (key : List ℕ) (item : Entry) → get (insert m key item) key ≡ get (insert n key item) key
+insert_agrees m n key item =
+    get-insert nat_list_cmp_total m key item key ∙ ap (λ t. cond t (Some item) (get m key)) (laws.refl key)
+    ∙ sym (get-insert nat_list_cmp_total n key item key ∙ ap (λ t. cond t (Some item) (get n key)) (laws.refl key))
+
+remove_agrees : (m n : Items) (key : List ℕ) → get (remove m key) key ≡ get (remove n key) key
+remove_agrees m n key =
+    get-remove nat_list_cmp_total m key key ∙ ap (λ t. cond t None (get m key)) (laws.refl key)
+    ∙ sym (get-remove nat_list_cmp_total n key key ∙ ap (λ t. cond t None (get n key)) (laws.refl key))
+
+without_dead_agrees : (item : Option Entry) (key : List ℕ) (a b : Plain) → AgreeAt key a b → AgreeAt key (without_dead item key a) (without_dead item key b)
+without_dead_agrees None key a b same = record { item = remove_agrees a.items b.items key; cut = same.cut; next_unique = same.next_unique; greatest = same.greatest }
+without_dead_agrees (Some item) key a b same = same
+
+write_agrees : (too_large spent : Bool) (reply : Reply) (key : List ℕ) (a b new other : Plain) → AgreeAt key a b → AgreeAt key new other
+    → AgreeAfter key (cond too_large (Answered TooLarge a) (cond spent Spent (Answered reply new))) (cond too_large (Answered TooLarge b) (cond spent Spent (Answered reply other)))
+write_agrees true spent reply key a b new other same after = (refl, same)
+write_agrees false true reply key a b new other same after = tt
+write_agrees false false reply key a b new other same after = (refl, after)
+
+changed_agrees : (reply : Reply) (change : Change) (key : List ℕ) (a b : Plain) (now : ℕ) → AgreeAt key a b → AgreeAfter key (changed reply change key a now) (changed reply change key b now)
+changed_agrees reply Leaves key a b now same = (refl, same)
+changed_agrees reply (Writes flags expiry block) key a b now same =
+    let put : ℕ → Entry = λ n. record { flags = flags; expiry = expiry; block = block; unique = n; updated = now } in
+    let after : AgreeAt key (written a key flags expiry block now) (written b key flags expiry block now) = record {
+      item = insert_agrees a.items b.items key (put a.next_unique) ∙ ap (λ n. get (insert b.items key (put n)) key) same.next_unique;
+      cut = same.cut;
+      next_unique = ap (λ n. n + 1) same.next_unique;
+      greatest = same.greatest;
+    } in
+    subst (λ n. AgreeAfter key (changed reply (Writes flags expiry block) key a now) (cond (ltb n (charge key block)) (Answered TooLarge b) (cond (eqb b.next_unique 18446744073709551615) Spent (Answered reply (written b key flags expiry block now))))) same.greatest
+    (subst (λ n. AgreeAfter key (changed reply (Writes flags expiry block) key a now) (cond (ltb a.greatest (charge key block)) (Answered TooLarge b) (cond (eqb n 18446744073709551615) Spent (Answered reply (written b key flags expiry block now))))) same.next_unique
+    (write_agrees (ltb a.greatest (charge key block)) (eqb a.next_unique 18446744073709551615) reply key a b _ _ same after))
+changed_agrees reply (Expires item expiry) key a b now same =
+    (refl, record { item = insert_agrees a.items b.items key _; cut = same.cut; next_unique = same.next_unique; greatest = same.greatest })
+changed_agrees reply Removes key a b now same =
+    (refl, record { item = remove_agrees a.items b.items key; cut = same.cut; next_unique = same.next_unique; greatest = same.greatest })
+
+standing_agrees : (a b : Plain) (key : List ℕ) (now : ℕ) → AgreeAt key a b → standing a key now ≡ standing b key now
+standing_agrees a b key now same = ap (λ (o : Option Entry). alive a.cut now o) same.item ∙ ap (λ (c : Option ℕ). alive c now (get b.items key)) same.cut
+
+applied_agrees : (of : Option Entry → Row) (key : List ℕ) (a b : Plain) (now : ℕ) → AgreeAt key a b → AgreeAfter key (applied of key a now) (applied of key b now)
+applied_agrees of key a b now same =
+    subst (λ (item : Option Entry). AgreeAfter key (applied of key a now) (changed (of item).0 (of item).1 key (without_dead item key b) now)) (standing_agrees a b key now same)
+    (changed_agrees (of (standing a key now)).0 (of (standing a key now)).1 key _ _ now (without_dead_agrees (standing a key now) key a b same))
+
+pub one_key : (a b : Plain) (step : KeyStep) (now : ℕ) → IsOnKey step → AgreeAt (key_of step) a b → AgreeAfter (key_of step) (plain a step now) (plain b step now)
+one_key a b (Store verb key flags exptime block) now on same = applied_agrees (store_row verb flags (expiry_of exptime now) block) key a b now same
+one_key a b (Cas key flags exptime block unique) now on same = applied_agrees (cas_row flags (expiry_of exptime now) block unique) key a b now same
+one_key a b (Read key) now on same = applied_agrees read_row key a b now same
+one_key a b (ReadTouch key exptime) now on same = applied_agrees (read_touch_row (expiry_of exptime now)) key a b now same
+one_key a b (Touch key exptime) now on same = applied_agrees (touch_row (expiry_of exptime now)) key a b now same
+one_key a b (Delete key) now on same = applied_agrees delete_row key a b now same
+one_key a b (Count key up by) now on same = applied_agrees (count_row up by) key a b now same
+one_key a b (Flush delay) now on same = absurd on
+
+-- the dead stay dead
+later_true : (moment now later : ℕ) → now ≤ later → leb moment now ≡ true → leb moment later ≡ true
+later_true moment now later le h = let a = leb-true moment now h in le-leb moment later (omega arith)
+
+expired_later : (expiry : Expiry) (now later : ℕ) → now ≤ later → is_expired expiry now ≡ true → is_expired expiry later ≡ true
+expired_later Never now later le h = h
+expired_later (At moment) now later le h = later_true moment now later le h
+
+and_more : (a b c : Bool) → (a ≡ true → b ≡ true) → (a && c) ≡ true → (b && c) ≡ true
+and_more true b c more h = rw (more refl) h
+and_more false b c more h = cc
+
+flushed_later : (updated : ℕ) (cut : Option ℕ) (now later : ℕ) → now ≤ later → is_flushed updated cut now ≡ true → is_flushed updated cut later ≡ true
+flushed_later updated None now later le h = h
+flushed_later updated (Some moment) now later le h = and_more _ _ _ (later_true moment now later le) h
+
+or_more : (a b c d : Bool) → (a ≡ true → c ≡ true) → (b ≡ true → d ≡ true) → (a || b) ≡ true → (c || d) ≡ true
+or_more true b c d first second h = rw (first refl) refl
+or_more false b true d first second h = refl
+or_more false b false d first second h = second h
+
+pub dead_later : (expiry : Expiry) (updated : ℕ) (cut : Option ℕ) (now later : ℕ) → now ≤ later → is_dead expiry updated cut now ≡ true → is_dead expiry updated cut later ≡ true
+dead_later expiry updated cut now later le h = or_more _ _ _ _ (expired_later expiry now later le) (flushed_later updated cut now later le) h
+
+-- what a flush leaves
+left_is : (reply other : Reply) (old new : Plain) → Answered reply old ≡ Answered other new → old ≡ new
+left_is reply other old new is = cc
+
+pub flushed_once : (old new : Plain) (now : ℕ) (reply : Reply) (key : List ℕ) → plain old (Flush 0) now ≡ Answered reply new → get new.items key ≡ None
+flushed_once old new now reply key is = ap (λ (s : Plain). get s.items key) (sym (left_is _ _ _ _ is)) ∙ get-empty bytes_cmp key
+
+some_delay : (delay : ℕ) → 0 < delay → eqb delay 0 ≡ false
+some_delay delay some = ne_eqb delay 0 (omega arith)
+
+delayed_is : (delay now : ℕ) (old : Plain) → 0 < delay → flushed delay old now ≡ record old { items = living old.items old.cut now; cut = Some (moment_named delay now) }
+delayed_is delay now old some = let e = some_delay delay some in rw e refl
+
+kept_is : (cut : Option ℕ) (now : ℕ) (o : Option Entry) → cond (is_some (alive cut now o)) o None ≡ alive cut now o
+kept_is cut now None = refl
+kept_is cut now (Some item) =
+    elim (is_dead item.expiry item.updated cut now) as (λ b. cond (is_some (cond b None (Some item))) (Some item) None ≡ cond b None (Some item)) [ true ↦ refl | false ↦ refl ]
+
+pub flushed_kept : (old new : Plain) (delay now : ℕ) (reply : Reply) (key : List ℕ) → 0 < delay → plain old (Flush delay) now ≡ Answered reply new → get new.items key ≡ alive old.cut now (get old.items key)
+flushed_kept old new delay now reply key some is =
+    ap (λ (s : Plain). get s.items key) (sym (left_is _ _ _ _ is) ∙ delayed_is delay now old some)
+    ∙ get-retain_keys old.items (λ k. is_some (alive old.cut now (get old.items k))) key (λ x h. ap (λ (k : List ℕ). is_some (alive old.cut now (get old.items k))) (sym (exact key x h)))
+    ∙ kept_is old.cut now (get old.items key)
+
+or_true : (b : Bool) → (b || true) ≡ true
+or_true true = refl
+or_true false = refl
+
+pub flushed_dead : (old new : Plain) (delay now later : ℕ) (reply : Reply) (item : Entry) → 0 < delay → plain old (Flush delay) now ≡ Answered reply new → moment_named delay now ≤ later → item.updated < moment_named delay now → alive new.cut later (Some item) ≡ None
+flushed_dead old new delay now later reply item some is come before =
+    let cut : new.cut ≡ Some (moment_named delay now) = ap (λ (s : Plain). s.cut) (sym (left_is _ _ _ _ is) ∙ delayed_is delay now old some) in
+    let a : leb (moment_named delay now) later ≡ true = le-leb _ _ come in
+    let b : ltb item.updated (moment_named delay now) ≡ true = lt-ltb _ _ before in
+    let dead : is_dead item.expiry item.updated new.cut later ≡ true = rw (cut, a, b) (or_true (is_expired item.expiry later)) in
+    ap (λ (t : Bool). cond t None (Some item)) dead

@@ -1,0 +1,82 @@
+-- No key of a command that is spelled is longer than 250 bytes.
+use Rattle.std.proofs.Common.{◌≡◌, ◌≤◌, ℕ, true, false, List, length, take, drop, map, refl, sym, ap, ◌∙◌, subst, Result, Ok, Err, if◌then◌else◌, Option, Some, None, IfSome}
+use Rattle.std.specs.List.{All}
+use Rattle.std.specs.Str.{bytes_eq}
+use Rattle.std.proofs.Common.{◌∷◌, []}
+use Rattle.std.specs.Str.Lines.{strip_carriage_return}
+use Rattle.std.proofs.lemmas.List.{drop-map}
+use Rattle.std.proofs.lemmas.List.Elements.{All-drop}
+use Rattle.mc_command.specs.Words.{words}
+use Rattle.mc_command.specs.Commands.{HasShortKeys, after_steps, key_of}
+use Rattle.mc_command.specs.declared.command.Command.{Command}
+use Rattle.mc_command.specs.declared.command.Command.TheVariants.{Store, Cas, Get, GetTouch, Touch, Delete, Count, FlushAll, Version, Quit}
+use Rattle.mc_command.specs.declared.step.KeyStep.{KeyStep}
+use Rattle.mc_command.specs.declared.step.KeyStep.TheVariants.{Read as ReadStep, ReadTouch as ReadTouchStep}
+use Rattle.mc_command.specs.declared.fault.LineFault.{LineFault}
+use Rattle.mc_command.specs.declared.fault.LineFault.TheVariants.{BadChunk}
+use Rattle.mc_parse.specs.declared.line.Line.{Line}
+use Rattle.mc_parse.specs.declared.line.Line.TheVariants.{Bare, Block}
+use Rattle.mc_parse.specs.declared.line.Head.{Head}
+use Rattle.mc_parse.specs.Lines.{meaning}
+use Rattle.mc_parse.specs.Units.{ProtocolUnit, Request, Fault, LongLine, Completes, with_block, stored, SpellsLine, Spells}
+use Rattle.mc_parse.specs.Peeks.{IsSpelled, IsLeft, left_of}
+use Rattle.mc_parse.proofs.LineLemmas.{short_keys, short_block_keys}
+
+-- where a block completes a command it is this one
+pub stored_is : (head : Head) (block ended : List ℕ) (command : Command) → Request command ≡ stored head block ended → command ≡ with_block head block
+stored_is head block ended command =
+    elim (bytes_eq ended (13 ∷ 10 ∷ [])) as (λ b. Request command ≡ (if b then Request (with_block head block) else Fault BadChunk) → command ≡ with_block head block) [
+      | true ↦ λ e. cc
+      | false ↦ λ e. absurd (cc)
+    ]
+
+completed_keys : (greatest : ℕ) (ws : List (List ℕ)) (m : Result Line LineFault) → meaning greatest ws ≡ m → (rest : List ℕ) (command : Command) → Completes m rest (Request command) → HasShortKeys command
+completed_keys greatest ws (Err fault) is rest command h = let e = h.1 in absurd (cc)
+completed_keys greatest ws (Ok (Bare found)) is rest command h =
+    let e = h.1 in
+    let same : found ≡ command = cc in
+    subst HasShortKeys same (short_keys greatest ws found is)
+completed_keys greatest ws (Ok (Block head len)) is rest command h =
+    subst HasShortKeys (sym (stored_is head h.0 h.1 command h.5)) (short_block_keys greatest ws head len h.0 is)
+
+-- the keys of a command that a front spells are short
+pub spelled_keys : (greatest : ℕ) (command : Command) (len : ℕ) (bytes : List ℕ) → IsSpelled greatest (Request command, len) bytes → HasShortKeys command
+spelled_keys greatest command len bytes h =
+    let line = h.spelled in
+    completed_keys greatest (words (strip_carriage_return line.text)) _ refl line.rest command line.completes
+
+abbrev IsShortStep : KeyStep → Type 0
+IsShortStep step = length (key_of step) ≤ 250
+
+-- and so are those that are left of it
+pub left_keys : (command : Command) (taken : ℕ) → HasShortKeys command → HasShortKeys (after_steps command taken)
+left_keys (Get keys with_unique) taken short = subst (All IsShortStep) (drop-map ReadStep taken keys) (All-drop IsShortStep taken (map ReadStep keys) short)
+left_keys (GetTouch exptime keys with_unique) taken short =
+    subst (All IsShortStep) (drop-map (λ key. ReadTouchStep key exptime) taken keys) (All-drop IsShortStep taken (map (λ key. ReadTouchStep key exptime) keys) short)
+left_keys (Store verb key flags exptime block quiet) taken short = short
+left_keys (Cas key flags exptime block unique quiet) taken short = short
+left_keys (Touch key exptime quiet) taken short = short
+left_keys (Delete key quiet) taken short = short
+left_keys (Count key up by quiet) taken short = short
+left_keys (FlushAll delay quiet) taken short = short
+left_keys Version taken short = short
+left_keys Quit taken short = short
+
+left_command : (greatest taken : ℕ) (bytes : List ℕ) (unit : ProtocolUnit) (command : Command) (len : ℕ) → IsSpelled greatest (unit, len) bytes → Request command ≡ left_of unit taken → HasShortKeys command
+left_command greatest taken bytes (Request whole) command len is left =
+    let same : after_steps whole taken ≡ command = cc in
+    subst HasShortKeys same (left_keys whole taken (spelled_keys greatest whole len bytes is))
+left_command greatest taken bytes (Fault fault) command len is left = absurd (cc)
+left_command greatest taken bytes LongLine command len is left = absurd (cc)
+
+-- whatever was found, its keys are short
+pub found_keys : (greatest : ℕ) (bytes : List ℕ) (found : Option (ProtocolUnit × ℕ)) → IfSome found (λ p. IsSpelled greatest p bytes) → (command : Command) (len : ℕ) → found ≡ Some (Request command, len) → HasShortKeys command
+found_keys greatest bytes found is command len e =
+    let h : IsSpelled greatest (Request command, len) bytes = subst (λ o. IfSome o (λ p. IsSpelled greatest p bytes)) e is in
+    spelled_keys greatest command len bytes h
+
+-- and so they are where it is what is left of a unit
+pub left_found_keys : (greatest taken : ℕ) (bytes : List ℕ) (found : Option (ProtocolUnit × ℕ)) → IfSome found (λ p. IsLeft greatest taken p bytes) → (command : Command) (len : ℕ) → found ≡ Some (Request command, len) → HasShortKeys command
+left_found_keys greatest taken bytes found is command len e =
+    let h : IsLeft greatest taken (Request command, len) bytes = subst (λ o. IfSome o (λ p. IsLeft greatest taken p bytes)) e is in
+    left_command greatest taken bytes h.unit command len h.spelled h.left

@@ -1,0 +1,37 @@
+-- Where a retrieval stands after some of its turns.
+use Rattle.std.specs.Prelude.{◌≡◌, ◌≤◌, ℕ, Bool, List, length, take, drop, ℤ, Option, Some, None}
+use Rattle.mc_command.specs.Words.{words}
+use Rattle.mc_command.specs.declared.command.Command.{Command}
+use Rattle.mc_command.specs.declared.command.Command.TheVariants.{Get, GetTouch}
+use Rattle.mc_parse.specs.Units.{Request}
+use Rattle.mc_parse.specs.Peeks.{IsLeft}
+use Rattle.mc_parse.specs.declared.cursor.Cursor.{Cursor}
+
+-- a retrieval of these keys: gat or gats where it has an exptime
+abbrev pub retrieval : Option ℤ → List (List ℕ) → Bool → Command
+retrieval None keys with_unique = Get keys with_unique
+retrieval (Some exptime) keys with_unique = GetTouch exptime keys with_unique
+
+-- how many words of a retrieval's line come before the keys: its name, and the exptime where it has one
+abbrev pub words_before : Option ℤ → ℕ
+words_before None = 1
+words_before (Some exptime) = 2
+
+-- the text of the keys that are left
+abbrev pub text_left : Cursor → List ℕ → List ℕ
+text_left cursor bytes = drop cursor.from (take cursor.to bytes)
+
+-- the retrieval of these keys
+abbrev pub retrieval_left : Cursor → List ℕ → Command
+retrieval_left cursor bytes = retrieval cursor.exptime (words (text_left cursor bytes)) cursor.with_unique
+
+-- the text lies within the bytes, and has as many keys as the cursor counts
+pub record IsWithin (cursor : Cursor) (bytes : List ℕ) : Type 0 where
+  pub ordered : cursor.from ≤ cursor.to
+  pub inside : cursor.to ≤ length bytes
+  pub counted : cursor.left ≡ length (words (text_left cursor bytes))
+
+-- and these keys are what is left, after the turns that the cursor counts, of the unit that the bytes begin with
+pub record PointsInto (greatest : ℕ) (cursor : Cursor) (bytes : List ℕ) : Type 0 where
+  pub within : IsWithin cursor bytes
+  pub left : IsLeft greatest cursor.taken (Request (retrieval_left cursor bytes), cursor.len) bytes

@@ -1,0 +1,164 @@
+ghost use Rattle.std.specs.Prelude.{◌≡◌, ◌≤◌, ◌<◌, ◌+◌, ◌-◌, ◌^◌, ℕ, List, IfSome, length, drop};
+ghost use Rattle.mc_command.specs.Words.{words};
+ghost use Rattle.mc_command.specs.Commands.{after_steps};
+ghost use Rattle.mc_parse.specs.Units.{ProtocolUnit, Request};
+ghost use Rattle.mc_parse.specs.Peeks.{unit_of, IsSpelled, left_of};
+ghost use Rattle.mc_parse.specs.Cursors.{retrieval, retrieval_left, words_before, IsWithin, PointsInto};
+
+use crate::peek::{Peek, peek_at, without_carriage_return};
+use mc_command::{Command, Keys, first_word_len};
+
+/// Where a retrieval stands whose keys take a turn each: what is left of its line, so that the next turn needn't read the
+/// line from its beginning. Places count from the first unread byte.
+#[derive(Clone, Copy)]
+pub struct Cursor {
+    /// How many turns were taken.
+    taken: usize,
+    /// Where the keys that are left begin.
+    from: usize,
+    /// Where the line's text ends.
+    to: usize,
+    /// How many keys are left.
+    left: usize,
+    /// How many bytes spell the retrieval.
+    len: usize,
+    with_unique: bool,
+    /// The exptime of gat and gats.
+    exptime: Option<i64>,
+}
+
+impl Cursor {
+    /// A cursor before the first turn of the retrieval that the bytes begin with. There is none where they begin with
+    /// something else. It reads the line.
+    pub fn begin(greatest: u64, unread: &[u8]) -> Option<Cursor>
+        ensures some { IfSome result (λ cursor. PointsInto greatest cursor unread.now) }
+        ensures untaken { IfSome result (λ cursor. cursor.taken ≡ 0) }
+        // Where there is none a unit is whole after any turns.
+        ensures none { (unit : ProtocolUnit) (len taken : ℕ) → result ≡ None → IsSpelled greatest (unit, len) unread.now → left_of unit taken ≡ unit }
+    {
+        match peek_at(greatest, unread) {
+            Peek::Whole(command, len) => Cursor::of_command(unread, len, &command),
+            _ => None,
+        }
+    }
+
+    /// The same, where so many bytes spell this command.
+    fn of_command(unread: &[u8], len: usize, command: &Command<'_>) -> Option<Cursor>
+        requires some { 0 < len }
+        requires inside { len ≤ length unread.now }
+        ensures some { (greatest : ℕ) → IsSpelled greatest (Request command.now, len) unread.now → IfSome result (λ cursor. PointsInto greatest cursor unread.now) }
+        ensures untaken { IfSome result (λ cursor. cursor.taken ≡ 0) }
+        ensures none { (taken : ℕ) → result ≡ None → after_steps command.now taken ≡ command.now }
+    {
+        match command {
+            Command::Get { keys, with_unique } =>
+                Some(Cursor::of_line(unread, len, keys.len(), *with_unique, None)),
+            Command::GetTouch {
+                exptime,
+                keys,
+                with_unique,
+            } => Some(Cursor::of_line(unread, len, keys.len(), *with_unique, Some(*exptime))),
+            _ => None,
+        }
+    }
+
+    /// The same, where so many bytes spell a retrieval of so many keys.
+    fn of_line(unread: &[u8], len: usize, left: usize, with_unique: bool, exptime: Option<i64>) -> Cursor
+        requires some { 0 < len }
+        requires inside { len ≤ length unread.now }
+        ensures points { (greatest : ℕ) (keys : List (List ℕ)) → IsSpelled greatest (Request (retrieval exptime keys with_unique), len) unread.now → left ≡ length keys → PointsInto greatest result unread.now }
+        ensures untaken { result.taken ≡ 0 }
+    {
+        let (line, _) = unread.split_at(len - 1);
+        let text = without_carriage_return(line);
+        Cursor {
+            taken: 0,
+            from: keys_begin(text, exptime),
+            to: text.len(),
+            left,
+            len,
+            with_unique,
+            exptime,
+        }
+    }
+
+    /// One turn further. It costs as much as a key.
+    fn next(&self, unread: &[u8]) -> Cursor
+        requires within { IsWithin self.now unread.now }
+        requires taken { self.now.taken < 2 ^ 64 - 1 }
+        ensures within { IsWithin result unread.now }
+        ensures points { (greatest : ℕ) → PointsInto greatest self.now unread.now → PointsInto greatest result unread.now }
+        ensures taken { result.taken ≡ self.now.taken + 1 }
+    {
+        let (line, _) = unread.split_at(self.to);
+        let (_, text) = line.split_at(self.from);
+        Cursor {
+            taken: self.taken + 1,
+            from: self.from + first_word_len(text),
+            left: self.left.saturating_sub(1),
+            ..*self
+        }
+    }
+
+    /// The retrieval of the keys that are left. It costs nothing.
+    pub fn peek<'a>(&self, unread: &'a [u8]) -> Peek<'a>
+        requires { IsWithin self.now unread.now }
+        ensures { unit_of result ≡ Some (Request (retrieval_left self.now unread.now), self.now.len) }
+    {
+        let (line, _) = unread.split_at(self.to);
+        let (_, text) = line.split_at(self.from);
+        let keys = Keys::counted(text, self.left);
+        let with_unique = self.with_unique;
+        let command = match self.exptime {
+            None => Command::Get { keys, with_unique },
+            Some(exptime) => Command::GetTouch {
+                exptime,
+                keys,
+                with_unique,
+            },
+        };
+        Peek::Whole(command, self.len)
+    }
+}
+
+/// The cursor after `taken` turns of the unit that the bytes begin with, which starts from a known one where it can. There
+/// is none where turns leave the unit whole.
+pub fn cursor_after(known: Option<Cursor>, greatest: u64, unread: &[u8], taken: usize) -> Option<Cursor>
+    requires { IfSome known (λ cursor. PointsInto greatest cursor unread.now) }
+    ensures some { IfSome result (λ cursor. PointsInto greatest cursor unread.now) }
+    ensures taken { IfSome result (λ cursor. cursor.taken ≡ taken) }
+    ensures none { (unit : ProtocolUnit) (len : ℕ) → result ≡ None → IsSpelled greatest (unit, len) unread.now → left_of unit taken ≡ unit }
+{
+    match known {
+        Some(cursor) if cursor.taken <= taken => Some(moved_to(cursor, unread, taken)),
+        _ => Some(moved_to(Cursor::begin(greatest, unread)?, unread, taken)),
+    }
+}
+
+/// The cursor after `taken` turns.
+fn moved_to(mut cursor: Cursor, unread: &[u8], taken: usize) -> Cursor
+    requires within { IsWithin cursor unread.now }
+    requires ahead { cursor.taken ≤ taken }
+    ensures points { (greatest : ℕ) → PointsInto greatest cursor unread.now → PointsInto greatest result unread.now }
+    ensures taken { result.taken ≡ taken }
+{
+    while cursor.taken < taken {
+        cursor = cursor.next(unread);
+    }
+    cursor
+}
+
+/// Where the keys begin in the text of a retrieval's line: behind its name, and behind the exptime where it has one.
+fn keys_begin(text: &[u8], exptime: Option<i64>) -> usize
+    ensures inside { result ≤ length text.now }
+    ensures behind { words (drop result text.now) ≡ drop (words_before exptime) (words text.now) }
+{
+    let name = first_word_len(text);
+    match exptime {
+        None => name,
+        Some(_) => {
+            let (_, args) = text.split_at(name);
+            name + first_word_len(args)
+        }
+    }
+}

@@ -1,0 +1,232 @@
+use super::*;
+use mc_command::{Block, Bytes, Command, Keys, LineFault, Reply, Verb, steps_of};
+use std::alloc::{AllocError, Global};
+use std::process::Abort;
+use std::test::Fail;
+
+/// What stands in the vector before each call.
+const BEFORE: &[u8] = b"END\r\n";
+
+/// One call of this crate.
+#[derive(Drop)]
+enum Call<'a> {
+    Step(&'a Command<'a>, usize, &'a Reply),
+    Fault(LineFault),
+    Plain(&'a Command<'a>),
+    TooLong,
+    Spent(&'a Command<'a>),
+}
+
+fn call_once(rt: &impl Abort, call: &Call<'_>, out: &mut Vec<u8>) -> Result<(), AllocError> {
+    match call {
+        Call::Step(command, at, reply) => {
+            assert!(rt; *at < steps_of(command));
+            write(command, *at, reply, out)
+        }
+        Call::Fault(fault) => write_fault(fault, out),
+        Call::Plain(command) => write_plain(command, out),
+        Call::TooLong => write_too_long(out),
+        Call::Spent(command) => write_spent(command, out),
+    }
+}
+
+/// A vector of these bytes with no room for more. A run may refuse one allocation, so it is asked for twice.
+fn filled(alloc: Global, bytes: &[u8]) -> Result<Vec<u8>, AllocError> {
+    match Vec::from_slice(alloc, bytes) {
+        Ok(vector) => Ok(vector),
+        Err(_) => Vec::from_slice(alloc, bytes),
+    }
+}
+
+/// The call appends this text. Refused, it leaves the vector as it was and succeeds when it is made again.
+fn expect(rt: &impl Abort, alloc: Global, call: Call<'_>, want: &str) -> Result<(), Fail> {
+    let mut out = filled(alloc, BEFORE)?;
+    let mut result = call_once(rt, &call, &mut out);
+    if result.is_err() {
+        assert_eq!(rt; out.as_slice(), BEFORE);
+        result = call_once(rt, &call, &mut out);
+    }
+    result?;
+    let text = out.as_slice().strip_prefix(BEFORE);
+    assert_eq!(rt; text, Some(want.as_bytes()));
+    Ok(())
+}
+
+fn store(quiet: bool) -> Command<'static> {
+    Command::Store {
+        verb: Verb::Set,
+        key: Bytes::of(b"a"),
+        flags: 5,
+        exptime: 0,
+        block: Bytes::of(b"abc"),
+        quiet,
+    }
+}
+
+#[test]
+fn a_reply_is_a_line(rt: HostRuntime) -> Result<(), Fail> {
+    let alloc = rt.alloc();
+    let command = store(false);
+    for (reply, want) in [
+        (Reply::Stored, "STORED\r\n"),
+        (Reply::NotStored, "NOT_STORED\r\n"),
+        (Reply::Exists, "EXISTS\r\n"),
+        (Reply::NotFound, "NOT_FOUND\r\n"),
+        (Reply::Touched, "TOUCHED\r\n"),
+        (Reply::Deleted, "DELETED\r\n"),
+        (Reply::Number(0), "0\r\n"),
+        (Reply::Number(u64::MAX), "18446744073709551615\r\n"),
+        (
+            Reply::NotNumeric,
+            "CLIENT_ERROR cannot increment or decrement non-numeric value\r\n",
+        ),
+        (
+            Reply::TooLarge,
+            "SERVER_ERROR object too large for cache\r\n",
+        ),
+        (
+            Reply::NoChunk,
+            "SERVER_ERROR out of memory storing object\r\n",
+        ),
+        (Reply::Flushed, "OK\r\n"),
+    ] {
+        expect(&rt, alloc, Call::Step(&command, 0, &reply), want)?;
+    }
+    Ok(())
+}
+
+/// Each command that can end in `noreply`, which it did.
+fn quiet_commands() -> [Command<'static>; 6] {
+    [
+        store(true),
+        Command::Cas {
+            key: Bytes::of(b"a"),
+            flags: 5,
+            exptime: 0,
+            block: Bytes::of(b"abc"),
+            unique: 1,
+            quiet: true,
+        },
+        Command::Touch {
+            key: Bytes::of(b"a"),
+            exptime: 0,
+            quiet: true,
+        },
+        Command::Delete {
+            key: Bytes::of(b"a"),
+            quiet: true,
+        },
+        Command::Count {
+            key: Bytes::of(b"a"),
+            up: true,
+            by: 1,
+            quiet: true,
+        },
+        Command::FlushAll {
+            delay: 0,
+            quiet: true,
+        },
+    ]
+}
+
+#[test]
+fn a_quiet_command_is_answered_nothing(rt: HostRuntime) -> Result<(), Fail> {
+    let alloc = rt.alloc();
+    for command in quiet_commands() {
+        expect(&rt, alloc, Call::Step(&command, 0, &Reply::NoChunk), "")?;
+    }
+    Ok(())
+}
+
+#[test]
+fn a_quiet_command_is_told_of_no_spent_numbers(rt: HostRuntime) -> Result<(), Fail> {
+    let alloc = rt.alloc();
+    for command in quiet_commands() {
+        expect(&rt, alloc, Call::Spent(&command), "")?;
+    }
+    Ok(())
+}
+
+/// A retrieval of two keys, by get or gets and by gat or gats.
+fn retrievals(with_unique: bool) -> [Command<'static>; 2] {
+    [
+        Command::Get {
+            keys: Keys::of(b" a bc"),
+            with_unique,
+        },
+        Command::GetTouch {
+            exptime: 10,
+            keys: Keys::of(b" a bc"),
+            with_unique,
+        },
+    ]
+}
+
+#[test]
+fn a_retrieval_tells_what_it_found_and_ends(rt: HostRuntime) -> Result<(), Fail> {
+    let alloc = rt.alloc();
+    let hit = Reply::Hit {
+        flags: 4294967295,
+        unique: 18446744073709551614,
+        block: Block::of(filled(alloc, b"x\r\ny")?),
+    };
+    let empty = Reply::Hit {
+        flags: 0,
+        unique: 1,
+        block: Block::of(Vec::new(alloc)),
+    };
+    for (with_unique, at, reply, want) in [
+        (false, 0, &hit, "VALUE a 4294967295 4\r\nx\r\ny\r\n"),
+        (false, 1, &hit, "VALUE bc 4294967295 4\r\nx\r\ny\r\nEND\r\n"),
+        (
+            true,
+            0,
+            &hit,
+            "VALUE a 4294967295 4 18446744073709551614\r\nx\r\ny\r\n",
+        ),
+        (true, 1, &empty, "VALUE bc 0 0 1\r\n\r\nEND\r\n"),
+        (false, 0, &Reply::Miss, ""),
+        (true, 1, &Reply::Miss, "END\r\n"),
+    ] {
+        for command in retrievals(with_unique) {
+            expect(&rt, alloc, Call::Step(&command, at, reply), want)?;
+        }
+    }
+    Ok(())
+}
+
+#[test]
+fn faults_and_plain_commands_have_their_texts(rt: HostRuntime) -> Result<(), Fail> {
+    let alloc = rt.alloc();
+    for (call, want) in [
+        (Call::Fault(LineFault::Unknown), "ERROR\r\n"),
+        (
+            Call::Fault(LineFault::BadFormat),
+            "CLIENT_ERROR bad command line format\r\n",
+        ),
+        (
+            Call::Fault(LineFault::BadDelta),
+            "CLIENT_ERROR invalid numeric delta argument\r\n",
+        ),
+        (
+            Call::Fault(LineFault::TooLarge { passed: 9 }),
+            "SERVER_ERROR object too large for cache\r\n",
+        ),
+        (
+            Call::Fault(LineFault::BadChunk),
+            "CLIENT_ERROR bad data chunk\r\n",
+        ),
+        (Call::TooLong, "CLIENT_ERROR line too long\r\n"),
+        (Call::Plain(&Command::Version), "VERSION 1.6.0\r\n"),
+        (Call::Plain(&Command::Quit), ""),
+    ] {
+        expect(&rt, alloc, call, want)?;
+    }
+    let command = store(false);
+    expect(
+        &rt,
+        alloc,
+        Call::Spent(&command),
+        "SERVER_ERROR out of unique numbers\r\n",
+    )
+}

@@ -1,0 +1,67 @@
+-- More bytes leave the first unit as it is.
+use Rattle.std.proofs.Common.{◌≡◌, ◌<◌, ◌≤◌, ◌+◌, ◌-◌, ◌^◌, ℕ, ◌⊎◌, inl, inr, List, [], ◌∷◌, ◌++◌, length, drop, refl, sym, ap, ◌∙◌, subst, arith, append_assoc, ⊎_elim}
+use Rattle.std.proofs.Math.Seq.{drop-append-add}
+use Rattle.std.proofs.lemmas.Bool.{cases_lt}
+use Rattle.std.proofs.lemmas.List.{drop-append-le, drop_all, length-append, length-drop}
+use Rattle.std.specs.Result.{OnOk, OnErr}
+use Rattle.std.specs.Prelude.{Result, Ok, Err}
+use Rattle.mc_parse.specs.Units.{ProtocolUnit, Request, Fault, LongLine, Spells, SpellsLine}
+use Rattle.mc_parse.specs.Feeds.{Unread, pushed, settled}
+use Rattle.mc_session.specs.Turns.{turn_count}
+use Rattle.mc_session.specs.Answers.{IsWithin, at_start, inside}
+
+abbrev unread_of : ℕ → ℕ → List ℕ → Unread
+unread_of greatest passed bytes = record { greatest = greatest; passed = passed; bytes = bytes }
+
+-- bytes are passed over of what came first, and then of what came later
+passed_along : (n : ℕ) (first later : List ℕ) → (n < length first) ⊎ (length first ≤ n) → drop (n - length first) (drop n first ++ later) ≡ drop n (first ++ later)
+passed_along n first later (inl within) =
+    let none : n - length first ≡ 0 = omega arith in
+    rw (none, drop-append-le n first later (omega arith)) refl
+passed_along n first later (inr beyond) =
+    let k = n - length first in
+    let is : n ≡ length first + k = omega arith in
+    rw (drop_all n first beyond) (sym (ap (λ m. drop m (first ++ later)) is ∙ drop-append-add first later k))
+
+-- it doesn't matter whether what is to be passed over is dropped before more bytes come
+pub pushed-settled : (u : Unread) (more : List ℕ) → pushed (settled u) more ≡ pushed u more
+pushed-settled u more =
+    let count : (u.passed - length u.bytes) - length (drop u.passed u.bytes ++ more) ≡ u.passed - length (u.bytes ++ more) =
+    omega (arith, length-append u.bytes more, length-append (drop u.passed u.bytes) more, length-drop u.passed u.bytes) in
+    ap (λ n. unread_of u.greatest n (drop (u.passed - length u.bytes) (drop u.passed u.bytes ++ more))) count
+    ∙ ap (unread_of u.greatest (u.passed - length (u.bytes ++ more))) (passed_along u.passed u.bytes more (cases_lt u.passed (length u.bytes)))
+
+-- pieces that come one after another leave what they leave joined
+pub pushed-pushed : (u : Unread) (piece more : List ℕ) → pushed (pushed u piece) more ≡ pushed u (piece ++ more)
+pushed-pushed u piece more =
+    pushed-settled (unread_of u.greatest u.passed (u.bytes ++ piece)) more
+    ∙ ap (λ bytes. settled (unread_of u.greatest u.passed bytes)) (append_assoc u.bytes piece more)
+
+-- what spells a unit has bytes
+pub spells_bytes : (greatest : ℕ) (unit : ProtocolUnit) (front : List ℕ) → Spells greatest unit front → 0 < length front
+spells_bytes greatest LongLine front spelled = omega (arith, spelled.0)
+spells_bytes greatest (Fault fault) front spelled =
+    let line = spelled.is_line.ended in
+    omega (arith, ap length spelled.parts, ap length line, length-append spelled.line spelled.rest, length-append spelled.text (10 ∷ []))
+spells_bytes greatest (Request command) front spelled =
+    let line = spelled.is_line.ended in
+    omega (arith, ap length spelled.parts, ap length line, length-append spelled.line spelled.rest, length-append spelled.text (10 ∷ []))
+
+-- a front of the unread bytes stays in front
+pub front_stays : (u : Unread) (front rest more : List ℕ) → 0 < length front → drop u.passed u.bytes ≡ front ++ rest
+    → drop (pushed u more).passed (pushed u more).bytes ≡ front ++ (rest ++ more)
+front_stays u front rest more some parts =
+    let room : u.passed < length u.bytes = omega (arith, ap length parts, length-append front rest, length-drop u.passed u.bytes) in
+    let none : u.passed - length (u.bytes ++ more) ≡ 0 = omega (arith, length-append u.bytes more) in
+    rw (none, drop-append-le u.passed u.bytes more (omega arith)) (ap (λ bytes. bytes ++ more) parts ∙ append_assoc front rest more)
+
+-- the turns of the first unit are as many
+pub within_more : (u : Unread) (taken : ℕ) (more : List ℕ) → IsWithin u taken → IsWithin (pushed u more) taken
+within_more u taken more at_start = at_start
+within_more u taken more (inside unit front rest parts spelled due few) =
+    inside unit front (rest ++ more) (front_stays u front rest more (spells_bytes u.greatest unit front spelled) parts) spelled due few
+
+-- what holds of both outcomes holds of the one that came
+pub either_way : {T E V : Type 0} (P : V → Type 0) (r : Result T E) (old more new : V) → OnOk r (new ≡ more) → OnErr r (new ≡ old) → P more → P old → P new
+either_way P (Ok x) old more new ok err p q = subst P (sym ok) p
+either_way P (Err e) old more new ok err p q = subst P (sym err) q

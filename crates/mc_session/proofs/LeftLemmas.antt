@@ -1,0 +1,131 @@
+-- The first turn of what is left of a unit is the next turn of the unit.
+use Rattle.std.proofs.Common.{◌≡◌, ◌<◌, ◌≤◌, ◌+◌, ◌-◌, ◌==◌, ℕ, zero, suc, max, Bool, true, false, ◌⊎◌, inl, inr, List, [], ◌∷◌, ◌++◌, length, drop, map, refl, sym, ap, ◌∙◌, subst, arith, Option, Some, None, MatchOption, slice_get, if◌then◌else◌, eq-eqb, ne_eqb, ⊎_elim, codes}
+use Rattle.std.proofs.lemmas.Bool.{cases_eq}
+use Rattle.std.proofs.lemmas.Option.{slice_get_past}
+use Rattle.std.proofs.lemmas.List.{drop-map, length-map, length-drop}
+use Rattle.mc_command.specs.Commands.{steps, after_steps, is_quiet}
+use Rattle.mc_command.specs.declared.command.Command.{Command}
+use Rattle.mc_command.specs.declared.command.Command.TheVariants.{Store, Cas, Get, GetTouch, Touch, Delete, Count, FlushAll, Version, Quit}
+use Rattle.mc_command.specs.declared.step.KeyStep.{KeyStep}
+use Rattle.mc_command.specs.declared.step.KeyStep.TheVariants.{Read as ReadStep, ReadTouch as ReadTouchStep}
+use Rattle.mc_command.specs.declared.reply.Reply.{Reply}
+use Rattle.mc_parse.specs.Units.{ProtocolUnit, Request, Fault, LongLine}
+use Rattle.mc_parse.specs.Streams.{is_last, is_quit, passed_after}
+use Rattle.mc_parse.specs.Peeks.{left_of}
+use Rattle.mc_reply.specs.Texts.{reply_text, plain_text, spent_text, retrieval_text, asked_text, end_text}
+use Rattle.mc_session.specs.declared.next.Next.{Next}
+use Rattle.mc_session.specs.declared.next.Next.TheVariants.{Step, Read, Close}
+use Rattle.mc_session.specs.Turns.{Answers, AnswersStep, turn_count}
+use Rattle.mc_session.specs.Answers.{next_of}
+
+-- what is left has the next element first
+first_left : {X : Type 0} (xs : List X) (n : ℕ) → slice_get (drop n xs) 0 ≡ slice_get xs n
+first_left [] zero = refl
+first_left [] (suc n) = refl
+first_left (x ∷ xs) zero = refl
+first_left (x ∷ xs) (suc n) = first_left xs n
+
+-- two tests of numbers that hold together are one
+same_test : (a b c d : ℕ) → (a ≡ b → c ≡ d) → (c ≡ d → a ≡ b) → (a == b) ≡ (c == d)
+same_test a b c d there back =
+    let by_case : (a ≡ b) ⊎ (a ≡ b → ⊥) → (a == b) ≡ (c == d) = ⊎_elim
+    (λ e. eq-eqb a b e ∙ sym (eq-eqb c d (there e)))
+    (λ e. ne_eqb a b e ∙ sym (ne_eqb c d (λ f. e (back f)))) in
+    by_case (cases_eq a b)
+
+-- the steps that are left
+steps_left : (command : Command) (taken : ℕ) → taken < max 1 (length (steps command)) → steps (after_steps command taken) ≡ drop taken (steps command)
+steps_left (Get keys with_unique) taken due = sym (drop-map _ taken keys)
+steps_left (GetTouch exptime keys with_unique) taken due = sym (drop-map _ taken keys)
+steps_left (Store verb key flags exptime block quiet) taken due = let none : taken ≡ 0 = omega arith in rw none refl
+steps_left (Cas key flags exptime block unique quiet) taken due = let none : taken ≡ 0 = omega arith in rw none refl
+steps_left (Touch key exptime quiet) taken due = let none : taken ≡ 0 = omega arith in rw none refl
+steps_left (Delete key quiet) taken due = let none : taken ≡ 0 = omega arith in rw none refl
+steps_left (Count key up by quiet) taken due = let none : taken ≡ 0 = omega arith in rw none refl
+steps_left (FlushAll delay quiet) taken due = let none : taken ≡ 0 = omega arith in rw none refl
+steps_left Version taken due = let none : taken ≡ 0 = omega arith in rw none refl
+steps_left Quit taken due = let none : taken ≡ 0 = omega arith in rw none refl
+
+-- END comes after the same key
+end_left : (keys : List (List ℕ)) (taken : ℕ) → taken < max 1 (length keys) → end_text (length (drop taken keys)) 0 ≡ end_text (length keys) taken
+end_left keys taken due =
+    let test : (0 + 1 == length (drop taken keys)) ≡ (taken + 1 == length keys) = same_test _ _ _ _ (λ e. omega (arith, length-drop taken keys, e)) (λ e. omega (arith, length-drop taken keys, e)) in
+    ap (λ b. if b then codes "END\r\n" else []) test
+
+retrieval_left : (keys : List (List ℕ)) (with_unique : Bool) (taken : ℕ) (reply : Reply) → taken < max 1 (length keys) → retrieval_text (drop taken keys) with_unique 0 reply ≡ retrieval_text keys with_unique taken reply
+retrieval_left keys with_unique taken reply due =
+    ap (λ key. asked_text key with_unique reply ++ end_text (length (drop taken keys)) 0) (first_left keys taken)
+    ∙ ap (λ text. asked_text (slice_get keys taken) with_unique reply ++ text) (end_left keys taken due)
+
+-- the text of the reply to the next step
+reply_left : (command : Command) (taken : ℕ) (reply : Reply) → taken < max 1 (length (steps command)) → reply_text (after_steps command taken) 0 reply ≡ reply_text command taken reply
+reply_left (Get keys with_unique) taken reply due = retrieval_left keys with_unique taken reply (omega (arith, length-map keys ReadStep))
+reply_left (GetTouch exptime keys with_unique) taken reply due = retrieval_left keys with_unique taken reply (omega (arith, length-map keys (λ key. ReadTouchStep key exptime)))
+reply_left (Store verb key flags exptime block quiet) taken reply due = refl
+reply_left (Cas key flags exptime block unique quiet) taken reply due = refl
+reply_left (Touch key exptime quiet) taken reply due = refl
+reply_left (Delete key quiet) taken reply due = refl
+reply_left (Count key up by quiet) taken reply due = refl
+reply_left (FlushAll delay quiet) taken reply due = refl
+reply_left Version taken reply due = refl
+reply_left Quit taken reply due = refl
+
+-- what is left of a command is as quiet, ends the stream as it does, and is answered the same without a step
+pub record IsLike (command other : Command) : Type 0 where
+  pub quiet : is_quiet command ≡ is_quiet other
+  pub quit : is_quit command ≡ is_quit other
+  pub plain : plain_text command ≡ plain_text other
+
+like_left : (command : Command) (taken : ℕ) → IsLike (after_steps command taken) command
+like_left (Get keys with_unique) taken = record { quiet = refl; quit = refl; plain = refl }
+like_left (GetTouch exptime keys with_unique) taken = record { quiet = refl; quit = refl; plain = refl }
+like_left (Store verb key flags exptime block quiet) taken = record { quiet = refl; quit = refl; plain = refl }
+like_left (Cas key flags exptime block unique quiet) taken = record { quiet = refl; quit = refl; plain = refl }
+like_left (Touch key exptime quiet) taken = record { quiet = refl; quit = refl; plain = refl }
+like_left (Delete key quiet) taken = record { quiet = refl; quit = refl; plain = refl }
+like_left (Count key up by quiet) taken = record { quiet = refl; quit = refl; plain = refl }
+like_left (FlushAll delay quiet) taken = record { quiet = refl; quit = refl; plain = refl }
+like_left Version taken = record { quiet = refl; quit = refl; plain = refl }
+like_left Quit taken = record { quiet = refl; quit = refl; plain = refl }
+
+-- what comes next is the same
+pub next_left : (unit : ProtocolUnit) (taken len : ℕ) → taken < turn_count unit → next_of (left_of unit taken) 0 len ≡ next_of unit taken len
+next_left LongLine taken len due = refl
+next_left (Fault fault) taken len due = let none : taken ≡ 0 = omega arith in rw none refl
+next_left (Request command) taken len due =
+    let count : length (steps (after_steps command taken)) ≡ length (steps command) - taken = ap length (steps_left command taken due) ∙ length-drop taken (steps command) in
+    let test : (0 + 1 == max 1 (length (steps (after_steps command taken)))) ≡ (taken + 1 == max 1 (length (steps command))) = same_test _ _ _ _ (λ e. omega (arith, count, e)) (λ e. omega (arith, count, e)) in
+    ap (λ b. if is_quit (after_steps command taken) then Close else if b then Read len 0 else Step) test
+    ∙ ap (λ b. if b then Close else if taken + 1 == max 1 (length (steps command)) then Read len 0 else Step) (like_left command taken).quit
+
+-- before the first turn all turns are left
+pub all_left : (unit : ProtocolUnit) → turn_count (left_of unit 0) ≡ turn_count unit
+all_left LongLine = refl
+all_left (Fault fault) = refl
+all_left (Request command) = let count = ap length (steps_left command 0 (omega arith)) in ap (max 1) count
+
+module _ {S : Type 0} (took : S → KeyStep → ℕ → Reply → S → Type 0) (spent : S → KeyStep → ℕ → Type 0) (now : ℕ) (before after : S) (text : List ℕ) where
+  -- a step of what is left is answered as the next step
+  step_answers : (command : Command) (taken : ℕ) (step : KeyStep) → taken < max 1 (length (steps command))
+      → AnswersStep took spent (after_steps command taken) 0 step now before after text → AnswersStep took spent command taken step now before after text
+  step_answers command taken step due (inl told) = inl (told.0, told.1, told.2 ∙ reply_left command taken told.0 due)
+  step_answers command taken step due (inr told) = inr (told.0, told.1, rw (← (like_left command taken).quiet) told.2)
+
+  some_answers : (command : Command) (taken : ℕ) → taken < max 1 (length (steps command)) → (step : Option KeyStep)
+      → MatchOption step ((text ≡ plain_text (after_steps command taken)) × (after ≡ before)) (λ step. AnswersStep took spent (after_steps command taken) 0 step now before after text)
+      → MatchOption step ((text ≡ plain_text command) × (after ≡ before)) (λ step. AnswersStep took spent command taken step now before after text)
+  some_answers command taken due None told = (told.0 ∙ (like_left command taken).plain, told.1)
+  some_answers command taken due (Some step) told = step_answers command taken step due told
+
+  -- the first turn of what is left answers as the next turn
+  pub answers_left : (unit : ProtocolUnit) (taken : ℕ) → taken < turn_count unit → Answers took spent (left_of unit taken) 0 now before after text → Answers took spent unit taken now before after text
+  answers_left LongLine taken due told = told
+  answers_left (Fault fault) taken due told = told
+  answers_left (Request command) taken due told =
+      some_answers command taken due (slice_get (steps command) taken)
+      (subst (λ step. MatchOption step ((text ≡ plain_text (after_steps command taken)) × (after ≡ before)) (λ step. AnswersStep took spent (after_steps command taken) 0 step now before after text))
+      (ap (λ xs. slice_get xs 0) (steps_left command taken due) ∙ first_left (steps command) taken) told)
+
+  -- a command that takes no step is answered its plain text
+  pub plain_answers : (command : Command) → length (steps command) ≡ 0 → text ≡ plain_text command → after ≡ before → Answers took spent (Request command) 0 now before after text
+  plain_answers command none told same = rw (slice_get_past (steps command) 0 (omega arith)) (told, same)

@@ -1,0 +1,5 @@
+pub mod LeftLemmas
+pub mod FeedLemmas
+pub mod TurnLemmas
+pub mod RunLemmas
+pub mod ServeLemmas

@@ -1,0 +1,114 @@
+-- A run goes on the same where more bytes come, and with earlier output in front.
+use Rattle.std.proofs.Common.{◌≡◌, ◌<◌, ◌+◌, ◌==◌, ℕ, Bool, true, false, List, [], ◌∷◌, ◌++◌, length, drop, refl, sym, ap, ◌∙◌, subst, append_assoc, if◌then◌else◌, IsFalse}
+use Rattle.mc_command.specs.declared.step.KeyStep.{KeyStep}
+use Rattle.mc_command.specs.declared.reply.Reply.{Reply}
+use Rattle.mc_parse.specs.Units.{ProtocolUnit}
+use Rattle.mc_parse.specs.Streams.{is_last, passed_after}
+use Rattle.mc_parse.specs.Feeds.{Unread, pushed, settled}
+use Rattle.mc_session.specs.Turns.{SessionState, TakesTurn, turn_count, moved, closed, fed, opened}
+use Rattle.mc_session.specs.Serving.{Run, nothing, turn}
+use Rattle.mc_session.specs.Rounds.{with_written}
+use Rattle.mc_session.proofs.FeedLemmas.{pushed-settled, pushed-pushed, spells_bytes, front_stays}
+
+-- a session by its parts
+abbrev session_of : Unread → ℕ → List ℕ → Bool → SessionState
+session_of unread taken out is_open = record { unread = unread; taken = taken; out = out; is_open = is_open }
+
+-- the session after a turn of an open session takes more bytes as the session before it does
+moved_more : (unread : Unread) (taken : ℕ) (out : List ℕ) (unit : ProtocolUnit) (rest text more : List ℕ) (last whole : Bool)
+    → fed (if last then closed (session_of unread taken (out ++ text) true)
+    else if whole then session_of (settled (record { greatest = unread.greatest; passed = passed_after unit; bytes = rest })) 0 (out ++ text) true
+    else session_of unread (taken + 1) (out ++ text) true) more
+    ≡ (if last then closed (session_of (pushed unread more) taken (out ++ text) true)
+    else if whole then session_of (settled (record { greatest = unread.greatest; passed = passed_after unit; bytes = rest ++ more })) 0 (out ++ text) true
+    else session_of (pushed unread more) (taken + 1) (out ++ text) true)
+moved_more unread taken out unit rest text more true whole = refl
+moved_more unread taken out unit rest text more false true = ap (λ u. session_of u 0 (out ++ text) true) (pushed-settled (record { greatest = unread.greatest; passed = passed_after unit; bytes = rest }) more)
+moved_more unread taken out unit rest text more false false = refl
+
+-- a session that isn't open stays so
+moved_closed : (unread : Unread) (taken : ℕ) (out : List ℕ) (unit : ProtocolUnit) (rest text more : List ℕ) (last whole : Bool)
+    → fed (if last then closed (session_of unread taken (out ++ text) false)
+    else if whole then session_of (settled (record { greatest = unread.greatest; passed = passed_after unit; bytes = rest })) 0 (out ++ text) false
+    else session_of unread (taken + 1) (out ++ text) false) more
+    ≡ (if last then closed (session_of unread taken (out ++ text) false)
+    else if whole then session_of (settled (record { greatest = unread.greatest; passed = passed_after unit; bytes = rest })) 0 (out ++ text) false
+    else session_of unread (taken + 1) (out ++ text) false)
+moved_closed unread taken out unit rest text more true whole = refl
+moved_closed unread taken out unit rest text more false true = refl
+moved_closed unread taken out unit rest text more false false = refl
+
+-- earlier output stays in front
+moved_written : (s : SessionState) (unit : ProtocolUnit) (rest text written : List ℕ) (last whole : Bool)
+    → with_written written (if last then closed (record s { out = s.out ++ text })
+    else if whole then record s { unread = settled (record { greatest = s.unread.greatest; passed = passed_after unit; bytes = rest }); taken = 0; out = s.out ++ text }
+    else record s { taken = s.taken + 1; out = s.out ++ text })
+    ≡ (if last then closed (record s { out = (written ++ s.out) ++ text })
+    else if whole then record s { unread = settled (record { greatest = s.unread.greatest; passed = passed_after unit; bytes = rest }); taken = 0; out = (written ++ s.out) ++ text }
+    else record s { taken = s.taken + 1; out = (written ++ s.out) ++ text })
+moved_written s unit rest text written true whole = ap (λ out. closed (record s { out = out })) (sym (append_assoc written s.out text))
+moved_written s unit rest text written false true =
+    ap (λ out. record s { unread = settled (record { greatest = s.unread.greatest; passed = passed_after unit; bytes = rest }); taken = 0; out = out }) (sym (append_assoc written s.out text))
+moved_written s unit rest text written false false = ap (λ out. record s { taken = s.taken + 1; out = out }) (sym (append_assoc written s.out text))
+
+-- pieces that come one after another are fed as they are joined
+pub fed-fed : (greatest : ℕ) (read more : List ℕ) → fed (fed (opened greatest) read) more ≡ fed (opened greatest) (read ++ more)
+fed-fed greatest read more = ap (λ u. session_of u 0 [] true) (pushed-pushed (record { greatest = greatest; passed = 0; bytes = [] }) read more)
+
+-- more bytes and earlier output don't mix
+pub fed-with_written : (s : SessionState) (written more : List ℕ) → fed (with_written written s) more ≡ with_written written (fed s more)
+fed-with_written s written more =
+    elim s.is_open as (λ opens. (if opens then record (with_written written s) { unread = pushed s.unread more } else with_written written s) ≡ with_written written (if opens then record s { unread = pushed s.unread more } else s)) [
+      | true ↦ refl
+      | false ↦ refl
+    ]
+
+module _ {S : Type 0} (took : S → KeyStep → ℕ → Reply → S → Type 0) (spent : S → KeyStep → ℕ → Type 0) where
+  -- a turn is the turn of the longer stream
+  turn_open : (now : ℕ) (unread : Unread) (taken : ℕ) (out : List ℕ) (new : SessionState) (before after : S) (more : List ℕ) (is_open : Bool)
+      → TakesTurn took spent now (session_of unread taken out is_open) new before after → TakesTurn took spent now (fed (session_of unread taken out is_open) more) (fed new more) before after
+  turn_open now unread taken out new before after more true taken_turn = record {
+    unit = taken_turn.unit;
+    front = taken_turn.front;
+    rest = taken_turn.rest ++ more;
+    text = taken_turn.text;
+    parts = front_stays unread taken_turn.front taken_turn.rest more (spells_bytes unread.greatest taken_turn.unit taken_turn.front taken_turn.spelled) taken_turn.parts;
+    spelled = taken_turn.spelled;
+    due = taken_turn.due;
+    answers = taken_turn.answers;
+    moves = ap (λ s. fed s more) taken_turn.moves ∙ moved_more unread taken out taken_turn.unit taken_turn.rest taken_turn.text more (is_last taken_turn.unit) (taken + 1 == turn_count taken_turn.unit);
+  }
+  turn_open now unread taken out new before after more false taken_turn = record {
+    unit = taken_turn.unit;
+    front = taken_turn.front;
+    rest = taken_turn.rest;
+    text = taken_turn.text;
+    parts = taken_turn.parts;
+    spelled = taken_turn.spelled;
+    due = taken_turn.due;
+    answers = taken_turn.answers;
+    moves = ap (λ s. fed s more) taken_turn.moves ∙ moved_closed unread taken out taken_turn.unit taken_turn.rest taken_turn.text more (is_last taken_turn.unit) (taken + 1 == turn_count taken_turn.unit);
+  }
+
+  turn_more : (now : ℕ) (old new : SessionState) (before after : S) (more : List ℕ) → TakesTurn took spent now old new before after → TakesTurn took spent now (fed old more) (fed new more) before after
+  turn_more now old new before after more taken_turn = turn_open now old.unread old.taken old.out new before after more old.is_open taken_turn
+
+  -- and with earlier output in front
+  pub turn_written : (now : ℕ) (old new : SessionState) (before after : S) (written : List ℕ) → TakesTurn took spent now old new before after → TakesTurn took spent now (with_written written old) (with_written written new) before after
+  turn_written now old new before after written taken_turn = record {
+    unit = taken_turn.unit;
+    front = taken_turn.front;
+    rest = taken_turn.rest;
+    text = taken_turn.text;
+    parts = taken_turn.parts;
+    spelled = taken_turn.spelled;
+    due = taken_turn.due;
+    answers = taken_turn.answers;
+    moves = ap (with_written written) taken_turn.moves ∙ moved_written old taken_turn.unit taken_turn.rest taken_turn.text written (is_last taken_turn.unit) (old.taken + 1 == turn_count taken_turn.unit);
+  }
+
+  -- a run is a run of the longer stream
+  pub run_more : (may_give : ℕ → Type 0) (first last : SessionState) (before after : S) (more : List ℕ) → Run took spent may_give first before last after → Run took spent may_give (fed first more) before (fed last more) after
+  run_more may_give first last before after more nothing = nothing
+  run_more may_give first last before after more (turn {mid = mid} {between = between} now run gives taken) =
+      turn now (run_more may_give first mid before between more run) gives (turn_more now mid last between after more taken)

@@ -1,0 +1,191 @@
+-- What was served until now, and a turn, a write or a read more.
+use Rattle.std.proofs.Common.{◌≡◌, ℕ, List, [], ◌++◌, Option, Some, None, refl, sym, ap, ◌∙◌, subst, append_assoc, append-nil, IsFalse, IsTrue, Bool, true, false, Result, Ok, Err, OnOk, ◌⊎◌, inl, inr, take}
+use Rattle.std.specs.Io.KnownBytes.{Appends, Consumes, Keeps, IsAtEnd}
+use Rattle.std.proofs.lemmas.List.{take-append-drop}
+use Rattle.std.proofs.KnownBytes.{Consumes-nil, Appends-nil, Consumes-trans, Appends-trans, Appends-kept}
+use Rattle.mc_command.specs.declared.step.KeyStep.{KeyStep}
+use Rattle.mc_command.specs.declared.reply.Reply.{Reply}
+use Rattle.mc_session.specs.Turns.{SessionState, TakesTurn, fed, opened, NoTurnDue, sent}
+use Rattle.mc_session.specs.Serving.{Run, nothing, turn, Serves, ServesAll, ServesUntilRefused}
+use Rattle.mc_session.specs.Rounds.{with_written, Writes, Reads, fed_piece, read_nothing, HasEnded, HasServed, GoesOn, IsRefused}
+use Rattle.mc_session.proofs.RunLemmas.{run_more, turn_written, fed-fed, fed-with_written}
+
+-- known bytes that stay lose none
+pub Consumes-kept : (old new : Option (List ℕ)) → Keeps old new → Consumes old new []
+Consumes-kept None new kept = tt
+Consumes-kept (Some xs) None kept = absurd kept
+Consumes-kept (Some xs) (Some ys) kept = sym kept
+
+-- a session with another output
+abbrev with_out : List ℕ → SessionState → SessionState
+with_out out session = record session { out = out }
+
+-- one part after another
+pub Writes-more : (first mid last : SessionState) (a b c : Option (List ℕ)) → Writes first mid a b → Writes mid last b c → Writes first last a c
+Writes-more first mid last a b c one two = record {
+  part = one.part ++ two.part;
+  parts = one.parts ∙ ap (λ (out : List ℕ). one.part ++ out) two.parts ∙ sym (append_assoc one.part two.part last.out);
+  same = two.same ∙ ap (with_out last.out) one.same;
+  appends = Appends-trans a b c one.part two.part one.appends two.appends;
+}
+
+-- no part
+pub Writes-nothing : (s : SessionState) (a : Option (List ℕ)) → Writes s s a a
+Writes-nothing s a = record { part = []; parts = refl; same = refl; appends = Appends-nil a }
+
+-- a front of the output
+pub Writes-front : (s : SessionState) (n : ℕ) (a b : Option (List ℕ)) → Appends a b (take n s.out) → Writes s (sent s n) a b
+Writes-front s n a b appends = record { part = take n s.out; parts = sym (take-append-drop n s.out); same = refl; appends = appends }
+
+-- a write that failed
+pub Writes-kept : (s : SessionState) (a b : Option (List ℕ)) → Keeps a b → Writes s s a b
+Writes-kept s a b kept = record { part = []; parts = refl; same = refl; appends = Appends-kept a a b [] (Appends-nil a) kept }
+
+module _ {S : Type 0} (took : S → KeyStep → ℕ → Reply → S → Type 0) (spent : S → KeyStep → ℕ → Type 0) (may_give : ℕ → Type 0) where
+  -- before the first round
+  pub served_nothing : (greatest : ℕ) (store : S) (reader writer : Option (List ℕ)) → HasServed took spent may_give greatest store store reader reader writer writer (opened greatest)
+  served_nothing greatest store reader writer = record { read = []; written = []; consumes = Consumes-nil reader; run = nothing; appends = Appends-nil writer }
+
+  -- a turn
+  pub goes_on_turn : (now : ℕ) → may_give now → (old new : SessionState) (before after : S) (reader writer : Option (List ℕ)) → TakesTurn took spent now old new before after → GoesOn took spent may_give old new before after reader reader writer writer
+  goes_on_turn now gives old new before after reader writer taken greatest first reader_old writer_old served = record {
+    read = served.read;
+    written = served.written;
+    consumes = served.consumes;
+    appends = served.appends;
+    run = turn now served.run gives (turn_written took spent now old new before after served.written taken);
+  }
+
+  -- a write
+  pub goes_on_write : (old new : SessionState) (store : S) (reader writer_old writer_new : Option (List ℕ)) → Writes old new writer_old writer_new → GoesOn took spent may_give old new store store reader reader writer_old writer_new
+  goes_on_write old new store reader writer_old writer_new writes greatest first reader_first writer_first served =
+      let same : with_written served.written old ≡ with_written (served.written ++ writes.part) new =
+      ap (λ out. with_out out old) (ap (λ out. served.written ++ out) writes.parts ∙ sym (append_assoc served.written writes.part new.out))
+      ∙ ap (with_out ((served.written ++ writes.part) ++ new.out)) (sym writes.same) in
+      record {
+        read = served.read;
+        written = served.written ++ writes.part;
+        consumes = served.consumes;
+        run = subst (λ s. Run took spent may_give (fed (opened greatest) served.read) first s store) same served.run;
+        appends = Appends-trans writer_first writer_old writer_new served.written writes.part served.appends writes.appends;
+      }
+
+  -- the run of the longer stream
+  longer : (greatest : ℕ) (first store : S) (read written piece : List ℕ) (session : SessionState) → Run took spent may_give (fed (opened greatest) read) first (with_written written session) store
+      → Run took spent may_give (fed (opened greatest) (read ++ piece)) first (with_written written (fed session piece)) store
+  longer greatest first store read written piece session run =
+      let lifted : Run took spent may_give (fed (fed (opened greatest) read) piece) first (fed (with_written written session) piece) store = run_more took spent may_give (fed (opened greatest) read) (with_written written session) first store piece run in
+      subst (λ s. Run took spent may_give (fed (opened greatest) (read ++ piece)) first s store) (fed-with_written session written piece)
+      (subst (λ s. Run took spent may_give s first (fed (with_written written session) piece) store) (fed-fed greatest read piece) lifted)
+
+  -- a read
+  pub goes_on_read : (old new : SessionState) (store : S) (reader_old reader_new writer : Option (List ℕ)) → Reads old new reader_old reader_new → GoesOn took spent may_give old new store store reader_old reader_new writer writer
+  goes_on_read old new store reader_old reader_new writer (fed_piece piece consumes is) greatest first reader_first writer_first served = record {
+    read = served.read ++ piece;
+    written = served.written;
+    appends = served.appends;
+    consumes = Consumes-trans reader_first reader_old reader_new served.read piece served.consumes consumes;
+    run = subst (λ s. Run took spent may_give (fed (opened greatest) (served.read ++ piece)) first (with_written served.written s) store) (sym is) (longer greatest first store served.read served.written piece old served.run);
+  }
+  goes_on_read old new store reader_old reader_new writer (read_nothing consumes is) greatest first reader_first writer_first served = record {
+    read = served.read;
+    written = served.written;
+    appends = served.appends;
+    consumes = subst (Consumes reader_first reader_new) (append-nil served.read) (Consumes-trans reader_first reader_old reader_new served.read [] served.consumes consumes);
+    run = subst (λ s. Run took spent may_give (fed (opened greatest) served.read) first (with_written served.written s) store) (sym is) served.run;
+  }
+
+  -- one after another
+  pub goes_on_twice : (a b c : SessionState) (s t u : S) (r r' r'' w w' w'' : Option (List ℕ)) → GoesOn took spent may_give a b s t r r' w w' → GoesOn took spent may_give b c t u r' r'' w' w'' → GoesOn took spent may_give a c s u r r'' w w''
+  goes_on_twice a b c s t u r r' r'' w w' w'' one two greatest first reader writer served = two greatest first reader writer (one greatest first reader writer served)
+
+  -- a part of a run
+  pub serves : (greatest : ℕ) (first store : S) (reader_old reader_new writer_old writer_new : Option (List ℕ)) (session : SessionState) → HasServed took spent may_give greatest first store reader_old reader_new writer_old writer_new session
+      → Serves took spent may_give greatest first store reader_old reader_new writer_old writer_new
+  serves greatest first store reader_old reader_new writer_old writer_new session served = record {
+    read = served.read;
+    last = with_written served.written session;
+    written = served.written;
+    unwritten = session.out;
+    consumes = served.consumes;
+    run = served.run;
+    texts = refl;
+    appends = served.appends;
+  }
+
+  -- a whole run
+  pub serves_all : (greatest : ℕ) (first store : S) (reader_old reader_new writer_old writer_new : Option (List ℕ)) (session : SessionState) → HasServed took spent may_give greatest first store reader_old reader_new writer_old writer_new session → HasEnded session reader_new
+      → ServesAll took spent may_give greatest first store reader_old reader_new writer_old writer_new
+  serves_all greatest first store reader_old reader_new writer_old writer_new session served ended =
+      let all : served.written ≡ served.written ++ session.out = sym (append-nil served.written) ∙ ap (λ out. served.written ++ out) (sym ended.written) in
+      record {
+        read = served.read;
+        last = with_written served.written session;
+        consumes = served.consumes;
+        run = served.run;
+        appends = subst (Appends writer_old writer_new) all served.appends;
+        ended = ended.ended;
+      }
+
+  -- refused before a step was decided
+  pub refused_undecided : (old : SessionState) (before after : S) (reader writer : Option (List ℕ)) → after ≡ before → IsRefused took spent may_give old before after reader reader writer writer
+  refused_undecided old before after reader writer same greatest first reader_old writer_old served =
+      record { between = before; serves = serves greatest first before reader_old reader writer_old writer old served; decided = inl same }
+
+  -- refused after a step was decided
+  pub refused_decided : (now : ℕ) → may_give now → (old new : SessionState) (before after : S) (reader writer : Option (List ℕ)) → TakesTurn took spent now old new before after → IsRefused took spent may_give old before after reader reader writer writer
+  unfolding serves
+  refused_decided now gives old new before after reader writer taken greatest first reader_old writer_old served =
+      record {
+        between = before;
+        serves = serves greatest first before reader_old reader writer_old writer old served;
+        decided = inr (now, gives, with_written served.written new, turn_written took spent now old new before after served.written taken);
+      }
+
+  -- refused while a piece that was read is fed
+  pub refused_piece : (mid : SessionState) (store : S) (reader_old reader_new writer : Option (List ℕ)) (piece : List ℕ) → Consumes reader_old reader_new piece → IsRefused took spent may_give mid store store reader_old reader_new writer writer
+  refused_piece mid store reader_old reader_new writer piece consumes greatest first reader_first writer_first served =
+      let longer_served = goes_on_read mid (fed mid piece) store reader_old reader_new writer (fed_piece piece consumes refl) greatest first reader_first writer_first served in
+      record { between = store; serves = serves greatest first store reader_first reader_new writer_first writer (fed mid piece) longer_served; decided = inl refl }
+
+  -- refused before the first round
+  pub refused_first : (greatest : ℕ) (store : S) (reader writer : Option (List ℕ)) → ServesUntilRefused took spent may_give greatest store store reader reader writer writer
+  refused_first greatest store reader writer = record { between = store; serves = serves greatest store store reader reader writer writer (opened greatest) (served_nothing greatest store reader writer); decided = inl refl }
+
+  -- a turn and a write
+  pub turned_and_wrote : {now : ℕ} {old mid new : SessionState} {before after : S} {writer_old writer_new : Option (List ℕ)} (reader : Option (List ℕ)) → may_give now → TakesTurn took spent now old mid before after → Writes mid new writer_old writer_new
+      → GoesOn took spent may_give old new before after reader reader writer_old writer_new
+  turned_and_wrote {now = now} {old = old} {mid = mid} {new = new} {before = before} {after = after} {writer_old = writer_old} {writer_new = writer_new} reader gives taken writes =
+      goes_on_twice old mid new before after after reader reader reader writer_old writer_old writer_new (goes_on_turn now gives old mid before after reader writer_old taken) (goes_on_write mid new after reader writer_old writer_new writes)
+
+  -- a write alone
+  pub wrote : {old mid new : SessionState} {before after : S} {writer_old writer_new : Option (List ℕ)} (reader : Option (List ℕ)) → mid ≡ old → after ≡ before → Writes mid new writer_old writer_new
+      → GoesOn took spent may_give old new before after reader reader writer_old writer_new
+  wrote {old = old} {mid = mid} {new = new} {before = before} {after = after} {writer_old = writer_old} {writer_new = writer_new} reader same same_store writes =
+      subst (λ store. GoesOn took spent may_give old new before store reader reader writer_old writer_new) (sym same_store)
+      (goes_on_write old new before reader writer_old writer_new (subst (λ s. Writes s new writer_old writer_new) same writes))
+
+  -- a write and a read
+  pub wrote_and_read : {old mid new last : SessionState} {before after : S} {reader_old reader_new writer_old writer_new : Option (List ℕ)} → mid ≡ old → after ≡ before → Writes mid new writer_old writer_new → Reads new last reader_old reader_new
+      → GoesOn took spent may_give old last before after reader_old reader_new writer_old writer_new
+  wrote_and_read {old = old} {mid = mid} {new = new} {last = last} {before = before} {after = after} {reader_old = reader_old} {reader_new = reader_new} {writer_old = writer_old} {writer_new = writer_new} same same_store writes reads =
+      goes_on_twice old new last before after after reader_old reader_old reader_new writer_old writer_new writer_new (wrote {old = old} {mid = mid} {new = new} {before = before} {after = after} {writer_old = writer_old} {writer_new = writer_new} reader_old same same_store writes)
+      (goes_on_read new last after reader_old reader_new writer_new reads)
+
+  -- a write, and memory ran out while a piece that was read is fed
+  pub wrote_and_refused : {old mid new : SessionState} {before after : S} {reader_old reader_new writer_old writer_new : Option (List ℕ)} → mid ≡ old → after ≡ before → Writes mid new writer_old writer_new → (piece : List ℕ) × Consumes reader_old reader_new piece
+      → IsRefused took spent may_give old before after reader_old reader_new writer_old writer_new
+  wrote_and_refused {old = old} {mid = mid} {new = new} {before = before} {after = after} {reader_old = reader_old} {reader_new = reader_new} {writer_old = writer_old} {writer_new = writer_new} same same_store writes read greatest first reader writer served =
+      refused_piece new after reader_old reader_new writer_new read.0 read.1 greatest first reader writer
+      (wrote {old = old} {mid = mid} {new = new} {before = before} {after = after} {writer_old = writer_old} {writer_new = writer_new} reader_old same same_store writes greatest first reader writer served)
+
+  -- memory ran out in a turn
+  pub turn_refused : {now : ℕ} {old : SessionState} {before after : S} (decided : Bool) (reader writer : Option (List ℕ)) → may_give now → (IsFalse decided → after ≡ before) → (IsTrue decided → (new : SessionState) × TakesTurn took spent now old new before after)
+      → IsRefused took spent may_give old before after reader reader writer writer
+  turn_refused {now = now} {old = old} {before = before} {after = after} true reader writer gives undecided taken = let step = taken refl in refused_decided now gives old step.0 before after reader writer step.1
+  turn_refused {now = now} {old = old} {before = before} {after = after} false reader writer gives undecided taken = refused_undecided old before after reader writer (undecided refl)
+
+-- what follows from a fact of an outcome
+pub on_ok : {T E : Type 0} (A B : Type 0) (r : Result T E) → (A → B) → OnOk r A → OnOk r B
+on_ok A B (Ok x) f a = f a
+on_ok A B (Err e) f a = tt

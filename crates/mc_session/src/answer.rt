@@ -1,0 +1,150 @@
+ghost use Rattle.std.specs.Prelude.{◌≡◌, ◌++◌, ◌^◌, ◌<◌, ℕ, List, IfOk, IfErr, IfSome, IsTrue, IsFalse, OnOk, OnErr, length};
+ghost use Rattle.mc_command.specs.Commands.{steps, HasShortKeys};
+ghost use Rattle.mc_command.specs.declared.command.Command.{Command};
+ghost use Rattle.mc_parse.specs.Units.{Request, Fault, LongLine};
+ghost use Rattle.mc_parse.specs.Peeks.{unit_of};
+ghost use Rattle.mc_session.specs.Answers.{next_of, Tells, AnswersFound};
+ghost use Rattle.mc_parse.specs.Streams.{is_quit};
+ghost use Rattle.mc_session.specs.Turns.{Answers, turn_count};
+ghost use Rattle.mc_reply.specs.Texts.{fault_text, long_text};
+
+use crate::next::Next;
+use crate::session::TurnFault;
+use mc_command::{Command, LineFault, StepFault, Steps, step_at, steps_of};
+use mc_parse::Peek;
+use mc_reply::{write, write_fault, write_plain, write_spent, write_too_long};
+use mc_time::Moment;
+use std::alloc::Global;
+
+/// Takes the first turn of what was found, and appends its text. Where nothing was found it does nothing. Refused, the
+/// output is as it was, and the fault tells whether the step stands in the store.
+pub fn answer<S: Steps>(
+    alloc: Global,
+    found: Peek<'_>,
+    store: &mut S,
+    now: Moment,
+    out: &mut Vec<u8>,
+) -> Result<Option<Next>, TurnFault>
+    requires { (command : Command) (len : ℕ) → unit_of found ≡ Some (Request command, len) → HasShortKeys command }
+    ensures none { result ≡ Ok None → (unit_of found.entry ≡ None) × (out.new.items ≡ out.old.items) × (store.new ≡ store.old) }
+    ensures some { IfOk result (λ told. IfSome told (λ next. Tells S.took S.spent now (unit_of found.entry) next store.old store.new out.old.items out.new.items)) }
+    ensures err { OnErr result (out.new.items ≡ out.old.items) }
+    ensures undecided { IfErr result (λ fault. IsFalse fault.decided → store.new ≡ store.old) }
+    ensures decided { IfErr result (λ fault. IsTrue fault.decided → AnswersFound S.took S.spent now (unit_of found.entry) store.old store.new) }
+{
+    match found {
+        Peek::More => Ok(None),
+        Peek::TooLong => Ok(Some(answer_too_long(out)?)),
+        Peek::Bad(fault, len) => Ok(Some(answer_fault(fault, len, out)?)),
+        Peek::Whole(command, len) => {
+            Ok(Some(answer_command(alloc, &command, len, store, now, out)?))
+        }
+    }
+}
+
+/// Tells that a line is too long.
+fn answer_too_long(out: &mut Vec<u8>) -> Result<Next, TurnFault>
+    ensures ok { IfOk result (λ next. (next ≡ next_of LongLine 0 65537) × (out.new.items ≡ out.old.items ++ long_text)) }
+    ensures err { OnErr result (out.new.items ≡ out.old.items) }
+    ensures undecided { IfErr result (λ fault. IsFalse fault.decided) }
+{
+    write_too_long(out)?;
+    Ok(Next::Close)
+}
+
+/// Tells a line's fault.
+fn answer_fault(fault: LineFault, len: usize, out: &mut Vec<u8>) -> Result<Next, TurnFault>
+    ensures ok { IfOk result (λ next. (next ≡ next_of (Fault fault) 0 len) × (out.new.items ≡ out.old.items ++ fault_text fault)) }
+    ensures err { OnErr result (out.new.items ≡ out.old.items) }
+    ensures undecided { IfErr result (λ fault. IsFalse fault.decided) }
+{
+    write_fault(&fault, out)?;
+    let passed = match fault {
+        LineFault::TooLarge { passed } => passed,
+        LineFault::Unknown | LineFault::BadFormat | LineFault::BadDelta | LineFault::BadChunk => 0,
+    };
+    Ok(Next::Read { len, passed })
+}
+
+/// Takes the first turn of a command that is spelled by `len` bytes, and appends its text.
+fn answer_command<S: Steps>(
+    alloc: Global,
+    command: &Command<'_>,
+    len: usize,
+    store: &mut S,
+    now: Moment,
+    out: &mut Vec<u8>,
+) -> Result<Next, TurnFault>
+    requires { HasShortKeys command.now }
+    ensures ok { IfOk result (λ next. Tells S.took S.spent now (Some (Request command.now, len)) next store.old store.new out.old.items out.new.items) }
+    ensures err { OnErr result (out.new.items ≡ out.old.items) }
+    ensures undecided { IfErr result (λ fault. IsFalse fault.decided → store.new ≡ store.old) }
+    ensures decided { IfErr result (λ fault. IsTrue fault.decided → AnswersFound S.took S.spent now (Some (Request command.now, len)) store.old store.new) }
+{
+    if steps_of(command) == 0 {
+        write_plain(command, out)?;
+        return Ok(next_after(command, len));
+    }
+    answer_step(alloc, command, store, now, out)?;
+    Ok(next_after(command, len))
+}
+
+/// What comes after the first turn of a command that is spelled by `len` bytes.
+fn next_after(command: &Command<'_>, len: usize) -> Next
+    ensures next { result ≡ next_of (Request command.now) 0 len }
+    ensures few { turn_count (Request command.now) < 2 ^ 64 }
+{
+    let steps = steps_of(command);
+    if is_quit(command) {
+        Next::Close
+    } else if steps <= 1 {
+        Next::Read { len, passed: 0 }
+    } else {
+        Next::Step
+    }
+}
+
+fn is_quit(command: &Command<'_>) -> bool
+    ensures { result ≡ is_quit command.now }
+{
+    match command {
+        Command::Quit => true,
+        Command::Version
+        | Command::Store { .. }
+        | Command::Cas { .. }
+        | Command::Get { .. }
+        | Command::GetTouch { .. }
+        | Command::Touch { .. }
+        | Command::Delete { .. }
+        | Command::Count { .. }
+        | Command::FlushAll { .. } => false,
+    }
+}
+
+/// Takes the first step of a command, and appends the text of its reply.
+fn answer_step<S: Steps>(
+    alloc: Global,
+    command: &Command<'_>,
+    store: &mut S,
+    now: Moment,
+    out: &mut Vec<u8>,
+) -> Result<(), TurnFault>
+    requires steps { 0 < length (steps command.now) }
+    requires keys { HasShortKeys command.now }
+    ensures ok { OnOk result ((text : List ℕ) × (out.new.items ≡ out.old.items ++ text)
+        × Answers S.took S.spent (Request command.now) 0 now store.old store.new text) }
+    ensures err { OnErr result (out.new.items ≡ out.old.items) }
+    ensures undecided { IfErr result (λ fault. IsFalse fault.decided → store.new ≡ store.old) }
+    ensures decided { IfErr result (λ fault. IsTrue fault.decided → (text : List ℕ)
+        × Answers S.took S.spent (Request command.now) 0 now store.old store.new text) }
+{
+    let step = step_at(command, 0);
+    match store.step(alloc, &step, now) {
+        Ok(reply) => match write(command, 0, &reply, out) {
+            Ok(()) => Ok(()),
+            Err(_) => Err(TurnFault { decided: true }),
+        },
+        Err(StepFault::NumbersSpent) => Ok(write_spent(command, out)?),
+        Err(StepFault::NoMemory) => Err(TurnFault { decided: false }),
+    }
+}

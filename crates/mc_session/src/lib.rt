@@ -1,0 +1,14 @@
+//! Sessions: the turns of one connection, and a whole run of one over a reader and a writer.
+#![tactic(auto)]
+
+mod answer;
+mod next;
+mod output;
+mod serving;
+mod session;
+
+pub use serving::{ServeFault, serve};
+pub use session::{Session, Turn, TurnFault};
+
+#[cfg(test)]
+mod tests;

@@ -1,0 +1,10 @@
+/// What comes after a turn.
+#[derive(Clone, Copy, Debug, PartialEq, Eq)]
+pub enum Next {
+    /// The next turn of the same unit.
+    Step,
+    /// The next unit: this one had `len` bytes, and passes over `passed` bytes behind it.
+    Read { len: usize, passed: u64 },
+    /// Nothing: the session is closed.
+    Close,
+}

@@ -1,0 +1,164 @@
+ghost use Rattle.std.specs.Prelude.{◌≡◌, ◌<◌, ℕ, List, [], false, true, Ok, OnOk, OnErr, IfOk, IfErr, IsTrue, length};
+ghost use Rattle.std.specs.Io.KnownBytes.{Consumes, IsAtEnd};
+ghost use Rattle.mc_session.specs.Serving.{Serves, ServesAll, ServesUntilRefused};
+ghost use Rattle.mc_session.specs.Rounds.{Writes, Reads, HasEnded, GoesOn, IsRefused};
+
+use crate::session::{Session, Turn};
+use mc_command::Steps;
+use mc_time::Clock;
+use std::alloc::Global;
+use std::io::{ErrorKind, Read, Write};
+use thiserror::Error;
+
+/// Why a run ended early.
+#[derive(Debug, Drop, Error)]
+pub enum ServeFault {
+    /// The reader failed, or 2^40 turns were made.
+    #[error("reading failed")]
+    Read,
+    /// The writer failed.
+    #[error("writing failed")]
+    Write,
+    /// A growth was refused.
+    #[error("out of memory")]
+    NoMemory,
+}
+
+/// The most calls of `turn` in a run.
+const TURNS: u64 = 1 << 40;
+
+/// How many bytes are read at once at most.
+const PIECE: usize = 16384;
+
+/// So much output is written though more turns are due.
+const FULL: usize = 65536;
+
+/// Serves one session: reads pieces, takes turns at the clock's moments and writes their texts, until the input ends or
+/// the session closes. The output is written when no turn is due, at the end, and when it holds 64 KiB or more.
+pub fn serve<R: Read, W: Write, S: Steps, C: Clock>(
+    alloc: Global,
+    reader: &mut R,
+    writer: &mut W,
+    greatest: u64,
+    store: &mut S,
+    clock: &C,
+) -> Result<(), ServeFault>
+    ensures ok { OnOk result (ServesAll S.took S.spent (C.may_give clock.now) greatest store.old store.new
+        (R.remaining reader.old) (R.remaining reader.new) (W.contents writer.old) (W.contents writer.new)) }
+
+    // A failure leaves a beginning of the run.
+    ensures read { result ≡ Err ServeFault.Read → Serves S.took S.spent (C.may_give clock.now) greatest store.old store.new
+        (R.remaining reader.old) (R.remaining reader.new) (W.contents writer.old) (W.contents writer.new) }
+    ensures write { result ≡ Err ServeFault.Write → Serves S.took S.spent (C.may_give clock.now) greatest store.old store.new
+        (R.remaining reader.old) (R.remaining reader.new) (W.contents writer.old) (W.contents writer.new) }
+    ensures memory { result ≡ Err ServeFault.NoMemory → ServesUntilRefused S.took S.spent (C.may_give clock.now) greatest store.old store.new
+        (R.remaining reader.old) (R.remaining reader.new) (W.contents writer.old) (W.contents writer.new) }
+{
+    let mut session = Session::new(alloc, greatest);
+    let Ok(mut buffer) = vec![in alloc; 0; PIECE] else {
+        return Err(ServeFault::NoMemory);
+    };
+    let piece = buffer.as_mut_slice();
+    for _ in 0..TURNS {
+        if round(alloc, reader, writer, &mut session, store, clock, piece)? {
+            return Ok(());
+        }
+    }
+    Err(ServeFault::Read)
+}
+
+/// Takes one turn, with the writes and the read that it asks for. Answers whether the run is at its end.
+fn round<R: Read, W: Write, S: Steps, C: Clock>(
+    alloc: Global,
+    reader: &mut R,
+    writer: &mut W,
+    session: &mut Session,
+    store: &mut S,
+    clock: &C,
+    piece: &mut [u8],
+) -> Result<bool, ServeFault>
+    requires { 0 < length piece.old }
+    ensures ok { OnOk result (GoesOn S.took S.spent (C.may_give clock.now) session.old session.new store.old store.new
+        (R.remaining reader.old) (R.remaining reader.new) (W.contents writer.old) (W.contents writer.new)) }
+    ensures end { result ≡ Ok true → HasEnded session.new (R.remaining reader.new) }
+    ensures read { result ≡ Err ServeFault.Read → GoesOn S.took S.spent (C.may_give clock.now) session.old session.new store.old store.new
+        (R.remaining reader.old) (R.remaining reader.new) (W.contents writer.old) (W.contents writer.new) }
+    ensures write { result ≡ Err ServeFault.Write → GoesOn S.took S.spent (C.may_give clock.now) session.old session.new store.old store.new
+        (R.remaining reader.old) (R.remaining reader.new) (W.contents writer.old) (W.contents writer.new) }
+    ensures memory { result ≡ Err ServeFault.NoMemory → IsRefused S.took S.spent (C.may_give clock.now) session.old store.old store.new
+        (R.remaining reader.old) (R.remaining reader.new) (W.contents writer.old) (W.contents writer.new) }
+{
+    match session.turn(alloc, store, clock.now()) {
+        Ok(Turn::Did) => {
+            if session.out().len() >= FULL {
+                write_out(writer, session)?;
+            }
+            Ok(false)
+        }
+        Ok(Turn::Idle) => {
+            write_out(writer, session)?;
+            read_piece(reader, session, piece)
+        }
+        Ok(Turn::Closed) => {
+            write_out(writer, session)?;
+            Ok(true)
+        }
+        Err(_) => Err(ServeFault::NoMemory),
+    }
+}
+
+/// Writes the output. At a failure what was not written is left.
+fn write_out<W: Write>(writer: &mut W, session: &mut Session) -> Result<(), ServeFault>
+    ensures writes { Writes session.old session.new (W.contents writer.old) (W.contents writer.new) }
+    ensures ok { OnOk result (session.new.out ≡ []) }
+    ensures err { IfErr result (λ fault. fault ≡ ServeFault.Write) }
+{
+    for _ in 0..u64::MAX {
+        if session.out().is_empty() {
+            return Ok(());
+        }
+        match writer.write(session.out()) {
+            Ok(0) => return Err(ServeFault::Write),
+            Ok(written) => session.sent(written),
+            Err(error) => {
+                if error.kind() != ErrorKind::Interrupted {
+                    return Err(ServeFault::Write);
+                }
+            }
+        }
+    }
+    Err(ServeFault::Write)
+}
+
+/// Reads the next piece and feeds it to the session. Answers whether the input is at its end. A read that was
+/// interrupted gives nothing.
+fn read_piece<R: Read>(
+    reader: &mut R,
+    session: &mut Session,
+    piece: &mut [u8],
+) -> Result<bool, ServeFault>
+    requires { 0 < length piece.old }
+    ensures ok { OnOk result (Reads session.old session.new (R.remaining reader.old) (R.remaining reader.new)) }
+    ensures end { result ≡ Ok true → (session.new ≡ session.old) × IsAtEnd (R.remaining reader.new) }
+    ensures read { result ≡ Err ServeFault.Read → Reads session.old session.new (R.remaining reader.old) (R.remaining reader.new) }
+    ensures memory { result ≡ Err ServeFault.NoMemory → (piece : List ℕ) × Consumes (R.remaining reader.old) (R.remaining reader.new) piece }
+    ensures err { IfErr result (λ fault. fault ≡ ServeFault.Write → ⊥) }
+{
+    match reader.read(piece) {
+        Ok(0) => Ok(true),
+        Ok(len) => {
+            let (read, _) = piece.split_at(len);
+            match session.feed(read) {
+                Ok(()) => Ok(false),
+                Err(_) => Err(ServeFault::NoMemory),
+            }
+        }
+        Err(error) => {
+            if error.kind() == ErrorKind::Interrupted {
+                Ok(false)
+            } else {
+                Err(ServeFault::Read)
+            }
+        }
+    }
+}

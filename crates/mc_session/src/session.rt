@@ -1,0 +1,206 @@
+ghost use Rattle.std.specs.Prelude.{◌≡◌, ◌↔◌, IsTrue};
+ghost use Rattle.mc_parse.specs.Peeks.{unit_of};
+ghost use Rattle.mc_session.specs.Turns.{SessionState};
+
+use crate::answer::answer;
+use crate::next::Next;
+use crate::output::drop_front;
+use mc_command::Steps;
+use mc_parse::{Feed, Peek, no_spelling_begins_another};
+use mc_time::Moment;
+use std::alloc::{AllocError, Global};
+use std::marker::Model;
+use thiserror::Error;
+
+/// What a turn did.
+#[derive(Clone, Copy, Debug, PartialEq, Eq)]
+pub enum Turn {
+    /// A turn was taken.
+    Did,
+    /// No turn is due until more bytes come.
+    Idle,
+    /// The session is closed.
+    Closed,
+}
+
+/// Memory ran out, and the session is closed. The text of the turn isn't told.
+#[derive(Debug, Drop, Error)]
+#[error("out of memory")]
+pub struct TurnFault {
+    /// Whether the turn's step stands in the store.
+    pub decided: bool,
+}
+
+impl From<AllocError> for TurnFault {
+    ghost use Rattle.std.specs.Prelude.{◌≡◌, false};
+
+    ghost from_gives = { λ _ fault. fault ≡ record { decided = false } };
+
+    fn from(_refused: AllocError) -> TurnFault {
+        TurnFault { decided: false }
+    }
+}
+
+/// The turns of one connection. Contracts see the unread part of its stream, how many turns of its first unit were
+/// taken, the output that is to be written, and whether it is open.
+#[derive(Drop)]
+pub struct Session {
+    alloc: Global,
+    feed: Feed,
+    /// How many turns of the first unit were taken.
+    taken: usize,
+    out: Vec<u8>,
+    /// How many bytes of `out` were sent.
+    sent: usize,
+    is_open: bool,
+}
+
+impl Model for Session {
+    ghost use Rattle.std.specs.Prelude.{◌≤◌, drop, length};
+    ghost use Rattle.mc_session.specs.Turns.{SessionState};
+    ghost use Rattle.mc_session.specs.Answers.{IsWithin};
+
+    ghost Value = { SessionState };
+
+    ghost view = { λ s. record { unread = s.feed; taken = s.taken; out = drop s.sent s.out.items; is_open = s.is_open } };
+
+    ghost invariant = { λ s. IsWithin s.feed s.taken × (s.sent ≤ length s.out.items) };
+}
+
+impl Session {
+    ghost use Rattle.std.specs.Prelude.{◌≡◌, ◌≤◌, ◌↔◌, length, IsTrue, IsFalse, OnOk, OnErr, IfErr, Ok};
+    ghost use Rattle.mc_session.specs.Turns.{TakesTurn, NoTurnDue, opened, closed, fed, sent};
+    ghost use Rattle.mc_session.specs.Answers.{gone_on, MayGoOn};
+
+    /// A session that was fed nothing, whose storage commands may charge at most `greatest` bytes. It takes no memory.
+    pub fn new(alloc: Global, greatest: u64) -> Session
+        ensures { result ≡ opened greatest }
+    {
+        Session {
+            alloc,
+            feed: Feed::new(alloc, greatest),
+            taken: 0,
+            out: Vec::new(alloc),
+            sent: 0,
+            is_open: true,
+        }
+    }
+
+    /// Takes the next piece of the stream. A closed session takes none. Refused, the session is as it was.
+    pub fn feed(&mut self, piece: &[u8]) -> Result<(), AllocError>
+        ensures ok { OnOk result (self.new ≡ fed self.old piece.now) }
+        ensures err { OnErr result (self.new ≡ self.old) }
+    {
+        if self.is_open {
+            self.feed.push(piece)
+        } else {
+            Ok(())
+        }
+    }
+
+    /// Takes the next turn of the session's stream, if one is due: at most one step of the store, at `now`. Its text is
+    /// appended to the output. Want of memory closes the session; the output stays.
+    pub fn turn<S: Steps>(
+        &mut self,
+        alloc: Global,
+        store: &mut S,
+        now: Moment,
+    ) -> Result<Turn, TurnFault>
+        ensures did { result ≡ Ok Turn.Did → TakesTurn S.took S.spent now self.old self.new store.old store.new }
+        ensures idle { result ≡ Ok Turn.Idle → NoTurnDue self.old × IsTrue self.old.is_open × (self.new ≡ self.old) × (store.new ≡ store.old) }
+        ensures closed { result ≡ Ok Turn.Closed → IsFalse self.old.is_open × (self.new ≡ self.old) × (store.new ≡ store.old) }
+        ensures err { OnErr result (self.new ≡ closed self.old) }
+        // What was not decided left the store as it was; what was decided is a turn whose text alone is missing.
+        ensures undecided { IfErr result (λ fault. IsFalse fault.decided → store.new ≡ store.old) }
+        ensures decided { IfErr result (λ fault. IsTrue fault.decided
+            → (after : SessionState) × TakesTurn S.took S.spent now self.old after store.old store.new) }
+    {
+        if !self.is_open {
+            return Ok(Turn::Closed);
+        }
+        no_spelling_begins_another();
+        let found = self.feed.peek_after(self.taken);
+        match answer(alloc, found, store, now, &mut self.out) {
+            Ok(None) => Ok(Turn::Idle),
+            Ok(Some(next)) => {
+                self.go_on(next);
+                Ok(Turn::Did)
+            }
+            Err(fault) => {
+                self.close();
+                Err(fault)
+            }
+        }
+    }
+
+    fn go_on(&mut self, next: Next)
+        requires { MayGoOn next self.old }
+        ensures { self.new ≡ gone_on next self.old }
+    {
+        match next {
+            Next::Step => {
+                self.taken += 1;
+                self.feed.mark(self.taken);
+            }
+            Next::Read { len, passed } => {
+                self.taken = 0;
+                self.feed.done_passing(len, passed);
+            }
+            Next::Close => self.close(),
+        }
+    }
+
+    /// Whether it is open and no turn is due until more bytes come.
+    pub fn is_idle(&self) -> bool
+        ensures { IsTrue result ↔ (IsTrue self.now.is_open × NoTurnDue self.now) }
+    {
+        self.is_open && is_more(&self.feed.peek_after(self.taken))
+    }
+
+    /// Whether it was closed: by a quit, a line that is too long, want of memory or `close`.
+    pub fn is_closed(&self) -> bool
+        ensures { IsTrue result ↔ IsFalse self.now.is_open }
+    {
+        !self.is_open
+    }
+
+    /// What is to be written.
+    pub fn out(&self) -> &[u8]
+        ensures { result.now ≡ self.now.out }
+    {
+        let (_, unsent) = self.out.split_at(self.sent);
+        unsent
+    }
+
+    /// The first `n` bytes of the output were written. What is left is moved only where it is no longer than what was
+    /// written, so that each byte that is written pays for one that is moved.
+    pub fn sent(&mut self, n: usize)
+        requires { n ≤ length self.old.out }
+        ensures { self.new ≡ sent self.old n }
+    {
+        self.sent += n;
+        if self.out.len() - self.sent <= self.sent {
+            drop_front(&mut self.out, self.sent, self.alloc);
+            self.sent = 0;
+        }
+    }
+
+    /// Closes the session: what is unread is dropped, and the output stays.
+    pub fn close(&mut self)
+        ensures { self.new ≡ closed self.old }
+    {
+        self.is_open = false;
+        self.taken = 0;
+        self.feed.clear();
+    }
+}
+
+/// Whether a peek found nothing.
+fn is_more(found: &Peek<'_>) -> bool
+    ensures { IsTrue result ↔ (unit_of found.now ≡ None) }
+{
+    match found {
+        Peek::More => true,
+        Peek::Whole(..) | Peek::Bad(..) | Peek::TooLong => false,
+    }
+}

@@ -1,0 +1,221 @@
+use super::*;
+use mc_command::PlainStore;
+use mc_time::{Fixed, Moment};
+use std::alloc::{AllocError, Global};
+use std::io::{self, ErrorKind, Read, Write};
+use std::process::Abort;
+use std::test::Fail;
+
+const GREATEST: u64 = 1048576;
+
+/// More calls than a test makes.
+const NEVER: usize = 10000;
+
+/// What is read, and what must be written.
+const ROWS: [(&str, &str); 9] = [
+    ("", ""),
+    (
+        "set a 5 0 3\r\nabc\r\nget a\r\n",
+        "STORED\r\nVALUE a 5 3\r\nabc\r\nEND\r\n",
+    ),
+    (
+        "set e 0 0 0\r\n\r\nget e\r\n",
+        "STORED\r\nVALUE e 0 0\r\n\r\nEND\r\n",
+    ),
+    (
+        "set a 0 0 1\r\nx\r\ngets a\r\ncas a 0 0 1 1\r\ny\r\ncas a 0 0 1 1\r\nz\r\n",
+        "STORED\r\nVALUE a 0 1 1\r\nx\r\nEND\r\nSTORED\r\nEXISTS\r\n",
+    ),
+    (
+        "set a 0 0 3\r\nabcdef\r\n",
+        "CLIENT_ERROR bad data chunk\r\nERROR\r\n",
+    ),
+    ("set a 0 0 4\r\n\r\n\r\n\r\n", "STORED\r\n"),
+    (
+        "set a 0 0 1 noreply\r\nx\r\nget a b a\r\nquit\r\nget a\r\n",
+        "VALUE a 0 1\r\nx\r\nVALUE a 0 1\r\nx\r\nEND\r\n",
+    ),
+    ("set a 0 0 5\r\nab", ""),
+    (
+        "\r\nfoo\r\nget\r\nversion\n  version  \r\n",
+        "ERROR\r\nERROR\r\nERROR\r\nVERSION 1.6.0\r\nVERSION 1.6.0\r\n",
+    ),
+];
+
+/// Gives one byte at a time, and fails once it was asked so often.
+#[derive(Drop)]
+struct Drip<'a> {
+    rest: &'a [u8],
+    calls: usize,
+}
+
+impl Read for Drip<'_> {
+    fn read(&mut self, buf: &mut [u8]) -> io::Result<usize> {
+        if self.calls == 0 {
+            return Err(io::Error::from(ErrorKind::Other));
+        }
+        self.calls -= 1;
+        let Some((first, rest)) = self.rest.split_first() else {
+            return Ok(0);
+        };
+        if buf.is_empty() {
+            return Ok(0);
+        }
+        buf[0] = *first;
+        self.rest = rest;
+        Ok(1)
+    }
+}
+
+/// Takes one byte at a time, and fails once it was asked so often.
+#[derive(Drop)]
+struct Sip {
+    taken: Vec<u8>,
+    calls: usize,
+}
+
+impl Write for Sip {
+    fn write(&mut self, buf: &[u8]) -> io::Result<usize> {
+        if self.calls == 0 {
+            return Err(io::Error::from(ErrorKind::Other));
+        }
+        self.calls -= 1;
+        let Some(first) = buf.first() else {
+            return Ok(0);
+        };
+        self.taken.push(*first)?;
+        Ok(1)
+    }
+
+    fn flush(&mut self) -> io::Result<()> {
+        Ok(())
+    }
+}
+
+/// How a run over that reader and writer ends, and what it wrote.
+fn run(
+    alloc: Global,
+    input: &[u8],
+    reads: usize,
+    writes: usize,
+) -> Result<(Result<(), ServeFault>, Vec<u8>), AllocError> {
+    let mut reader = Drip {
+        rest: input,
+        calls: reads,
+    };
+    let mut writer = Sip {
+        taken: Vec::with_capacity(alloc, 1000)?,
+        calls: writes,
+    };
+    let mut store = PlainStore::new(alloc, 1, GREATEST)?;
+    let clock = Fixed(Moment::from_seconds(1000));
+    let ended = serve(
+        alloc,
+        &mut reader,
+        &mut writer,
+        GREATEST,
+        &mut store,
+        &clock,
+    );
+    Ok((ended, writer.taken))
+}
+
+/// What a run that is well writes. A test may refuse one growth: what was written then is a beginning.
+fn written(rt: &impl Abort, alloc: Global, input: &[u8]) -> Result<Vec<u8>, Fail> {
+    if let Ok((ended, part)) = run(alloc, input, NEVER, NEVER) {
+        if ended.is_ok() {
+            return Ok(part);
+        }
+        let (again, whole) = run(alloc, input, NEVER, NEVER)?;
+        assert!(rt; matches!(ended, Err(ServeFault::NoMemory)));
+        assert!(rt; again.is_ok());
+        assert!(rt; whole.as_slice().starts_with(part.as_slice()));
+        return Ok(whole);
+    }
+    let (ended, whole) = run(alloc, input, NEVER, NEVER)?;
+    assert!(rt; ended.is_ok());
+    Ok(whole)
+}
+
+#[test]
+fn rows_are_written(rt: HostRuntime) -> Result<(), Fail> {
+    for (input, output) in ROWS {
+        let out = written(&rt, rt.alloc(), input.as_bytes())?;
+        assert_eq!(rt; out.as_slice(), output.as_bytes(), "at {input}");
+    }
+    Ok(())
+}
+
+#[test]
+fn a_failed_read_leaves_what_came_before_answered(rt: HostRuntime) -> Result<(), Fail> {
+    for (input, _) in ROWS {
+        let input = input.as_bytes();
+        for reads in 0..input.len() {
+            let (came, _) = input.split_at(reads);
+            let (ended, out) = run(rt.alloc(), input, reads, NEVER)?;
+            // A session that was closed reads no further.
+            assert!(rt; matches!(ended, Ok(()) | Err(ServeFault::Read)));
+            assert_eq!(rt; out, written(&rt, rt.alloc(), came)?, "after {reads}");
+        }
+    }
+    Ok(())
+}
+
+#[test]
+fn a_failed_write_leaves_a_beginning(rt: HostRuntime) -> Result<(), Fail> {
+    for (input, output) in ROWS {
+        let output = output.as_bytes();
+        for writes in 0..output.len() {
+            let (front, _) = output.split_at(writes);
+            let (ended, out) = run(rt.alloc(), input.as_bytes(), NEVER, writes)?;
+            assert!(rt; matches!(ended, Err(ServeFault::Write)));
+            assert_eq!(rt; out.as_slice(), front);
+        }
+    }
+    Ok(())
+}
+
+/// Feeds a session, and takes so many turns of it.
+fn turns(
+    rt: &impl Abort,
+    alloc: Global,
+    session: &mut Session,
+    store: &mut PlainStore,
+    piece: &str,
+    count: usize,
+) -> Result<(), Fail> {
+    session.feed(piece.as_bytes())?;
+    for _ in 0..count {
+        assert!(rt; !session.is_idle());
+        let turn = session.turn(alloc, store, Moment::from_seconds(1000));
+        assert!(rt; matches!(turn, Ok(Turn::Did)));
+    }
+    Ok(())
+}
+
+#[test]
+fn keys_of_a_get_take_a_turn_each(rt: HostRuntime) -> Result<(), Fail> {
+    let alloc = rt.alloc();
+    let mut store = PlainStore::new(alloc, 1, GREATEST)?;
+    let mut reading = Session::new(alloc, GREATEST);
+    let mut writing = Session::new(alloc, GREATEST);
+    let ones = "set a 0 0 1\r\n1\r\nset b 0 0 1\r\n1\r\n";
+    turns(&rt, alloc, &mut writing, &mut store, ones, 2)?;
+    turns(&rt, alloc, &mut reading, &mut store, "get a b\r\n", 1)?;
+    let twos = "set a 0 0 1\r\n2\r\nset b 0 0 1\r\n2\r\n";
+    turns(&rt, alloc, &mut writing, &mut store, twos, 2)?;
+    turns(&rt, alloc, &mut reading, &mut store, "", 1)?;
+    assert_eq!(rt;
+        reading.out(),
+        b"VALUE a 0 1\r\n1\r\nVALUE b 0 1\r\n2\r\nEND\r\n".as_slice()
+    );
+    assert!(rt; reading.is_idle());
+    assert!(rt; writing.out().len() == 32);
+    writing.sent(8);
+    assert_eq!(rt; writing.out(), b"STORED\r\nSTORED\r\nSTORED\r\n".as_slice());
+    writing.close();
+    assert!(rt; writing.is_closed());
+    let turn = writing.turn(alloc, &mut store, Moment::from_seconds(1000));
+    assert!(rt; matches!(turn, Ok(Turn::Closed)));
+    Ok(())
+}

@@ -1,0 +1,180 @@
+#!/usr/bin/env python3
+"""Random inputs, by a seed: what the built program answers is compared with what tests/model.py answers.
+
+    tests/fuzz.py [--program PATH] [--count N] [--seed N]
+    tests/fuzz.py --show NUMBER [--seed N]     writes that input to standard output
+
+An input that fails is made shorter while it still fails, and printed.
+"""
+import argparse
+import os
+import random
+import sys
+
+import model
+import rows
+
+MOMENTS = [0, 1, 1000, 2592000, 2592001, 1700000000, 2**62]
+KEYS = [b"a", b"b", b"n", b"m", b"0", b"noreply", b"a\x00", b"\xff\t\r", b"k" * 250]
+BAD_KEYS = [b"K" * 251, b"\xfe" * 252]
+FLAGS = [b"0", b"1", b"7", b"0042", b"4294967295", b"4294967296", b"-1", b"x"]
+EXPTIMES = [b"0", b"0", b"0", b"-0", b"1", b"100", b"2592000", b"2592001", b"2592002", b"1700000000", b"1700000001"]
+EXPTIMES += [b"-1", b"9223372036854775807", b"9223372036854775808", b"-9223372036854775807", b"-9223372036854775808", b"-", b"+1", b"1x"]
+UNIQUES = [b"0", b"1", b"2", b"3", b"4", b"5", b"8", b"18446744073709551615", b"18446744073709551616", b"-1"]
+DELTAS = [b"0", b"1", b"5", b"0010", b"9999999999", b"18446744073709551615", b"18446744073709551616", b"-1", b"", b"1x"]
+BLOCKS = [b"", b"x", b"5", b"17", b"99  ", b"18446744073709551615", b"18446744073709551616", b"000000000000000000007"]
+BLOCKS += [b"abc", b"\r\n", b"a\r\nb", b"\x00\xff\n", b"get a\r\n", b"0" * 20, b" 5", b"y" * 300]
+LENGTHS = [b"2147483645", b"2147483646", b"1048528", b"1048527", b"-1", b"x", b"70000", b"000003"]
+ENDS = [b"\r\n"] * 12 + [b"\n", b"\n", b"\r\r\n", b"\r", b""]
+STRAYS = [b"", b"noreply", b"0", b"x", b"1", b"\x00", b"noreply noreply"]
+
+
+class Source:
+    """Writes inputs from a seed and a number."""
+
+    def __init__(self, seed, number):
+        self.random = random.Random(f"{seed} {number}")
+        self.now = self.random.choice(MOMENTS)
+        self.faulty = self.random.choice([0.0, 0.02, 0.15])
+
+    def pick(self, good, bad=None):
+        if bad and self.random.random() < self.faulty:
+            return self.random.choice(bad)
+        return self.random.choice(good)
+
+    def key(self):
+        return self.pick(KEYS[:4], KEYS + BAD_KEYS)
+
+    def keys(self):
+        return [self.key() for _ in range(self.random.choice([1, 1, 1, 2, 3, 9]))]
+
+    def line(self, words, may_be_quiet):
+        """A line of these words, now and then with a fault."""
+        if may_be_quiet and self.random.random() < 0.2:
+            words = [*words, b"noreply"]
+        if self.random.random() < self.faulty:
+            at = self.random.randrange(len(words) + 1)
+            words = [*words[:at], self.random.choice(STRAYS), *words[at + self.random.choice([0, 1]) :]]
+        gap = b" " * self.random.choice([1] * 9 + [3])
+        before = b" " * self.random.choice([0] * 9 + [2])
+        return before + gap.join(words) + self.pick([b"\r\n"], ENDS)
+
+    def storage(self):
+        verb = self.random.choice([b"set", b"set", b"set", b"add", b"replace", b"append", b"prepend", b"cas"])
+        block = self.random.choice(BLOCKS)
+        length = self.pick([b"%d" % len(block)], [*LENGTHS, b"%d" % (len(block) + 1), b"%d" % max(len(block) - 1, 0)])
+        words = [verb, self.key(), self.pick(FLAGS[:5], FLAGS), self.pick(EXPTIMES[:11], EXPTIMES), length]
+        if verb == b"cas":
+            words.append(self.pick(UNIQUES[1:6], UNIQUES))
+        return self.line(words, True) + block + self.pick([b"\r\n"], ENDS)
+
+    def retrieval(self):
+        if self.random.random() < 0.7:
+            return self.line([self.random.choice([b"get", b"gets"]), *self.keys()], False)
+        return self.line([self.random.choice([b"gat", b"gats"]), self.pick(EXPTIMES[:11], EXPTIMES), *self.keys()], False)
+
+    def other(self):
+        kind = self.random.randrange(7)
+        if kind == 0:
+            return self.line([b"touch", self.key(), self.pick(EXPTIMES[:11], EXPTIMES)], True)
+        if kind == 1:
+            return self.line([b"delete", self.key(), *self.random.choice([[], [], [b"0"]])], True)
+        if kind in (2, 3, 4):
+            return self.line([self.random.choice([b"incr", b"decr"]), self.key(), self.pick(DELTAS[:6], DELTAS)], True)
+        if kind == 5 and self.random.random() < 0.3:
+            return self.line([b"flush_all", *self.random.choice([[], [self.pick(EXPTIMES[:11], EXPTIMES)]])], True)
+        return self.line([b"quit" if self.random.random() < self.faulty / 5 else b"version"], False)
+
+    def noise(self):
+        kind = self.random.randrange(6)
+        if kind == 0:
+            return self.random.randbytes(self.random.randrange(200))
+        if kind == 1:
+            return bytes(self.random.choice(b"geta 0\r\nsi") for _ in range(self.random.randrange(60)))
+        if kind == 2 and self.random.random() < 0.2:
+            return b"q" * self.random.choice([65535, 65536, 65537]) + self.random.choice([b"\n", b"\r\n", b""])
+        if kind == 3 and self.random.random() < 0.2:
+            length = self.random.choice([1048526, 1048527, 1048528])
+            return b"set a 0 0 %d\r\n" % length + b"z" * (length + self.random.choice([0, 0, 0, 1])) + b"\r\n"
+        return self.random.choice([b"\r\n", b"\n", b"get", b"get \r\n", b"gat 0\r\n", b"stats\r\n", b"SET a 0 0 1\r\n", b" "])
+
+    def pieces(self):
+        made = []
+        for _ in range(self.random.choice([3, 20, 60, 200])):
+            share = self.random.random()
+            if share < 0.35:
+                made.append(self.storage())
+            elif share < 0.65:
+                made.append(self.retrieval())
+            elif share < 0.98 - self.faulty:
+                made.append(self.other())
+            else:
+                made.append(self.noise())
+        if made and self.random.random() < 0.3:
+            made[-1] = made[-1][: self.random.randrange(len(made[-1]) + 1)]
+        return made
+
+    def size(self, length):
+        """In pieces of how many bytes the program is to have it; None for one file."""
+        return self.random.choice([None, 1, 7, 100] if length < 5000 else [None, 1000, 16384])
+
+
+def faults(program, stream, now, size):
+    args = ["--stdin", "--now", str(now)]
+    ran = rows.run(program, args, stream) if size is None else rows.run_in_pieces(program, args, stream, size)
+    wanted = model.answer(stream, now)
+    if ran.late:
+        return ["had not ended in time"]
+    found = [] if ran.status == 0 and not ran.stderr else [f"status {ran.status}, standard error {rows.shown(ran.stderr)}"]
+    return found + ([rows.difference("output", wanted, ran.stdout)] if ran.stdout != wanted else [])
+
+
+def shorter(program, pieces, now, size, most=300):
+    """Leaves pieces out while the input still fails."""
+    step = max(len(pieces) // 2, 1)
+    while most > 0:
+        at, was = 0, len(pieces)
+        while at < len(pieces) and most > 0:
+            less = pieces[:at] + pieces[at + step :]
+            most -= 1
+            if less and faults(program, b"".join(less), now, size):
+                pieces = less
+            else:
+                at += step
+        if step == 1 and len(pieces) == was:
+            break
+        step = max(step // 2, 1)
+    return pieces
+
+
+def compare(report, program, count, seed):
+    for number in range(count):
+        source = Source(seed, number)
+        pieces = source.pieces()
+        stream = b"".join(pieces)
+        size = source.size(len(stream))
+        found = faults(program, stream, source.now, size)
+        if found and report.failed < report.TOLD:
+            pieces = shorter(program, pieces, source.now, size)
+            found = faults(program, b"".join(pieces), source.now, size) or found
+            found.append(f"--now {source.now}, input {rows.shown(b''.join(pieces), 2000)}")
+        report.count(f"random input {number} of seed {seed}, {f'in pieces of {size}' if size else 'in one file'}", found)
+
+
+def main():
+    parser = argparse.ArgumentParser(description=__doc__, formatter_class=argparse.RawDescriptionHelpFormatter)
+    parser.add_argument("--program", default=rows.PROGRAM)
+    parser.add_argument("--count", type=int, default=1000)
+    parser.add_argument("--seed", type=int, default=1)
+    parser.add_argument("--show", type=int, metavar="NUMBER")
+    given = parser.parse_args()
+    if given.show is not None:
+        sys.stdout.buffer.write(b"".join(Source(given.seed, given.show).pieces()))
+        return 0
+    report = rows.Report()
+    compare(report, os.path.abspath(given.program), given.count, given.seed)
+    return report.end()
+
+
+if __name__ == "__main__":
+    sys.exit(main())

@@ -1,0 +1,153 @@
+"""What no row can say: long hostile inputs, memory that stays bounded, and devices that fail."""
+import os
+import random
+import resource
+import subprocess
+import tempfile
+
+import measure
+import model
+import rows
+
+ARGS = ["--stdin", "--now", "1000"]
+# The program itself, the libraries and a session's buffers stay below this, in bytes.
+MEMORY = 32 * 2**20
+
+
+def check(report, program):
+    for name, faults in [
+        ("ten megabytes of random bytes", random_bytes),
+        ("ten megabytes of random short lines", random_lines),
+        ("a block of 64 megabytes that is too large", passed_block),
+        ("a line that never ends", endless_line),
+        ("a reader of the output that has gone", closed_pipe),
+        ("a reader of the output that goes after its first bytes", closing_pipe),
+        ("a device that is full", full_device),
+        ("help on a device that is full", full_device_of_help),
+        ("an input that cannot be read", unreadable_input),
+        ("memory that runs out", memory_runs_out),
+        ("an argument that is not text", argument_not_text),
+    ]:
+        report.count(name, faults(program))
+
+
+def measured(program, stream):
+    """Runs a plain session: how it went, and the most memory that it had."""
+    with tempfile.TemporaryFile() as given, tempfile.TemporaryFile() as out, tempfile.TemporaryFile() as said:
+        given.write(stream)
+        given.seek(0)
+        found = measure.run([program, *ARGS], rows.SECONDS, given, out, said)
+        out.seek(0)
+        said.seek(0)
+        return rows.Ran(found["status"], out.read(), said.read(), found["late"]), found["memory"]
+
+
+def bounded(program, stream):
+    """A session over a stream answers as the model does, in little memory."""
+    ran, memory = measured(program, stream)
+    wanted = model.answer(stream, 1000)
+    found = ended(ran, 0, b"")
+    if ran.stdout != wanted:
+        found.append(rows.difference("output", wanted, ran.stdout))
+    if memory > MEMORY:
+        found.append(f"took {memory} bytes of memory, and {MEMORY} are meant to do")
+    return found
+
+
+def ended(ran, status, said):
+    found = []
+    if ran.late:
+        found.append("had not ended in time")
+    if ran.status != status:
+        found.append(f"the status is {ran.status}, wanted {status}")
+    if ran.stderr != said:
+        found.append(rows.difference("stderr", said, ran.stderr))
+    return found
+
+
+def random_bytes(program):
+    return bounded(program, random.Random(1).randbytes(10_000_000))
+
+
+def random_lines(program):
+    source = random.Random(2)
+    words = [b"get", b"set", b"a", b"b", b"0", b"1", b"noreply", b"\x00", b"incr", b"touch", b"delete", b"version", b"gats"]
+    lines = [b" ".join(source.choices(words, k=source.randrange(1, 7))) + b"\r\n" for _ in range(600_000)]
+    return bounded(program, b"".join(lines)[:10_000_000])
+
+
+def passed_block(program):
+    stream = b"set a 0 0 %d\r\n" % (64 * 2**20) + b"quit\r\nz" * (64 * 2**20 // 7 + 1)
+    stream = stream[: len(b"set a 0 0 67108864\r\n") + 64 * 2**20] + b"\r\nversion\r\n"
+    return bounded(program, stream)
+
+
+def endless_line(program):
+    return bounded(program, b"version\r\n" + b"get " + b"a" * 20_000_000)
+
+
+def to_pipe(program, given, reads):
+    """Runs a session whose output nobody reads after `reads` bytes."""
+    theirs, ours = os.pipe()
+    started = subprocess.Popen([program, *ARGS], stdin=given, stdout=ours, stderr=subprocess.PIPE)
+    os.close(ours)
+    if reads:
+        os.read(theirs, reads)
+    os.close(theirs)
+    return rows.outcome(started)
+
+
+def closed_pipe(program, reads=0):
+    with tempfile.TemporaryFile() as given:
+        given.write(b"version\r\n" * 1_000_000)
+        given.seek(0)
+        return ended(to_pipe(program, given, reads), 1, b"mcserver: write fault\n")
+
+
+def closing_pipe(program):
+    return closed_pipe(program, reads=10)
+
+
+def full_device(program, args=ARGS):
+    with open("/dev/full", "wb") as full, tempfile.TemporaryFile() as given:
+        given.write(b"version\r\n")
+        given.seek(0)
+        started = subprocess.Popen([program, *args], stdin=given, stdout=full, stderr=subprocess.PIPE)
+        return ended(rows.outcome(started), 1, b"mcserver: write fault\n")
+
+
+def full_device_of_help(program):
+    return full_device(program, ["--help"])
+
+
+def unreadable_input(program):
+    folder = os.open("/", os.O_RDONLY | os.O_DIRECTORY)
+    try:
+        started = subprocess.Popen([program, *ARGS], stdin=folder, stdout=subprocess.PIPE, stderr=subprocess.PIPE)
+        ran = rows.outcome(started)
+    finally:
+        os.close(folder)
+    return ended(ran, 1, b"mcserver: read fault\n") + ([] if ran.stdout in (b"", None) else ["it wrote something"])
+
+
+def memory_runs_out(program):
+    """Sixty items of a megabyte are stored where the process may have 32 of them."""
+    few = 32 * 2**20
+    with tempfile.TemporaryFile() as given:
+        for number in range(60):
+            given.write(b"set k%d 0 0 1000000\r\n" % number + b"x" * 1_000_000 + b"\r\n")
+        given.seek(0)
+        limited = lambda: resource.setrlimit(resource.RLIMIT_AS, (few, few))
+        started = subprocess.Popen([program, *ARGS], stdin=given, stdout=subprocess.PIPE, stderr=subprocess.PIPE, preexec_fn=limited)
+        ran = rows.outcome(started)
+    found = ended(ran, 1, b"mcserver: out of memory\n")
+    if not (b"STORED\r\n" * 60).startswith(ran.stdout):
+        found.append(f"it wrote {rows.shown(ran.stdout)}")
+    return found
+
+
+def argument_not_text(program):
+    started = subprocess.Popen([program, "--stdin", b"\xff"], stdin=subprocess.DEVNULL, stdout=subprocess.PIPE, stderr=subprocess.PIPE)
+    ran = rows.outcome(started)
+    found = [] if b"error:" in ran.stderr else [f"standard error is {rows.shown(ran.stderr)}"]
+    return found + ended(ran, 2, ran.stderr)
