@@ -1,16 +1,22 @@
 -- Turns over a store are turns over what contracts see of it.
-use Rattle.std.proofs.Common.{◌≡◌, ◌⊎◌, inl, inr, ℕ, ◌<◌, List, [], ◌∷◌, Option, Some, None, refl, sym, ap, ◌∙◌, subst}
+use Rattle.std.proofs.Common.{◌≡◌, ◌⊎◌, inl, inr, ℕ, ◌<◌, List, [], ◌∷◌, Bool, true, false, Option, Some, None, Result, Ok, Err, IfErr, OnOk, OnErr, IsTrue, IsFalse, refl, ap}
 use Rattle.std.specs.List.{slice_get}
 use Rattle.std.specs.Option.{MatchOption}
 use Rattle.mc_command.specs.Commands.{steps}
+use Rattle.mc_command.specs.Plain.{plain, Answered, Spent}
 use Rattle.mc_command.specs.declared.command.Command.{Command}
 use Rattle.mc_command.specs.declared.step.KeyStep.{KeyStep}
 use Rattle.mc_command.specs.declared.reply.Reply.{Reply}
 use Rattle.mc_parse.specs.Units.{ProtocolUnit, Request, Fault, LongLine}
 use Rattle.mc_reply.specs.Texts.{plain_text}
-use Rattle.mc_session.specs.Turns.{SessionState, Answers, AnswersStep, TakesTurn, NoTurnDue}
-use Rattle.mc_world.specs.Worlds.{put, open_session}
-use Rattle.mc_world.specs.Sessions.{TurnOf, DecidedOf}
+use Rattle.mc_session.specs.Turns.{SessionState, Answers, AnswersStep, TakesTurn, NoTurnDue, closed}
+use Rattle.mc_session.specs.declared.session.Turn.{Turn}
+use Rattle.mc_session.specs.declared.session.TurnFault.{TurnFault}
+use Rattle.mc_shelf.specs.declared.store.Store.{Store}
+use Rattle.mc_world.specs.Worlds.{put, open_session, replies, is_spent}
+use Rattle.mc_world.specs.Sessions.{TurnOf, DecidedOf, Undone, at_session}
+use Rattle.mc_world.specs.declared.event.Event.{Event}
+use Rattle.mc_world.specs.declared.event.Event.TheVariants.{Turn as TurnEvent}
 
 module _ {S T : Type 0} (took : S → KeyStep → ℕ → Reply → S → Type 0) (spent : S → KeyStep → ℕ → Type 0) (took' : T → KeyStep → ℕ → Reply → T → Type 0) (spent' : T → KeyStep → ℕ → Type 0) (f : S → T)
     (takes : (b : S) (step : KeyStep) (now : ℕ) (reply : Reply) (a : S) → took b step now reply a → took' (f b) step now reply (f a)) (spends : (b : S) (step : KeyStep) (now : ℕ) → spent b step now → spent' (f b) step now) where
@@ -74,3 +80,41 @@ module _ {S : Type 0} (took : S → KeyStep → ℕ → Reply → S → Type 0) 
 
   pub decided_keeps : (n now : ℕ) (old : List SessionState) (b a : S) → DecidedOf took spent n now old b a → Keeps b a
   decided_keeps n now old b a h = answers_keep h.3.unit h.0.taken now b a h.3.text h.3.answers
+
+-- a store's step, as what it says of the plain state
+abbrev store_took : {K : Type 0} → Store K → KeyStep → ℕ → Reply → Store K → Type 0
+store_took old step now reply new = (plain old.plain step now ≡ Answered reply new.plain) × (new.settings ≡ old.settings) × (new.hasher ≡ old.hasher)
+
+abbrev store_spent : {K : Type 0} → Store K → KeyStep → ℕ → Type 0
+store_spent old step now = plain old.plain step now ≡ Spent
+
+abbrev Kept : {K : Type 0} → Store K → Store K → Type 0
+Kept b a = (a.settings ≡ b.settings) × (a.hasher ≡ b.hasher)
+
+kept_same : {K : Type 0} (b a : Store K) → a ≡ b → Kept b a
+kept_same {K = K} b a e = (ap (λ (s : Store K). s.settings) e, ap (λ (s : Store K). s.hasher) e)
+
+-- What a turn of a session with a store says of the world.
+module _ {K : Type 0} (n now : ℕ) (old new : List SessionState) (b a : Store K) where
+  pub result_done : (greatest : ℕ) (r : Result Turn TurnFault) → OnOk r (TurnOf store_took store_spent n now old new b a) → OnOk r ((greatest ≡ greatest) × (now ≡ now) × TurnOf replies is_spent n now old new b.plain a.plain)
+  result_done greatest (Ok t) h = (refl, refl, turn_seen store_took store_spent replies is_spent (λ (s : Store K). s.plain) (λ b step now reply a h. h.0) (λ b step now h. h) n now old new b a h)
+  result_done greatest (Err fault) h = tt
+
+  decided_kept : (decided : Bool) → (IsFalse decided → a ≡ b) → (IsTrue decided → DecidedOf store_took store_spent n now old b a) → Kept b a
+  decided_kept true undecided decides = decided_keeps store_took store_spent Kept (λ b step now reply a h. (h.1, h.2)) kept_same n now old b a (decides refl)
+  decided_kept false undecided decides = kept_same b a (undecided refl)
+
+  pub result_kept : (r : Result Turn TurnFault) → OnOk r (TurnOf store_took store_spent n now old new b a) → IfErr r (λ fault. IsFalse fault.decided → a ≡ b) → IfErr r (λ fault. IsTrue fault.decided → DecidedOf store_took store_spent n now old b a) → Kept b a
+  result_kept (Ok t) h undecided decides = turn_keeps store_took store_spent Kept (λ b step now reply a h. (h.1, h.2)) kept_same n now old new b a h
+  result_kept (Err fault) h undecided decides = decided_kept fault.decided undecided decides
+
+  pub result_undone : (greatest : ℕ) (r : Result Turn TurnFault) → OnErr r (new ≡ at_session old n closed) → IfErr r (λ fault. IsFalse fault.decided → a ≡ b) → IfErr r (λ fault. IsTrue fault.decided → DecidedOf store_took store_spent n now old b a)
+    → IfErr r (λ fault. Undone fault.decided (record { greatest = greatest; state = b.plain; now = now; sessions = old }) (TurnEvent n) (record { greatest = greatest; state = a.plain; now = now; sessions = new }))
+  result_undone greatest (Ok t) shut undecided decides = tt
+  result_undone greatest (Err fault) shut undecided decides = record {
+    greatest = refl;
+    now = refl;
+    sessions = shut;
+    undecided = λ is. ap (λ (s : Store K). s.plain) (undecided is);
+    decides = λ is. decided_seen store_took store_spent replies is_spent (λ (s : Store K). s.plain) (λ b step now reply a h. h.0) (λ b step now h. h) n now old b a (decides is);
+  }

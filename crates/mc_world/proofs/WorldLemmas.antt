@@ -2,6 +2,7 @@
 use Rattle.std.proofs.Common.{◌≡◌, ◌⊎◌, inl, inr, ℕ, ◌+◌, ◌%◌, ◌==◌, ◌<◌, Bool, true, false, List, [], ◌∷◌, ◌++◌, length, take, get_or, Option, Some, None, nat_lt, refl, sym, ap, ◌∙◌, subst, arith, if◌then◌else◌, IsTrue, IsFalse}
 use Rattle.std.specs.List.{slice_get}
 use Rattle.std.specs.Option.{MatchOption}
+use Rattle.std.proofs.lemmas.List.{take_more}
 use Rattle.mc_command.specs.Plain.{Plain}
 use Rattle.mc_parse.specs.Units.{ProtocolUnit}
 use Rattle.mc_session.specs.Turns.{SessionState, Answers, TakesTurn, NoTurnDue, opened, fed, closed, nothing_unread}
@@ -184,3 +185,12 @@ module _ (hash : List ℕ → ℕ) (shelves : ℕ) where
       let up = gives_up so_far.0 mid new event refused.decided so_far.2 undone in
       (so_far.0, up.0, so_far.1, up.1, up.2);
   }
+
+-- one event more of a list is told, with the hashes and shelves that the world still has
+pub told_on : (hash still : List ℕ → ℕ) (shelves as_many : ℕ) → still ≡ hash → as_many ≡ shelves → (old mid new : WorldState) (events : List Event) (at : ℕ) (event : Event) → event ≡ get_or events at event → at < length events
+  → Told hash shelves old (take at events) mid → Done still as_many mid event new → Told hash shelves old (take (at + 1) events) new
+told_on hash still shelves as_many same_hash same_shelves old mid new events at event here inside told done =
+    let by_hash : Done hash as_many mid event new = subst (λ (f : List ℕ → ℕ). Done f as_many mid event new) same_hash done in
+    let by_both : Done hash shelves mid event new = subst (λ (n : ℕ). Done hash n mid event new) same_shelves by_hash in
+    let more : take at events ++ event ∷ [] ≡ take (at + 1) events = ap (λ (e : Event). take at events ++ e ∷ []) here ∙ sym (take_more events at event inside) in
+    subst (λ (es : List Event). Told hash shelves old es new) more (told_more hash shelves old mid new (take at events) event told by_both)

@@ -72,4 +72,4 @@ pub record Undone (decided : Bool) (old : WorldState) (event : Event) (new : Wor
 
 -- a world as contracts see it
 abbrev pub world_of : {K : Type 0} → World K → WorldState
-world_of w = record { greatest = w.greatest; state = w.store.plain; now = w.now; sessions = w.sessions }
+world_of w = record { greatest = w.greatest; state = w.store.plain; now = w.moment; sessions = w.sessions }

@@ -1,12 +1,11 @@
 -- The plain world: what a list of events makes of a store and its connections.
-use Rattle.std.specs.Prelude.{◌≡◌, ◌⊎◌, ℕ, zero, suc, ◌+◌, ◌-◌, ◌%◌, ◌==◌, ◌||◌, Bool, true, false, List, [], ◌∷◌, ◌++◌, length, take, Option, Some, None, is_some, slice_get, slice_set, nat_lt, if◌then◌else◌, not}
+use Rattle.std.specs.Prelude.{◌≡◌, ◌⊎◌, ℕ, zero, suc, ◌-◌, ◌%◌, ◌==◌, Bool, true, false, List, [], ◌∷◌, ◌++◌, length, take, Option, Some, None, slice_get, slice_set, nat_lt, if◌then◌else◌, IsTrue, IsFalse}
 use Rattle.std.specs.Option.{MatchOption}
-use Rattle.std.specs.FinMap.{get, retain_keys}
-use Rattle.mc_command.specs.Plain.{Plain, plain, alive, Answered, Spent}
+use Rattle.mc_command.specs.Plain.{Plain, plain, Answered, Spent}
 use Rattle.mc_command.specs.declared.step.KeyStep.{KeyStep}
 use Rattle.mc_command.specs.declared.reply.Reply.{Reply}
 use Rattle.mc_parse.specs.Units.{ProtocolUnit}
-use Rattle.mc_session.specs.Turns.{SessionState, Answers}
+use Rattle.mc_session.specs.Turns.{SessionState, Answers, NoTurnDue}
 use Rattle.mc_shelf.specs.Shelves.{purged}
 use Rattle.mc_world.specs.Connections.{Connection, IsNext, HasNoNext, Stands, fresh, with_piece, after_turn, ended}
 use Rattle.mc_world.specs.declared.event.Event.{Event}
@@ -60,6 +59,21 @@ open_connection n connections = if_open (λ c. c.is_open) (numbered n connection
 
 abbrev pub open_session : ℕ → List SessionState → Option SessionState
 open_session n sessions = if_open (λ s. s.is_open) (numbered n sessions)
+
+-- what is to be written of a session, and nothing of one that was never opened
+abbrev pub output_of : Option SessionState → List ℕ
+output_of None = []
+output_of (Some s) = s.out
+
+-- it is open, and no turn is due
+abbrev pub IsIdle : Option SessionState → Type 0
+IsIdle None = ⊥
+IsIdle (Some s) = IsTrue s.is_open × NoTurnDue s
+
+-- it was opened and then closed
+abbrev pub IsClosed : Option SessionState → Type 0
+IsClosed None = ⊥
+IsClosed (Some s) = IsFalse s.is_open
 
 abbrev pub at_connection : PlainWorld → ℕ → (Connection → Connection) → PlainWorld
 at_connection w n change = record w { connections = changed n w.connections change (open_connection n w.connections) }

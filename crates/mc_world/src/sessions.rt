@@ -1,6 +1,7 @@
 ghost use Rattle.std.specs.Prelude.{◌≡◌, ◌++◌, ◌∷◌, [], ◌<◌, ◌≤◌, ◌↔◌, length, Some, None, IfSome, IfErr, OnOk, OnErr, IsTrue, IsFalse, nat_lt, slice_get, if◌then◌else◌};
+ghost use Rattle.std.specs.Option.{option_copied};
 ghost use Rattle.mc_session.specs.Turns.{SessionState, NoTurnDue, opened, fed, closed, sent};
-ghost use Rattle.mc_world.specs.Worlds.{numbered, open_session, put};
+ghost use Rattle.mc_world.specs.Worlds.{numbered, open_session, put, changed, output_of, IsIdle, IsClosed};
 ghost use Rattle.mc_world.specs.Sessions.{at_session, IsOpenAt, TurnOf, DecidedOf};
 
 use mc_command::Steps;
@@ -20,7 +21,8 @@ pub struct Sessions {
 
 impl Model for Sessions {
     ghost use Rattle.std.specs.Prelude.{List};
-    ghost use Rattle.mc_session.specs.Turns.{SessionState};
+    ghost use Rattle.std.specs.Option.{option_copied};
+ghost use Rattle.mc_session.specs.Turns.{SessionState};
 
     ghost Value = { List SessionState };
 
@@ -91,6 +93,59 @@ impl Sessions {
             return Ok(Turn::Closed);
         };
         self.list[at].turn(alloc, store, now)
+    }
+
+    /// The session of a number, open or closed.
+    fn numbered(&self, number: u32) -> Option<&Session>
+        ensures { option_copied result ≡ numbered number self.now }
+    {
+        if number == 0 {
+            return None;
+        }
+        self.list.get((number - 1) as usize)
+    }
+
+    /// What is to be written of a session. Of one that was never opened it is empty.
+    pub fn out(&self, number: u32) -> &[u8]
+        ensures { result.now ≡ output_of (numbered number self.now) }
+    {
+        match self.numbered(number) {
+            Some(session) => session.out(),
+            None => &[],
+        }
+    }
+
+    /// The first `n` bytes of a session's output were written.
+    pub fn sent(&mut self, number: u32, n: usize)
+        requires { n ≤ length (output_of (numbered number self.old)) }
+        ensures { self.new ≡ changed number self.old (λ s. sent s n) (numbered number self.old) }
+    {
+        if number == 0 {
+            return;
+        }
+        if let Some(session) = self.list.get_mut((number - 1) as usize) {
+            session.sent(n);
+        }
+    }
+
+    /// Whether a session is open and no turn is due until more bytes come.
+    pub fn is_idle(&self, number: u32) -> bool
+        ensures { IsTrue result ↔ IsIdle (numbered number self.now) }
+    {
+        match self.numbered(number) {
+            Some(session) => session.is_idle(),
+            None => false,
+        }
+    }
+
+    /// Whether a session was opened and then closed.
+    pub fn is_closed(&self, number: u32) -> bool
+        ensures { IsTrue result ↔ IsClosed (numbered number self.now) }
+    {
+        match self.numbered(number) {
+            Some(session) => session.is_closed(),
+            None => false,
+        }
     }
 
     /// Closes a session.

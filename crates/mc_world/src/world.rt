@@ -1,12 +1,13 @@
-ghost use Rattle.std.specs.Prelude.{◌≡◌, ◌≤◌, [], IfOk, IfErr, OnOk};
+ghost use Rattle.std.specs.Prelude.{◌≡◌, ◌≤◌, [], ◌↔◌, length, IsTrue, IfOk, IfErr, OnOk};
 ghost use Rattle.mc_command.specs.Plain.{opening};
-ghost use Rattle.mc_world.specs.Worlds.{Told, ToldUntil, named};
+ghost use Rattle.mc_world.specs.Worlds.{Told, ToldUntil, named, numbered, changed, output_of, IsIdle, IsClosed};
+ghost use Rattle.mc_session.specs.Turns.{sent};
 ghost use Rattle.mc_world.specs.Sessions.{Done, Undone, world_of};
 
 use crate::event::{Event, Refused};
 use crate::sessions::Sessions;
 use mc_hop::KeyHash;
-use mc_session::TurnFault;
+use mc_session::{Turn, TurnFault};
 use mc_shelf::{Settings, Store};
 use mc_time::Moment;
 use std::alloc::{AllocError, Global};
@@ -19,7 +20,7 @@ const MOVED: usize = 8;
 pub struct World<K: KeyHash + Drop> {
     greatest: u64,
     store: Store<K>,
-    now: Moment,
+    moment: Moment,
     sessions: Sessions,
 }
 
@@ -46,7 +47,7 @@ impl<K: KeyHash + Drop> World<K> {
         Ok(World {
             greatest: settings.greatest,
             store: Store::new(alloc, settings, hasher)?,
-            now,
+            moment: now,
             sessions: Sessions::new(alloc),
         })
     }
@@ -71,6 +72,35 @@ impl<K: KeyHash + Drop> World<K> {
         Ok(())
     }
 
+    /// What is to be written of a session. Of one that was never opened it is empty.
+    pub fn out(&self, session: u32) -> &[u8]
+        ensures { result.now ≡ output_of (numbered session (world_of self.now).sessions) }
+    {
+        self.sessions.out(session)
+    }
+
+    /// The first `n` bytes of a session's output were written.
+    pub fn sent(&mut self, session: u32, n: usize)
+        requires { n ≤ length (output_of (numbered session (world_of self.old).sessions)) }
+        ensures { self.new ≡ record self.old { sessions = changed session (world_of self.old).sessions (λ s. sent s n) (numbered session (world_of self.old).sessions) } }
+    {
+        self.sessions.sent(session, n);
+    }
+
+    /// Whether a session is open and no turn is due until more bytes come.
+    pub fn is_idle(&self, session: u32) -> bool
+        ensures { IsTrue result ↔ IsIdle (numbered session (world_of self.now).sessions) }
+    {
+        self.sessions.is_idle(session)
+    }
+
+    /// Whether a session was opened and then closed.
+    pub fn is_closed(&self, session: u32) -> bool
+        ensures { IsTrue result ↔ IsClosed (numbered session (world_of self.now).sessions) }
+    {
+        self.sessions.is_closed(session)
+    }
+
     /// Takes one event. Refused, the session that it names is closed.
     fn happen(&mut self, alloc: Global, event: &Event<'_>) -> Result<(), TurnFault>
         ensures ok { OnOk result (Done (K.hash_of self.old.store.hasher) self.old.store.settings.shelves (world_of self.old) event.now (world_of self.new)) }
@@ -82,15 +112,26 @@ impl<K: KeyHash + Drop> World<K> {
             Event::Open => self.sessions.open(alloc, self.greatest)?,
             Event::Piece(number, piece) => self.sessions.feed(*number, piece.as_slice())?,
             Event::Turn(number) => {
-                let _ = self.sessions.turn(alloc, *number, &mut self.store, self.now)?;
+                let _ = self.turn(alloc, *number)?;
             }
-            Event::Clock(now) => self.now = *now,
+            Event::Clock(moment) => self.moment = *moment,
             Event::Grow(shelf) => {
                 let _ = self.store.grow(*shelf, MOVED);
             }
-            Event::Purge(shelf) => self.store.purge(*shelf, self.now),
+            Event::Purge(shelf) => self.store.purge(*shelf, self.moment),
             Event::Close(number) => self.sessions.close(*number),
         }
         Ok(())
+    }
+
+    /// A session's next turn, if one is due. Refused, the session is closed.
+    fn turn(&mut self, alloc: Global, number: u32) -> Result<Turn, TurnFault>
+        ensures ok { OnOk result (Done (K.hash_of self.old.store.hasher) self.old.store.settings.shelves (world_of self.old) (Event.Turn number) (world_of self.new)) }
+        ensures err { IfErr result (λ fault. Undone fault.decided (world_of self.old) (Event.Turn number) (world_of self.new)) }
+        ensures settings { self.new.store.settings ≡ self.old.store.settings }
+        ensures hasher { self.new.store.hasher ≡ self.old.store.hasher }
+    {
+        self.sessions
+            .turn(alloc, number, &mut self.store, self.moment)
     }
 }
