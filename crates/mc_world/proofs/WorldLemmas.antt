@@ -6,7 +6,7 @@ use Rattle.std.proofs.lemmas.List.{take_more}
 use Rattle.mc_command.specs.Plain.{Plain}
 use Rattle.mc_parse.specs.Units.{ProtocolUnit}
 use Rattle.mc_session.specs.Turns.{SessionState, Answers, TakesTurn, NoTurnDue, opened, fed, closed, nothing_unread}
-use Rattle.mc_shelf.specs.Shelves.{purged}
+use Rattle.mc_command.specs.Purge.{purged}
 use Rattle.mc_world.specs.Connections.{Connection, IsRest, Stands, at_start, fresh, with_piece, after_turn, ended}
 use Rattle.mc_world.specs.Worlds.{PlainWorld, WorldState, replies, is_spent, put, changed, open_connection, open_session, at_connection, NextTurn, Turns, Happens, Runs, StandAll, StandsAs, Told, named, with_end, Decides, GivesUp, ToldUntil}
 use Rattle.mc_world.specs.Sessions.{at_session, TurnOf, DecidedOf, Done, sessions_ended, DecidedIn, Undone}

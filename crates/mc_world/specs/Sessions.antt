@@ -5,7 +5,7 @@ use Rattle.mc_command.specs.Plain.{Plain}
 use Rattle.mc_command.specs.declared.step.KeyStep.{KeyStep}
 use Rattle.mc_command.specs.declared.reply.Reply.{Reply}
 use Rattle.mc_session.specs.Turns.{SessionState, TakesTurn, NoTurnDue, opened, fed, closed}
-use Rattle.mc_shelf.specs.Shelves.{purged}
+use Rattle.mc_command.specs.Purge.{purged}
 use Rattle.mc_world.specs.Worlds.{WorldState, put, changed, open_session, replies, is_spent, named}
 use Rattle.mc_world.specs.declared.event.Event.{Event}
 use Rattle.mc_world.specs.declared.event.Event.TheVariants.{Open, Piece, Turn, Clock, Grow, Purge, Close}

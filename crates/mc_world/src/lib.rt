@@ -3,6 +3,8 @@
 
 mod event;
 mod sessions;
+#[cfg(test)]
+mod tests;
 mod world;
 
 pub use event::{Event, Refused};
