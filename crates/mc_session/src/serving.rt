@@ -60,8 +60,10 @@ pub fn serve<R: Read, W: Write, S: Steps, C: Clock>(
     };
     let piece = buffer.as_mut_slice();
     for _ in 0..TURNS {
-        if round(alloc, reader, writer, &mut session, store, clock, piece)? {
-            return Ok(());
+        match round(alloc, reader, writer, &mut session, store, clock, piece) {
+            Ok(true) => return Ok(()),
+            Ok(false) => {}
+            Err(fault) => return Err(fault),
         }
     }
     Err(ServeFault::Read)
