@@ -3,3 +3,4 @@ pub mod StandLemmas
 pub mod SessionLemmas
 pub mod TurnLemmas
 pub mod WorldLemmas
+pub mod LawLemmas

@@ -1,8 +1,8 @@
 -- The sessions of a world are what is left of the connections.
-use Rattle.std.proofs.Common.{◌≡◌, ◌⊎◌, inl, inr, ℕ, zero, suc, ◌+◌, ◌-◌, ◌<◌, ◌≤◌, Bool, true, false, List, [], ◌∷◌, ◌++◌, length, Option, Some, None, slice_set, refl, sym, ap, ◌∙◌, subst, arith, if◌then◌else◌}
+use Rattle.std.proofs.Common.{◌≡◌, ◌⊎◌, inl, inr, ℕ, zero, suc, ◌+◌, ◌-◌, ◌<◌, ◌≤◌, Bool, true, false, List, [], ◌∷◌, ◌++◌, length, drop, Option, Some, None, slice_set, refl, sym, ap, ◌∙◌, subst, arith, if◌then◌else◌}
 use Rattle.std.specs.List.{slice_get}
 use Rattle.std.specs.Bool.{MatchBool}
-use Rattle.mc_session.specs.Turns.{SessionState}
+use Rattle.mc_session.specs.Turns.{SessionState, sent}
 use Rattle.mc_world.specs.Connections.{Connection, IsRest, shut, Stands}
 use Rattle.mc_world.specs.Worlds.{StandAll, numbered, if_open, put, changed, open_connection, open_session}
 
@@ -78,3 +78,22 @@ stand_changed cs ss n f g None None both each all = all
 stand_changed cs ss n f g None (Some s) both each all = absurd both
 stand_changed cs ss n f g (Some c) None both each all = absurd both
 stand_changed cs ss n f g (Some c) (Some s) both each all = stand_put cs ss n (f c) (g s) all (each c s both.0 both.1 both.2 both.3)
+
+-- the one of a number, open or closed, is changed in both
+changed_both : (cs : List Connection) (ss : List SessionState) (n : ℕ) (f : Connection → Connection) (g : SessionState → SessionState) (c : Option Connection) (s : Option SessionState) → Both c s
+  → ((x : Connection) (y : SessionState) → Stands x y → Stands (f x) (g y)) → StandAll cs ss → StandAll (changed n cs f c) (changed n ss g s)
+changed_both cs ss n f g None None both each all = all
+changed_both cs ss n f g None (Some s) both each all = absurd both
+changed_both cs ss n f g (Some c) None both each all = absurd both
+changed_both cs ss n f g (Some c) (Some s) both each all = stand_put cs ss n (f c) (g s) all (each c s both)
+
+-- so many bytes of the output were sent
+abbrev pub less : ℕ → Connection → Connection
+less n c = record c { out = drop n c.out }
+
+sent_by : (n : ℕ) (c : Connection) (s : SessionState) (b : Bool) → MatchBool b ((s.is_open ≡ true) × IsRest c s) (s ≡ shut c) → MatchBool b (((sent s n).is_open ≡ true) × IsRest (less n c) (sent s n)) (sent s n ≡ shut (less n c))
+sent_by n c s true (opens, rest) = (opens, record { read = rest.read; follows = rest.follows; taken = rest.taken; among = rest.among; out = ap (drop n) rest.out })
+sent_by n c s false same = ap (λ (x : SessionState). sent x n) same
+
+pub stand_sent : (cs : List Connection) (ss : List SessionState) (number n : ℕ) → StandAll cs ss → StandAll (changed number cs (less n) (numbered number cs)) (changed number ss (λ s. sent s n) (numbered number ss))
+stand_sent cs ss number n all = changed_both cs ss number (less n) (λ s. sent s n) (numbered number cs) (numbered number ss) (stand_numbered cs ss number all) (λ c s stands. sent_by n c s c.is_open stands) all

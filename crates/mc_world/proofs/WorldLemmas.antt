@@ -5,16 +5,16 @@ use Rattle.std.specs.Option.{MatchOption}
 use Rattle.std.proofs.lemmas.List.{take_more}
 use Rattle.mc_command.specs.Plain.{Plain}
 use Rattle.mc_parse.specs.Units.{ProtocolUnit}
-use Rattle.mc_session.specs.Turns.{SessionState, Answers, TakesTurn, NoTurnDue, opened, fed, closed, nothing_unread}
+use Rattle.mc_session.specs.Turns.{SessionState, Answers, TakesTurn, NoTurnDue, opened, fed, closed, sent}
 use Rattle.mc_command.specs.Purge.{purged}
 use Rattle.mc_world.specs.Connections.{Connection, IsRest, Stands, at_start, fresh, with_piece, after_turn, ended}
-use Rattle.mc_world.specs.Worlds.{PlainWorld, WorldState, replies, is_spent, put, changed, open_connection, open_session, at_connection, NextTurn, Turns, Happens, Runs, StandAll, StandsAs, Told, named, with_end, Decides, GivesUp, ToldUntil}
+use Rattle.mc_world.specs.Worlds.{PlainWorld, WorldState, replies, is_spent, put, changed, numbered, CanStand, open_connection, open_session, at_connection, NextTurn, Turns, Happens, Runs, StandAll, StandsAs, Told, named, with_end, Decides, GivesUp, ToldUntil}
 use Rattle.mc_world.specs.Sessions.{at_session, TurnOf, DecidedOf, Done, sessions_ended, DecidedIn, Undone}
 use Rattle.mc_world.specs.declared.event.Event.{Event}
 use Rattle.mc_world.specs.declared.event.Event.TheVariants.{Open, Piece, Turn, Clock, Grow, Purge, Close}
 use Rattle.mc_world.specs.declared.event.Refused.{Refused}
 use Rattle.mc_world.proofs.ConnectionLemmas.{rest_fed, rest_closed, rest_idle, is_next, stands_after}
-use Rattle.mc_world.proofs.StandLemmas.{Opens, stand_length, stand_open, stand_put, stand_more, stand_changed}
+use Rattle.mc_world.proofs.StandLemmas.{Opens, stand_length, stand_open, stand_put, stand_more, stand_changed, stand_sent, less}
 
 -- a session that was just opened is what is left of a fresh connection
 fresh_stands : (greatest : ℕ) → Stands (fresh greatest) (opened greatest)
@@ -194,3 +194,24 @@ told_on hash still shelves as_many same_hash same_shelves old mid new events at 
     let by_both : Done hash shelves mid event new = subst (λ (n : ℕ). Done hash n mid event new) same_shelves by_hash in
     let more : take at events ++ event ∷ [] ≡ take (at + 1) events = ap (λ (e : Event). take at events ++ e ∷ []) here ∙ sym (take_more events at event inside) in
     subst (λ (es : List Event). Told hash shelves old es new) more (told_more hash shelves old mid new (take at events) event told by_both)
+
+-- where a plain world stood before the events, one stands after them
+pub told_stands : (hash : List ℕ → ℕ) (shelves : ℕ) (old new : WorldState) (events : List Event) → Told hash shelves old events new → CanStand old → CanStand new
+told_stands hash shelves old new events told can = let last = told.told can.plain can.stands in record { plain = last.0; stands = last.2 }
+
+pub until_stands : (hash : List ℕ → ℕ) (shelves : ℕ) (refused : Refused) (old new : WorldState) (events : List Event) → ToldUntil hash shelves refused old events new → CanStand old → CanStand new
+until_stands hash shelves refused old new events told can = let last = told.told can.plain can.stands in record { plain = last.1; stands = last.4 }
+
+-- and after bytes were sent
+pub sent_stands : (old : WorldState) (number n : ℕ) → CanStand old → CanStand (record old { sessions = changed number old.sessions (λ s. sent s n) (numbered number old.sessions) })
+sent_stands old number n can = record {
+  plain = record can.plain { connections = changed number can.plain.connections (less n) (numbered number can.plain.connections) };
+  stands = record { greatest = can.stands.greatest; state = can.stands.state; now = can.stands.now; sessions = stand_sent can.plain.connections old.sessions number n can.stands.sessions };
+}
+
+-- a world of no sessions stands
+pub new_stands : (greatest now : ℕ) (state : Plain) (sessions : List SessionState) → sessions ≡ [] → CanStand (record { greatest = greatest; state = state; now = now; sessions = sessions })
+new_stands greatest now state sessions none = record {
+  plain = record { greatest = greatest; state = state; now = now; connections = [] };
+  stands = record { greatest = refl; state = refl; now = refl; sessions = subst (StandAll []) (sym none) tt };
+}

@@ -124,6 +124,11 @@ pub record StandsAs (plain : PlainWorld) (world : WorldState) : Type 0 where
   pub now : world.now ≡ plain.now
   pub sessions : StandAll plain.connections world.sessions
 
+-- there is such a plain world
+pub record CanStand (world : WorldState) : Type 0 where
+  pub plain : PlainWorld
+  pub stands : StandsAs plain world
+
 -- What the events make of a world, whatever came before: where a plain world stands as the old one, the events make of it
 -- one that stands as the new one.
 pub record Told (hash : List ℕ → ℕ) (shelves : ℕ) (old : WorldState) (events : List Event) (new : WorldState) : Type 0 where

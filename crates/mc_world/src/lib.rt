@@ -2,10 +2,12 @@
 #![tactic(auto)]
 
 mod event;
+mod laws;
 mod sessions;
 #[cfg(test)]
 mod tests;
 mod world;
 
 pub use event::{Event, Refused};
+pub use laws::{a_piece_may_be_cut, growth_never_shows};
 pub use world::World;

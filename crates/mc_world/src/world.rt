@@ -1,6 +1,6 @@
 ghost use Rattle.std.specs.Prelude.{◌≡◌, ◌≤◌, [], ◌↔◌, length, IsTrue, IfOk, IfErr, OnOk};
 ghost use Rattle.mc_command.specs.Plain.{opening};
-ghost use Rattle.mc_world.specs.Worlds.{Told, ToldUntil, named, numbered, changed, output_of, IsIdle, IsClosed};
+ghost use Rattle.mc_world.specs.Worlds.{Told, ToldUntil, CanStand, numbered, changed, output_of, IsIdle, IsClosed};
 ghost use Rattle.mc_session.specs.Turns.{sent};
 ghost use Rattle.mc_world.specs.Sessions.{Done, Undone, world_of};
 
@@ -43,6 +43,7 @@ impl<K: KeyHash + Drop> World<K> {
         }) }
         ensures settings { IfOk result (λ world. world.store.settings ≡ settings) }
         ensures hasher { IfOk result (λ world. world.store.hasher ≡ hasher) }
+        ensures stands { IfOk result (λ world. CanStand (world_of world)) }
     {
         Ok(World {
             greatest: settings.greatest,
@@ -54,11 +55,15 @@ impl<K: KeyHash + Drop> World<K> {
 
     /// Takes the events in order. Where memory runs out in one, the events before it are done, the session that it names
     /// is closed, and no later one is run.
+    ///
+    /// What is told is told of every plain world that stands as the world did. There is one: a new world has one, and
+    /// it stays so.
     pub fn run(&mut self, alloc: Global, events: &[Event<'_>]) -> Result<(), Refused>
         ensures ok { OnOk result (Told (K.hash_of self.old.store.hasher) self.old.store.settings.shelves (world_of self.old) events.now (world_of self.new)) }
         ensures err { IfErr result (λ refused. ToldUntil (K.hash_of self.old.store.hasher) self.old.store.settings.shelves refused (world_of self.old) events.now (world_of self.new)) }
         ensures settings { self.new.store.settings ≡ self.old.store.settings }
         ensures hasher { self.new.store.hasher ≡ self.old.store.hasher }
+        ensures stands { CanStand (world_of self.old) → CanStand (world_of self.new) }
     {
         for (at, event) in events.iter().enumerate() {
             if let Err(fault) = self.happen(alloc, event) {
@@ -82,7 +87,8 @@ impl<K: KeyHash + Drop> World<K> {
     /// The first `n` bytes of a session's output were written.
     pub fn sent(&mut self, session: u32, n: usize)
         requires { n ≤ length (output_of (numbered session (world_of self.old).sessions)) }
-        ensures { self.new ≡ record self.old { sessions = changed session (world_of self.old).sessions (λ s. sent s n) (numbered session (world_of self.old).sessions) } }
+        ensures stands { CanStand (world_of self.old) → CanStand (world_of self.new) }
+        ensures world { self.new ≡ record self.old { sessions = changed session (world_of self.old).sessions (λ s. sent s n) (numbered session (world_of self.old).sessions) } }
     {
         self.sessions.sent(session, n);
     }

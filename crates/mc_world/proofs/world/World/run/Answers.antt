@@ -2,7 +2,7 @@ use Rattle.std.proofs.Common.{ap, length, refl, ◌∙◌}
 use Rattle.std.proofs.lemmas.Option.{slice_get_read}
 use Rattle.mc_shelf.specs.declared.store.Settings.{Settings}
 use Rattle.mc_world.specs.Sessions.{world_of}
-use Rattle.mc_world.proofs.WorldLemmas.{told_on, told_until}
+use Rattle.mc_world.proofs.WorldLemmas.{told_on, told_until, told_stands, until_stands}
 use Rattle.mc_world.proofs.world.World.run.Goals as goal
 
 pub returns-in-Err-clause-err : goal.returns-in-Err-clause-err
@@ -18,3 +18,11 @@ loop-at-preserved g c =
       (ap g.K.KeyHash.hash_of c.loop-at.invariant.2) (ap (λ (s : Settings). s.shelves) c.loop-at.invariant.1)
       (world_of c.args.self.now) (world_of c.loop-at.self) (world_of c.happen.new.self) c.args.events.now c.loop-at.at c.index-events-at.result c.index-events-at.is c.loop-at-test.true c.loop-at.invariant.0 c.in_default.ensures.ok in
     (told, c.in_default.ensures.settings ∙ c.loop-at.invariant.1, c.in_default.ensures.hasher ∙ c.loop-at.invariant.2)
+
+pub returns-in-Err-clause-stands : goal.returns-in-Err-clause-stands
+returns-in-Err-clause-stands g c =
+    until_stands (g.K.KeyHash.hash_of c.args.self.now.store.hasher) c.args.self.now.store.settings.shelves _ (world_of c.args.self.now) (world_of c.happen.new.self) c.args.events.now (returns-in-Err-clause-err g c)
+
+pub returns-clause-stands : goal.returns-clause-stands
+returns-clause-stands g c =
+    told_stands (g.K.KeyHash.hash_of c.args.self.now.store.hasher) c.args.self.now.store.settings.shelves (world_of c.args.self.now) (world_of c.loop-at.self) _ c.loop-at.invariant.0
