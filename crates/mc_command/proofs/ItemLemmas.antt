@@ -1,5 +1,5 @@
 -- The items that a map's entries make, after each call that changes the map.
-use Rattle.std.proofs.Common.{◌≡◌, ℕ, Bool, true, false, cond, not, List, [], ◌∷◌, Option, Some, None, map, refl, sym, ap, subst, ◌∙◌, ◌⊎◌, inl, inr, ⊎_elim}
+use Rattle.std.proofs.Common.{◌≡◌, ℕ, Bool, true, false, cond, not, ◌||◌, List, [], ◌∷◌, Option, Some, None, map, refl, sym, ap, subst, ◌∙◌, ◌⊎◌, inl, inr, ⊎_elim}
 use Rattle.std.specs.Prelude.{is_some, IsSome}
 use Rattle.std.specs.Ordering.{nat_cmp, is_eq, eq_by_cmp, match_ordering}
 use Rattle.std.specs.Cmp.{eq_by_cmp_equiv, IsEquivalence}
@@ -188,6 +188,60 @@ items_of-filter es cut now sorted =
     ∙ kept_alive cut now (get (items_of es) q)
     ∙ sym (get-retain_keys (items_of es) (λ key. is_some (alive cut now (get (items_of es) key))) q
     (λ x h. ap (λ (k : List ℕ). is_some (alive cut now (get (items_of es) k))) (sym (exact q x h)))))
+
+-- The items without the dead ones whose keys are meant.
+module _ (meant : List ℕ → Bool) (cut : Option ℕ) (now : ℕ) where
+  abbrev pub stays : Vec ℕ Global × Entry → Bool
+  stays e = not (meant e.0.items) || lives cut now e.1
+
+  -- the same of one key
+  abbrev stays_at : List ℕ → Entry → Bool
+  stays_at q item = not (meant q) || lives cut now item
+
+  passed_over : (kept : Bool) (e : Vec ℕ Global × Entry) (es : Entries) (q : List ℕ) → is_at (bytes_cmp q) e.0.items ≡ false → item_at (cond kept (e ∷ es) es) q ≡ item_at es q
+  passed_over true e es q other = ap (λ b. cond b (Some e.1) (item_at es q)) other
+  passed_over false e es q other = refl
+
+  kept_or_not : (kept : Bool) (e : Vec ℕ Global × Entry) (es fs : Entries) (q : List ℕ) → item_at es q ≡ item_at fs q → item_at (cond kept (e ∷ es) es) q ≡ item_at (cond kept (e ∷ fs) fs) q
+  kept_or_not true e es fs q same = ap (cond (is_at (bytes_cmp q) e.0.items) (Some e.1)) same
+  kept_or_not false e es fs q same = same
+
+  -- at a key it is as if that key alone were asked for
+  item_at-stays : (es : Entries) (q : List ℕ) → item_at (filter stays es) q ≡ item_at (filter (λ e. stays_at q e.1) es) q
+  item_at-stays [] q = refl
+  item_at-stays (e ∷ es) q =
+      let rest = item_at-stays es q in
+      elim (is_at (bytes_cmp q) e.0.items) as (λ b. is_at (bytes_cmp q) e.0.items ≡ b → item_at (filter stays (e ∷ es)) q ≡ item_at (filter (λ e. stays_at q e.1) (e ∷ es)) q) [
+        | true ↦ λ h.
+            let same : e.0.items ≡ q = sym (exact q e.0.items (is_equal _ h)) in
+            ap (λ (k : List ℕ). item_at (cond (stays_at k e.1) (e ∷ filter stays es) (filter stays es)) q) same
+            ∙ kept_or_not (stays_at q e.1) e (filter stays es) (filter (λ e. stays_at q e.1) es) q rest
+        | false ↦ λ h.
+            passed_over (stays e) e (filter stays es) q h ∙ rest
+            ∙ sym (passed_over (stays_at q e.1) e (filter (λ e. stays_at q e.1) es) q h)
+      ] refl
+
+  kept_all : (o : Option Entry) → option_filter (λ item. true) o ≡ o
+  kept_all None = refl
+  kept_all (Some item) = refl
+
+  kept_here : (q : List ℕ) (o : Option Entry) → option_filter (stays_at q) o ≡ cond (not (meant q) || is_some (alive cut now o)) o None
+  kept_here q o =
+      elim (meant q) as (λ b. option_filter (λ item. not b || lives cut now item) o ≡ cond (not b || is_some (alive cut now o)) o None) [
+        | true ↦ kept_alive cut now o
+        | false ↦ kept_all o
+      ]
+
+  pub items_of-purged : (es : Entries) → IsStrictlySortedBy key_cmp (keys_of es) → items_of (filter stays es) ≡ retain_keys (items_of es) (λ key. not (meant key) || is_some (alive cut now (get (items_of es) key)))
+  items_of-purged es sorted =
+      same_map nat_list_cmp_total exact _ _ (λ q.
+          get-items_of (filter stays es) q ∙ item_at-stays es q ∙ sym (get-items_of (filter (λ e. stays_at q e.1) es) q)
+          ∙ ap (λ (ps : List (List ℕ × Entry)). get (from_entries {R = bytes_cmp} ps) q) (pairs-filter es (stays_at q))
+          ∙ get-pairs _ q ∙ lookup-filter-values laws (stays_at q) q (pairs es) (distinct es sorted)
+          ∙ ap (option_filter (stays_at q)) (sym (get-pairs (pairs es) q))
+          ∙ kept_here q (get (items_of es) q)
+          ∙ sym (get-retain_keys (items_of es) (λ key. not (meant key) || is_some (alive cut now (get (items_of es) key))) q
+            (λ x h. ap (λ (k : List ℕ). not (meant k) || is_some (alive cut now (get (items_of es) k))) (sym (exact q x h)))))
 
 -- an insertion after a removal of the same key
 chosen_twice : (b : Bool) (x y z : Option Entry) → cond b x (cond b y z) ≡ cond b x z

@@ -4,3 +4,4 @@ pub mod Commands
 pub mod Plain
 pub mod Items
 pub mod Laws
+pub mod Purge

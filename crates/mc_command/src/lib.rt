@@ -20,7 +20,7 @@ pub use fault::LineFault;
 pub use keys::Keys;
 pub use laws::{flushes_empty, one_key_decides, other_keys_stay, the_dead_stay_dead};
 pub use number::number_up_to;
-pub use plain::PlainStore;
+pub use plain::{KeyTest, PlainStore};
 pub use reply::Reply;
 pub use step::{KeyStep, StepFault, Steps, Verb};
 pub use words::{Words, first_word, first_word_len};

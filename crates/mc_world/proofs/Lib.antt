@@ -1,0 +1,6 @@
+pub mod ConnectionLemmas
+pub mod StandLemmas
+pub mod SessionLemmas
+pub mod TurnLemmas
+pub mod WorldLemmas
+pub mod LawLemmas

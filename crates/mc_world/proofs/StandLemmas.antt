@@ -1,0 +1,99 @@
+-- The sessions of a world are what is left of the connections.
+use Rattle.std.proofs.Common.{◌≡◌, ◌⊎◌, inl, inr, ℕ, zero, suc, ◌+◌, ◌-◌, ◌<◌, ◌≤◌, Bool, true, false, List, [], ◌∷◌, ◌++◌, length, drop, Option, Some, None, slice_set, refl, sym, ap, ◌∙◌, subst, arith, if◌then◌else◌}
+use Rattle.std.specs.List.{slice_get}
+use Rattle.std.specs.Bool.{MatchBool}
+use Rattle.mc_session.specs.Turns.{SessionState, sent}
+use Rattle.mc_world.specs.Connections.{Connection, IsRest, shut, Stands}
+use Rattle.mc_world.specs.Worlds.{StandAll, numbered, if_open, put, changed, open_connection, open_session}
+
+-- there are as many of both
+pub stand_length : (cs : List Connection) (ss : List SessionState) → StandAll cs ss → length ss ≡ length cs
+stand_length [] [] all = refl
+stand_length [] (s ∷ ss) all = absurd all
+stand_length (c ∷ cs) [] all = absurd all
+stand_length (c ∷ cs) (s ∷ ss) all = ap suc (stand_length cs ss all.1)
+
+-- a connection and its session, or neither
+abbrev pub Both : Option Connection → Option SessionState → Type 0
+Both None None = Unit {0}
+Both None (Some s) = ⊥
+Both (Some c) None = ⊥
+Both (Some c) (Some s) = Stands c s
+
+-- the same of one that is open
+abbrev pub Opens : Option Connection → Option SessionState → Type 0
+Opens None None = Unit {0}
+Opens None (Some s) = ⊥
+Opens (Some c) None = ⊥
+Opens (Some c) (Some s) = (c.is_open ≡ true) × (s.is_open ≡ true) × IsRest c s × Stands c s
+
+stand_get : (cs : List Connection) (ss : List SessionState) (n : ℕ) → StandAll cs ss → Both (slice_get cs n) (slice_get ss n)
+stand_get [] [] n all = tt
+stand_get [] (s ∷ ss) n all = absurd all
+stand_get (c ∷ cs) [] n all = absurd all
+stand_get (c ∷ cs) (s ∷ ss) zero all = all.0
+stand_get (c ∷ cs) (s ∷ ss) (suc n) all = stand_get cs ss n all.1
+
+stand_numbered : (cs : List Connection) (ss : List SessionState) (n : ℕ) → StandAll cs ss → Both (numbered n cs) (numbered n ss)
+stand_numbered cs ss zero all = tt
+stand_numbered cs ss (suc n) all = stand_get cs ss n all
+
+-- what stands is open with its connection, or isn't
+open_one : (c : Connection) (s : SessionState) (b : Bool) → c.is_open ≡ b → Stands c s → MatchBool b ((s.is_open ≡ true) × IsRest c s) (s ≡ shut c) → Opens (if b then Some c else None) (if s.is_open then Some s else None)
+open_one c s true is stands (opens, rest) = subst (λ (k : Bool). Opens (Some c) (if k then Some s else None)) (sym opens) (is, opens, rest, stands)
+open_one c s false is stands same = let none : s.is_open ≡ false = ap (λ (x : SessionState). x.is_open) same in subst (λ (k : Bool). Opens None (if k then Some s else None)) (sym none) tt
+
+open_both : (c : Option Connection) (s : Option SessionState) → Both c s → Opens (if_open (λ c. c.is_open) c) (if_open (λ s. s.is_open) s)
+open_both None None both = tt
+open_both None (Some s) both = absurd both
+open_both (Some c) None both = absurd both
+open_both (Some c) (Some s) both = open_one c s c.is_open refl both both
+
+-- the connection of a number is open with its session, or neither is
+pub stand_open : (cs : List Connection) (ss : List SessionState) (n : ℕ) → StandAll cs ss → Opens (open_connection n cs) (open_session n ss)
+stand_open cs ss n all = open_both (numbered n cs) (numbered n ss) (stand_numbered cs ss n all)
+
+-- a connection and its session are put in the place of others
+stand_set : (cs : List Connection) (ss : List SessionState) (n : ℕ) (c : Connection) (s : SessionState) → StandAll cs ss → Stands c s → StandAll (slice_set cs n c) (slice_set ss n s)
+stand_set [] [] n c s all one = tt
+stand_set [] (y ∷ ss) n c s all one = absurd all
+stand_set (x ∷ cs) [] n c s all one = absurd all
+stand_set (x ∷ cs) (y ∷ ss) zero c s all one = (one, all.1)
+stand_set (x ∷ cs) (y ∷ ss) (suc n) c s all one = (all.0, stand_set cs ss n c s all.1 one)
+
+pub stand_put : (cs : List Connection) (ss : List SessionState) (n : ℕ) (c : Connection) (s : SessionState) → StandAll cs ss → Stands c s → StandAll (put n cs c) (put n ss s)
+stand_put cs ss n c s all one = stand_set cs ss (n - 1) c s all one
+
+-- one more of both
+pub stand_more : (cs : List Connection) (ss : List SessionState) (c : Connection) (s : SessionState) → StandAll cs ss → Stands c s → StandAll (cs ++ c ∷ []) (ss ++ s ∷ [])
+stand_more [] [] c s all one = (one, tt)
+stand_more [] (y ∷ ss) c s all one = absurd all
+stand_more (x ∷ cs) [] c s all one = absurd all
+stand_more (x ∷ cs) (y ∷ ss) c s all one = (all.0, stand_more cs ss c s all.1 one)
+
+-- the open one of a number is changed in both
+pub stand_changed : (cs : List Connection) (ss : List SessionState) (n : ℕ) (f : Connection → Connection) (g : SessionState → SessionState) (c : Option Connection) (s : Option SessionState) → Opens c s
+  → ((x : Connection) (y : SessionState) → x.is_open ≡ true → y.is_open ≡ true → IsRest x y → Stands x y → Stands (f x) (g y)) → StandAll cs ss → StandAll (changed n cs f c) (changed n ss g s)
+stand_changed cs ss n f g None None both each all = all
+stand_changed cs ss n f g None (Some s) both each all = absurd both
+stand_changed cs ss n f g (Some c) None both each all = absurd both
+stand_changed cs ss n f g (Some c) (Some s) both each all = stand_put cs ss n (f c) (g s) all (each c s both.0 both.1 both.2 both.3)
+
+-- the one of a number, open or closed, is changed in both
+changed_both : (cs : List Connection) (ss : List SessionState) (n : ℕ) (f : Connection → Connection) (g : SessionState → SessionState) (c : Option Connection) (s : Option SessionState) → Both c s
+  → ((x : Connection) (y : SessionState) → Stands x y → Stands (f x) (g y)) → StandAll cs ss → StandAll (changed n cs f c) (changed n ss g s)
+changed_both cs ss n f g None None both each all = all
+changed_both cs ss n f g None (Some s) both each all = absurd both
+changed_both cs ss n f g (Some c) None both each all = absurd both
+changed_both cs ss n f g (Some c) (Some s) both each all = stand_put cs ss n (f c) (g s) all (each c s both)
+
+-- so many bytes of the output were sent
+abbrev pub less : ℕ → Connection → Connection
+less n c = record c { out = drop n c.out }
+
+sent_by : (n : ℕ) (c : Connection) (s : SessionState) (b : Bool) → MatchBool b ((s.is_open ≡ true) × IsRest c s) (s ≡ shut c) → MatchBool b (((sent s n).is_open ≡ true) × IsRest (less n c) (sent s n)) (sent s n ≡ shut (less n c))
+sent_by n c s true (opens, rest) = (opens, record { read = rest.read; follows = rest.follows; taken = rest.taken; among = rest.among; out = ap (drop n) rest.out })
+sent_by n c s false same = ap (λ (x : SessionState). sent x n) same
+
+pub stand_sent : (cs : List Connection) (ss : List SessionState) (number n : ℕ) → StandAll cs ss → StandAll (changed number cs (less n) (numbered number cs)) (changed number ss (λ s. sent s n) (numbered number ss))
+stand_sent cs ss number n all = changed_both cs ss number (less n) (λ s. sent s n) (numbered number cs) (numbered number ss) (stand_numbered cs ss number all) (λ c s stands. sent_by n c s c.is_open stands) all

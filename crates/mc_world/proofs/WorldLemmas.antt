@@ -1,0 +1,217 @@
+-- What one event makes of the sessions is what it makes of the connections.
+use Rattle.std.proofs.Common.{◌≡◌, ◌⊎◌, inl, inr, ℕ, ◌+◌, ◌%◌, ◌==◌, ◌<◌, Bool, true, false, List, [], ◌∷◌, ◌++◌, length, take, get_or, Option, Some, None, nat_lt, refl, sym, ap, ◌∙◌, subst, arith, if◌then◌else◌, IsTrue, IsFalse}
+use Rattle.std.specs.List.{slice_get}
+use Rattle.std.specs.Option.{MatchOption}
+use Rattle.std.proofs.lemmas.List.{take_more}
+use Rattle.mc_command.specs.Plain.{Plain}
+use Rattle.mc_parse.specs.Units.{ProtocolUnit}
+use Rattle.mc_session.specs.Turns.{SessionState, Answers, TakesTurn, NoTurnDue, opened, fed, closed, sent}
+use Rattle.mc_command.specs.Purge.{purged}
+use Rattle.mc_world.specs.Connections.{Connection, IsRest, Stands, at_start, fresh, with_piece, after_turn, ended}
+use Rattle.mc_world.specs.Worlds.{PlainWorld, WorldState, replies, is_spent, put, changed, numbered, CanStand, open_connection, open_session, at_connection, NextTurn, Turns, Happens, Runs, StandAll, StandsAs, Told, named, with_end, Decides, GivesUp, ToldUntil}
+use Rattle.mc_world.specs.Sessions.{at_session, TurnOf, DecidedOf, Done, sessions_ended, DecidedIn, Undone}
+use Rattle.mc_world.specs.declared.event.Event.{Event}
+use Rattle.mc_world.specs.declared.event.Event.TheVariants.{Open, Piece, Turn, Clock, Grow, Purge, Close}
+use Rattle.mc_world.specs.declared.event.Refused.{Refused}
+use Rattle.mc_world.proofs.ConnectionLemmas.{rest_fed, rest_closed, rest_idle, is_next, stands_after}
+use Rattle.mc_world.proofs.StandLemmas.{Opens, stand_length, stand_open, stand_put, stand_more, stand_changed, stand_sent, less}
+
+-- a session that was just opened is what is left of a fresh connection
+fresh_stands : (greatest : ℕ) → Stands (fresh greatest) (opened greatest)
+fresh_stands greatest = (refl, record { read = []; follows = refl; taken = refl; among = at_start; out = refl })
+
+-- a piece comes to what stands
+piece_stands : (cs : List Connection) (ss : List SessionState) (n : ℕ) (piece : List ℕ) → StandAll cs ss → StandAll (changed n cs (with_piece piece) (open_connection n cs)) (at_session ss n (λ s. fed s piece))
+piece_stands cs ss n piece all = stand_changed cs ss n (with_piece piece) (λ s. fed s piece) (open_connection n cs) (open_session n ss) (stand_open cs ss n all) (λ c s is opens rest stands. rest_fed c s piece opens rest stands is) all
+
+-- one that stands closes
+end_stands : (cs : List Connection) (ss : List SessionState) (n : ℕ) → StandAll cs ss → StandAll (changed n cs ended (open_connection n cs)) (at_session ss n closed)
+end_stands cs ss n all = stand_changed cs ss n ended closed (open_connection n cs) (open_session n ss) (stand_open cs ss n all) (λ c s is opens rest stands. rest_closed c s rest) all
+
+-- the turn of a session is that of its connection's stream
+next_turn : (first : PlainWorld) (now : ℕ) (c : Connection) (s new : SessionState) (before after : Plain) → IsRest c s → now ≡ first.now → before ≡ first.state → (takes : TakesTurn replies is_spent now s new before after) → NextTurn first c after
+next_turn first now c s new before after rest same_now same_state takes =
+    let at_now : Answers replies is_spent takes.unit s.taken first.now before after takes.text = subst (λ (m : ℕ). Answers replies is_spent takes.unit s.taken m before after takes.text) same_now takes.answers in
+    record {
+      unit = takes.unit;
+      at = s.taken;
+      text = takes.text;
+      next = is_next replies is_spent now c s new before after rest takes;
+      answers = subst (λ (b : Plain). Answers replies is_spent takes.unit s.taken first.now b after takes.text) same_state at_now;
+    }
+
+module _ (hash : List ℕ → ℕ) (shelves : ℕ) where
+  abbrev Goes : PlainWorld → Event → WorldState → Type 0
+  Goes first event new = (last : PlainWorld) × Happens hash shelves first event last × StandsAs last new
+
+  -- by whether the session can still be opened
+  open_goes : (first : PlainWorld) (old : WorldState) (b : Bool) → StandsAs first old
+    → StandsAs (if b then record first { connections = first.connections ++ fresh first.greatest ∷ [] } else first) (if b then record old { sessions = old.sessions ++ opened old.greatest ∷ [] } else old)
+  open_goes first old true stands = record {
+    greatest = stands.greatest;
+    state = stands.state;
+    now = stands.now;
+    sessions = stand_more first.connections old.sessions (fresh first.greatest) (opened old.greatest) stands.sessions
+      (subst (λ (g : ℕ). Stands (fresh first.greatest) (opened g)) (sym stands.greatest) (fresh_stands first.greatest));
+  }
+  open_goes first old false stands = stands
+
+  -- a turn, by the connection and the session
+  turn_goes : (first : PlainWorld) (old new : WorldState) (n : ℕ) (c : Option Connection) (s : Option SessionState) → StandsAs first old → new.greatest ≡ old.greatest → new.now ≡ old.now → Opens c s
+    → MatchOption s ((new.sessions ≡ old.sessions) × (new.state ≡ old.state)) (λ session. (NoTurnDue session × (new.sessions ≡ old.sessions) × (new.state ≡ old.state)) ⊎ ((next : SessionState) × TakesTurn replies is_spent old.now session next old.state new.state × (new.sessions ≡ put n old.sessions next)))
+    → (last : PlainWorld) × MatchOption c (last ≡ first) (λ connection. Turns first n connection last) × StandsAs last new
+  unfolding next_turn
+  turn_goes first old new n None None stands greatest now both h =
+      (first, refl, record { greatest = greatest ∙ stands.greatest; state = h.1 ∙ stands.state; now = now ∙ stands.now; sessions = subst (StandAll first.connections) (sym h.0) stands.sessions })
+  turn_goes first old new n None (Some s) stands greatest now both h = absurd both
+  turn_goes first old new n (Some c) None stands greatest now both h = absurd both
+  turn_goes first old new n (Some c) (Some s) stands greatest now both (inl h) =
+      (first, inl (rest_idle c s both.2 h.0, refl), record { greatest = greatest ∙ stands.greatest; state = h.2 ∙ stands.state; now = now ∙ stands.now; sessions = subst (StandAll first.connections) (sym h.1) stands.sessions })
+  turn_goes first old new n (Some c) (Some s) stands greatest now both (inr (next, takes, is)) =
+      let turn : NextTurn first c new.state = next_turn first old.now c s next old.state new.state both.2 stands.now stands.state takes in
+      let after : Connection = after_turn takes.unit takes.text c in
+      (record first { state = new.state; connections = put n first.connections after }, inr (new.state, turn, refl), record {
+        greatest = greatest ∙ stands.greatest;
+        state = refl;
+        now = now ∙ stands.now;
+        sessions = subst (StandAll (put n first.connections after)) (sym is)
+          (stand_put first.connections old.sessions n after next stands.sessions (stands_after replies is_spent old.now c s next old.state new.state both.2 takes both.1));
+      })
+
+  along : (last : PlainWorld) (new told : WorldState) → new ≡ told → StandsAs last told → StandsAs last new
+  along last new told e h = subst (StandsAs last) (sym e) h
+
+  -- one event
+  pub goes : (first : PlainWorld) (old new : WorldState) (event : Event) → StandsAs first old → Done hash shelves old event new → Goes first event new
+  goes first old new Open stands done =
+      let same : nat_lt (length old.sessions) 65535 ≡ nat_lt (length first.connections) 65535 = ap (λ k. nat_lt k 65535) (stand_length first.connections old.sessions stands.sessions) in
+      let b = nat_lt (length first.connections) 65535 in
+      (if b then record first { connections = first.connections ++ fresh first.greatest ∷ [] } else first, refl,
+        along _ new _ (done ∙ ap (λ (k : Bool). if k then record old { sessions = old.sessions ++ opened old.greatest ∷ [] } else old) same) (open_goes first old b stands))
+  goes first old new (Piece n piece) stands done =
+      (at_connection first n (with_piece piece), refl, along _ new _ done (record { greatest = stands.greatest; state = stands.state; now = stands.now; sessions = piece_stands first.connections old.sessions n piece stands.sessions }))
+  goes first old new (Turn n) stands done =
+      turn_goes first old new n (open_connection n first.connections) (open_session n old.sessions) stands done.0 done.1 (stand_open first.connections old.sessions n stands.sessions) done.2
+  goes first old new (Clock now) stands done = (record first { now = now }, refl, along _ new _ done (record { greatest = stands.greatest; state = stands.state; now = refl; sessions = stands.sessions }))
+  goes first old new (Grow shelf) stands done = (first, refl, along _ new _ done stands)
+  goes first old new (Purge shelf) stands done =
+      let after : ℕ → Plain → Plain = λ now state. if nat_lt shelf shelves then purged (λ key. hash key % shelves == shelf) now state else state in
+      (record first { state = after first.now first.state }, refl, along _ new _ done (record {
+        greatest = stands.greatest;
+        state = ap (λ (m : ℕ). after m old.state) stands.now ∙ ap (after first.now) stands.state;
+        now = stands.now;
+        sessions = stands.sessions;
+      }))
+  goes first old new (Close n) stands done =
+      (at_connection first n ended, refl, along _ new _ done (record { greatest = stands.greatest; state = stands.state; now = stands.now; sessions = end_stands first.connections old.sessions n stands.sessions }))
+
+  -- one event more
+  runs_more : (first : PlainWorld) (events : List Event) (mid : PlainWorld) (event : Event) (last : PlainWorld) → Runs hash shelves first events mid → Happens hash shelves mid event last → Runs hash shelves first (events ++ event ∷ []) last
+  runs_more first [] mid event last runs happens = (last, subst (λ (w : PlainWorld). Happens hash shelves w event last) runs happens, refl)
+  runs_more first (e ∷ events) mid event last runs happens = (runs.0, runs.1, runs_more runs.0 events mid event last runs.2 happens)
+
+  -- no event
+  pub told_none : (world : WorldState) → Told hash shelves world [] world
+  told_none world = record { told = λ first stands. (first, refl, stands) }
+
+  -- what is told of some events and of one more
+  pub told_more : (old mid new : WorldState) (events : List Event) (event : Event) → Told hash shelves old events mid → Done hash shelves mid event new → Told hash shelves old (events ++ event ∷ []) new
+  told_more old mid new events event told done = record {
+    told = λ first stands.
+      let so_far = told.told first stands in
+      let next = goes so_far.0 mid new event so_far.2 done in
+      (next.0, runs_more first events so_far.0 event next.0 so_far.1 next.1, next.2);
+  }
+
+  -- the session of a refused event closes
+  ended_stands : (first : PlainWorld) (sessions : List SessionState) (n : Option ℕ) → StandAll first.connections sessions → StandAll (with_end n first).connections (sessions_ended n sessions)
+  ended_stands first sessions None all = all
+  ended_stands first sessions (Some n) all = end_stands first.connections sessions n all
+
+  ended_greatest : (first : PlainWorld) (n : Option ℕ) → (with_end n first).greatest ≡ first.greatest
+  ended_greatest first None = refl
+  ended_greatest first (Some n) = refl
+
+  ended_state : (first : PlainWorld) (n : Option ℕ) → (with_end n first).state ≡ first.state
+  ended_state first None = refl
+  ended_state first (Some n) = refl
+
+  ended_now : (first : PlainWorld) (n : Option ℕ) → (with_end n first).now ≡ first.now
+  ended_now first None = refl
+  ended_now first (Some n) = refl
+
+  -- a refused event leaves what stands so, with this state
+  refused_stands : (first : PlainWorld) (old new : WorldState) (event : Event) (decided : Bool) → StandsAs first old → Undone decided old event new → StandsAs (with_end (named event) (record first { state = new.state })) new
+  refused_stands first old new event decided stands undone =
+      let w : PlainWorld = record first { state = new.state } in
+      record {
+        greatest = undone.greatest ∙ stands.greatest ∙ sym (ended_greatest w (named event));
+        state = sym (ended_state w (named event));
+        now = undone.now ∙ stands.now ∙ sym (ended_now w (named event));
+        sessions = subst (StandAll (with_end (named event) w).connections) (sym undone.sessions) (ended_stands w old.sessions (named event) stands.sessions);
+      }
+
+  -- the connection whose turn was decided
+  decides_turn : (first : PlainWorld) (old : WorldState) (state : Plain) (n : ℕ) (c : Option Connection) (s next : SessionState) → StandsAs first old → Opens c (Some s) → TakesTurn replies is_spent old.now s next old.state state
+    → (connection : Connection) × (c ≡ Some connection) × NextTurn first connection state
+  decides_turn first old state n None s next stands both takes = absurd both
+  decides_turn first old state n (Some c) s next stands both takes = (c, refl, next_turn first old.now c s next old.state state both.2 stands.now stands.state takes)
+
+  decides_in : (first : PlainWorld) (old : WorldState) (state : Plain) (event : Event) → StandsAs first old → DecidedIn old event state → Decides first event state
+  decides_in first old state Open stands h = h
+  decides_in first old state (Piece n piece) stands h = h
+  decides_in first old state (Turn n) stands h =
+      decides_turn first old state n (open_connection n first.connections) h.0 h.1 stands (subst (Opens (open_connection n first.connections)) h.2 (stand_open first.connections old.sessions n stands.sessions)) h.3
+  decides_in first old state (Clock now) stands h = h
+  decides_in first old state (Grow shelf) stands h = h
+  decides_in first old state (Purge shelf) stands h = h
+  decides_in first old state (Close n) stands h = h
+
+  gives_up : (first : PlainWorld) (old new : WorldState) (event : Event) (decided : Bool) → StandsAs first old → Undone decided old event new → (last : PlainWorld) × GivesUp decided first event last × StandsAs last new
+  gives_up first old new event true stands undone =
+      (with_end (named event) (record first { state = new.state }), (new.state, decides_in first old new.state event stands (undone.decides refl), refl), refused_stands first old new event true stands undone)
+  gives_up first old new event false stands undone =
+      let same : new.state ≡ first.state = undone.undecided refl ∙ stands.state in
+      (with_end (named event) first, refl, subst (λ (p : Plain). StandsAs (with_end (named event) (record first { state = p })) new) same (refused_stands first old new event false stands undone))
+
+  -- what is told of the events before a refused one, and of it
+  pub told_until : (old mid new : WorldState) (events : List Event) (event : Event) (refused : Refused) → Told hash shelves old (take refused.at events) mid → slice_get events refused.at ≡ Some event → refused.session ≡ named event → Undone refused.decided mid event new → ToldUntil hash shelves refused old events new
+  told_until old mid new events event refused told here session undone = record {
+    event = event;
+    here = here;
+    session = session;
+    told = λ first stands.
+      let so_far = told.told first stands in
+      let up = gives_up so_far.0 mid new event refused.decided so_far.2 undone in
+      (so_far.0, up.0, so_far.1, up.1, up.2);
+  }
+
+-- one event more of a list is told, with the hashes and shelves that the world still has
+pub told_on : (hash still : List ℕ → ℕ) (shelves as_many : ℕ) → still ≡ hash → as_many ≡ shelves → (old mid new : WorldState) (events : List Event) (at : ℕ) (event : Event) → event ≡ get_or events at event → at < length events
+  → Told hash shelves old (take at events) mid → Done still as_many mid event new → Told hash shelves old (take (at + 1) events) new
+told_on hash still shelves as_many same_hash same_shelves old mid new events at event here inside told done =
+    let by_hash : Done hash as_many mid event new = subst (λ (f : List ℕ → ℕ). Done f as_many mid event new) same_hash done in
+    let by_both : Done hash shelves mid event new = subst (λ (n : ℕ). Done hash n mid event new) same_shelves by_hash in
+    let more : take at events ++ event ∷ [] ≡ take (at + 1) events = ap (λ (e : Event). take at events ++ e ∷ []) here ∙ sym (take_more events at event inside) in
+    subst (λ (es : List Event). Told hash shelves old es new) more (told_more hash shelves old mid new (take at events) event told by_both)
+
+-- where a plain world stood before the events, one stands after them
+pub told_stands : (hash : List ℕ → ℕ) (shelves : ℕ) (old new : WorldState) (events : List Event) → Told hash shelves old events new → CanStand old → CanStand new
+told_stands hash shelves old new events told can = let last = told.told can.plain can.stands in record { plain = last.0; stands = last.2 }
+
+pub until_stands : (hash : List ℕ → ℕ) (shelves : ℕ) (refused : Refused) (old new : WorldState) (events : List Event) → ToldUntil hash shelves refused old events new → CanStand old → CanStand new
+until_stands hash shelves refused old new events told can = let last = told.told can.plain can.stands in record { plain = last.1; stands = last.4 }
+
+-- and after bytes were sent
+pub sent_stands : (old : WorldState) (number n : ℕ) → CanStand old → CanStand (record old { sessions = changed number old.sessions (λ s. sent s n) (numbered number old.sessions) })
+sent_stands old number n can = record {
+  plain = record can.plain { connections = changed number can.plain.connections (less n) (numbered number can.plain.connections) };
+  stands = record { greatest = can.stands.greatest; state = can.stands.state; now = can.stands.now; sessions = stand_sent can.plain.connections old.sessions number n can.stands.sessions };
+}
+
+-- a world of no sessions stands
+pub new_stands : (greatest now : ℕ) (state : Plain) (sessions : List SessionState) → sessions ≡ [] → CanStand (record { greatest = greatest; state = state; now = now; sessions = sessions })
+new_stands greatest now state sessions none = record {
+  plain = record { greatest = greatest; state = state; now = now; connections = [] };
+  stands = record { greatest = refl; state = refl; now = refl; sessions = subst (StandAll []) (sym none) tt };
+}

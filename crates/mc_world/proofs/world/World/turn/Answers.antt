@@ -1,0 +1,9 @@
+use Rattle.std.proofs.Common.{refl, Result, Ok, Err}
+use Rattle.mc_world.proofs.TurnLemmas as lemmas
+use Rattle.mc_world.proofs.world.World.turn.Goals as goal
+
+pub returns-clause-ok : goal.returns-clause-ok
+returns-clause-ok g c = lemmas.result_done c.args.number c.args.self.now.moment c.args.self.now.sessions c.turn.new.self c.args.self.now.store c.turn.new.store c.args.self.now.greatest c.turn.result c.turn.ensures.ok
+
+pub returns-clause-err : goal.returns-clause-err
+returns-clause-err g c = lemmas.result_undone c.args.number c.args.self.now.moment c.args.self.now.sessions c.turn.new.self c.args.self.now.store c.turn.new.store c.args.self.now.greatest c.turn.result c.turn.ensures.err c.turn.ensures.undecided c.turn.ensures.decided

@@ -1,0 +1,75 @@
+-- What one event does to the sessions of a world.
+use Rattle.std.specs.Prelude.{◌≡◌, ◌⊎◌, ℕ, ◌+◌, ◌<◌, ◌%◌, ◌==◌, Bool, true, false, List, [], ◌∷◌, ◌++◌, length, Option, Some, None, slice_get, nat_lt, if◌then◌else◌, IsTrue, IsFalse}
+use Rattle.std.specs.Option.{MatchOption}
+use Rattle.mc_command.specs.Plain.{Plain}
+use Rattle.mc_command.specs.declared.step.KeyStep.{KeyStep}
+use Rattle.mc_command.specs.declared.reply.Reply.{Reply}
+use Rattle.mc_session.specs.Turns.{SessionState, TakesTurn, NoTurnDue, opened, fed, closed}
+use Rattle.mc_command.specs.Purge.{purged}
+use Rattle.mc_world.specs.Worlds.{WorldState, put, changed, open_session, replies, is_spent, named}
+use Rattle.mc_world.specs.declared.event.Event.{Event}
+use Rattle.mc_world.specs.declared.event.Event.TheVariants.{Open, Piece, Turn, Clock, Grow, Purge, Close}
+use Rattle.mc_world.specs.declared.world.World.{World}
+
+-- the open session of that number is changed, and nothing where none is
+abbrev pub at_session : List SessionState → ℕ → (SessionState → SessionState) → List SessionState
+at_session sessions n change = changed n sessions change (open_session n sessions)
+
+module _ {S : Type 0} (took : S → KeyStep → ℕ → Reply → S → Type 0) (spent : S → KeyStep → ℕ → Type 0) where
+  -- the open session of that number takes its next turn, if one is due
+  abbrev pub TurnOf : ℕ → ℕ → (old new : List SessionState) → S → S → Type 0
+  TurnOf n now old new before after =
+      MatchOption (open_session n old) ((new ≡ old) × (after ≡ before)) (λ session.
+        (NoTurnDue session × (new ≡ old) × (after ≡ before))
+        ⊎ ((next : SessionState) × TakesTurn took spent now session next before after × (new ≡ put n old next)))
+
+  -- it decides its next turn, whose text isn't told
+  abbrev pub DecidedOf : ℕ → ℕ → List SessionState → S → S → Type 0
+  DecidedOf n now old before after =
+      (session : SessionState) × (next : SessionState) × (open_session n old ≡ Some session) × TakesTurn took spent now session next before after
+
+-- the session of that number stands at this place, and is open
+pub record IsOpenAt (sessions : List SessionState) (n at : ℕ) : Type 0 where
+  pub session : SessionState
+  pub number : n ≡ at + 1
+  pub inside : at < length sessions
+  pub here : slice_get sessions at ≡ Some session
+  pub opens : session.is_open ≡ true
+
+-- what an event makes of a world, said of its sessions
+module _ (hash : List ℕ → ℕ) (shelves : ℕ) where
+  abbrev pub Done : WorldState → Event → WorldState → Type 0
+  Done old Open new = new ≡ (if nat_lt (length old.sessions) 65535 then record old { sessions = old.sessions ++ opened old.greatest ∷ [] } else old)
+  Done old (Piece n piece) new = new ≡ record old { sessions = at_session old.sessions n (λ s. fed s piece) }
+  Done old (Turn n) new = (new.greatest ≡ old.greatest) × (new.now ≡ old.now) × TurnOf replies is_spent n old.now old.sessions new.sessions old.state new.state
+  Done old (Clock now) new = new ≡ record old { now = now }
+  Done old (Grow shelf) new = new ≡ old
+  Done old (Purge shelf) new = new ≡ record old { state = if nat_lt shelf shelves then purged (λ key. hash key % shelves == shelf) old.now old.state else old.state }
+  Done old (Close n) new = new ≡ record old { sessions = at_session old.sessions n closed }
+
+-- the session that an event names is closed
+abbrev pub sessions_ended : Option ℕ → List SessionState → List SessionState
+sessions_ended None sessions = sessions
+sessions_ended (Some n) sessions = at_session sessions n closed
+
+-- the open session that an event gives a turn decides it
+abbrev pub DecidedIn : WorldState → Event → Plain → Type 0
+DecidedIn old Open state = ⊥
+DecidedIn old (Piece n piece) state = ⊥
+DecidedIn old (Turn n) state = DecidedOf replies is_spent n old.now old.sessions old.state state
+DecidedIn old (Clock now) state = ⊥
+DecidedIn old (Grow shelf) state = ⊥
+DecidedIn old (Purge shelf) state = ⊥
+DecidedIn old (Close n) state = ⊥
+
+-- what is left where memory ran out in an event
+pub record Undone (decided : Bool) (old : WorldState) (event : Event) (new : WorldState) : Type 0 where
+  pub greatest : new.greatest ≡ old.greatest
+  pub now : new.now ≡ old.now
+  pub sessions : new.sessions ≡ sessions_ended (named event) old.sessions
+  pub undecided : IsFalse decided → new.state ≡ old.state
+  pub decides : IsTrue decided → DecidedIn old event new.state
+
+-- a world as contracts see it
+abbrev pub world_of : {K : Type 0} → World K → WorldState
+world_of w = record { greatest = w.greatest; state = w.store.plain; now = w.moment; sessions = w.sessions }

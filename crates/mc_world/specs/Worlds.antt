@@ -1,0 +1,173 @@
+-- The plain world: what a list of events makes of a store and its connections.
+use Rattle.std.specs.Prelude.{◌≡◌, ◌⊎◌, ℕ, zero, suc, ◌-◌, ◌%◌, ◌==◌, Bool, true, false, List, [], ◌∷◌, ◌++◌, length, take, Option, Some, None, slice_get, slice_set, nat_lt, if◌then◌else◌, IsTrue, IsFalse}
+use Rattle.std.specs.Option.{MatchOption}
+use Rattle.mc_command.specs.Plain.{Plain, plain, Answered, Spent}
+use Rattle.mc_command.specs.declared.step.KeyStep.{KeyStep}
+use Rattle.mc_command.specs.declared.reply.Reply.{Reply}
+use Rattle.mc_parse.specs.Units.{ProtocolUnit}
+use Rattle.mc_session.specs.Turns.{SessionState, Answers, NoTurnDue}
+use Rattle.mc_command.specs.Purge.{purged}
+use Rattle.mc_world.specs.Connections.{Connection, IsNext, HasNoNext, Stands, fresh, with_piece, after_turn, ended}
+use Rattle.mc_world.specs.declared.event.Event.{Event}
+use Rattle.mc_world.specs.declared.event.Event.TheVariants.{Open, Piece, Turn, Clock, Grow, Purge, Close}
+use Rattle.mc_world.specs.declared.event.Refused.{Refused}
+
+-- the store's state, the moment, and the connections, the first of which is session 1; and the greatest charge of an item
+pub record PlainWorld : Type 0 where
+  pub greatest : ℕ
+  pub state : Plain
+  pub now : ℕ
+  pub connections : List Connection
+
+-- what contracts see of a world: its sessions have what is left of their streams
+pub record WorldState : Type 0 where
+  pub greatest : ℕ
+  pub state : Plain
+  pub now : ℕ
+  pub sessions : List SessionState
+
+-- the plain machine answers a step so
+abbrev pub replies : Plain → KeyStep → ℕ → Reply → Plain → Type 0
+replies old step now reply new = plain old step now ≡ Answered reply new
+
+-- its unique numbers are spent
+abbrev pub is_spent : Plain → KeyStep → ℕ → Type 0
+is_spent old step now = plain old step now ≡ Spent
+
+-- what has that number, counted from 1
+abbrev pub numbered : {A : Type 0} → ℕ → List A → Option A
+numbered zero xs = None
+numbered (suc n) xs = slice_get xs n
+
+-- it, where it is open
+abbrev pub if_open : {A : Type 0} → (A → Bool) → Option A → Option A
+if_open is_open None = None
+if_open is_open (Some x) = if is_open x then Some x else None
+
+-- another in the place of that number
+abbrev pub put : {A : Type 0} → ℕ → List A → A → List A
+put n xs x = slice_set xs (n - 1) x
+
+-- the open one of that number is changed, and nothing where none is
+abbrev pub changed : {A : Type 0} → ℕ → List A → (A → A) → Option A → List A
+changed n xs change None = xs
+changed n xs change (Some x) = put n xs (change x)
+
+-- the open connection of that number
+abbrev pub open_connection : ℕ → List Connection → Option Connection
+open_connection n connections = if_open (λ c. c.is_open) (numbered n connections)
+
+abbrev pub open_session : ℕ → List SessionState → Option SessionState
+open_session n sessions = if_open (λ s. s.is_open) (numbered n sessions)
+
+-- what is to be written of a session, and nothing of one that was never opened
+abbrev pub output_of : Option SessionState → List ℕ
+output_of None = []
+output_of (Some s) = s.out
+
+-- it is open, and no turn is due
+abbrev pub IsIdle : Option SessionState → Type 0
+IsIdle None = ⊥
+IsIdle (Some s) = IsTrue s.is_open × NoTurnDue s
+
+-- it was opened and then closed
+abbrev pub IsClosed : Option SessionState → Type 0
+IsClosed None = ⊥
+IsClosed (Some s) = IsFalse s.is_open
+
+abbrev pub at_connection : PlainWorld → ℕ → (Connection → Connection) → PlainWorld
+at_connection w n change = record w { connections = changed n w.connections change (open_connection n w.connections) }
+
+-- The connection's next turn, at the world's moment: it takes the store's state to this one.
+pub record NextTurn (old : PlainWorld) (connection : Connection) (state : Plain) : Type 0 where
+  pub unit : ProtocolUnit
+  pub at : ℕ
+  pub text : List ℕ
+  pub next : IsNext connection unit at
+  pub answers : Answers replies is_spent unit at old.now old.state state text
+
+-- the next turn is taken, if there is one
+abbrev pub Turns : PlainWorld → ℕ → Connection → PlainWorld → Type 0
+Turns old n connection new =
+    (HasNoNext connection × (new ≡ old))
+    ⊎ ((state : Plain) × (turn : NextTurn old connection state)
+      × (new ≡ record old { state = state; connections = put n old.connections (after_turn turn.unit turn.text connection) }))
+
+-- Keys have their hashes, and there are so many shelves.
+module _ (hash : List ℕ → ℕ) (shelves : ℕ) where
+  -- one event
+  abbrev pub Happens : PlainWorld → Event → PlainWorld → Type 0
+  Happens old Open new = new ≡ (if nat_lt (length old.connections) 65535 then record old { connections = old.connections ++ fresh old.greatest ∷ [] } else old)
+  Happens old (Piece n piece) new = new ≡ at_connection old n (with_piece piece)
+  Happens old (Turn n) new = MatchOption (open_connection n old.connections) (new ≡ old) (λ connection. Turns old n connection new)
+  Happens old (Clock now) new = new ≡ record old { now = now }
+  Happens old (Grow shelf) new = new ≡ old
+  Happens old (Purge shelf) new = new ≡ record old { state = if nat_lt shelf shelves then purged (λ key. hash key % shelves == shelf) old.now old.state else old.state }
+  Happens old (Close n) new = new ≡ at_connection old n ended
+
+  -- events, one after another
+  abbrev pub Runs : PlainWorld → List Event → PlainWorld → Type 0
+  Runs old [] new = new ≡ old
+  Runs old (event ∷ events) new = (mid : PlainWorld) × Happens old event mid × Runs mid events new
+
+-- the sessions are what is left of the connections
+abbrev pub StandAll : List Connection → List SessionState → Type 0
+StandAll [] [] = Unit {0}
+StandAll [] (session ∷ sessions) = ⊥
+StandAll (connection ∷ connections) [] = ⊥
+StandAll (connection ∷ connections) (session ∷ sessions) = Stands connection session × StandAll connections sessions
+
+-- the plain world stands so
+pub record StandsAs (plain : PlainWorld) (world : WorldState) : Type 0 where
+  pub greatest : world.greatest ≡ plain.greatest
+  pub state : world.state ≡ plain.state
+  pub now : world.now ≡ plain.now
+  pub sessions : StandAll plain.connections world.sessions
+
+-- there is such a plain world
+pub record CanStand (world : WorldState) : Type 0 where
+  pub plain : PlainWorld
+  pub stands : StandsAs plain world
+
+-- What the events make of a world, whatever came before: where a plain world stands as the old one, the events make of it
+-- one that stands as the new one.
+pub record Told (hash : List ℕ → ℕ) (shelves : ℕ) (old : WorldState) (events : List Event) (new : WorldState) : Type 0 where
+  pub told : (first : PlainWorld) → StandsAs first old → (last : PlainWorld) × Runs hash shelves first events last × StandsAs last new
+
+-- the session that an event names
+abbrev pub named : Event → Option ℕ
+named Open = None
+named (Piece n piece) = Some n
+named (Turn n) = Some n
+named (Clock now) = None
+named (Grow shelf) = None
+named (Purge shelf) = None
+named (Close n) = Some n
+
+-- the session is closed, if one is named
+abbrev pub with_end : Option ℕ → PlainWorld → PlainWorld
+with_end None w = w
+with_end (Some n) w = at_connection w n ended
+
+-- the next turn of the open connection that an event gives a turn
+abbrev pub Decides : PlainWorld → Event → Plain → Type 0
+Decides old Open state = ⊥
+Decides old (Piece n piece) state = ⊥
+Decides old (Turn n) state = (connection : Connection) × (open_connection n old.connections ≡ Some connection) × NextTurn old connection state
+Decides old (Clock now) state = ⊥
+Decides old (Grow shelf) state = ⊥
+Decides old (Purge shelf) state = ⊥
+Decides old (Close n) state = ⊥
+
+-- Memory ran out in an event: its turn was decided and isn't told, or nothing was done; and its session is closed.
+abbrev pub GivesUp : Bool → PlainWorld → Event → PlainWorld → Type 0
+GivesUp true old event new = (state : Plain) × Decides old event state × (new ≡ with_end (named event) (record old { state = state }))
+GivesUp false old event new = new ≡ with_end (named event) old
+
+-- What the events before a refused one make of a world, and then that one.
+pub record ToldUntil (hash : List ℕ → ℕ) (shelves : ℕ) (refused : Refused) (old : WorldState) (events : List Event) (new : WorldState) : Type 0 where
+  pub event : Event
+  pub here : slice_get events refused.at ≡ Some event
+  pub session : refused.session ≡ named event
+  pub told : (first : PlainWorld) → StandsAs first old
+    → (mid : PlainWorld) × (last : PlainWorld) × Runs hash shelves first (take refused.at events) mid × GivesUp refused.decided mid event last × StandsAs last new

@@ -1,0 +1,13 @@
+//! Many sessions over one store: a list of events makes of a world what the protocol's plain machine makes of it.
+#![tactic(auto)]
+
+mod event;
+mod laws;
+mod sessions;
+#[cfg(test)]
+mod tests;
+mod world;
+
+pub use event::{Event, Refused};
+pub use laws::{a_piece_may_be_cut, growth_never_shows};
+pub use world::World;

@@ -1,0 +1,171 @@
+ghost use Rattle.std.specs.Prelude.{◌≡◌, ◌++◌, ◌∷◌, [], ◌<◌, ◌≤◌, ◌↔◌, length, Some, None, IfSome, IfErr, OnOk, OnErr, IsTrue, IsFalse, nat_lt, slice_get, if◌then◌else◌};
+ghost use Rattle.std.specs.Option.{option_copied};
+ghost use Rattle.mc_session.specs.Turns.{SessionState, NoTurnDue, opened, fed, closed, sent};
+ghost use Rattle.mc_world.specs.Worlds.{numbered, open_session, put, changed, output_of, IsIdle, IsClosed};
+ghost use Rattle.mc_world.specs.Sessions.{at_session, IsOpenAt, TurnOf, DecidedOf};
+
+use mc_command::Steps;
+use mc_session::{Session, Turn, TurnFault};
+use mc_time::Moment;
+use std::alloc::{AllocError, Global};
+use std::marker::Model;
+
+/// How many sessions are opened at most.
+const MOST: usize = 65535;
+
+/// Sessions by their numbers, from 1 on. A closed one keeps its place and its output.
+#[derive(Drop)]
+pub struct Sessions {
+    list: Vec<Session>,
+}
+
+impl Model for Sessions {
+    ghost use Rattle.std.specs.Prelude.{List};
+    ghost use Rattle.std.specs.Option.{option_copied};
+ghost use Rattle.mc_session.specs.Turns.{SessionState};
+
+    ghost Value = { List SessionState };
+
+    ghost view = { λ s. s.list.items };
+}
+
+/// The place of the session of that number, where it is open.
+fn open_place(sessions: &[Session], number: u32) -> Option<usize>
+    ensures none { result ≡ None → open_session number sessions.now ≡ None }
+    ensures some { IfSome result (λ at. IsOpenAt sessions.now number at) }
+{
+    if number == 0 {
+        return None;
+    }
+    let at = (number - 1) as usize;
+    match sessions.get(at) {
+        Some(session) if !session.is_closed() => Some(at),
+        _ => None,
+    }
+}
+
+impl Sessions {
+    /// No sessions.
+    pub fn new(alloc: Global) -> Sessions
+        ensures { result ≡ [] }
+    {
+        Sessions {
+            list: Vec::new(alloc),
+        }
+    }
+
+    /// Opens a session more, if fewer than 65535 were opened. Refused, the sessions are as they were.
+    pub fn open(&mut self, alloc: Global, greatest: u64) -> Result<(), AllocError>
+        ensures ok { OnOk result (self.new ≡ (if nat_lt (length self.old) 65535 then self.old ++ opened greatest ∷ [] else self.old)) }
+        ensures err { OnErr result (self.new ≡ self.old) }
+    {
+        if self.list.len() < MOST {
+            self.list.push(Session::new(alloc, greatest))?;
+        }
+        Ok(())
+    }
+
+    /// The next piece of a session's stream. Refused, the session is closed.
+    pub fn feed(&mut self, number: u32, piece: &[u8]) -> Result<(), AllocError>
+        ensures ok { OnOk result (self.new ≡ at_session self.old number (λ s. fed s piece.now)) }
+        ensures err { OnErr result (self.new ≡ at_session self.old number closed) }
+    {
+        let Some(at) = open_place(&self.list, number) else {
+            return Ok(());
+        };
+        feed_or_close(&mut self.list[at], piece)
+    }
+
+    /// A session's next turn, if one is due, with a store at a moment. Want of memory closes the session.
+    pub fn turn<S: Steps>(
+        &mut self,
+        alloc: Global,
+        number: u32,
+        store: &mut S,
+        now: Moment,
+    ) -> Result<Turn, TurnFault>
+        ensures ok { OnOk result (TurnOf S.took S.spent number now self.old self.new store.old store.new) }
+        ensures err { OnErr result (self.new ≡ at_session self.old number closed) }
+        ensures undecided { IfErr result (λ fault. IsFalse fault.decided → store.new ≡ store.old) }
+        ensures decided { IfErr result (λ fault. IsTrue fault.decided → DecidedOf S.took S.spent number now self.old store.old store.new) }
+    {
+        let Some(at) = open_place(&self.list, number) else {
+            return Ok(Turn::Closed);
+        };
+        self.list[at].turn(alloc, store, now)
+    }
+
+    /// The session of a number, open or closed.
+    fn numbered(&self, number: u32) -> Option<&Session>
+        ensures { option_copied result ≡ numbered number self.now }
+    {
+        if number == 0 {
+            return None;
+        }
+        self.list.get((number - 1) as usize)
+    }
+
+    /// What is to be written of a session. Of one that was never opened it is empty.
+    pub fn out(&self, number: u32) -> &[u8]
+        ensures { result.now ≡ output_of (numbered number self.now) }
+    {
+        match self.numbered(number) {
+            Some(session) => session.out(),
+            None => &[],
+        }
+    }
+
+    /// The first `n` bytes of a session's output were written.
+    pub fn sent(&mut self, number: u32, n: usize)
+        requires { n ≤ length (output_of (numbered number self.old)) }
+        ensures { self.new ≡ changed number self.old (λ s. sent s n) (numbered number self.old) }
+    {
+        if number == 0 {
+            return;
+        }
+        if let Some(session) = self.list.get_mut((number - 1) as usize) {
+            session.sent(n);
+        }
+    }
+
+    /// Whether a session is open and no turn is due until more bytes come.
+    pub fn is_idle(&self, number: u32) -> bool
+        ensures { IsTrue result ↔ IsIdle (numbered number self.now) }
+    {
+        match self.numbered(number) {
+            Some(session) => session.is_idle(),
+            None => false,
+        }
+    }
+
+    /// Whether a session was opened and then closed.
+    pub fn is_closed(&self, number: u32) -> bool
+        ensures { IsTrue result ↔ IsClosed (numbered number self.now) }
+    {
+        match self.numbered(number) {
+            Some(session) => session.is_closed(),
+            None => false,
+        }
+    }
+
+    /// Closes a session.
+    pub fn close(&mut self, number: u32)
+        ensures { self.new ≡ at_session self.old number closed }
+    {
+        if let Some(at) = open_place(&self.list, number) {
+            self.list[at].close();
+        }
+    }
+}
+
+/// A piece of an open session's stream. Refused, the session is closed.
+fn feed_or_close(session: &mut Session, piece: &[u8]) -> Result<(), AllocError>
+    ensures ok { OnOk result (session.new ≡ fed session.old piece.now) }
+    ensures err { OnErr result (session.new ≡ closed session.old) }
+{
+    let fed = session.feed(piece);
+    if fed.is_err() {
+        session.close();
+    }
+    fed
+}

@@ -1,0 +1,236 @@
+//! Lists of events, and what they make of the sessions' outputs. Where memory is refused a test ends early.
+
+use super::*;
+use mc_command::Bytes;
+use mc_hop::{Constant, Fnv, KeyHash};
+use mc_shelf::Settings;
+use mc_time::Moment;
+use std::alloc::{AllocError, Global};
+use std::process::Abort;
+use std::test::Fail;
+
+/// The shelf of `a`, and that of `b`.
+const SHELF_OF_A: u32 = 12;
+const SHELF_OF_B: u32 = 37;
+
+/// A world at 1000.
+fn world<K: KeyHash + Drop>(alloc: Global, hasher: K) -> Result<World<K>, AllocError> {
+    let settings = Settings {
+        pages: 64,
+        greatest: 1048576,
+        shelves: 64,
+    };
+    World::new(alloc, settings, hasher, Moment::from_seconds(1000))
+}
+
+fn run<K: KeyHash + Drop>(
+    world: &mut World<K>,
+    alloc: Global,
+    events: &[Event<'_>],
+) -> Result<(), AllocError> {
+    match world.run(alloc, events) {
+        Ok(()) => Ok(()),
+        Err(_) => Err(AllocError),
+    }
+}
+
+/// A piece of session 1, so many turns of it at a moment, and what they are answered.
+fn answers<K: KeyHash + Drop>(
+    rt: &impl Abort,
+    alloc: Global,
+    world: &mut World<K>,
+    moment: u64,
+    piece: &str,
+    output: &str,
+) -> Result<(), Fail> {
+    let clock = Event::Clock(Moment::from_seconds_at_most(moment));
+    run(
+        world,
+        alloc,
+        &[clock, Event::Piece(1, Bytes::of(piece.as_bytes()))],
+    )?;
+    for _ in 0..100 {
+        run(world, alloc, &[Event::Turn(1)])?;
+    }
+    assert!(rt; world.is_idle(1));
+    assert_eq!(rt; world.out(1), output.as_bytes(), "at {piece}");
+    let written = world.out(1).len();
+    world.sent(1, written);
+    assert!(rt; world.out(1).is_empty());
+    Ok(())
+}
+
+#[test]
+fn a_session_is_there_once_it_is_opened(rt: HostRuntime) -> Result<(), Fail> {
+    let alloc = rt.alloc();
+    let mut world = world(alloc, Fnv)?;
+    let version = Bytes::of(b"version\r\n");
+    run(&mut world, alloc, &[Event::Piece(1, version)])?;
+    assert!(rt; !world.is_idle(1) && !world.is_closed(1));
+    run(&mut world, alloc, &[Event::Open, Event::Turn(1)])?;
+    assert!(rt; world.out(1).is_empty() && world.is_idle(1));
+    let events = [
+        Event::Piece(1, Bytes::of(b"ver")),
+        Event::Turn(1),
+        Event::Piece(1, Bytes::of(b"sion\r\n")),
+        Event::Turn(1),
+        Event::Turn(1),
+    ];
+    run(&mut world, alloc, &events)?;
+    assert_eq!(rt; world.out(1), b"VERSION 1.6.0\r\n".as_slice());
+    let events = [
+        Event::Piece(1, Bytes::of(b"quit\r\nversion\r\n")),
+        Event::Turn(1),
+        Event::Turn(1),
+    ];
+    run(&mut world, alloc, &events)?;
+    assert_eq!(rt; world.out(1), b"VERSION 1.6.0\r\n".as_slice());
+    assert!(rt; world.is_closed(1) && !world.is_idle(1));
+    assert!(rt; world.out(0).is_empty() && world.out(2).is_empty());
+    Ok(())
+}
+
+#[test]
+fn a_closed_session_keeps_its_output(rt: HostRuntime) -> Result<(), Fail> {
+    let alloc = rt.alloc();
+    let mut world = world(alloc, Fnv)?;
+    let events = [
+        Event::Open,
+        Event::Open,
+        Event::Piece(2, Bytes::of(b"version\r\nversion\r\n")),
+        Event::Turn(2),
+        Event::Turn(1),
+        Event::Close(2),
+        Event::Turn(2),
+        Event::Piece(2, Bytes::of(b"version\r\n")),
+        Event::Turn(2),
+    ];
+    run(&mut world, alloc, &events)?;
+    assert_eq!(rt; world.out(2), b"VERSION 1.6.0\r\n".as_slice());
+    assert!(rt; world.is_closed(2) && world.is_idle(1));
+    assert!(rt; world.out(1).is_empty());
+    Ok(())
+}
+
+#[test]
+fn a_dead_item_is_dropped_where_it_is_asked_for(rt: HostRuntime) -> Result<(), Fail> {
+    let alloc = rt.alloc();
+    let mut world = world(alloc, Fnv)?;
+    run(&mut world, alloc, &[Event::Open])?;
+    let set = "set a 0 10 1\r\nx\r\n";
+    answers(&rt, alloc, &mut world, 1000, set, "STORED\r\n")?;
+    answers(&rt, alloc, &mut world, 1010, "get a\r\n", "END\r\n")?;
+    answers(&rt, alloc, &mut world, 1000, "get a\r\n", "END\r\n")?;
+    answers(&rt, alloc, &mut world, 1000, set, "STORED\r\n")?;
+    run(
+        &mut world,
+        alloc,
+        &[Event::Clock(Moment::from_seconds(1010))],
+    )?;
+    let hit = "VALUE a 0 1\r\nx\r\nEND\r\n";
+    answers(&rt, alloc, &mut world, 1000, "get a\r\n", hit)
+}
+
+#[test]
+fn a_purge_drops_what_is_dead_on_its_shelf(rt: HostRuntime) -> Result<(), Fail> {
+    let alloc = rt.alloc();
+    let mut world = world(alloc, Fnv)?;
+    run(&mut world, alloc, &[Event::Open])?;
+    let set = "set a 0 10 1\r\nx\r\n";
+    let hit = "VALUE a 0 1\r\nx\r\nEND\r\n";
+    answers(&rt, alloc, &mut world, 1000, set, "STORED\r\n")?;
+    run(
+        &mut world,
+        alloc,
+        &[
+            Event::Purge(SHELF_OF_A),
+            Event::Clock(Moment::from_seconds(1010)),
+            Event::Purge(SHELF_OF_B),
+            Event::Purge(64),
+        ],
+    )?;
+    answers(&rt, alloc, &mut world, 1000, "get a\r\n", hit)?;
+    let later = Event::Clock(Moment::from_seconds(1010));
+    run(&mut world, alloc, &[later, Event::Purge(SHELF_OF_A)])?;
+    answers(&rt, alloc, &mut world, 1000, "get a\r\n", "END\r\n")
+}
+
+#[test]
+fn an_exptime_of_up_to_thirty_days_counts_from_now(rt: HostRuntime) -> Result<(), Fail> {
+    let alloc = rt.alloc();
+    let mut world = world(alloc, Fnv)?;
+    run(&mut world, alloc, &[Event::Open])?;
+    let sets = "set a 0 2592000 1\r\nx\r\nset b 0 2592001 1\r\ny\r\n";
+    answers(&rt, alloc, &mut world, 1000, sets, "STORED\r\nSTORED\r\n")?;
+    for (moment, input, output) in [
+        (2592000, "get b\r\n", "VALUE b 0 1\r\ny\r\nEND\r\n"),
+        (2592001, "get b\r\n", "END\r\n"),
+        (2592999, "get a\r\n", "VALUE a 0 1\r\nx\r\nEND\r\n"),
+        (2593000, "get a\r\n", "END\r\n"),
+    ] {
+        answers(&rt, alloc, &mut world, moment, input, output)?;
+    }
+    Ok(())
+}
+
+#[test]
+fn a_flush_comes_at_its_moment(rt: HostRuntime) -> Result<(), Fail> {
+    let alloc = rt.alloc();
+    let mut world = world(alloc, Fnv)?;
+    run(&mut world, alloc, &[Event::Open])?;
+    for (moment, input, output) in [
+        (1000, "flush_all 10\r\n", "OK\r\n"),
+        (1005, "set a 0 0 1\r\nx\r\n", "STORED\r\n"),
+        (1009, "get a\r\n", "VALUE a 0 1\r\nx\r\nEND\r\n"),
+        (1010, "get a\r\n", "END\r\n"),
+        (1010, "set b 0 0 1\r\ny\r\n", "STORED\r\n"),
+        (1011, "get b\r\n", "VALUE b 0 1\r\ny\r\nEND\r\n"),
+    ] {
+        answers(&rt, alloc, &mut world, moment, input, output)?;
+    }
+    Ok(())
+}
+
+#[test]
+fn keys_of_a_get_are_asked_at_their_turns(rt: HostRuntime) -> Result<(), Fail> {
+    let alloc = rt.alloc();
+    let mut world = world(alloc, Fnv)?;
+    let events = [
+        Event::Open,
+        Event::Open,
+        Event::Piece(2, Bytes::of(b"set a 0 0 1\r\n1\r\nset b 0 0 1\r\n1\r\n")),
+        Event::Turn(2),
+        Event::Turn(2),
+        Event::Piece(1, Bytes::of(b"get a b\r\n")),
+        Event::Turn(1),
+        Event::Piece(2, Bytes::of(b"set a 0 0 1\r\n2\r\nset b 0 0 1\r\n2\r\n")),
+        Event::Turn(2),
+        Event::Turn(2),
+        Event::Turn(1),
+    ];
+    run(&mut world, alloc, &events)?;
+    assert_eq!(rt;
+        world.out(1),
+        b"VALUE a 0 1\r\n1\r\nVALUE b 0 1\r\n2\r\nEND\r\n".as_slice()
+    );
+    assert_eq!(rt; world.out(2), b"STORED\r\nSTORED\r\nSTORED\r\nSTORED\r\n".as_slice());
+    Ok(())
+}
+
+#[test]
+fn keys_of_one_hash_are_apart(rt: HostRuntime) -> Result<(), Fail> {
+    let alloc = rt.alloc();
+    let mut world = world(alloc, Constant(0))?;
+    run(&mut world, alloc, &[Event::Open])?;
+    for key in 1..41 {
+        let set = format!(in alloc; "set k{key:02} 0 0 2\r\n{key:02}\r\n")?;
+        answers(&rt, alloc, &mut world, 1000, &set, "STORED\r\n")?;
+        run(&mut world, alloc, &[Event::Grow(0)])?;
+    }
+    for key in 1..41 {
+        let get = format!(in alloc; "get k{key:02}\r\n")?;
+        let hit = format!(in alloc; "VALUE k{key:02} 0 2\r\n{key:02}\r\nEND\r\n")?;
+        answers(&rt, alloc, &mut world, 1000, &get, &hit)?;
+    }
+    Ok(())
+}
