@@ -1,0 +1,6 @@
+//! Slab classes, and the pages and chunks that a store's memory is handed out in.
+#![tactic(auto)]
+
+mod class;
+
+pub use class::{Class, class_of};
