@@ -1,13 +1,14 @@
 -- The table of the chunk sizes, and which of them holds a charge.
-use Rattle.std.proofs.Common.{◌≡◌, ℕ, ◌+◌, ◌-◌, ◌*◌, ◌/◌, ◌<◌, ◌≤◌, Bool, true, false, leb, ltb, List, [], ◌∷◌, length, get_or, Some, None, refl, ap, subst, ◌∙◌, arith}
+use Rattle.std.proofs.Common.{◌≡◌, ℕ, ◌+◌, ◌-◌, ◌*◌, ◌/◌, ◌<◌, ◌≤◌, Bool, true, false, leb, ltb, eqb, List, [], ◌∷◌, length, get_or, Some, None, refl, ap, sym, subst, ◌∙◌, arith}
 use Rattle.std.proofs.lemmas.Grind.{get_or_default_zero}
-use Rattle.std.proofs.lemmas.Bool.{leb-true, le-leb, lt-leb, ltb-true, ltb-false}
+use Rattle.std.proofs.lemmas.Bool.{eqb-true, leb-true, le-leb, lt-leb, ltb-true, ltb-false}
 use Rattle.std.proofs.lemmas.List.Folds.{list_all_at}
 use Rattle.std.proofs.lemmas.List.FromFn.{get_or-range_with_len}
 use Rattle.std.proofs.lemmas.List.Sums.{position_or_len_is}
 use Rattle.std.proofs.lemmas.List.Sorted.{IsNonDecreasingBy-from_all_adjacent, IsPartitionedBy-ltb, IsPartitionPoint-from_clause}
 use Rattle.std.specs.List.{list_all, range_with_len}
 use Rattle.std.specs.List.Sorted.{IsNonDecreasingBy, IsPartitionPoint, IsPartitionedBy}
+use Rattle.mc_slab.specs.Chunks.{chunk_class, IsChunk, IsChunkOf}
 use Rattle.mc_slab.specs.Classes.{IsClass, chunk_sizes, size_of, chunks_a_page, class_holding, class_of, PartsAt}
 
 -- the table that the code keeps
@@ -134,3 +135,38 @@ pub class_of-none : (charge smaller : ℕ) → PartsAt charge smaller → 40 ≤
 class_of-none charge smaller parts all =
     let test : leb charge 1048576 ≡ false = lt-leb _ _ (charge_above charge smaller parts all) in
     rw test refl
+
+-- each size is held by its own class, and by no smaller one
+sizes_differ : list_all (λ k. eqb (class_holding (get_or chunk_sizes k 0)) (k + 1)) (range_with_len 0 40) ≡ true
+unfolding chunk_sizes
+sizes_differ = refl
+
+pub class_holding-size_of : (class : ℕ) → IsClass class → class_holding (size_of class) ≡ class
+class_holding-size_of class is =
+    let test : ℕ → Bool = λ k. eqb (class_holding (get_or chunk_sizes k 0)) (k + 1) in
+    let passes : test (get_or (range_with_len 0 40) (class - 1) 0) ≡ true = test_at test (range_with_len 0 40) (class - 1) sizes_differ (omega arith) in
+    let place : get_or (range_with_len 0 40) (class - 1) 0 ≡ class - 1 = get_or-range_with_len 0 40 (class - 1) 0 (omega arith) ∙ omega arith in
+    eqb-true _ _ (subst (λ (k : ℕ). test k ≡ true) place passes) ∙ omega arith
+
+-- bytes of a class's length are a chunk of it
+pub IsChunkOf-length : (class : ℕ) (bytes : List ℕ) → IsClass class → length bytes ≡ size_of class → IsChunkOf class bytes
+IsChunkOf-length class bytes is size = record {
+  size = size;
+  class_is = ap class_holding size ∙ class_holding-size_of class is;
+}
+
+-- and a chunk
+pub IsChunk-IsChunkOf : (class : ℕ) (bytes : List ℕ) → IsClass class → IsChunkOf class bytes → IsChunk bytes
+IsChunk-IsChunkOf class bytes is chunk = record {
+  is_class = subst IsClass (sym chunk.class_is) is;
+  size = chunk.size ∙ ap (λ (k : ℕ). size_of k) (sym chunk.class_is);
+}
+
+-- what is as long as a chunk is one
+pub IsChunk-length : (bytes others : List ℕ) → length others ≡ length bytes → IsChunk bytes → IsChunk others
+IsChunk-length bytes others same chunk =
+    let class : chunk_class bytes ≡ chunk_class others = ap class_holding (sym same) in
+    record {
+      is_class = subst IsClass class chunk.is_class;
+      size = same ∙ chunk.size ∙ ap (λ (k : ℕ). size_of k) class;
+    }

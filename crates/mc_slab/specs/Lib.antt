@@ -1,1 +1,3 @@
 pub mod Classes
+pub mod Chunks
+pub mod ChunkLoans

@@ -1,5 +1,5 @@
 ghost use Rattle.std.specs.Prelude.{◌≡◌, ℕ, ◌-◌, ◌+◌, ◌<◌, ◌≤◌, ◌↔◌, [], ◌∷◌, IfSome, IsNone, length};
-ghost use Rattle.mc_slab.specs.Classes.{IsClass, chunk_sizes, size_of, chunks_a_page, class_of, PartsAt};
+ghost use Rattle.mc_slab.specs.Classes.{IsClass, chunk_sizes, size_of, chunks_a_page, class_holding, class_of, PartsAt};
 
 use std::alloc::AllocError;
 use std::marker::Model;
@@ -18,6 +18,7 @@ static SIZES: [u32; 40] = [
 ];
 
 /// A class of chunks of one size. Contracts see it as its number, from 1 to 40.
+#[derive(Debug, PartialEq, Eq)]
 pub struct Class {
     number: u8,
 }
@@ -60,6 +61,7 @@ impl Class {
     pub fn size(self) -> u32
         ensures value { result ≡ size_of self }
         ensures range { (96 ≤ result) × (result ≤ 1048576) }
+        ensures is_class { IsClass self }
     {
         SIZES[usize::from(self.number) - 1]
     }
@@ -68,6 +70,7 @@ impl Class {
     pub fn chunks_a_page(self) -> u32
         ensures value { result ≡ chunks_a_page self }
         ensures range { (1 ≤ result) × (result ≤ 10922) }
+        ensures is_class { IsClass self }
     {
         PAGE / self.size()
     }
@@ -95,5 +98,15 @@ pub fn class_of(charge: u64) -> Option<Class>
         })
     } else {
         None
+    }
+}
+
+/// The class whose chunks have that many bytes.
+pub(crate) fn class_of_size(size: usize) -> Class
+    requires { IsClass (class_holding size) }
+    ensures { result ≡ class_holding size }
+{
+    Class {
+        number: smaller_sizes(size as u64) as u8 + 1,
     }
 }

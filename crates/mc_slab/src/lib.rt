@@ -1,6 +1,8 @@
 //! Slab classes, and the pages and chunks that a store's memory is handed out in.
 #![tactic(auto)]
 
+mod chunk;
 mod class;
 
+pub use chunk::Chunk;
 pub use class::{Class, class_of};
