@@ -49,6 +49,22 @@ impl Clone for Class {
 impl Copy for Class {}
 
 impl Class {
+    /// The class of a number, from 1 to 40.
+    pub(crate) fn of(number: u8) -> Class
+        requires { IsClass number }
+        ensures { result ≡ number }
+    {
+        Class { number }
+    }
+
+    /// Its place among the classes, from 0 to 39.
+    pub(crate) fn index(self) -> usize
+        ensures value { result ≡ self - 1 }
+        ensures is_class { IsClass self }
+    {
+        usize::from(self.number) - 1
+    }
+
     /// Its number, from 1 to 40.
     pub fn number(self) -> u8
         ensures value { result ≡ self }

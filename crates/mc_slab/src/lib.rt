@@ -3,6 +3,10 @@
 
 mod chunk;
 mod class;
+mod slab;
+mod stock;
 
 pub use chunk::Chunk;
 pub use class::{Class, class_of};
+pub use slab::{Slab, TakeFault};
+pub use stock::Account;
