@@ -3,10 +3,12 @@
 
 mod chunk;
 mod class;
+mod laws;
 mod slab;
 mod stock;
 
 pub use chunk::Chunk;
 pub use class::{Class, class_of};
+pub use laws::table_of_classes;
 pub use slab::{Slab, TakeFault};
 pub use stock::Account;

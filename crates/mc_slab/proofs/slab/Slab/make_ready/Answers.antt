@@ -31,7 +31,7 @@ returns-then-not-is_all_out-clause-full c = λ pages out.
     let within : c.index_mut-stock.result.now.out ≤ all_chunks c.index_mut-stock.result.now = within_at _ _ _ _ _ at in
     let free : c.index_mut-stock.result.now.out < all_chunks c.index_mut-stock.result.now = omega arith in
     ((λ e. cc), (λ f.
-    let full : out_of (state_of c.self.inside.pages_left c.self.inside.stocks.items) c.args.class ≡ chunks_of (state_of c.self.inside.pages_left c.self.inside.stocks.items) c.args.class = rw c.self.view_is f.0.all_out in
+    let full : out_of (state_of c.self.inside.pages_left c.self.inside.stocks.items) c.args.class ≡ chunks_of (state_of c.self.inside.pages_left c.self.inside.stocks.items) c.args.class = subst (λ (s : SlabState). out_of s c.args.class ≡ chunks_of s c.args.class) (sym c.self.view_is) f.0.all_out in
     let same : c.index_mut-stock.result.now.out ≡ all_chunks c.index_mut-stock.result.now = sym (out_at _ _ _ _ _ at) ∙ full ∙ chunks_at _ _ _ _ _ at in
     absurd (differ same)))
 
