@@ -1,0 +1,33 @@
+-- The stock of one class: its pages, its chunks that are out, and the free ones.
+use Rattle.std.specs.Prelude.{◌≡◌, ℕ, ◌+◌, ◌*◌, ◌^◌, ◌<◌, ◌≤◌, List, length, refl}
+use Rattle.std.specs.List.{All}
+use Rattle.std.specs.Coded.{Coded, code_by, coded×, coded_ℕ}
+use Rattle.mc_slab.specs.Classes.{IsClass, chunks_a_page}
+use Rattle.mc_slab.specs.Chunks.{IsChunkOf}
+
+-- what contracts see of a stock: its class, its pages, and its chunks that are out
+pub record StockState : Type 0 where
+  pub class : ℕ
+  pub pages : ℕ
+  pub out : ℕ
+
+-- how a proof stores it
+abbrev pub coded_stock : Coded StockState
+coded_stock =
+    code_by (ℕ × (ℕ × ℕ)) (coded× coded_ℕ (coded× coded_ℕ coded_ℕ)) (λ s. (s.class, (s.pages, s.out)))
+    (λ p. record { class = p.0; pages = p.1.0; out = p.1.1 })
+    (λ _. refl)
+
+-- how many chunks its pages have
+abbrev pub all_chunks : StockState → ℕ
+all_chunks stock = stock.pages * chunks_a_page stock.class
+
+-- A stock with these free chunks, in a list that has room for so many: what is out and what is free add up to the chunks of
+-- its pages, each free one is of the class, and there is room for all of them among the free ones.
+pub record IsStock (stock : StockState) (free : List (List ℕ)) (room : ℕ) : Type 0 where
+  pub is_class : IsClass stock.class
+  pub pages : stock.pages ≤ 65536
+  pub account : stock.out + length free ≡ all_chunks stock
+  pub chunks : All (IsChunkOf stock.class) free
+  pub enough : all_chunks stock ≤ room
+  pub fits : all_chunks stock < 2 ^ 32

@@ -1,0 +1,140 @@
+ghost use Rattle.std.specs.Prelude.{◌≡◌, ℕ, ◌+◌, ◌-◌, ◌<◌, ◌≤◌, ◌↔◌, map, IfOk, OnOk, OnErr, Err};
+ghost use Rattle.std.specs.List.{range_with_len};
+ghost use Rattle.mc_slab.specs.Chunks.{IsChunkOf, chunk_class};
+ghost use Rattle.mc_slab.specs.Slabs.{IsSlab, IsFull, untouched, empty_stock, pages_of, out_of, chunks_of, pages_left, with_chunk, taken, given};
+ghost use Rattle.mc_slab.specs.declared.slab.TakeFault.TheVariants.{NoMemory};
+
+use crate::chunk::Chunk;
+use crate::class::{CLASSES, Class};
+use crate::stock::{Account, Stock};
+use std::alloc::{AllocError, Global};
+use std::marker::Model;
+use thiserror::Error;
+
+/// Why a chunk could not be had. The slab is as it was.
+#[derive(Debug, Drop, Error)]
+pub enum TakeFault {
+    /// Every chunk of the class's pages is out, and no page is left.
+    #[error("all {out} chunks of the class's {pages} pages are out, and no page is left")]
+    Full { class: Class, pages: u32, out: u32 },
+    /// The class needs a page, and memory for one was refused.
+    #[error("out of memory")]
+    NoMemory,
+}
+
+impl From<AllocError> for TakeFault {
+    ghost from_gives = { λ _ e. e ≡ NoMemory };
+
+    fn from(_e: AllocError) -> TakeFault {
+        TakeFault::NoMemory
+    }
+}
+
+/// The memory of a store: pages of 1048576 bytes, which go to a class of chunks one by one and stay with it. Contracts see
+/// the limit of pages, and of each class its pages and its chunks that are out.
+#[derive(Drop)]
+pub struct Slab {
+    pages_left: u32,
+    stocks: Vec<Stock>,
+}
+
+impl Model for Slab {
+    ghost use Rattle.mc_slab.specs.Slabs.{SlabState, coded_slab, state_of, AreStocks};
+
+    ghost Value = { SlabState };
+
+    ghost coded = { coded_slab };
+
+    ghost view = { λ s. state_of s.pages_left s.stocks.items };
+
+    ghost invariant = { λ s. AreStocks s.pages_left s.stocks.items };
+}
+
+impl Slab {
+    /// A slab of that many pages, 1 to 65536, none of which has gone to a class.
+    pub fn new(alloc: Global, pages: u32) -> Result<Slab, AllocError>
+        requires { (1 ≤ pages) × (pages ≤ 65536) }
+        ensures value { IfOk result (λ slab. slab ≡ untouched pages) }
+        ensures is_slab { IfOk result IsSlab }
+    {
+        Ok(Slab {
+            pages_left: pages,
+            stocks: empty_stocks(alloc)?,
+        })
+    }
+
+    /// Takes a chunk of the class, of any content. A page goes to the class only where all its chunks are out, and only that
+    /// takes memory.
+    pub fn take(&mut self, alloc: Global, class: Class) -> Result<Chunk, TakeFault>
+        ensures chunk { IfOk result (IsChunkOf class) }
+        ensures taken { OnOk result (self.new ≡ taken self.old class) }
+        ensures full { (pages out : ℕ) → (result ≡ Err (TakeFault.Full class pages out)) ↔ (IsFull self.old class × (pages ≡ pages_of self.old class) × (out ≡ out_of self.old class)) }
+        ensures no_memory { result ≡ Err TakeFault.NoMemory → (out_of self.old class ≡ chunks_of self.old class) × (0 < pages_left self.old) }
+        ensures err { OnErr result (self.new ≡ self.old) }
+        ensures is_slab { OnOk result (IsSlab self.new) }
+    {
+        self.make_ready(alloc, class)?;
+        let stock = &mut self.stocks[class.index()];
+        Ok(stock.take())
+    }
+
+    /// Gives a page to the class where all its chunks are out.
+    fn make_ready(&mut self, alloc: Global, class: Class) -> Result<(), TakeFault>
+        ensures ready { OnOk result (self.new ≡ with_chunk self.old class) }
+        ensures free { OnOk result (out_of self.new class < chunks_of self.new class) }
+        ensures full { (pages out : ℕ) → (result ≡ Err (TakeFault.Full class pages out)) ↔ (IsFull self.old class × (pages ≡ pages_of self.old class) × (out ≡ out_of self.old class)) }
+        ensures no_memory { result ≡ Err TakeFault.NoMemory → (out_of self.old class ≡ chunks_of self.old class) × (0 < pages_left self.old) }
+        ensures err { OnErr result (self.new ≡ self.old) }
+    {
+        let stock = &mut self.stocks[class.index()];
+        if !stock.is_all_out() {
+            return Ok(());
+        }
+        if self.pages_left == 0 {
+            let Account { pages, out } = stock.account();
+            return Err(TakeFault::Full { class, pages, out });
+        }
+        stock.add_page(alloc)?;
+        self.pages_left -= 1;
+        Ok(())
+    }
+
+    /// Takes a chunk back, of whose class one is out. It takes no memory.
+    pub fn give(&mut self, chunk: Chunk)
+        requires { 0 < out_of self.old (chunk_class chunk) }
+        ensures given { self.new ≡ given self.old (chunk_class chunk) }
+        ensures is_slab { IsSlab self.new }
+    {
+        let class = chunk.class();
+        let stock = &mut self.stocks[class.index()];
+        stock.give(chunk);
+    }
+
+    /// What the class has.
+    pub fn account(&self, class: Class) -> Account
+        ensures value { result ≡ record { pages = pages_of self.now class; out = out_of self.now class } }
+        ensures is_slab { IsSlab self.now }
+    {
+        let stock = &self.stocks[class.index()];
+        stock.account()
+    }
+
+    /// How many pages no class has yet.
+    pub fn pages_left(&self) -> u32
+        ensures value { result ≡ pages_left self.now }
+        ensures is_slab { IsSlab self.now }
+    {
+        self.pages_left
+    }
+}
+
+/// A stock of each class, in order, with no page.
+fn empty_stocks(alloc: Global) -> Result<Vec<Stock>, AllocError>
+    ensures { IfOk result (λ stocks. stocks.items ≡ map empty_stock (range_with_len 1 40)) }
+{
+    let mut stocks = Vec::with_capacity(alloc, usize::from(CLASSES))?;
+    for index in 0..CLASSES {
+        stocks.push_reserved(Stock::new(alloc, Class::of(index + 1)));
+    }
+    Ok(stocks)
+}

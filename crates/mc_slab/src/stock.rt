@@ -1,0 +1,136 @@
+ghost use Rattle.std.specs.Prelude.{◌≡◌, ◌+◌, ◌-◌, ◌*◌, ◌<◌, ◌≤◌, ◌↔◌, [], IsTrue, OnOk, OnErr, vec_len, vec_capacity};
+ghost use Rattle.std.specs.List.{All};
+ghost use Rattle.mc_slab.specs.Classes.{IsClass, chunks_a_page};
+ghost use Rattle.mc_slab.specs.Chunks.{IsChunkOf};
+ghost use Rattle.mc_slab.specs.Stocks.{all_chunks};
+
+use crate::chunk::Chunk;
+use crate::class::Class;
+use std::alloc::{AllocError, Global};
+use std::marker::Model;
+
+/// What a class has: its pages, and how many of their chunks are out.
+#[derive(Clone, Copy, Debug, PartialEq, Eq)]
+pub struct Account {
+    pub pages: u32,
+    pub out: u32,
+}
+
+/// The pages of one class: how many it has, how many of their chunks are out, and the free ones.
+#[derive(Drop)]
+pub(crate) struct Stock {
+    class: Class,
+    pages: u32,
+    out: u32,
+    free: Vec<Chunk>,
+}
+
+impl Model for Stock {
+    ghost use Rattle.std.specs.Prelude.{vec_capacity};
+    ghost use Rattle.mc_slab.specs.Stocks.{StockState, coded_stock, IsStock};
+
+    ghost Value = { StockState };
+
+    ghost coded = { coded_stock };
+
+    ghost view = { λ s. record { class = s.class; pages = s.pages; out = s.out } };
+
+    ghost invariant = { λ s. IsStock (record { class = s.class; pages = s.pages; out = s.out }) s.free.items (vec_capacity s.free) };
+}
+
+impl Stock {
+    /// The stock of a class that has no page.
+    pub(crate) fn new(alloc: Global, class: Class) -> Stock
+        ensures { result ≡ record { class = class; pages = 0; out = 0 } }
+    {
+        let _ = class.number();
+        Stock {
+            class,
+            pages: 0,
+            out: 0,
+            free: Vec::new(alloc),
+        }
+    }
+
+    /// Its pages, and its chunks that are out.
+    pub(crate) fn account(&self) -> Account
+        ensures value { result ≡ record { pages = self.now.pages; out = self.now.out } }
+        ensures within { result.out ≤ all_chunks self.now }
+    {
+        Account {
+            pages: self.pages,
+            out: self.out,
+        }
+    }
+
+    /// Whether every chunk of its pages is out.
+    pub(crate) fn is_all_out(&self) -> bool
+        ensures value { IsTrue result ↔ (self.now.out ≡ all_chunks self.now) }
+        ensures within { self.now.out ≤ all_chunks self.now }
+    {
+        self.free.is_empty()
+    }
+
+    /// One page more. Refused, the stock is as it was: a page is made whole, with room for its chunks among the free ones, or
+    /// not at all.
+    pub(crate) fn add_page(&mut self, alloc: Global) -> Result<(), AllocError>
+        requires all_out { self.old.out ≡ all_chunks self.old }
+        requires few { self.old.pages < 65536 }
+        ensures ok { OnOk result (self.new ≡ record self.old { pages = self.old.pages + 1 }) }
+        ensures err { OnErr result (self.new ≡ self.old) }
+    {
+        let chunks = self.class.chunks_a_page();
+        self.free
+            .reserve_exact(self.out as usize + chunks as usize)?;
+        make_chunks(&mut self.free, alloc, self.class, chunks)?;
+        self.pages += 1;
+        Ok(())
+    }
+
+    /// Takes a free chunk.
+    pub(crate) fn take(&mut self) -> Chunk
+        requires { self.old.out < all_chunks self.old }
+        ensures chunk { IsChunkOf self.old.class result }
+        ensures out { self.new ≡ record self.old { out = self.old.out + 1 } }
+    {
+        let chunk = self.free.pop().unwrap();
+        self.out += 1;
+        chunk
+    }
+
+    /// Takes a chunk back.
+    pub(crate) fn give(&mut self, chunk: Chunk)
+        requires out { 0 < self.old.out }
+        requires class { IsChunkOf self.old.class chunk }
+        ensures { self.new ≡ record self.old { out = self.old.out - 1 } }
+    {
+        self.free.push_reserved(chunk);
+        self.out -= 1;
+    }
+}
+
+/// Makes so many chunks of the class, for which there is room. Refused, it leaves none.
+fn make_chunks(
+    free: &mut Vec<Chunk>,
+    alloc: Global,
+    class: Class,
+    count: u32,
+) -> Result<(), AllocError>
+    requires none { free.old.items ≡ [] }
+    requires room { count ≤ vec_capacity free.old }
+    ensures made { OnOk result (vec_len free.new ≡ count) }
+    ensures chunks { All (IsChunkOf class) free.new.items }
+    ensures refused { OnErr result (free.new.items ≡ []) }
+    ensures capacity { vec_capacity free.new ≡ vec_capacity free.old }
+{
+    for _ in 0..count {
+        match Chunk::new(alloc, class) {
+            Ok(chunk) => free.push_reserved(chunk),
+            Err(refused) => {
+                free.clear();
+                return Err(refused);
+            }
+        }
+    }
+    Ok(())
+}
