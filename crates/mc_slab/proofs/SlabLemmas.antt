@@ -54,8 +54,8 @@ IsSlab-state_of left stocks are = record {
   pages = length-map stocks (λ (s : StockState). s.pages) ∙ length-stocks left stocks are;
   out = length-map stocks (λ (s : StockState). s.out) ∙ length-stocks left stocks are;
   within = λ class is.
-    let none : StockState = record { class = class; pages = 0; out = 0 } in
-    rw (out_in left stocks class none are is, chunks_in left stocks class none are is) (are.within (class - 1) none (below left stocks class are is));
+      let none : StockState = record { class = class; pages = 0; out = 0 } in
+      rw (out_in left stocks class none are is, chunks_in left stocks class none are is) (are.within (class - 1) none (below left stocks class are is));
   limit = omega arith;
   most = are.most;
 }
@@ -94,29 +94,29 @@ module _ (left : ℕ) (stocks : List StockState) (class index : ℕ) (stock : St
   -- the pages, and so the limit, where another stock stands there
   pages-set : (new : StockState) → sum (map (λ (s : StockState). s.pages) (set stocks index new)) + stock.pages ≡ sum (map (λ (s : StockState). s.pages) stocks) + new.pages
   pages-set new =
-    let pages : List ℕ = map (λ (s : StockState). s.pages) stocks in
-    let there : get_or pages index 0 ≡ stock.pages = get_or-map (λ (s : StockState). s.pages) stocks index stock 0 inside ∙ ap (λ (s : StockState). s.pages) (sym at.there) in
-    let long : index < length pages = rw length-map inside in
-    let more : sum (set pages index new.pages) + get_or pages index 0 ≡ sum pages + new.pages = sum_by-set (λ (n : ℕ). n) pages index new.pages 0 long in
-    rw (map-set, ← there) more
+      let pages : List ℕ = map (λ (s : StockState). s.pages) stocks in
+      let there : get_or pages index 0 ≡ stock.pages = get_or-map (λ (s : StockState). s.pages) stocks index stock 0 inside ∙ ap (λ (s : StockState). s.pages) (sym at.there) in
+      let long : index < length pages = rw length-map inside in
+      let more : sum (set pages index new.pages) + get_or pages index 0 ≡ sum pages + new.pages = sum_by-set (λ (n : ℕ). n) pages index new.pages 0 long in
+      rw (map-set, ← there) more
 
   -- while a page is left, the class has fewer than all
   pub few_at : 0 < left → stock.pages < 65536
   few_at some =
-    let sums = pages-set (record stock { pages = 0 }) in
-    let most : left + sum (map (λ (s : StockState). s.pages) stocks) ≤ 65536 = at.stocks_are.most in
-    omega arith
+      let sums = pages-set (record stock { pages = 0 }) in
+      let most : left + sum (map (λ (s : StockState). s.pages) stocks) ≤ 65536 = at.stocks_are.most in
+      omega arith
 
   -- the stocks are still a slab's where another stock stands there
   pub AreStocks-set : (later : ℕ) (new : StockState) → new.class ≡ stock.class → new.out ≤ all_chunks new → later + new.pages ≡ left + stock.pages → AreStocks later (set stocks index new)
   AreStocks-set later new same within pages =
-    let sums = pages-set new in
-    let most : left + sum (map (λ (s : StockState). s.pages) stocks) ≤ 65536 = at.stocks_are.most in
-    record {
-      classes = map-set_same (λ (s : StockState). s.class) stocks index new stock (same ∙ ap (λ (s : StockState). s.class) at.there) ∙ at.stocks_are.classes;
-      within = All-set (λ (s : StockState). s.out ≤ all_chunks s) stocks index new within at.stocks_are.within;
-      most = omega arith;
-    }
+      let sums = pages-set new in
+      let most : left + sum (map (λ (s : StockState). s.pages) stocks) ≤ 65536 = at.stocks_are.most in
+      record {
+        classes = map-set_same (λ (s : StockState). s.class) stocks index new stock (same ∙ ap (λ (s : StockState). s.class) at.there) ∙ at.stocks_are.classes;
+        within = All-set (λ (s : StockState). s.out ≤ all_chunks s) stocks index new within at.stocks_are.within;
+        most = omega arith;
+      }
 
   -- the same stock changes nothing
   pub set-same : set stocks index stock ≡ stocks
@@ -125,43 +125,43 @@ module _ (left : ℕ) (stocks : List StockState) (class index : ℕ) (stock : St
   -- another count of chunks out
   pub state_of-out : (out : ℕ) → state_of left (set stocks index (record stock { out = out })) ≡ with_out (state_of left stocks) class out
   state_of-out out =
-    let pages : map (λ (s : StockState). s.pages) (set stocks index (record stock { out = out })) ≡ map (λ (s : StockState). s.pages) stocks =
-        map-set_same (λ (s : StockState). s.pages) stocks index (record stock { out = out }) stock (ap (λ (s : StockState). s.pages) at.there) in
-    let outs : map (λ (s : StockState). s.out) (set stocks index (record stock { out = out })) ≡ set (map (λ (s : StockState). s.out) stocks) (class - 1) out =
-        map-set (λ (s : StockState). s.out) stocks index (record stock { out = out }) ∙ ap (λ (i : ℕ). set (map (λ (s : StockState). s.out) stocks) i out) at.place in
-    cc
+      let pages : map (λ (s : StockState). s.pages) (set stocks index (record stock { out = out })) ≡ map (λ (s : StockState). s.pages) stocks =
+      map-set_same (λ (s : StockState). s.pages) stocks index (record stock { out = out }) stock (ap (λ (s : StockState). s.pages) at.there) in
+      let outs : map (λ (s : StockState). s.out) (set stocks index (record stock { out = out })) ≡ set (map (λ (s : StockState). s.out) stocks) (class - 1) out =
+      map-set (λ (s : StockState). s.out) stocks index (record stock { out = out }) ∙ ap (λ (i : ℕ). set (map (λ (s : StockState). s.out) stocks) i out) at.place in
+      cc
 
   -- a page more, of those that were left
   pub state_of-page : 0 < left → state_of (left - 1) (set stocks index (record stock { pages = stock.pages + 1 })) ≡ with_page (state_of left stocks) class
   state_of-page some =
-    let new : StockState = record stock { pages = stock.pages + 1 } in
-    let sums : sum (map (λ (s : StockState). s.pages) (set stocks index new)) + stock.pages ≡ sum (map (λ (s : StockState). s.pages) stocks) + (stock.pages + 1) = pages-set new in
-    let limit : left - 1 + sum (map (λ (s : StockState). s.pages) (set stocks index new)) ≡ left + sum (map (λ (s : StockState). s.pages) stocks) = omega arith in
-    let pages : map (λ (s : StockState). s.pages) (set stocks index new) ≡ set (map (λ (s : StockState). s.pages) stocks) (class - 1) (pages_of (state_of left stocks) class + 1) =
-        map-set (λ (s : StockState). s.pages) stocks index new ∙ ap (λ (i : ℕ). set (map (λ (s : StockState). s.pages) stocks) i (stock.pages + 1)) at.place ∙ ap (λ (n : ℕ). set (map (λ (s : StockState). s.pages) stocks) (class - 1) (n + 1)) (sym pages_at) in
-    let outs : map (λ (s : StockState). s.out) (set stocks index new) ≡ map (λ (s : StockState). s.out) stocks =
-        map-set_same (λ (s : StockState). s.out) stocks index new stock (ap (λ (s : StockState). s.out) at.there) in
-    cc
+      let new : StockState = record stock { pages = stock.pages + 1 } in
+      let sums : sum (map (λ (s : StockState). s.pages) (set stocks index new)) + stock.pages ≡ sum (map (λ (s : StockState). s.pages) stocks) + (stock.pages + 1) = pages-set new in
+      let limit : left - 1 + sum (map (λ (s : StockState). s.pages) (set stocks index new)) ≡ left + sum (map (λ (s : StockState). s.pages) stocks) = omega arith in
+      let pages : map (λ (s : StockState). s.pages) (set stocks index new) ≡ set (map (λ (s : StockState). s.pages) stocks) (class - 1) (pages_of (state_of left stocks) class + 1) =
+      map-set (λ (s : StockState). s.pages) stocks index new ∙ ap (λ (i : ℕ). set (map (λ (s : StockState). s.pages) stocks) i (stock.pages + 1)) at.place ∙ ap (λ (n : ℕ). set (map (λ (s : StockState). s.pages) stocks) (class - 1) (n + 1)) (sym pages_at) in
+      let outs : map (λ (s : StockState). s.out) (set stocks index new) ≡ map (λ (s : StockState). s.out) stocks =
+      map-set_same (λ (s : StockState). s.out) stocks index new stock (ap (λ (s : StockState). s.out) at.there) in
+      cc
 
   -- no page goes to a class that has a chunk free, and one to a class that has none
   pub with_chunk-free : stock.out < all_chunks stock → with_chunk (state_of left stocks) class ≡ state_of left stocks
   with_chunk-free free =
-    let test : eqb (out_of (state_of left stocks) class) (chunks_of (state_of left stocks) class) ≡ false = rw (out_at, chunks_at) (ne_eqb _ _ (omega arith)) in
-    rw test refl
+      let test : eqb (out_of (state_of left stocks) class) (chunks_of (state_of left stocks) class) ≡ false = rw (out_at, chunks_at) (ne_eqb _ _ (omega arith)) in
+      rw test refl
 
   pub with_chunk-none : stock.out ≡ all_chunks stock → with_chunk (state_of left stocks) class ≡ with_page (state_of left stocks) class
   with_chunk-none none =
-    let test : eqb (out_of (state_of left stocks) class) (chunks_of (state_of left stocks) class) ≡ true = rw (out_at, chunks_at) (eq-eqb _ _ none) in
-    rw test refl
+      let test : eqb (out_of (state_of left stocks) class) (chunks_of (state_of left stocks) class) ≡ true = rw (out_at, chunks_at) (eq-eqb _ _ none) in
+      rw test refl
 
   -- after a page a chunk is free
   pub free-with_page : out_of (with_page (state_of left stocks) class) class < chunks_of (with_page (state_of left stocks) class) class
   free-with_page =
-    let pages : List ℕ = map (λ (s : StockState). s.pages) stocks in
-    let long : class - 1 < length pages = rw length-map (below left stocks class at.stocks_are at.is_class) in
-    let more : pages_of (with_page (state_of left stocks) class) class ≡ stock.pages + 1 = get_or-set_same pages (class - 1) _ 0 long ∙ ap (λ (n : ℕ). n + 1) pages_at in
-    let some : 1 ≤ chunks_a_page class = chunks_a_page-least class at.is_class in
-    let within : stock.out ≤ stock.pages * chunks_a_page class = subst (λ (k : ℕ). stock.out ≤ stock.pages * chunks_a_page k) class_at within_at in
-    let out : out_of (state_of left stocks) class ≡ stock.out = out_at in
-    let room : stock.out < (stock.pages + 1) * chunks_a_page class = omega arith in
-    rw (more, out) room
+      let pages : List ℕ = map (λ (s : StockState). s.pages) stocks in
+      let long : class - 1 < length pages = rw length-map (below left stocks class at.stocks_are at.is_class) in
+      let more : pages_of (with_page (state_of left stocks) class) class ≡ stock.pages + 1 = get_or-set_same pages (class - 1) _ 0 long ∙ ap (λ (n : ℕ). n + 1) pages_at in
+      let some : 1 ≤ chunks_a_page class = chunks_a_page-least class at.is_class in
+      let within : stock.out ≤ stock.pages * chunks_a_page class = subst (λ (k : ℕ). stock.out ≤ stock.pages * chunks_a_page k) class_at within_at in
+      let out : out_of (state_of left stocks) class ≡ stock.out = out_at in
+      let room : stock.out < (stock.pages + 1) * chunks_a_page class = omega arith in
+      rw (more, out) room

@@ -9,5 +9,4 @@ pub fn table_of_classes()
     ensures chunks { map (λ size. 1048576 / size) chunk_sizes ≡ 10922 ∷ 8738 ∷ 6898 ∷ 5461 ∷ 4369 ∷ 3449 ∷ 2730 ∷ 2184 ∷ 1747 ∷ 1394 ∷ 1110 ∷ 885 ∷ 708 ∷ 564 ∷ 451 ∷ 361 ∷ 288 ∷ 230 ∷ 184 ∷ 147 ∷ 118 ∷ 94 ∷ 75 ∷ 60 ∷ 48 ∷ 38 ∷ 30 ∷ 24 ∷ 19 ∷ 15 ∷ 12 ∷ 10 ∷ 8 ∷ 6 ∷ 5 ∷ 4 ∷ 3 ∷ 2 ∷ 2 ∷ 1 ∷ [] }
     ensures first { (class_of 0 ≡ Some 1) × (class_of 96 ≡ Some 1) × (class_of 97 ≡ Some 2) }
     ensures last { (class_of 493552 ≡ Some 39) × (class_of 493553 ≡ Some 40) × (class_of 1048576 ≡ Some 40) × (class_of 1048577 ≡ None) }
-{
-}
+{}

@@ -12,3 +12,6 @@ pub use class::{Class, class_of};
 pub use laws::table_of_classes;
 pub use slab::{Slab, TakeFault};
 pub use stock::Account;
+
+#[cfg(test)]
+mod tests;

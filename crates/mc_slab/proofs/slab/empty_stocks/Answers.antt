@@ -15,8 +15,8 @@ loop-index-preserved c =
     let made : c.new.result ≡ empty_stock (c.loop-index.index + 1) = c.new.ensures ∙ ap empty_stock c.of.ensures in
     record {
       stocks = c.push_reserved.ensures.items
-      ∙ ap (λ (l : List StockState). l ++ c.new.result ∷ []) c.loop-index.invariant.stocks
-      ∙ ap (λ (s : StockState). map empty_stock (range_with_len 1 c.loop-index.index) ++ s ∷ []) made
-      ∙ sym (map-range_with_len_more empty_stock 1 c.loop-index.index (c.loop-index.index + 1) (omega arith));
+          ∙ ap (λ (l : List StockState). l ++ c.new.result ∷ []) c.loop-index.invariant.stocks
+          ∙ ap (λ (s : StockState). map empty_stock (range_with_len 1 c.loop-index.index) ++ s ∷ []) made
+          ∙ sym (map-range_with_len_more empty_stock 1 c.loop-index.index (c.loop-index.index + 1) (omega arith));
       capacity = c.push_reserved.ensures.capacity ∙ c.loop-index.invariant.capacity;
     }

@@ -10,14 +10,22 @@ use Rattle.mc_slab.proofs.slab.Slab.take.Goals as goal
 pub take-requires : goal.take-requires
 take-requires c =
     let at : StockAt c.self.inside.pages_left c.self.inside.stocks.items c.args.class c.index.result c.index_mut-stock.result.now = record {
-      stocks_are = c.self.invariant; is_class = c.index.ensures.is_class; place = c.index.ensures.value; there = c.index_mut-stock.ensures.value } in
+      stocks_are = c.self.invariant;
+      is_class = c.index.ensures.is_class;
+      place = c.index.ensures.value;
+      there = c.index_mut-stock.ensures.value;
+    } in
     let free : out_of (state_of c.self.inside.pages_left c.self.inside.stocks.items) c.args.class < chunks_of (state_of c.self.inside.pages_left c.self.inside.stocks.items) c.args.class = subst (λ (s : SlabState). out_of s c.args.class < chunks_of s c.args.class) (sym c.self.view_is) c.in_ok-make_ready.ensures.free in
     rw (out_at _ _ _ _ _ at, chunks_at _ _ _ _ _ at) at free
 
 pub invariant_of-self : goal.invariant_of-self
 invariant_of-self c =
     let at : StockAt c.self.inside.pages_left c.self.inside.stocks.items c.args.class c.index.result c.index_mut-stock.result.now = record {
-      stocks_are = c.self.invariant; is_class = c.index.ensures.is_class; place = c.index.ensures.value; there = c.index_mut-stock.ensures.value } in
+      stocks_are = c.self.invariant;
+      is_class = c.index.ensures.is_class;
+      place = c.index.ensures.value;
+      there = c.index_mut-stock.ensures.value;
+    } in
     let some : out_of (state_of c.self.inside.pages_left c.self.inside.stocks.items) c.args.class < chunks_of (state_of c.self.inside.pages_left c.self.inside.stocks.items) c.args.class = subst (λ (s : SlabState). out_of s c.args.class < chunks_of s c.args.class) (sym c.self.view_is) c.in_ok-make_ready.ensures.free in
     let free : c.index_mut-stock.result.now.out < all_chunks c.index_mut-stock.result.now = rw (out_at _ _ _ _ _ at, chunks_at _ _ _ _ _ at) at some in
     rw c.take.ensures.out (AreStocks-set _ _ _ _ _ at c.self.inside.pages_left _ refl (omega arith) refl)
@@ -25,13 +33,21 @@ invariant_of-self c =
 pub returns-clause-chunk : goal.returns-clause-chunk
 returns-clause-chunk c =
     let at : StockAt c.self.inside.pages_left c.self.inside.stocks.items c.args.class c.index.result c.index_mut-stock.result.now = record {
-      stocks_are = c.self.invariant; is_class = c.index.ensures.is_class; place = c.index.ensures.value; there = c.index_mut-stock.ensures.value } in
+      stocks_are = c.self.invariant;
+      is_class = c.index.ensures.is_class;
+      place = c.index.ensures.value;
+      there = c.index_mut-stock.ensures.value;
+    } in
     subst (λ (k : ℕ). IsChunkOf k c.take.result) (class_at _ _ _ _ _ at) c.take.ensures.chunk
 
 pub returns-clause-taken : goal.returns-clause-taken
 returns-clause-taken c =
     let at : StockAt c.self.inside.pages_left c.self.inside.stocks.items c.args.class c.index.result c.index_mut-stock.result.now = record {
-      stocks_are = c.self.invariant; is_class = c.index.ensures.is_class; place = c.index.ensures.value; there = c.index_mut-stock.ensures.value } in
+      stocks_are = c.self.invariant;
+      is_class = c.index.ensures.is_class;
+      place = c.index.ensures.value;
+      there = c.index_mut-stock.ensures.value;
+    } in
     let ready : state_of c.self.inside.pages_left c.self.inside.stocks.items ≡ with_chunk c.args.self.now c.args.class = c.self.view_is ∙ c.in_ok-make_ready.ensures.ready in
     rw c.take.ensures.out
     (state_of-out _ _ _ _ _ at (c.index_mut-stock.result.now.out + 1)
@@ -48,6 +64,7 @@ pub returns-in_err-make_ready-clause-full : goal.returns-in_err-make_ready-claus
 returns-in_err-make_ready-clause-full c = λ pages out.
     let p = err_from_is_err_and c.from_residual.result c.from_residual.ensures.1 in
     let full = c.in_err-make_ready.ensures.full pages out in
-    rw (p.1, p.2)
-    ((λ e. let same : c.in_err-make_ready.field-0.0 ≡ Full c.args.class pages out = cc in full.0 (ap Err same)),
-    (λ f. let told = full.1 f in let same : c.in_err-make_ready.field-0.0 ≡ Full c.args.class pages out = cc in ap Err same))
+    rw (p.1, p.2) (
+      (λ e. let same : c.in_err-make_ready.field-0.0 ≡ Full c.args.class pages out = cc in full.0 (ap Err same)),
+      (λ f. let told = full.1 f in let same : c.in_err-make_ready.field-0.0 ≡ Full c.args.class pages out = cc in ap Err same),
+    )

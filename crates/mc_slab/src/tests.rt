@@ -1,0 +1,109 @@
+ghost use Rattle.std.specs.Prelude.{◌≤◌};
+
+use super::*;
+use std::alloc::Global;
+use std::process::Abort;
+use std::test::*;
+
+/// A slab of so many pages. A run may refuse one allocation, so it is asked for twice.
+fn slab_of(alloc: Global, pages: u32) -> Result<Slab, Fail>
+    requires { (1 ≤ pages) × (pages ≤ 65536) }
+{
+    match Slab::new(alloc, pages) {
+        Ok(slab) => Ok(slab),
+        Err(_) => Ok(Slab::new(alloc, pages)?),
+    }
+}
+
+/// A chunk of the class. Refused memory, the slab is as it was, and answers when it is asked again.
+fn take(rt: &impl Abort, alloc: Global, slab: &mut Slab, class: Class) -> Result<Chunk, TakeFault> {
+    let account = slab.account(class);
+    let left = slab.pages_left();
+    let taken = slab.take(alloc, class);
+    let Err(TakeFault::NoMemory) = taken else {
+        return taken;
+    };
+    assert!(rt; slab.account(class) == account);
+    assert!(rt; slab.pages_left() == left);
+    slab.take(alloc, class)
+}
+
+/// Gives the chunk back.
+fn give(rt: &impl Abort, slab: &mut Slab, chunk: Chunk) {
+    let account = slab.account(chunk.class());
+    assert!(rt; account.out > 0);
+    slab.give(chunk);
+}
+
+/// Takes every chunk of the class, writes to each, and finds the class full with that account, then gives all back.
+fn fill_and_empty(
+    rt: &impl Abort,
+    alloc: Global,
+    slab: &mut Slab,
+    class: Class,
+    full: Account,
+) -> Result<(), Fail> {
+    let mut held = Vec::new(alloc);
+    for _ in 0..full.out {
+        let mut chunk = take(rt, alloc, slab, class)?;
+        if let Some(first) = chunk.bytes_mut().first_mut() {
+            *first = 7;
+        }
+        assert_eq!(rt; chunk.class().number(), class.number());
+        held.push(chunk)?;
+    }
+    assert!(rt; slab.account(class) == full);
+    let refused = take(rt, alloc, slab, class).is_err();
+    assert!(rt; refused);
+    for chunk in held {
+        give(rt, slab, chunk);
+    }
+    Ok(())
+}
+
+#[test]
+fn filling_and_emptying_leaves_the_same_account(rt: HostRuntime) -> Result<(), Fail> {
+    let alloc = rt.alloc();
+    let mut slab = slab_of(alloc, 2)?;
+    let class = class_of(100000).expect(&rt, "a class");
+    for _ in 0..100 {
+        let full = Account { pages: 2, out: 20 };
+        fill_and_empty(&rt, alloc, &mut slab, class, full)?;
+        let empty = Account { pages: 2, out: 0 };
+        assert!(rt; slab.account(class) == empty);
+        assert_eq!(rt; slab.pages_left(), 0);
+    }
+    Ok(())
+}
+
+#[test]
+fn a_page_stays_with_its_class(rt: HostRuntime) -> Result<(), Fail> {
+    let alloc = rt.alloc();
+    let mut slab = slab_of(alloc, 1)?;
+    let large = class_of(1048576).expect(&rt, "a class");
+    let small = class_of(96).expect(&rt, "a class");
+    let chunk = take(&rt, alloc, &mut slab, large)?;
+    assert_eq!(rt; chunk.bytes().len(), 1048576);
+    give(&rt, &mut slab, chunk);
+    let refused = slab.take(alloc, small).is_err();
+    assert!(rt; refused);
+    Ok(())
+}
+
+#[test]
+fn edges_of_the_classes(rt: HostRuntime) {
+    for (charge, number, size, chunks) in [
+        (0, 1, 96, 10922),
+        (96, 1, 96, 10922),
+        (97, 2, 120, 8738),
+        (493552, 39, 493552, 2),
+        (493553, 40, 1048576, 1),
+        (1048576, 40, 1048576, 1),
+    ] {
+        let class = class_of(charge).expect(&rt, "a class");
+        assert_eq!(rt; class.number(), number);
+        assert_eq!(rt; class.size(), size);
+        assert_eq!(rt; class.chunks_a_page(), chunks);
+    }
+    assert!(rt; class_of(1048577).is_none());
+}
