@@ -1,10 +1,10 @@
 -- Events that may be added, taken out or cut.
 use Rattle.std.proofs.Common.{◌≡◌, ℕ, zero, suc, ◌-◌, ◌<◌, ◌+◌, Bool, true, false, List, [], ◌∷◌, ◌++◌, length, Option, Some, None, slice_set, refl, sym, ap, ◌∙◌, subst, arith, append_assoc, if◌then◌else◌, ◌↔◌}
 use Rattle.std.specs.List.{slice_get}
-use Rattle.mc_world.specs.Connections.{Connection, with_piece}
-use Rattle.mc_world.specs.Worlds.{PlainWorld, numbered, if_open, put, changed, open_connection, at_connection, Happens, Runs}
+use Rattle.mc_world.specs.Connections.{Connection, with_piece, ended}
+use Rattle.mc_world.specs.Worlds.{PlainWorld, numbered, if_open, put, changed, open_connection, at_connection, Happens, Runs, BringsOrCloses}
 use Rattle.mc_world.specs.declared.event.Event.{Event}
-use Rattle.mc_world.specs.declared.event.Event.TheVariants.{Piece, Grow}
+use Rattle.mc_world.specs.declared.event.Event.TheVariants.{Open, Piece, Turn, Clock, Grow, Purge, Close}
 
 module _ (hash : List ℕ → ℕ) (shelves : ℕ) where
   abbrev RunsOn : PlainWorld → List Event → PlainWorld → Type 0
@@ -74,3 +74,91 @@ module _ (hash : List ℕ → ℕ) (shelves n : ℕ) (piece more : List ℕ) (re
   piece_cut old new front =
       ( behind hash shelves (Piece n piece ∷ Piece n more ∷ rest) (Piece n (piece ++ more) ∷ rest) joins front old new
       , behind hash shelves (Piece n (piece ++ more) ∷ rest) (Piece n piece ∷ Piece n more ∷ rest) cuts front old new)
+
+-- places that are apart
+set_apart : {A : Type 0} (xs : List A) (m n : ℕ) (x y : A) → (m ≡ n → ⊥) → slice_set (slice_set xs m x) n y ≡ slice_set (slice_set xs n y) m x
+set_apart [] m n x y apart = refl
+set_apart (a ∷ xs) zero zero x y apart = absurd (apart refl)
+set_apart (a ∷ xs) zero (suc n) x y apart = refl
+set_apart (a ∷ xs) (suc m) zero x y apart = refl
+set_apart (a ∷ xs) (suc m) (suc n) x y apart = ap (λ l. a ∷ l) (set_apart xs m n x y (λ e. apart (ap suc e)))
+
+get_apart : {A : Type 0} (xs : List A) (m n : ℕ) (x : A) → (m ≡ n → ⊥) → slice_get (slice_set xs m x) n ≡ slice_get xs n
+get_apart [] m n x apart = refl
+get_apart (a ∷ xs) zero zero x apart = absurd (apart refl)
+get_apart (a ∷ xs) zero (suc n) x apart = refl
+get_apart (a ∷ xs) (suc m) zero x apart = refl
+get_apart (a ∷ xs) (suc m) (suc n) x apart = get_apart xs m n x (λ e. apart (ap suc e))
+
+before_suc : (n : ℕ) → suc n - 1 ≡ n
+before_suc n = omega arith
+
+-- the open connection of one number after a change of another's
+open_after : (cs : List Connection) (m n : ℕ) (f : Connection → Connection) (o : Option Connection) → (m ≡ n → ⊥) → open_connection (suc n) (changed (suc m) cs f o) ≡ open_connection (suc n) cs
+open_after cs m n f None apart = refl
+open_after cs m n f (Some c) apart =
+    ap (λ (k : ℕ). open_connection (suc n) (slice_set cs k (f c))) (before_suc m) ∙ ap (if_open (λ c. c.is_open)) (get_apart cs m n (f c) apart)
+
+changes_apart : (cs : List Connection) (m n : ℕ) (f g : Connection → Connection) (c d : Option Connection) → (m ≡ n → ⊥) → changed (suc n) (changed (suc m) cs f c) g d ≡ changed (suc m) (changed (suc n) cs g d) f c
+changes_apart cs m n f g None None apart = refl
+changes_apart cs m n f g None (Some d) apart = refl
+changes_apart cs m n f g (Some c) None apart = refl
+changes_apart cs m n f g (Some c) (Some d) apart =
+    set_apart cs (suc m - 1) (suc n - 1) (f c) (g d) (λ e. apart (sym (before_suc m) ∙ e ∙ before_suc n))
+
+-- connections of two numbers are changed in either order
+either_order : (old : PlainWorld) (m n : ℕ) (f g : Connection → Connection) → (m ≡ n → ⊥) → at_connection (at_connection old m f) n g ≡ at_connection (at_connection old n g) m f
+either_order old zero n f g apart = refl
+either_order old (suc m) zero f g apart = refl
+either_order old (suc m) (suc n) f g apart =
+    let cs = old.connections in
+    let c = open_connection (suc m) cs in
+    let d = open_connection (suc n) cs in
+    let other : m ≡ n → ⊥ = λ e. apart (ap suc e) in
+    let first : changed (suc n) (changed (suc m) cs f c) g (open_connection (suc n) (changed (suc m) cs f c)) ≡ changed (suc n) (changed (suc m) cs f c) g d =
+        ap (changed (suc n) (changed (suc m) cs f c) g) (open_after cs m n f c other) in
+    let second : changed (suc m) (changed (suc n) cs g d) f (open_connection (suc m) (changed (suc n) cs g d)) ≡ changed (suc m) (changed (suc n) cs g d) f c =
+        ap (changed (suc m) (changed (suc n) cs g d) f) (open_after cs n m g d (λ e. other (sym e))) in
+    ap (λ (l : List Connection). let w : PlainWorld = record old { connections = l } in w) (first ∙ changes_apart cs m n f g c d other ∙ sym second)
+
+-- what a piece or a close does to its connection
+abbrev change_of : Event → Connection → Connection
+change_of Open c = c
+change_of (Piece n piece) c = with_piece piece c
+change_of (Turn n) c = c
+change_of (Clock now) c = c
+change_of (Grow shelf) c = c
+change_of (Purge shelf) c = c
+change_of (Close n) c = ended c
+
+module _ (hash : List ℕ → ℕ) (shelves : ℕ) where
+  happens_by : (old new : PlainWorld) (event : Event) (n : ℕ) → BringsOrCloses event n → Happens hash shelves old event new → new ≡ at_connection old n (change_of event)
+  happens_by old new Open n is h = absurd is
+  happens_by old new (Piece k piece) n is h = h ∙ ap (λ (k : ℕ). at_connection old k (with_piece piece)) is
+  happens_by old new (Turn k) n is h = absurd is
+  happens_by old new (Clock now) n is h = absurd is
+  happens_by old new (Grow shelf) n is h = absurd is
+  happens_by old new (Purge shelf) n is h = absurd is
+  happens_by old new (Close k) n is h = h ∙ ap (λ (k : ℕ). at_connection old k ended) is
+
+  by_happens : (old new : PlainWorld) (event : Event) (n : ℕ) → BringsOrCloses event n → new ≡ at_connection old n (change_of event) → Happens hash shelves old event new
+  by_happens old new Open n is h = absurd is
+  by_happens old new (Piece k piece) n is h = h ∙ ap (λ (k : ℕ). at_connection old k (with_piece piece)) (sym is)
+  by_happens old new (Turn k) n is h = absurd is
+  by_happens old new (Clock now) n is h = absurd is
+  by_happens old new (Grow shelf) n is h = absurd is
+  by_happens old new (Purge shelf) n is h = absurd is
+  by_happens old new (Close k) n is h = h ∙ ap (λ (k : ℕ). at_connection old k ended) (sym is)
+
+  swaps : (m n : ℕ) (first second : Event) (rest : List Event) → (m ≡ n → ⊥) → BringsOrCloses first m → BringsOrCloses second n → (old new : PlainWorld) → Runs hash shelves old (first ∷ second ∷ rest) new → Runs hash shelves old (second ∷ first ∷ rest) new
+  swaps m n first second rest apart one other old new (mid, happens, (last, happens', runs)) =
+      let now_mid : mid ≡ at_connection old m (change_of first) = happens_by old mid first m one happens in
+      let now_last : last ≡ at_connection mid n (change_of second) = happens_by mid last second n other happens' in
+      let between : PlainWorld = at_connection old n (change_of second) in
+      ( between, by_happens old between second n other refl
+      , (last, by_happens between last first m one (now_last ∙ ap (λ (w : PlainWorld). at_connection w n (change_of second)) now_mid ∙ either_order old m n (change_of first) (change_of second) apart), runs))
+
+  pub places_change : (m n : ℕ) (first second : Event) → (m ≡ n → ⊥) → BringsOrCloses first m → BringsOrCloses second n → (old new : PlainWorld) (front rest : List Event) → Runs hash shelves old (front ++ first ∷ second ∷ rest) new ↔ Runs hash shelves old (front ++ second ∷ first ∷ rest) new
+  places_change m n first second apart one other old new front rest =
+      ( behind hash shelves (first ∷ second ∷ rest) (second ∷ first ∷ rest) (swaps m n first second rest apart one other) front old new
+      , behind hash shelves (second ∷ first ∷ rest) (first ∷ second ∷ rest) (swaps n m second first rest (λ e. apart (sym e)) other one) front old new)

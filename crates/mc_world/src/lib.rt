@@ -9,5 +9,5 @@ mod tests;
 mod world;
 
 pub use event::{Event, Refused};
-pub use laws::{a_piece_may_be_cut, growth_never_shows};
+pub use laws::{a_piece_may_be_cut, growth_never_shows, sessions_may_change_places};
 pub use world::World;
