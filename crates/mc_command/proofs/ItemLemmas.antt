@@ -235,13 +235,13 @@ module _ (meant : List ℕ → Bool) (cut : Option ℕ) (now : ℕ) where
   pub items_of-purged : (es : Entries) → IsStrictlySortedBy key_cmp (keys_of es) → items_of (filter stays es) ≡ retain_keys (items_of es) (λ key. not (meant key) || is_some (alive cut now (get (items_of es) key)))
   items_of-purged es sorted =
       same_map nat_list_cmp_total exact _ _ (λ q.
-          get-items_of (filter stays es) q ∙ item_at-stays es q ∙ sym (get-items_of (filter (λ e. stays_at q e.1) es) q)
-          ∙ ap (λ (ps : List (List ℕ × Entry)). get (from_entries {R = bytes_cmp} ps) q) (pairs-filter es (stays_at q))
-          ∙ get-pairs _ q ∙ lookup-filter-values laws (stays_at q) q (pairs es) (distinct es sorted)
-          ∙ ap (option_filter (stays_at q)) (sym (get-pairs (pairs es) q))
-          ∙ kept_here q (get (items_of es) q)
-          ∙ sym (get-retain_keys (items_of es) (λ key. not (meant key) || is_some (alive cut now (get (items_of es) key))) q
-            (λ x h. ap (λ (k : List ℕ). not (meant k) || is_some (alive cut now (get (items_of es) k))) (sym (exact q x h)))))
+      get-items_of (filter stays es) q ∙ item_at-stays es q ∙ sym (get-items_of (filter (λ e. stays_at q e.1) es) q)
+      ∙ ap (λ (ps : List (List ℕ × Entry)). get (from_entries {R = bytes_cmp} ps) q) (pairs-filter es (stays_at q))
+      ∙ get-pairs _ q ∙ lookup-filter-values laws (stays_at q) q (pairs es) (distinct es sorted)
+      ∙ ap (option_filter (stays_at q)) (sym (get-pairs (pairs es) q))
+      ∙ kept_here q (get (items_of es) q)
+      ∙ sym (get-retain_keys (items_of es) (λ key. not (meant key) || is_some (alive cut now (get (items_of es) key))) q
+      (λ x h. ap (λ (k : List ℕ). not (meant k) || is_some (alive cut now (get (items_of es) k))) (sym (exact q x h)))))
 
 -- an insertion after a removal of the same key
 chosen_twice : (b : Bool) (x y z : Option Entry) → cond b x (cond b y z) ≡ cond b x z

@@ -12,10 +12,9 @@ ghost use Rattle.mc_command.specs.Commands.{key_of};
 ghost use Rattle.mc_command.specs.Items.{re_expired, writing};
 ghost use Rattle.mc_command.specs.Plain.{opening, plain, applied, standing, without_dead, flushed, Answered, Spent, store_row, cas_row, read_row, read_touch_row, touch_row, delete_row, count_row, counted, living, CopiesBlock, MayFail};
 
-pub use crate::plain::purge::KeyTest;
-
 use crate::number::number_of;
 use crate::plain::item::{Given, Item, Written};
+pub use crate::plain::purge::KeyTest;
 use crate::reply::Reply;
 use crate::step::{KeyStep, StepFault, Steps, Verb};
 use itoa::Buffer;

@@ -95,12 +95,7 @@ impl<K: KeyHash + Drop> Steps for Store<K> {
 
     ghost spent = { λ old step now. plain old.plain step now ≡ Spent };
 
-    fn step(
-        &mut self,
-        alloc: Global,
-        step: &KeyStep<'_>,
-        now: Moment,
-    ) -> Result<Reply, StepFault> {
+    fn step(&mut self, alloc: Global, step: &KeyStep<'_>, now: Moment) -> Result<Reply, StepFault> {
         self.plain.step(alloc, step, now)
     }
 }

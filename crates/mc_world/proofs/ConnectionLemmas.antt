@@ -124,7 +124,7 @@ among_piece {u = u} piece (inside unit front rest e spelled less) =
 
 -- one unit more is read
 follows_more : (greatest passed : ℕ) (bytes : List ℕ) (read : List ProtocolUnit) (rest : Unread) (unit : ProtocolUnit) (front more : List ℕ) → Follows greatest passed bytes read rest → drop rest.passed rest.bytes ≡ front ++ more → Spells rest.greatest unit front → is_last unit ≡ false
-  → Follows greatest passed bytes (read ++ unit ∷ []) (settled (unread rest.greatest (passed_after unit) more))
+    → Follows greatest passed bytes (read ++ unit ∷ []) (settled (unread rest.greatest (passed_after unit) more))
 follows_more greatest passed bytes [] rest unit front more f e spelled last =
     let same : rest.greatest ≡ greatest = ap (λ (r : Unread). r.greatest) f in
     let here : drop passed bytes ≡ drop rest.passed rest.bytes = sym (settled_once passed bytes) ∙ ap (λ (r : Unread). drop r.passed r.bytes) (sym f) in
@@ -154,7 +154,7 @@ rest_fed c s piece opens rest stands is_open =
       out = rest.out;
     } in
     subst (λ (x : SessionState). Stands (with_piece piece c) x) (sym same)
-      (subst (λ (b : Bool). MatchBool b ((grown.is_open ≡ true) × IsRest (with_piece piece c) grown) (grown ≡ shut (with_piece piece c))) (sym is_open) (opens, left))
+    (subst (λ (b : Bool). MatchBool b ((grown.is_open ≡ true) × IsRest (with_piece piece c) grown) (grown ≡ shut (with_piece piece c))) (sym is_open) (opens, left))
 
 -- an open session closes
 pub rest_closed : (c : Connection) (s : SessionState) → IsRest c s → Stands (ended c) (closed s)
@@ -204,22 +204,26 @@ module _ {S : Type 0} (took : S → KeyStep → ℕ → Reply → S → Type 0) 
       ap (λ (g : ℕ). record { unread = nothing_unread g; taken = 0; out = told; is_open = false }) (same_greatest c.greatest c.passed c.stream rest.read s.unread rest.follows)
       ∙ ap (λ (o : List ℕ). record { unread = nothing_unread c.greatest; taken = 0; out = o; is_open = false }) told_out
   stands_by false true opens is counted =
-      let all : s.taken + 1 ≡ turn_count takes.unit = eqb-true _ _ counted in
-      (opens, record {
-        read = rest.read ++ takes.unit ∷ [];
-        follows = follows_more c.greatest c.passed c.stream rest.read s.unread takes.unit takes.front takes.rest rest.follows takes.parts takes.spelled is;
-        taken = omega (arith, turns_more rest.read takes.unit, rest.taken);
-        among = at_start;
-        out = told_out;
-      })
-  stands_by false false opens is counted =
-      (opens, record {
-        read = rest.read;
-        follows = rest.follows;
-        taken = omega (arith, rest.taken);
-        among = inside takes.unit takes.front takes.rest takes.parts takes.spelled (omega (arith, takes.due, eqb-false _ _ counted));
-        out = told_out;
-      })
+      let all : s.taken + 1 ≡ turn_count takes.unit = eqb-true _ _ counted in (
+        opens,
+        record {
+          read = rest.read ++ takes.unit ∷ [];
+          follows = follows_more c.greatest c.passed c.stream rest.read s.unread takes.unit takes.front takes.rest rest.follows takes.parts takes.spelled is;
+          taken = omega (arith, turns_more rest.read takes.unit, rest.taken);
+          among = at_start;
+          out = told_out;
+        },
+      )
+  stands_by false false opens is counted = (
+    opens,
+    record {
+      read = rest.read;
+      follows = rest.follows;
+      taken = omega (arith, rest.taken);
+      among = inside takes.unit takes.front takes.rest takes.parts takes.spelled (omega (arith, takes.due, eqb-false _ _ counted));
+      out = told_out;
+    },
+  )
 
   pub stands_after : s.is_open ≡ true → Stands (after_turn takes.unit takes.text c) new
   stands_after opens = subst (λ (x : SessionState). Stands (after_turn takes.unit takes.text c) x) (sym takes.moves) (stands_by (is_last takes.unit) (s.taken + 1 == turn_count takes.unit) opens refl refl)

@@ -16,9 +16,10 @@ module _ (hash : List ℕ → ℕ) (shelves : ℕ) where
   behind some others same (e ∷ front) old new runs = (runs.0, runs.1, behind some others same front runs.0 new runs.2)
 
   pub growth_shows : (shelf : ℕ) (old new : PlainWorld) (front rest : List Event) → RunsOn old (front ++ Grow shelf ∷ rest) new ↔ RunsOn old (front ++ rest) new
-  growth_shows shelf old new front rest =
-      ( behind (Grow shelf ∷ rest) rest (λ old new runs. subst (λ (w : PlainWorld). RunsOn w rest new) runs.1 runs.2) front old new
-      , behind rest (Grow shelf ∷ rest) (λ old new runs. (old, refl, runs)) front old new)
+  growth_shows shelf old new front rest = (
+    behind (Grow shelf ∷ rest) rest (λ old new runs. subst (λ (w : PlainWorld). RunsOn w rest new) runs.1 runs.2) front old new,
+    behind rest (Grow shelf ∷ rest) (λ old new runs. (old, refl, runs)) front old new,
+  )
 
 -- what was put in a place stands there
 get_set : {A : Type 0} (xs : List A) (n : ℕ) (x y : A) → slice_get xs n ≡ Some x → slice_get (slice_set xs n y) n ≡ Some y
@@ -41,13 +42,13 @@ found_again (suc n) cs c d opens h =
 
 -- two pieces one after another
 twice_at : (n : ℕ) (cs : List Connection) (piece more : List ℕ) (o : Option Connection) → numbered n cs ≡ o
-  → changed n (changed n cs (with_piece piece) (if_open (λ c. c.is_open) o)) (with_piece more) (open_connection n (changed n cs (with_piece piece) (if_open (λ c. c.is_open) o)))
+    → changed n (changed n cs (with_piece piece) (if_open (λ c. c.is_open) o)) (with_piece more) (open_connection n (changed n cs (with_piece piece) (if_open (λ c. c.is_open) o)))
     ≡ changed n cs (with_piece (piece ++ more)) (if_open (λ c. c.is_open) o)
 twice_at n cs piece more None h = ap (λ (o : Option Connection). changed n cs (with_piece more) (if_open (λ c. c.is_open) o)) h
 twice_at n cs piece more (Some c) h =
     elim c.is_open as (λ b. c.is_open ≡ b →
-        changed n (changed n cs (with_piece piece) (if b then Some c else None)) (with_piece more) (open_connection n (changed n cs (with_piece piece) (if b then Some c else None)))
-        ≡ changed n cs (with_piece (piece ++ more)) (if b then Some c else None)) [
+    changed n (changed n cs (with_piece piece) (if b then Some c else None)) (with_piece more) (open_connection n (changed n cs (with_piece piece) (if b then Some c else None)))
+    ≡ changed n cs (with_piece (piece ++ more)) (if b then Some c else None)) [
       | true ↦ λ opens.
           let d = with_piece piece c in
           ap (changed n (put n cs d) (with_piece more)) (found_again n cs c d opens h)
@@ -71,9 +72,10 @@ module _ (hash : List ℕ → ℕ) (shelves n : ℕ) (piece more : List ℕ) (re
       (at_connection old n (with_piece piece), refl, (last, is ∙ sym (joined_at old n piece more), runs))
 
   pub piece_cut : (old new : PlainWorld) (front : List Event) → Runs hash shelves old (front ++ Piece n piece ∷ Piece n more ∷ rest) new ↔ Runs hash shelves old (front ++ Piece n (piece ++ more) ∷ rest) new
-  piece_cut old new front =
-      ( behind hash shelves (Piece n piece ∷ Piece n more ∷ rest) (Piece n (piece ++ more) ∷ rest) joins front old new
-      , behind hash shelves (Piece n (piece ++ more) ∷ rest) (Piece n piece ∷ Piece n more ∷ rest) cuts front old new)
+  piece_cut old new front = (
+    behind hash shelves (Piece n piece ∷ Piece n more ∷ rest) (Piece n (piece ++ more) ∷ rest) joins front old new,
+    behind hash shelves (Piece n (piece ++ more) ∷ rest) (Piece n piece ∷ Piece n more ∷ rest) cuts front old new,
+  )
 
 -- places that are apart
 set_apart : {A : Type 0} (xs : List A) (m n : ℕ) (x y : A) → (m ≡ n → ⊥) → slice_set (slice_set xs m x) n y ≡ slice_set (slice_set xs n y) m x
@@ -116,9 +118,9 @@ either_order old (suc m) (suc n) f g apart =
     let d = open_connection (suc n) cs in
     let other : m ≡ n → ⊥ = λ e. apart (ap suc e) in
     let first : changed (suc n) (changed (suc m) cs f c) g (open_connection (suc n) (changed (suc m) cs f c)) ≡ changed (suc n) (changed (suc m) cs f c) g d =
-        ap (changed (suc n) (changed (suc m) cs f c) g) (open_after cs m n f c other) in
+    ap (changed (suc n) (changed (suc m) cs f c) g) (open_after cs m n f c other) in
     let second : changed (suc m) (changed (suc n) cs g d) f (open_connection (suc m) (changed (suc n) cs g d)) ≡ changed (suc m) (changed (suc n) cs g d) f c =
-        ap (changed (suc m) (changed (suc n) cs g d) f) (open_after cs n m g d (λ e. other (sym e))) in
+    ap (changed (suc m) (changed (suc n) cs g d) f) (open_after cs n m g d (λ e. other (sym e))) in
     ap (λ (l : List Connection). let w : PlainWorld = record old { connections = l } in w) (first ∙ changes_apart cs m n f g c d other ∙ sym second)
 
 -- what a piece or a close does to its connection
@@ -154,11 +156,14 @@ module _ (hash : List ℕ → ℕ) (shelves : ℕ) where
   swaps m n first second rest apart one other old new (mid, happens, (last, happens', runs)) =
       let now_mid : mid ≡ at_connection old m (change_of first) = happens_by old mid first m one happens in
       let now_last : last ≡ at_connection mid n (change_of second) = happens_by mid last second n other happens' in
-      let between : PlainWorld = at_connection old n (change_of second) in
-      ( between, by_happens old between second n other refl
-      , (last, by_happens between last first m one (now_last ∙ ap (λ (w : PlainWorld). at_connection w n (change_of second)) now_mid ∙ either_order old m n (change_of first) (change_of second) apart), runs))
+      let between : PlainWorld = at_connection old n (change_of second) in (
+        between,
+        by_happens old between second n other refl,
+        (last, by_happens between last first m one (now_last ∙ ap (λ (w : PlainWorld). at_connection w n (change_of second)) now_mid ∙ either_order old m n (change_of first) (change_of second) apart), runs),
+      )
 
   pub places_change : (m n : ℕ) (first second : Event) → (m ≡ n → ⊥) → BringsOrCloses first m → BringsOrCloses second n → (old new : PlainWorld) (front rest : List Event) → Runs hash shelves old (front ++ first ∷ second ∷ rest) new ↔ Runs hash shelves old (front ++ second ∷ first ∷ rest) new
-  places_change m n first second apart one other old new front rest =
-      ( behind hash shelves (first ∷ second ∷ rest) (second ∷ first ∷ rest) (swaps m n first second rest apart one other) front old new
-      , behind hash shelves (second ∷ first ∷ rest) (first ∷ second ∷ rest) (swaps n m second first rest (λ e. apart (sym e)) other one) front old new)
+  places_change m n first second apart one other old new front rest = (
+    behind hash shelves (first ∷ second ∷ rest) (second ∷ first ∷ rest) (swaps m n first second rest apart one other) front old new,
+    behind hash shelves (second ∷ first ∷ rest) (first ∷ second ∷ rest) (swaps n m second first rest (λ e. apart (sym e)) other one) front old new,
+  )

@@ -40,15 +40,15 @@ module _ {S : Type 0} (took : S → KeyStep → ℕ → Reply → S → Type 0) 
 
   of_some : (new : List SessionState) → (NoTurnDue x × (new ≡ old) × (after ≡ before)) ⊎ ((next : SessionState) × TakesTurn took spent now x next before after × (new ≡ put n old next)) → TurnOf took spent n now old new before after
   of_some new h = subst (λ (o : Option SessionState). MatchOption o ((new ≡ old) × (after ≡ before)) (λ session.
-        (NoTurnDue session × (new ≡ old) × (after ≡ before))
-        ⊎ ((next : SessionState) × TakesTurn took spent now session next before after × (new ≡ put n old next)))) (sym found) h
+      (NoTurnDue session × (new ≡ old) × (after ≡ before))
+      ⊎ ((next : SessionState) × TakesTurn took spent now session next before after × (new ≡ put n old next)))) (sym found) h
 
   put_is : slice_set old at y ≡ put n old y
   put_is = let e : at ≡ n - 1 = omega (arith, here_is.number) in ap (λ (k : ℕ). slice_set old k y) e
 
   -- what the session's turn answered
   turn_of : (t : Turn) → (t ≡ Did → TakesTurn took spent now x y before after) → (t ≡ Idle → NoTurnDue x × IsTrue x.is_open × (y ≡ x) × (after ≡ before)) → (t ≡ Closed → IsFalse x.is_open × (y ≡ x) × (after ≡ before))
-    → TurnOf took spent n now old (slice_set old at y) before after
+      → TurnOf took spent n now old (slice_set old at y) before after
   turn_of Did did idle shut = of_some (slice_set old at y) (inr (y, did refl, put_is))
   turn_of Idle did idle shut =
       let h = idle refl in
@@ -61,7 +61,7 @@ module _ {S : Type 0} (took : S → KeyStep → ℕ → Reply → S → Type 0) 
   view_set = ap (λ (l : List SessionState). slice_set l at y) view
 
   pub result_ok : (r : Result Turn TurnFault) → (r ≡ Ok Did → TakesTurn took spent now x y before after) → (r ≡ Ok Idle → NoTurnDue x × IsTrue x.is_open × (y ≡ x) × (after ≡ before)) → (r ≡ Ok Closed → IsFalse x.is_open × (y ≡ x) × (after ≡ before))
-    → OnOk r (TurnOf took spent n now old (slice_set items at y) before after)
+      → OnOk r (TurnOf took spent n now old (slice_set items at y) before after)
   result_ok (Ok t) did idle shut =
       subst (λ l. TurnOf took spent n now old l before after) (sym view_set) (turn_of t (λ e. did (ap (λ k. Ok k) e)) (λ e. idle (ap (λ k. Ok k) e)) (λ e. shut (ap (λ k. Ok k) e)))
   result_ok (Err fault) did idle shut = tt

@@ -73,7 +73,7 @@ stand_more (x ∷ cs) (y ∷ ss) c s all one = (all.0, stand_more cs ss c s all.
 
 -- the open one of a number is changed in both
 pub stand_changed : (cs : List Connection) (ss : List SessionState) (n : ℕ) (f : Connection → Connection) (g : SessionState → SessionState) (c : Option Connection) (s : Option SessionState) → Opens c s
-  → ((x : Connection) (y : SessionState) → x.is_open ≡ true → y.is_open ≡ true → IsRest x y → Stands x y → Stands (f x) (g y)) → StandAll cs ss → StandAll (changed n cs f c) (changed n ss g s)
+    → ((x : Connection) (y : SessionState) → x.is_open ≡ true → y.is_open ≡ true → IsRest x y → Stands x y → Stands (f x) (g y)) → StandAll cs ss → StandAll (changed n cs f c) (changed n ss g s)
 stand_changed cs ss n f g None None both each all = all
 stand_changed cs ss n f g None (Some s) both each all = absurd both
 stand_changed cs ss n f g (Some c) None both each all = absurd both
@@ -81,7 +81,7 @@ stand_changed cs ss n f g (Some c) (Some s) both each all = stand_put cs ss n (f
 
 -- the one of a number, open or closed, is changed in both
 changed_both : (cs : List Connection) (ss : List SessionState) (n : ℕ) (f : Connection → Connection) (g : SessionState → SessionState) (c : Option Connection) (s : Option SessionState) → Both c s
-  → ((x : Connection) (y : SessionState) → Stands x y → Stands (f x) (g y)) → StandAll cs ss → StandAll (changed n cs f c) (changed n ss g s)
+    → ((x : Connection) (y : SessionState) → Stands x y → Stands (f x) (g y)) → StandAll cs ss → StandAll (changed n cs f c) (changed n ss g s)
 changed_both cs ss n f g None None both each all = all
 changed_both cs ss n f g None (Some s) both each all = absurd both
 changed_both cs ss n f g (Some c) None both each all = absurd both

@@ -25,7 +25,7 @@ module _ {S T : Type 0} (took : S → KeyStep → ℕ → Reply → S → Type 0
   step_seen command at step now b a text (inr (s, e, t)) = inr (spends b step now s, ap f e, t)
 
   request_seen : (command : Command) (at now : ℕ) (b a : S) (text : List ℕ) (o : Option KeyStep) → MatchOption o ((text ≡ plain_text command) × (a ≡ b)) (λ step. AnswersStep took spent command at step now b a text)
-    → MatchOption o ((text ≡ plain_text command) × (f a ≡ f b)) (λ step. AnswersStep took' spent' command at step now (f b) (f a) text)
+      → MatchOption o ((text ≡ plain_text command) × (f a ≡ f b)) (λ step. AnswersStep took' spent' command at step now (f b) (f a) text)
   request_seen command at now b a text None h = (h.0, ap f h.1)
   request_seen command at now b a text (Some step) h = step_seen command at step now b a text h
 
@@ -36,14 +36,20 @@ module _ {S T : Type 0} (took : S → KeyStep → ℕ → Reply → S → Type 0
 
   takes_seen : (now : ℕ) (old new : SessionState) (b a : S) → TakesTurn took spent now old new b a → TakesTurn took' spent' now old new (f b) (f a)
   takes_seen now old new b a h = record {
-    unit = h.unit; front = h.front; rest = h.rest; text = h.text; parts = h.parts; spelled = h.spelled; due = h.due;
+    unit = h.unit;
+    front = h.front;
+    rest = h.rest;
+    text = h.text;
+    parts = h.parts;
+    spelled = h.spelled;
+    due = h.due;
     answers = answers_seen h.unit old.taken now b a h.text h.answers;
     moves = h.moves;
   }
 
   of_seen : (n now : ℕ) (old new : List SessionState) (b a : S) (o : Option SessionState)
-    → MatchOption o ((new ≡ old) × (a ≡ b)) (λ session. (NoTurnDue session × (new ≡ old) × (a ≡ b)) ⊎ ((next : SessionState) × TakesTurn took spent now session next b a × (new ≡ put n old next)))
-    → MatchOption o ((new ≡ old) × (f a ≡ f b)) (λ session. (NoTurnDue session × (new ≡ old) × (f a ≡ f b)) ⊎ ((next : SessionState) × TakesTurn took' spent' now session next (f b) (f a) × (new ≡ put n old next)))
+      → MatchOption o ((new ≡ old) × (a ≡ b)) (λ session. (NoTurnDue session × (new ≡ old) × (a ≡ b)) ⊎ ((next : SessionState) × TakesTurn took spent now session next b a × (new ≡ put n old next)))
+      → MatchOption o ((new ≡ old) × (f a ≡ f b)) (λ session. (NoTurnDue session × (new ≡ old) × (f a ≡ f b)) ⊎ ((next : SessionState) × TakesTurn took' spent' now session next (f b) (f a) × (new ≡ put n old next)))
   of_seen n now old new b a None h = (h.0, ap f h.1)
   of_seen n now old new b a (Some session) (inl h) = inl (h.0, h.1, ap f h.2)
   of_seen n now old new b a (Some session) (inr h) = inr (h.0, takes_seen now session h.0 b a h.1, h.2)
@@ -70,7 +76,7 @@ module _ {S : Type 0} (took : S → KeyStep → ℕ → Reply → S → Type 0) 
   answers_keep LongLine at now b a text h = none b a h.1
 
   of_keeps : (n now : ℕ) (old new : List SessionState) (b a : S) (o : Option SessionState)
-    → MatchOption o ((new ≡ old) × (a ≡ b)) (λ session. (NoTurnDue session × (new ≡ old) × (a ≡ b)) ⊎ ((next : SessionState) × TakesTurn took spent now session next b a × (new ≡ put n old next))) → Keeps b a
+      → MatchOption o ((new ≡ old) × (a ≡ b)) (λ session. (NoTurnDue session × (new ≡ old) × (a ≡ b)) ⊎ ((next : SessionState) × TakesTurn took spent now session next b a × (new ≡ put n old next))) → Keeps b a
   of_keeps n now old new b a None h = none b a h.1
   of_keeps n now old new b a (Some session) (inl h) = none b a h.2
   of_keeps n now old new b a (Some session) (inr h) = answers_keep h.1.unit session.taken now b a h.1.text h.1.answers
@@ -109,7 +115,7 @@ module _ {K : Type 0} (n now : ℕ) (old new : List SessionState) (b a : Store K
   result_kept (Err fault) h undecided decides = decided_kept fault.decided undecided decides
 
   pub result_undone : (greatest : ℕ) (r : Result Turn TurnFault) → OnErr r (new ≡ at_session old n closed) → IfErr r (λ fault. IsFalse fault.decided → a ≡ b) → IfErr r (λ fault. IsTrue fault.decided → DecidedOf store_took store_spent n now old b a)
-    → IfErr r (λ fault. Undone fault.decided (record { greatest = greatest; state = b.plain; now = now; sessions = old }) (TurnEvent n) (record { greatest = greatest; state = a.plain; now = now; sessions = new }))
+      → IfErr r (λ fault. Undone fault.decided (record { greatest = greatest; state = b.plain; now = now; sessions = old }) (TurnEvent n) (record { greatest = greatest; state = a.plain; now = now; sessions = new }))
   result_undone greatest (Ok t) shut undecided decides = tt
   result_undone greatest (Err fault) shut undecided decides = record {
     greatest = refl;

@@ -46,20 +46,20 @@ module _ (hash : List ℕ → ℕ) (shelves : ℕ) where
 
   -- by whether the session can still be opened
   open_goes : (first : PlainWorld) (old : WorldState) (b : Bool) → StandsAs first old
-    → StandsAs (if b then record first { connections = first.connections ++ fresh first.greatest ∷ [] } else first) (if b then record old { sessions = old.sessions ++ opened old.greatest ∷ [] } else old)
+      → StandsAs (if b then record first { connections = first.connections ++ fresh first.greatest ∷ [] } else first) (if b then record old { sessions = old.sessions ++ opened old.greatest ∷ [] } else old)
   open_goes first old true stands = record {
     greatest = stands.greatest;
     state = stands.state;
     now = stands.now;
     sessions = stand_more first.connections old.sessions (fresh first.greatest) (opened old.greatest) stands.sessions
-      (subst (λ (g : ℕ). Stands (fresh first.greatest) (opened g)) (sym stands.greatest) (fresh_stands first.greatest));
+        (subst (λ (g : ℕ). Stands (fresh first.greatest) (opened g)) (sym stands.greatest) (fresh_stands first.greatest));
   }
   open_goes first old false stands = stands
 
   -- a turn, by the connection and the session
   turn_goes : (first : PlainWorld) (old new : WorldState) (n : ℕ) (c : Option Connection) (s : Option SessionState) → StandsAs first old → new.greatest ≡ old.greatest → new.now ≡ old.now → Opens c s
-    → MatchOption s ((new.sessions ≡ old.sessions) × (new.state ≡ old.state)) (λ session. (NoTurnDue session × (new.sessions ≡ old.sessions) × (new.state ≡ old.state)) ⊎ ((next : SessionState) × TakesTurn replies is_spent old.now session next old.state new.state × (new.sessions ≡ put n old.sessions next)))
-    → (last : PlainWorld) × MatchOption c (last ≡ first) (λ connection. Turns first n connection last) × StandsAs last new
+      → MatchOption s ((new.sessions ≡ old.sessions) × (new.state ≡ old.state)) (λ session. (NoTurnDue session × (new.sessions ≡ old.sessions) × (new.state ≡ old.state)) ⊎ ((next : SessionState) × TakesTurn replies is_spent old.now session next old.state new.state × (new.sessions ≡ put n old.sessions next)))
+      → (last : PlainWorld) × MatchOption c (last ≡ first) (λ connection. Turns first n connection last) × StandsAs last new
   unfolding next_turn
   turn_goes first old new n None None stands greatest now both h =
       (first, refl, record { greatest = greatest ∙ stands.greatest; state = h.1 ∙ stands.state; now = now ∙ stands.now; sessions = subst (StandAll first.connections) (sym h.0) stands.sessions })
@@ -69,14 +69,17 @@ module _ (hash : List ℕ → ℕ) (shelves : ℕ) where
       (first, inl (rest_idle c s both.2 h.0, refl), record { greatest = greatest ∙ stands.greatest; state = h.2 ∙ stands.state; now = now ∙ stands.now; sessions = subst (StandAll first.connections) (sym h.1) stands.sessions })
   turn_goes first old new n (Some c) (Some s) stands greatest now both (inr (next, takes, is)) =
       let turn : NextTurn first c new.state = next_turn first old.now c s next old.state new.state both.2 stands.now stands.state takes in
-      let after : Connection = after_turn takes.unit takes.text c in
-      (record first { state = new.state; connections = put n first.connections after }, inr (new.state, turn, refl), record {
-        greatest = greatest ∙ stands.greatest;
-        state = refl;
-        now = now ∙ stands.now;
-        sessions = subst (StandAll (put n first.connections after)) (sym is)
-          (stand_put first.connections old.sessions n after next stands.sessions (stands_after replies is_spent old.now c s next old.state new.state both.2 takes both.1));
-      })
+      let after : Connection = after_turn takes.unit takes.text c in (
+        record first { state = new.state; connections = put n first.connections after },
+        inr (new.state, turn, refl),
+        record {
+          greatest = greatest ∙ stands.greatest;
+          state = refl;
+          now = now ∙ stands.now;
+          sessions = subst (StandAll (put n first.connections after)) (sym is)
+              (stand_put first.connections old.sessions n after next stands.sessions (stands_after replies is_spent old.now c s next old.state new.state both.2 takes both.1));
+        },
+      )
 
   along : (last : PlainWorld) (new told : WorldState) → new ≡ told → StandsAs last told → StandsAs last new
   along last new told e h = subst (StandsAs last) (sym e) h
@@ -85,9 +88,11 @@ module _ (hash : List ℕ → ℕ) (shelves : ℕ) where
   pub goes : (first : PlainWorld) (old new : WorldState) (event : Event) → StandsAs first old → Done hash shelves old event new → Goes first event new
   goes first old new Open stands done =
       let same : nat_lt (length old.sessions) 65535 ≡ nat_lt (length first.connections) 65535 = ap (λ k. nat_lt k 65535) (stand_length first.connections old.sessions stands.sessions) in
-      let b = nat_lt (length first.connections) 65535 in
-      (if b then record first { connections = first.connections ++ fresh first.greatest ∷ [] } else first, refl,
-        along _ new _ (done ∙ ap (λ (k : Bool). if k then record old { sessions = old.sessions ++ opened old.greatest ∷ [] } else old) same) (open_goes first old b stands))
+      let b = nat_lt (length first.connections) 65535 in (
+        if b then record first { connections = first.connections ++ fresh first.greatest ∷ [] } else first,
+        refl,
+        along _ new _ (done ∙ ap (λ (k : Bool). if k then record old { sessions = old.sessions ++ opened old.greatest ∷ [] } else old) same) (open_goes first old b stands),
+      )
   goes first old new (Piece n piece) stands done =
       (at_connection first n (with_piece piece), refl, along _ new _ done (record { greatest = stands.greatest; state = stands.state; now = stands.now; sessions = piece_stands first.connections old.sessions n piece stands.sessions }))
   goes first old new (Turn n) stands done =
@@ -95,13 +100,16 @@ module _ (hash : List ℕ → ℕ) (shelves : ℕ) where
   goes first old new (Clock now) stands done = (record first { now = now }, refl, along _ new _ done (record { greatest = stands.greatest; state = stands.state; now = refl; sessions = stands.sessions }))
   goes first old new (Grow shelf) stands done = (first, refl, along _ new _ done stands)
   goes first old new (Purge shelf) stands done =
-      let after : ℕ → Plain → Plain = λ now state. if nat_lt shelf shelves then purged (λ key. hash key % shelves == shelf) now state else state in
-      (record first { state = after first.now first.state }, refl, along _ new _ done (record {
-        greatest = stands.greatest;
-        state = ap (λ (m : ℕ). after m old.state) stands.now ∙ ap (after first.now) stands.state;
-        now = stands.now;
-        sessions = stands.sessions;
-      }))
+      let after : ℕ → Plain → Plain = λ now state. if nat_lt shelf shelves then purged (λ key. hash key % shelves == shelf) now state else state in (
+        record first { state = after first.now first.state },
+        refl,
+        along _ new _ done (record {
+          greatest = stands.greatest;
+          state = ap (λ (m : ℕ). after m old.state) stands.now ∙ ap (after first.now) stands.state;
+          now = stands.now;
+          sessions = stands.sessions;
+        }),
+      )
   goes first old new (Close n) stands done =
       (at_connection first n ended, refl, along _ new _ done (record { greatest = stands.greatest; state = stands.state; now = stands.now; sessions = end_stands first.connections old.sessions n stands.sessions }))
 
@@ -118,9 +126,9 @@ module _ (hash : List ℕ → ℕ) (shelves : ℕ) where
   pub told_more : (old mid new : WorldState) (events : List Event) (event : Event) → Told hash shelves old events mid → Done hash shelves mid event new → Told hash shelves old (events ++ event ∷ []) new
   told_more old mid new events event told done = record {
     told = λ first stands.
-      let so_far = told.told first stands in
-      let next = goes so_far.0 mid new event so_far.2 done in
-      (next.0, runs_more first events so_far.0 event next.0 so_far.1 next.1, next.2);
+        let so_far = told.told first stands in
+        let next = goes so_far.0 mid new event so_far.2 done in
+        (next.0, runs_more first events so_far.0 event next.0 so_far.1 next.1, next.2);
   }
 
   -- the session of a refused event closes
@@ -153,7 +161,7 @@ module _ (hash : List ℕ → ℕ) (shelves : ℕ) where
 
   -- the connection whose turn was decided
   decides_turn : (first : PlainWorld) (old : WorldState) (state : Plain) (n : ℕ) (c : Option Connection) (s next : SessionState) → StandsAs first old → Opens c (Some s) → TakesTurn replies is_spent old.now s next old.state state
-    → (connection : Connection) × (c ≡ Some connection) × NextTurn first connection state
+      → (connection : Connection) × (c ≡ Some connection) × NextTurn first connection state
   decides_turn first old state n None s next stands both takes = absurd both
   decides_turn first old state n (Some c) s next stands both takes = (c, refl, next_turn first old.now c s next old.state state both.2 stands.now stands.state takes)
 
@@ -181,14 +189,14 @@ module _ (hash : List ℕ → ℕ) (shelves : ℕ) where
     here = here;
     session = session;
     told = λ first stands.
-      let so_far = told.told first stands in
-      let up = gives_up so_far.0 mid new event refused.decided so_far.2 undone in
-      (so_far.0, up.0, so_far.1, up.1, up.2);
+        let so_far = told.told first stands in
+        let up = gives_up so_far.0 mid new event refused.decided so_far.2 undone in
+        (so_far.0, up.0, so_far.1, up.1, up.2);
   }
 
 -- one event more of a list is told, with the hashes and shelves that the world still has
 pub told_on : (hash still : List ℕ → ℕ) (shelves as_many : ℕ) → still ≡ hash → as_many ≡ shelves → (old mid new : WorldState) (events : List Event) (at : ℕ) (event : Event) → event ≡ get_or events at event → at < length events
-  → Told hash shelves old (take at events) mid → Done still as_many mid event new → Told hash shelves old (take (at + 1) events) new
+    → Told hash shelves old (take at events) mid → Done still as_many mid event new → Told hash shelves old (take (at + 1) events) new
 told_on hash still shelves as_many same_hash same_shelves old mid new events at event here inside told done =
     let by_hash : Done hash as_many mid event new = subst (λ (f : List ℕ → ℕ). Done f as_many mid event new) same_hash done in
     let by_both : Done hash shelves mid event new = subst (λ (n : ℕ). Done hash n mid event new) same_shelves by_hash in

@@ -20,8 +20,8 @@ module _ {S : Type 0} (took : S → KeyStep → ℕ → Reply → S → Type 0) 
   abbrev pub TurnOf : ℕ → ℕ → (old new : List SessionState) → S → S → Type 0
   TurnOf n now old new before after =
       MatchOption (open_session n old) ((new ≡ old) × (after ≡ before)) (λ session.
-        (NoTurnDue session × (new ≡ old) × (after ≡ before))
-        ⊎ ((next : SessionState) × TakesTurn took spent now session next before after × (new ≡ put n old next)))
+      (NoTurnDue session × (new ≡ old) × (after ≡ before))
+      ⊎ ((next : SessionState) × TakesTurn took spent now session next before after × (new ≡ put n old next)))
 
   -- it decides its next turn, whose text isn't told
   abbrev pub DecidedOf : ℕ → ℕ → List SessionState → S → S → Type 0

@@ -91,7 +91,7 @@ abbrev pub Turns : PlainWorld → ℕ → Connection → PlainWorld → Type 0
 Turns old n connection new =
     (HasNoNext connection × (new ≡ old))
     ⊎ ((state : Plain) × (turn : NextTurn old connection state)
-      × (new ≡ record old { state = state; connections = put n old.connections (after_turn turn.unit turn.text connection) }))
+    × (new ≡ record old { state = state; connections = put n old.connections (after_turn turn.unit turn.text connection) }))
 
 -- Keys have their hashes, and there are so many shelves.
 module _ (hash : List ℕ → ℕ) (shelves : ℕ) where
@@ -170,7 +170,7 @@ pub record ToldUntil (hash : List ℕ → ℕ) (shelves : ℕ) (refused : Refuse
   pub here : slice_get events refused.at ≡ Some event
   pub session : refused.session ≡ named event
   pub told : (first : PlainWorld) → StandsAs first old
-    → (mid : PlainWorld) × (last : PlainWorld) × Runs hash shelves first (take refused.at events) mid × GivesUp refused.decided mid event last × StandsAs last new
+      → (mid : PlainWorld) × (last : PlainWorld) × Runs hash shelves first (take refused.at events) mid × GivesUp refused.decided mid event last × StandsAs last new
 
 -- the event brings a piece to the session of that number, or closes it
 abbrev pub BringsOrCloses : Event → ℕ → Type 0

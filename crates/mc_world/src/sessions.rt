@@ -22,7 +22,7 @@ pub struct Sessions {
 impl Model for Sessions {
     ghost use Rattle.std.specs.Prelude.{List};
     ghost use Rattle.std.specs.Option.{option_copied};
-ghost use Rattle.mc_session.specs.Turns.{SessionState};
+    ghost use Rattle.mc_session.specs.Turns.{SessionState};
 
     ghost Value = { List SessionState };
 

@@ -11,6 +11,7 @@ use std::test::Fail;
 
 /// The shelf of `a`, and that of `b`.
 const SHELF_OF_A: u32 = 12;
+
 const SHELF_OF_B: u32 = 37;
 
 /// A world at 1000.
@@ -213,7 +214,10 @@ fn keys_of_a_get_are_asked_at_their_turns(rt: HostRuntime) -> Result<(), Fail> {
         world.out(1),
         b"VALUE a 0 1\r\n1\r\nVALUE b 0 1\r\n2\r\nEND\r\n".as_slice()
     );
-    assert_eq!(rt; world.out(2), b"STORED\r\nSTORED\r\nSTORED\r\nSTORED\r\n".as_slice());
+    assert_eq!(rt;
+        world.out(2),
+        b"STORED\r\nSTORED\r\nSTORED\r\nSTORED\r\n".as_slice()
+    );
     Ok(())
 }
 

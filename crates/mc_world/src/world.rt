@@ -36,10 +36,10 @@ impl<K: KeyHash + Drop> World<K> {
         requires greatest { settings.greatest ≡ 1048576 }
         requires shelves { settings.shelves ≡ 64 }
         ensures world { IfOk result (λ world. world_of world ≡ record {
-            greatest = settings.greatest;
-            state = opening settings.pages settings.greatest;
-            now = now;
-            sessions = [];
+          greatest = settings.greatest;
+          state = opening settings.pages settings.greatest;
+          now = now;
+          sessions = [];
         }) }
         ensures settings { IfOk result (λ world. world.store.settings ≡ settings) }
         ensures hasher { IfOk result (λ world. world.store.hasher ≡ hasher) }

@@ -4,14 +4,14 @@ use Rattle.mc_world.proofs.sessions.Sessions.turn.Goals as goal
 pub returns-clause-ok : goal.returns-clause-ok
 returns-clause-ok g c =
     lemmas.result_ok g.S.Steps.took g.S.Steps.spent c.args.number c.args.now c.args.self.now c.self.inside.list.items c.deref.result.now c.in-Some.at c.index_mut.result.now c.turn.new.self c.args.store.now c.turn.new.store
-      c.self.view_is c.deref.ensures.value c.in-Some.ensures.some c.index_mut.ensures.value c.turn.result c.turn.ensures.did c.turn.ensures.idle c.turn.ensures.closed
+    c.self.view_is c.deref.ensures.value c.in-Some.ensures.some c.index_mut.ensures.value c.turn.result c.turn.ensures.did c.turn.ensures.idle c.turn.ensures.closed
 
 pub returns-clause-err : goal.returns-clause-err
 returns-clause-err g c =
     lemmas.result_err g.S.Steps.took g.S.Steps.spent c.args.number c.args.now c.args.self.now c.self.inside.list.items c.deref.result.now c.in-Some.at c.index_mut.result.now c.turn.new.self c.args.store.now c.turn.new.store
-      c.self.view_is c.deref.ensures.value c.in-Some.ensures.some c.index_mut.ensures.value c.turn.result c.turn.ensures.err
+    c.self.view_is c.deref.ensures.value c.in-Some.ensures.some c.index_mut.ensures.value c.turn.result c.turn.ensures.err
 
 pub returns-clause-decided : goal.returns-clause-decided
 returns-clause-decided g c =
     lemmas.result_decided g.S.Steps.took g.S.Steps.spent c.args.number c.args.now c.args.self.now c.self.inside.list.items c.deref.result.now c.in-Some.at c.index_mut.result.now c.turn.new.self c.args.store.now c.turn.new.store
-      c.self.view_is c.deref.ensures.value c.in-Some.ensures.some c.index_mut.ensures.value c.turn.result c.turn.ensures.decided
+    c.self.view_is c.deref.ensures.value c.in-Some.ensures.some c.index_mut.ensures.value c.turn.result c.turn.ensures.decided

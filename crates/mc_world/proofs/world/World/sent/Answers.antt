@@ -8,4 +8,4 @@ use Rattle.mc_world.proofs.world.World.sent.Goals as goal
 pub returns-clause-stands : goal.returns-clause-stands
 returns-clause-stands g c = λ can.
     subst (λ (ss : List SessionState). let w : WorldState = record { greatest = c.args.self.now.greatest; state = c.args.self.now.store.plain; now = c.args.self.now.moment; sessions = ss } in CanStand w)
-      (sym c.sent.ensures) (sent_stands (world_of c.args.self.now) c.args.session c.args.n can)
+    (sym c.sent.ensures) (sent_stands (world_of c.args.self.now) c.args.session c.args.n can)
