@@ -214,11 +214,11 @@ impl PlainStore {
         ensures refused { OnErr result (MayFail (applied (read_touch_row expiry) key.now self.old now)) }
         ensures err { OnErr result (self.new ≡ self.old) }
     {
-        let Some(item) = self.standing(key, now) else {
+        let Some(found) = self.standing(key, now) else {
             self.remove(key);
             return Ok(Reply::Miss);
         };
-        let reply = item.hit(alloc)?;
+        let reply = found.hit(alloc)?;
         self.set_expiry(key, expiry);
         Ok(reply)
     }
