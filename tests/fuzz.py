@@ -23,6 +23,7 @@ EXPTIMES += [b"-1", b"9223372036854775807", b"9223372036854775808", b"-922337203
 UNIQUES = [b"0", b"1", b"2", b"3", b"4", b"5", b"8", b"18446744073709551615", b"18446744073709551616", b"-1"]
 DELTAS = [b"0", b"1", b"5", b"0010", b"9999999999", b"18446744073709551615", b"18446744073709551616", b"-1", b"", b"1x"]
 BLOCKS = [b"", b"x", b"5", b"17", b"99  ", b"18446744073709551615", b"18446744073709551616", b"000000000000000000007"]
+LARGE_BLOCKS = [b"L" * 300000, b"M" * 600000, b"N" * 1048000]
 BLOCKS += [b"abc", b"\r\n", b"a\r\nb", b"\x00\xff\n", b"get a\r\n", b"0" * 20, b" 5", b"y" * 300]
 LENGTHS = [b"2147483645", b"2147483646", b"1048528", b"1048527", b"-1", b"x", b"70000", b"000003"]
 ENDS = [b"\r\n"] * 12 + [b"\n", b"\n", b"\r\r\n", b"\r", b""]
@@ -35,6 +36,7 @@ class Source:
     def __init__(self, seed, number):
         self.random = random.Random(f"{seed} {number}")
         self.now = self.random.choice(MOMENTS)
+        self.pages = self.random.choice([64, 64, 1, 1, 2, 3])
         self.faulty = self.random.choice([0.0, 0.02, 0.15])
 
     def pick(self, good, bad=None):
@@ -61,7 +63,8 @@ class Source:
 
     def storage(self):
         verb = self.random.choice([b"set", b"set", b"set", b"add", b"replace", b"append", b"prepend", b"cas"])
-        block = self.random.choice(BLOCKS)
+        is_large = self.pages < 64 and self.random.random() < 0.02
+        block = self.random.choice(LARGE_BLOCKS if is_large else BLOCKS)
         length = self.pick([b"%d" % len(block)], [*LENGTHS, b"%d" % (len(block) + 1), b"%d" % max(len(block) - 1, 0)])
         words = [verb, self.key(), self.pick(FLAGS[:5], FLAGS), self.pick(EXPTIMES[:11], EXPTIMES), length]
         if verb == b"cas":
@@ -119,17 +122,17 @@ class Source:
         return self.random.choice([None, 1, 7, 100] if length < 5000 else [None, 1000, 16384])
 
 
-def faults(program, stream, now, size):
-    args = ["--stdin", "--now", str(now)]
+def faults(program, stream, now, pages, size):
+    args = ["--stdin", "--now", str(now), "-m", str(pages)]
     ran = rows.run(program, args, stream) if size is None else rows.run_in_pieces(program, args, stream, size)
-    wanted = model.answer(stream, now)
+    wanted = model.answer(stream, now, pages)
     if ran.late:
         return ["had not ended in time"]
     found = [] if ran.status == 0 and not ran.stderr else [f"status {ran.status}, standard error {rows.shown(ran.stderr)}"]
     return found + ([rows.difference("output", wanted, ran.stdout)] if ran.stdout != wanted else [])
 
 
-def shorter(program, pieces, now, size, most=300):
+def shorter(program, pieces, now, pages, size, most=300):
     """Leaves pieces out while the input still fails."""
     step = max(len(pieces) // 2, 1)
     while most > 0:
@@ -137,7 +140,7 @@ def shorter(program, pieces, now, size, most=300):
         while at < len(pieces) and most > 0:
             less = pieces[:at] + pieces[at + step :]
             most -= 1
-            if less and faults(program, b"".join(less), now, size):
+            if less and faults(program, b"".join(less), now, pages, size):
                 pieces = less
             else:
                 at += step
@@ -153,11 +156,11 @@ def compare(report, program, count, seed):
         pieces = source.pieces()
         stream = b"".join(pieces)
         size = source.size(len(stream))
-        found = faults(program, stream, source.now, size)
+        found = faults(program, stream, source.now, source.pages, size)
         if found and report.failed < report.TOLD:
-            pieces = shorter(program, pieces, source.now, size)
-            found = faults(program, b"".join(pieces), source.now, size) or found
-            found.append(f"--now {source.now}, input {rows.shown(b''.join(pieces), 2000)}")
+            pieces = shorter(program, pieces, source.now, source.pages, size)
+            found = faults(program, b"".join(pieces), source.now, source.pages, size) or found
+            found.append(f"--now {source.now} -m {source.pages}, input {rows.shown(b''.join(pieces), 2000)}")
         report.count(f"random input {number} of seed {seed}, {f'in pieces of {size}' if size else 'in one file'}", found)
 
 

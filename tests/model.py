@@ -1,12 +1,12 @@
 #!/usr/bin/env python3
 """A plain, slow model of one session of the server, written from the protocol's rules alone.
 
-`answer(stream, now)` gives the bytes that a session over `stream` must write, with the clock
-standing at `now`. The whole stream is read at once, line by line; nothing here is shared with the
-server. Memory is taken to be always there.
+`answer(stream, now, pages)` gives the bytes that a session over `stream` must write, with the clock
+standing at `now` and a store of so many pages. The whole stream is read at once, line by line; nothing
+here is shared with the server. The memory of the machine is taken to be always there.
 
-    tests/model.py --now 1000 < input       prints what the model answers
-    tests/model.py --rows                   compares it with every row of tests/rows that it can run
+    tests/model.py --now 1000 -m 64 < input     prints what the model answers
+    tests/model.py --rows                       compares it with every row of tests/rows that it can run
 """
 import argparse
 import sys
@@ -20,6 +20,8 @@ MOST_EXPTIME = 2**63 - 1
 MOST_COUNT = 2**64 - 1
 MONTH = 2592000
 DIGITS = b"0123456789"
+PAGE = 1048576
+PAGES = 64
 
 ERROR = b"ERROR\r\n"
 BAD_FORMAT = b"CLIENT_ERROR bad command line format\r\n"
@@ -27,6 +29,7 @@ BAD_DELTA = b"CLIENT_ERROR invalid numeric delta argument\r\n"
 TOO_LARGE = b"SERVER_ERROR object too large for cache\r\n"
 BAD_CHUNK = b"CLIENT_ERROR bad data chunk\r\n"
 TOO_LONG = b"CLIENT_ERROR line too long\r\n"
+NO_CHUNK = b"SERVER_ERROR out of memory storing object\r\n"
 NOT_NUMERIC = b"CLIENT_ERROR cannot increment or decrement non-numeric value\r\n"
 
 
@@ -81,6 +84,23 @@ def quiet_of(words, count):
 # ---- the store
 
 
+def chunk_sizes():
+    """The size of a chunk of each class: from 96 on five quarters of the one before, and at last a page."""
+    sizes = [96]
+    while (size := -(-(sizes[-1] * 5 // 4) // 8) * 8) <= PAGE // 2:
+        sizes.append(size)
+    return [*sizes, PAGE]
+
+
+SIZES = chunk_sizes()
+
+
+def class_of(key, block):
+    """The smallest class whose chunks hold the item, counted from 0."""
+    charge = 48 + len(key) + len(block)
+    return next(at for at, size in enumerate(SIZES) if charge <= size)
+
+
 class Item:
     def __init__(self, flags, expiry, block, unique, updated):
         self.flags, self.expiry, self.block = flags, expiry, block
@@ -88,8 +108,20 @@ class Item:
 
 
 class Store:
-    def __init__(self, now):
+    def __init__(self, now, pages):
         self.now, self.items, self.cut, self.next_unique = now, {}, None, 1
+        self.pages_left, self.pages = pages, [0] * len(SIZES)
+
+    def takes_chunk(self, size_class):
+        """Whether an item of the class finds a chunk. Items that are dead and not dropped count."""
+        used = sum(class_of(key, item.block) == size_class for key, item in self.items.items())
+        if used < self.pages[size_class] * (PAGE // SIZES[size_class]):
+            return True
+        if not self.pages_left:
+            return False
+        self.pages_left -= 1
+        self.pages[size_class] += 1
+        return True
 
     def expiry(self, exptime):
         """The moment from which on an item is dead; None is never."""
@@ -112,9 +144,15 @@ class Store:
             return None
         return item
 
-    def write(self, key, flags, expiry, block):
+    def write(self, key, flags, expiry, block, reply, may_stay=False):
+        """Writes an item and gives the reply, or finds no chunk. A count whose class stays asks for none."""
+        size_class = class_of(key, block)
+        stays = may_stay and class_of(key, self.items[key].block) == size_class
+        if not stays and not self.takes_chunk(size_class):
+            return NO_CHUNK
         self.items[key] = Item(flags, expiry, block, self.next_unique, self.now)
         self.next_unique += 1
+        return reply
 
     def store(self, verb, key, flags, exptime, block):
         item = self.live(key)
@@ -126,8 +164,7 @@ class Store:
             block = item.block + block if verb == b"append" else block + item.block
             if 48 + len(key) + len(block) > GREATEST:
                 return TOO_LARGE
-        self.write(key, flags, expiry, block)
-        return b"STORED\r\n"
+        return self.write(key, flags, expiry, block, b"STORED\r\n")
 
     def cas(self, key, flags, exptime, block, unique):
         item = self.live(key)
@@ -135,8 +172,7 @@ class Store:
             return b"NOT_FOUND\r\n"
         if item.unique != unique:
             return b"EXISTS\r\n"
-        self.write(key, flags, self.expiry(exptime), block)
-        return b"STORED\r\n"
+        return self.write(key, flags, self.expiry(exptime), block, b"STORED\r\n")
 
     def read(self, key, with_unique, exptime=None):
         item = self.live(key)
@@ -169,8 +205,7 @@ class Store:
         if not 1 <= len(digits) <= 20 or any(byte not in DIGITS for byte in digits) or int(digits) > MOST_COUNT:
             return NOT_NUMERIC
         value = (int(digits) + by) % 2**64 if up else max(int(digits) - by, 0)
-        self.write(key, item.flags, item.expiry, b"%d" % value)
-        return b"%d\r\n" % value
+        return self.write(key, item.flags, item.expiry, b"%d" % value, b"%d\r\n" % value, may_stay=True)
 
     def flush(self, delay):
         if delay == 0:
@@ -187,8 +222,8 @@ class Store:
 class Session:
     """A stream, how far it has been read, and what was answered."""
 
-    def __init__(self, stream, now):
-        self.stream, self.at, self.store, self.out = stream, 0, Store(now), []
+    def __init__(self, stream, now, pages):
+        self.stream, self.at, self.store, self.out = stream, 0, Store(now, pages), []
         self.is_open = True
 
     def run(self):
@@ -287,13 +322,14 @@ class Session:
         return self.store.flush(delay), quiet
 
 
-def answer(stream, now):
-    return Session(stream, now).run()
+def answer(stream, now, pages=PAGES):
+    return Session(stream, now, pages).run()
 
 
 def main():
     parser = argparse.ArgumentParser(description=__doc__, formatter_class=argparse.RawDescriptionHelpFormatter)
     parser.add_argument("--now", type=int, default=1000)
+    parser.add_argument("-m", type=int, default=PAGES, dest="pages")
     parser.add_argument("--rows", action="store_true")
     given = parser.parse_args()
     if given.rows:
@@ -302,7 +338,7 @@ def main():
         report = rows.Report()
         rows.model_answers(report, rows.all_rows())
         return report.end()
-    sys.stdout.buffer.write(answer(sys.stdin.buffer.read(), given.now))
+    sys.stdout.buffer.write(answer(sys.stdin.buffer.read(), given.now, given.pages))
     return 0
 
 

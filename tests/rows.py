@@ -30,6 +30,8 @@ HERE = os.path.dirname(os.path.realpath(__file__))
 ROWS = f"{HERE}/rows"
 PROGRAM = f"{os.path.dirname(HERE)}/crates/mc_server/out/mc_server"
 SECONDS = 20
+# The pages of a store where no option says how many.
+PAGES = 64
 # An input at most this long is also handed over a byte at a time, a longer one in pieces of this many bytes.
 BYTEWISE, PIECE = 4096, 4093
 
@@ -86,10 +88,14 @@ class Row:
         long = self.file(f"{name}.parts")
         return parts(long) if long is not None else self.file(name) or b""
 
-    def now(self):
-        """Where the clock of a plain session stands; None for another row."""
-        if len(self.args) == 3 and self.args[:2] == ["--stdin", "--now"] and self.status == 0 and self.wants["stdout"][1] is None:
-            return int(self.args[2])
+    def session(self):
+        """Where the clock of a plain session stands, and how many pages its store has; None for another row."""
+        if self.args[:2] != ["--stdin", "--now"] or self.status or self.wants["stdout"][1] is not None:
+            return None
+        if len(self.args) == 3:
+            return int(self.args[2]), PAGES
+        if len(self.args) == 5 and self.args[3] == "-m":
+            return int(self.args[2]), int(self.args[4])
         return None
 
     def faults(self, ran):
@@ -185,7 +191,7 @@ def run_in_pieces(program, args, stdin, size, seconds=SECONDS):
 def program_answers(report, program, rows):
     for row in rows:
         report.count(row.name, row.faults(run(program, row.args, row.stdin)))
-        if row.stdin and row.now() is not None:
+        if row.stdin and row.session():
             size = 1 if len(row.stdin) <= BYTEWISE else PIECE
             found = row.faults(run_in_pieces(program, row.args, row.stdin, size))
             report.count(f"{row.name}, in pieces of {size}", found)
@@ -196,8 +202,8 @@ def model_answers(report, rows):
     import model
 
     for row in rows:
-        if row.now() is not None:
-            wanted, wrote = row.wants["stdout"][0], model.answer(row.stdin, row.now())
+        if row.session():
+            wanted, wrote = row.wants["stdout"][0], model.answer(row.stdin, *row.session())
             report.count(f"{row.name}, by the model", [difference("output", wanted, wrote)] if wanted != wrote else [])
 
 
