@@ -1,9 +1,11 @@
-"""What no row can say: long hostile inputs, memory that stays bounded, and devices that fail."""
+"""What no row can say: long hostile inputs, memory that stays bounded, devices that fail, and talk in turns."""
 import os
 import random
 import resource
+import select
 import subprocess
 import tempfile
+import time
 
 import measure
 import model
@@ -27,6 +29,8 @@ def check(report, program):
         ("an input that cannot be read", unreadable_input),
         ("memory that runs out", memory_runs_out),
         ("an argument that is not text", argument_not_text),
+        ("a peer that waits for each answer", waiting_peer),
+        ("time that passes in a session", passing_time),
     ]:
         report.count(name, faults(program))
 
@@ -151,3 +155,55 @@ def argument_not_text(program):
     ran = rows.outcome(started)
     found = [] if b"error:" in ran.stderr else [f"standard error is {rows.shown(ran.stderr)}"]
     return found + ended(ran, 2, ran.stderr)
+
+
+class Talk:
+    """A session with a peer that sends a text, and sends no more until it has the answer."""
+
+    def __init__(self, program, args):
+        self.started = subprocess.Popen([program, *args], stdin=subprocess.PIPE, stdout=subprocess.PIPE, stderr=subprocess.PIPE, bufsize=0)
+        self.faults = []
+
+    def says(self, sent, wanted):
+        """Whether the answer to what is sent comes while nothing more is sent, and is the wanted one."""
+        if self.faults:
+            return
+        self.started.stdin.write(sent)
+        got = b""
+        while len(got) < len(wanted) and select.select([self.started.stdout], [], [], rows.SECONDS)[0]:
+            piece = os.read(self.started.stdout.fileno(), 65536)
+            if not piece:
+                break
+            got += piece
+        if got != wanted:
+            self.faults.append(f"after {rows.shown(sent)}: " + rows.difference("output", wanted, got))
+
+    def ends(self):
+        self.started.stdin.close()
+        self.started.stdin = None
+        ran = rows.outcome(self.started)
+        if ran.stdout:
+            self.faults.append(f"more is written at the end: {rows.shown(ran.stdout)}")
+        return self.faults + ended(ran, 0, b"")
+
+
+def waiting_peer(program):
+    """Nothing is kept back until more input comes, or until the end."""
+    talk = Talk(program, ARGS)
+    talk.says(b"version\r\n", b"VERSION 1.6.0\r\n")
+    talk.says(b"set a 0 0 3\r\nab", b"")
+    talk.says(b"c\r\nget a\r\nge", b"STORED\r\nVALUE a 0 3\r\nabc\r\nEND\r\n")
+    talk.says(b"t b\r\n", b"END\r\n")
+    return talk.ends()
+
+
+def passing_time(program):
+    """The clock is asked at each turn: an item dies between two commands of one session."""
+    talk = Talk(program, ["--stdin"])
+    talk.says(b"set a 0 2 1\r\nx\r\n", b"STORED\r\n")
+    talk.says(b"set b 0 0 1\r\ny\r\n", b"STORED\r\n")
+    talk.says(b"flush_all 2\r\n", b"OK\r\n")
+    talk.says(b"get b\r\n", b"VALUE b 0 1\r\ny\r\nEND\r\n")
+    time.sleep(3)
+    talk.says(b"get a b\r\n", b"END\r\n")
+    return talk.ends()
