@@ -8,16 +8,22 @@ several runs of a fresh process. It is no test: nothing here fails for being slo
 """
 import argparse
 import os
+import shutil
+import socket
 import statistics
+import subprocess
 import sys
 import tempfile
+import threading
+import time
 
 ROOT = os.path.dirname(os.path.dirname(os.path.realpath(__file__)))
 sys.path.insert(0, f"{ROOT}/tests")
 
 import measure  # noqa: E402
 
-ARGS = ["--stdin", "--now", "1000"]
+# as many pages as every input here wants
+ARGS = ["--stdin", "--now", "1000", "-m", "1024"]
 SECONDS = 300
 VALUE = b"v" * 100
 KEYS = 1000
@@ -102,6 +108,70 @@ COMMANDS = {
 }
 
 
+# ---- servers that stay up while they are measured
+
+
+class Server:
+    """A server, and one connection to it: what is sent, what comes back, and the memory that it holds."""
+
+    def __init__(self, words, link=None):
+        self.started = subprocess.Popen(words, stdin=subprocess.PIPE, stdout=subprocess.PIPE)
+        self.link = link and link()
+
+    def send(self, data):
+        if self.link:
+            self.link.sendall(data)
+        else:
+            self.started.stdin.write(data)
+            self.started.stdin.flush()
+
+    def receive(self):
+        return self.link.recv(65536) if self.link else os.read(self.started.stdout.fileno(), 65536)
+
+    def answer(self, data, end):
+        """Sends data, and gives what comes back, up to and with this end."""
+        sending = threading.Thread(target=self.send, args=(data,))
+        sending.start()
+        got = b""
+        while not got.endswith(end):
+            piece = self.receive()
+            if not piece:
+                sys.exit(f"the server went after {got[-100:]!r}")
+            got += piece
+        sending.join()
+        return got
+
+    def resident(self):
+        """The resident bytes of its process."""
+        with open(f"/proc/{self.started.pid}/status") as it:
+            return next(int(line.split()[1]) * 1024 for line in it if line.startswith("VmRSS"))
+
+    def stop(self):
+        self.started.kill()
+        self.started.communicate()
+
+
+def memcached():
+    """Debian's memcached as it is compared with: four threads, nothing evicted, a free port; None where there is none."""
+    found = shutil.which("memcached")
+    if not found:
+        return None
+    with socket.socket() as free:
+        free.bind(("127.0.0.1", 0))
+        port = free.getsockname()[1]
+
+    def link():
+        for _ in range(100):
+            try:
+                return socket.create_connection(("127.0.0.1", port))
+            except OSError:
+                time.sleep(0.05)
+        sys.exit("memcached doesn't listen")
+
+    user = ["-u", "root"] if os.geteuid() == 0 else []
+    return Server([found, "-M", "-m", "1024", "-l", "127.0.0.1", "-p", str(port), *user], link)
+
+
 # ---- runs
 
 
@@ -160,6 +230,52 @@ class Bench:
         for each, lines, seconds, cost in found:
             print(f"{each:<17,}{lines:>9,}{seconds:>9.3f}{cost:>12.0f}  {cost / least:.2f}", flush=True)
 
+    def resident(self):
+        """What an item takes while it stands, beside memcached on the same machine."""
+        print(f"\n{'resident bytes an item':<25}{'items':>11}{'bytes an item':>15}  over memcached's")
+        for count in (100_000, 1_000_000):
+            stream = b"".join(stored(b"set", key(it), more=b" noreply") for it in range(count))
+            last = None
+            for name, server in [("memcached", memcached()), ("mcserver", Server([self.program, *ARGS]))]:
+                if server is None:
+                    print(f"{name:<25}{'':>11}{'not installed':>15}")
+                    continue
+                before = (server.answer(b"version\r\n", b"\r\n"), server.resident())[1]
+                server.answer(stream + b"version\r\n", b"\r\n")
+                found = (server.resident() - before) / count
+                server.stop()
+                print(f"{name:<25}{count:>11,}{found:>15.0f}" + (f"  {found / last:.2f}" if last else ""), flush=True)
+                last = found
+
+    def standing(self):
+        """What a set of a new key and a get cost while so many items stand."""
+        print(f"\n{'items that stand':<17}{'ns a set':>9}{'ns a get':>9}")
+        for count in (10_000, 100_000, 1_000_000):
+            order = [it * 7919 % count for it in range(count)]
+            sets_of = b"".join(stored(b"set", key(it), more=b" noreply") for it in order)
+            gets_of = b"".join(b"get %s\r\n" % key(it) for it in order)
+            _, empty, _, _ = self.run(b"")
+            _, filled, _, _ = self.run(sets_of)
+            _, both, _, _ = self.run(sets_of + gets_of)
+            print(f"{count:<17,}{(filled - empty) / count * 1e9:>9.0f}{(both - filled) / count * 1e9:>9.0f}", flush=True)
+
+    def refilled(self, times=100):
+        """A store of 64 pages is filled to the refusal and emptied by deletes, again and again."""
+        server = Server([self.program, "--stdin", "--now", "1000", "-m", "64"])
+        sets_of = [stored(b"set", key(it), b"b" * 500_000) for it in range(65)]
+        deletes_of = [b"delete %s\r\n" % key(it) for it in range(65)]
+        stream = b"".join(sets_of + deletes_of) + b"version\r\n"
+        refused = b"SERVER_ERROR out of memory storing object\r\n"
+        wanted = b"STORED\r\n" * 64 + refused + b"DELETED\r\n" * 64 + b"NOT_FOUND\r\n" + b"VERSION 1.6.0\r\n"
+        found = []
+        for number in range(times):
+            if server.answer(stream, b"VERSION 1.6.0\r\n") != wanted:
+                sys.exit(f"the answers of time {number} are others")
+            found.append(server.resident() / MEGA)
+        server.stop()
+        print(f"\n64 pages filled to the refusal and emptied {times} times, each with the same answers")
+        print(f"MB of memory after the first time {found[0]:.1f}, at most {max(found):.1f}, after the last {found[-1]:.1f}", flush=True)
+
     def memory(self):
         print(f"\n{'the most memory':<45}{'MB in':>9}{'MB of memory':>14}")
         one = stored(b"set", b"big", b"b" * MEGA)
@@ -188,6 +304,9 @@ def main():
     if not given.only:
         bench.lines(2 * given.commands)
         bench.memory()
+        bench.resident()
+        bench.standing()
+        bench.refilled()
     return 0
 
 
