@@ -31,6 +31,7 @@ def check(report, program):
         ("an argument that is not text", argument_not_text),
         ("a peer that waits for each answer", waiting_peer),
         ("time that passes in a session", passing_time),
+        ("a quit while the input stays open", quit_at_once),
     ]:
         report.count(name, faults(program))
 
@@ -207,3 +208,15 @@ def passing_time(program):
     time.sleep(3)
     talk.says(b"get a b\r\n", b"END\r\n")
     return talk.ends()
+
+
+def quit_at_once(program):
+    """After quit nothing more is read: the program ends though its input doesn't."""
+    with subprocess.Popen([program, *ARGS], stdin=subprocess.PIPE, stdout=subprocess.PIPE, stderr=subprocess.PIPE, bufsize=0) as started:
+        started.stdin.write(b"version\r\nquit\r\n")
+        try:
+            status = started.wait(rows.SECONDS)
+        except subprocess.TimeoutExpired:
+            started.kill()
+            return ["had not ended, as long as its input was open"]
+        return ended(rows.Ran(status, started.stdout.read(), started.stderr.read()), 0, b"")
