@@ -1,11 +1,11 @@
 -- A run goes on the same where more bytes come, and with earlier output in front.
-use Rattle.std.proofs.Common.{◌≡◌, ◌<◌, ◌+◌, ◌==◌, ℕ, Bool, true, false, List, [], ◌∷◌, ◌++◌, length, drop, refl, sym, ap, ◌∙◌, subst, append_assoc, if◌then◌else◌, IsFalse}
+use Rattle.std.proofs.Common.{◌≡◌, ◌+◌, ◌==◌, ℕ, Bool, true, false, List, [], ◌++◌, refl, sym, ap, ◌∙◌, append_assoc, if◌then◌else◌}
 use Rattle.mc_command.specs.declared.step.KeyStep.{KeyStep}
 use Rattle.mc_command.specs.declared.reply.Reply.{Reply}
 use Rattle.mc_parse.specs.Units.{ProtocolUnit}
 use Rattle.mc_parse.specs.Streams.{is_last, passed_after}
 use Rattle.mc_parse.specs.Feeds.{Unread, pushed, settled}
-use Rattle.mc_session.specs.Turns.{SessionState, TakesTurn, turn_count, moved, closed, fed, opened}
+use Rattle.mc_session.specs.Turns.{SessionState, TakesTurn, DecidesStep, turn_count, closed, fed, opened}
 use Rattle.mc_session.specs.Serving.{Run, nothing, turn}
 use Rattle.mc_session.specs.Rounds.{with_written}
 use Rattle.mc_session.proofs.FeedLemmas.{pushed-settled, pushed-pushed, spells_bytes, front_stays}
@@ -25,18 +25,6 @@ moved_more : (unread : Unread) (taken : ℕ) (out : List ℕ) (unit : ProtocolUn
 moved_more unread taken out unit rest text more true whole = refl
 moved_more unread taken out unit rest text more false true = ap (λ u. session_of u 0 (out ++ text) true) (pushed-settled (record { greatest = unread.greatest; passed = passed_after unit; bytes = rest }) more)
 moved_more unread taken out unit rest text more false false = refl
-
--- a session that isn't open stays so
-moved_closed : (unread : Unread) (taken : ℕ) (out : List ℕ) (unit : ProtocolUnit) (rest text more : List ℕ) (last whole : Bool)
-    → fed (if last then closed (session_of unread taken (out ++ text) false)
-    else if whole then session_of (settled (record { greatest = unread.greatest; passed = passed_after unit; bytes = rest })) 0 (out ++ text) false
-    else session_of unread (taken + 1) (out ++ text) false) more
-    ≡ (if last then closed (session_of unread taken (out ++ text) false)
-    else if whole then session_of (settled (record { greatest = unread.greatest; passed = passed_after unit; bytes = rest })) 0 (out ++ text) false
-    else session_of unread (taken + 1) (out ++ text) false)
-moved_closed unread taken out unit rest text more true whole = refl
-moved_closed unread taken out unit rest text more false true = refl
-moved_closed unread taken out unit rest text more false false = refl
 
 -- earlier output stays in front
 moved_written : (s : SessionState) (unit : ProtocolUnit) (rest text written : List ℕ) (last whole : Bool)
@@ -72,23 +60,14 @@ module _ {S : Type 0} (took : S → KeyStep → ℕ → Reply → S → Type 0) 
     front = taken_turn.front;
     rest = taken_turn.rest ++ more;
     text = taken_turn.text;
+    opens = taken_turn.opens;
     parts = front_stays unread taken_turn.front taken_turn.rest more (spells_bytes unread.greatest taken_turn.unit taken_turn.front taken_turn.spelled) taken_turn.parts;
     spelled = taken_turn.spelled;
     due = taken_turn.due;
     answers = taken_turn.answers;
     moves = ap (λ s. fed s more) taken_turn.moves ∙ moved_more unread taken out taken_turn.unit taken_turn.rest taken_turn.text more (is_last taken_turn.unit) (taken + 1 == turn_count taken_turn.unit);
   }
-  turn_open now unread taken out new before after more false taken_turn = record {
-    unit = taken_turn.unit;
-    front = taken_turn.front;
-    rest = taken_turn.rest;
-    text = taken_turn.text;
-    parts = taken_turn.parts;
-    spelled = taken_turn.spelled;
-    due = taken_turn.due;
-    answers = taken_turn.answers;
-    moves = ap (λ s. fed s more) taken_turn.moves ∙ moved_closed unread taken out taken_turn.unit taken_turn.rest taken_turn.text more (is_last taken_turn.unit) (taken + 1 == turn_count taken_turn.unit);
-  }
+  turn_open now unread taken out new before after more false taken_turn = let opens = taken_turn.opens in absurd (cc)
 
   turn_more : (now : ℕ) (old new : SessionState) (before after : S) (more : List ℕ) → TakesTurn took spent now old new before after → TakesTurn took spent now (fed old more) (fed new more) before after
   turn_more now old new before after more taken_turn = turn_open now old.unread old.taken old.out new before after more old.is_open taken_turn
@@ -100,11 +79,27 @@ module _ {S : Type 0} (took : S → KeyStep → ℕ → Reply → S → Type 0) 
     front = taken_turn.front;
     rest = taken_turn.rest;
     text = taken_turn.text;
+    opens = taken_turn.opens;
     parts = taken_turn.parts;
     spelled = taken_turn.spelled;
     due = taken_turn.due;
     answers = taken_turn.answers;
     moves = ap (with_written written) taken_turn.moves ∙ moved_written old taken_turn.unit taken_turn.rest taken_turn.text written (is_last taken_turn.unit) (old.taken + 1 == turn_count taken_turn.unit);
+  }
+
+  -- a step is decided the same with earlier output in front
+  pub decides_written : (now : ℕ) (old : SessionState) (before after : S) (written : List ℕ) → DecidesStep took now old before after → DecidesStep took now (with_written written old) before after
+  decides_written now old before after written decides = record {
+    command = decides.command;
+    front = decides.front;
+    rest = decides.rest;
+    step = decides.step;
+    reply = decides.reply;
+    opens = decides.opens;
+    parts = decides.parts;
+    spelled = decides.spelled;
+    is_step = decides.is_step;
+    took_it = decides.took_it;
   }
 
   -- a run is a run of the longer stream

@@ -1,14 +1,14 @@
 -- What was served until now, and a turn, a write or a read more.
-use Rattle.std.proofs.Common.{◌≡◌, ℕ, List, [], ◌++◌, Option, Some, None, refl, sym, ap, ◌∙◌, subst, append_assoc, append-nil, IsFalse, IsTrue, Bool, true, false, Result, Ok, Err, OnOk, ◌⊎◌, inl, inr, take}
-use Rattle.std.specs.Io.KnownBytes.{Appends, Consumes, Keeps, IsAtEnd}
+use Rattle.std.proofs.Common.{◌≡◌, ℕ, List, [], ◌++◌, Option, Some, None, refl, sym, ap, ◌∙◌, subst, append_assoc, append-nil, IsFalse, IsTrue, Bool, true, false, Result, Ok, Err, OnOk, inl, inr, take}
+use Rattle.std.specs.Io.KnownBytes.{Appends, Consumes, Keeps}
 use Rattle.std.proofs.lemmas.List.{take-append-drop}
 use Rattle.std.proofs.KnownBytes.{Consumes-nil, Appends-nil, Consumes-trans, Appends-trans, Appends-kept}
 use Rattle.mc_command.specs.declared.step.KeyStep.{KeyStep}
 use Rattle.mc_command.specs.declared.reply.Reply.{Reply}
-use Rattle.mc_session.specs.Turns.{SessionState, TakesTurn, fed, opened, NoTurnDue, sent}
+use Rattle.mc_session.specs.Turns.{SessionState, TakesTurn, DecidesStep, fed, opened, sent}
 use Rattle.mc_session.specs.Serving.{Run, nothing, turn, Serves, ServesAll, ServesUntilRefused}
 use Rattle.mc_session.specs.Rounds.{with_written, Writes, Reads, fed_piece, read_nothing, HasEnded, HasServed, GoesOn, IsRefused}
-use Rattle.mc_session.proofs.RunLemmas.{run_more, turn_written, fed-fed, fed-with_written}
+use Rattle.mc_session.proofs.RunLemmas.{run_more, turn_written, decides_written, fed-fed, fed-with_written}
 
 -- known bytes that stay lose none
 pub Consumes-kept : (old new : Option (List ℕ)) → Keeps old new → Consumes old new []
@@ -133,13 +133,13 @@ module _ {S : Type 0} (took : S → KeyStep → ℕ → Reply → S → Type 0) 
       record { between = before; serves = serves greatest first before reader_old reader writer_old writer old served; decided = inl same }
 
   -- refused after a step was decided
-  pub refused_decided : (now : ℕ) → may_give now → (old new : SessionState) (before after : S) (reader writer : Option (List ℕ)) → TakesTurn took spent now old new before after → IsRefused took spent may_give old before after reader reader writer writer
+  pub refused_decided : (now : ℕ) → may_give now → (old : SessionState) (before after : S) (reader writer : Option (List ℕ)) → DecidesStep took now old before after → IsRefused took spent may_give old before after reader reader writer writer
   unfolding serves
-  refused_decided now gives old new before after reader writer taken greatest first reader_old writer_old served =
+  refused_decided now gives old before after reader writer decides greatest first reader_old writer_old served =
       record {
         between = before;
         serves = serves greatest first before reader_old reader writer_old writer old served;
-        decided = inr (now, gives, with_written served.written new, turn_written took spent now old new before after served.written taken);
+        decided = inr (now, gives, decides_written took spent now old before after served.written decides);
       }
 
   -- refused while a piece that was read is fed
@@ -180,10 +180,10 @@ module _ {S : Type 0} (took : S → KeyStep → ℕ → Reply → S → Type 0) 
       (wrote {old = old} {mid = mid} {new = new} {before = before} {after = after} {writer_old = writer_old} {writer_new = writer_new} reader_old same same_store writes greatest first reader writer served)
 
   -- memory ran out in a turn
-  pub turn_refused : {now : ℕ} {old : SessionState} {before after : S} (decided : Bool) (reader writer : Option (List ℕ)) → may_give now → (IsFalse decided → after ≡ before) → (IsTrue decided → (new : SessionState) × TakesTurn took spent now old new before after)
+  pub turn_refused : {now : ℕ} {old : SessionState} {before after : S} (decided : Bool) (reader writer : Option (List ℕ)) → may_give now → (IsFalse decided → after ≡ before) → (IsTrue decided → DecidesStep took now old before after)
       → IsRefused took spent may_give old before after reader reader writer writer
-  turn_refused {now = now} {old = old} {before = before} {after = after} true reader writer gives undecided taken = let step = taken refl in refused_decided now gives old step.0 before after reader writer step.1
-  turn_refused {now = now} {old = old} {before = before} {after = after} false reader writer gives undecided taken = refused_undecided old before after reader writer (undecided refl)
+  turn_refused {now = now} {old = old} {before = before} {after = after} true reader writer gives undecided decides = refused_decided now gives old before after reader writer (decides refl)
+  turn_refused {now = now} {old = old} {before = before} {after = after} false reader writer gives undecided decides = refused_undecided old before after reader writer (undecided refl)
 
 -- what follows from a fact of an outcome
 pub on_ok : {T E : Type 0} (A B : Type 0) (r : Result T E) → (A → B) → OnOk r A → OnOk r B

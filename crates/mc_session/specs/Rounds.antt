@@ -4,7 +4,7 @@ use Rattle.std.specs.Io.KnownBytes.{Appends, Consumes, IsAtEnd}
 use Rattle.mc_command.specs.declared.step.KeyStep.{KeyStep}
 use Rattle.mc_command.specs.declared.reply.Reply.{Reply}
 use Rattle.mc_session.specs.Turns.{SessionState, opened, fed, NoTurnDue}
-use Rattle.mc_session.specs.Serving.{Run, Serves, ServesUntilRefused}
+use Rattle.mc_session.specs.Serving.{Run, ServesUntilRefused}
 
 -- the session with what was written of its output still in front
 abbrev pub with_written : List ℕ → SessionState → SessionState

@@ -3,7 +3,7 @@ use Rattle.std.specs.Prelude.{◌≡◌, ◌⊎◌, ℕ, List, ◌++◌, Option,
 use Rattle.std.specs.Io.KnownBytes.{Appends, Consumes, IsAtEnd}
 use Rattle.mc_command.specs.declared.step.KeyStep.{KeyStep}
 use Rattle.mc_command.specs.declared.reply.Reply.{Reply}
-use Rattle.mc_session.specs.Turns.{SessionState, opened, fed, TakesTurn, NoTurnDue}
+use Rattle.mc_session.specs.Turns.{SessionState, opened, fed, TakesTurn, DecidesStep, NoTurnDue}
 
 module _ {S : Type 0} (took : S → KeyStep → ℕ → Reply → S → Type 0) (spent : S → KeyStep → ℕ → Type 0) (may_give : ℕ → Type 0) where
   -- turns one after another, each at a moment that the clock may give
@@ -36,4 +36,4 @@ module _ {S : Type 0} (took : S → KeyStep → ℕ → Reply → S → Type 0) 
   pub record ServesUntilRefused (greatest : ℕ) (before after : S) (reader_old reader_new writer_old writer_new : Option (List ℕ)) : Type 0 where
     pub between : S
     pub serves : Serves greatest before between reader_old reader_new writer_old writer_new
-    pub decided : (after ≡ between) ⊎ ((now : ℕ) × may_give now × (last : SessionState) × TakesTurn took spent now serves.last last between after)
+    pub decided : (after ≡ between) ⊎ ((now : ℕ) × may_give now × DecidesStep took now serves.last between after)
