@@ -1,5 +1,5 @@
 -- The turns of a session.
-use Rattle.std.specs.Prelude.{◌≡◌, ◌⊎◌, ℕ, ◌+◌, ◌<◌, ◌==◌, Bool, true, false, List, [], ◌++◌, length, drop, max, if◌then◌else◌, Some, IsTrue, slice_get, MatchOption}
+use Rattle.std.specs.Prelude.{◌≡◌, ◌⊎◌, ℕ, zero, suc, ◌+◌, ◌<◌, ◌==◌, Bool, true, false, List, [], ◌∷◌, ◌++◌, length, drop, max, if◌then◌else◌, Some, IsTrue, slice_get, MatchOption}
 use Rattle.mc_command.specs.Commands.{steps}
 use Rattle.mc_command.specs.declared.command.Command.{Command}
 use Rattle.mc_command.specs.declared.step.KeyStep.{KeyStep}
@@ -23,6 +23,16 @@ abbrev pub turn_count : ProtocolUnit → ℕ
 turn_count (Request command) = max 1 (length (steps command))
 turn_count (Fault fault) = 1
 turn_count LongLine = 1
+
+-- so many turns of a unit, from turn `at` on
+abbrev pub turns_from : ProtocolUnit → (at count : ℕ) → List (ProtocolUnit × ℕ)
+turns_from unit at zero = []
+turns_from unit at (suc count) = (unit, at) ∷ turns_from unit (at + 1) count
+
+-- the turns of units: of each unit its turns, one after another
+abbrev pub turns : List ProtocolUnit → List (ProtocolUnit × ℕ)
+turns [] = []
+turns (unit ∷ units) = turns_from unit 0 (turn_count unit) ++ turns units
 
 module _ {S : Type 0} (took : S → KeyStep → ℕ → Reply → S → Type 0) (spent : S → KeyStep → ℕ → Type 0) where
   -- a step is answered with the text of its reply, or its unique numbers are spent
