@@ -1,15 +1,13 @@
 -- What is left of a connection, over a piece, a turn and an end.
-use Rattle.std.proofs.Common.{◌≡◌, ◌⊎◌, inl, inr, ℕ, zero, suc, ◌+◌, ◌-◌, ◌<◌, ◌≤◌, ◌==◌, Bool, true, false, not, List, [], ◌∷◌, ◌++◌, length, drop, Option, Some, None, refl, sym, ap, ◌∙◌, subst, arith, length-append, length-drop, append_assoc, if◌then◌else◌}
+use Rattle.std.proofs.Common.{◌≡◌, ℕ, zero, suc, ◌+◌, ◌-◌, ◌<◌, ◌==◌, Bool, true, false, not, List, [], ◌∷◌, ◌++◌, length, drop, Option, Some, None, refl, sym, ap, ◌∙◌, subst, arith, length-append, length-drop, append_assoc, if◌then◌else◌}
 use Rattle.std.specs.List.{slice_get}
 use Rattle.std.specs.Bool.{MatchBool}
-use Rattle.std.proofs.Math.ListN.{drop_of_length-le}
-use Rattle.std.proofs.lemmas.Bool.{cases_lt, eqb-true, eqb-false}
+use Rattle.std.proofs.lemmas.Bool.{eqb-true, eqb-false}
 use Rattle.std.proofs.lemmas.List.{drop-append-le, append-nil}
 use Rattle.std.proofs.lemmas.Option.{slice_get_past}
 use Rattle.mc_command.specs.declared.step.KeyStep.{KeyStep}
 use Rattle.mc_command.specs.declared.reply.Reply.{Reply}
 use Rattle.mc_parse.specs.Units.{ProtocolUnit, Spells}
-use Rattle.mc_parse.specs.Peeks.{BeginsWithNone}
 use Rattle.mc_parse.specs.Streams.{AreUnits, is_last, passed_after}
 use Rattle.mc_parse.specs.Feeds.{Unread, settled, pushed}
 use Rattle.mc_parse.proofs.StreamLemmas.{some_units, spelling_some}
