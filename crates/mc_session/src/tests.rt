@@ -6,13 +6,26 @@ use std::io::{self, ErrorKind, Read, Write};
 use std::process::Abort;
 use std::test::Fail;
 
-const GREATEST: u64 = 1048576;
+/// The greatest charge: a block of 51 bytes under a key of one byte.
+const GREATEST: u64 = 100;
 
 /// More calls than a test makes.
 const NEVER: usize = 10000;
 
 /// What is read, and what must be written.
-const ROWS: [(&str, &str); 9] = [
+const ROWS: [(&str, &str); 12] = [
+    (
+        "set a 5 0 3\r\nabc\r\nadd a 0 0 1\r\nx\r\nreplace a 7 0 1\r\nb\r\nappend a 0 0 1\r\nc\r\nprepend a 0 0 1\r\na\r\nget a\r\n",
+        "STORED\r\nNOT_STORED\r\nSTORED\r\nSTORED\r\nSTORED\r\nVALUE a 7 3\r\nabc\r\nEND\r\n",
+    ),
+    (
+        "set a 0 0 1\r\n9\r\nincr a 3\r\ndecr a 2\r\ntouch a 60\r\ngat 0 a\r\ndelete a\r\nflush_all\r\nget a\r\n",
+        "STORED\r\n12\r\n10\r\nTOUCHED\r\nVALUE a 0 2\r\n10\r\nEND\r\nDELETED\r\nOK\r\nEND\r\n",
+    ),
+    (
+        "set a 0 0 1\r\nx\r\ngets a\r\ncas a 0 0 1 1\r\ny\r\ncas a 0 0 1 1\r\nz\r\n",
+        "STORED\r\nVALUE a 0 1 1\r\nx\r\nEND\r\nSTORED\r\nEXISTS\r\n",
+    ),
     ("", ""),
     (
         "set a 5 0 3\r\nabc\r\nget a\r\n",
@@ -21,10 +34,6 @@ const ROWS: [(&str, &str); 9] = [
     (
         "set e 0 0 0\r\n\r\nget e\r\n",
         "STORED\r\nVALUE e 0 0\r\n\r\nEND\r\n",
-    ),
-    (
-        "set a 0 0 1\r\nx\r\ngets a\r\ncas a 0 0 1 1\r\ny\r\ncas a 0 0 1 1\r\nz\r\n",
-        "STORED\r\nVALUE a 0 1 1\r\nx\r\nEND\r\nSTORED\r\nEXISTS\r\n",
     ),
     (
         "set a 0 0 3\r\nabcdef\r\n",
@@ -39,6 +48,10 @@ const ROWS: [(&str, &str); 9] = [
     (
         "\r\nfoo\r\nget\r\nversion\n  version  \r\n",
         "ERROR\r\nERROR\r\nERROR\r\nVERSION 1.6.0\r\nVERSION 1.6.0\r\n",
+    ),
+    (
+        "set a 0 0 52\r\n0123456789\r\nget a\r\n012345678901234567890123456789012\r\nget a\r\n",
+        "SERVER_ERROR object too large for cache\r\nEND\r\n",
     ),
 ];
 
@@ -120,20 +133,29 @@ fn run(
     Ok((ended, writer.taken))
 }
 
-/// What a run that is well writes. A test may refuse one growth: what was written then is a beginning.
-fn written(rt: &impl Abort, alloc: Global, input: &[u8]) -> Result<Vec<u8>, Fail> {
-    if let Ok((ended, part)) = run(alloc, input, NEVER, NEVER) {
-        if ended.is_ok() {
-            return Ok(part);
-        }
-        let (again, whole) = run(alloc, input, NEVER, NEVER)?;
-        assert!(rt; matches!(ended, Err(ServeFault::NoMemory)));
-        assert!(rt; again.is_ok());
-        assert!(rt; whole.as_slice().starts_with(part.as_slice()));
-        return Ok(whole);
+/// The same where a growth may be refused before the run: at most one is in a test.
+fn run_once(
+    alloc: Global,
+    input: &[u8],
+    reads: usize,
+    writes: usize,
+) -> Result<(Result<(), ServeFault>, Vec<u8>), AllocError> {
+    if let Ok(ran) = run(alloc, input, reads, writes) {
+        return Ok(ran);
     }
-    let (ended, whole) = run(alloc, input, NEVER, NEVER)?;
-    assert!(rt; ended.is_ok());
+    run(alloc, input, reads, writes)
+}
+
+/// What a run that is well writes. Where a growth was refused, what was written is a beginning of that.
+fn written(rt: &impl Abort, alloc: Global, input: &[u8]) -> Result<Vec<u8>, Fail> {
+    let (ended, part) = run_once(alloc, input, NEVER, NEVER)?;
+    if ended.is_ok() {
+        return Ok(part);
+    }
+    assert!(rt; matches!(ended, Err(ServeFault::NoMemory)));
+    let (again, whole) = run(alloc, input, NEVER, NEVER)?;
+    assert!(rt; again.is_ok());
+    assert!(rt; whole.as_slice().starts_with(part.as_slice()));
     Ok(whole)
 }
 
@@ -148,14 +170,17 @@ fn rows_are_written(rt: HostRuntime) -> Result<(), Fail> {
 
 #[test]
 fn a_failed_read_leaves_what_came_before_answered(rt: HostRuntime) -> Result<(), Fail> {
-    for (input, _) in ROWS {
+    for (input, output) in ROWS {
         let input = input.as_bytes();
-        for reads in 0..input.len() {
+        for reads in 0..=input.len() {
             let (came, _) = input.split_at(reads);
-            let (ended, out) = run(rt.alloc(), input, reads, NEVER)?;
-            // A session that was closed reads no further.
-            assert!(rt; matches!(ended, Ok(()) | Err(ServeFault::Read)));
-            assert_eq!(rt; out, written(&rt, rt.alloc(), came)?, "after {reads}");
+            let (ended, out) = run_once(rt.alloc(), input, reads, NEVER)?;
+            assert!(rt; output.as_bytes().starts_with(out.as_slice()));
+            if !matches!(ended, Err(ServeFault::NoMemory)) {
+                // A session that was closed reads no further.
+                assert!(rt; matches!(ended, Ok(()) | Err(ServeFault::Read)));
+                assert_eq!(rt; out, written(&rt, rt.alloc(), came)?, "after {reads}");
+            }
         }
     }
     Ok(())
@@ -167,15 +192,19 @@ fn a_failed_write_leaves_a_beginning(rt: HostRuntime) -> Result<(), Fail> {
         let output = output.as_bytes();
         for writes in 0..output.len() {
             let (front, _) = output.split_at(writes);
-            let (ended, out) = run(rt.alloc(), input.as_bytes(), NEVER, writes)?;
-            assert!(rt; matches!(ended, Err(ServeFault::Write)));
-            assert_eq!(rt; out.as_slice(), front);
+            let (ended, out) = run_once(rt.alloc(), input.as_bytes(), NEVER, writes)?;
+            if matches!(ended, Err(ServeFault::NoMemory)) {
+                assert!(rt; front.starts_with(out.as_slice()));
+            } else {
+                assert!(rt; matches!(ended, Err(ServeFault::Write)));
+                assert_eq!(rt; out.as_slice(), front);
+            }
         }
     }
     Ok(())
 }
 
-/// Feeds a session, and takes so many turns of it.
+/// Feeds a session, and takes so many turns of it. A refused turn closes the session.
 fn turns(
     rt: &impl Abort,
     alloc: Global,
@@ -183,28 +212,30 @@ fn turns(
     store: &mut PlainStore,
     piece: &str,
     count: usize,
-) -> Result<(), Fail> {
+) -> Result<(), AllocError> {
     session.feed(piece.as_bytes())?;
     for _ in 0..count {
         assert!(rt; !session.is_idle());
         let turn = session.turn(alloc, store, Moment::from_seconds(1000));
+        if turn.is_err() {
+            assert!(rt; session.is_closed());
+            return Err(AllocError);
+        }
         assert!(rt; matches!(turn, Ok(Turn::Did)));
     }
     Ok(())
 }
 
-#[test]
-fn keys_of_a_get_take_a_turn_each(rt: HostRuntime) -> Result<(), Fail> {
-    let alloc = rt.alloc();
+fn keys_take_turns(rt: &impl Abort, alloc: Global) -> Result<(), AllocError> {
     let mut store = PlainStore::new(alloc, 1, GREATEST)?;
     let mut reading = Session::new(alloc, GREATEST);
     let mut writing = Session::new(alloc, GREATEST);
     let ones = "set a 0 0 1\r\n1\r\nset b 0 0 1\r\n1\r\n";
-    turns(&rt, alloc, &mut writing, &mut store, ones, 2)?;
-    turns(&rt, alloc, &mut reading, &mut store, "get a b\r\n", 1)?;
+    turns(rt, alloc, &mut writing, &mut store, ones, 2)?;
+    turns(rt, alloc, &mut reading, &mut store, "get a b\r\n", 1)?;
     let twos = "set a 0 0 1\r\n2\r\nset b 0 0 1\r\n2\r\n";
-    turns(&rt, alloc, &mut writing, &mut store, twos, 2)?;
-    turns(&rt, alloc, &mut reading, &mut store, "", 1)?;
+    turns(rt, alloc, &mut writing, &mut store, twos, 2)?;
+    turns(rt, alloc, &mut reading, &mut store, "", 1)?;
     assert_eq!(rt;
         reading.out(),
         b"VALUE a 0 1\r\n1\r\nVALUE b 0 1\r\n2\r\nEND\r\n".as_slice()
@@ -217,5 +248,98 @@ fn keys_of_a_get_take_a_turn_each(rt: HostRuntime) -> Result<(), Fail> {
     assert!(rt; writing.is_closed());
     let turn = writing.turn(alloc, &mut store, Moment::from_seconds(1000));
     assert!(rt; matches!(turn, Ok(Turn::Closed)));
+    Ok(())
+}
+
+#[test]
+fn keys_of_a_get_take_a_turn_each(rt: HostRuntime) -> Result<(), Fail> {
+    if keys_take_turns(&rt, rt.alloc()).is_err() {
+        keys_take_turns(&rt, rt.alloc())?;
+    }
+    Ok(())
+}
+
+/// What `get a` answers before the steps.
+const BEFORE: &str = "VALUE a 0 1\r\n1\r\nEND\r\n";
+
+/// A command, its text, and what `get a` answers after its step.
+const STEPS: [(&str, &str, &str); 9] = [
+    ("get a\r\n", BEFORE, BEFORE),
+    (
+        "set a 7 0 1\r\n2\r\n",
+        "STORED\r\n",
+        "VALUE a 7 1\r\n2\r\nEND\r\n",
+    ),
+    (
+        "append a 0 0 1\r\n2\r\n",
+        "STORED\r\n",
+        "VALUE a 0 2\r\n12\r\nEND\r\n",
+    ),
+    (
+        "cas a 0 0 1 1\r\n2\r\n",
+        "STORED\r\n",
+        "VALUE a 0 1\r\n2\r\nEND\r\n",
+    ),
+    ("incr a 8\r\n", "9\r\n", "VALUE a 0 1\r\n9\r\nEND\r\n"),
+    ("delete a\r\n", "DELETED\r\n", "END\r\n"),
+    ("flush_all\r\n", "OK\r\n", "END\r\n"),
+    ("version\r\n", "VERSION 1.6.0\r\n", BEFORE),
+    ("foo\r\n", "ERROR\r\n", BEFORE),
+];
+
+/// What a session of its own answers.
+fn asks(
+    rt: &impl Abort,
+    alloc: Global,
+    store: &mut PlainStore,
+    command: &str,
+    text: &str,
+) -> Result<(), AllocError> {
+    let mut session = Session::new(alloc, GREATEST);
+    turns(rt, alloc, &mut session, store, command, 1)?;
+    assert_eq!(rt; session.out(), text.as_bytes(), "at {command}");
+    Ok(())
+}
+
+/// Takes a step behind another turn. Where its turn is refused the session closes with the text of the other, and the
+/// step stands exactly where the fault says so. An error is a growth that was refused elsewhere.
+fn step_is_taken(
+    rt: &impl Abort,
+    alloc: Global,
+    command: &str,
+    text: &str,
+    after: &str,
+) -> Result<(), AllocError> {
+    let mut store = PlainStore::new(alloc, 1, GREATEST)?;
+    asks(rt, alloc, &mut store, "set a 0 0 1\r\n1\r\n", "STORED\r\n")?;
+    let mut session = Session::new(alloc, GREATEST);
+    turns(rt, alloc, &mut session, &mut store, "foo\r\n", 1)?;
+    if session.feed(command.as_bytes()).is_err() {
+        assert!(rt; session.is_idle());
+        session.feed(command.as_bytes())?;
+    }
+    let holds = match session.turn(alloc, &mut store, Moment::from_seconds(1000)) {
+        Ok(_) => {
+            assert!(rt; session.is_idle() && session.out().starts_with(b"ERROR\r\n"));
+            session.sent(7);
+            assert_eq!(rt; session.out(), text.as_bytes(), "at {command}");
+            after
+        }
+        Err(fault) => {
+            assert!(rt; session.is_closed());
+            assert_eq!(rt; session.out(), b"ERROR\r\n".as_slice(), "at {command}");
+            if fault.decided { after } else { BEFORE }
+        }
+    };
+    asks(rt, alloc, &mut store, "get a\r\n", holds)
+}
+
+#[test]
+fn a_refused_turn_tells_whether_its_step_stands(rt: HostRuntime) -> Result<(), Fail> {
+    for (command, text, after) in STEPS {
+        if step_is_taken(&rt, rt.alloc(), command, text, after).is_err() {
+            step_is_taken(&rt, rt.alloc(), command, text, after)?;
+        }
+    }
     Ok(())
 }
