@@ -7,3 +7,4 @@ pub mod KeyLemmas
 pub mod RetrievalLemmas
 pub mod CursorLemmas
 pub mod FeedLemmas
+pub mod FoundLemmas
