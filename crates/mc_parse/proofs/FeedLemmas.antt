@@ -6,6 +6,7 @@ use Rattle.std.proofs.Math.ListN.{drop_of_length-le}
 use Rattle.std.proofs.lemmas.Bool.{cases_lt}
 use Rattle.std.proofs.lemmas.List.{append-nil, drop-append-le, append_assoc}
 use Rattle.mc_parse.specs.declared.cursor.Cursor.{Cursor}
+use Rattle.mc_parse.specs.declared.progress.Progress.{Progress}
 use Rattle.mc_parse.specs.Units.{ProtocolUnit}
 use Rattle.mc_parse.specs.Peeks.{BeginsWithNone, IsSpelled, IsLeft, left_of}
 use Rattle.mc_parse.specs.Feeds.{Unread, pushed, settled, IsSettled, IsKept}
@@ -25,15 +26,15 @@ abbrev unread : ℕ → ℕ → List ℕ → Unread
 unread greatest passed bytes = record { greatest = greatest; passed = passed; bytes = bytes }
 
 -- no byte is unread while some are to be passed over
-pub kept_settled : (greatest passed start : ℕ) (cursor : Option Cursor) (buffer : List ℕ) → IsKept greatest passed start cursor buffer → IsSettled (unread greatest passed (drop start buffer))
-kept_settled greatest passed start cursor buffer kept = elim kept.settled as (λ _. IsSettled (unread greatest passed (drop start buffer))) [
+pub kept_settled : (greatest passed start : ℕ) (cursor : Option Cursor) (progress : Progress) (buffer : List ℕ) → IsKept greatest passed start cursor progress buffer → IsSettled (unread greatest passed (drop start buffer))
+kept_settled greatest passed start cursor progress buffer kept = elim kept.settled as (λ _. IsSettled (unread greatest passed (drop start buffer))) [
   | inl none ↦ inl none
   | inr all ↦ inr (drop_of_length-le buffer (omega arith))
 ]
 
 -- so no front spells anything then
-pub none_yet : (greatest passed start : ℕ) (cursor : Option Cursor) (buffer bytes : List ℕ) → IsKept greatest passed start cursor buffer → 0 < passed → bytes ≡ drop start buffer → BeginsWithNone greatest (drop passed bytes)
-none_yet greatest passed start cursor buffer bytes kept some is =
+pub none_yet : (greatest passed start : ℕ) (cursor : Option Cursor) (progress : Progress) (buffer bytes : List ℕ) → IsKept greatest passed start cursor progress buffer → 0 < passed → bytes ≡ drop start buffer → BeginsWithNone greatest (drop passed bytes)
+none_yet greatest passed start cursor progress buffer bytes kept some is =
     let read : length buffer ≤ start = elim kept.settled as (λ _. length buffer ≤ start) [
       | inl none ↦ absurd (omega arith)
       | inr all ↦ omega arith

@@ -1,7 +1,8 @@
 ghost use Rattle.std.specs.Prelude.{◌≡◌, ◌≤◌, ◌-◌, [], drop, length, IsTrue};
 
 use crate::cursor::{Cursor, cursor_after};
-use crate::peek::{Peek, peek_at};
+use crate::peek::Peek;
+use crate::progress::Progress;
 use mc_command::LineFault;
 use std::alloc::{AllocError, Global};
 use std::marker::Model;
@@ -19,6 +20,8 @@ pub struct Feed {
     start: usize,
     /// Where the retrieval stands that the unread bytes begin with, if turns of it were noted.
     cursor: Option<Cursor>,
+    /// How far the unread bytes were looked at before the last piece came.
+    progress: Progress,
 }
 
 impl Model for Feed {
@@ -29,7 +32,7 @@ impl Model for Feed {
 
     ghost view = { λ f. record { greatest = f.greatest; passed = f.passed; bytes = drop f.start f.buffer.items } };
 
-    ghost invariant = { λ f. IsKept f.greatest f.passed f.start f.cursor f.buffer.items };
+    ghost invariant = { λ f. IsKept f.greatest f.passed f.start f.cursor f.progress f.buffer.items };
 }
 
 impl Feed {
@@ -52,6 +55,7 @@ impl Feed {
             buffer: Vec::new(alloc),
             start: 0,
             cursor: None,
+            progress: Progress::none(),
         }
     }
 
@@ -60,12 +64,10 @@ impl Feed {
         ensures ok { OnOk result (self.new ≡ pushed self.old piece.now) }
         ensures err { OnErr result (self.new ≡ self.old) }
     {
+        self.note_progress();
+        self.make_room(piece.len());
         let skipped = (piece.len() as u64).min(self.passed);
         let (_, kept) = piece.split_at(skipped as usize);
-        if wants_room(&self.buffer, self.start, kept.len()) {
-            drop_front(&mut self.buffer, self.start);
-            self.start = 0;
-        }
         self.buffer.extend_from_slice(kept)?;
         self.passed -= skipped;
         Ok(())
@@ -130,6 +132,7 @@ impl Feed {
     {
         let left = self.held() - len;
         self.cursor = None;
+        self.progress = Progress::none();
         let dropped = passed.min(left as u64);
         self.passed = passed - dropped;
         self.start += len + dropped as usize;
@@ -147,6 +150,7 @@ impl Feed {
         self.start = 0;
         self.passed = 0;
         self.cursor = None;
+        self.progress = Progress::none();
     }
 
     /// How many bytes are unread. Bytes that are passed over are never held.
@@ -157,6 +161,24 @@ impl Feed {
         self.buffer.len() - self.start
     }
 
+    /// Notes how far the unread bytes were looked at, so that they needn't be read again when more come.
+    fn note_progress(&mut self)
+        ensures { self.new ≡ self.old }
+    {
+        let progress = self.progress.after(self.greatest, self.unread());
+        self.progress = progress;
+    }
+
+    /// Drops the front that was read, where so many bytes find no room behind it.
+    fn make_room(&mut self, added: usize)
+        ensures { self.new ≡ self.old }
+    {
+        if wants_room(&self.buffer, self.start, added) {
+            drop_front(&mut self.buffer, self.start);
+            self.start = 0;
+        }
+    }
+
     /// The same as `peek`. What else is said there follows from the two clauses.
     fn first_unit(&self) -> Peek<'_>
         ensures found { IfSome (unit_of result) (λ found. (self.now.passed ≡ 0) × IsSpelled self.now.greatest found self.now.bytes) }
@@ -165,7 +187,7 @@ impl Feed {
         if self.passed > 0 {
             return Peek::More;
         }
-        peek_at(self.greatest, self.unread())
+        self.progress.peek(self.greatest, self.unread())
     }
 
     /// The same as `peek_after`.

@@ -9,6 +9,7 @@ mod line;
 mod line_laws;
 mod name;
 mod peek;
+mod progress;
 
 pub use feed::Feed;
 pub use laws::{
