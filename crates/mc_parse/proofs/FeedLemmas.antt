@@ -1,13 +1,15 @@
 -- What a feed holds after its pieces.
-use Rattle.std.proofs.Common.{◌≡◌, ◌<◌, ◌≤◌, ◌+◌, ◌-◌, ℕ, ◌⊎◌, inl, inr, List, [], ◌++◌, length, drop, refl, sym, ap, ◌∙◌, subst, arith, length-append, length-drop, Option, Some, None, IfSome}
+use Rattle.std.proofs.Common.{◌≡◌, ◌<◌, ◌≤◌, ◌+◌, ◌-◌, ℕ, ◌⊎◌, inl, inr, List, [], ◌∷◌, ◌++◌, length, drop, refl, sym, ap, ◌∙◌, subst, arith, length-append, length-drop, Option, Some, None, IfSome}
+use Rattle.std.specs.List.{fold, concat}
 use Rattle.std.proofs.Math.Seq.{drop-append-add, drop-nil}
 use Rattle.std.proofs.Math.ListN.{drop_of_length-le}
 use Rattle.std.proofs.lemmas.Bool.{cases_lt}
-use Rattle.std.proofs.lemmas.List.{drop-append-le, append_assoc}
+use Rattle.std.proofs.lemmas.List.{append-nil, drop-append-le, append_assoc}
 use Rattle.mc_parse.specs.declared.cursor.Cursor.{Cursor}
+use Rattle.mc_parse.specs.declared.progress.Progress.{Progress}
 use Rattle.mc_parse.specs.Units.{ProtocolUnit}
 use Rattle.mc_parse.specs.Peeks.{BeginsWithNone, IsSpelled, IsLeft, left_of}
-use Rattle.mc_parse.specs.Feeds.{Unread, pushed, IsSettled, IsKept}
+use Rattle.mc_parse.specs.Feeds.{Unread, pushed, settled, IsSettled, IsKept}
 use Rattle.mc_parse.proofs.UnitLemmas.{none_in}
 
 -- bytes are passed over of what came first, and then of what came later
@@ -24,15 +26,15 @@ abbrev unread : ℕ → ℕ → List ℕ → Unread
 unread greatest passed bytes = record { greatest = greatest; passed = passed; bytes = bytes }
 
 -- no byte is unread while some are to be passed over
-pub kept_settled : (greatest passed start : ℕ) (cursor : Option Cursor) (buffer : List ℕ) → IsKept greatest passed start cursor buffer → IsSettled (unread greatest passed (drop start buffer))
-kept_settled greatest passed start cursor buffer kept = elim kept.settled as (λ _. IsSettled (unread greatest passed (drop start buffer))) [
+pub kept_settled : (greatest passed start : ℕ) (cursor : Option Cursor) (progress : Progress) (buffer : List ℕ) → IsKept greatest passed start cursor progress buffer → IsSettled (unread greatest passed (drop start buffer))
+kept_settled greatest passed start cursor progress buffer kept = elim kept.settled as (λ _. IsSettled (unread greatest passed (drop start buffer))) [
   | inl none ↦ inl none
   | inr all ↦ inr (drop_of_length-le buffer (omega arith))
 ]
 
 -- so no front spells anything then
-pub none_yet : (greatest passed start : ℕ) (cursor : Option Cursor) (buffer bytes : List ℕ) → IsKept greatest passed start cursor buffer → 0 < passed → bytes ≡ drop start buffer → BeginsWithNone greatest (drop passed bytes)
-none_yet greatest passed start cursor buffer bytes kept some is =
+pub none_yet : (greatest passed start : ℕ) (cursor : Option Cursor) (progress : Progress) (buffer bytes : List ℕ) → IsKept greatest passed start cursor progress buffer → 0 < passed → bytes ≡ drop start buffer → BeginsWithNone greatest (drop passed bytes)
+none_yet greatest passed start cursor progress buffer bytes kept some is =
     let read : length buffer ≤ start = elim kept.settled as (λ _. length buffer ≤ start) [
       | inl none ↦ absurd (omega arith)
       | inr all ↦ omega arith
@@ -56,3 +58,24 @@ pushed_twice u piece more =
     passed_along u.passed first more (cases_lt u.passed (length first)) ∙ ap (drop u.passed) joined in
     ap (λ n. unread u.greatest n (drop (u.passed - length first) (drop u.passed first ++ more))) count
     ∙ ap (unread u.greatest (u.passed - length (u.bytes ++ (piece ++ more)))) kept
+
+-- of what is settled no byte is unread while some are to be passed over
+settled_stays : (u : Unread) → (u.passed < length u.bytes) ⊎ (length u.bytes ≤ u.passed) → IsSettled (settled u)
+settled_stays u (inl within) = inl (omega arith)
+settled_stays u (inr beyond) = inr (drop_of_length-le u.bytes beyond)
+
+-- and no bytes change nothing of it
+pushed_none : (u : Unread) → IsSettled u → pushed u [] ≡ u
+pushed_none u (inl none) =
+    let nothing : u.passed - length u.bytes ≡ 0 = omega arith in
+    rw (append-nil u.bytes, nothing, none) refl
+pushed_none u (inr nothing) =
+    let all : u.passed - 0 ≡ u.passed = omega arith in
+    rw (append-nil u.bytes, nothing, drop-nil u.passed) (ap (λ n. unread u.greatest n []) all)
+
+-- so do any number of pieces
+pub pushed_all : (u : Unread) (pieces : List (List ℕ)) → IsSettled u → fold pushed u pieces ≡ pushed u (concat pieces)
+pushed_all u [] is = sym (pushed_none u is)
+pushed_all u (piece ∷ pieces) is =
+    let all : Unread = record u { bytes = u.bytes ++ piece } in
+    pushed_all (pushed u piece) pieces (settled_stays all (cases_lt all.passed (length all.bytes))) ∙ pushed_twice u piece (concat pieces)

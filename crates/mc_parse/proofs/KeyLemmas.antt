@@ -69,14 +69,14 @@ left_command greatest taken bytes (Request whole) command len is left =
 left_command greatest taken bytes (Fault fault) command len is left = absurd (cc)
 left_command greatest taken bytes LongLine command len is left = absurd (cc)
 
--- whatever was found, its keys are short
-pub found_keys : (greatest : ℕ) (bytes : List ℕ) (found : Option (ProtocolUnit × ℕ)) → IfSome found (λ p. IsSpelled greatest p bytes) → (command : Command) (len : ℕ) → found ≡ Some (Request command, len) → HasShortKeys command
-found_keys greatest bytes found is command len e =
-    let h : IsSpelled greatest (Request command, len) bytes = subst (λ o. IfSome o (λ p. IsSpelled greatest p bytes)) e is in
-    spelled_keys greatest command len bytes h
+-- so the keys of what was found are short
+pub found_keys : (greatest passed : ℕ) (bytes : List ℕ) (found : Option (ProtocolUnit × ℕ)) → IfSome found (λ p. (passed ≡ 0) × IsSpelled greatest p bytes) → (command : Command) (len : ℕ) → found ≡ Some (Request command, len) → HasShortKeys command
+found_keys greatest passed bytes found is command len e =
+    let h : (passed ≡ 0) × IsSpelled greatest (Request command, len) bytes = subst (λ o. IfSome o (λ p. (passed ≡ 0) × IsSpelled greatest p bytes)) e is in
+    spelled_keys greatest command len bytes h.1
 
 -- and so they are where it is what is left of a unit
-pub left_found_keys : (greatest taken : ℕ) (bytes : List ℕ) (found : Option (ProtocolUnit × ℕ)) → IfSome found (λ p. IsLeft greatest taken p bytes) → (command : Command) (len : ℕ) → found ≡ Some (Request command, len) → HasShortKeys command
-left_found_keys greatest taken bytes found is command len e =
-    let h : IsLeft greatest taken (Request command, len) bytes = subst (λ o. IfSome o (λ p. IsLeft greatest taken p bytes)) e is in
-    left_command greatest taken bytes h.unit command len h.spelled h.left
+pub left_found_keys : (greatest taken passed : ℕ) (bytes : List ℕ) (found : Option (ProtocolUnit × ℕ)) → IfSome found (λ p. (passed ≡ 0) × IsLeft greatest taken p bytes) → (command : Command) (len : ℕ) → found ≡ Some (Request command, len) → HasShortKeys command
+left_found_keys greatest taken passed bytes found is command len e =
+    let h : (passed ≡ 0) × IsLeft greatest taken (Request command, len) bytes = subst (λ o. IfSome o (λ p. (passed ≡ 0) × IsLeft greatest taken p bytes)) e is in
+    left_command greatest taken bytes h.1.unit command len h.1.spelled h.1.left

@@ -1,9 +1,12 @@
 pub mod LineLemmas
 pub mod LineWords
 pub mod UnitLemmas
+pub mod SearchLemmas
+pub mod ProgressLemmas
 pub mod BeginLemmas
 pub mod StreamLemmas
 pub mod KeyLemmas
 pub mod RetrievalLemmas
 pub mod CursorLemmas
 pub mod FeedLemmas
+pub mod FoundLemmas

@@ -1,9 +1,6 @@
 -- No spelling begins another.
-use Rattle.std.proofs.Common.{◌≡◌, ◌≢◌, ◌<◌, ◌≤◌, ◌+◌, ℕ, List, [], ◌∷◌, ◌++◌, length, take, drop, refl, sym, ap, ◌∙◌, subst, arith, Result, Ok, Err, append_assoc, length-append, get_or, Option, Some, None, IfSome}
-use Rattle.std.proofs.lemmas.List.{append-nil, take-append-drop, take_all, take-take, take_more, length-take, length-drop, length-take-le, get_or-take, get_or_default}
-use Rattle.std.proofs.lemmas.List.Elements.{recursion_from_All}
-use Rattle.std.proofs.lemmas.Bool.{eqb-true, eq-eqb}
-use Rattle.memchr.specs.Find.{IsFirstByte, Nowhere, Passes, is_byte}
+use Rattle.std.proofs.Common.{◌≡◌, ◌≢◌, ◌<◌, ◌≤◌, ◌+◌, ℕ, List, [], ◌∷◌, ◌++◌, length, take, drop, refl, sym, ap, ◌∙◌, subst, arith, Result, Ok, Err, append_assoc, length-append, Option, Some, None, IfSome}
+use Rattle.std.proofs.lemmas.List.{append-nil, take-append-drop, length-drop, length-take-le}
 use Rattle.std.proofs.Math.Seq.{take-add}
 use Rattle.std.specs.List.{AllByRecursion}
 use Rattle.std.specs.Str.Lines.{strip_carriage_return}
@@ -165,59 +162,18 @@ module _ (greatest : ℕ) (bytes : List ℕ) (end : ℕ) (line : IsLine (take (e
   pub none_line : (head : Head) (len : ℕ) → meant ≡ Ok (Block head len) → length (drop (end + 1) bytes) < len + 2 → BeginsWithNone greatest bytes
   none_line head len is few = record { none = none_at head len is few }
 
--- The search for a line feed among the first bytes.
+-- where no line feed is there is no line
 no_line : (bytes t y : List ℕ) → NoFeed bytes → bytes ≡ t ++ 10 ∷ y → ⊥
 no_line [] [] y h e = cc
 no_line [] (c ∷ t) y h e = cc
 no_line (b ∷ bytes) [] y h e = h.0 (cc)
 no_line (b ∷ bytes) (c ∷ t) y h e = no_line bytes t y h.1 (cc)
 
-feed_free : (xs : List ℕ) (n : ℕ) → n ≤ length xs → Nowhere (Passes (is_byte 10) xs) 0 n → NoFeed (take n xs)
-feed_free xs n le none =
-    recursion_from_All _ (take n xs) (λ k d h. λ is.
-    let inside : k < n = omega (arith, length-take n xs) in
-    none k (omega arith) inside (eq-eqb _ _ (sym (get_or-take n xs k 0 inside) ∙ get_or_default (take n xs) k 0 d h ∙ is)))
-
+-- so few bytes without a line feed spell nothing
 pub none_in : (greatest : ℕ) (bytes : List ℕ) → NoFeed bytes → length bytes ≤ 65536 → (unit : ProtocolUnit) (front more : List ℕ) → bytes ≡ front ++ more → Spells greatest unit front → ⊥
 none_in greatest bytes none short LongLine front more e h = omega (arith, ap length e, length-append front more, h.0)
 none_in greatest bytes none short (Request c) front more e h = no_line bytes h.text (h.rest ++ more) none (e ∙ parted front h.line h.text h.rest more h.parts h.is_line.ended)
 none_in greatest bytes none short (Fault f) front more e h = no_line bytes h.text (h.rest ++ more) none (e ∙ parted front h.line h.text h.rest more h.parts h.is_line.ended)
-
-module _ (bytes front : List ℕ) (n : ℕ) (is_front : front ≡ take n bytes) (le : n ≤ length bytes) where
-  front_len : length front ≡ n
-  front_len = ap length is_front ∙ length-take-le n bytes le
-
-  module _ (end : ℕ) (found : IsFirstByte (is_byte 10) front (Some end)) where
-    pub end_inside : end < length bytes
-    end_inside = omega (arith, found.0.high, front_len)
-
-    feed_at : get_or bytes end 0 ≡ 10
-    feed_at =
-        let inside : end < n = omega (arith, found.0.high, front_len) in
-        sym (get_or-take n bytes end 0 inside) ∙ ap (λ f. get_or f end 0) (sym is_front) ∙ eqb-true _ _ found.1
-
-    pub line_at : n ≤ 65537 → IsLine (take (end + 1) bytes) (take end bytes)
-    line_at short =
-        let inside : end < n = omega (arith, found.0.high, front_len) in
-        let none : NoFeed (take end front) = feed_free front end (omega (arith, found.0.high)) found.0.before in
-        let same : take end front ≡ take end bytes = ap (take end) is_front ∙ take-take end n bytes (omega arith) in
-        record {
-          ended = take_more bytes end 0 (omega arith) ∙ ap (λ b. take end bytes ++ b ∷ []) feed_at;
-          one_line = subst NoFeed same none;
-          short = omega (arith, length-take end bytes);
-        }
-
-  module _ (found : IsFirstByte (is_byte 10) front None) where
-    none_there : NoFeed front
-    none_there = subst NoFeed (take_all (length front) front (omega arith)) (feed_free front (length front) (omega arith) found)
-
-    pub spells_long : (greatest : ℕ) → n ≡ 65537 → Spells greatest LongLine (take 65537 bytes)
-    spells_long greatest is = subst (λ k. Spells greatest LongLine (take k bytes)) is (length-take-le n bytes le ∙ is, subst NoFeed is_front none_there)
-
-    pub none_short : (greatest : ℕ) → n ≡ length bytes → n ≤ 65536 → BeginsWithNone greatest bytes
-    none_short greatest all short =
-        let whole : front ≡ bytes = is_front ∙ ap (λ k. take k bytes) all ∙ take_all (length bytes) bytes (omega arith) in
-        record { none = none_in greatest bytes (subst NoFeed whole none_there) (omega arith) }
 
 -- whatever else a front spells is what was found
 pub found_only : (greatest : ℕ) (bytes : List ℕ) (found : Option (ProtocolUnit × ℕ)) → IfSome found (λ p. IsSpelled greatest p bytes) → (found ≡ None → BeginsWithNone greatest bytes) → (unit : ProtocolUnit) (len : ℕ) → IsSpelled greatest (unit, len) bytes → found ≡ Some (unit, len)

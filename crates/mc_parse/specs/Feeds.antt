@@ -1,7 +1,9 @@
 -- What a feed holds.
 use Rattle.std.specs.Prelude.{◌≡◌, ◌≤◌, ℕ, ◌-◌, List, [], ◌++◌, ◌⊎◌, length, drop, Option, IfSome}
 use Rattle.mc_parse.specs.declared.cursor.Cursor.{Cursor}
+use Rattle.mc_parse.specs.declared.progress.Progress.{Progress}
 use Rattle.mc_parse.specs.Cursors.{PointsInto}
+use Rattle.mc_parse.specs.Progresses.{HasProgress}
 
 -- the greatest charge, how many bytes are still to be passed over, and the bytes that came and weren't read yet
 pub record Unread : Type 0 where
@@ -26,8 +28,9 @@ abbrev pub IsSettled : Unread → Type 0
 IsSettled u = (u.passed ≡ 0) ⊎ (u.bytes ≡ [])
 
 -- How a feed keeps its bytes: of those in its buffer so many were read, none is unread while some are to be passed over,
--- and where it notes the turns that were taken, the note fits the unread bytes.
-pub record IsKept (greatest passed start : ℕ) (cursor : Option Cursor) (buffer : List ℕ) : Type 0 where
+-- and what it notes of the turns that were taken and of how far it has looked fits the unread bytes.
+pub record IsKept (greatest passed start : ℕ) (cursor : Option Cursor) (progress : Progress) (buffer : List ℕ) : Type 0 where
   pub inside : start ≤ length buffer
   pub settled : (passed ≡ 0) ⊎ (start ≡ length buffer)
   pub points : IfSome cursor (λ c. PointsInto greatest c (drop start buffer))
+  pub looked : HasProgress greatest progress (drop start buffer)

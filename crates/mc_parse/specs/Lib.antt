@@ -5,3 +5,4 @@ pub mod Peeks
 pub mod Streams
 pub mod Feeds
 pub mod Cursors
+pub mod Progresses

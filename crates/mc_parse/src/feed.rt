@@ -1,7 +1,8 @@
 ghost use Rattle.std.specs.Prelude.{◌≡◌, ◌≤◌, ◌-◌, [], drop, length, IsTrue};
 
 use crate::cursor::{Cursor, cursor_after};
-use crate::peek::{Peek, peek_at};
+use crate::peek::Peek;
+use crate::progress::Progress;
 use mc_command::LineFault;
 use std::alloc::{AllocError, Global};
 use std::marker::Model;
@@ -19,6 +20,8 @@ pub struct Feed {
     start: usize,
     /// Where the retrieval stands that the unread bytes begin with, if turns of it were noted.
     cursor: Option<Cursor>,
+    /// How far the unread bytes were looked at before the last piece came.
+    progress: Progress,
 }
 
 impl Model for Feed {
@@ -29,7 +32,7 @@ impl Model for Feed {
 
     ghost view = { λ f. record { greatest = f.greatest; passed = f.passed; bytes = drop f.start f.buffer.items } };
 
-    ghost invariant = { λ f. IsKept f.greatest f.passed f.start f.cursor f.buffer.items };
+    ghost invariant = { λ f. IsKept f.greatest f.passed f.start f.cursor f.progress f.buffer.items };
 }
 
 impl Feed {
@@ -38,7 +41,7 @@ impl Feed {
     ghost use Rattle.mc_command.specs.declared.command.Command.{Command};
     ghost use Rattle.mc_parse.specs.Units.{ProtocolUnit, Request};
     ghost use Rattle.mc_parse.specs.Streams.{passed_after};
-    ghost use Rattle.mc_parse.specs.Peeks.{unit_of, IsSpelled, IsLeft, BeginsWithNone};
+    ghost use Rattle.mc_parse.specs.Peeks.{unit_of, IsSpelled, IsLeft, BeginsWithNone, left_of};
     ghost use Rattle.mc_parse.specs.Feeds.{pushed, read, IsSettled};
 
     /// A feed of no bytes, whose storage commands may charge at most `greatest` bytes. It takes no memory.
@@ -52,6 +55,7 @@ impl Feed {
             buffer: Vec::new(alloc),
             start: 0,
             cursor: None,
+            progress: Progress::none(),
         }
     }
 
@@ -60,12 +64,10 @@ impl Feed {
         ensures ok { OnOk result (self.new ≡ pushed self.old piece.now) }
         ensures err { OnErr result (self.new ≡ self.old) }
     {
+        self.note_progress();
+        self.make_room(piece.len());
         let skipped = (piece.len() as u64).min(self.passed);
         let (_, kept) = piece.split_at(skipped as usize);
-        if wants_room(&self.buffer, self.start, kept.len()) {
-            drop_front(&mut self.buffer, self.start);
-            self.start = 0;
-        }
         self.buffer.extend_from_slice(kept)?;
         self.passed -= skipped;
         Ok(())
@@ -75,34 +77,29 @@ impl Feed {
     pub fn peek(&self) -> Peek<'_>
         // What it finds is spelled by the front that it counts, and no byte is to be passed over.
         ensures found { IfSome (unit_of result) (λ found. (self.now.passed ≡ 0) × IsSpelled self.now.greatest found self.now.bytes) }
-        // It finds nothing only where no front of the stream spells anything.
+        // It finds nothing exactly where no front of the stream spells anything.
         ensures none { unit_of result ≡ None → BeginsWithNone self.now.greatest (drop self.now.passed self.now.bytes) }
+        ensures more { BeginsWithNone self.now.greatest (drop self.now.passed self.now.bytes) → unit_of result ≡ None }
         // Whatever a front spells is what it finds.
         ensures only { (unit : ProtocolUnit) (len : ℕ) → self.now.passed ≡ 0 → IsSpelled self.now.greatest (unit, len) self.now.bytes → unit_of result ≡ Some (unit, len) }
         // No key of a command is longer than 250 bytes.
         ensures keys { (command : Command) (len : ℕ) → unit_of result ≡ Some (Request command, len) → HasShortKeys command }
     {
-        if self.passed > 0 {
-            return Peek::More;
-        }
-        peek_at(self.greatest, self.unread())
+        self.first_unit()
     }
 
     /// The same after `taken` turns of the first unit: of a retrieval, the retrieval of the keys that are left. Where
     /// `mark` was told of these turns it costs as much as the next key, whatever the line's length.
     pub fn peek_after(&self, taken: usize) -> Peek<'_>
         ensures found { IfSome (unit_of result) (λ found. (self.now.passed ≡ 0) × IsLeft self.now.greatest taken found self.now.bytes) }
+        // It finds nothing exactly where no front of the stream spells anything.
         ensures none { unit_of result ≡ None → BeginsWithNone self.now.greatest (drop self.now.passed self.now.bytes) }
+        ensures more { BeginsWithNone self.now.greatest (drop self.now.passed self.now.bytes) → unit_of result ≡ None }
+        // Of whatever a front spells, what is left is what it finds.
+        ensures only { (unit : ProtocolUnit) (len : ℕ) → self.now.passed ≡ 0 → IsSpelled self.now.greatest (unit, len) self.now.bytes → unit_of result ≡ Some (left_of unit taken, len) }
         ensures keys { (command : Command) (len : ℕ) → unit_of result ≡ Some (Request command, len) → HasShortKeys command }
     {
-        if taken == 0 || self.passed > 0 {
-            return self.peek();
-        }
-        let unread = self.unread();
-        match cursor_after(self.cursor, self.greatest, unread, taken) {
-            Some(cursor) => cursor.peek(unread),
-            None => self.peek(),
-        }
+        self.unit_after(taken)
     }
 
     /// Notes that `taken` turns of the first unit were taken, so that `peek_after` finds the next one at once.
@@ -128,11 +125,14 @@ impl Feed {
 
     /// The same where the caller knows how many bytes the unit passes over, which spares a look at it.
     pub fn done_passing(&mut self, len: usize, passed: u64)
-        requires { len ≤ length self.old.bytes }
+        requires inside { len ≤ length self.old.bytes }
+        // A unit that is passed over was found, so no byte is to be passed over before it.
+        requires none { self.old.passed ≡ 0 }
         ensures { self.new ≡ read self.old len passed }
     {
         let left = self.held() - len;
         self.cursor = None;
+        self.progress = Progress::none();
         let dropped = passed.min(left as u64);
         self.passed = passed - dropped;
         self.start += len + dropped as usize;
@@ -150,6 +150,7 @@ impl Feed {
         self.start = 0;
         self.passed = 0;
         self.cursor = None;
+        self.progress = Progress::none();
     }
 
     /// How many bytes are unread. Bytes that are passed over are never held.
@@ -158,6 +159,50 @@ impl Feed {
         ensures settled { IsSettled self.now }
     {
         self.buffer.len() - self.start
+    }
+
+    /// Notes how far the unread bytes were looked at, so that they needn't be read again when more come.
+    fn note_progress(&mut self)
+        ensures { self.new ≡ self.old }
+    {
+        let progress = self.progress.after(self.greatest, self.unread());
+        self.progress = progress;
+    }
+
+    /// Drops the front that was read, where so many bytes find no room behind it.
+    fn make_room(&mut self, added: usize)
+        ensures { self.new ≡ self.old }
+    {
+        if wants_room(&self.buffer, self.start, added) {
+            drop_front(&mut self.buffer, self.start);
+            self.start = 0;
+        }
+    }
+
+    /// The same as `peek`. What else is said there follows from the two clauses.
+    fn first_unit(&self) -> Peek<'_>
+        ensures found { IfSome (unit_of result) (λ found. (self.now.passed ≡ 0) × IsSpelled self.now.greatest found self.now.bytes) }
+        ensures none { unit_of result ≡ None → BeginsWithNone self.now.greatest (drop self.now.passed self.now.bytes) }
+    {
+        if self.passed > 0 {
+            return Peek::More;
+        }
+        self.progress.peek(self.greatest, self.unread())
+    }
+
+    /// The same as `peek_after`.
+    fn unit_after(&self, taken: usize) -> Peek<'_>
+        ensures found { IfSome (unit_of result) (λ found. (self.now.passed ≡ 0) × IsLeft self.now.greatest taken found self.now.bytes) }
+        ensures none { unit_of result ≡ None → BeginsWithNone self.now.greatest (drop self.now.passed self.now.bytes) }
+    {
+        if taken == 0 || self.passed > 0 {
+            return self.first_unit();
+        }
+        let unread = self.unread();
+        match cursor_after(self.cursor, self.greatest, unread, taken) {
+            Some(cursor) => cursor.peek(unread),
+            None => self.first_unit(),
+        }
     }
 
     /// The bytes that came and weren't read.

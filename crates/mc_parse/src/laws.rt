@@ -1,9 +1,10 @@
 //! Laws of the grammar, each the contract of a function that does nothing.
 
 ghost use Rattle.std.specs.Prelude.{◌≡◌, ℕ, List, ◌++◌};
+ghost use Rattle.std.specs.List.{fold, concat};
 ghost use Rattle.mc_parse.specs.Units.{Spells, ProtocolUnit};
 ghost use Rattle.mc_parse.specs.Streams.{AreUnits};
-ghost use Rattle.mc_parse.specs.Feeds.{Unread, pushed};
+ghost use Rattle.mc_parse.specs.Feeds.{Unread, pushed, IsSettled};
 
 /// No spelling begins another.
 pub fn no_spelling_begins_another()
@@ -21,4 +22,9 @@ pub fn one_list_of_units()
 /// Pieces that come one after another leave what they leave joined.
 pub fn cutting_does_not_matter()
     ensures { (unread : Unread) (piece more : List ℕ) → pushed (pushed unread piece) more ≡ pushed unread (piece ++ more) }
+{}
+
+/// So do any number of pieces: feeding them in turn is feeding them joined.
+pub fn pieces_are_fed_as_joined()
+    ensures { (unread : Unread) (pieces : List (List ℕ)) → IsSettled unread → fold pushed unread pieces ≡ pushed unread (concat pieces) }
 {}

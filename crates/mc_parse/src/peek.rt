@@ -1,4 +1,5 @@
-ghost use Rattle.std.specs.Prelude.{◌≡◌, ◌+◌, ◌<◌, ℕ, length, take, IfSome};
+ghost use Rattle.std.specs.Prelude.{◌≡◌, ◌≢◌, ◌+◌, ◌++◌, ◌<◌, ℕ, List, length, take, IfSome};
+ghost use Rattle.std.specs.List.{AllByRecursion};
 ghost use Rattle.std.specs.Str.Lines.{strip_carriage_return};
 ghost use Rattle.mc_parse.specs.Units.{ProtocolUnit, IsLine, with_block};
 ghost use Rattle.mc_parse.specs.Peeks.{unit_of, IsSpelled, BeginsWithNone};
@@ -21,7 +22,7 @@ pub enum Peek<'a> {
 }
 
 /// The longest line, without its end.
-const LONGEST: usize = 65536;
+pub const LONGEST: usize = 65536;
 
 /// What bytes begin with, where none is to be passed over and a charge may be at most `greatest`. It looks at the first
 /// line, and of a block only at the two bytes behind it.
@@ -33,19 +34,36 @@ pub fn peek_at(greatest: u64, unread: &[u8]) -> Peek<'_>
     // Whatever a front spells is what it finds.
     ensures only { (unit : ProtocolUnit) (len : ℕ) → IsSpelled greatest (unit, len) unread.now → unit_of result ≡ Some (unit, len) }
 {
-    first_unit(greatest, unread)
+    first_unit(greatest, unread, 0)
 }
 
-/// The same. That nothing else is spelled follows from the two clauses.
-fn first_unit(greatest: u64, unread: &[u8]) -> Peek<'_>
+/// The same, where none of the first `searched` bytes is a line feed. That nothing else is spelled follows from the two
+/// clauses.
+pub fn first_unit(greatest: u64, unread: &[u8], searched: usize) -> Peek<'_>
+    requires { AllByRecursion (λ b. b ≢ 10) (take searched unread.now) }
     ensures found { IfSome (unit_of result) (λ found. IsSpelled greatest found unread.now) }
     ensures none { unit_of result ≡ None → BeginsWithNone greatest unread.now }
 {
-    let (front, _) = unread.split_at(unread.len().min(LONGEST + 1));
-    match memchr(b'\n', front) {
-        None if front.len() > LONGEST => Peek::TooLong,
+    match first_feed(unread, searched) {
+        None if unread.len() > LONGEST => Peek::TooLong,
         None => Peek::More,
         Some(end) => peek_line(greatest, unread, end),
+    }
+}
+
+/// Where the first line feed is, if a line may be so long. None of the first `searched` bytes is one, and they aren't
+/// looked at.
+pub fn first_feed(unread: &[u8], searched: usize) -> Option<usize>
+    requires { AllByRecursion (λ b. b ≢ 10) (take searched unread.now) }
+    ensures some { IfSome result (λ end. (end < length unread.now) × IsLine (take (end + 1) unread.now) (take end unread.now)) }
+    ensures none { result ≡ None → AllByRecursion (λ b. b ≢ 10) (take 65537 unread.now) }
+{
+    let (front, _) = unread.split_at(unread.len().min(LONGEST + 1));
+    let searched = searched.min(front.len());
+    let (_, rest) = front.split_at(searched);
+    match memchr(b'\n', rest) {
+        Some(place) => Some(searched + place),
+        None => None,
     }
 }
 
@@ -74,6 +92,19 @@ fn peek_line(greatest: u64, unread: &[u8], end: usize) -> Peek<'_>
                 Peek::Bad(LineFault::BadChunk, end + 1 + (len + 2))
             }
         }
+    }
+}
+
+/// How many bytes the first unit has, whose line feed is at `end`. While fewer came, nothing is spelled.
+pub fn len_of_unit(greatest: u64, unread: &[u8], end: usize) -> usize
+    requires line { IsLine (take (end + 1) unread.now) (take end unread.now) }
+    requires inside { end < length unread.now }
+    ensures { (more : List ℕ) → length (unread.now ++ more) < result → BeginsWithNone greatest (unread.now ++ more) }
+{
+    let (text, _) = unread.split_at(end);
+    match line_of(greatest, without_carriage_return(text)) {
+        Ok(Line::Block(_, len)) => end + 1 + (len as usize + 2),
+        _ => end + 1,
     }
 }
 

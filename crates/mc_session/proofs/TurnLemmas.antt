@@ -45,11 +45,11 @@ gone_on_moved s unit len text false true = refl
 gone_on_moved s unit len text false false = refl
 
 -- where more turns of the unit come next, they are due
-goes_on : (s : SessionState) (unit : ProtocolUnit) (len : ℕ) (last whole : Bool) → len ≤ length s.unread.bytes → ((s.taken + 1 == turn_count unit) ≡ whole)
+goes_on : (s : SessionState) (unit : ProtocolUnit) (len : ℕ) (last whole : Bool) → len ≤ length s.unread.bytes → s.unread.passed ≡ 0 → ((s.taken + 1 == turn_count unit) ≡ whole)
     → (whole ≡ false → IsWithin s.unread (s.taken + 1)) → MayGoOn (if last then Close else if whole then Read len (passed_after unit) else Step) s
-goes_on s unit len true whole within test more = tt
-goes_on s unit len false true within test more = within
-goes_on s unit len false false within test more = more refl
+goes_on s unit len true whole within none test more = tt
+goes_on s unit len false true within none test more = (within, none)
+goes_on s unit len false false within none test more = more refl
 
 -- a number that is no more, and isn't the same, is less
 lt_of_other : (a b : ℕ) → a ≤ b → (a ≡ b → ⊥) → a < b
@@ -58,6 +58,7 @@ lt_of_other a b le other = ⊎_elim (λ e. absurd (other e)) (λ less. less) (eq
 -- What was found is left of a unit whose next turn is due.
 pub record IsNext (u : Unread) (taken : ℕ) (unit : ProtocolUnit) (len : ℕ) (whole : ProtocolUnit) : Type 0 where
   pub within : len ≤ length u.bytes
+  pub none : u.passed ≡ 0
   pub parts : drop u.passed u.bytes ≡ take len u.bytes ++ drop len u.bytes
   pub spelled : Spells u.greatest whole (take len u.bytes)
   pub left : unit ≡ left_of whole taken
@@ -77,7 +78,7 @@ next_found law u taken found unit len peeked within is =
     let left = here.1 in
     let parts = whole_parts u len here.0 in
     let due = due_within law u taken left.unit (take len u.bytes) (drop len u.bytes) within parts left.spelled.spelled in
-    (left.unit, record { within = left.spelled.within; parts = parts; spelled = left.spelled.spelled; left = left.left; due = due.due; few = due.few })
+    (left.unit, record { within = left.spelled.within; none = here.0; parts = parts; spelled = left.spelled.spelled; left = left.left; due = due.due; few = due.few })
 
 -- where no turn is due nothing is found
 pub none_found : (u : Unread) (taken : ℕ) (found : Option (ProtocolUnit × ℕ)) → FoundLeft u taken found → BeginsWithNone u.greatest (drop u.passed u.bytes) → found ≡ None
@@ -159,7 +160,7 @@ module _ {S : Type 0} (took : S → KeyStep → ℕ → Reply → S → Type 0) 
         let answered = tells.answered in
         let whole = next_found law old.unread old.taken found answered.unit answered.len peeked within answered.is_found in
         subst (λ next. MayGoOn next (record old { out = out })) (sym (next_is whole.0 whole.1))
-        (goes_on (record old { out = out }) whole.0 answered.len (is_last whole.0) (old.taken + 1 == turn_count whole.0) whole.1.within refl
+        (goes_on (record old { out = out }) whole.0 answered.len (is_last whole.0) (old.taken + 1 == turn_count whole.0) whole.1.within whole.1.none refl
         (λ more. more_due whole.0 whole.1 more))
 
 module _ {S : Type 0} (took : S → KeyStep → ℕ → Reply → S → Type 0) (spent : S → KeyStep → ℕ → Type 0) (now : ℕ) (found : Option (ProtocolUnit × ℕ)) (before after : S) (old new : List ℕ) where

@@ -58,8 +58,8 @@ pub data IsWithin : Unread → ℕ → Type 0 where
   at_start : {unread : Unread} → IsWithin unread 0
   inside : {unread : Unread} {taken : ℕ} (unit : ProtocolUnit) (front rest : List ℕ) → drop unread.passed unread.bytes ≡ front ++ rest → Spells unread.greatest unit front → taken < turn_count unit → turn_count unit < 2 ^ 64 → IsWithin unread taken
 
--- the session may go on so: there are that many bytes, or more turns of its first unit are due
+-- the session may go on so: there are that many bytes and none is to be passed over, or more turns of its first unit are due
 abbrev pub MayGoOn : Next → SessionState → Type 0
 MayGoOn Step s = IsWithin s.unread (s.taken + 1)
-MayGoOn (Read len passed) s = len ≤ length s.unread.bytes
+MayGoOn (Read len passed) s = (len ≤ length s.unread.bytes) × (s.unread.passed ≡ 0)
 MayGoOn Close s = Unit {0}

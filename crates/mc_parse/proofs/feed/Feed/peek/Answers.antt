@@ -1,19 +1,13 @@
-use Rattle.std.proofs.Common.{◌≡◌, ap, drop, refl, subst}
-use Rattle.mc_parse.specs.Peeks.{unit_of, BeginsWithNone}
-use Rattle.mc_parse.specs.Feeds.{Unread}
-use Rattle.mc_parse.proofs.FeedLemmas.{none_yet}
+use Rattle.mc_parse.specs.Peeks.{unit_of}
+use Rattle.mc_parse.proofs.FoundLemmas.{found_none, found_whole}
 use Rattle.mc_parse.proofs.KeyLemmas.{found_keys}
 use Rattle.mc_parse.proofs.feed.Feed.peek.Goals as goal
 
-pub returns-then-self-gt0-clause-none : goal.returns-then-self-gt0-clause-none
-returns-then-self-gt0-clause-none c =
-    λ _. subst (λ (u : Unread). BeginsWithNone u.greatest (drop u.passed u.bytes)) c.self.view_is
-    (none_yet c.self.inside.greatest c.self.inside.passed c.self.inside.start c.self.inside.cursor c.self.inside.buffer.items _ c.self.invariant c.if-self-gt0.true refl)
+pub returns-clause-more : goal.returns-clause-more
+returns-clause-more c = found_none c.args.self.now.greatest c.args.self.now.passed c.args.self.now.bytes (unit_of c.first_unit.result) c.first_unit.ensures.found
 
 pub returns-clause-only : goal.returns-clause-only
-returns-clause-only c =
-    let greatest : c.self.inside.greatest ≡ c.args.self.now.greatest = ap (λ (u : Unread). u.greatest) c.self.view_is in
-    λ unit len none h. c.peek_at.ensures.only unit len (rw (greatest, c.unread.ensures) h)
+returns-clause-only c = found_whole c.args.self.now.greatest c.args.self.now.passed c.args.self.now.bytes (unit_of c.first_unit.result) c.first_unit.ensures.found c.first_unit.ensures.none
 
 pub returns-clause-keys : goal.returns-clause-keys
-returns-clause-keys c = found_keys c.self.inside.greatest c.unread.result.now (unit_of c.peek_at.result) c.peek_at.ensures.found
+returns-clause-keys c = found_keys c.args.self.now.greatest c.args.self.now.passed c.args.self.now.bytes (unit_of c.first_unit.result) c.first_unit.ensures.found
