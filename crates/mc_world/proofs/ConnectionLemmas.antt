@@ -1,5 +1,5 @@
 -- What is left of a connection, over a piece, a turn and an end.
-use Rattle.std.proofs.Common.{◌≡◌, ◌⊎◌, inl, inr, ℕ, zero, suc, ◌+◌, ◌-◌, ◌<◌, ◌≤◌, ◌==◌, Bool, true, false, not, List, [], ◌∷◌, ◌++◌, length, drop, Option, Some, None, refl, sym, ap, ◌∙◌, subst, arith, length-append, length-drop, append_assoc, if◌then◌else◌}
+use Rattle.std.proofs.Common.{◌≡◌, ◌⊎◌, inl, inr, ℕ, zero, suc, ◌+◌, ◌-◌, ◌<◌, ◌≤◌, ◌==◌, Bool, true, false, not, List, [], ◌∷◌, ◌++◌, length, drop, Some, refl, sym, ap, ◌∙◌, subst, arith, length-append, length-drop, append_assoc, if◌then◌else◌}
 use Rattle.std.specs.List.{slice_get}
 use Rattle.std.specs.Bool.{MatchBool}
 use Rattle.std.proofs.Math.ListN.{drop_of_length-le}
@@ -14,7 +14,7 @@ use Rattle.mc_parse.specs.Streams.{AreUnits, is_last, passed_after}
 use Rattle.mc_parse.specs.Feeds.{Unread, settled, pushed}
 use Rattle.mc_parse.proofs.StreamLemmas.{some_units, spelling_some}
 use Rattle.mc_parse.proofs.FeedLemmas.{pushed_twice}
-use Rattle.mc_session.specs.Turns.{SessionState, turn_count, nothing_unread, closed, fed, moved, TakesTurn, NoTurnDue}
+use Rattle.mc_session.specs.Turns.{SessionState, turn_count, nothing_unread, closed, fed, TakesTurn, NoTurnDue}
 use Rattle.mc_world.specs.Connections.{Connection, turns_from, turns, IsNext, HasNoNext, Follows, IsAmong, at_start, inside, IsRest, shut, Stands, with_piece, after_turn, ended}
 
 -- a unit has so many turns

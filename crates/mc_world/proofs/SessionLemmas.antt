@@ -1,6 +1,5 @@
 -- The turn of one session among others.
-use Rattle.std.proofs.Common.{◌≡◌, ◌⊎◌, inl, inr, ℕ, zero, suc, ◌+◌, ◌-◌, ◌<◌, Bool, true, false, List, [], ◌∷◌, length, get_or, Option, Some, None, Result, Ok, Err, IfErr, OnOk, OnErr, IsTrue, IsFalse, slice_set, refl, sym, ap, ◌∙◌, subst, arith, add-one, if◌then◌else◌}
-use Rattle.std.specs.List.{slice_get}
+use Rattle.std.proofs.Common.{◌≡◌, ◌⊎◌, inl, inr, ℕ, ◌-◌, Bool, true, false, List, get_or, Option, Some, None, Result, Ok, Err, IfErr, OnOk, OnErr, IsTrue, IsFalse, slice_set, refl, sym, ap, ◌∙◌, subst, arith, add-one, if◌then◌else◌}
 use Rattle.std.specs.Option.{MatchOption}
 use Rattle.std.proofs.lemmas.List.{set-get_or}
 use Rattle.std.proofs.lemmas.Option.{get_or_from_slice_get}
@@ -10,7 +9,7 @@ use Rattle.mc_session.specs.Turns.{SessionState, TakesTurn, NoTurnDue, closed}
 use Rattle.mc_session.specs.declared.session.Turn.{Turn}
 use Rattle.mc_session.specs.declared.session.Turn.TheVariants.{Did, Idle, Closed}
 use Rattle.mc_session.specs.declared.session.TurnFault.{TurnFault}
-use Rattle.mc_world.specs.Worlds.{numbered, if_open, put, changed, open_session}
+use Rattle.mc_world.specs.Worlds.{if_open, put, changed, open_session}
 use Rattle.mc_world.specs.Sessions.{IsOpenAt, TurnOf, DecidedOf, at_session}
 
 -- the session at the place is the open one of the number

@@ -1,5 +1,5 @@
 -- Turns over a store are turns over what contracts see of it.
-use Rattle.std.proofs.Common.{◌≡◌, ◌⊎◌, inl, inr, ℕ, ◌<◌, List, [], ◌∷◌, Bool, true, false, Option, Some, None, Result, Ok, Err, IfErr, OnOk, OnErr, IsTrue, IsFalse, refl, ap}
+use Rattle.std.proofs.Common.{◌≡◌, ◌⊎◌, inl, inr, ℕ, List, Bool, true, false, Option, Some, None, Result, Ok, Err, IfErr, OnOk, OnErr, IsTrue, IsFalse, refl, ap}
 use Rattle.std.specs.List.{slice_get}
 use Rattle.std.specs.Option.{MatchOption}
 use Rattle.mc_command.specs.Commands.{steps}
@@ -15,7 +15,6 @@ use Rattle.mc_session.specs.declared.session.TurnFault.{TurnFault}
 use Rattle.mc_shelf.specs.declared.store.Store.{Store}
 use Rattle.mc_world.specs.Worlds.{put, open_session, replies, is_spent}
 use Rattle.mc_world.specs.Sessions.{TurnOf, DecidedOf, Undone, at_session}
-use Rattle.mc_world.specs.declared.event.Event.{Event}
 use Rattle.mc_world.specs.declared.event.Event.TheVariants.{Turn as TurnEvent}
 
 module _ {S T : Type 0} (took : S → KeyStep → ℕ → Reply → S → Type 0) (spent : S → KeyStep → ℕ → Type 0) (took' : T → KeyStep → ℕ → Reply → T → Type 0) (spent' : T → KeyStep → ℕ → Type 0) (f : S → T)

@@ -1,15 +1,14 @@
 -- What one event makes of the sessions is what it makes of the connections.
-use Rattle.std.proofs.Common.{◌≡◌, ◌⊎◌, inl, inr, ℕ, ◌+◌, ◌%◌, ◌==◌, ◌<◌, Bool, true, false, List, [], ◌∷◌, ◌++◌, length, take, get_or, Option, Some, None, nat_lt, refl, sym, ap, ◌∙◌, subst, arith, if◌then◌else◌, IsTrue, IsFalse}
+use Rattle.std.proofs.Common.{◌≡◌, ◌⊎◌, inl, inr, ℕ, ◌+◌, ◌%◌, ◌==◌, ◌<◌, Bool, true, false, List, [], ◌∷◌, ◌++◌, length, take, get_or, Option, Some, None, nat_lt, refl, sym, ap, ◌∙◌, subst, if◌then◌else◌}
 use Rattle.std.specs.List.{slice_get}
 use Rattle.std.specs.Option.{MatchOption}
 use Rattle.std.proofs.lemmas.List.{take_more}
 use Rattle.mc_command.specs.Plain.{Plain}
-use Rattle.mc_parse.specs.Units.{ProtocolUnit}
 use Rattle.mc_session.specs.Turns.{SessionState, Answers, TakesTurn, NoTurnDue, opened, fed, closed, sent}
 use Rattle.mc_command.specs.Purge.{purged}
 use Rattle.mc_world.specs.Connections.{Connection, IsRest, Stands, at_start, fresh, with_piece, after_turn, ended}
 use Rattle.mc_world.specs.Worlds.{PlainWorld, WorldState, replies, is_spent, put, changed, numbered, CanStand, open_connection, open_session, at_connection, NextTurn, Turns, Happens, Runs, StandAll, StandsAs, Told, named, with_end, Decides, GivesUp, ToldUntil}
-use Rattle.mc_world.specs.Sessions.{at_session, TurnOf, DecidedOf, Done, sessions_ended, DecidedIn, Undone}
+use Rattle.mc_world.specs.Sessions.{at_session, Done, sessions_ended, DecidedIn, Undone}
 use Rattle.mc_world.specs.declared.event.Event.{Event}
 use Rattle.mc_world.specs.declared.event.Event.TheVariants.{Open, Piece, Turn, Clock, Grow, Purge, Close}
 use Rattle.mc_world.specs.declared.event.Refused.{Refused}

@@ -1,5 +1,5 @@
 -- What one event does to the sessions of a world.
-use Rattle.std.specs.Prelude.{◌≡◌, ◌⊎◌, ℕ, ◌+◌, ◌<◌, ◌%◌, ◌==◌, Bool, true, false, List, [], ◌∷◌, ◌++◌, length, Option, Some, None, slice_get, nat_lt, if◌then◌else◌, IsTrue, IsFalse}
+use Rattle.std.specs.Prelude.{◌≡◌, ◌⊎◌, ℕ, ◌+◌, ◌<◌, ◌%◌, ◌==◌, Bool, true, List, [], ◌∷◌, ◌++◌, length, Option, Some, None, slice_get, nat_lt, if◌then◌else◌, IsTrue, IsFalse}
 use Rattle.std.specs.Option.{MatchOption}
 use Rattle.mc_command.specs.Plain.{Plain}
 use Rattle.mc_command.specs.declared.step.KeyStep.{KeyStep}

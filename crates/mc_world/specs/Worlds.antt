@@ -171,13 +171,3 @@ pub record ToldUntil (hash : List ℕ → ℕ) (shelves : ℕ) (refused : Refuse
   pub session : refused.session ≡ named event
   pub told : (first : PlainWorld) → StandsAs first old
       → (mid : PlainWorld) × (last : PlainWorld) × Runs hash shelves first (take refused.at events) mid × GivesUp refused.decided mid event last × StandsAs last new
-
--- the event brings a piece to the session of that number, or closes it
-abbrev pub BringsOrCloses : Event → ℕ → Type 0
-BringsOrCloses Open n = ⊥
-BringsOrCloses (Piece k piece) n = k ≡ n
-BringsOrCloses (Turn k) n = ⊥
-BringsOrCloses (Clock now) n = ⊥
-BringsOrCloses (Grow shelf) n = ⊥
-BringsOrCloses (Purge shelf) n = ⊥
-BringsOrCloses (Close k) n = k ≡ n

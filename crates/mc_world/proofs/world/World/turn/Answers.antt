@@ -1,4 +1,3 @@
-use Rattle.std.proofs.Common.{refl, Result, Ok, Err}
 use Rattle.mc_world.proofs.TurnLemmas as lemmas
 use Rattle.mc_world.proofs.world.World.turn.Goals as goal
 
