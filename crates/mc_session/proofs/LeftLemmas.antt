@@ -1,5 +1,5 @@
 -- The first turn of what is left of a unit is the next turn of the unit.
-use Rattle.std.proofs.Common.{◌≡◌, ◌<◌, ◌≤◌, ◌+◌, ◌-◌, ◌==◌, ℕ, zero, suc, max, Bool, true, false, ◌⊎◌, inl, inr, List, [], ◌∷◌, ◌++◌, length, drop, map, refl, sym, ap, ◌∙◌, subst, arith, Option, Some, None, MatchOption, slice_get, if◌then◌else◌, eq-eqb, ne_eqb, ⊎_elim, codes}
+use Rattle.std.proofs.Common.{◌≡◌, ◌<◌, ◌+◌, ◌-◌, ◌==◌, ℕ, zero, suc, max, Bool, ◌⊎◌, inl, inr, List, [], ◌∷◌, ◌++◌, length, drop, refl, sym, ap, ◌∙◌, subst, arith, Option, Some, None, MatchOption, slice_get, if◌then◌else◌, eq-eqb, ne_eqb, ⊎_elim, codes}
 use Rattle.std.proofs.lemmas.Bool.{cases_eq}
 use Rattle.std.proofs.lemmas.Option.{slice_get_past}
 use Rattle.std.proofs.lemmas.List.{drop-map, length-map, length-drop}
@@ -10,10 +10,9 @@ use Rattle.mc_command.specs.declared.step.KeyStep.{KeyStep}
 use Rattle.mc_command.specs.declared.step.KeyStep.TheVariants.{Read as ReadStep, ReadTouch as ReadTouchStep}
 use Rattle.mc_command.specs.declared.reply.Reply.{Reply}
 use Rattle.mc_parse.specs.Units.{ProtocolUnit, Request, Fault, LongLine}
-use Rattle.mc_parse.specs.Streams.{is_last, is_quit, passed_after}
+use Rattle.mc_parse.specs.Streams.{is_quit}
 use Rattle.mc_parse.specs.Peeks.{left_of}
-use Rattle.mc_reply.specs.Texts.{reply_text, plain_text, spent_text, retrieval_text, asked_text, end_text}
-use Rattle.mc_session.specs.declared.next.Next.{Next}
+use Rattle.mc_reply.specs.Texts.{reply_text, plain_text, retrieval_text, asked_text, end_text}
 use Rattle.mc_session.specs.declared.next.Next.TheVariants.{Step, Read, Close}
 use Rattle.mc_session.specs.Turns.{Answers, AnswersStep, turn_count}
 use Rattle.mc_session.specs.Answers.{next_of}
@@ -45,6 +44,12 @@ steps_left (Count key up by quiet) taken due = let none : taken ≡ 0 = omega ar
 steps_left (FlushAll delay quiet) taken due = let none : taken ≡ 0 = omega arith in rw none refl
 steps_left Version taken due = let none : taken ≡ 0 = omega arith in rw none refl
 steps_left Quit taken due = let none : taken ≡ 0 = omega arith in rw none refl
+
+-- the first of them is the next step
+pub step_left : (left command : Command) (taken : ℕ) → taken < turn_count (Request command) → Request left ≡ left_of (Request command) taken → slice_get (steps left) 0 ≡ slice_get (steps command) taken
+step_left left command taken due is =
+    let same : left ≡ after_steps command taken = cc in
+    ap (λ c. slice_get (steps c) 0) same ∙ ap (λ xs. slice_get xs 0) (steps_left command taken due) ∙ first_left (steps command) taken
 
 -- END comes after the same key
 end_left : (keys : List (List ℕ)) (taken : ℕ) → taken < max 1 (length keys) → end_text (length (drop taken keys)) 0 ≡ end_text (length keys) taken

@@ -3,3 +3,4 @@ pub mod FeedLemmas
 pub mod TurnLemmas
 pub mod RunLemmas
 pub mod ServeLemmas
+pub mod StreamLemmas

@@ -1,45 +1,40 @@
 -- A run goes on the same where more bytes come, and with earlier output in front.
-use Rattle.std.proofs.Common.{◌≡◌, ◌<◌, ◌+◌, ◌==◌, ℕ, Bool, true, false, List, [], ◌∷◌, ◌++◌, length, drop, refl, sym, ap, ◌∙◌, subst, append_assoc, if◌then◌else◌, IsFalse}
+use Rattle.std.proofs.Common.{◌≡◌, ◌+◌, ◌==◌, ℕ, Bool, true, false, List, [], ◌++◌, refl, sym, ap, ◌∙◌, subst, append_assoc, if◌then◌else◌, IsTrue}
 use Rattle.mc_command.specs.declared.step.KeyStep.{KeyStep}
 use Rattle.mc_command.specs.declared.reply.Reply.{Reply}
 use Rattle.mc_parse.specs.Units.{ProtocolUnit}
 use Rattle.mc_parse.specs.Streams.{is_last, passed_after}
 use Rattle.mc_parse.specs.Feeds.{Unread, pushed, settled}
-use Rattle.mc_session.specs.Turns.{SessionState, TakesTurn, turn_count, moved, closed, fed, opened}
+use Rattle.mc_session.specs.Turns.{SessionState, TakesTurn, DecidesStep, turn_count, closed, fed, opened}
 use Rattle.mc_session.specs.Serving.{Run, nothing, turn}
 use Rattle.mc_session.specs.Rounds.{with_written}
 use Rattle.mc_session.proofs.FeedLemmas.{pushed-settled, pushed-pushed, spells_bytes, front_stays}
 
--- a session by its parts
-abbrev session_of : Unread → ℕ → List ℕ → Bool → SessionState
-session_of unread taken out is_open = record { unread = unread; taken = taken; out = out; is_open = is_open }
+-- a session with more bytes of its stream
+abbrev grown : SessionState → List ℕ → SessionState
+grown s more = record s { unread = pushed s.unread more }
+
+-- a session that is open takes them
+fed_open : (s : SessionState) (more : List ℕ) → IsTrue s.is_open → fed s more ≡ grown s more
+fed_open s more opens = ap (λ is_open. if is_open then grown s more else s) opens
 
 -- the session after a turn of an open session takes more bytes as the session before it does
-moved_more : (unread : Unread) (taken : ℕ) (out : List ℕ) (unit : ProtocolUnit) (rest text more : List ℕ) (last whole : Bool)
-    → fed (if last then closed (session_of unread taken (out ++ text) true)
-    else if whole then session_of (settled (record { greatest = unread.greatest; passed = passed_after unit; bytes = rest })) 0 (out ++ text) true
-    else session_of unread (taken + 1) (out ++ text) true) more
-    ≡ (if last then closed (session_of (pushed unread more) taken (out ++ text) true)
-    else if whole then session_of (settled (record { greatest = unread.greatest; passed = passed_after unit; bytes = rest ++ more })) 0 (out ++ text) true
-    else session_of (pushed unread more) (taken + 1) (out ++ text) true)
-moved_more unread taken out unit rest text more true whole = refl
-moved_more unread taken out unit rest text more false true = ap (λ u. session_of u 0 (out ++ text) true) (pushed-settled (record { greatest = unread.greatest; passed = passed_after unit; bytes = rest }) more)
-moved_more unread taken out unit rest text more false false = refl
-
--- a session that isn't open stays so
-moved_closed : (unread : Unread) (taken : ℕ) (out : List ℕ) (unit : ProtocolUnit) (rest text more : List ℕ) (last whole : Bool)
-    → fed (if last then closed (session_of unread taken (out ++ text) false)
-    else if whole then session_of (settled (record { greatest = unread.greatest; passed = passed_after unit; bytes = rest })) 0 (out ++ text) false
-    else session_of unread (taken + 1) (out ++ text) false) more
-    ≡ (if last then closed (session_of unread taken (out ++ text) false)
-    else if whole then session_of (settled (record { greatest = unread.greatest; passed = passed_after unit; bytes = rest })) 0 (out ++ text) false
-    else session_of unread (taken + 1) (out ++ text) false)
-moved_closed unread taken out unit rest text more true whole = refl
-moved_closed unread taken out unit rest text more false true = refl
-moved_closed unread taken out unit rest text more false false = refl
+moved_more : (s : SessionState) (unit : ProtocolUnit) (rest text more : List ℕ) (last whole : Bool) → IsTrue s.is_open
+    → fed (if last then closed (record s { out = s.out ++ text })
+    else if whole then record s { unread = settled (record { greatest = s.unread.greatest; passed = passed_after unit; bytes = rest }); taken = 0; out = s.out ++ text }
+    else record s { taken = s.taken + 1; out = s.out ++ text }) more
+    ≡ (if last then closed (record s { out = s.out ++ text })
+    else if whole then record s { unread = settled (record { greatest = s.unread.greatest; passed = passed_after unit; bytes = rest ++ more }); taken = 0; out = s.out ++ text }
+    else record s { unread = pushed s.unread more; taken = s.taken + 1; out = s.out ++ text })
+moved_more s unit rest text more true whole opens = refl
+moved_more s unit rest text more false true opens =
+    let left : Unread = record { greatest = s.unread.greatest; passed = passed_after unit; bytes = rest } in
+    fed_open (record s { unread = settled left; taken = 0; out = s.out ++ text }) more opens
+    ∙ ap (λ u. record s { unread = u; taken = 0; out = s.out ++ text }) (pushed-settled left more)
+moved_more s unit rest text more false false opens = fed_open (record s { taken = s.taken + 1; out = s.out ++ text }) more opens
 
 -- earlier output stays in front
-moved_written : (s : SessionState) (unit : ProtocolUnit) (rest text written : List ℕ) (last whole : Bool)
+pub moved_written : (s : SessionState) (unit : ProtocolUnit) (rest text written : List ℕ) (last whole : Bool)
     → with_written written (if last then closed (record s { out = s.out ++ text })
     else if whole then record s { unread = settled (record { greatest = s.unread.greatest; passed = passed_after unit; bytes = rest }); taken = 0; out = s.out ++ text }
     else record s { taken = s.taken + 1; out = s.out ++ text })
@@ -53,7 +48,7 @@ moved_written s unit rest text written false false = ap (λ out. record s { take
 
 -- pieces that come one after another are fed as they are joined
 pub fed-fed : (greatest : ℕ) (read more : List ℕ) → fed (fed (opened greatest) read) more ≡ fed (opened greatest) (read ++ more)
-fed-fed greatest read more = ap (λ u. session_of u 0 [] true) (pushed-pushed (record { greatest = greatest; passed = 0; bytes = [] }) read more)
+fed-fed greatest read more = ap (λ u. record (opened greatest) { unread = u }) (pushed-pushed (record { greatest = greatest; passed = 0; bytes = [] }) read more)
 
 -- more bytes and earlier output don't mix
 pub fed-with_written : (s : SessionState) (written more : List ℕ) → fed (with_written written s) more ≡ with_written written (fed s more)
@@ -65,41 +60,28 @@ fed-with_written s written more =
 
 module _ {S : Type 0} (took : S → KeyStep → ℕ → Reply → S → Type 0) (spent : S → KeyStep → ℕ → Type 0) where
   -- a turn is the turn of the longer stream
-  turn_open : (now : ℕ) (unread : Unread) (taken : ℕ) (out : List ℕ) (new : SessionState) (before after : S) (more : List ℕ) (is_open : Bool)
-      → TakesTurn took spent now (session_of unread taken out is_open) new before after → TakesTurn took spent now (fed (session_of unread taken out is_open) more) (fed new more) before after
-  turn_open now unread taken out new before after more true taken_turn = record {
+  turn_more : (now : ℕ) (old new : SessionState) (before after : S) (more : List ℕ) → TakesTurn took spent now old new before after → TakesTurn took spent now (grown old more) (fed new more) before after
+  turn_more now old new before after more taken_turn = record {
     unit = taken_turn.unit;
     front = taken_turn.front;
     rest = taken_turn.rest ++ more;
     text = taken_turn.text;
-    parts = front_stays unread taken_turn.front taken_turn.rest more (spells_bytes unread.greatest taken_turn.unit taken_turn.front taken_turn.spelled) taken_turn.parts;
+    opens = taken_turn.opens;
+    parts = front_stays old.unread taken_turn.front taken_turn.rest more (spells_bytes old.unread.greatest taken_turn.unit taken_turn.front taken_turn.spelled) taken_turn.parts;
     spelled = taken_turn.spelled;
     due = taken_turn.due;
     answers = taken_turn.answers;
-    moves = ap (λ s. fed s more) taken_turn.moves ∙ moved_more unread taken out taken_turn.unit taken_turn.rest taken_turn.text more (is_last taken_turn.unit) (taken + 1 == turn_count taken_turn.unit);
+    moves = ap (λ s. fed s more) taken_turn.moves ∙ moved_more old taken_turn.unit taken_turn.rest taken_turn.text more (is_last taken_turn.unit) (old.taken + 1 == turn_count taken_turn.unit) taken_turn.opens;
   }
-  turn_open now unread taken out new before after more false taken_turn = record {
-    unit = taken_turn.unit;
-    front = taken_turn.front;
-    rest = taken_turn.rest;
-    text = taken_turn.text;
-    parts = taken_turn.parts;
-    spelled = taken_turn.spelled;
-    due = taken_turn.due;
-    answers = taken_turn.answers;
-    moves = ap (λ s. fed s more) taken_turn.moves ∙ moved_closed unread taken out taken_turn.unit taken_turn.rest taken_turn.text more (is_last taken_turn.unit) (taken + 1 == turn_count taken_turn.unit);
-  }
-
-  turn_more : (now : ℕ) (old new : SessionState) (before after : S) (more : List ℕ) → TakesTurn took spent now old new before after → TakesTurn took spent now (fed old more) (fed new more) before after
-  turn_more now old new before after more taken_turn = turn_open now old.unread old.taken old.out new before after more old.is_open taken_turn
 
   -- and with earlier output in front
-  pub turn_written : (now : ℕ) (old new : SessionState) (before after : S) (written : List ℕ) → TakesTurn took spent now old new before after → TakesTurn took spent now (with_written written old) (with_written written new) before after
+  unfoldable pub turn_written : (now : ℕ) (old new : SessionState) (before after : S) (written : List ℕ) → TakesTurn took spent now old new before after → TakesTurn took spent now (with_written written old) (with_written written new) before after
   turn_written now old new before after written taken_turn = record {
     unit = taken_turn.unit;
     front = taken_turn.front;
     rest = taken_turn.rest;
     text = taken_turn.text;
+    opens = taken_turn.opens;
     parts = taken_turn.parts;
     spelled = taken_turn.spelled;
     due = taken_turn.due;
@@ -107,8 +89,27 @@ module _ {S : Type 0} (took : S → KeyStep → ℕ → Reply → S → Type 0) 
     moves = ap (with_written written) taken_turn.moves ∙ moved_written old taken_turn.unit taken_turn.rest taken_turn.text written (is_last taken_turn.unit) (old.taken + 1 == turn_count taken_turn.unit);
   }
 
+  -- a step is decided the same with earlier output in front
+  pub decides_written : (now : ℕ) (old : SessionState) (before after : S) (written : List ℕ) → DecidesStep took now old before after → DecidesStep took now (with_written written old) before after
+  decides_written now old before after written decides = record {
+    command = decides.command;
+    front = decides.front;
+    rest = decides.rest;
+    step = decides.step;
+    reply = decides.reply;
+    opens = decides.opens;
+    parts = decides.parts;
+    spelled = decides.spelled;
+    is_step = decides.is_step;
+    took_it = decides.took_it;
+  }
+
   -- a run is a run of the longer stream
-  pub run_more : (may_give : ℕ → Type 0) (first last : SessionState) (before after : S) (more : List ℕ) → Run took spent may_give first before last after → Run took spent may_give (fed first more) before (fed last more) after
-  run_more may_give first last before after more nothing = nothing
-  run_more may_give first last before after more (turn {mid = mid} {between = between} now run gives taken) =
-      turn now (run_more may_give first mid before between more run) gives (turn_more now mid last between after more taken)
+  pub run_more : (may_give : ℕ → Type 0) (first last : SessionState) (before after : S) (turns : List (ProtocolUnit × ℕ)) (more : List ℕ) → Run took spent may_give first before turns last after
+      → Run took spent may_give (fed first more) before turns (fed last more) after
+  unfolding turn_more
+  run_more may_give first last before after turns more nothing = nothing
+  run_more may_give first last before after turns more (turn {mid = mid} {between = between} {taken = taken} now run gives takes) =
+      turn now
+      (subst (λ s. Run took spent may_give (fed first more) before taken s between) (fed_open mid more takes.opens) (run_more may_give first mid before between taken more run))
+      gives (turn_more now mid last between after more takes)

@@ -1,18 +1,18 @@
 -- A turn of what was found is a turn of the session's stream.
-use Rattle.std.proofs.Common.{◌≡◌, ◌<◌, ◌≤◌, ◌+◌, ◌^◌, ◌==◌, ℕ, max, Bool, true, false, List, [], ◌∷◌, ◌++◌, length, take, drop, refl, sym, ap, ◌∙◌, subst, arith, Option, Some, None, if◌then◌else◌, IfSome, IsTrue, ◌↔◌, ⊎_elim, eq-or-lt_of_le}
+use Rattle.std.proofs.Common.{◌≡◌, ◌<◌, ◌≤◌, ◌+◌, ◌^◌, ◌==◌, ℕ, Bool, true, false, List, ◌++◌, length, take, drop, refl, sym, ap, ◌∙◌, subst, arith, Option, Some, None, if◌then◌else◌, IfSome, IsTrue, ◌↔◌, ⊎_elim, eq-or-lt_of_le}
 use Rattle.std.proofs.lemmas.Bool.{cases_lt, eqb-false}
 use Rattle.std.proofs.lemmas.List.{take-append-drop, drop-append-le, length-append}
 use Rattle.mc_command.specs.declared.step.KeyStep.{KeyStep}
 use Rattle.mc_command.specs.declared.reply.Reply.{Reply}
 use Rattle.mc_parse.specs.Units.{ProtocolUnit, Request, Fault, LongLine, Spells}
 use Rattle.mc_parse.specs.Streams.{is_last, passed_after}
-use Rattle.mc_parse.specs.Peeks.{left_of, IsLeft, IsSpelled, BeginsWithNone}
+use Rattle.mc_parse.specs.Peeks.{left_of, IsLeft, BeginsWithNone}
 use Rattle.mc_parse.specs.Feeds.{Unread, read}
 use Rattle.mc_session.specs.declared.next.Next.{Next}
 use Rattle.mc_session.specs.declared.next.Next.TheVariants.{Step, Read, Close}
-use Rattle.mc_session.specs.Turns.{SessionState, TakesTurn, Answers, turn_count, moved, closed, NoTurnDue}
-use Rattle.mc_session.specs.Answers.{next_of, gone_on, MayGoOn, AnswersFound, Tells, IsWithin, at_start, inside}
-use Rattle.mc_session.proofs.LeftLemmas.{next_left, all_left, answers_left}
+use Rattle.mc_session.specs.Turns.{SessionState, TakesTurn, DecidesStep, Answers, turn_count, moved, closed, NoTurnDue}
+use Rattle.mc_session.specs.Answers.{next_of, gone_on, MayGoOn, AnswersFound, Tells, DecidesFound, IsWithin, at_start, inside}
+use Rattle.mc_session.proofs.LeftLemmas.{next_left, all_left, answers_left, step_left}
 
 -- a unit has a first turn
 first_due : (unit : ProtocolUnit) → 0 < turn_count unit
@@ -86,7 +86,7 @@ none_found u taken (Some found) peeked none =
     absurd (none.none peeked.1.unit (take found.1 u.bytes) (drop found.1 u.bytes) (whole_parts u found.1 peeked.0) peeked.1.spelled.spelled)
 
 module _ {S : Type 0} (took : S → KeyStep → ℕ → Reply → S → Type 0) (spent : S → KeyStep → ℕ → Type 0) (now : ℕ) (law : OneSpelling) (old : SessionState) (before after : S) (found : Option (ProtocolUnit × ℕ))
-    (peeked : FoundLeft old.unread old.taken found) (within : IsWithin old.unread old.taken) where
+    (peeked : FoundLeft old.unread old.taken found) (within : IsWithin old.unread old.taken) (opens : IsTrue old.is_open) where
   turn_of : (answered : AnswersFound took spent now found before after) (whole : ProtocolUnit) → IsNext old.unread old.taken answered.unit answered.len whole
       → TakesTurn took spent now old (moved old whole (drop answered.len old.unread.bytes) answered.text) before after
   turn_of answered whole is = record {
@@ -94,6 +94,7 @@ module _ {S : Type 0} (took : S → KeyStep → ℕ → Reply → S → Type 0) 
     front = take answered.len old.unread.bytes;
     rest = drop answered.len old.unread.bytes;
     text = answered.text;
+    opens = opens;
     parts = is.parts;
     spelled = is.spelled;
     due = is.due;
@@ -101,11 +102,27 @@ module _ {S : Type 0} (took : S → KeyStep → ℕ → Reply → S → Type 0) 
     answers = answers_left took spent now before after answered.text whole old.taken is.due (subst (λ unit. Answers took spent unit 0 now before after answered.text) is.left answered.answers);
   }
 
-  -- the turn that was answered is taken
-  pub takes : AnswersFound took spent now found before after → (new : SessionState) × TakesTurn took spent now old new before after
-  takes answered =
-      let whole = next_found law old.unread old.taken found answered.unit answered.len peeked within answered.is_found in
-      (moved old whole.0 (drop answered.len old.unread.bytes) answered.text, turn_of answered whole.0 whole.1)
+  decides_of : (decides : DecidesFound took now found before after) (whole : ProtocolUnit) → IsNext old.unread old.taken (Request decides.command) decides.len whole → DecidesStep took now old before after
+  decides_of decides (Request command) is = record {
+    command = command;
+    front = take decides.len old.unread.bytes;
+    rest = drop decides.len old.unread.bytes;
+    step = decides.takes.step;
+    reply = decides.takes.reply;
+    opens = opens;
+    parts = is.parts;
+    spelled = is.spelled;
+    is_step = sym (step_left decides.command command old.taken is.due is.left) ∙ decides.takes.is_step;
+    took_it = decides.takes.took_it;
+  }
+  decides_of decides (Fault fault) is = let left = is.left in absurd (cc)
+  decides_of decides LongLine is = let left = is.left in absurd (cc)
+
+  -- the step that was decided is the session's next
+  pub decides_next : DecidesFound took now found before after → DecidesStep took now old before after
+  decides_next decides =
+      let whole = next_found law old.unread old.taken found (Request decides.command) decides.len peeked within decides.is_found in
+      decides_of decides whole.0 whole.1
 
   module _ (next : Next) (out : List ℕ) (tells : Tells took spent now found next before after old.out out) where
     -- what comes next, as the whole unit has it

@@ -1,25 +1,29 @@
 -- A whole run of a session over a reader and a writer.
-use Rattle.std.specs.Prelude.{◌≡◌, ◌⊎◌, ℕ, List, ◌++◌, Option, IsFalse}
+use Rattle.std.specs.Prelude.{◌≡◌, ◌⊎◌, ◌^◌, ◌<◌, ◌≤◌, ℕ, List, [], ◌∷◌, ◌++◌, length, Option, IsFalse}
 use Rattle.std.specs.Io.KnownBytes.{Appends, Consumes, IsAtEnd}
 use Rattle.mc_command.specs.declared.step.KeyStep.{KeyStep}
 use Rattle.mc_command.specs.declared.reply.Reply.{Reply}
-use Rattle.mc_session.specs.Turns.{SessionState, opened, fed, TakesTurn, NoTurnDue}
+use Rattle.mc_parse.specs.Units.{ProtocolUnit}
+use Rattle.mc_session.specs.Turns.{SessionState, opened, fed, TakesTurn, DecidesStep, NoTurnDue}
 
 module _ {S : Type 0} (took : S → KeyStep → ℕ → Reply → S → Type 0) (spent : S → KeyStep → ℕ → Type 0) (may_give : ℕ → Type 0) where
-  -- turns one after another, each at a moment that the clock may give
-  pub data Run : SessionState → S → SessionState → S → Type 0 where
-    nothing : {session : SessionState} {store : S} → Run session store session store
-    turn : {first mid last : SessionState} {before between after : S} (now : ℕ) → Run first before mid between → may_give now → TakesTurn took spent now mid last between after → Run first before last after
+  -- turns one after another, each at a moment that the clock may give: of which unit each is, and which of its turns
+  pub data Run : SessionState → S → List (ProtocolUnit × ℕ) → SessionState → S → Type 0 where
+    nothing : {session : SessionState} {store : S} → Run session store [] session store
+    turn : {first mid last : SessionState} {before between after : S} {taken : List (ProtocolUnit × ℕ)} (now : ℕ) → Run first before taken mid between → may_give now → (takes : TakesTurn took spent now mid last between after)
+        → Run first before (taken ++ (takes.unit, mid.taken) ∷ []) last after
 
   -- What was read, the turns that were taken of its stream, and what was written: a beginning of their texts. It is said
-  -- of the joined stream, so that the pieces in which it came don't matter.
+  -- of the joined stream, so that the pieces in which it came don't matter. There are at most 2^40 turns.
   pub record Serves (greatest : ℕ) (before after : S) (reader_old reader_new writer_old writer_new : Option (List ℕ)) : Type 0 where
     pub read : List ℕ
     pub last : SessionState
     pub written : List ℕ
     pub unwritten : List ℕ
     pub consumes : Consumes reader_old reader_new read
-    pub run : Run (fed (opened greatest) read) before last after
+    pub taken : List (ProtocolUnit × ℕ)
+    pub run : Run (fed (opened greatest) read) before taken last after
+    pub few : length taken ≤ 2 ^ 40
     pub texts : last.out ≡ written ++ unwritten
     pub appends : Appends writer_old writer_new written
 
@@ -28,12 +32,16 @@ module _ {S : Type 0} (took : S → KeyStep → ℕ → Reply → S → Type 0) 
     pub read : List ℕ
     pub last : SessionState
     pub consumes : Consumes reader_old reader_new read
-    pub run : Run (fed (opened greatest) read) before last after
+    pub taken : List (ProtocolUnit × ℕ)
+    pub run : Run (fed (opened greatest) read) before taken last after
+    pub few : length taken ≤ 2 ^ 40
     pub appends : Appends writer_old writer_new last.out
     pub ended : IsFalse last.is_open ⊎ (IsAtEnd reader_new × NoTurnDue last)
 
-  -- memory ran out: the same as a beginning, and then perhaps one step that was decided and whose text was not written
+  -- Memory ran out: the same as a beginning, and then perhaps one step that was decided and whose text was not written.
+  -- With the turn that was refused there are at most 2^40.
   pub record ServesUntilRefused (greatest : ℕ) (before after : S) (reader_old reader_new writer_old writer_new : Option (List ℕ)) : Type 0 where
     pub between : S
     pub serves : Serves greatest before between reader_old reader_new writer_old writer_new
-    pub decided : (after ≡ between) ⊎ ((now : ℕ) × may_give now × (last : SessionState) × TakesTurn took spent now serves.last last between after)
+    pub fewer : length serves.taken < 2 ^ 40
+    pub decided : (after ≡ between) ⊎ ((now : ℕ) × may_give now × DecidesStep took now serves.last between after)

@@ -1,5 +1,5 @@
 -- The turns of a session.
-use Rattle.std.specs.Prelude.{◌≡◌, ◌⊎◌, ℕ, ◌+◌, ◌<◌, ◌==◌, Bool, true, false, List, [], ◌++◌, length, drop, max, if◌then◌else◌, slice_get, MatchOption}
+use Rattle.std.specs.Prelude.{◌≡◌, ◌⊎◌, ℕ, zero, suc, ◌+◌, ◌<◌, ◌==◌, Bool, true, false, List, [], ◌∷◌, ◌++◌, length, drop, max, if◌then◌else◌, Some, IsTrue, slice_get, MatchOption}
 use Rattle.mc_command.specs.Commands.{steps}
 use Rattle.mc_command.specs.declared.command.Command.{Command}
 use Rattle.mc_command.specs.declared.step.KeyStep.{KeyStep}
@@ -23,6 +23,16 @@ abbrev pub turn_count : ProtocolUnit → ℕ
 turn_count (Request command) = max 1 (length (steps command))
 turn_count (Fault fault) = 1
 turn_count LongLine = 1
+
+-- so many turns of a unit, from turn `at` on
+abbrev pub turns_from : ProtocolUnit → (at count : ℕ) → List (ProtocolUnit × ℕ)
+turns_from unit at zero = []
+turns_from unit at (suc count) = (unit, at) ∷ turns_from unit (at + 1) count
+
+-- the turns of units: of each unit its turns, one after another
+abbrev pub turns : List ProtocolUnit → List (ProtocolUnit × ℕ)
+turns [] = []
+turns (unit ∷ units) = turns_from unit 0 (turn_count unit) ++ turns units
 
 module _ {S : Type 0} (took : S → KeyStep → ℕ → Reply → S → Type 0) (spent : S → KeyStep → ℕ → Type 0) where
   -- a step is answered with the text of its reply, or its unique numbers are spent
@@ -67,17 +77,32 @@ moved s unit rest text =
     record s { unread = settled (record { greatest = s.unread.greatest; passed = passed_after unit; bytes = rest }); taken = 0; out = s.out ++ text }
     else record s { taken = s.taken + 1; out = s.out ++ text }
 
--- the next turn of the session's stream was taken at a moment, with a store
+-- the next turn of an open session's stream was taken at a moment, with a store
 pub record TakesTurn {S : Type 0} (took : S → KeyStep → ℕ → Reply → S → Type 0) (spent : S → KeyStep → ℕ → Type 0) (now : ℕ) (old new : SessionState) (before after : S) : Type 0 where
   pub unit : ProtocolUnit
   pub front : List ℕ
   pub rest : List ℕ
   pub text : List ℕ
+  pub opens : IsTrue old.is_open
   pub parts : drop old.unread.passed old.unread.bytes ≡ front ++ rest
   pub spelled : Spells old.unread.greatest unit front
   pub due : old.taken < turn_count unit
   pub answers : Answers took spent unit old.taken now before after text
   pub moves : new ≡ moved old unit rest text
+
+-- The next turn of the session's stream is a command's, and its step was taken at a moment, with a store; the text of the
+-- reply was not told.
+pub record DecidesStep {S : Type 0} (took : S → KeyStep → ℕ → Reply → S → Type 0) (now : ℕ) (old : SessionState) (before after : S) : Type 0 where
+  pub command : Command
+  pub front : List ℕ
+  pub rest : List ℕ
+  pub step : KeyStep
+  pub reply : Reply
+  pub opens : IsTrue old.is_open
+  pub parts : drop old.unread.passed old.unread.bytes ≡ front ++ rest
+  pub spelled : Spells old.unread.greatest (Request command) front
+  pub is_step : slice_get (steps command) old.taken ≡ Some step
+  pub took_it : took before step now reply after
 
 -- no turn is due: no front of what is unread spells anything
 abbrev pub NoTurnDue : SessionState → Type 0

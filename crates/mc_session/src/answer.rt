@@ -3,7 +3,7 @@ ghost use Rattle.mc_command.specs.Commands.{steps, HasShortKeys};
 ghost use Rattle.mc_command.specs.declared.command.Command.{Command};
 ghost use Rattle.mc_parse.specs.Units.{Request, Fault, LongLine};
 ghost use Rattle.mc_parse.specs.Peeks.{unit_of};
-ghost use Rattle.mc_session.specs.Answers.{next_of, Tells, AnswersFound};
+ghost use Rattle.mc_session.specs.Answers.{next_of, Tells, TakesFirst, DecidesFound};
 ghost use Rattle.mc_parse.specs.Streams.{is_quit};
 ghost use Rattle.mc_session.specs.Turns.{Answers, turn_count};
 ghost use Rattle.mc_reply.specs.Texts.{fault_text, long_text};
@@ -30,7 +30,8 @@ pub fn answer<S: Steps>(
     ensures some { IfOk result (λ told. IfSome told (λ next. Tells S.took S.spent now (unit_of found.entry) next store.old store.new out.old.items out.new.items)) }
     ensures err { OnErr result (out.new.items ≡ out.old.items) }
     ensures undecided { IfErr result (λ fault. IsFalse fault.decided → store.new ≡ store.old) }
-    ensures decided { IfErr result (λ fault. IsTrue fault.decided → AnswersFound S.took S.spent now (unit_of found.entry) store.old store.new) }
+    ensures due { OnErr result (unit_of found.entry ≡ None → ⊥) }
+    ensures decided { IfErr result (λ fault. IsTrue fault.decided → DecidesFound S.took now (unit_of found.entry) store.old store.new) }
 {
     match found {
         Peek::More => Ok(None),
@@ -79,7 +80,7 @@ fn answer_command<S: Steps>(
     ensures ok { IfOk result (λ next. Tells S.took S.spent now (Some (Request command.now, len)) next store.old store.new out.old.items out.new.items) }
     ensures err { OnErr result (out.new.items ≡ out.old.items) }
     ensures undecided { IfErr result (λ fault. IsFalse fault.decided → store.new ≡ store.old) }
-    ensures decided { IfErr result (λ fault. IsTrue fault.decided → AnswersFound S.took S.spent now (Some (Request command.now, len)) store.old store.new) }
+    ensures decided { IfErr result (λ fault. IsTrue fault.decided → TakesFirst S.took now command.now store.old store.new) }
 {
     if steps_of(command) == 0 {
         write_plain(command, out)?;
@@ -135,8 +136,7 @@ fn answer_step<S: Steps>(
         × Answers S.took S.spent (Request command.now) 0 now store.old store.new text) }
     ensures err { OnErr result (out.new.items ≡ out.old.items) }
     ensures undecided { IfErr result (λ fault. IsFalse fault.decided → store.new ≡ store.old) }
-    ensures decided { IfErr result (λ fault. IsTrue fault.decided → (text : List ℕ)
-        × Answers S.took S.spent (Request command.now) 0 now store.old store.new text) }
+    ensures decided { IfErr result (λ fault. IsTrue fault.decided → TakesFirst S.took now command.now store.old store.new) }
 {
     let step = step_at(command, 0);
     match store.step(alloc, &step, now) {

@@ -2,11 +2,13 @@
 #![tactic(auto)]
 
 mod answer;
+mod laws;
 mod next;
 mod output;
 mod serving;
 mod session;
 
+pub use laws::a_run_takes_the_turns_of_its_stream;
 pub use serving::{ServeFault, serve};
 pub use session::{Session, Turn, TurnFault};
 

@@ -46,7 +46,7 @@ pub fn serve<R: Read, W: Write, S: Steps, C: Clock>(
     ensures ok { OnOk result (ServesAll S.took S.spent (C.may_give clock.now) greatest store.old store.new
         (R.remaining reader.old) (R.remaining reader.new) (W.contents writer.old) (W.contents writer.new)) }
 
-    // A failure leaves a beginning of the run.
+    // There are at most 2^40 turns, and a failure leaves a beginning of the run.
     ensures read { result ≡ Err ServeFault.Read → Serves S.took S.spent (C.may_give clock.now) greatest store.old store.new
         (R.remaining reader.old) (R.remaining reader.new) (W.contents writer.old) (W.contents writer.new) }
     ensures write { result ≡ Err ServeFault.Write → Serves S.took S.spent (C.may_give clock.now) greatest store.old store.new
@@ -59,7 +59,7 @@ pub fn serve<R: Read, W: Write, S: Steps, C: Clock>(
         return Err(ServeFault::NoMemory);
     };
     let piece = buffer.as_mut_slice();
-    for _ in 0..TURNS {
+    for _turn in 0..TURNS {
         match round(alloc, reader, writer, &mut session, store, clock, piece) {
             Ok(true) => return Ok(()),
             Ok(false) => {}

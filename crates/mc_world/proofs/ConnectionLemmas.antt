@@ -1,21 +1,20 @@
 -- What is left of a connection, over a piece, a turn and an end.
-use Rattle.std.proofs.Common.{◌≡◌, ◌⊎◌, inl, inr, ℕ, zero, suc, ◌+◌, ◌-◌, ◌<◌, ◌≤◌, ◌==◌, Bool, true, false, not, List, [], ◌∷◌, ◌++◌, length, drop, Some, refl, sym, ap, ◌∙◌, subst, arith, length-append, length-drop, append_assoc, if◌then◌else◌}
+use Rattle.std.proofs.Common.{◌≡◌, ℕ, zero, suc, ◌+◌, ◌-◌, ◌<◌, ◌==◌, Bool, true, false, not, List, [], ◌∷◌, ◌++◌, length, drop, Option, Some, None, refl, sym, ap, ◌∙◌, subst, arith, length-append, length-drop, append_assoc, if◌then◌else◌}
 use Rattle.std.specs.List.{slice_get}
 use Rattle.std.specs.Bool.{MatchBool}
-use Rattle.std.proofs.Math.ListN.{drop_of_length-le}
-use Rattle.std.proofs.lemmas.Bool.{cases_lt, eqb-true, eqb-false}
+use Rattle.std.proofs.lemmas.Bool.{eqb-true, eqb-false}
 use Rattle.std.proofs.lemmas.List.{drop-append-le, append-nil}
 use Rattle.std.proofs.lemmas.Option.{slice_get_past}
 use Rattle.mc_command.specs.declared.step.KeyStep.{KeyStep}
 use Rattle.mc_command.specs.declared.reply.Reply.{Reply}
 use Rattle.mc_parse.specs.Units.{ProtocolUnit, Spells}
-use Rattle.mc_parse.specs.Peeks.{BeginsWithNone}
 use Rattle.mc_parse.specs.Streams.{AreUnits, is_last, passed_after}
 use Rattle.mc_parse.specs.Feeds.{Unread, settled, pushed}
 use Rattle.mc_parse.proofs.StreamLemmas.{some_units, spelling_some}
 use Rattle.mc_parse.proofs.FeedLemmas.{pushed_twice}
-use Rattle.mc_session.specs.Turns.{SessionState, turn_count, nothing_unread, closed, fed, TakesTurn, NoTurnDue}
-use Rattle.mc_world.specs.Connections.{Connection, turns_from, turns, IsNext, HasNoNext, Follows, IsAmong, at_start, inside, IsRest, shut, Stands, with_piece, after_turn, ended}
+use Rattle.mc_session.specs.Turns.{SessionState, turn_count, turns_from, turns, nothing_unread, closed, fed, moved, TakesTurn, NoTurnDue}
+use Rattle.mc_session.proofs.StreamLemmas.{settled_once, are_along}
+use Rattle.mc_world.specs.Connections.{Connection, IsNext, HasNoNext, Follows, IsAmong, at_start, inside, IsRest, shut, Stands, with_piece, after_turn, ended}
 
 -- a unit has so many turns
 turns_length : (unit : ProtocolUnit) (at n : ℕ) → length (turns_from unit at n) ≡ n
@@ -63,26 +62,6 @@ turn_behind read us unit t taken is less =
     ∙ get_before (turns_from unit 0 (turn_count unit)) (turns us) t (omega (arith, turns_length unit 0 (turn_count unit)))
     ∙ turn_at unit 0 (turn_count unit) t less
     ∙ ap (λ (k : ℕ). Some (unit, k)) e
-
--- nothing is left to drop of nothing
-drop_nothing : (n : ℕ) → drop n (let none : List ℕ = [] in none) ≡ []
-drop_nothing zero = refl
-drop_nothing (suc n) = refl
-
--- what is passed over once isn't passed over again
-passed_once : (p : ℕ) (bytes : List ℕ) → (p < length bytes) ⊎ (length bytes ≤ p) → drop (p - length bytes) (drop p bytes) ≡ drop p bytes
-passed_once p bytes (inl less) = let none : p - length bytes ≡ 0 = omega arith in ap (λ n. drop n (drop p bytes)) none
-passed_once p bytes (inr most) =
-    let all : drop p bytes ≡ [] = drop_of_length-le bytes most in
-    ap (drop (p - length bytes)) all ∙ drop_nothing (p - length bytes) ∙ sym all
-
-settled_once : (p : ℕ) (bytes : List ℕ) → drop (p - length bytes) (drop p bytes) ≡ drop p bytes
-settled_once p bytes = passed_once p bytes (cases_lt p (length bytes))
-
--- the units are those of what is left when the bytes are passed over
-are_along : (greatest p q : ℕ) (bytes rest : List ℕ) (us : List ProtocolUnit) → drop p bytes ≡ drop q rest → AreUnits greatest p bytes us → AreUnits greatest q rest us
-are_along greatest p q bytes rest [] e h = subst (BeginsWithNone greatest) e h
-are_along greatest p q bytes rest (u ∷ us) e h = (h.0, h.1, sym e ∙ h.2, h.3, h.4)
 
 -- the units of a stream are those that were read and then those of what comes after them
 are_joined : (greatest passed : ℕ) (bytes : List ℕ) (read us : List ProtocolUnit) (rest : Unread) → Follows greatest passed bytes read rest → AreUnits rest.greatest rest.passed rest.bytes us → AreUnits greatest passed bytes (read ++ us)

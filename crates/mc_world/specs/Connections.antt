@@ -1,10 +1,10 @@
 -- A session seen from its whole stream: how many of the stream's turns were taken.
-use Rattle.std.specs.Prelude.{◌≡◌, ℕ, zero, suc, ◌+◌, ◌<◌, Bool, true, false, List, [], ◌∷◌, ◌++◌, length, drop, Some, None, slice_get, not}
+use Rattle.std.specs.Prelude.{◌≡◌, ◌⊎◌, ℕ, ◌+◌, ◌<◌, Bool, true, false, List, [], ◌∷◌, ◌++◌, length, drop, Some, None, slice_get, not}
 use Rattle.std.specs.Bool.{MatchBool}
 use Rattle.mc_parse.specs.Units.{ProtocolUnit, Spells}
 use Rattle.mc_parse.specs.Streams.{AreUnits, is_last, passed_after}
 use Rattle.mc_parse.specs.Feeds.{Unread, settled}
-use Rattle.mc_session.specs.Turns.{SessionState, turn_count, nothing_unread}
+use Rattle.mc_session.specs.Turns.{SessionState, turn_count, turns, nothing_unread}
 
 -- What has come of a session: its stream so far, of whose front so many bytes are passed over; how many of the stream's
 -- turns were taken; what they were answered that isn't sent yet; and whether it is open.
@@ -15,16 +15,6 @@ pub record Connection : Type 0 where
   pub taken : ℕ
   pub out : List ℕ
   pub is_open : Bool
-
--- so many turns of a unit, from turn `at` on
-abbrev pub turns_from : ProtocolUnit → (at count : ℕ) → List (ProtocolUnit × ℕ)
-turns_from unit at zero = []
-turns_from unit at (suc count) = (unit, at) ∷ turns_from unit (at + 1) count
-
--- the turns of units: of each unit its turns, one after another
-abbrev pub turns : List ProtocolUnit → List (ProtocolUnit × ℕ)
-turns [] = []
-turns (unit ∷ units) = turns_from unit 0 (turn_count unit) ++ turns units
 
 -- the next turn of a connection's stream
 pub record IsNext (connection : Connection) (unit : ProtocolUnit) (at : ℕ) : Type 0 where

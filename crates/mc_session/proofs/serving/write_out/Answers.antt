@@ -1,6 +1,5 @@
 use Rattle.std.proofs.Common.{sym, subst, take, ◌∙◌}
 use Rattle.std.specs.Io.KnownBytes.{Appends}
-use Rattle.mc_session.specs.Turns.{sent}
 use Rattle.mc_session.specs.Rounds.{Writes}
 use Rattle.mc_session.proofs.ServeLemmas.{Writes-more, Writes-front, Writes-kept}
 use Rattle.mc_session.proofs.serving.write_out.Goals as goal

@@ -1,6 +1,4 @@
-use Rattle.std.proofs.Common.{IsTrue, ◌↔◌}
 use Rattle.mc_parse.specs.Peeks.{unit_of}
-use Rattle.mc_session.specs.Turns.{NoTurnDue}
 use Rattle.mc_session.specs.contracts.session.Session.{the_view}
 use Rattle.mc_session.proofs.TurnLemmas.{idle_found}
 use Rattle.mc_session.proofs.session.Session.is_idle.Goals as goal

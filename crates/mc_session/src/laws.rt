@@ -1,0 +1,24 @@
+//! Laws of runs, each the contract of a function that does nothing.
+
+ghost use Rattle.std.specs.Prelude.{◌≡◌, ◌⊎◌, ℕ, List, ◌++◌, IsFalse};
+ghost use Rattle.mc_parse.specs.Units.{ProtocolUnit};
+ghost use Rattle.mc_parse.specs.Streams.{AreUnits};
+ghost use Rattle.mc_session.specs.Turns.{SessionState, NoTurnDue, turns, opened, fed};
+ghost use Rattle.mc_session.specs.Serving.{Run};
+
+use mc_command::Steps;
+use mc_parse::no_spelling_begins_another;
+use mc_time::Clock;
+
+/// The turns of a run are, in their order, the first turns of the units of what was read. They are all of them where no
+/// turn is due any more, or a last unit closed the session.
+pub fn a_run_takes_the_turns_of_its_stream<S: Steps, C: Clock>()
+    ensures first { (clock : C) (greatest : ℕ) (read : List ℕ) (units : List ProtocolUnit) (taken : List (ProtocolUnit × ℕ)) (last : SessionState) (before after : S) →
+        AreUnits greatest 0 read units → Run S.took S.spent (C.may_give clock) (fed (opened greatest) read) before taken last after →
+        (later : List (ProtocolUnit × ℕ)) × (turns units ≡ taken ++ later) }
+    ensures all { (clock : C) (greatest : ℕ) (read : List ℕ) (units : List ProtocolUnit) (taken : List (ProtocolUnit × ℕ)) (last : SessionState) (before after : S) →
+        AreUnits greatest 0 read units → Run S.took S.spent (C.may_give clock) (fed (opened greatest) read) before taken last after →
+        (IsFalse last.is_open ⊎ NoTurnDue last) → turns units ≡ taken }
+{
+    no_spelling_begins_another();
+}
