@@ -11,8 +11,8 @@ use Rattle.mc_command.specs.declared.step.KeyStep.{KeyStep}
 use Rattle.mc_parse.specs.Units.{ProtocolUnit, Request, Fault, LongLine}
 use Rattle.mc_parse.proofs.StreamLemmas.{same_units}
 use Rattle.mc_reply.specs.Texts.{reply_text, plain_text, fault_text, long_text, spent_text}
-use Rattle.mc_session.specs.Turns.{Answers, AnswersStep}
-use Rattle.mc_world.specs.Connections.{Connection, turns, IsNext, HasNoNext, fresh, with_piece, after_turn, ended}
+use Rattle.mc_session.specs.Turns.{Answers, AnswersStep, turns}
+use Rattle.mc_world.specs.Connections.{Connection, IsNext, HasNoNext, fresh, with_piece, after_turn, ended}
 use Rattle.mc_world.specs.Worlds.{PlainWorld, replies, is_spent, numbered, if_open, put, changed, open_connection, at_connection, Turns, Happens, Runs, named}
 use Rattle.mc_world.specs.Laws.{step_of, Answer, Replied, NumbersSpent, answer_in, answers_in, AnswersNext, AnswersOf, RunsAnswering, is_number, events_of, Leaves}
 use Rattle.mc_world.proofs.LawLemmas.{get_set, get_apart, before_suc}
