@@ -17,6 +17,7 @@ test:
 	@python3 tests/gate.py
 
 bench: build
+	@cd crates/mc_bench && rt run -- 1 1 < /dev/null > /dev/null
 	@python3 bench/bench.py
 
 install: build

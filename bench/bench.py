@@ -1,10 +1,11 @@
 #!/usr/bin/env python3
-"""Measures the built program on pipelined input through --stdin.
+"""Measures the built program on pipelined input through --stdin, and a world of many sessions.
 
 Inputs are made beforehand and lie in files, and outputs go to files. Each figure is the median of
 several runs of a fresh process. It is no test: nothing here fails for being slow.
 
     bench/bench.py [--program PATH] [--runs N] [--commands N] [--only WORD]
+    bench/bench.py --worlds [--turns N] [--runs N]
 """
 import argparse
 import os
@@ -28,6 +29,10 @@ SECONDS = 300
 VALUE = b"v" * 100
 KEYS = 1000
 MEGA = 1_000_000
+WORLDS = f"{ROOT}/crates/mc_bench/out/mc_bench"
+SESSIONS = [1, 100, 10_000]
+# what a session is told in a round, of a set and a get of its key
+TOLD = b"STORED\r\nVALUE key 0 1\r\nx\r\nEND\r\n"
 
 
 def key(number):
@@ -292,13 +297,46 @@ class Bench:
             print(f"{name:<45}{len(stream) / MEGA:>9.1f}{memory / MEGA:>14.1f}", flush=True)
 
 
+# ---- worlds
+
+
+def took(sessions, rounds, runs):
+    """The median of the processor's seconds that so many sessions take for so many rounds, of two turns each."""
+    seconds = []
+    for _ in range(runs):
+        with tempfile.TemporaryFile() as out:
+            found = measure.run([WORLDS, str(sessions), str(rounds)], SECONDS, subprocess.DEVNULL, out)
+            out.seek(0)
+            if found["status"] != 0 or int(out.read()) != sessions * rounds * len(TOLD):
+                sys.exit(f"{sessions} sessions weren't told what they should be in {rounds} rounds")
+            seconds.append(found["processor"])
+    return statistics.median(seconds)
+
+
+def worlds(turns, runs):
+    """What a turn costs in worlds of more and more sessions, all of which use one key. Opening them isn't counted."""
+    print(f"\n{'sessions in a world':<21}{'turns':>11}{'processor':>11}{'ns a turn':>11}  against one session")
+    first = None
+    for sessions in SESSIONS:
+        rounds = max(turns // (2 * sessions), 1)
+        seconds = took(sessions, rounds, runs) - took(sessions, 0, runs)
+        cost = max(seconds, 0) / (2 * sessions * rounds) * 1e9
+        first = first or cost or 1
+        print(f"{sessions:<21,}{2 * sessions * rounds:>11,}{seconds:>11.3f}{cost:>11.1f}  {cost / first:.2f}", flush=True)
+
+
 def main():
     parser = argparse.ArgumentParser(description=__doc__, formatter_class=argparse.RawDescriptionHelpFormatter)
     parser.add_argument("--program", default=f"{ROOT}/crates/mc_server/out/mc_server")
     parser.add_argument("--runs", type=int, default=5)
     parser.add_argument("--commands", type=int, default=100_000, help="the least number; twice and four times it are measured too")
     parser.add_argument("--only", default="", metavar="WORD", help="the commands whose names have this word, and nothing else")
+    parser.add_argument("--worlds", action="store_true", help="worlds of many sessions, and nothing else")
+    parser.add_argument("--turns", type=int, default=4_000_000, help="how many turns the sessions of a world take in all")
     given = parser.parse_args()
+    if given.worlds:
+        worlds(given.turns, given.runs)
+        return 0
     bench = Bench(os.path.abspath(given.program), given.runs)
     bench.rates([given.commands * it for it in (1, 2, 4)], given.only)
     if not given.only:
@@ -307,6 +345,7 @@ def main():
         bench.resident()
         bench.standing()
         bench.refilled()
+        worlds(given.turns, given.runs)
     return 0
 
 

@@ -1,5 +1,5 @@
 -- What is left of a connection, over a piece, a turn and an end.
-use Rattle.std.proofs.Common.{◌≡◌, ℕ, zero, suc, ◌+◌, ◌-◌, ◌<◌, ◌==◌, Bool, true, false, not, List, [], ◌∷◌, ◌++◌, length, drop, Option, Some, None, refl, sym, ap, ◌∙◌, subst, arith, length-append, length-drop, append_assoc, if◌then◌else◌}
+use Rattle.std.proofs.Common.{◌≡◌, ℕ, zero, suc, ◌+◌, ◌-◌, ◌<◌, ◌==◌, Bool, true, false, not, List, [], ◌∷◌, ◌++◌, length, drop, Some, refl, sym, ap, ◌∙◌, subst, arith, length-append, length-drop, append_assoc, if◌then◌else◌}
 use Rattle.std.specs.List.{slice_get}
 use Rattle.std.specs.Bool.{MatchBool}
 use Rattle.std.proofs.lemmas.Bool.{eqb-true, eqb-false}
@@ -7,12 +7,13 @@ use Rattle.std.proofs.lemmas.List.{drop-append-le, append-nil}
 use Rattle.std.proofs.lemmas.Option.{slice_get_past}
 use Rattle.mc_command.specs.declared.step.KeyStep.{KeyStep}
 use Rattle.mc_command.specs.declared.reply.Reply.{Reply}
-use Rattle.mc_parse.specs.Units.{ProtocolUnit, Spells}
+use Rattle.mc_parse.specs.Units.{ProtocolUnit, Request, Fault, LongLine, Spells}
 use Rattle.mc_parse.specs.Streams.{AreUnits, is_last, passed_after}
 use Rattle.mc_parse.specs.Feeds.{Unread, settled, pushed}
+use Rattle.mc_parse.proofs.UnitLemmas.{same_spelling}
 use Rattle.mc_parse.proofs.StreamLemmas.{some_units, spelling_some}
 use Rattle.mc_parse.proofs.FeedLemmas.{pushed_twice}
-use Rattle.mc_session.specs.Turns.{SessionState, turn_count, turns_from, turns, nothing_unread, closed, fed, moved, TakesTurn, NoTurnDue}
+use Rattle.mc_session.specs.Turns.{SessionState, turn_count, turns_from, turns, nothing_unread, closed, fed, TakesTurn, NoTurnDue}
 use Rattle.mc_session.proofs.StreamLemmas.{settled_once, are_along}
 use Rattle.mc_world.specs.Connections.{Connection, IsNext, HasNoNext, Follows, IsAmong, at_start, inside, IsRest, shut, Stands, with_piece, after_turn, ended}
 
@@ -151,16 +152,41 @@ rest_idle c s rest none = record {
   none = ap (λ l. slice_get (turns l) c.taken) (append-nil rest.read) ∙ slice_get_past (turns rest.read) c.taken (omega (arith, rest.taken));
 }
 
+-- the unit that stands first in what is left of a connection has its next turn, where one of its turns is left
+pub next_of : (c : Connection) (s : SessionState) → IsRest c s → (unit : ProtocolUnit) (front more : List ℕ) → drop s.unread.passed s.unread.bytes ≡ front ++ more → Spells s.unread.greatest unit front → s.taken < turn_count unit → IsNext c unit s.taken
+next_of c s rest unit front more parts spelled less =
+    let us = first_units s.unread.greatest s.unread.passed s.unread.bytes unit front more parts spelled in
+    record {
+      units = rest.read ++ unit ∷ us.0;
+      are = are_joined c.greatest c.passed c.stream rest.read (unit ∷ us.0) s.unread rest.follows us.1;
+      next = turn_behind rest.read us.0 unit s.taken c.taken rest.taken less;
+    }
+
+some_turns : (unit : ProtocolUnit) → 0 < turn_count unit
+some_turns (Request command) = omega arith
+some_turns (Fault fault) = omega arith
+some_turns LongLine = omega arith
+
+-- one of its turns is left
+some_left : {u : Unread} {t : ℕ} (unit : ProtocolUnit) (front more : List ℕ) → IsAmong u t → drop u.passed u.bytes ≡ front ++ more → Spells u.greatest unit front → t < turn_count unit
+some_left unit front more at_start parts spelled = some_turns unit
+some_left {u = u} {t = t} unit front more (inside other begin end e spells less) parts spelled =
+    subst (λ (v : ProtocolUnit). t < turn_count v) (same_spelling u.greatest other unit begin front end more spells spelled (sym e ∙ parts)).0 less
+
+-- where a turn of the session is due, one of the stream is
+due_of : (c : Connection) (s : SessionState) → IsRest c s → (NoTurnDue s → ⊥) → (units : List ProtocolUnit) → AreUnits s.unread.greatest s.unread.passed s.unread.bytes units → (unit : ProtocolUnit) × (at : ℕ) × IsNext c unit at
+due_of c s rest due [] h = absurd (due h)
+due_of c s rest due (unit ∷ units) h = (unit, s.taken, next_of c s rest unit h.0 h.1 h.2 h.3 (some_left unit h.0 h.1 rest.among h.2 h.3))
+
+pub rest_due : (c : Connection) (s : SessionState) → IsRest c s → (NoTurnDue s → ⊥) → (unit : ProtocolUnit) × (at : ℕ) × IsNext c unit at
+rest_due c s rest due =
+    let units = some_units s.unread.greatest s.unread.passed s.unread.bytes in
+    due_of c s rest due units.0 units.1
+
 -- A turn of an open session is the next turn of its connection's stream.
 module _ {S : Type 0} (took : S → KeyStep → ℕ → Reply → S → Type 0) (spent : S → KeyStep → ℕ → Type 0) (now : ℕ) (c : Connection) (s new : SessionState) (before after : S) (rest : IsRest c s) (takes : TakesTurn took spent now s new before after) where
   pub is_next : IsNext c takes.unit s.taken
-  is_next =
-      let us = first_units s.unread.greatest s.unread.passed s.unread.bytes takes.unit takes.front takes.rest takes.parts takes.spelled in
-      record {
-        units = rest.read ++ takes.unit ∷ us.0;
-        are = are_joined c.greatest c.passed c.stream rest.read (takes.unit ∷ us.0) s.unread rest.follows us.1;
-        next = turn_behind rest.read us.0 takes.unit s.taken c.taken rest.taken takes.due;
-      }
+  is_next = next_of c s rest takes.unit takes.front takes.rest takes.parts takes.spelled takes.due
 
   abbrev told : List ℕ
   told = s.out ++ takes.text

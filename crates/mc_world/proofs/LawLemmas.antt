@@ -1,8 +1,16 @@
--- Events that may be added, taken out or cut.
-use Rattle.std.proofs.Common.{◌≡◌, ℕ, zero, suc, ◌-◌, ◌<◌, ◌+◌, Bool, true, false, List, [], ◌∷◌, ◌++◌, length, Option, Some, None, slice_set, refl, sym, ap, ◌∙◌, subst, arith, append_assoc, if◌then◌else◌, ◌↔◌}
+-- Events that may be added, taken out or cut, or change places.
+use Rattle.std.proofs.Common.{◌≡◌, inl, inr, ℕ, zero, suc, ◌-◌, ◌%◌, ◌==◌, Bool, true, false, List, [], ◌∷◌, ◌++◌, Option, Some, None, IfSome, slice_set, nat_lt, refl, sym, ap, ◌∙◌, subst, arith, append_assoc, if◌then◌else◌, ◌↔◌}
 use Rattle.std.specs.List.{slice_get}
-use Rattle.mc_world.specs.Connections.{Connection, with_piece, ended}
-use Rattle.mc_world.specs.Worlds.{PlainWorld, numbered, if_open, put, changed, open_connection, at_connection, Happens, Runs, BringsOrCloses}
+use Rattle.std.specs.Option.{MatchOption}
+use Rattle.mc_command.specs.Plain.{Plain}
+use Rattle.mc_command.specs.Purge.{purged}
+use Rattle.mc_command.specs.declared.step.KeyStep.{KeyStep}
+use Rattle.mc_parse.specs.Units.{ProtocolUnit, Request, Fault, LongLine}
+use Rattle.mc_reply.specs.Texts.{plain_text}
+use Rattle.mc_session.specs.Turns.{Answers, AnswersStep}
+use Rattle.mc_world.specs.Connections.{Connection, with_piece, after_turn, ended}
+use Rattle.mc_world.specs.Worlds.{PlainWorld, replies, is_spent, numbered, if_open, put, changed, open_connection, at_connection, Turns, Happens, Runs}
+use Rattle.mc_world.specs.Laws.{step_of, NextHasNoStep, DecidesNoStep, IsApart}
 use Rattle.mc_world.specs.declared.event.Event.{Event}
 use Rattle.mc_world.specs.declared.event.Event.TheVariants.{Open, Piece, Turn, Clock, Grow, Purge, Close}
 
@@ -15,6 +23,11 @@ module _ (hash : List ℕ → ℕ) (shelves : ℕ) where
   behind some others same [] old new runs = same old new runs
   behind some others same (e ∷ front) old new runs = (runs.0, runs.1, behind some others same front runs.0 new runs.2)
 
+  -- where that is known of the worlds that the front leads to
+  pub behind_here : (some others front : List Event) (old new : PlainWorld) → ((mid : PlainWorld) → RunsOn old front mid → RunsOn mid some new → RunsOn mid others new) → RunsOn old (front ++ some) new → RunsOn old (front ++ others) new
+  behind_here some others [] old new same runs = same old refl runs
+  behind_here some others (e ∷ front) old new same runs = (runs.0, runs.1, behind_here some others front runs.0 new (λ mid on. same mid (runs.0, runs.1, on)) runs.2)
+
   pub growth_shows : (shelf : ℕ) (old new : PlainWorld) (front rest : List Event) → RunsOn old (front ++ Grow shelf ∷ rest) new ↔ RunsOn old (front ++ rest) new
   growth_shows shelf old new front rest = (
     behind (Grow shelf ∷ rest) rest (λ old new runs. subst (λ (w : PlainWorld). RunsOn w rest new) runs.1 runs.2) front old new,
@@ -22,7 +35,7 @@ module _ (hash : List ℕ → ℕ) (shelves : ℕ) where
   )
 
 -- what was put in a place stands there
-get_set : {A : Type 0} (xs : List A) (n : ℕ) (x y : A) → slice_get xs n ≡ Some x → slice_get (slice_set xs n y) n ≡ Some y
+pub get_set : {A : Type 0} (xs : List A) (n : ℕ) (x y : A) → slice_get xs n ≡ Some x → slice_get (slice_set xs n y) n ≡ Some y
 get_set [] n x y h = cc
 get_set (a ∷ xs) zero x y h = refl
 get_set (a ∷ xs) (suc n) x y h = get_set xs n x y h
@@ -85,14 +98,14 @@ set_apart (a ∷ xs) zero (suc n) x y apart = refl
 set_apart (a ∷ xs) (suc m) zero x y apart = refl
 set_apart (a ∷ xs) (suc m) (suc n) x y apart = ap (λ l. a ∷ l) (set_apart xs m n x y (λ e. apart (ap suc e)))
 
-get_apart : {A : Type 0} (xs : List A) (m n : ℕ) (x : A) → (m ≡ n → ⊥) → slice_get (slice_set xs m x) n ≡ slice_get xs n
+pub get_apart : {A : Type 0} (xs : List A) (m n : ℕ) (x : A) → (m ≡ n → ⊥) → slice_get (slice_set xs m x) n ≡ slice_get xs n
 get_apart [] m n x apart = refl
 get_apart (a ∷ xs) zero zero x apart = absurd (apart refl)
 get_apart (a ∷ xs) zero (suc n) x apart = refl
 get_apart (a ∷ xs) (suc m) zero x apart = refl
 get_apart (a ∷ xs) (suc m) (suc n) x apart = get_apart xs m n x (λ e. apart (ap suc e))
 
-before_suc : (n : ℕ) → suc n - 1 ≡ n
+pub before_suc : (n : ℕ) → suc n - 1 ≡ n
 before_suc n = omega arith
 
 -- the open connection of one number after a change of another's
@@ -123,47 +136,232 @@ either_order old (suc m) (suc n) f g apart =
     ap (changed (suc m) (changed (suc n) cs g d) f) (open_after cs n m g d (λ e. other (sym e))) in
     ap (λ (l : List Connection). let w : PlainWorld = record old { connections = l } in w) (first ∙ changes_apart cs m n f g c d other ∙ sym second)
 
--- what a piece or a close does to its connection
-abbrev change_of : Event → Connection → Connection
-change_of Open c = c
-change_of (Piece n piece) c = with_piece piece c
-change_of (Turn n) c = c
-change_of (Clock now) c = c
-change_of (Grow shelf) c = c
-change_of (Purge shelf) c = c
-change_of (Close n) c = ended c
+-- a change of another number's connection leaves this one
+open_apart : (cs : List Connection) (m n : ℕ) (f : Connection → Connection) → (m ≡ n → ⊥) → open_connection n (changed m cs f (open_connection m cs)) ≡ open_connection n cs
+open_apart cs zero n f apart = refl
+open_apart cs (suc m) zero f apart = refl
+open_apart cs (suc m) (suc n) f apart = open_after cs m n f (open_connection (suc m) cs) (λ e. apart (ap suc e))
+
+-- so does putting one there
+open_put : (cs : List Connection) (m n : ℕ) (c d : Connection) → open_connection m cs ≡ Some c → (m ≡ n → ⊥) → open_connection n (put m cs d) ≡ open_connection n cs
+open_put cs m n c d h apart = ap (λ (o : Option Connection). open_connection n (changed m cs (λ c. d) o)) (sym h) ∙ open_apart cs m n (λ c. d) apart
+
+-- an open connection stands at its number
+pub is_numbered : (o : Option Connection) (c : Connection) → if_open (λ c. c.is_open) o ≡ Some c → o ≡ Some c
+is_numbered None c h = cc
+is_numbered (Some d) c h =
+    elim d.is_open as (λ b. (if b then Some d else None) ≡ Some c → Some d ≡ Some c) [
+      | true ↦ λ e. e
+      | false ↦ λ e. cc
+    ] h
+
+set_same : {A : Type 0} (xs : List A) (n : ℕ) (x : A) → slice_get xs n ≡ Some x → slice_set xs n x ≡ xs
+set_same [] n x h = refl
+set_same (a ∷ xs) zero x h = let e : x ≡ a = cc in ap (λ y. y ∷ xs) e
+set_same (a ∷ xs) (suc n) x h = ap (λ l. a ∷ l) (set_same xs n x h)
+
+-- a connection is put where it stands
+put_same : (cs : List Connection) (n : ℕ) (c : Connection) → numbered n cs ≡ Some c → put n cs c ≡ cs
+put_same cs zero c h = cc
+put_same cs (suc n) c h = ap (λ (k : ℕ). slice_set cs k c) (before_suc n) ∙ set_same cs n c h
+
+-- the world with another at the place of this connection
+abbrev with_at : PlainWorld → ℕ → Option Connection → (Connection → Connection) → PlainWorld
+with_at w n o f = record w { connections = changed n w.connections f o }
+
+-- A turn that has no step changes its connection alone, and by whatever the store and the moment are.
+abbrev StillBy : ℕ → Option Connection → PlainWorld → PlainWorld → Type 0
+StillBy n o old new =
+    (f : Connection → Connection) × (new ≡ with_at old n o f)
+    × ((w : PlainWorld) → open_connection n w.connections ≡ o → MatchOption o (with_at w n o f ≡ w) (λ c. Turns w n c (with_at w n o f)))
+
+still_unit : (unit : ProtocolUnit) (at now m : ℕ) (before after other : Plain) (text : List ℕ) → step_of unit at ≡ None → Answers replies is_spent unit at now before after text → (after ≡ before) × Answers replies is_spent unit at m other other text
+still_unit (Request command) at now m before after other text none h =
+    let told : MatchOption (let no : Option KeyStep = None in no) ((text ≡ plain_text command) × (after ≡ before)) (λ step. AnswersStep replies is_spent command at step now before after text) =
+    subst (λ (o : Option KeyStep). MatchOption o ((text ≡ plain_text command) × (after ≡ before)) (λ step. AnswersStep replies is_spent command at step now before after text)) none h in (
+      told.1,
+      subst (λ (o : Option KeyStep). MatchOption o ((text ≡ plain_text command) × (other ≡ other)) (λ step. AnswersStep replies is_spent command at step m other other text)) (sym none) (told.0, refl),
+    )
+still_unit (Fault fault) at now m before after other text none h = (h.1, (h.0, refl))
+still_unit LongLine at now m before after other text none h = (h.1, (h.0, refl))
+
+still_turn : (old new : PlainWorld) (n : ℕ) (o : Option Connection) → open_connection n old.connections ≡ o → IfSome o NextHasNoStep → MatchOption o (new ≡ old) (λ c. Turns old n c new) → StillBy n o old new
+still_turn old new n None here still h = (λ c. c, h, λ w there. refl)
+still_turn old new n (Some c) here still (inl h) = (
+  λ c. c,
+  h.1 ∙ ap (λ (l : List Connection). let w : PlainWorld = record old { connections = l } in w) (sym (put_same old.connections n c (is_numbered (numbered n old.connections) c here))),
+  λ w there. inl (h.0, ap (λ (l : List Connection). let v : PlainWorld = record w { connections = l } in v) (put_same w.connections n c (is_numbered (numbered n w.connections) c there))),
+)
+still_turn old new n (Some c) here still (inr (state, turn, is)) =
+    let none = still turn.unit turn.at turn.next in
+    let same : state ≡ old.state = (still_unit turn.unit turn.at old.now old.now old.state state old.state turn.text none turn.answers).0 in
+    let next : Connection = after_turn turn.unit turn.text c in (
+      λ c. after_turn turn.unit turn.text c,
+      is ∙ ap (λ (s : Plain). let w : PlainWorld = record old { state = s; connections = put n old.connections next } in w) same,
+      λ w there. inr (
+        w.state,
+        record {
+          unit = turn.unit;
+          at = turn.at;
+          text = turn.text;
+          next = turn.next;
+          answers = (still_unit turn.unit turn.at old.now w.now old.state state w.state turn.text none turn.answers).1;
+        },
+        refl,
+      ),
+    )
 
 module _ (hash : List ℕ → ℕ) (shelves : ℕ) where
-  happens_by : (old new : PlainWorld) (event : Event) (n : ℕ) → BringsOrCloses event n → Happens hash shelves old event new → new ≡ at_connection old n (change_of event)
-  happens_by old new Open n is h = absurd is
-  happens_by old new (Piece k piece) n is h = h ∙ ap (λ (k : ℕ). at_connection old k (with_piece piece)) is
-  happens_by old new (Turn k) n is h = absurd is
-  happens_by old new (Clock now) n is h = absurd is
-  happens_by old new (Grow shelf) n is h = absurd is
-  happens_by old new (Purge shelf) n is h = absurd is
-  happens_by old new (Close k) n is h = h ∙ ap (λ (k : ℕ). at_connection old k ended) is
+  abbrev HappensIn : PlainWorld → Event → PlainWorld → Type 0
+  HappensIn = Happens hash shelves
 
-  by_happens : (old new : PlainWorld) (event : Event) (n : ℕ) → BringsOrCloses event n → new ≡ at_connection old n (change_of event) → Happens hash shelves old event new
-  by_happens old new Open n is h = absurd is
-  by_happens old new (Piece k piece) n is h = h ∙ ap (λ (k : ℕ). at_connection old k (with_piece piece)) (sym is)
-  by_happens old new (Turn k) n is h = absurd is
-  by_happens old new (Clock now) n is h = absurd is
-  by_happens old new (Grow shelf) n is h = absurd is
-  by_happens old new (Purge shelf) n is h = absurd is
-  by_happens old new (Close k) n is h = h ∙ ap (λ (k : ℕ). at_connection old k ended) (sym is)
+  -- an event that decides no step changes its connection alone
+  abbrev Still : Event → ℕ → PlainWorld → PlainWorld → Type 0
+  Still event n old new =
+      (f : Connection → Connection) × (new ≡ at_connection old n f)
+      × ((w : PlainWorld) → open_connection n w.connections ≡ open_connection n old.connections → HappensIn w event (at_connection w n f))
 
-  swaps : (m n : ℕ) (first second : Event) (rest : List Event) → (m ≡ n → ⊥) → BringsOrCloses first m → BringsOrCloses second n → (old new : PlainWorld) → Runs hash shelves old (first ∷ second ∷ rest) new → Runs hash shelves old (second ∷ first ∷ rest) new
-  swaps m n first second rest apart one other old new (mid, happens, (last, happens', runs)) =
-      let now_mid : mid ≡ at_connection old m (change_of first) = happens_by old mid first m one happens in
-      let now_last : last ≡ at_connection mid n (change_of second) = happens_by mid last second n other happens' in
-      let between : PlainWorld = at_connection old n (change_of second) in (
-        between,
-        by_happens old between second n other refl,
-        (last, by_happens between last first m one (now_last ∙ ap (λ (w : PlainWorld). at_connection w n (change_of second)) now_mid ∙ either_order old m n (change_of first) (change_of second) apart), runs),
+  still_by : (k n : ℕ) (old new : PlainWorld) → k ≡ n → StillBy n (open_connection n old.connections) old new → Still (Turn k) n old new
+  still_by k n old new same (f, is, others) = (
+    f,
+    is,
+    λ w there.
+        let goes : MatchOption (open_connection n w.connections) (at_connection w n f ≡ w) (λ c. Turns w n c (at_connection w n f)) =
+        subst (λ (o : Option Connection). MatchOption o (with_at w n o f ≡ w) (λ c. Turns w n c (with_at w n o f))) (sym there) (others w there) in
+        subst (λ (j : ℕ). HappensIn w (Turn j) (at_connection w n f)) (sym same) goes,
+  )
+
+  still_event : (old new : PlainWorld) (event : Event) (n : ℕ) → DecidesNoStep old event n → HappensIn old event new → Still event n old new
+  still_event old new Open n is h = absurd is
+  still_event old new (Piece k piece) n is h =
+      (with_piece piece, h ∙ ap (λ (j : ℕ). at_connection old j (with_piece piece)) is, λ w there. ap (λ (j : ℕ). at_connection w j (with_piece piece)) (sym is))
+  still_event old new (Turn k) n is h =
+      let mine : HappensIn old (Turn n) new = subst (λ (j : ℕ). HappensIn old (Turn j) new) is.0 h in
+      still_by k n old new is.0 (still_turn old new n (open_connection n old.connections) refl is.1 mine)
+  still_event old new (Clock now) n is h = absurd is
+  still_event old new (Grow shelf) n is h = absurd is
+  still_event old new (Purge shelf) n is h = absurd is
+  still_event old new (Close k) n is h =
+      (ended, h ∙ ap (λ (j : ℕ). at_connection old j ended) is, λ w there. ap (λ (j : ℕ). at_connection w j ended) (sym is))
+
+  -- what decides no step there does not where the connection is the same
+  still_there : (w v : PlainWorld) (event : Event) (n : ℕ) → open_connection n v.connections ≡ open_connection n w.connections → DecidesNoStep w event n → DecidesNoStep v event n
+  still_there w v Open n same is = is
+  still_there w v (Piece k piece) n same is = is
+  still_there w v (Turn k) n same is = (is.0, subst (λ (o : Option Connection). IfSome o NextHasNoStep) (sym same) is.1)
+  still_there w v (Clock now) n same is = is
+  still_there w v (Grow shelf) n same is = is
+  still_there w v (Purge shelf) n same is = is
+  still_there w v (Close k) n same is = is
+
+-- a turn of one session over a change of another's connection
+module _ (old : PlainWorld) (k n : ℕ) (f : Connection → Connection) (apart : k ≡ n → ⊥) where
+  abbrev changed_one : PlainWorld
+  changed_one = at_connection old n f
+
+  one_open : open_connection k changed_one.connections ≡ open_connection k old.connections
+  one_open = open_apart old.connections n k f (λ e. apart (sym e))
+
+  -- the state and connection k after a turn
+  abbrev turned : PlainWorld → Plain → Connection → PlainWorld
+  turned w state next = record w { state = state; connections = put k w.connections next }
+
+  turned_either : (state : Plain) (c next : Connection) → open_connection k old.connections ≡ Some c → at_connection (turned old state next) n f ≡ turned changed_one state next
+  turned_either state c next here =
+      let with_state : PlainWorld = record old { state = state } in
+      ap (λ (o : Option Connection). at_connection (with_at with_state k o (λ c. next)) n f) (sym here)
+      ∙ either_order with_state k n (λ c. next) f apart
+      ∙ ap (λ (o : Option Connection). with_at (at_connection with_state n f) k o (λ c. next)) (one_open ∙ here)
+
+  along_turn : (new : PlainWorld) (o : Option Connection) → open_connection k old.connections ≡ o → MatchOption o (new ≡ old) (λ c. Turns old k c new) → MatchOption o (at_connection new n f ≡ changed_one) (λ c. Turns changed_one k c (at_connection new n f))
+  along_turn new None here h = ap (λ w. at_connection w n f) h
+  along_turn new (Some c) here (inl h) = inl (h.0, ap (λ w. at_connection w n f) h.1)
+  along_turn new (Some c) here (inr (state, turn, is)) = inr (
+    state,
+    record { unit = turn.unit; at = turn.at; text = turn.text; next = turn.next; answers = turn.answers },
+    ap (λ w. at_connection w n f) is ∙ turned_either state c (after_turn turn.unit turn.text c) here,
+  )
+
+  back_turn : (last : PlainWorld) (o : Option Connection) → open_connection k old.connections ≡ o → MatchOption o (last ≡ changed_one) (λ c. Turns changed_one k c last) → (between : PlainWorld) × MatchOption o (between ≡ old) (λ c. Turns old k c between) × (last ≡ at_connection between n f)
+  back_turn last None here h = (old, refl, h)
+  back_turn last (Some c) here (inl h) = (old, inl (h.0, refl), h.1)
+  back_turn last (Some c) here (inr (state, turn, is)) =
+      let next : Connection = after_turn turn.unit turn.text c in (
+        turned old state next,
+        inr (state, record { unit = turn.unit; at = turn.at; text = turn.text; next = turn.next; answers = turn.answers }, refl),
+        is ∙ sym (turned_either state c next here),
       )
 
-  pub places_change : (m n : ℕ) (first second : Event) → (m ≡ n → ⊥) → BringsOrCloses first m → BringsOrCloses second n → (old new : PlainWorld) (front rest : List Event) → Runs hash shelves old (front ++ first ∷ second ∷ rest) new ↔ Runs hash shelves old (front ++ second ∷ first ∷ rest) new
-  places_change m n first second apart one other old new front rest = (
-    behind hash shelves (first ∷ second ∷ rest) (second ∷ first ∷ rest) (swaps m n first second rest apart one other) front old new,
-    behind hash shelves (second ∷ first ∷ rest) (first ∷ second ∷ rest) (swaps n m second first rest (λ e. apart (sym e)) other one) front old new,
+  open_turn : (new : PlainWorld) (o : Option Connection) → open_connection k old.connections ≡ o → MatchOption o (new ≡ old) (λ c. Turns old k c new) → open_connection n new.connections ≡ open_connection n old.connections
+  open_turn new None here h = ap (λ (w : PlainWorld). open_connection n w.connections) h
+  open_turn new (Some c) here (inl h) = ap (λ (w : PlainWorld). open_connection n w.connections) h.1
+  open_turn new (Some c) here (inr (state, turn, is)) =
+      ap (λ (w : PlainWorld). open_connection n w.connections) is ∙ open_put old.connections k n c (after_turn turn.unit turn.text c) here apart
+
+-- An event apart from a session goes the same whatever the session's connection is, and leaves that.
+module _ (hash : List ℕ → ℕ) (shelves : ℕ) (n : ℕ) where
+  abbrev HappensSo : PlainWorld → Event → PlainWorld → Type 0
+  HappensSo = Happens hash shelves
+
+  not_it : (k : ℕ) → (Some k ≡ Some n → ⊥) → k ≡ n → ⊥
+  not_it k apart e = apart (ap (λ (j : ℕ). Some j) e)
+
+  passes : (f : Connection → Connection) (old new : PlainWorld) (event : Event) → IsApart event n → HappensSo old event new → HappensSo (at_connection old n f) event (at_connection new n f)
+  passes f old new Open apart h = absurd (apart.0 refl)
+  passes f old new (Piece k piece) apart h = ap (λ w. at_connection w n f) h ∙ either_order old k n (with_piece piece) f (not_it k apart.1)
+  passes f old new (Turn k) apart h =
+      let goes = along_turn old k n f (not_it k apart.1) new (open_connection k old.connections) refl h in
+      subst (λ (o : Option Connection). MatchOption o (at_connection new n f ≡ at_connection old n f) (λ c. Turns (at_connection old n f) k c (at_connection new n f))) (sym (one_open old k n f (not_it k apart.1))) goes
+  passes f old new (Clock now) apart h = ap (λ w. at_connection w n f) h
+  passes f old new (Grow shelf) apart h = ap (λ w. at_connection w n f) h
+  passes f old new (Purge shelf) apart h = ap (λ w. at_connection w n f) h
+  passes f old new (Close k) apart h = ap (λ w. at_connection w n f) h ∙ either_order old k n ended f (not_it k apart.1)
+
+  abbrev Between : (Connection → Connection) → PlainWorld → Event → PlainWorld → Type 0
+  Between f old event last = (between : PlainWorld) × HappensSo old event between × (last ≡ at_connection between n f)
+
+  passes_back : (f : Connection → Connection) (old last : PlainWorld) (event : Event) → IsApart event n → HappensSo (at_connection old n f) event last → Between f old event last
+  passes_back f old last Open apart h = absurd (apart.0 refl)
+  passes_back f old last (Piece k piece) apart h = (at_connection old k (with_piece piece), refl, h ∙ sym (either_order old k n (with_piece piece) f (not_it k apart.1)))
+  passes_back f old last (Turn k) apart h =
+      let goes : MatchOption (open_connection k old.connections) (last ≡ at_connection old n f) (λ c. Turns (at_connection old n f) k c last) =
+      subst (λ (o : Option Connection). MatchOption o (last ≡ at_connection old n f) (λ c. Turns (at_connection old n f) k c last)) (one_open old k n f (not_it k apart.1)) h in
+      back_turn old k n f (not_it k apart.1) last (open_connection k old.connections) refl goes
+  passes_back f old last (Clock now) apart h = (record old { now = now }, refl, h)
+  passes_back f old last (Grow shelf) apart h = (old, refl, h)
+  passes_back f old last (Purge shelf) apart h = (record old { state = if nat_lt shelf shelves then purged (λ key. hash key % shelves == shelf) old.now old.state else old.state }, refl, h)
+  passes_back f old last (Close k) apart h = (at_connection old k ended, refl, h ∙ sym (either_order old k n ended f (not_it k apart.1)))
+
+  leaves : (old new : PlainWorld) (event : Event) → IsApart event n → HappensSo old event new → open_connection n new.connections ≡ open_connection n old.connections
+  leaves old new Open apart h = absurd (apart.0 refl)
+  leaves old new (Piece k piece) apart h = ap (λ (w : PlainWorld). open_connection n w.connections) h ∙ open_apart old.connections k n (with_piece piece) (not_it k apart.1)
+  leaves old new (Turn k) apart h = open_turn old k n (λ c. c) (not_it k apart.1) new (open_connection k old.connections) refl h
+  leaves old new (Clock now) apart h = ap (λ (w : PlainWorld). open_connection n w.connections) h
+  leaves old new (Grow shelf) apart h = ap (λ (w : PlainWorld). open_connection n w.connections) h
+  leaves old new (Purge shelf) apart h = ap (λ (w : PlainWorld). open_connection n w.connections) h
+  leaves old new (Close k) apart h = ap (λ (w : PlainWorld). open_connection n w.connections) h ∙ open_apart old.connections k n ended (not_it k apart.1)
+
+  abbrev RunsSo : PlainWorld → List Event → PlainWorld → Type 0
+  RunsSo = Runs hash shelves
+
+  later : (old new : PlainWorld) (still other : Event) (rest : List Event) → DecidesNoStep old still n → IsApart other n → RunsSo old (still ∷ other ∷ rest) new → RunsSo old (other ∷ still ∷ rest) new
+  later old new still other rest decides apart (mid, first, (last, second, runs)) =
+      let by = still_event hash shelves old mid still n decides first in
+      let from : HappensSo (at_connection old n by.0) other last = subst (λ (w : PlainWorld). HappensSo w other last) by.1 second in
+      let found = passes_back by.0 old last other apart from in
+      let goes : HappensSo found.0 still (at_connection found.0 n by.0) = by.2 found.0 (leaves old found.0 other apart found.1) in
+      (found.0, found.1, (last, subst (HappensSo found.0 still) (sym found.2) goes, runs))
+
+  sooner : (old new : PlainWorld) (still other : Event) (rest : List Event) → DecidesNoStep old still n → IsApart other n → RunsSo old (other ∷ still ∷ rest) new → RunsSo old (still ∷ other ∷ rest) new
+  sooner old new still other rest decides apart (between, first, (last, second, runs)) =
+      let same = leaves old between other apart first in
+      let by = still_event hash shelves between last still n (still_there hash shelves old between still n same decides) second in
+      let goes : HappensSo (at_connection old n by.0) other last = subst (HappensSo (at_connection old n by.0) other) (sym by.1) (passes by.0 old between other apart first) in
+      (at_connection old n by.0, by.2 old (sym same), (last, goes, runs))
+
+  pub places_change : (still other : Event) (old new : PlainWorld) (front rest : List Event) → ((world : PlainWorld) → RunsSo old front world → DecidesNoStep world still n) → IsApart other n
+      → RunsSo old (front ++ still ∷ other ∷ rest) new ↔ RunsSo old (front ++ other ∷ still ∷ rest) new
+  places_change still other old new front rest decides apart = (
+    behind_here hash shelves (still ∷ other ∷ rest) (other ∷ still ∷ rest) front old new (λ mid runs. later mid new still other rest (decides mid runs) apart),
+    behind_here hash shelves (other ∷ still ∷ rest) (still ∷ other ∷ rest) front old new (λ mid runs. sooner mid new still other rest (decides mid runs) apart),
   )

@@ -4,3 +4,4 @@ pub mod SessionLemmas
 pub mod TurnLemmas
 pub mod WorldLemmas
 pub mod LawLemmas
+pub mod AnswerLemmas

@@ -1,17 +1,16 @@
 -- The turn of one session among others.
-use Rattle.std.proofs.Common.{◌≡◌, ◌⊎◌, inl, inr, ℕ, zero, suc, ◌+◌, ◌-◌, ◌<◌, Bool, true, false, List, [], ◌∷◌, length, get_or, Option, Some, None, Result, Ok, Err, IfErr, OnOk, OnErr, IsTrue, IsFalse, slice_set, refl, sym, ap, ◌∙◌, subst, arith, add-one, if◌then◌else◌}
-use Rattle.std.specs.List.{slice_get}
+use Rattle.std.proofs.Common.{◌≡◌, ◌⊎◌, inl, inr, ℕ, ◌-◌, Bool, true, false, List, get_or, Option, Some, None, Result, Ok, Err, IfErr, OnOk, OnErr, IsTrue, IsFalse, slice_set, refl, sym, ap, ◌∙◌, subst, arith, add-one, if◌then◌else◌}
 use Rattle.std.specs.Option.{MatchOption}
 use Rattle.std.proofs.lemmas.List.{set-get_or}
 use Rattle.std.proofs.lemmas.Option.{get_or_from_slice_get}
 use Rattle.mc_command.specs.declared.step.KeyStep.{KeyStep}
 use Rattle.mc_command.specs.declared.reply.Reply.{Reply}
-use Rattle.mc_session.specs.Turns.{SessionState, TakesTurn, NoTurnDue, closed}
+use Rattle.mc_session.specs.Turns.{SessionState, TakesTurn, DecidesStep, NoTurnDue, closed}
 use Rattle.mc_session.specs.declared.session.Turn.{Turn}
 use Rattle.mc_session.specs.declared.session.Turn.TheVariants.{Did, Idle, Closed}
 use Rattle.mc_session.specs.declared.session.TurnFault.{TurnFault}
-use Rattle.mc_world.specs.Worlds.{numbered, if_open, put, changed, open_session}
-use Rattle.mc_world.specs.Sessions.{IsOpenAt, TurnOf, DecidedOf, at_session}
+use Rattle.mc_world.specs.Worlds.{if_open, put, changed, open_session}
+use Rattle.mc_world.specs.Sessions.{IsOpenAt, TurnOf, DecidedOf, IsDue, at_session}
 
 -- the session at the place is the open one of the number
 pub opens_at : (sessions : List SessionState) (n at : ℕ) (is : IsOpenAt sessions n at) → open_session n sessions ≡ Some is.session
@@ -35,8 +34,8 @@ module _ {S : Type 0} (took : S → KeyStep → ℕ → Reply → S → Type 0) 
   found = opens_at old n at here_is ∙ ap (λ (s : SessionState). Some s) is_it
 
   -- its turn was decided
-  decided_of : (next : SessionState) → TakesTurn took spent now x next before after → DecidedOf took spent n now old before after
-  decided_of next takes = (x, next, found, takes)
+  decided_of : DecidesStep took now x before after → DecidedOf took n now old before after
+  decided_of decides = (x, found, decides)
 
   of_some : (new : List SessionState) → (NoTurnDue x × (new ≡ old) × (after ≡ before)) ⊎ ((next : SessionState) × TakesTurn took spent now x next before after × (new ≡ put n old next)) → TurnOf took spent n now old new before after
   of_some new h = subst (λ (o : Option SessionState). MatchOption o ((new ≡ old) × (after ≡ before)) (λ session.
@@ -70,6 +69,10 @@ module _ {S : Type 0} (took : S → KeyStep → ℕ → Reply → S → Type 0) 
   result_err (Ok t) h = tt
   result_err (Err fault) h = view_set ∙ put_is ∙ ap (put n old) h ∙ ap (changed n old closed) (sym found)
 
-  pub result_decided : (r : Result Turn TurnFault) → IfErr r (λ fault. IsTrue fault.decided → (next : SessionState) × TakesTurn took spent now x next before after) → IfErr r (λ fault. IsTrue fault.decided → DecidedOf took spent n now old before after)
+  pub result_decided : (r : Result Turn TurnFault) → IfErr r (λ fault. IsTrue fault.decided → DecidesStep took now x before after) → IfErr r (λ fault. IsTrue fault.decided → DecidedOf took n now old before after)
   result_decided (Ok t) h = tt
-  result_decided (Err fault) h = λ is. decided_of (h is).0 (h is).1
+  result_decided (Err fault) h = λ is. decided_of (h is)
+
+  pub result_due : (r : Result Turn TurnFault) → OnErr r (IsTrue x.is_open × (NoTurnDue x → ⊥)) → OnErr r (IsDue n old)
+  result_due (Ok t) h = tt
+  result_due (Err fault) h = (x, found, h.1)

@@ -1,5 +1,5 @@
 -- Turns over a store are turns over what contracts see of it.
-use Rattle.std.proofs.Common.{◌≡◌, ◌⊎◌, inl, inr, ℕ, ◌<◌, List, [], ◌∷◌, Bool, true, false, Option, Some, None, Result, Ok, Err, IfErr, OnOk, OnErr, IsTrue, IsFalse, refl, ap}
+use Rattle.std.proofs.Common.{◌≡◌, ◌⊎◌, inl, inr, ℕ, List, Bool, true, false, Option, Some, None, Result, Ok, Err, IfErr, OnOk, OnErr, IsTrue, IsFalse, refl, ap}
 use Rattle.std.specs.List.{slice_get}
 use Rattle.std.specs.Option.{MatchOption}
 use Rattle.mc_command.specs.Commands.{steps}
@@ -9,13 +9,12 @@ use Rattle.mc_command.specs.declared.step.KeyStep.{KeyStep}
 use Rattle.mc_command.specs.declared.reply.Reply.{Reply}
 use Rattle.mc_parse.specs.Units.{ProtocolUnit, Request, Fault, LongLine}
 use Rattle.mc_reply.specs.Texts.{plain_text}
-use Rattle.mc_session.specs.Turns.{SessionState, Answers, AnswersStep, TakesTurn, NoTurnDue, closed}
+use Rattle.mc_session.specs.Turns.{SessionState, Answers, AnswersStep, TakesTurn, DecidesStep, NoTurnDue, closed}
 use Rattle.mc_session.specs.declared.session.Turn.{Turn}
 use Rattle.mc_session.specs.declared.session.TurnFault.{TurnFault}
 use Rattle.mc_shelf.specs.declared.store.Store.{Store}
 use Rattle.mc_world.specs.Worlds.{put, open_session, replies, is_spent}
-use Rattle.mc_world.specs.Sessions.{TurnOf, DecidedOf, Undone, at_session}
-use Rattle.mc_world.specs.declared.event.Event.{Event}
+use Rattle.mc_world.specs.Sessions.{TurnOf, DecidedOf, IsDue, Undone, at_session}
 use Rattle.mc_world.specs.declared.event.Event.TheVariants.{Turn as TurnEvent}
 
 module _ {S T : Type 0} (took : S → KeyStep → ℕ → Reply → S → Type 0) (spent : S → KeyStep → ℕ → Type 0) (took' : T → KeyStep → ℕ → Reply → T → Type 0) (spent' : T → KeyStep → ℕ → Type 0) (f : S → T)
@@ -40,6 +39,7 @@ module _ {S T : Type 0} (took : S → KeyStep → ℕ → Reply → S → Type 0
     front = h.front;
     rest = h.rest;
     text = h.text;
+    opens = h.opens;
     parts = h.parts;
     spelled = h.spelled;
     due = h.due;
@@ -57,8 +57,22 @@ module _ {S T : Type 0} (took : S → KeyStep → ℕ → Reply → S → Type 0
   pub turn_seen : (n now : ℕ) (old new : List SessionState) (b a : S) → TurnOf took spent n now old new b a → TurnOf took' spent' n now old new (f b) (f a)
   turn_seen n now old new b a h = of_seen n now old new b a (open_session n old) h
 
-  pub decided_seen : (n now : ℕ) (old : List SessionState) (b a : S) → DecidedOf took spent n now old b a → DecidedOf took' spent' n now old (f b) (f a)
-  decided_seen n now old b a h = (h.0, h.1, h.2, takes_seen now h.0 h.1 b a h.3)
+  decides_seen : (now : ℕ) (s : SessionState) (b a : S) → DecidesStep took now s b a → DecidesStep took' now s (f b) (f a)
+  decides_seen now s b a h = record {
+    command = h.command;
+    front = h.front;
+    rest = h.rest;
+    step = h.step;
+    reply = h.reply;
+    opens = h.opens;
+    parts = h.parts;
+    spelled = h.spelled;
+    is_step = h.is_step;
+    took_it = takes b h.step now h.reply a h.took_it;
+  }
+
+  pub decided_seen : (n now : ℕ) (old : List SessionState) (b a : S) → DecidedOf took n now old b a → DecidedOf took' n now old (f b) (f a)
+  decided_seen n now old b a h = (h.0, h.1, decides_seen now h.0 b a h.2)
 
 -- What each step keeps, and what nothing changes where there is no step, a turn keeps.
 module _ {S : Type 0} (took : S → KeyStep → ℕ → Reply → S → Type 0) (spent : S → KeyStep → ℕ → Type 0) (Keeps : S → S → Type 0) (each : (b : S) (step : KeyStep) (now : ℕ) (reply : Reply) (a : S) → took b step now reply a → Keeps b a) (none : (b a : S) → a ≡ b → Keeps b a) where
@@ -84,8 +98,8 @@ module _ {S : Type 0} (took : S → KeyStep → ℕ → Reply → S → Type 0) 
   pub turn_keeps : (n now : ℕ) (old new : List SessionState) (b a : S) → TurnOf took spent n now old new b a → Keeps b a
   turn_keeps n now old new b a h = of_keeps n now old new b a (open_session n old) h
 
-  pub decided_keeps : (n now : ℕ) (old : List SessionState) (b a : S) → DecidedOf took spent n now old b a → Keeps b a
-  decided_keeps n now old b a h = answers_keep h.3.unit h.0.taken now b a h.3.text h.3.answers
+  pub decided_keeps : (n now : ℕ) (old : List SessionState) (b a : S) → DecidedOf took n now old b a → Keeps b a
+  decided_keeps n now old b a h = each b h.2.step now h.2.reply a h.2.took_it
 
 -- a store's step, as what it says of the plain state
 abbrev store_took : {K : Type 0} → Store K → KeyStep → ℕ → Reply → Store K → Type 0
@@ -106,21 +120,22 @@ module _ {K : Type 0} (n now : ℕ) (old new : List SessionState) (b a : Store K
   result_done greatest (Ok t) h = (refl, refl, turn_seen store_took store_spent replies is_spent (λ (s : Store K). s.plain) (λ b step now reply a h. h.0) (λ b step now h. h) n now old new b a h)
   result_done greatest (Err fault) h = tt
 
-  decided_kept : (decided : Bool) → (IsFalse decided → a ≡ b) → (IsTrue decided → DecidedOf store_took store_spent n now old b a) → Kept b a
+  decided_kept : (decided : Bool) → (IsFalse decided → a ≡ b) → (IsTrue decided → DecidedOf store_took n now old b a) → Kept b a
   decided_kept true undecided decides = decided_keeps store_took store_spent Kept (λ b step now reply a h. (h.1, h.2)) kept_same n now old b a (decides refl)
   decided_kept false undecided decides = kept_same b a (undecided refl)
 
-  pub result_kept : (r : Result Turn TurnFault) → OnOk r (TurnOf store_took store_spent n now old new b a) → IfErr r (λ fault. IsFalse fault.decided → a ≡ b) → IfErr r (λ fault. IsTrue fault.decided → DecidedOf store_took store_spent n now old b a) → Kept b a
+  pub result_kept : (r : Result Turn TurnFault) → OnOk r (TurnOf store_took store_spent n now old new b a) → IfErr r (λ fault. IsFalse fault.decided → a ≡ b) → IfErr r (λ fault. IsTrue fault.decided → DecidedOf store_took n now old b a) → Kept b a
   result_kept (Ok t) h undecided decides = turn_keeps store_took store_spent Kept (λ b step now reply a h. (h.1, h.2)) kept_same n now old new b a h
   result_kept (Err fault) h undecided decides = decided_kept fault.decided undecided decides
 
-  pub result_undone : (greatest : ℕ) (r : Result Turn TurnFault) → OnErr r (new ≡ at_session old n closed) → IfErr r (λ fault. IsFalse fault.decided → a ≡ b) → IfErr r (λ fault. IsTrue fault.decided → DecidedOf store_took store_spent n now old b a)
+  pub result_undone : (greatest : ℕ) (r : Result Turn TurnFault) → OnErr r (new ≡ at_session old n closed) → OnErr r (IsDue n old) → IfErr r (λ fault. IsFalse fault.decided → a ≡ b) → IfErr r (λ fault. IsTrue fault.decided → DecidedOf store_took n now old b a)
       → IfErr r (λ fault. Undone fault.decided (record { greatest = greatest; state = b.plain; now = now; sessions = old }) (TurnEvent n) (record { greatest = greatest; state = a.plain; now = now; sessions = new }))
-  result_undone greatest (Ok t) shut undecided decides = tt
-  result_undone greatest (Err fault) shut undecided decides = record {
+  result_undone greatest (Ok t) shut due undecided decides = tt
+  result_undone greatest (Err fault) shut due undecided decides = record {
     greatest = refl;
     now = refl;
     sessions = shut;
+    takes = due;
     undecided = λ is. ap (λ (s : Store K). s.plain) (undecided is);
     decides = λ is. decided_seen store_took store_spent replies is_spent (λ (s : Store K). s.plain) (λ b step now reply a h. h.0) (λ b step now h. h) n now old b a (decides is);
   }

@@ -1,19 +1,21 @@
 -- What one event makes of the sessions is what it makes of the connections.
-use Rattle.std.proofs.Common.{◌≡◌, ◌⊎◌, inl, inr, ℕ, ◌+◌, ◌%◌, ◌==◌, ◌<◌, Bool, true, false, List, [], ◌∷◌, ◌++◌, length, take, get_or, Option, Some, None, nat_lt, refl, sym, ap, ◌∙◌, subst, arith, if◌then◌else◌, IsTrue, IsFalse}
+use Rattle.std.proofs.Common.{◌≡◌, ◌⊎◌, inl, inr, ℕ, ◌+◌, ◌%◌, ◌==◌, ◌<◌, Bool, true, false, List, [], ◌∷◌, ◌++◌, length, take, get_or, Option, Some, None, nat_lt, refl, sym, ap, ◌∙◌, subst, arith, if◌then◌else◌}
 use Rattle.std.specs.List.{slice_get}
 use Rattle.std.specs.Option.{MatchOption}
 use Rattle.std.proofs.lemmas.List.{take_more}
+use Rattle.std.proofs.lemmas.Option.{slice_get_within}
+use Rattle.mc_command.specs.Commands.{steps}
 use Rattle.mc_command.specs.Plain.{Plain}
-use Rattle.mc_parse.specs.Units.{ProtocolUnit}
-use Rattle.mc_session.specs.Turns.{SessionState, Answers, TakesTurn, NoTurnDue, opened, fed, closed, sent}
+use Rattle.mc_parse.specs.Units.{ProtocolUnit, Request}
+use Rattle.mc_session.specs.Turns.{SessionState, Answers, TakesTurn, DecidesStep, NoTurnDue, opened, fed, closed, sent}
 use Rattle.mc_command.specs.Purge.{purged}
-use Rattle.mc_world.specs.Connections.{Connection, IsRest, Stands, at_start, fresh, with_piece, after_turn, ended}
-use Rattle.mc_world.specs.Worlds.{PlainWorld, WorldState, replies, is_spent, put, changed, numbered, CanStand, open_connection, open_session, at_connection, NextTurn, Turns, Happens, Runs, StandAll, StandsAs, Told, named, with_end, Decides, GivesUp, ToldUntil}
-use Rattle.mc_world.specs.Sessions.{at_session, TurnOf, DecidedOf, Done, sessions_ended, DecidedIn, Undone}
+use Rattle.mc_world.specs.Connections.{Connection, IsNext, IsRest, Stands, at_start, fresh, with_piece, after_turn, ended}
+use Rattle.mc_world.specs.Worlds.{PlainWorld, WorldState, replies, is_spent, put, changed, numbered, CanStand, open_connection, open_session, at_connection, NextTurn, NextStep, Turns, Happens, Runs, StandAll, StandsAs, Told, named, with_end, Decides, TakesMemory, GivesUp, ToldUntil}
+use Rattle.mc_world.specs.Sessions.{at_session, Done, sessions_ended, DecidedIn, Takes, Undone}
 use Rattle.mc_world.specs.declared.event.Event.{Event}
 use Rattle.mc_world.specs.declared.event.Event.TheVariants.{Open, Piece, Turn, Clock, Grow, Purge, Close}
 use Rattle.mc_world.specs.declared.event.Refused.{Refused}
-use Rattle.mc_world.proofs.ConnectionLemmas.{rest_fed, rest_closed, rest_idle, is_next, stands_after}
+use Rattle.mc_world.proofs.ConnectionLemmas.{rest_fed, rest_closed, rest_idle, rest_due, next_of, is_next, stands_after}
 use Rattle.mc_world.proofs.StandLemmas.{Opens, stand_length, stand_open, stand_put, stand_more, stand_changed, stand_sent, less}
 
 -- a session that was just opened is what is left of a fresh connection
@@ -38,6 +40,21 @@ next_turn first now c s new before after rest same_now same_state takes =
       text = takes.text;
       next = is_next replies is_spent now c s new before after rest takes;
       answers = subst (λ (b : Plain). Answers replies is_spent takes.unit s.taken first.now b after takes.text) same_state at_now;
+    }
+
+-- and so is its step
+next_step : (first : PlainWorld) (now : ℕ) (c : Connection) (s : SessionState) (before after : Plain) → IsRest c s → now ≡ first.now → before ≡ first.state → DecidesStep replies now s before after → NextStep first c after
+next_step first now c s before after rest same_now same_state decides =
+    let at_now : replies before decides.step first.now decides.reply after = subst (λ (m : ℕ). replies before decides.step m decides.reply after) same_now decides.took_it in
+    record {
+      command = decides.command;
+      at = s.taken;
+      step = decides.step;
+      reply = decides.reply;
+      next = next_of c s rest (Request decides.command) decides.front decides.rest decides.parts decides.spelled
+          (omega (arith, slice_get_within (steps decides.command) s.taken decides.step decides.is_step));
+      is_step = decides.is_step;
+      replied = subst (λ (b : Plain). replies b decides.step first.now decides.reply after) same_state at_now;
     }
 
 module _ (hash : List ℕ → ℕ) (shelves : ℕ) where
@@ -159,28 +176,50 @@ module _ (hash : List ℕ → ℕ) (shelves : ℕ) where
         sessions = subst (StandAll (with_end (named event) w).connections) (sym undone.sessions) (ended_stands w old.sessions (named event) stands.sessions);
       }
 
-  -- the connection whose turn was decided
-  decides_turn : (first : PlainWorld) (old : WorldState) (state : Plain) (n : ℕ) (c : Option Connection) (s next : SessionState) → StandsAs first old → Opens c (Some s) → TakesTurn replies is_spent old.now s next old.state state
-      → (connection : Connection) × (c ≡ Some connection) × NextTurn first connection state
-  decides_turn first old state n None s next stands both takes = absurd both
-  decides_turn first old state n (Some c) s next stands both takes = (c, refl, next_turn first old.now c s next old.state state both.2 stands.now stands.state takes)
+  -- the connection whose step was decided
+  decides_turn : (first : PlainWorld) (old : WorldState) (state : Plain) (c : Option Connection) (s : SessionState) → StandsAs first old → Opens c (Some s) → DecidesStep replies old.now s old.state state
+      → (connection : Connection) × (c ≡ Some connection) × NextStep first connection state
+  decides_turn first old state None s stands both decides = absurd both
+  decides_turn first old state (Some c) s stands both decides = (c, refl, next_step first old.now c s old.state state both.2 stands.now stands.state decides)
+
+  -- a session and its connection are open together
+  opens_both : (first : PlainWorld) (old : WorldState) (n : ℕ) (s : SessionState) → StandsAs first old → open_session n old.sessions ≡ Some s → Opens (open_connection n first.connections) (Some s)
+  opens_both first old n s stands is = subst (Opens (open_connection n first.connections)) is (stand_open first.connections old.sessions n stands.sessions)
 
   decides_in : (first : PlainWorld) (old : WorldState) (state : Plain) (event : Event) → StandsAs first old → DecidedIn old event state → Decides first event state
   decides_in first old state Open stands h = h
   decides_in first old state (Piece n piece) stands h = h
   decides_in first old state (Turn n) stands h =
-      decides_turn first old state n (open_connection n first.connections) h.0 h.1 stands (subst (Opens (open_connection n first.connections)) h.2 (stand_open first.connections old.sessions n stands.sessions)) h.3
+      decides_turn first old state (open_connection n first.connections) h.0 stands (opens_both first old n h.0 stands h.1) h.2
   decides_in first old state (Clock now) stands h = h
   decides_in first old state (Grow shelf) stands h = h
   decides_in first old state (Purge shelf) stands h = h
   decides_in first old state (Close n) stands h = h
+
+  -- an event takes memory where its connection does
+  opens_some : (c : Option Connection) (s : SessionState) → Opens c (Some s) → (connection : Connection) × (c ≡ Some connection)
+  opens_some None s both = absurd both
+  opens_some (Some c) s both = (c, refl)
+
+  due_some : (c : Option Connection) (s : SessionState) → Opens c (Some s) → (NoTurnDue s → ⊥) → (connection : Connection) × (c ≡ Some connection) × (unit : ProtocolUnit) × (at : ℕ) × IsNext connection unit at
+  due_some None s both due = absurd both
+  due_some (Some c) s both due = let next = rest_due c s both.2 due in (c, refl, next.0, next.1, next.2)
+
+  takes_memory : (first : PlainWorld) (old : WorldState) (event : Event) → StandsAs first old → Takes old event → TakesMemory first event
+  takes_memory first old Open stands h = omega (arith, stand_length first.connections old.sessions stands.sessions)
+  takes_memory first old (Piece n piece) stands h = opens_some (open_connection n first.connections) h.0 (opens_both first old n h.0 stands h.1)
+  takes_memory first old (Turn n) stands h = due_some (open_connection n first.connections) h.0 (opens_both first old n h.0 stands h.1) h.2
+  takes_memory first old (Clock now) stands h = h
+  takes_memory first old (Grow shelf) stands h = h
+  takes_memory first old (Purge shelf) stands h = h
+  takes_memory first old (Close n) stands h = h
 
   gives_up : (first : PlainWorld) (old new : WorldState) (event : Event) (decided : Bool) → StandsAs first old → Undone decided old event new → (last : PlainWorld) × GivesUp decided first event last × StandsAs last new
   gives_up first old new event true stands undone =
       (with_end (named event) (record first { state = new.state }), (new.state, decides_in first old new.state event stands (undone.decides refl), refl), refused_stands first old new event true stands undone)
   gives_up first old new event false stands undone =
       let same : new.state ≡ first.state = undone.undecided refl ∙ stands.state in
-      (with_end (named event) first, refl, subst (λ (p : Plain). StandsAs (with_end (named event) (record first { state = p })) new) same (refused_stands first old new event false stands undone))
+      (with_end (named event) first, (takes_memory first old event stands undone.takes, refl), subst (λ (p : Plain). StandsAs (with_end (named event) (record first { state = p })) new) same (refused_stands first old new event false stands undone))
 
   -- what is told of the events before a refused one, and of it
   pub told_until : (old mid new : WorldState) (events : List Event) (event : Event) (refused : Refused) → Told hash shelves old (take refused.at events) mid → slice_get events refused.at ≡ Some event → refused.session ≡ named event → Undone refused.decided mid event new → ToldUntil hash shelves refused old events new

@@ -1,5 +1,5 @@
 -- A session seen from its whole stream: how many of the stream's turns were taken.
-use Rattle.std.specs.Prelude.{◌≡◌, ◌⊎◌, ℕ, ◌+◌, ◌<◌, Bool, true, false, List, [], ◌∷◌, ◌++◌, length, drop, Some, None, slice_get, not}
+use Rattle.std.specs.Prelude.{◌≡◌, ℕ, ◌+◌, ◌<◌, Bool, true, false, List, [], ◌∷◌, ◌++◌, length, drop, Some, None, slice_get, not}
 use Rattle.std.specs.Bool.{MatchBool}
 use Rattle.mc_parse.specs.Units.{ProtocolUnit, Spells}
 use Rattle.mc_parse.specs.Streams.{AreUnits, is_last, passed_after}

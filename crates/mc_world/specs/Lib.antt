@@ -1,3 +1,4 @@
 pub mod Connections
 pub mod Worlds
 pub mod Sessions
+pub mod Laws

@@ -1,10 +1,10 @@
 -- What one event does to the sessions of a world.
-use Rattle.std.specs.Prelude.{◌≡◌, ◌⊎◌, ℕ, ◌+◌, ◌<◌, ◌%◌, ◌==◌, Bool, true, false, List, [], ◌∷◌, ◌++◌, length, Option, Some, None, slice_get, nat_lt, if◌then◌else◌, IsTrue, IsFalse}
+use Rattle.std.specs.Prelude.{◌≡◌, ◌⊎◌, ℕ, ◌+◌, ◌<◌, ◌%◌, ◌==◌, Bool, true, List, [], ◌∷◌, ◌++◌, length, Option, Some, None, slice_get, nat_lt, if◌then◌else◌, IsTrue, IsFalse}
 use Rattle.std.specs.Option.{MatchOption}
 use Rattle.mc_command.specs.Plain.{Plain}
 use Rattle.mc_command.specs.declared.step.KeyStep.{KeyStep}
 use Rattle.mc_command.specs.declared.reply.Reply.{Reply}
-use Rattle.mc_session.specs.Turns.{SessionState, TakesTurn, NoTurnDue, opened, fed, closed}
+use Rattle.mc_session.specs.Turns.{SessionState, TakesTurn, DecidesStep, NoTurnDue, opened, fed, closed}
 use Rattle.mc_command.specs.Purge.{purged}
 use Rattle.mc_world.specs.Worlds.{WorldState, put, changed, open_session, replies, is_spent, named}
 use Rattle.mc_world.specs.declared.event.Event.{Event}
@@ -23,10 +23,13 @@ module _ {S : Type 0} (took : S → KeyStep → ℕ → Reply → S → Type 0) 
       (NoTurnDue session × (new ≡ old) × (after ≡ before))
       ⊎ ((next : SessionState) × TakesTurn took spent now session next before after × (new ≡ put n old next)))
 
-  -- it decides its next turn, whose text isn't told
-  abbrev pub DecidedOf : ℕ → ℕ → List SessionState → S → S → Type 0
-  DecidedOf n now old before after =
-      (session : SessionState) × (next : SessionState) × (open_session n old ≡ Some session) × TakesTurn took spent now session next before after
+-- it decides the step of its next turn, whose text isn't told
+abbrev pub DecidedOf : {S : Type 0} (took : S → KeyStep → ℕ → Reply → S → Type 0) → ℕ → ℕ → List SessionState → S → S → Type 0
+DecidedOf took n now old before after = (session : SessionState) × (open_session n old ≡ Some session) × DecidesStep took now session before after
+
+-- a turn of it is due
+abbrev pub IsDue : ℕ → List SessionState → Type 0
+IsDue n sessions = (session : SessionState) × (open_session n sessions ≡ Some session) × (NoTurnDue session → ⊥)
 
 -- the session of that number stands at this place, and is open
 pub record IsOpenAt (sessions : List SessionState) (n at : ℕ) : Type 0 where
@@ -52,21 +55,32 @@ abbrev pub sessions_ended : Option ℕ → List SessionState → List SessionSta
 sessions_ended None sessions = sessions
 sessions_ended (Some n) sessions = at_session sessions n closed
 
--- the open session that an event gives a turn decides it
+-- the open session that an event gives a turn decides its step
 abbrev pub DecidedIn : WorldState → Event → Plain → Type 0
 DecidedIn old Open state = ⊥
 DecidedIn old (Piece n piece) state = ⊥
-DecidedIn old (Turn n) state = DecidedOf replies is_spent n old.now old.sessions old.state state
+DecidedIn old (Turn n) state = DecidedOf replies n old.now old.sessions old.state state
 DecidedIn old (Clock now) state = ⊥
 DecidedIn old (Grow shelf) state = ⊥
 DecidedIn old (Purge shelf) state = ⊥
 DecidedIn old (Close n) state = ⊥
+
+-- the event takes memory: it opens a session, brings a piece to one that is open, or gives one a turn that is due
+abbrev pub Takes : WorldState → Event → Type 0
+Takes old Open = length old.sessions < 65535
+Takes old (Piece n piece) = (session : SessionState) × (open_session n old.sessions ≡ Some session)
+Takes old (Turn n) = IsDue n old.sessions
+Takes old (Clock now) = ⊥
+Takes old (Grow shelf) = ⊥
+Takes old (Purge shelf) = ⊥
+Takes old (Close n) = ⊥
 
 -- what is left where memory ran out in an event
 pub record Undone (decided : Bool) (old : WorldState) (event : Event) (new : WorldState) : Type 0 where
   pub greatest : new.greatest ≡ old.greatest
   pub now : new.now ≡ old.now
   pub sessions : new.sessions ≡ sessions_ended (named event) old.sessions
+  pub takes : Takes old event
   pub undecided : IsFalse decided → new.state ≡ old.state
   pub decides : IsTrue decided → DecidedIn old event new.state
 

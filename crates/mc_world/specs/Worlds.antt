@@ -1,10 +1,12 @@
 -- The plain world: what a list of events makes of a store and its connections.
-use Rattle.std.specs.Prelude.{◌≡◌, ◌⊎◌, ℕ, zero, suc, ◌-◌, ◌%◌, ◌==◌, Bool, true, false, List, [], ◌∷◌, ◌++◌, length, take, Option, Some, None, slice_get, slice_set, nat_lt, if◌then◌else◌, IsTrue, IsFalse}
+use Rattle.std.specs.Prelude.{◌≡◌, ◌⊎◌, ℕ, zero, suc, ◌-◌, ◌%◌, ◌<◌, ◌==◌, Bool, true, false, List, [], ◌∷◌, ◌++◌, length, take, Option, Some, None, slice_get, slice_set, nat_lt, if◌then◌else◌, IsTrue, IsFalse}
 use Rattle.std.specs.Option.{MatchOption}
+use Rattle.mc_command.specs.Commands.{steps}
+use Rattle.mc_command.specs.declared.command.Command.{Command}
 use Rattle.mc_command.specs.Plain.{Plain, plain, Answered, Spent}
 use Rattle.mc_command.specs.declared.step.KeyStep.{KeyStep}
 use Rattle.mc_command.specs.declared.reply.Reply.{Reply}
-use Rattle.mc_parse.specs.Units.{ProtocolUnit}
+use Rattle.mc_parse.specs.Units.{ProtocolUnit, Request}
 use Rattle.mc_session.specs.Turns.{SessionState, Answers, NoTurnDue}
 use Rattle.mc_command.specs.Purge.{purged}
 use Rattle.mc_world.specs.Connections.{Connection, IsNext, HasNoNext, Stands, fresh, with_piece, after_turn, ended}
@@ -149,20 +151,41 @@ abbrev pub with_end : Option ℕ → PlainWorld → PlainWorld
 with_end None w = w
 with_end (Some n) w = at_connection w n ended
 
--- the next turn of the open connection that an event gives a turn
+-- The connection's next turn is a command's, and the plain machine answers its step at the world's moment: it takes the
+-- store's state to this one.
+pub record NextStep (old : PlainWorld) (connection : Connection) (state : Plain) : Type 0 where
+  pub command : Command
+  pub at : ℕ
+  pub step : KeyStep
+  pub reply : Reply
+  pub next : IsNext connection (Request command) at
+  pub is_step : slice_get (steps command) at ≡ Some step
+  pub replied : replies old.state step old.now reply state
+
+-- the step of the open connection that an event gives a turn
 abbrev pub Decides : PlainWorld → Event → Plain → Type 0
 Decides old Open state = ⊥
 Decides old (Piece n piece) state = ⊥
-Decides old (Turn n) state = (connection : Connection) × (open_connection n old.connections ≡ Some connection) × NextTurn old connection state
+Decides old (Turn n) state = (connection : Connection) × (open_connection n old.connections ≡ Some connection) × NextStep old connection state
 Decides old (Clock now) state = ⊥
 Decides old (Grow shelf) state = ⊥
 Decides old (Purge shelf) state = ⊥
 Decides old (Close n) state = ⊥
 
--- Memory ran out in an event: its turn was decided and isn't told, or nothing was done; and its session is closed.
+-- the event takes memory: it opens a session, brings a piece to one that is open, or gives one a turn that is due
+abbrev pub TakesMemory : PlainWorld → Event → Type 0
+TakesMemory old Open = length old.connections < 65535
+TakesMemory old (Piece n piece) = (connection : Connection) × (open_connection n old.connections ≡ Some connection)
+TakesMemory old (Turn n) = (connection : Connection) × (open_connection n old.connections ≡ Some connection) × (unit : ProtocolUnit) × (at : ℕ) × IsNext connection unit at
+TakesMemory old (Clock now) = ⊥
+TakesMemory old (Grow shelf) = ⊥
+TakesMemory old (Purge shelf) = ⊥
+TakesMemory old (Close n) = ⊥
+
+-- Memory ran out in an event: its turn's step was decided and isn't told, or nothing was done; and its session is closed.
 abbrev pub GivesUp : Bool → PlainWorld → Event → PlainWorld → Type 0
 GivesUp true old event new = (state : Plain) × Decides old event state × (new ≡ with_end (named event) (record old { state = state }))
-GivesUp false old event new = new ≡ with_end (named event) old
+GivesUp false old event new = TakesMemory old event × (new ≡ with_end (named event) old)
 
 -- What the events before a refused one make of a world, and then that one.
 pub record ToldUntil (hash : List ℕ → ℕ) (shelves : ℕ) (refused : Refused) (old : WorldState) (events : List Event) (new : WorldState) : Type 0 where
@@ -171,13 +194,3 @@ pub record ToldUntil (hash : List ℕ → ℕ) (shelves : ℕ) (refused : Refuse
   pub session : refused.session ≡ named event
   pub told : (first : PlainWorld) → StandsAs first old
       → (mid : PlainWorld) × (last : PlainWorld) × Runs hash shelves first (take refused.at events) mid × GivesUp refused.decided mid event last × StandsAs last new
-
--- the event brings a piece to the session of that number, or closes it
-abbrev pub BringsOrCloses : Event → ℕ → Type 0
-BringsOrCloses Open n = ⊥
-BringsOrCloses (Piece k piece) n = k ≡ n
-BringsOrCloses (Turn k) n = ⊥
-BringsOrCloses (Clock now) n = ⊥
-BringsOrCloses (Grow shelf) n = ⊥
-BringsOrCloses (Purge shelf) n = ⊥
-BringsOrCloses (Close k) n = k ≡ n

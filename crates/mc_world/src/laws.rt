@@ -1,7 +1,9 @@
 //! Laws of the plain world, each the contract of a function that does nothing.
 
-ghost use Rattle.std.specs.Prelude.{◌≡◌, ℕ, List, ◌∷◌, ◌++◌, ◌↔◌};
-ghost use Rattle.mc_world.specs.Worlds.{PlainWorld, Runs, BringsOrCloses};
+ghost use Rattle.std.specs.Prelude.{◌≡◌, ℕ, List, ◌∷◌, ◌++◌, ◌↔◌, Some};
+ghost use Rattle.mc_world.specs.Connections.{Connection};
+ghost use Rattle.mc_world.specs.Worlds.{PlainWorld, Runs, numbered};
+ghost use Rattle.mc_world.specs.Laws.{DecidesNoStep, IsApart, Answer, RunsAnswering, Leaves};
 ghost use Rattle.mc_world.specs.declared.event.Event.{Event};
 ghost use Rattle.mc_world.specs.declared.event.Event.TheVariants.{Grow, Piece};
 
@@ -18,9 +20,20 @@ pub fn a_piece_may_be_cut()
         ↔ Runs hash shelves old (front ++ Piece session (piece ++ more) ∷ rest) new }
 {}
 
-/// Pieces and closes of two sessions may change places.
+/// An event of a session that decides no step where it comes may change places with a neighbour that is none of that
+/// session's and opens none: with any event of another session, with a clock and with a purge.
 pub fn sessions_may_change_places()
-    ensures { (hash : List ℕ → ℕ) (shelves m n : ℕ) (first second : Event) → (m ≡ n → ⊥) → BringsOrCloses first m → BringsOrCloses second n →
-        (old new : PlainWorld) (front rest : List Event) →
-        Runs hash shelves old (front ++ first ∷ second ∷ rest) new ↔ Runs hash shelves old (front ++ second ∷ first ∷ rest) new }
+    ensures { (hash : List ℕ → ℕ) (shelves n : ℕ) (still other : Event) (old new : PlainWorld) (front rest : List Event) →
+        ((world : PlainWorld) → Runs hash shelves old front world → DecidesNoStep world still n) → IsApart other n →
+        Runs hash shelves old (front ++ still ∷ other ∷ rest) new ↔ Runs hash shelves old (front ++ other ∷ still ∷ rest) new }
+{}
+
+/// What a session has had and what is to be written of it follow from its own events and from what its own steps were
+/// answered. The rest of a run shows in those answers or not at all: other sessions, the clock, growth and purges.
+pub fn a_session_follows_its_own_answers()
+    ensures answered { (hash : List ℕ → ℕ) (shelves n : ℕ) (old new : PlainWorld) (events : List Event) (first : Connection) →
+        numbered n old.connections ≡ Some first → Runs hash shelves old events new →
+        (answers : List Answer) × (last : Connection) × RunsAnswering hash shelves n old events answers new × (numbered n new.connections ≡ Some last) }
+    ensures follows { (n : ℕ) (first : Connection) (own : List Event) (answers : List Answer) (last other : Connection) →
+        Leaves n first own answers last → Leaves n first own answers other → other ≡ last }
 {}

@@ -9,5 +9,8 @@ mod tests;
 mod world;
 
 pub use event::{Event, Refused};
-pub use laws::{a_piece_may_be_cut, growth_never_shows, sessions_may_change_places};
+pub use laws::{
+    a_piece_may_be_cut, a_session_follows_its_own_answers, growth_never_shows,
+    sessions_may_change_places,
+};
 pub use world::World;

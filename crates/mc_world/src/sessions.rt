@@ -2,7 +2,7 @@ ghost use Rattle.std.specs.Prelude.{◌≡◌, ◌++◌, ◌∷◌, [], ◌<◌,
 ghost use Rattle.std.specs.Option.{option_copied};
 ghost use Rattle.mc_session.specs.Turns.{SessionState, NoTurnDue, opened, fed, closed, sent};
 ghost use Rattle.mc_world.specs.Worlds.{numbered, open_session, put, changed, output_of, IsIdle, IsClosed};
-ghost use Rattle.mc_world.specs.Sessions.{at_session, IsOpenAt, TurnOf, DecidedOf};
+ghost use Rattle.mc_world.specs.Sessions.{at_session, IsOpenAt, TurnOf, DecidedOf, IsDue};
 
 use mc_command::Steps;
 use mc_session::{Session, Turn, TurnFault};
@@ -58,6 +58,7 @@ impl Sessions {
     pub fn open(&mut self, alloc: Global, greatest: u64) -> Result<(), AllocError>
         ensures ok { OnOk result (self.new ≡ (if nat_lt (length self.old) 65535 then self.old ++ opened greatest ∷ [] else self.old)) }
         ensures err { OnErr result (self.new ≡ self.old) }
+        ensures few { OnErr result (length self.old < 65535) }
     {
         if self.list.len() < MOST {
             self.list.push(Session::new(alloc, greatest))?;
@@ -69,6 +70,7 @@ impl Sessions {
     pub fn feed(&mut self, number: u32, piece: &[u8]) -> Result<(), AllocError>
         ensures ok { OnOk result (self.new ≡ at_session self.old number (λ s. fed s piece.now)) }
         ensures err { OnErr result (self.new ≡ at_session self.old number closed) }
+        ensures opens { OnErr result ((session : SessionState) × (open_session number self.old ≡ Some session)) }
     {
         let Some(at) = open_place(&self.list, number) else {
             return Ok(());
@@ -86,8 +88,9 @@ impl Sessions {
     ) -> Result<Turn, TurnFault>
         ensures ok { OnOk result (TurnOf S.took S.spent number now self.old self.new store.old store.new) }
         ensures err { OnErr result (self.new ≡ at_session self.old number closed) }
+        ensures due { OnErr result (IsDue number self.old) }
         ensures undecided { IfErr result (λ fault. IsFalse fault.decided → store.new ≡ store.old) }
-        ensures decided { IfErr result (λ fault. IsTrue fault.decided → DecidedOf S.took S.spent number now self.old store.old store.new) }
+        ensures decided { IfErr result (λ fault. IsTrue fault.decided → DecidedOf S.took number now self.old store.old store.new) }
     {
         let Some(at) = open_place(&self.list, number) else {
             return Ok(Turn::Closed);

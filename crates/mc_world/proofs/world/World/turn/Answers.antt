@@ -1,4 +1,3 @@
-use Rattle.std.proofs.Common.{refl, Result, Ok, Err}
 use Rattle.mc_world.proofs.TurnLemmas as lemmas
 use Rattle.mc_world.proofs.world.World.turn.Goals as goal
 
@@ -6,4 +5,4 @@ pub returns-clause-ok : goal.returns-clause-ok
 returns-clause-ok g c = lemmas.result_done c.args.number c.args.self.now.moment c.args.self.now.sessions c.turn.new.self c.args.self.now.store c.turn.new.store c.args.self.now.greatest c.turn.result c.turn.ensures.ok
 
 pub returns-clause-err : goal.returns-clause-err
-returns-clause-err g c = lemmas.result_undone c.args.number c.args.self.now.moment c.args.self.now.sessions c.turn.new.self c.args.self.now.store c.turn.new.store c.args.self.now.greatest c.turn.result c.turn.ensures.err c.turn.ensures.undecided c.turn.ensures.decided
+returns-clause-err g c = lemmas.result_undone c.args.number c.args.self.now.moment c.args.self.now.sessions c.turn.new.self c.args.self.now.store c.turn.new.store c.args.self.now.greatest c.turn.result c.turn.ensures.err c.turn.ensures.due c.turn.ensures.undecided c.turn.ensures.decided

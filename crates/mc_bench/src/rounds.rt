@@ -1,0 +1,67 @@
+//! Rounds of turns.
+use mc_command::Bytes;
+use mc_hop::Fnv;
+use mc_shelf::Settings;
+use mc_time::Moment;
+use mc_world::{Event, World};
+use std::alloc::{AllocError, Global};
+
+/// What a session sends in a round: two turns.
+const SENT: &[u8] = b"set key 0 0 1\r\nx\r\nget key\r\n";
+
+/// Opens the sessions and lets them have their rounds. Gives how many bytes they were told.
+pub fn told(alloc: Global, sessions: u16, rounds: u32) -> Result<u64, AllocError> {
+    let settings = Settings {
+        pages: 64,
+        greatest: 1_048_576,
+        shelves: 64,
+    };
+    let mut world = World::new(alloc, settings, Fnv, Moment::from_seconds(1000))?;
+    for _ in 0..sessions {
+        run(&mut world, alloc, Event::Open)?;
+    }
+    let mut bytes: u64 = 0;
+    for _ in 0..rounds {
+        bytes = bytes.saturating_add(round(&mut world, alloc, sessions)?);
+    }
+    Ok(bytes)
+}
+
+/// One round of every session.
+fn round(world: &mut World<Fnv>, alloc: Global, sessions: u16) -> Result<u64, AllocError> {
+    for session in 0..sessions {
+        let piece = Event::Piece(u32::from(session) + 1, Bytes::of(SENT));
+        run(world, alloc, piece)?;
+    }
+    for _ in 0..2 {
+        turns(world, alloc, sessions)?;
+    }
+    Ok(written(world, sessions))
+}
+
+/// One turn of every session.
+fn turns(world: &mut World<Fnv>, alloc: Global, sessions: u16) -> Result<(), AllocError> {
+    for session in 0..sessions {
+        run(world, alloc, Event::Turn(u32::from(session) + 1))?;
+    }
+    Ok(())
+}
+
+/// Takes the output of every session, and gives how many bytes it was.
+fn written(world: &mut World<Fnv>, sessions: u16) -> u64 {
+    let mut bytes: u64 = 0;
+    for session in 0..sessions {
+        let number = u32::from(session) + 1;
+        let len = world.out(number).len();
+        world.sent(number, len);
+        bytes = bytes.saturating_add(len as u64);
+    }
+    bytes
+}
+
+fn run(world: &mut World<Fnv>, alloc: Global, event: Event<'_>) -> Result<(), AllocError> {
+    match world.run(alloc, &[event]) {
+        Ok(()) => Ok(()),
+        Err(_) => Err(AllocError),
+    }
+}

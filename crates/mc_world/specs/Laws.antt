@@ -1,0 +1,97 @@
+-- What the laws of the plain world speak of: events that decide no step, and what a session's steps are answered.
+use Rattle.std.specs.Prelude.{◌≡◌, ◌⊎◌, ℕ, ◌==◌, Bool, false, List, [], ◌∷◌, ◌++◌, filter, Option, Some, None, IfSome, slice_get}
+use Rattle.std.specs.Bool.{MatchBool}
+use Rattle.std.specs.Option.{MatchOption}
+use Rattle.mc_command.specs.Commands.{steps}
+use Rattle.mc_command.specs.Plain.{plain, Outcome, Answered, Spent}
+use Rattle.mc_command.specs.declared.step.KeyStep.{KeyStep}
+use Rattle.mc_command.specs.declared.reply.Reply.{Reply}
+use Rattle.mc_parse.specs.Units.{ProtocolUnit, Request, Fault, LongLine}
+use Rattle.mc_world.specs.Connections.{Connection, IsNext, HasNoNext}
+use Rattle.mc_world.specs.Worlds.{PlainWorld, numbered, open_connection, named, Happens}
+use Rattle.mc_world.specs.declared.event.Event.{Event}
+use Rattle.mc_world.specs.declared.event.Event.TheVariants.{Open, Piece, Turn, Clock, Grow, Purge, Close}
+
+-- the step of a unit's turn: that of a fault has none, nor has that of a line that is too long, of version or of quit
+abbrev pub step_of : ProtocolUnit → (at : ℕ) → Option KeyStep
+step_of (Request command) at = slice_get (steps command) at
+step_of (Fault fault) at = None
+step_of LongLine at = None
+
+-- the connection's next turn has no step, if there is a next turn
+abbrev pub NextHasNoStep : Connection → Type 0
+NextHasNoStep connection = (unit : ProtocolUnit) (at : ℕ) → IsNext connection unit at → step_of unit at ≡ None
+
+-- the event is one of that session and decides no step there: a piece, a close, or a turn that isn't due or has no step
+abbrev pub DecidesNoStep : PlainWorld → Event → ℕ → Type 0
+DecidesNoStep world Open n = ⊥
+DecidesNoStep world (Piece k piece) n = k ≡ n
+DecidesNoStep world (Turn k) n = (k ≡ n) × IfSome (open_connection n world.connections) NextHasNoStep
+DecidesNoStep world (Clock now) n = ⊥
+DecidesNoStep world (Grow shelf) n = ⊥
+DecidesNoStep world (Purge shelf) n = ⊥
+DecidesNoStep world (Close k) n = k ≡ n
+
+-- the event opens no session, and isn't one of that session
+abbrev pub IsApart : Event → ℕ → Type 0
+IsApart event n = (event ≡ Open → ⊥) × (named event ≡ Some n → ⊥)
+
+-- what a step is answered: the plain machine's reply, or that its unique numbers are spent
+pub data Answer : Type 0 where
+  Replied : Reply → Answer
+  NumbersSpent : Answer
+
+abbrev pub answer_in : Outcome → Answer
+answer_in (Answered reply new) = Replied reply
+answer_in Spent = NumbersSpent
+
+-- a turn with a step has one answer, and one without has none
+abbrev pub answers_in : PlainWorld → Option KeyStep → List Answer
+answers_in world None = []
+answers_in world (Some step) = answer_in (plain world.state step world.now) ∷ []
+
+-- what the connection's next turn is answered in this world
+abbrev pub AnswersNext : PlainWorld → Connection → List Answer → Type 0
+AnswersNext world connection answers =
+    (HasNoNext connection × (answers ≡ []))
+    ⊎ ((unit : ProtocolUnit) × (at : ℕ) × IsNext connection unit at × (answers ≡ answers_in world (step_of unit at)))
+
+-- what the event is answered, if it is a turn of that session
+abbrev pub AnswersOf : ℕ → PlainWorld → Event → List Answer → Type 0
+AnswersOf n world Open answers = answers ≡ []
+AnswersOf n world (Piece k piece) answers = answers ≡ []
+AnswersOf n world (Turn k) answers = MatchBool (k == n) (MatchOption (open_connection n world.connections) (answers ≡ []) (λ connection. AnswersNext world connection answers)) (answers ≡ [])
+AnswersOf n world (Clock now) answers = answers ≡ []
+AnswersOf n world (Grow shelf) answers = answers ≡ []
+AnswersOf n world (Purge shelf) answers = answers ≡ []
+AnswersOf n world (Close k) answers = answers ≡ []
+
+-- events, one after another, in which the steps of that session are answered so
+module _ (hash : List ℕ → ℕ) (shelves : ℕ) (n : ℕ) where
+  abbrev pub RunsAnswering : PlainWorld → List Event → List Answer → PlainWorld → Type 0
+  RunsAnswering old [] answers new = (new ≡ old) × (answers ≡ [])
+  RunsAnswering old (event ∷ events) answers new =
+      (mid : PlainWorld) × (first : List Answer) × (others : List Answer) × Happens hash shelves old event mid × AnswersOf n old event first
+      × RunsAnswering mid events others new × (answers ≡ first ++ others)
+
+-- whether this is that number
+abbrev pub is_number : ℕ → Option ℕ → Bool
+is_number n None = false
+is_number n (Some k) = k == n
+
+-- the events of that session, in their order
+abbrev pub events_of : ℕ → List Event → List Event
+events_of n events = filter (λ event. is_number n (named event)) events
+
+-- A run of some world leaves the session with this last connection, where it has this first one, where these are its own
+-- events, and where its steps are answered so.
+pub record Leaves (n : ℕ) (first : Connection) (own : List Event) (answers : List Answer) (last : Connection) : Type 0 where
+  pub hash : List ℕ → ℕ
+  pub shelves : ℕ
+  pub old : PlainWorld
+  pub new : PlainWorld
+  pub events : List Event
+  pub begins : numbered n old.connections ≡ Some first
+  pub has : events_of n events ≡ own
+  pub runs : RunsAnswering hash shelves n old events answers new
+  pub ends : numbered n new.connections ≡ Some last
