@@ -1,3 +1,5 @@
 pub mod Connections
 pub mod Worlds
 pub mod Sessions
+pub mod Serving
+pub mod Rounds

@@ -3,6 +3,7 @@
 
 mod event;
 mod laws;
+mod serving;
 mod sessions;
 #[cfg(test)]
 mod tests;
@@ -10,4 +11,5 @@ mod world;
 
 pub use event::{Event, Refused};
 pub use laws::{a_piece_may_be_cut, growth_never_shows, sessions_may_change_places};
+pub use serving::serve_one;
 pub use world::World;

@@ -1,4 +1,4 @@
-ghost use Rattle.std.specs.Prelude.{◌≡◌, ◌≤◌, [], ◌↔◌, length, IsTrue, IfOk, IfErr, OnOk};
+ghost use Rattle.std.specs.Prelude.{◌≡◌, ◌<◌, ◌≤◌, [], ◌↔◌, length, IsTrue, IfOk, IfErr, OnOk};
 ghost use Rattle.mc_command.specs.Plain.{opening};
 ghost use Rattle.mc_world.specs.Worlds.{Told, ToldUntil, CanStand, numbered, changed, output_of, IsIdle, IsClosed};
 ghost use Rattle.mc_session.specs.Turns.{sent};
@@ -22,6 +22,7 @@ pub struct World<K: KeyHash + Drop> {
     store: Store<K>,
     moment: Moment,
     sessions: Sessions,
+    ghost shelved: { 0 < store.settings.shelves },
 }
 
 impl<K: KeyHash + Drop> World<K> {
@@ -75,6 +76,21 @@ impl<K: KeyHash + Drop> World<K> {
             }
         }
         Ok(())
+    }
+
+    /// How many sessions were opened. The last one has this number.
+    pub fn opened(&self) -> usize
+        ensures { result ≡ length (world_of self.now).sessions }
+    {
+        self.sessions.count()
+    }
+
+    /// How many shelves the store has, at least one.
+    pub fn shelves(&self) -> u32
+        ensures number { result ≡ self.now.store.settings.shelves }
+        ensures some { 0 < result }
+    {
+        self.store.settings().shelves
     }
 
     /// What is to be written of a session. Of one that was never opened it is empty.
