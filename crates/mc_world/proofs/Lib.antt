@@ -4,3 +4,5 @@ pub mod SessionLemmas
 pub mod TurnLemmas
 pub mod WorldLemmas
 pub mod LawLemmas
+pub mod UpdateLemmas
+pub mod FrontLemmas

@@ -1,5 +1,5 @@
 -- What a run of a session of a world did until now, and what its parts do.
-use Rattle.std.specs.Prelude.{◌≡◌, ◌⊎◌, ℕ, zero, suc, ◌+◌, ◌%◌, ◌^◌, ◌<◌, ◌≤◌, Bool, List, [], ◌∷◌, ◌++◌, length, Option}
+use Rattle.std.specs.Prelude.{◌≡◌, ◌⊎◌, ℕ, zero, suc, ◌+◌, ◌^◌, ◌<◌, ◌≤◌, Bool, List, [], ◌∷◌, ◌++◌, length, Option}
 use Rattle.std.specs.Io.KnownBytes.{Appends, Consumes, IsAtEnd}
 use Rattle.mc_world.specs.Connections.{ended}
 use Rattle.mc_world.specs.Worlds.{PlainWorld, WorldState, numbered, at_connection, IsIdle, IsClosed, Runs, StandsAs, CanStand, Told, ToldUntil, GivesUp}

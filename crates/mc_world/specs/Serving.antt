@@ -1,7 +1,8 @@
 -- A whole run of one session of a world over a reader and a writer.
-use Rattle.std.specs.Prelude.{◌≡◌, ◌⊎◌, ℕ, ◌+◌, ◌%◌, ◌^◌, ◌≤◌, Bool, false, List, [], ◌∷◌, ◌++◌, length, Option}
+use Rattle.std.specs.Prelude.{◌≡◌, ◌⊎◌, ℕ, ◌+◌, ◌%◌, ◌^◌, ◌≤◌, max, Bool, false, List, [], ◌∷◌, ◌++◌, length, Option}
 use Rattle.std.specs.Io.KnownBytes.{Appends, Consumes, IsAtEnd}
 use Rattle.mc_session.specs.Turns.{SessionState}
+use Rattle.mc_world.specs.Connections.{Connection}
 use Rattle.mc_world.specs.Worlds.{PlainWorld, WorldState, numbered, changed, output_of, IsIdle, IsClosed, Runs, StandsAs, Told, GivesUp}
 use Rattle.mc_world.specs.declared.event.Event.{Event}
 use Rattle.mc_world.specs.declared.event.Event.TheVariants.{Open, Piece, Turn, Clock, Grow, Close}
@@ -14,12 +15,23 @@ next_session w = length w.sessions + 1
 abbrev pub with_written : ℕ → List ℕ → WorldState → WorldState
 with_written n written w = record w { sessions = changed n w.sessions (λ s. record s { out = written ++ s.out }) (numbered n w.sessions) }
 
+-- the same of a plain world
+abbrev pub in_front : List ℕ → Connection → Connection
+in_front bytes c = record c { out = bytes ++ c.out }
+
+abbrev pub with_front : ℕ → List ℕ → PlainWorld → PlainWorld
+with_front n bytes w = record w { connections = changed n w.connections (in_front bytes) (numbered n w.connections) }
+
+-- the shelf that grows behind a turn: 0, 1, .. and round again
+abbrev pub shelf_of : (turns shelves : ℕ) → ℕ
+shelf_of turns shelves = turns % max shelves 1
+
 -- The events that serve session n before it closes, what they bring, and how many turns they are. It opens. Then pieces
--- come, and turns, each at a moment that the clock may give and with growth behind it: of shelf 0, 1, .. and round again.
+-- come, and turns, each at a moment that the clock may give and with growth of the next shelf behind it.
 pub data IsService (n shelves : ℕ) (may_give : ℕ → Type 0) : List Event → List ℕ → ℕ → Type 0 where
   opens : IsService n shelves may_give (Open ∷ []) [] 0
   turn : {events : List Event} {read : List ℕ} {turns : ℕ} (now : ℕ) → may_give now → IsService n shelves may_give events read turns
-      → IsService n shelves may_give (events ++ Clock now ∷ Turn n ∷ Grow (turns % shelves) ∷ []) read (turns + 1)
+      → IsService n shelves may_give (events ++ Clock now ∷ Turn n ∷ Grow (shelf_of turns shelves) ∷ []) read (turns + 1)
   piece : {events : List Event} {read : List ℕ} {turns : ℕ} (bytes : List ℕ) → IsService n shelves may_give events read turns
       → IsService n shelves may_give (events ++ Piece n bytes ∷ []) (read ++ bytes) turns
 

@@ -11,5 +11,5 @@ mod world;
 
 pub use event::{Event, Refused};
 pub use laws::{a_piece_may_be_cut, growth_never_shows, sessions_may_change_places};
-pub use serving::serve_one;
+pub use serving::{serve_one, written_output_never_shows};
 pub use world::World;

@@ -1,9 +1,10 @@
-ghost use Rattle.std.specs.Prelude.{◌≡◌, ◌⊎◌, ◌<◌, ℕ, [], ◌∷◌, true, Ok, OnOk, OnErr, IfOk, IfErr, length};
-ghost use Rattle.mc_world.specs.Worlds.{Told, CanStand, numbered, output_of};
+ghost use Rattle.std.specs.Prelude.{◌≡◌, ◌⊎◌, ◌<◌, ◌≤◌, ◌+◌, ◌^◌, ℕ, List, [], ◌∷◌, true, Ok, OnOk, OnErr, IfOk, IfErr, length};
+ghost use Rattle.mc_world.specs.Worlds.{PlainWorld, Runs, Told, CanStand, numbered, output_of};
 ghost use Rattle.mc_world.specs.Sessions.{world_of};
-ghost use Rattle.mc_world.specs.declared.event.Event.TheVariants as event;
-ghost use Rattle.mc_world.specs.Serving.{next_session, Served, ServedAll, ServedUntilRefused, ServedNone};
-ghost use Rattle.mc_world.specs.Rounds.{Begins, Writes, Reads, IsRead, HasEnded, GoesOn, GoesFar, IsRefused};
+ghost use Rattle.mc_world.specs.declared.event.Event.{Event};
+ghost use Rattle.mc_world.specs.declared.event.Event.TheVariants.{Close};
+ghost use Rattle.mc_world.specs.Serving.{with_front, shelf_of, Served, ServedAll, ServedUntilRefused, ServedNone};
+ghost use Rattle.mc_world.specs.Rounds.{Begins, Writes, Reads, ReadsRefused, GivesTurn, GivesRefused, HasEnded, GoesOn, GoesFar, IsRefused, Keeps};
 
 use crate::event::Event;
 use crate::world::World;
@@ -43,7 +44,7 @@ pub fn serve_one<R: Read, W: Write, K: KeyHash + Drop, C: Clock>(
     ensures write { result ≡ Err ServeFault.Write → Served (K.hash_of world.old.store.hasher) world.old.store.settings.shelves (C.may_give clock.now) (world_of world.old) (world_of world.new)
         (R.remaining reader.old) (R.remaining reader.new) (W.contents writer.old) (W.contents writer.new) }
     ensures memory { result ≡ Err ServeFault.NoMemory →
-        ServedNone (K.hash_of world.old.store.hasher) world.old.store.settings.shelves (world_of world.old) (world_of world.new)
+        ServedNone (K.hash_of world.old.store.hasher) world.old.store.settings.shelves (C.may_give clock.now) (world_of world.old) (world_of world.new)
         (R.remaining reader.old) (R.remaining reader.new) (W.contents writer.old) (W.contents writer.new)
         ⊎ ServedUntilRefused (K.hash_of world.old.store.hasher) world.old.store.settings.shelves (C.may_give clock.now) (world_of world.old) (world_of world.new)
         (R.remaining reader.old) (R.remaining reader.new) (W.contents writer.old) (W.contents writer.new) }
@@ -66,6 +67,13 @@ pub fn serve_one<R: Read, W: Write, K: KeyHash + Drop, C: Clock>(
         Err(fault) => Err(fault),
     }
 }
+
+/// What stands in front of a session's output never shows in what comes: with it in front or without, events do the same.
+/// So what was written of a session makes no difference.
+pub fn written_output_never_shows()
+    ensures { (hash : List ℕ → ℕ) (shelves n : ℕ) (bytes : List ℕ) (old new : PlainWorld) (events : List Event) → 1 ≤ n → n ≤ length old.connections →
+        Runs hash shelves old events new → Runs hash shelves (with_front n bytes old) events (with_front n bytes new) }
+{}
 
 /// Opens a session, and answers its number.
 fn begin<K: KeyHash + Drop>(alloc: Global, world: &mut World<K>) -> Result<u32, ServeFault>
@@ -159,11 +167,11 @@ fn take_turn<K: KeyHash + Drop, C: Clock>(
     session: u32,
     turn: u64,
 ) -> Result<(), ServeFault>
-    ensures ok { OnOk result (GivesTurn (K.hash_of world.old.store.hasher) world.old.store.settings.shelves (C.may_give clock.now) session (turn % world.old.store.settings.shelves) (world_of world.old) (world_of world.new)) }
-    ensures err { IfErr result (λ fault. (fault ≡ ServeFault.NoMemory) × GivesRefused (K.hash_of world.old.store.hasher) world.old.store.settings.shelves (C.may_give clock.now) session (turn % world.old.store.settings.shelves) (world_of world.old) (world_of world.new)) }
+    ensures ok { OnOk result (GivesTurn (K.hash_of world.old.store.hasher) world.old.store.settings.shelves (C.may_give clock.now) session (shelf_of turn world.old.store.settings.shelves) (world_of world.old) (world_of world.new)) }
+    ensures err { IfErr result (λ fault. (fault ≡ ServeFault.NoMemory) × GivesRefused (K.hash_of world.old.store.hasher) world.old.store.settings.shelves (C.may_give clock.now) session (shelf_of turn world.old.store.settings.shelves) (world_of world.old) (world_of world.new)) }
     ensures keeps { Keeps world.old world.new }
 {
-    let shelf = (turn % u64::from(world.shelves())) as u32;
+    let shelf = (turn % u64::from(world.shelves().max(1))) as u32;
     let events = [
         Event::Clock(clock.now()),
         Event::Turn(session),
@@ -241,7 +249,7 @@ fn read_piece<R: Read, K: KeyHash + Drop>(
 
 /// Closes the session, if it is open.
 fn end<K: KeyHash + Drop>(alloc: Global, world: &mut World<K>, session: u32)
-    ensures told { Told (K.hash_of world.old.store.hasher) world.old.store.settings.shelves (world_of world.old) (event.Close session ∷ []) (world_of world.new) }
+    ensures told { Told (K.hash_of world.old.store.hasher) world.old.store.settings.shelves (world_of world.old) (Close session ∷ []) (world_of world.new) }
     ensures keeps { Keeps world.old world.new }
 {
     // A close takes no memory.

@@ -1,4 +1,4 @@
-ghost use Rattle.std.specs.Prelude.{◌≡◌, ◌<◌, ◌≤◌, [], ◌↔◌, length, IsTrue, IfOk, IfErr, OnOk};
+ghost use Rattle.std.specs.Prelude.{◌≡◌, ◌≤◌, [], ◌↔◌, length, IsTrue, IfOk, IfErr, OnOk};
 ghost use Rattle.mc_command.specs.Plain.{opening};
 ghost use Rattle.mc_world.specs.Worlds.{Told, ToldUntil, CanStand, numbered, changed, output_of, IsIdle, IsClosed};
 ghost use Rattle.mc_session.specs.Turns.{sent};
@@ -22,7 +22,6 @@ pub struct World<K: KeyHash + Drop> {
     store: Store<K>,
     moment: Moment,
     sessions: Sessions,
-    ghost shelved: { 0 < store.settings.shelves },
 }
 
 impl<K: KeyHash + Drop> World<K> {
@@ -85,10 +84,9 @@ impl<K: KeyHash + Drop> World<K> {
         self.sessions.count()
     }
 
-    /// How many shelves the store has, at least one.
+    /// How many shelves the store has.
     pub fn shelves(&self) -> u32
-        ensures number { result ≡ self.now.store.settings.shelves }
-        ensures some { 0 < result }
+        ensures { result ≡ self.now.store.settings.shelves }
     {
         self.store.settings().shelves
     }
