@@ -6,3 +6,4 @@ pub mod WorldLemmas
 pub mod LawLemmas
 pub mod UpdateLemmas
 pub mod FrontLemmas
+pub mod WrittenLemmas

@@ -29,7 +29,7 @@ shelf_of turns shelves = turns % max shelves 1
 -- The events that serve session n before it closes, what they bring, and how many turns they are. It opens. Then pieces
 -- come, and turns, each at a moment that the clock may give and with growth of the next shelf behind it.
 pub data IsService (n shelves : ℕ) (may_give : ℕ → Type 0) : List Event → List ℕ → ℕ → Type 0 where
-  opens : IsService n shelves may_give (Open ∷ []) [] 0
+  starts : IsService n shelves may_give (Open ∷ []) [] 0
   turn : {events : List Event} {read : List ℕ} {turns : ℕ} (now : ℕ) → may_give now → IsService n shelves may_give events read turns
       → IsService n shelves may_give (events ++ Clock now ∷ Turn n ∷ Grow (shelf_of turns shelves) ∷ []) read (turns + 1)
   piece : {events : List Event} {read : List ℕ} {turns : ℕ} (bytes : List ℕ) → IsService n shelves may_give events read turns

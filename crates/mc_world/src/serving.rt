@@ -1,4 +1,5 @@
 ghost use Rattle.std.specs.Prelude.{◌≡◌, ◌⊎◌, ◌<◌, ◌≤◌, ◌+◌, ◌^◌, ℕ, List, [], ◌∷◌, true, Ok, OnOk, OnErr, IfOk, IfErr, length};
+ghost use Rattle.std.specs.Io.KnownBytes.{IsAtEnd};
 ghost use Rattle.mc_world.specs.Worlds.{PlainWorld, Runs, Told, CanStand, numbered, output_of};
 ghost use Rattle.mc_world.specs.Sessions.{world_of};
 ghost use Rattle.mc_world.specs.declared.event.Event.{Event};
