@@ -25,7 +25,7 @@ by_open bytes c f false same = refl
 piece_leaves : (piece : List ℕ) → Leaves (with_piece piece)
 piece_leaves piece bytes c = by_open bytes c (with_piece piece) c.is_open refl
 
-end_leaves : Leaves ended
+pub end_leaves : Leaves ended
 end_leaves bytes c = by_open bytes c ended c.is_open refl
 
 turn_leaves : (unit : ProtocolUnit) (text : List ℕ) → Leaves (after_turn unit text)

@@ -7,3 +7,6 @@ pub mod LawLemmas
 pub mod UpdateLemmas
 pub mod FrontLemmas
 pub mod WrittenLemmas
+pub mod OnlyLemmas
+pub mod ServeLemmas
+pub mod RefusedLemmas
