@@ -5,3 +5,9 @@ pub mod TurnLemmas
 pub mod WorldLemmas
 pub mod LawLemmas
 pub mod AnswerLemmas
+pub mod UpdateLemmas
+pub mod FrontLemmas
+pub mod WrittenLemmas
+pub mod OnlyLemmas
+pub mod ServeLemmas
+pub mod RefusedLemmas

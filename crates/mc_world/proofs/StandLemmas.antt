@@ -34,7 +34,7 @@ stand_get (c ∷ cs) [] n all = absurd all
 stand_get (c ∷ cs) (s ∷ ss) zero all = all.0
 stand_get (c ∷ cs) (s ∷ ss) (suc n) all = stand_get cs ss n all.1
 
-stand_numbered : (cs : List Connection) (ss : List SessionState) (n : ℕ) → StandAll cs ss → Both (numbered n cs) (numbered n ss)
+pub stand_numbered : (cs : List Connection) (ss : List SessionState) (n : ℕ) → StandAll cs ss → Both (numbered n cs) (numbered n ss)
 stand_numbered cs ss zero all = tt
 stand_numbered cs ss (suc n) all = stand_get cs ss n all
 
@@ -80,7 +80,7 @@ stand_changed cs ss n f g (Some c) None both each all = absurd both
 stand_changed cs ss n f g (Some c) (Some s) both each all = stand_put cs ss n (f c) (g s) all (each c s both.0 both.1 both.2 both.3)
 
 -- the one of a number, open or closed, is changed in both
-changed_both : (cs : List Connection) (ss : List SessionState) (n : ℕ) (f : Connection → Connection) (g : SessionState → SessionState) (c : Option Connection) (s : Option SessionState) → Both c s
+pub changed_both : (cs : List Connection) (ss : List SessionState) (n : ℕ) (f : Connection → Connection) (g : SessionState → SessionState) (c : Option Connection) (s : Option SessionState) → Both c s
     → ((x : Connection) (y : SessionState) → Stands x y → Stands (f x) (g y)) → StandAll cs ss → StandAll (changed n cs f c) (changed n ss g s)
 changed_both cs ss n f g None None both each all = all
 changed_both cs ss n f g None (Some s) both each all = absurd both

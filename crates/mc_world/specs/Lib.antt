@@ -2,3 +2,5 @@ pub mod Connections
 pub mod Worlds
 pub mod Sessions
 pub mod Laws
+pub mod Serving
+pub mod Rounds

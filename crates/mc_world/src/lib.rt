@@ -3,6 +3,7 @@
 
 mod event;
 mod laws;
+mod serving;
 mod sessions;
 #[cfg(test)]
 mod tests;
@@ -13,4 +14,5 @@ pub use laws::{
     a_piece_may_be_cut, a_session_follows_its_own_answers, growth_never_shows,
     sessions_may_change_places,
 };
+pub use serving::{serve_one, written_output_never_shows};
 pub use world::World;

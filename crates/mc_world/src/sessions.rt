@@ -54,6 +54,13 @@ impl Sessions {
         }
     }
 
+    /// How many were opened.
+    pub fn count(&self) -> usize
+        ensures { result ≡ length self.now }
+    {
+        self.list.len()
+    }
+
     /// Opens a session more, if fewer than 65535 were opened. Refused, the sessions are as they were.
     pub fn open(&mut self, alloc: Global, greatest: u64) -> Result<(), AllocError>
         ensures ok { OnOk result (self.new ≡ (if nat_lt (length self.old) 65535 then self.old ++ opened greatest ∷ [] else self.old)) }

@@ -77,6 +77,20 @@ impl<K: KeyHash + Drop> World<K> {
         Ok(())
     }
 
+    /// How many sessions were opened. The last one has this number.
+    pub fn opened(&self) -> usize
+        ensures { result ≡ length (world_of self.now).sessions }
+    {
+        self.sessions.count()
+    }
+
+    /// How many shelves the store has.
+    pub fn shelves(&self) -> u32
+        ensures { result ≡ self.now.store.settings.shelves }
+    {
+        self.store.settings().shelves
+    }
+
     /// What is to be written of a session. Of one that was never opened it is empty.
     pub fn out(&self, session: u32) -> &[u8]
         ensures { result.now ≡ output_of (numbered session (world_of self.now).sessions) }

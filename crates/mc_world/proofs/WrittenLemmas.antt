@@ -1,0 +1,190 @@
+-- What was written of a session, in front of its output and of its connection's.
+use Rattle.std.proofs.Common.{◌≡◌, ◌⊎◌, inl, inr, ℕ, zero, suc, ◌+◌, ◌<◌, ◌≤◌, Bool, true, false, List, [], ◌∷◌, ◌++◌, length, take, drop, Option, Some, None, nat_lt, refl, sym, ap, ◌∙◌, subst, arith, append_assoc, length-append, if◌then◌else◌}
+use Rattle.std.specs.Bool.{MatchBool}
+use Rattle.std.specs.List.{slice_get}
+use Rattle.std.specs.Io.KnownBytes.{Appends, Keeps}
+use Rattle.std.proofs.KnownBytes.{Appends-nil, Appends-trans, Appends-kept}
+use Rattle.std.proofs.Math.Seq.{drop-append_seam}
+use Rattle.std.proofs.lemmas.Bool.{lt-ltb}
+use Rattle.std.proofs.lemmas.List.{take-append-drop}
+use Rattle.mc_session.specs.Turns.{SessionState, sent}
+use Rattle.mc_world.specs.Connections.{Connection, IsRest, shut, Stands, fresh, with_piece, ended}
+use Rattle.mc_world.specs.Worlds.{PlainWorld, WorldState, numbered, changed, output_of, IsIdle, IsClosed, at_connection, open_connection, Happens, Runs, StandAll, StandsAs, CanStand, Told, named, with_end, GivesUp}
+use Rattle.mc_world.specs.Serving.{next_session, with_written, in_front, with_front, IsService, starts, turn, piece}
+use Rattle.mc_world.specs.Rounds.{Writes, HasEnded, Keeps as KeepsStore}
+use Rattle.mc_world.specs.declared.world.World.{World}
+use Rattle.mc_world.specs.Sessions.{world_of}
+use Rattle.mc_world.specs.declared.event.Event.{Event}
+use Rattle.mc_world.specs.declared.event.Event.TheVariants.{Open, Piece, Turn, Clock, Grow, Purge, Close}
+use Rattle.mc_world.proofs.StandLemmas.{stand_length, stand_numbered, changed_both, less, stand_sent}
+use Rattle.mc_world.proofs.UpdateLemmas.{update, at_number, if_opened, mapped, changed_is, changed_opened, number_twice, number_nothing, number_get, changed_length}
+use Rattle.mc_world.proofs.FrontLemmas.{IsOpened, runs_grow, runs_fronted, change_fronted}
+
+-- bytes in front of a session's output
+abbrev pub before : List ℕ → SessionState → SessionState
+before bytes s = record s { out = bytes ++ s.out }
+
+-- a world with other sessions
+abbrev with_sessions : WorldState → List SessionState → WorldState
+with_sessions w sessions = record w { sessions = sessions }
+
+-- they stand so too
+front_by : (bytes : List ℕ) (c : Connection) (s : SessionState) (b : Bool) → MatchBool b ((s.is_open ≡ true) × IsRest c s) (s ≡ shut c) → MatchBool b (((before bytes s).is_open ≡ true) × IsRest (in_front bytes c) (before bytes s)) (before bytes s ≡ shut (in_front bytes c))
+front_by bytes c s true (opens, rest) = (opens, record { read = rest.read; follows = rest.follows; taken = rest.taken; among = rest.among; out = ap (λ o. bytes ++ o) rest.out })
+front_by bytes c s false same = ap (λ (x : SessionState). before bytes x) same
+
+pub put_on : (n : ℕ) (bytes : List ℕ) (p : PlainWorld) (w : WorldState) → StandsAs p w → StandsAs (with_front n bytes p) (with_written n bytes w)
+put_on n bytes p w stands = record {
+  greatest = stands.greatest;
+  state = stands.state;
+  now = stands.now;
+  sessions = changed_both p.connections w.sessions n (in_front bytes) (before bytes) (numbered n p.connections) (numbered n w.sessions) (stand_numbered p.connections w.sessions n stands.sessions)
+      (λ c s one. front_by bytes c s c.is_open one) stands.sessions;
+}
+
+-- the same bytes taken off
+taken_off : (n : ℕ) (bytes : List ℕ) (ss : List SessionState) → changed n (changed n ss (before bytes) (numbered n ss)) (λ s. sent s (length bytes)) (numbered n (changed n ss (before bytes) (numbered n ss))) ≡ ss
+taken_off n bytes ss =
+    changed_is n (changed n ss (before bytes) (numbered n ss)) (λ s. sent s (length bytes))
+    ∙ ap (λ (l : List SessionState). at_number l n (λ s. sent s (length bytes))) (changed_is n ss (before bytes))
+    ∙ number_twice ss n (λ s. sent s (length bytes)) (before bytes) (λ s. s) (λ s. ap (λ (o : List ℕ). let t : SessionState = record s { out = o } in t) (drop-append_seam bytes s.out))
+    ∙ number_nothing ss n (λ s. s) (λ s. refl)
+
+abbrev without : ℕ → List ℕ → PlainWorld → PlainWorld
+without n bytes p = record p { connections = changed n p.connections (less (length bytes)) (numbered n p.connections) }
+
+take_off : (n : ℕ) (bytes : List ℕ) (p : PlainWorld) (w : WorldState) → StandsAs p (with_written n bytes w) → StandsAs (without n bytes p) w
+take_off n bytes p w stands = record {
+  greatest = stands.greatest;
+  state = stands.state;
+  now = stands.now;
+  sessions = subst (StandAll (without n bytes p).connections) (taken_off n bytes w.sessions) (stand_sent p.connections (with_written n bytes w).sessions n (length bytes) stands.sessions);
+}
+
+-- and put back
+out_by : (c : Connection) (s : SessionState) (b : Bool) → MatchBool b ((s.is_open ≡ true) × IsRest c s) (s ≡ shut c) → s.out ≡ c.out
+out_by c s true (opens, rest) = rest.out
+out_by c s false same = ap (λ (x : SessionState). x.out) same
+
+put_back : (bytes : List ℕ) (c : Connection) (s : SessionState) → Stands c (before bytes s) → in_front bytes (less (length bytes) c) ≡ c
+put_back bytes c s stands =
+    let is : bytes ++ s.out ≡ c.out = out_by c (before bytes s) c.is_open stands in
+    let same : bytes ++ drop (length bytes) c.out ≡ c.out = ap (λ (o : List ℕ). bytes ++ drop (length bytes) o) (sym is) ∙ ap (λ (o : List ℕ). bytes ++ o) (drop-append_seam bytes s.out) ∙ is in
+    ap (λ (o : List ℕ). let d : Connection = record c { out = o } in d) same
+
+restored_at : (bytes : List ℕ) (cs : List Connection) (ss : List SessionState) (m : ℕ) → StandAll cs (update ss m (before bytes)) → update (update cs m (less (length bytes))) m (in_front bytes) ≡ cs
+restored_at bytes [] ss m all = refl
+restored_at bytes (c ∷ cs) [] m all = absurd all
+restored_at bytes (c ∷ cs) (s ∷ ss) zero all = ap (λ (x : Connection). x ∷ cs) (put_back bytes c s all.0)
+restored_at bytes (c ∷ cs) (s ∷ ss) (suc m) all = ap (λ (l : List Connection). c ∷ l) (restored_at bytes cs ss m all.1)
+
+restored_number : (bytes : List ℕ) (cs : List Connection) (ss : List SessionState) (n : ℕ) → StandAll cs (at_number ss n (before bytes)) → at_number (at_number cs n (less (length bytes))) n (in_front bytes) ≡ cs
+restored_number bytes cs ss zero all = refl
+restored_number bytes cs ss (suc m) all = restored_at bytes cs ss m all
+
+restored : (n : ℕ) (bytes : List ℕ) (p : PlainWorld) (w : WorldState) → StandsAs p (with_written n bytes w) → with_front n bytes (without n bytes p) ≡ p
+restored n bytes p w stands =
+    ap (λ (cs : List Connection). let v : PlainWorld = record p { connections = cs } in v)
+    (changed_is n (without n bytes p).connections (in_front bytes)
+    ∙ ap (λ (l : List Connection). at_number l n (in_front bytes)) (changed_is n p.connections (less (length bytes)))
+    ∙ restored_number bytes p.connections w.sessions n (subst (StandAll p.connections) (changed_is n w.sessions (before bytes)) stands.sessions))
+
+-- A plain world that stands with bytes in front is one that stands without, with the bytes in front.
+pub record Fronts (n : ℕ) (bytes : List ℕ) (p : PlainWorld) (w : WorldState) : Type 0 where
+  pub plain : PlainWorld
+  pub is : with_front n bytes plain ≡ p
+  pub stands : StandsAs plain w
+  pub as_many : length plain.connections ≡ length p.connections
+
+pub fronts : (n : ℕ) (bytes : List ℕ) (p : PlainWorld) (w : WorldState) → StandsAs p (with_written n bytes w) → Fronts n bytes p w
+fronts n bytes p w stands = record {
+  plain = without n bytes p;
+  is = restored n bytes p w stands;
+  stands = take_off n bytes p w stands;
+  as_many = changed_length n p.connections (less (length bytes)) (numbered n p.connections);
+}
+
+-- no bytes
+pub written_nothing : (n : ℕ) (w : WorldState) → with_written n [] w ≡ w
+written_nothing n w = ap (with_sessions w) (changed_is n w.sessions (before []) ∙ number_nothing w.sessions n (before []) (λ s. refl))
+
+-- bytes in front of bytes
+pub written_twice : (n : ℕ) (a b : List ℕ) (w : WorldState) → with_written n a (with_written n b w) ≡ with_written n (a ++ b) w
+written_twice n a b w =
+    ap (with_sessions w)
+    (changed_is n (with_written n b w).sessions (before a)
+    ∙ ap (λ (l : List SessionState). at_number l n (before a)) (changed_is n w.sessions (before b))
+    ∙ number_twice w.sessions n (before a) (before b) (before (a ++ b)) (λ s. ap (λ (o : List ℕ). let t : SessionState = record s { out = o } in t) (sym (append_assoc a b s.out)))
+    ∙ sym (changed_is n w.sessions (before (a ++ b))))
+
+-- bytes that are sent and then put in front
+sent_at : (k : ℕ) (ss : List SessionState) (m : ℕ) → update (update ss m (λ s. sent s k)) m (before (take k (output_of (slice_get ss m)))) ≡ ss
+sent_at k [] m = refl
+sent_at k (s ∷ ss) zero = ap (λ (o : List ℕ). (let t : SessionState = record s { out = o } in t) ∷ ss) (take-append-drop k s.out)
+sent_at k (s ∷ ss) (suc m) = ap (λ (l : List SessionState). s ∷ l) (sent_at k ss m)
+
+sent_number : (k : ℕ) (ss : List SessionState) (n : ℕ) → at_number (at_number ss n (λ s. sent s k)) n (before (take k (output_of (numbered n ss)))) ≡ ss
+sent_number k ss zero = refl
+sent_number k ss (suc m) = sent_at k ss m
+
+written_sent : (n k : ℕ) (w : WorldState) → w ≡ with_written n (take k (output_of (numbered n w.sessions))) (record w { sessions = changed n w.sessions (λ s. sent s k) (numbered n w.sessions) })
+written_sent n k w =
+    let part = take k (output_of (numbered n w.sessions)) in
+    let rest = changed n w.sessions (λ s. sent s k) (numbered n w.sessions) in
+    ap (with_sessions w)
+    (sym (sent_number k w.sessions n)
+    ∙ ap (λ (l : List SessionState). at_number l n (before part)) (sym (changed_is n w.sessions (λ s. sent s k)))
+    ∙ sym (changed_is n rest (before part)))
+
+-- one part after another
+pub writes_more : (n : ℕ) (first mid last : WorldState) (a b c : Option (List ℕ)) → Writes n first mid a b → Writes n mid last b c → Writes n first last a c
+writes_more n first mid last a b c one two = record {
+  part = one.part ++ two.part;
+  parts = one.parts ∙ ap (with_written n one.part) two.parts ∙ written_twice n one.part two.part last;
+  appends = Appends-trans a b c one.part two.part one.appends two.appends;
+}
+
+-- no part
+pub writes_nothing : (n : ℕ) (w : WorldState) (a : Option (List ℕ)) → Writes n w w a a
+writes_nothing n w a = record { part = []; parts = sym (written_nothing n w); appends = Appends-nil a }
+
+-- a front of the output
+pub writes_front : (n k : ℕ) (w : WorldState) (a b : Option (List ℕ)) → Appends a b (take k (output_of (numbered n w.sessions))) → Writes n w (record w { sessions = changed n w.sessions (λ s. sent s k) (numbered n w.sessions) }) a b
+writes_front n k w a b appends = record { part = take k (output_of (numbered n w.sessions)); parts = written_sent n k w; appends = appends }
+
+-- a write that failed
+pub writes_kept : (n : ℕ) (w : WorldState) (a b : Option (List ℕ)) → Keeps a b → Writes n w w a b
+writes_kept n w a b kept = record { part = []; parts = sym (written_nothing n w); appends = Appends-kept a a b [] (Appends-nil a) kept }
+
+-- they make a session no less idle or closed
+idle_before : (bytes : List ℕ) (o : Option SessionState) → IsIdle o → IsIdle (mapped (before bytes) o)
+idle_before bytes None idle = idle
+idle_before bytes (Some s) idle = (idle.0, idle.1)
+
+idle_behind : (bytes : List ℕ) (o : Option SessionState) → IsIdle (mapped (before bytes) o) → IsIdle o
+idle_behind bytes None idle = idle
+idle_behind bytes (Some s) idle = (idle.0, idle.1)
+
+closed_before : (bytes : List ℕ) (o : Option SessionState) → IsClosed o → IsClosed (mapped (before bytes) o)
+closed_before bytes None is = is
+closed_before bytes (Some s) is = is
+
+numbered_written : (n : ℕ) (bytes : List ℕ) (w : WorldState) → numbered n (with_written n bytes w).sessions ≡ mapped (before bytes) (numbered n w.sessions)
+numbered_written n bytes w = ap (numbered n) (changed_is n w.sessions (before bytes)) ∙ number_get w.sessions n (before bytes)
+
+pub ended_written : (n : ℕ) (bytes : List ℕ) (w : WorldState) (reader : Option (List ℕ)) → HasEnded n w reader → HasEnded n (with_written n bytes w) reader
+ended_written n bytes w reader (inl is) = inl (subst IsClosed (sym (numbered_written n bytes w)) (closed_before bytes (numbered n w.sessions) is))
+ended_written n bytes w reader (inr (idle, end)) = inr (subst IsIdle (sym (numbered_written n bytes w)) (idle_before bytes (numbered n w.sessions) idle), end)
+
+-- a session stays idle while its output is written
+pub idle_wrote : (n : ℕ) (old new : WorldState) (a b : Option (List ℕ)) → Writes n old new a b → IsIdle (numbered n old.sessions) → IsIdle (numbered n new.sessions)
+idle_wrote n old new a b writes idle =
+    idle_behind writes.part (numbered n new.sessions)
+    (subst IsIdle (numbered_written n writes.part new) (subst (λ (w : WorldState). IsIdle (numbered n w.sessions)) writes.parts idle))
+
+-- what is kept twice is kept
+pub kept_on : {K : Type 0} (a b c : World K) → KeepsStore a b → KeepsStore b c → KeepsStore a c
+kept_on a b c one two = (two.0 ∙ one.0, two.1 ∙ one.1, λ can. two.2 (one.2 can))
+
+pub kept_same : {K : Type 0} (a b : World K) → b ≡ a → KeepsStore a b
+kept_same {K = K} a b same = (ap (λ (w : World K). w.store.settings) same, ap (λ (w : World K). w.store.hasher) same, λ can. subst (λ (w : World K). CanStand (world_of w)) (sym same) can)
