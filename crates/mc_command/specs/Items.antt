@@ -4,7 +4,7 @@ use Rattle.std.specs.declared.vec.Vec.{Vec}
 use Rattle.std.specs.declared.alloc.Global.{Global}
 use Rattle.std.specs.FinMap.{from_entries, insert}
 use Rattle.mc_time.specs.declared.expiry.Expiry.{Expiry}
-use Rattle.mc_command.specs.Plain.{Plain, Items, Entry, Row, Change, Leaves, Writes, Expires, Removes, Outcome, changed, without_dead, standing}
+use Rattle.mc_command.specs.Plain.{Plain, Items, Entry, Row, Change, Leaves, Writes, Recounts, SetsExpiry, Removes, Outcome, changed, without_dead, standing}
 use Rattle.mc_command.specs.declared.reply.Reply.{Reply}
 use Rattle.mc_command.specs.declared.reply.Reply.TheVariants.{Stored, NotStored}
 use Rattle.mc_command.specs.declared.plain.item.Written.{Written}
@@ -17,7 +17,8 @@ items_of entries = from_entries (map (λ e. (e.0.items, e.1)) entries)
 abbrev pub IsWrite : Change → Type 0
 IsWrite Leaves = ⊥
 IsWrite (Writes flags expiry block) = Unit {0}
-IsWrite (Expires item expiry) = ⊥
+IsWrite (Recounts item block) = ⊥
+IsWrite (SetsExpiry item expiry) = ⊥
 IsWrite Removes = ⊥
 
 -- a storage command's row, by what it writes

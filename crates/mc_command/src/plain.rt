@@ -56,9 +56,10 @@ impl Model for PlainStore {
 }
 
 impl PlainStore {
-    /// A store of no items, with that many pages, 1 to 65536 (kept, with no effect yet), and that greatest charge of an
-    /// item in bytes.
+    /// A store of no items, with at most that many pages, 1 to 65536, and that greatest charge of an item in bytes.
     pub fn new(alloc: Global, pages: u32, greatest: u64) -> Result<PlainStore, AllocError>
+        requires pages { (1 ≤ pages) × (pages ≤ 65536) }
+        requires greatest { greatest ≡ 1048576 }
         ensures { IfOk result (λ store. store ≡ opening pages greatest) }
     {
         Ok(PlainStore {
