@@ -3,3 +3,4 @@ pub mod WordLemmas
 pub mod ItemLemmas
 pub mod PlainLemmas
 pub mod LawLemmas
+pub mod AccountLemmas

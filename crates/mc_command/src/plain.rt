@@ -1,5 +1,6 @@
 //! The plain store: an ordered map, which takes each step as the plain machine does.
 
+mod accounts;
 mod item;
 mod purge;
 #[cfg(test)]
