@@ -4,3 +4,4 @@ pub mod ItemLemmas
 pub mod PlainLemmas
 pub mod LawLemmas
 pub mod AccountLemmas
+pub mod CountLemmas
