@@ -1,6 +1,7 @@
-ghost use Rattle.std.specs.Prelude.{◌≡◌, ℕ, ◌+◌, ◌-◌, ◌<◌, ◌≤◌, IsTrue, replicate};
+ghost use Rattle.std.specs.Prelude.{◌≡◌, ℕ, ◌+◌, ◌-◌, ◌<◌, ◌≤◌, IsTrue, IfSome, replicate};
 ghost use Rattle.mc_slab.specs.Classes.{IsClass, chunks_a_page};
-ghost use Rattle.mc_slab.specs.Slabs.{IsSlab, untouched, out_of, chunks_of, has_room, with_out, taken, given};
+ghost use Rattle.mc_slab.specs.Slabs.{IsSlab, untouched, out_of, chunks_of, has_room, taken};
+ghost use Rattle.mc_command.specs.Accounts.{left};
 
 use mc_slab::Class;
 use std::marker::Model;
@@ -46,14 +47,17 @@ impl Accounts {
         }
     }
 
-    /// Whether a chunk of the class can be had after so many of its items are gone.
-    pub(crate) fn has_room(&self, class: Class, gone: u32) -> bool
-        ensures value { result ≡ has_room (with_out self.now class (out_of self.now class - gone)) class }
+    /// Whether a chunk of the class can be had, once an item of the other class, if there is one, has given its chunk back.
+    pub(crate) fn has_room(&self, class: Class, leaving: Option<Class>) -> bool
+        ensures value { result ≡ has_room (left self.now leaving) class }
         ensures is_class { IsClass class }
         ensures is_slab { IsSlab self.now }
     {
-        let chunks = self.chunks(class);
-        self.items[place(class)].saturating_sub(gone) < chunks || self.pages_in_use < self.limit
+        let items = match leaving {
+            Some(other) if other == class => self.items[place(class)].saturating_sub(1),
+            _ => self.items[place(class)],
+        };
+        items < self.chunks(class) || self.pages_in_use < self.limit
     }
 
     /// How many chunks the class's pages have.
@@ -82,14 +86,16 @@ impl Accounts {
         self.items[at] += 1;
     }
 
-    /// An item of the class gives its chunk back. The page stays the class's.
-    pub(crate) fn give(&mut self, class: Class)
-        requires { 0 < out_of self.old class }
-        ensures given { self.new ≡ given self.old class }
-        ensures is_class { IsClass class }
+    /// An item of the class, if there is one, gives its chunk back. The page stays the class's.
+    pub(crate) fn give(&mut self, class: Option<Class>)
+        requires { IfSome class (λ class. 0 < out_of self.old class) }
+        ensures given { self.new ≡ left self.old class }
+        ensures is_class { IfSome class IsClass }
         ensures is_slab { IsSlab self.old }
     {
-        self.items[place(class)] -= 1;
+        if let Some(class) = class {
+            self.items[place(class)] -= 1;
+        }
     }
 
     /// No item is in a chunk any more. The pages stay.
