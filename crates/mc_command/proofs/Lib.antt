@@ -5,3 +5,4 @@ pub mod PlainLemmas
 pub mod LawLemmas
 pub mod AccountLemmas
 pub mod CountLemmas
+pub mod RoomLemmas

@@ -35,9 +35,13 @@ found key old now = without_dead (standing old key now) key old
 abbrev pub writing : (stays : Bool) → Reply → Written → List ℕ → Plain → ℕ → Outcome
 writing stays reply w key old now = wrote stays reply key w.flags w.expiry w.block (found key old now) now
 
--- what a write that takes a chunk leaves
+-- what a write leaves that stays in the old item's chunk
+abbrev pub rewritten : Written → List ℕ → Plain → ℕ → Plain
+rewritten w key old now = written old key w.flags w.expiry w.block now
+
+-- what a write leaves that takes a chunk
 abbrev pub placed : Written → List ℕ → Plain → ℕ → Plain
-placed w key old now = written (with_chunk (found key old now) (class_holding (charge key w.block))) key w.flags w.expiry w.block now
+placed w key old now = rewritten w key (with_chunk (found key old now) (class_holding (charge key w.block))) now
 
 -- a row that stores a block
 abbrev pub WritesStored : Row → Type 0

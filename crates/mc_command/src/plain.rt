@@ -12,10 +12,10 @@ ghost use Rattle.std.specs.FinMap.{get, remove};
 ghost use Rattle.mc_command.specs.Commands.{key_of};
 ghost use Rattle.mc_slab.specs.Classes.{IsClass, class_holding};
 ghost use Rattle.mc_slab.specs.Slabs.{out_of};
-ghost use Rattle.mc_command.specs.Accounts.{AreOf, dead_class};
-ghost use Rattle.mc_command.specs.Items.{items_of, re_expired, found, writing, placed};
+ghost use Rattle.mc_command.specs.Accounts.{AreOf, held_class, dead_class};
+ghost use Rattle.mc_command.specs.Items.{items_of, re_expired, found, rewritten, writing, placed};
 ghost use Rattle.mc_command.specs.Laws.{of_class};
-ghost use Rattle.mc_command.specs.Plain.{opening, plain, applied, standing, written, charge, count_of, has_room, flushed, Answered, Spent, store_row, cas_row, read_row, read_touch_row, touch_row, delete_row, count_row, counted, living, CopiesBlock, MayFail};
+ghost use Rattle.mc_command.specs.Plain.{opening, plain, applied, standing, charge, count_of, has_room, flushed, Answered, Spent, store_row, cas_row, read_row, read_touch_row, touch_row, delete_row, count_row, counted, living, CopiesBlock, MayFail};
 
 use crate::number::number_of;
 use crate::plain::accounts::Accounts;
@@ -90,6 +90,13 @@ impl PlainStore {
         }
     }
 
+    /// The class of the item that stands under the key.
+    fn standing_class(&self, key: &[u8], now: Moment) -> Option<Class>
+        ensures { result ≡ held_class key.now (standing self.now key.now now) }
+    {
+        self.standing(key, now)?.class(key)
+    }
+
     /// The class of the key's dead item, where no item stands under it.
     fn dead_class(&self, key: &[u8], now: Moment) -> Option<Class>
         ensures { result ≡ dead_class (standing self.now key.now now) key.now self.now }
@@ -150,10 +157,7 @@ impl PlainStore {
         ensures err { OnErr result (self.new ≡ self.old) }
     {
         let dead = self.dead_class(key, now);
-        let replaced = match self.standing(key, now) {
-            Some(item) => item.class(key),
-            None => None,
-        };
+        let replaced = self.standing_class(key, now);
         let bytes = Vec::from_slice(alloc, key)?;
         let item = Item::of(written, self.next_unique, now);
         let _ = self.items.insert(bytes, item)?;
@@ -168,7 +172,7 @@ impl PlainStore {
     fn put_in_place(&mut self, key: &[u8], written: Written, now: Moment)
         requires class { of_class key.now (get self.old.items key.now) (class_holding (charge key.now written.block)) ≡ 1 }
         requires number { self.old.next_unique ≢ 2 ^ 64 - 1 }
-        ensures { self.new ≡ written self.old key.now written.flags written.expiry written.block now }
+        ensures { self.new ≡ rewritten written key.now self.old now }
     {
         if let Some(item) = self.items.get_mut(key) {
             *item = Item::of(written, self.next_unique, now);
