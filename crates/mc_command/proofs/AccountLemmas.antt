@@ -16,7 +16,7 @@ at_class xs at class k n long place is at_k =
     (cases_eq k class)
 
 -- nothing is out
-none_out : (limit class : ℕ) → IsClass class → out_of (untouched limit) class ≡ 0
+pub none_out : (limit class : ℕ) → IsClass class → out_of (untouched limit) class ≡ 0
 none_out limit class is = get_or-replicate 40 (class - 1) 0 0 (omega arith)
 
 -- no class has a page

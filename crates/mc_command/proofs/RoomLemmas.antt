@@ -112,18 +112,18 @@ out-taken s k long is class at =
     (λ other. rw (there, ne_eqb class k other, ne_eqb k class (λ e. other (sym e))) (omega arith))
     (cases_eq class k))
 
-length-left : (s : SlabState) (o : Option ℕ) → length s.out ≡ 40 → length (left s o).out ≡ 40
+pub length-left : (s : SlabState) (o : Option ℕ) → length s.out ≡ 40 → length (left s o).out ≡ 40
 length-left s None long = long
 length-left s (Some k) long = length-set s.out (k - 1) _ ∙ long
 
 length-taken : (s : SlabState) (k : ℕ) → length s.out ≡ 40 → length (taken s k).out ≡ 40
 length-taken s k long = length-set (slab.with_chunk s k).out (k - 1) _ ∙ ap length (with_chunk-out s k) ∙ long
 
-left-pages : (s : SlabState) (o : Option ℕ) → (left s o).pages ≡ s.pages
+pub left-pages : (s : SlabState) (o : Option ℕ) → (left s o).pages ≡ s.pages
 left-pages s None = refl
 left-pages s (Some k) = refl
 
-left-limit : (s : SlabState) (o : Option ℕ) → (left s o).limit ≡ s.limit
+pub left-limit : (s : SlabState) (o : Option ℕ) → (left s o).limit ≡ s.limit
 left-limit s None = refl
 left-limit s (Some k) = refl
 

@@ -109,7 +109,8 @@ impl PlainStore {
 
     /// Whether a chunk of the class can be had, once the key's item is dropped if it is dead.
     fn has_room(&self, key: &[u8], class: Class, now: Moment) -> bool
-        ensures { result ≡ has_room (found key.now self.now now) class }
+        ensures value { result ≡ has_room (found key.now self.now now) class }
+        ensures is_class { IsClass class }
     {
         self.accounts.has_room(class, self.dead_class(key, now))
     }
@@ -151,6 +152,7 @@ impl PlainStore {
         now: Moment,
     ) -> Result<(), AllocError>
         requires class { class ≡ class_holding (charge key.now written.block) }
+        requires is_class { IsClass class }
         requires room { IsTrue (has_room (found key.now self.old now) class) }
         requires number { self.old.next_unique ≢ 2 ^ 64 - 1 }
         ensures placed { OnOk result (self.new ≡ placed written key.now self.old now) }
@@ -174,9 +176,8 @@ impl PlainStore {
         requires number { self.old.next_unique ≢ 2 ^ 64 - 1 }
         ensures { self.new ≡ rewritten written key.now self.old now }
     {
-        if let Some(item) = self.items.get_mut(key) {
-            *item = Item::of(written, self.next_unique, now);
-        }
+        let item = self.items.get_mut(key).unwrap();
+        *item = Item::of(written, self.next_unique, now);
         self.next_unique += 1;
     }
 
