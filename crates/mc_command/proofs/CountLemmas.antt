@@ -7,12 +7,17 @@ use Rattle.std.specs.declared.cmp.Ordering.{Ordering}
 use Rattle.std.specs.declared.cmp.Ordering.TheVariants.{Less, Equal, Greater}
 use Rattle.std.specs.FinMap.{get, insert, remove, retain_keys, empty, entries, entries_sorted, entries-insert, entries-from_sorted, get-entries, get-remove, get-retain_keys, get-from_sorted, get-from_entries, from_entries, from_sorted, len-empty, len-entries, same_map, find, put, is_sorted}
 use Rattle.std.specs.FinMap.Entries.{by_order, below_all, where_key, is_sorted-where_key, find-where_key}
-use Rattle.std.specs.List.{count_by, filter}
+use Rattle.std.specs.List.{count_by, filter, AllByRecursion}
+use Rattle.std.specs.List.Sorted.{IsStrictlySortedBy}
+use Rattle.std.specs.Map.{keys_of}
+use Rattle.std.specs.declared.vec.Vec.{Vec}
+use Rattle.std.specs.declared.alloc.Global.{Global}
+use Rattle.mc_command.specs.Items.{items_of}
 use Rattle.std.proofs.lemmas.List.Sums.{sum_by-cons, count_by-le-length}
 use Rattle.mc_time.specs.declared.expiry.Expiry.TheVariants.{Never}
 use Rattle.mc_command.specs.Plain.{Entry, Items, item_class, count_of}
 use Rattle.mc_command.specs.Laws.{of_class}
-use Rattle.mc_command.proofs.ItemLemmas.{bytes_cmp, same_bytes, laws, exact, is_equal, insert-remove}
+use Rattle.mc_command.proofs.ItemLemmas.{Entries, bytes_cmp, key_cmp, pairs, same_bytes, laws, exact, is_equal, insert-remove}
 
 abbrev Pair : Type 0
 Pair = List ℕ × Entry
@@ -126,3 +131,29 @@ module _ (class : ℕ) where
   -- those whose keys pass a test
   pub count-retain : (items : Items) (keep : List ℕ → Bool) → count_of (retain_keys items keep) class ≤ count_of items class
   count-retain items keep = rw (entries-retain_keys items keep) (count-where_key keep (entries items))
+
+-- the entries of the items that a map's entries make
+below_entries : (k : Vec ℕ Global) (es : Entries) → AllByRecursion (λ y. key_cmp k y ≡ Less) (keys_of es) → T (below_all bytes_cmp k.items (pairs es))
+below_entries k [] h = tt
+below_entries k (e ∷ es) h = both _ _ (subst (λ (o : Ordering). T (is_lt o)) (sym h.0) tt) (below_entries k es h.1)
+
+sorted_entries : (es : Entries) → IsStrictlySortedBy key_cmp (keys_of es) → T (is_sorted bytes_cmp (pairs es))
+unfolding IsStrictlySortedBy
+sorted_entries [] h = tt
+sorted_entries (e ∷ es) h = both _ _ (below_entries e.0 es h.0) (sorted_entries es h.1)
+
+pub entries-items_of : (es : Entries) → IsStrictlySortedBy key_cmp (keys_of es) → entries (items_of es) ≡ pairs es
+entries-items_of es h =
+    let sorted = sorted_entries es h in
+    let same : items_of es ≡ from_sorted (pairs es) = same_map nat_list_cmp_total exact _ _ (λ q. get-from_entries nat_list_cmp_total (pairs es) q ∙ sym (get-from_sorted bytes_cmp (pairs es) q sorted)) in
+    ap (λ (m : Items). entries m) same ∙ entries-from_sorted bytes_cmp (pairs es) sorted
+
+-- how many of a map's entries are of a class
+abbrev pub entries_of_class : ℕ → Entries → ℕ
+entries_of_class class es = count_by (λ e. eqb (item_class e.0 e.1) class) (pairs es)
+
+pub count-entries : (es : Entries) (class : ℕ) → IsStrictlySortedBy key_cmp (keys_of es) → count_of (items_of es) class ≡ entries_of_class class es
+count-entries es class h = ap (λ (ps : List Pair). count_by (λ e. eqb (item_class e.0 e.1) class) ps) (entries-items_of es h)
+
+pub entries_of_class-cons : (class : ℕ) (e : Vec ℕ Global × Entry) (es : Entries) → entries_of_class class (e ∷ es) ≡ of_class e.0.items (Some e.1) class + entries_of_class class es
+entries_of_class-cons class e es = count-cons class (e.0.items, e.1) (pairs es)

@@ -6,3 +6,4 @@ pub mod LawLemmas
 pub mod AccountLemmas
 pub mod CountLemmas
 pub mod RoomLemmas
+pub mod RecountLemmas

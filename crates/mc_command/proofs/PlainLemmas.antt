@@ -1,8 +1,8 @@
 -- What a write leaves, and the accounts beside it.
-use Rattle.std.proofs.Common.{◌≡◌, ◌≢◌, ◌<◌, ◌+◌, ℕ, Bool, true, false, cond, List, length, Option, Some, None, refl, ap, sym, subst, ◌∙◌}
-use Rattle.std.specs.Prelude.{IfSome, is_some}
-use Rattle.std.specs.Option.{option_copied}
-use Rattle.std.specs.Borrow.{Bor}
+use Rattle.std.proofs.Common.{◌≡◌, ◌≢◌, ◌<◌, ◌+◌, ℕ, suc, Bool, true, false, cond, eqb, List, length, Option, Some, None, refl, ap, sym, subst, ◌∙◌, arith, rules}
+use Rattle.std.specs.Prelude.{IfSome, IsSome, is_some}
+use Rattle.std.specs.Option.{option_copied, option_copied_mut}
+use Rattle.std.specs.Borrow.{Bor, MutBor}
 use Rattle.std.specs.FinMap.{get, insert, remove, get-remove}
 use Rattle.std.specs.Cmp.Lexicographic.{nat_list_cmp_total}
 use Rattle.mc_time.specs.Death.{is_dead}
@@ -10,14 +10,17 @@ use Rattle.mc_slab.specs.Classes.{IsClass}
 use Rattle.mc_slab.specs.Slabs.{SlabState, out_of, taken}
 use Rattle.mc_slab.specs.Slabs as slab
 use Rattle.mc_command.specs.Plain.{Plain, Entry, Items, item_class, alive, standing, without_dead, has_room, with_chunk}
-use Rattle.std.specs.BTreeMap.{insert_entry}
+use Rattle.std.specs.BTreeMap.{insert_entry, is_at}
+use Rattle.std.specs.Map.{set_value}
+use Rattle.std.proofs.lemmas.Bool.{eqb-true}
+use Rattle.mc_command.specs.Laws.{of_class}
 use Rattle.std.specs.declared.vec.Vec.{Vec}
 use Rattle.std.specs.declared.alloc.Global.{Global}
 use Rattle.mc_command.specs.declared.plain.item.Written.{Written}
 use Rattle.mc_command.specs.Accounts.{AreOf, left, held_class, dead_class}
 use Rattle.mc_command.specs.Items.{items_of, rewritten}
-use Rattle.mc_command.proofs.ItemLemmas.{Entries, key_cmp, laws, insert-remove, items_of-insert_entry}
-use Rattle.mc_command.proofs.RoomLemmas.{AreOf-out, AreOf-removed, AreOf-put, AreOf-over, AreOf-out_over, length-left, left-limit, left-pages, shown, shown-same, shown-left, room-is, with_chunk-is}
+use Rattle.mc_command.proofs.ItemLemmas.{Entries, key_cmp, bytes_cmp, item_at, laws, items_of-set_value, insert-remove, items_of-insert_entry}
+use Rattle.mc_command.proofs.RoomLemmas.{AreOf-out, AreOf-removed, AreOf-put, AreOf-over, AreOf-out_over, AreOf-same, length-left, left-limit, left-pages, shown, shown-same, shown-left, room-is, with_chunk-is}
 
 -- an item that stands is in the map
 alive-some : (cut : Option ℕ) (now : ℕ) (o : Option Entry) (item : Entry) → alive cut now o ≡ Some item → o ≡ Some item
@@ -44,6 +47,34 @@ dead-is (Some item) stands key old is none = cc
 pub items_of-put : (es fs : Entries) (k : Vec ℕ Global) (key : List ℕ) (stored item : Entry) → fs ≡ insert_entry key_cmp es k stored → k.items ≡ key → stored ≡ item → items_of fs ≡ insert (items_of es) key item
 items_of-put es fs k key stored item put same is =
     ap items_of put ∙ items_of-insert_entry es k stored ∙ ap (λ (q : List ℕ). insert (items_of es) q stored) same ∙ ap (insert (items_of es) key) is
+
+-- a write through the item that the map has
+pub items_of-set : (es fs : Entries) (key : List ℕ) (item : Entry) → fs ≡ set_value (λ (k : Vec ℕ Global). is_at (bytes_cmp key) k.items) es item → IsSome (item_at es key) → items_of fs ≡ insert (items_of es) key item
+items_of-set es fs key item set some = ap items_of set ∙ items_of-set_value es key item some
+
+pub AreOf-set : (es fs : Entries) (s : SlabState) (key : List ℕ) (item : Entry) → fs ≡ set_value (λ (k : Vec ℕ Global). is_at (bytes_cmp key) k.items) es item → IsSome (item_at es key) → AreOf (items_of es) s
+    → ((class : ℕ) → of_class key (get (items_of es) key) class ≡ of_class key (Some item) class) → AreOf (items_of fs) s
+AreOf-set es fs s key item set some are same = rw (items_of-set es fs key item set some) (AreOf-same (items_of es) s key item are same)
+
+-- an item of a class is there
+pub of_class-some : (key : List ℕ) (o : Option Entry) (class : ℕ) → of_class key o class ≡ 1 → IsSome o
+of_class-some key None class h = absurd (omega arith)
+of_class-some key (Some item) class h = search rules
+
+zero_one : cond false 1 0 ≡ suc 0 → ⊥
+zero_one e = omega arith
+
+pub of_class-same : (key : List ℕ) (o : Option Entry) (item : Entry) → of_class key o (item_class key item) ≡ 1 → (class : ℕ) → of_class key o class ≡ of_class key (Some item) class
+of_class-same key None item h class = absurd (omega arith)
+of_class-same key (Some old) item h class =
+    elim (eqb (item_class key old) (item_class key item)) as (λ b. eqb (item_class key old) (item_class key item) ≡ b → cond b 1 0 ≡ suc 0 → of_class key (Some old) class ≡ of_class key (Some item) class) [
+      | true ↦ λ e one. ap (λ (n : ℕ). cond (eqb n class) 1 0) (eqb-true _ _ e)
+      | false ↦ λ e one. absurd (zero_one one)
+    ] refl h
+
+pub is_some-copied : (r : Option (MutBor Entry)) (o : Option Entry) → option_copied_mut r ≡ o → IsSome o → IsSome r
+is_some-copied None o is some = subst IsSome (sym is) some
+is_some-copied (Some item) o is some = search rules
 
 -- the items without the key's dead one
 abbrev found_items : Items → List ℕ → Option Entry → Items

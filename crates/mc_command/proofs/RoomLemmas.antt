@@ -116,7 +116,7 @@ pub length-left : (s : SlabState) (o : Option ℕ) → length s.out ≡ 40 → l
 length-left s None long = long
 length-left s (Some k) long = length-set s.out (k - 1) _ ∙ long
 
-length-taken : (s : SlabState) (k : ℕ) → length s.out ≡ 40 → length (taken s k).out ≡ 40
+pub length-taken : (s : SlabState) (k : ℕ) → length s.out ≡ 40 → length (taken s k).out ≡ 40
 length-taken s k long = length-set (slab.with_chunk s k).out (k - 1) _ ∙ ap length (with_chunk-out s k) ∙ long
 
 pub left-pages : (s : SlabState) (o : Option ℕ) → (left s o).pages ≡ s.pages
@@ -186,13 +186,13 @@ module _ (items : Items) (s : SlabState) (key : List ℕ) (long : length s.out �
         let gone = out-left (taken s k) (held_class key (Some old)) (length-taken s k long) (IsClass-held key (Some old)) AreOf-out_over class is in
         omega arith
 
-  -- or in its chunk
-  pub AreOf-same : (v : Entry) → ((class : ℕ) → of_class key (get items key) class ≡ of_class key (Some v) class) → AreOf (insert items key v) s
-  AreOf-same v same class is =
-      let count = count-insert class items key v in
-      let alike = same class in
-      let out = are class is in
-      omega arith
+-- or in its chunk
+pub AreOf-same : (items : Items) (s : SlabState) (key : List ℕ) (v : Entry) → AreOf items s → ((class : ℕ) → of_class key (get items key) class ≡ of_class key (Some v) class) → AreOf (insert items key v) s
+AreOf-same items s key v are same class is =
+    let count = count-insert class items key v in
+    let alike = same class in
+    let out = are class is in
+    omega arith
 
 -- what contracts see of a store with these items and accounts
 abbrev pub shown : (greatest : ℕ) → Option ℕ → (next : ℕ) → Items → SlabState → Plain
@@ -219,3 +219,13 @@ module _ (greatest : ℕ) (cut : Option ℕ) (next : ℕ) (items : Items) (s : S
       let more : Plain = record old { pages = set s.pages (class - 1) (slab.pages_of s class + 1) } in
       ap (λ (n : ℕ). cond (eqb n (slab.chunks_of s class)) more old) (sym (are class is))
       ∙ elim (eqb (out_of s class) (slab.chunks_of s class)) as (λ b. cond b more old ≡ shown greatest cut next items (cond b (with_page s class) s)) [ true ↦ refl | false ↦ refl ]
+
+-- a chunk that is free is taken with no page
+pub room-free : (s : SlabState) (k : ℕ) → out_of s k < slab.chunks_of s k → slab.has_room s k ≡ true
+room-free s k free = ap (λ b. b || ltb 0 (slab.pages_left s)) (lt-ltb _ _ free)
+
+pub taken-pages : (s : SlabState) (k : ℕ) → out_of s k < slab.chunks_of s k → (taken s k).pages ≡ s.pages
+taken-pages s k free = ap (λ b. (cond b (with_page s k) s).pages) (ne_eqb (out_of s k) (slab.chunks_of s k) (omega arith))
+
+pub taken-limit : (s : SlabState) (k : ℕ) → out_of s k < slab.chunks_of s k → (taken s k).limit ≡ s.limit
+taken-limit s k free = ap (λ b. (cond b (with_page s k) s).limit) (ne_eqb (out_of s k) (slab.chunks_of s k) (omega arith))
