@@ -2,7 +2,7 @@
 use Rattle.std.proofs.Common.{◌≡◌, ◌≢◌, ℕ, ◌+◌, ◌-◌, ◌*◌, ◌<◌, ◌≤◌, ◌||◌, Bool, true, false, cond, leb, ltb, eqb, List, length, get_or, set, sum, Option, Some, None, refl, sym, ap, subst, ◌∙◌, ⊎_elim, arith}
 use Rattle.std.specs.Prelude.{IfSome}
 use Rattle.std.specs.List.{list_all, position_or_len}
-use Rattle.std.specs.FinMap.{get, insert, remove}
+use Rattle.std.specs.FinMap.{get, insert, remove, retain_keys}
 use Rattle.std.proofs.lemmas.Bool.{cases_eq, cases_lt, eq-eqb, ne_eqb, eqb-true, leb-true, le-leb, lt-leb, ltb-true, lt-ltb, le-ltb}
 use Rattle.std.proofs.lemmas.List.Folds.{list_all_at}
 use Rattle.std.proofs.lemmas.List.Sums.{position_or_len_is, prefix_len-le-length, fails_before_first}
@@ -15,7 +15,7 @@ use Rattle.mc_command.specs.Plain as plain
 use Rattle.mc_command.specs.Accounts.{left, AreOf, held_class}
 use Rattle.mc_command.specs.Laws.{of_class}
 use Rattle.mc_command.proofs.AccountLemmas.{at_class}
-use Rattle.mc_command.proofs.CountLemmas.{count-insert, count-remove}
+use Rattle.mc_command.proofs.CountLemmas.{count-insert, count-remove, count-retain}
 
 -- a charge above a page is held by no class
 length-chunk_sizes : length chunk_sizes ≡ 40
@@ -229,3 +229,10 @@ taken-pages s k free = ap (λ b. (cond b (with_page s k) s).pages) (ne_eqb (out_
 
 pub taken-limit : (s : SlabState) (k : ℕ) → out_of s k < slab.chunks_of s k → (taken s k).limit ≡ s.limit
 taken-limit s k free = ap (λ b. (cond b (with_page s k) s).limit) (ne_eqb (out_of s k) (slab.chunks_of s k) (omega arith))
+
+-- items that are taken out leave no more than stood
+pub retained-fewer : (items : Items) (s : SlabState) (keep : List ℕ → Bool) → AreOf items s → (class : ℕ) → IsClass class → count_of (retain_keys items keep) class ≤ out_of s class
+retained-fewer items s keep are class is =
+    let fewer = count-retain class items keep in
+    let out = are class is in
+    omega arith
