@@ -7,3 +7,4 @@ pub mod AccountLemmas
 pub mod CountLemmas
 pub mod RoomLemmas
 pub mod RecountLemmas
+pub mod WriteLemmas
