@@ -12,7 +12,7 @@ use Rattle.mc_command.specs.declared.reply.Reply.TheVariants.{TooLarge}
 use Rattle.mc_command.specs.declared.step.KeyStep.{KeyStep}
 use Rattle.mc_command.specs.declared.step.KeyStep.TheVariants.{Store, Cas, Read, ReadTouch, Touch, Delete, Count, Flush}
 use Rattle.mc_command.specs.Commands.{key_of}
-use Rattle.mc_command.specs.Plain.{Plain, Entry, Items, Row, Outcome, Change, Leaves, Writes, Expires, Removes, Answered, Spent, plain, applied, changed, charge, written, without_dead, standing, alive, living, flushed, store_row, cas_row, read_row, read_touch_row, touch_row, delete_row, count_row}
+use Rattle.mc_command.specs.Plain.{Plain, Entry, Items, Row, Outcome, Change, Leaves, Writes, SetsExpiry, Removes, Answered, Spent, plain, applied, changed, charge, written, without_dead, standing, alive, living, flushed, store_row, cas_row, read_row, read_touch_row, touch_row, delete_row, count_row}
 use Rattle.mc_command.specs.Laws.{IsOnKey, AgreeAt, AgreeAfter}
 use Rattle.mc_command.proofs.ItemLemmas.{bytes_cmp, same_bytes, laws, exact, is_equal}
 
@@ -44,7 +44,7 @@ changed_keeps : (reply : Reply) (change : Change) (key : List ℕ) (old : Plain)
 changed_keeps reply Leaves key old now other ne = refl
 changed_keeps reply (Writes flags expiry block) key old now other ne =
     write_keeps (ltb old.greatest (charge key block)) (eqb old.next_unique 18446744073709551615) reply old (written old key flags expiry block now) other (inserted_other old.items key other _ ne)
-changed_keeps reply (Expires item expiry) key old now other ne = inserted_other old.items key other _ ne
+changed_keeps reply (SetsExpiry item expiry) key old now other ne = inserted_other old.items key other _ ne
 changed_keeps reply Removes key old now other ne = removed_other old.items key other ne
 
 keeps_from : (outcome : Outcome) (mid old new : Plain) (reply : Reply) (other : List ℕ) → Keeps mid other outcome → get mid.items other ≡ get old.items other → outcome ≡ Answered reply new → get new.items other ≡ get old.items other
@@ -100,7 +100,7 @@ changed_agrees reply (Writes flags expiry block) key a b now same =
     subst (λ n. AgreeAfter key (changed reply (Writes flags expiry block) key a now) (cond (ltb n (charge key block)) (Answered TooLarge b) (cond (eqb b.next_unique 18446744073709551615) Spent (Answered reply (written b key flags expiry block now))))) same.greatest
     (subst (λ n. AgreeAfter key (changed reply (Writes flags expiry block) key a now) (cond (ltb a.greatest (charge key block)) (Answered TooLarge b) (cond (eqb n 18446744073709551615) Spent (Answered reply (written b key flags expiry block now))))) same.next_unique
     (write_agrees (ltb a.greatest (charge key block)) (eqb a.next_unique 18446744073709551615) reply key a b _ _ same after))
-changed_agrees reply (Expires item expiry) key a b now same =
+changed_agrees reply (SetsExpiry item expiry) key a b now same =
     (refl, record { item = insert_agrees a.items b.items key _; cut = same.cut; next_unique = same.next_unique; greatest = same.greatest })
 changed_agrees reply Removes key a b now same =
     (refl, record { item = remove_agrees a.items b.items key; cut = same.cut; next_unique = same.next_unique; greatest = same.greatest })

@@ -1,14 +1,15 @@
 -- The plain machine: one step on one key at a time.
-use Rattle.std.specs.Prelude.{ℕ, ◌≡◌, ◌+◌, ◌-◌, ◌^◌, ◌%◌, ◌==◌, ◌&&◌, Bool, true, false, List, [], ◌++◌, length, drop, Option, Some, None, is_some, refl, nat_lt, nat_le, decimal, if◌then◌else◌}
+use Rattle.std.specs.Prelude.{ℕ, ◌≡◌, ◌+◌, ◌-◌, ◌*◌, ◌^◌, ◌%◌, ◌==◌, ◌&&◌, ◌||◌, Bool, true, false, List, [], ◌++◌, length, drop, replicate, sum, slice_index, slice_set, Option, Some, None, is_some, refl, nat_lt, nat_le, decimal, if◌then◌else◌}
 use Rattle.std.specs.Coded.{Coded, code_by, coded×, coded_ℕ, coded_list, coded_option}
 use Rattle.std.specs.Ordering.{nat_cmp}
 use Rattle.std.specs.Cmp.Lexicographic.{slice_cmp}
-use Rattle.std.specs.FinMap.{FinMap, get, insert, remove, retain_keys, empty, code}
-use Rattle.std.specs.List.{take_while, list_all}
+use Rattle.std.specs.FinMap.{FinMap, entries, get, insert, remove, retain_keys, empty, code}
+use Rattle.std.specs.List.{take_while, list_all, count_by}
 use Rattle.std.specs.Char.{is_ascii_digit}
 use Rattle.mc_time.specs.declared.expiry.Expiry.{Expiry}
 use Rattle.mc_time.specs.declared.expiry.Expiry.TheVariants.{Never, At}
 use Rattle.mc_time.specs.Death.{expiry_of, moment_named, is_dead}
+use Rattle.mc_slab.specs.Classes.{class_holding, chunks_a_page}
 use Rattle.mc_command.specs.Words.{is_space}
 use Rattle.mc_command.specs.Numbers.{number_up_to}
 use Rattle.mc_command.specs.declared.step.Verb.{Verb}
@@ -31,7 +32,7 @@ abbrev pub Items : Type 0
 Items = FinMap (slice_cmp nat_cmp) Entry
 
 -- The state: the items, the flush that is waiting or has come, the number that the next write draws, and how many pages
--- each slab class has. Beside them, what no step changes: the greatest charge and the limit of pages.
+-- each slab class has, class 1 first. Beside them, what no step changes: the greatest charge and the limit of pages.
 pub record Plain : Type 0 where
   pub greatest : ℕ
   pub limit : ℕ
@@ -40,21 +41,22 @@ pub record Plain : Type 0 where
   pub next_unique : ℕ
   pub pages : List ℕ
 
--- a store of no items that never drew a number
+-- a store of no items that never drew a number, and no class of which has a page
 abbrev pub opening : ℕ → ℕ → Plain
-opening limit greatest = record { greatest = greatest; limit = limit; items = empty; cut = None; next_unique = 1; pages = [] }
+opening limit greatest = record { greatest = greatest; limit = limit; items = empty; cut = None; next_unique = 1; pages = replicate 40 0 }
 
 -- a step is answered, and leaves a state; or it would draw the last unique number, and changes nothing
 pub data Outcome : Type 0 where
   Answered : Reply → Plain → Outcome
   Spent : Outcome
 
--- what a row of the protocol's table does to the key's item: it leaves it, writes one under the next unique number, puts
--- it there again with another expiry, or removes it
+-- what a row of the protocol's table does to the key's item: it leaves it, writes one under the next unique number, writes
+-- a number that it was counted to, puts it there again with another expiry, or removes it
 pub data Change : Type 0 where
   Leaves : Change
   Writes : (flags : ℕ) → Expiry → (block : List ℕ) → Change
-  Expires : Entry → Expiry → Change
+  Recounts : Entry → (block : List ℕ) → Change
+  SetsExpiry : Entry → Expiry → Change
   Removes : Change
 
 -- what a step is answered, and what it does to the key's item
@@ -64,6 +66,30 @@ Row = Reply × Change
 -- a chunk holds 48 bytes beside the key and the block
 abbrev pub charge : List ℕ → List ℕ → ℕ
 charge key block = 48 + length key + length block
+
+-- an item's class: that of its charge
+abbrev pub item_class : List ℕ → Entry → ℕ
+item_class key item = class_holding (charge key item.block)
+
+-- how many items of a class stand in the map, the dead ones too that aren't dropped yet
+abbrev pub count_of : Items → ℕ → ℕ
+count_of items class = count_by (λ e. item_class e.0 e.1 == class) (entries items)
+
+-- a class's pages
+abbrev pub pages_of : Plain → ℕ → ℕ
+pages_of old class = slice_index old.pages (class - 1)
+
+-- how many chunks a class's pages have
+abbrev pub chunks_of : Plain → ℕ → ℕ
+chunks_of old class = pages_of old class * chunks_a_page class
+
+-- a chunk of the class can be had: fewer items of it stand than its pages have chunks, or a page is left
+abbrev pub has_room : Plain → ℕ → Bool
+has_room old class = nat_lt (count_of old.items class) (chunks_of old class) || nat_lt (sum old.pages) old.limit
+
+-- a page more for the class, where all its chunks are in use
+abbrev pub with_chunk : Plain → ℕ → Plain
+with_chunk old class = if count_of old.items class == chunks_of old class then record old { pages = slice_set old.pages (class - 1) (pages_of old class + 1) } else old
 
 -- the number that a block is: 1 to 20 digits of a value below 2 ^ 64, followed by any number of spaces and nothing else
 abbrev pub number_of : List ℕ → Option ℕ
@@ -101,12 +127,12 @@ read_row (Some old) = (Hit old.flags old.unique old.block, Leaves)
 -- gat, gats
 abbrev pub read_touch_row : Expiry → Option Entry → Row
 read_touch_row expiry None = (Miss, Leaves)
-read_touch_row expiry (Some old) = (Hit old.flags old.unique old.block, Expires old expiry)
+read_touch_row expiry (Some old) = (Hit old.flags old.unique old.block, SetsExpiry old expiry)
 
 -- touch
 abbrev pub touch_row : Expiry → Option Entry → Row
 touch_row expiry None = (NotFound, Leaves)
-touch_row expiry (Some old) = (Touched, Expires old expiry)
+touch_row expiry (Some old) = (Touched, SetsExpiry old expiry)
 
 -- delete
 abbrev pub delete_row : Option Entry → Row
@@ -116,7 +142,7 @@ delete_row (Some old) = (Deleted, Removes)
 -- incr and decr of an item, by the number that its block is
 abbrev pub number_row : Entry → Bool → ℕ → Option ℕ → Row
 number_row old up by None = (NotNumeric, Leaves)
-number_row old up by (Some number) = (Number (counted up by number), Writes old.flags old.expiry (decimal (counted up by number)))
+number_row old up by (Some number) = (Number (counted up by number), Recounts old (decimal (counted up by number)))
 
 -- incr, decr
 abbrev pub count_row : Bool → ℕ → Option Entry → Row
@@ -148,15 +174,22 @@ written old key flags expiry block now = record old {
   next_unique = old.next_unique + 1;
 }
 
--- a row's change of the key's item: of a write it is asked first whether its charge is at most the greatest, and then
--- whether a unique number is left
-abbrev pub changed : Reply → Change → List ℕ → Plain → ℕ → Outcome
-changed reply Leaves key old now = Answered reply old
-changed reply (Writes flags expiry block) key old now =
+-- A write, of an item that stays in the old one's chunk or takes one of its class. It is asked first whether the charge is at
+-- most the greatest, then whether a unique number is left, and then, of one that takes a chunk, whether one can be had.
+abbrev pub wrote : (stays : Bool) → Reply → List ℕ → (flags : ℕ) → Expiry → (block : List ℕ) → Plain → ℕ → Outcome
+wrote stays reply key flags expiry block old now =
     if nat_lt old.greatest (charge key block) then Answered TooLarge old
     else if old.next_unique == 2 ^ 64 - 1 then Spent
-    else Answered reply (written old key flags expiry block now)
-changed reply (Expires item expiry) key old now = Answered reply (record old { items = insert old.items key (record item { expiry = expiry }) })
+    else if stays then Answered reply (written old key flags expiry block now)
+    else if has_room old (class_holding (charge key block)) then Answered reply (written (with_chunk old (class_holding (charge key block))) key flags expiry block now)
+    else Answered NoChunk old
+
+-- a row's change of the key's item: a number that an item was counted to stays in its chunk where its class stays
+abbrev pub changed : Reply → Change → List ℕ → Plain → ℕ → Outcome
+changed reply Leaves key old now = Answered reply old
+changed reply (Writes flags expiry block) key old now = wrote false reply key flags expiry block old now
+changed reply (Recounts item block) key old now = wrote (item_class key item == class_holding (charge key block)) reply key item.flags item.expiry block old now
+changed reply (SetsExpiry item expiry) key old now = Answered reply (record old { items = insert old.items key (record item { expiry = expiry }) })
 changed reply Removes key old now = Answered reply (record old { items = remove old.items key })
 
 -- a row at a key: the key's dead item is dropped, and then the row applies to the item that stands

@@ -1,14 +1,14 @@
 //! Laws of the plain machine, each the contract of a function that does nothing.
 
-ghost use Rattle.std.specs.Prelude.{◌≡◌, ◌≢◌, ◌≤◌, ◌<◌, ℕ, List, Option, Some, None, true};
-ghost use Rattle.std.specs.FinMap.{get};
+ghost use Rattle.std.specs.Prelude.{◌≡◌, ◌≢◌, ◌+◌, ◌≤◌, ◌<◌, ◌↔◌, ℕ, List, Bool, Option, Some, None, sum, true};
+ghost use Rattle.std.specs.FinMap.{get, insert, remove, retain_keys, empty};
 ghost use Rattle.mc_time.specs.declared.expiry.Expiry.{Expiry};
 ghost use Rattle.mc_time.specs.Death.{is_dead, moment_named};
 ghost use Rattle.mc_command.specs.declared.step.KeyStep.{KeyStep};
 ghost use Rattle.mc_command.specs.declared.reply.Reply.{Reply};
 ghost use Rattle.mc_command.specs.Commands.{key_of};
-ghost use Rattle.mc_command.specs.Plain.{Plain, Entry, plain, alive, Answered};
-ghost use Rattle.mc_command.specs.Laws.{IsOnKey, AgreeAt, AgreeAfter};
+ghost use Rattle.mc_command.specs.Plain.{Plain, Items, Entry, plain, alive, standing, count_of, pages_of, Answered};
+ghost use Rattle.mc_command.specs.Laws.{IsOnKey, AgreeAt, AgreeAfter, HaveSameRoom, found_by, row_of, chunk_taken, LacksChunk, of_class};
 
 /// A step on one key leaves the items under other keys as they are.
 pub fn other_keys_stay()
@@ -16,11 +16,42 @@ pub fn other_keys_stay()
         IsOnKey step → plain old step now ≡ Answered reply new → other ≢ key_of step → get new.items other ≡ get old.items other }
 {}
 
-/// A step on one key depends on that key's item, the cut, the next unique number and the greatest charge alone: states
-/// that agree there give one answer, and agree there after it.
+/// A step on one key depends on that key's item, the cut, the next unique number, the greatest charge, and for which
+/// classes there is room: states that agree there give one answer, and agree at the key and in those numbers after it.
 pub fn one_key_decides()
     ensures { (a b : Plain) (step : KeyStep) (now : ℕ) →
-        IsOnKey step → AgreeAt (key_of step) a b → AgreeAfter (key_of step) (plain a step now) (plain b step now) }
+        IsOnKey step → AgreeAt (key_of step) a b → HaveSameRoom step now a b → AgreeAfter (key_of step) (plain a step now) (plain b step now) }
+{}
+
+/// A step is refused for want of a chunk exactly where what it writes takes one, is not too large, can draw a unique
+/// number, and finds no room. Nothing changes then, but that a dead item of the key is dropped.
+pub fn refused_without_room()
+    ensures exactly { (old : Plain) (step : KeyStep) (now : ℕ) →
+        IsOnKey step → (plain old step now ≡ Answered Reply.NoChunk (found_by step now old)) ↔ LacksChunk (found_by step now old) (chunk_taken (key_of step) (row_of step now (standing old (key_of step) now)).1) }
+    ensures unchanged { (old new : Plain) (step : KeyStep) (now : ℕ) →
+        plain old step now ≡ Answered Reply.NoChunk new → new ≡ found_by step now old }
+{}
+
+/// No step takes a page from a class, changes the limit, or has more pages than the limit.
+pub fn pages_stay()
+    ensures never_fall { (old new : Plain) (step : KeyStep) (now : ℕ) (reply : Reply) (class : ℕ) →
+        plain old step now ≡ Answered reply new → pages_of old class ≤ pages_of new class }
+    ensures limit { (old new : Plain) (step : KeyStep) (now : ℕ) (reply : Reply) →
+        plain old step now ≡ Answered reply new → new.limit ≡ old.limit }
+    ensures within { (old new : Plain) (step : KeyStep) (now : ℕ) (reply : Reply) →
+        plain old step now ≡ Answered reply new → sum old.pages ≤ old.limit → sum new.pages ≤ new.limit }
+{}
+
+/// How many items of a class stand, after each change of the items: an item that is put takes the place of the key's old
+/// one, and one that is taken out counts no more.
+pub fn counts_follow()
+    ensures empty { (class : ℕ) → count_of empty class ≡ 0 }
+    ensures insert { (items : Items) (key : List ℕ) (item : Entry) (class : ℕ) →
+        count_of (insert items key item) class + of_class key (get items key) class ≡ count_of items class + of_class key (Some item) class }
+    ensures remove { (items : Items) (key : List ℕ) (class : ℕ) →
+        count_of (remove items key) class + of_class key (get items key) class ≡ count_of items class }
+    ensures retain { (items : Items) (keep : List ℕ → Bool) (class : ℕ) →
+        count_of (retain_keys items keep) class ≤ count_of items class }
 {}
 
 /// An item that is dead stays so, while nothing changes it and no flush comes.

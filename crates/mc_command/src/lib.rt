@@ -18,7 +18,10 @@ pub use bytes::Bytes;
 pub use command::{Command, is_quiet, step_at, steps_of};
 pub use fault::LineFault;
 pub use keys::Keys;
-pub use laws::{flushes_empty, one_key_decides, other_keys_stay, the_dead_stay_dead};
+pub use laws::{
+    counts_follow, flushes_empty, one_key_decides, other_keys_stay, pages_stay,
+    refused_without_room, the_dead_stay_dead,
+};
 pub use number::number_up_to;
 pub use plain::{KeyTest, PlainStore};
 pub use reply::Reply;

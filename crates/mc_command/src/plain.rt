@@ -1,45 +1,50 @@
 //! The plain store: an ordered map, which takes each step as the plain machine does.
 
+mod accounts;
 mod item;
 mod purge;
 #[cfg(test)]
 mod tests;
 
-ghost use Rattle.std.specs.Prelude.{◌≡◌, ◌≤◌, ℕ, length, decimal, Some, Err, IsErr, IfOk, OnErr};
+ghost use Rattle.std.specs.Prelude.{◌≡◌, ◌≢◌, ◌-◌, ◌^◌, ◌≤◌, ◌==◌, ℕ, length, decimal, nat_lt, true, if◌then◌else◌, Some, None, Err, IsErr, IsTrue, IfOk, OnOk, OnErr};
 ghost use Rattle.std.specs.Option.{option_copied};
 ghost use Rattle.std.specs.FinMap.{get, remove};
 ghost use Rattle.mc_command.specs.Commands.{key_of};
-ghost use Rattle.mc_command.specs.Items.{re_expired, writing};
-ghost use Rattle.mc_command.specs.Plain.{opening, plain, applied, standing, without_dead, flushed, Answered, Spent, store_row, cas_row, read_row, read_touch_row, touch_row, delete_row, count_row, counted, living, CopiesBlock, MayFail};
+ghost use Rattle.mc_slab.specs.Classes.{IsClass, class_holding};
+ghost use Rattle.mc_slab.specs.Slabs.{out_of};
+ghost use Rattle.mc_command.specs.Accounts.{AreOf, held_class, dead_class};
+ghost use Rattle.mc_command.specs.Items.{items_of, re_expired, found, rewritten, writing, placed};
+ghost use Rattle.mc_command.specs.Laws.{of_class};
+ghost use Rattle.mc_command.specs.Plain.{opening, plain, applied, standing, charge, count_of, has_room, flushed, Answered, Spent, store_row, cas_row, read_row, read_touch_row, touch_row, delete_row, count_row, counted, living, CopiesBlock, MayFail};
 
 use crate::number::number_of;
-use crate::plain::item::{Given, Item, Written};
+use crate::plain::accounts::Accounts;
+use crate::plain::item::{Given, Item, Written, charge, class_of_item};
 pub use crate::plain::purge::KeyTest;
 use crate::reply::Reply;
 use crate::step::{KeyStep, StepFault, Steps, Verb};
 use itoa::Buffer;
+use mc_slab::Class;
 use mc_time::{Expiry, Moment, cut_after, expiry_of};
 use std::alloc::{AllocError, Global};
 use std::collections::BTreeMap;
 use std::marker::Model;
 
-/// What an item's chunk holds beside its key and its block, in bytes.
-const CHUNK_HEAD: usize = 48;
-
 /// A store that is an ordered map. It takes each step as the plain machine does.
 #[derive(Drop)]
 pub struct PlainStore {
     greatest: u64,
-    limit: u32,
     items: BTreeMap<Vec<u8>, Item>,
+    accounts: Accounts,
     cut: Option<u64>,
     next_unique: u64,
 }
 
 impl Model for PlainStore {
-    ghost use Rattle.std.specs.Prelude.{[]};
+    ghost use Rattle.std.specs.Prelude.{◌≤◌};
     ghost use Rattle.mc_command.specs.Plain.{Plain, coded_plain};
     ghost use Rattle.mc_command.specs.Items.{items_of};
+    ghost use Rattle.mc_command.specs.Accounts.{AreOf};
 
     ghost Value = { Plain };
 
@@ -47,24 +52,27 @@ impl Model for PlainStore {
 
     ghost view = { λ s. record {
       greatest = s.greatest;
-      limit = s.limit;
+      limit = s.accounts.limit;
       items = items_of s.items.entries;
       cut = s.cut;
       next_unique = s.next_unique;
-      pages = [];
+      pages = s.accounts.pages;
     } };
+
+    ghost invariant = { λ s. (s.greatest ≤ 1048576) × AreOf (items_of s.items.entries) s.accounts };
 }
 
 impl PlainStore {
-    /// A store of no items, with that many pages, 1 to 65536 (kept, with no effect yet), and that greatest charge of an
-    /// item in bytes.
+    /// A store of no items, with at most that many pages, 1 to 65536, and that greatest charge of an item in bytes.
     pub fn new(alloc: Global, pages: u32, greatest: u64) -> Result<PlainStore, AllocError>
+        requires pages { (1 ≤ pages) × (pages ≤ 65536) }
+        requires greatest { greatest ≤ 1048576 }
         ensures { IfOk result (λ store. store ≡ opening pages greatest) }
     {
         Ok(PlainStore {
             greatest,
-            limit: pages,
             items: BTreeMap::new(alloc),
+            accounts: Accounts::new(pages),
             cut: None,
             next_unique: 1,
         })
@@ -82,16 +90,43 @@ impl PlainStore {
         }
     }
 
+    /// The class of the item that stands under the key.
+    fn standing_class(&self, key: &[u8], now: Moment) -> Option<Class>
+        ensures { result ≡ held_class key.now (standing self.now key.now now) }
+    {
+        self.standing(key, now)?.class(key)
+    }
+
+    /// The class of the key's dead item, where no item stands under it.
+    fn dead_class(&self, key: &[u8], now: Moment) -> Option<Class>
+        ensures { result ≡ dead_class (standing self.now key.now now) key.now self.now }
+    {
+        if self.standing(key, now).is_some() {
+            return None;
+        }
+        self.items.get(key)?.class(key)
+    }
+
+    /// Whether a chunk of the class can be had, once the key's item is dropped if it is dead.
+    fn has_room(&self, key: &[u8], class: Class, now: Moment) -> bool
+        ensures value { result ≡ has_room (found key.now self.now now) class }
+        ensures is_class { IsClass class }
+    {
+        self.accounts.has_room(class, self.dead_class(key, now))
+    }
+
     /// Removes the key's item, if there is one.
     fn remove(&mut self, key: &[u8])
         ensures { self.new ≡ record self.old { items = remove self.old.items key.now } }
     {
-        let _ = self.items.remove(key);
+        if let Some(item) = self.items.remove(key) {
+            self.accounts.give(item.class(key));
+        }
     }
 
     /// Drops the key's item if it is dead.
     fn drop_dead(&mut self, key: &[u8], now: Moment)
-        ensures { self.new ≡ without_dead (standing self.old key.now now) key.now self.old }
+        ensures { self.new ≡ found key.now self.old now }
     {
         if self.standing(key, now).is_none() {
             self.remove(key);
@@ -107,34 +142,95 @@ impl PlainStore {
         }
     }
 
-    /// Writes under the key, in place of a dead item too, and answers `reply`; or answers that the item is too large.
+    /// Writes in a chunk of the class, in place of the key's old item, dead or not. Refused, nothing changes.
+    fn put(
+        &mut self,
+        alloc: Global,
+        key: &[u8],
+        class: Class,
+        written: Written,
+        now: Moment,
+    ) -> Result<(), AllocError>
+        requires class { class ≡ class_holding (charge key.now written.block) }
+        requires is_class { IsClass class }
+        requires room { IsTrue (has_room (found key.now self.old now) class) }
+        requires number { self.old.next_unique ≢ 2 ^ 64 - 1 }
+        ensures placed { OnOk result (self.new ≡ placed written key.now self.old now) }
+        ensures err { OnErr result (self.new ≡ self.old) }
+    {
+        let dead = self.dead_class(key, now);
+        let replaced = self.standing_class(key, now);
+        let bytes = Vec::from_slice(alloc, key)?;
+        let item = Item::of(written, self.next_unique, now);
+        let _ = self.items.insert(bytes, item)?;
+        self.accounts.give(dead);
+        self.accounts.take(class);
+        self.accounts.give(replaced);
+        self.next_unique += 1;
+        Ok(())
+    }
+
+    /// Writes in the chunk of the item that stands under the key, whose class stays. It takes no memory.
+    fn put_in_place(&mut self, key: &[u8], written: Written, now: Moment)
+        requires class { of_class key.now (get self.old.items key.now) (class_holding (charge key.now written.block)) ≡ 1 }
+        requires number { self.old.next_unique ≢ 2 ^ 64 - 1 }
+        ensures { self.new ≡ rewritten written key.now self.old now }
+    {
+        let item = self.items.get_mut(key).unwrap();
+        *item = Item::of(written, self.next_unique, now);
+        self.next_unique += 1;
+    }
+
+    /// The class that holds the key and the block; none where their charge is above the greatest.
+    fn class_for(&self, key: &[u8], block: &[u8]) -> Option<Class>
+        ensures { result ≡ (if nat_lt self.now.greatest (charge key.now block.now) then None else Some (class_holding (charge key.now block.now))) }
+    {
+        if self.greatest < charge(key, block) {
+            return None;
+        }
+        class_of_item(key, block)
+    }
+
+    /// Whether no unique number is left.
+    fn is_spent(&self) -> bool
+        ensures { result ≡ (self.now.next_unique == 2 ^ 64 - 1) }
+    {
+        self.next_unique == u64::MAX
+    }
+
+    /// Writes under the key, in place of a dead item too, and answers `reply`; or answers that the item is too large or
+    /// finds no chunk. An item that `stays` goes into the old one's chunk.
     fn write(
         &mut self,
         alloc: Global,
         key: &[u8],
         written: Written,
+        stays: bool,
         reply: Reply,
         now: Moment,
     ) -> Result<Reply, StepFault>
-        requires key { length key.now ≤ 250 }
         requires reply { CopiesBlock reply }
-        ensures took { IfOk result (λ answer. writing reply written key.now self.old now ≡ Answered answer self.new) }
-        ensures refused { OnErr result (MayFail (writing reply written key.now self.old now)) }
-        ensures spent { result ≡ Err StepFault.NumbersSpent → writing reply written key.now self.old now ≡ Spent }
+        requires stays { stays ≡ true → of_class key.now (standing self.old key.now now) (class_holding (charge key.now written.block)) ≡ 1 }
+        ensures took { IfOk result (λ answer. writing stays reply written key.now self.old now ≡ Answered answer self.new) }
+        ensures refused { OnErr result (MayFail (writing stays reply written key.now self.old now)) }
+        ensures spent { result ≡ Err StepFault.NumbersSpent → writing stays reply written key.now self.old now ≡ Spent }
         ensures err { OnErr result (self.new ≡ self.old) }
     {
-        let charge = CHUNK_HEAD + key.len() + written.block.bytes().len();
-        if self.greatest < charge as u64 {
+        let Some(class) = self.class_for(key, written.block.bytes()) else {
             self.drop_dead(key, now);
             return Ok(Reply::TooLarge);
-        }
-        if self.next_unique == u64::MAX {
+        };
+        if self.is_spent() {
             return Err(StepFault::NumbersSpent);
         }
-        let key = Vec::from_slice(alloc, key)?;
-        let item = Item::of(written, self.next_unique, now);
-        let _ = self.items.insert(key, item)?;
-        self.next_unique += 1;
+        if stays {
+            self.put_in_place(key, written, now);
+        } else if self.has_room(key, class, now) {
+            self.put(alloc, key, class, written, now)?;
+        } else {
+            self.drop_dead(key, now);
+            return Ok(Reply::NoChunk);
+        }
         Ok(reply)
     }
 }
@@ -149,14 +245,13 @@ impl PlainStore {
         given: &Given<'_>,
         now: Moment,
     ) -> Result<Reply, StepFault>
-        requires { length key.now ≤ 250 }
         ensures took { IfOk result (λ reply. applied (store_row verb given.now.flags given.now.expiry given.now.block.now) key.now self.old now ≡ Answered reply self.new) }
         ensures refused { OnErr result (MayFail (applied (store_row verb given.now.flags given.now.expiry given.now.block.now) key.now self.old now)) }
         ensures spent { result ≡ Err StepFault.NumbersSpent → applied (store_row verb given.now.flags given.now.expiry given.now.block.now) key.now self.old now ≡ Spent }
         ensures err { OnErr result (self.new ≡ self.old) }
     {
         match given.written_by(alloc, verb, self.standing(key, now))? {
-            Some(written) => self.write(alloc, key, written, Reply::Stored, now),
+            Some(written) => self.write(alloc, key, written, false, Reply::Stored, now),
             None => {
                 self.drop_dead(key, now);
                 Ok(Reply::NotStored)
@@ -172,7 +267,6 @@ impl PlainStore {
         unique: u64,
         now: Moment,
     ) -> Result<Reply, StepFault>
-        requires { length key.now ≤ 250 }
         ensures took { IfOk result (λ reply. applied (cas_row given.now.flags given.now.expiry given.now.block.now unique) key.now self.old now ≡ Answered reply self.new) }
         ensures refused { OnErr result (MayFail (applied (cas_row given.now.flags given.now.expiry given.now.block.now unique) key.now self.old now)) }
         ensures spent { result ≡ Err StepFault.NumbersSpent → applied (cas_row given.now.flags given.now.expiry given.now.block.now unique) key.now self.old now ≡ Spent }
@@ -186,7 +280,7 @@ impl PlainStore {
             return Ok(Reply::Exists);
         }
         let written = given.written(alloc)?;
-        self.write(alloc, key, written, Reply::Stored, now)
+        self.write(alloc, key, written, false, Reply::Stored, now)
     }
 
     fn read(&mut self, alloc: Global, key: &[u8], now: Moment) -> Result<Reply, AllocError>
@@ -254,7 +348,6 @@ impl PlainStore {
         by: u64,
         now: Moment,
     ) -> Result<Reply, StepFault>
-        requires { length key.now ≤ 250 }
         ensures took { IfOk result (λ reply. applied (count_row up by) key.now self.old now ≡ Answered reply self.new) }
         ensures refused { OnErr result (MayFail (applied (count_row up by) key.now self.old now)) }
         ensures spent { result ≡ Err StepFault.NumbersSpent → applied (count_row up by) key.now self.old now ≡ Spent }
@@ -269,7 +362,8 @@ impl PlainStore {
         };
         let number = counted(up, by, old);
         let written = item.with_block(decimal(alloc, number)?);
-        self.write(alloc, key, written, Reply::Number(number), now)
+        let stays = item.class(key) == class_of_item(key, written.block.bytes());
+        self.write(alloc, key, written, stays, Reply::Number(number), now)
     }
 
     fn flush(&mut self, delay: u64, now: Moment)
@@ -277,6 +371,7 @@ impl PlainStore {
     {
         if delay == 0 {
             self.items.clear();
+            self.accounts.give_all();
         } else {
             self.drop_all_dead(now);
         }
@@ -289,6 +384,22 @@ impl PlainStore {
     {
         let cut = self.cut;
         self.items.retain(move |_, item| !item.is_dead(cut, now));
+        recount(&mut self.accounts, &self.items);
+    }
+}
+
+/// Counts the items of each class anew, after some are gone. The pages stay. The cost grows with the number of items.
+fn recount(accounts: &mut Accounts, items: &BTreeMap<Vec<u8>, Item>)
+    requires { (class : ℕ) → IsClass class → count_of (items_of items.now.entries) class ≤ out_of accounts.old class }
+    ensures counts { AreOf (items_of items.now.entries) accounts.new }
+    ensures pages { accounts.new.pages ≡ accounts.old.pages }
+    ensures limit { accounts.new.limit ≡ accounts.old.limit }
+{
+    accounts.give_all();
+    for (key, item) in items {
+        if let Some(class) = item.class(key) {
+            accounts.take(class);
+        }
     }
 }
 

@@ -1,16 +1,21 @@
-ghost use Rattle.std.specs.Prelude.{◌≡◌, ◌++◌, IfOk, OnErr};
+ghost use Rattle.std.specs.Prelude.{◌≡◌, ◌-◌, ◌^◌, ◌++◌, min, IfSome, IfOk, OnErr};
 ghost use Rattle.std.specs.Option.{option_copied};
 ghost use Rattle.mc_time.specs.Death as death;
-ghost use Rattle.mc_command.specs.Plain.{store_row};
+ghost use Rattle.mc_slab.specs.Classes.{IsClass, class_of};
+ghost use Rattle.mc_command.specs.Plain.{store_row, charge};
 ghost use Rattle.mc_command.specs.Items.{stored_row, WritesStored};
 
 use crate::block::Block;
 use crate::bytes::Bytes;
 use crate::reply::Reply;
 use crate::step::Verb;
+use mc_slab::Class;
 use mc_time::{Expiry, Moment, expiry_of};
 use std::alloc::{AllocError, Global};
 use std::marker::Model;
+
+/// What an item's chunk holds beside its key and its block, in bytes.
+const CHUNK_HEAD: u64 = 48;
 
 /// What the plain store keeps under a key.
 #[derive(Drop)]
@@ -142,6 +147,14 @@ impl Item {
         self.unique
     }
 
+    /// The class of its chunk under that key; none where no class holds it.
+    pub(crate) fn class(&self, key: &[u8]) -> Option<Class>
+        ensures value { result ≡ class_of (charge key.now self.now.block) }
+        ensures is_class { IfSome result IsClass }
+    {
+        class_of_item(key, self.bytes())
+    }
+
     /// Its block.
     pub(crate) fn bytes(&self) -> &[u8]
         ensures { result.now ≡ self.now.block }
@@ -177,6 +190,23 @@ impl Item {
             block: Block::of(block),
         }
     }
+}
+
+/// The class whose chunks hold an item of that key and block; none where its charge is above 1048576.
+pub(crate) fn class_of_item(key: &[u8], block: &[u8]) -> Option<Class>
+    ensures value { result ≡ class_of (charge key.now block.now) }
+    ensures is_class { IfSome result IsClass }
+{
+    mc_slab::class_of(charge(key, block))
+}
+
+/// The charge of an item of that key and block in bytes, or 2^64 - 1 where it is above that.
+pub(crate) fn charge(key: &[u8], block: &[u8]) -> u64
+    ensures { result ≡ min (charge key.now block.now) (2 ^ 64 - 1) }
+{
+    CHUNK_HEAD
+        .saturating_add(key.len() as u64)
+        .saturating_add(block.len() as u64)
 }
 
 /// The bytes of one slice and then those of another.
