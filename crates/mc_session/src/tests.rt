@@ -9,6 +9,9 @@ use std::test::Fail;
 /// The greatest charge: a block of 51 bytes under a key of one byte.
 const GREATEST: u64 = 100;
 
+/// The greatest charge of the stores here, in bytes.
+const PAGE: u64 = 1_048_576;
+
 /// More calls than a test makes.
 const NEVER: usize = 10000;
 
@@ -120,7 +123,7 @@ fn run(
         taken: Vec::with_capacity(alloc, 1000)?,
         calls: writes,
     };
-    let mut store = PlainStore::new(alloc, 64, GREATEST)?;
+    let mut store = PlainStore::new(alloc, 64, PAGE)?;
     let clock = Fixed(Moment::from_seconds(1000));
     let ended = serve(
         alloc,
@@ -227,7 +230,7 @@ fn turns(
 }
 
 fn keys_take_turns(rt: &impl Abort, alloc: Global) -> Result<(), AllocError> {
-    let mut store = PlainStore::new(alloc, 64, GREATEST)?;
+    let mut store = PlainStore::new(alloc, 64, PAGE)?;
     let mut reading = Session::new(alloc, GREATEST);
     let mut writing = Session::new(alloc, GREATEST);
     let ones = "set a 0 0 1\r\n1\r\nset b 0 0 1\r\n1\r\n";
@@ -310,7 +313,7 @@ fn step_is_taken(
     text: &str,
     after: &str,
 ) -> Result<(), AllocError> {
-    let mut store = PlainStore::new(alloc, 64, GREATEST)?;
+    let mut store = PlainStore::new(alloc, 64, PAGE)?;
     asks(rt, alloc, &mut store, "set a 0 0 1\r\n1\r\n", "STORED\r\n")?;
     let mut session = Session::new(alloc, GREATEST);
     turns(rt, alloc, &mut session, &mut store, "foo\r\n", 1)?;
