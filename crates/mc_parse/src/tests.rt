@@ -53,6 +53,18 @@ fn pass_unit(feed: &mut Feed) -> Option<usize> {
     Some(len)
 }
 
+/// Pushes a piece. Says whether the feed was as before where that was refused, and pushes it then.
+fn push_at_last(feed: &mut Feed, piece: &[u8]) -> Result<bool, AllocError> {
+    let held = feed.held();
+    let found = len_of(feed.peek());
+    if feed.push(piece).is_ok() {
+        return Ok(true);
+    }
+    let is_same = feed.held() == held && len_of(feed.peek()) == found;
+    feed.push(piece)?;
+    Ok(is_same)
+}
+
 #[test]
 fn a_set_and_what_follows(rt: HostRuntime) {
     let unread = b"set a 5 0 3\r\nabc\r\nget a\r\n";
@@ -129,7 +141,7 @@ fn the_longest_line(rt: HostRuntime) -> Result<(), AllocError> {
 #[test]
 fn a_block_that_is_passed_over(rt: HostRuntime) -> Result<(), AllocError> {
     let mut feed = Feed::new(rt.alloc(), 100);
-    feed.push(b"set a 0 0 200\r\nxyz")?;
+    assert!(rt; push_at_last(&mut feed, b"set a 0 0 200\r\nxyz")?);
     assert!(rt;
         matches!(
             feed.peek(),
@@ -139,16 +151,16 @@ fn a_block_that_is_passed_over(rt: HostRuntime) -> Result<(), AllocError> {
     assert_eq!(rt; pass_unit(&mut feed), Some(15));
     assert_eq!(rt; feed.held(), 0);
     for _ in 0..199 {
-        feed.push(b"x")?;
+        assert!(rt; push_at_last(&mut feed, b"x")?);
         assert_eq!(rt; feed.held(), 0);
         assert!(rt; matches!(feed.peek(), Peek::More));
     }
-    feed.push(b"version\r\nqu")?;
+    assert!(rt; push_at_last(&mut feed, b"version\r\nqu")?);
     assert!(rt; matches!(feed.peek(), Peek::Whole(Command::Version, 9)));
     assert_eq!(rt; pass_unit(&mut feed), Some(9));
     assert_eq!(rt; feed.held(), 2);
     assert!(rt; matches!(feed.peek(), Peek::More));
-    feed.push(b"it\r\n")?;
+    assert!(rt; push_at_last(&mut feed, b"it\r\n")?);
     assert!(rt; matches!(feed.peek(), Peek::Whole(Command::Quit, 6)));
     feed.clear();
     assert_eq!(rt; feed.held(), 0);
@@ -158,7 +170,7 @@ fn a_block_that_is_passed_over(rt: HostRuntime) -> Result<(), AllocError> {
 #[test]
 fn a_retrieval_in_turns(rt: HostRuntime) -> Result<(), AllocError> {
     let mut feed = Feed::new(rt.alloc(), GREATEST);
-    feed.push(b"gats 60 one  two three \r\nquit\r\n")?;
+    assert!(rt; push_at_last(&mut feed, b"gats 60 one  two three \r\nquit\r\n")?);
     for (taken, key, left) in [(0, b"one".as_slice(), 3), (1, b"two", 2), (2, b"three", 1)] {
         // Found by reading the line from its beginning, and then by the note.
         for _ in 0..2 {
@@ -166,7 +178,7 @@ fn a_retrieval_in_turns(rt: HostRuntime) -> Result<(), AllocError> {
             feed.mark(taken);
         }
         // What comes behind changes nothing.
-        feed.push(b"version\r\n")?;
+        assert!(rt; push_at_last(&mut feed, b"version\r\n")?);
     }
     assert!(rt; is_gats_60(feed.peek_after(usize::MAX), 0, b""));
     assert_eq!(rt; pass_unit(&mut feed), Some(25));
@@ -184,14 +196,57 @@ fn a_push_that_is_refused(rt: HostRuntime) -> Result<(), AllocError> {
         b"\r\nget a\r\n",
     ];
     for piece in pieces {
-        let held = feed.held();
-        if feed.push(piece).is_err() {
-            assert_eq!(rt; feed.held(), held);
-            assert!(rt; matches!(feed.peek(), Peek::More));
-            feed.push(piece)?;
-        }
+        assert!(rt; matches!(feed.peek(), Peek::More));
+        assert!(rt; push_at_last(&mut feed, piece)?);
     }
     assert_eq!(rt; pass_unit(&mut feed), Some(117));
     assert!(rt; matches!(feed.peek(), Peek::Whole(Command::Get { .. }, 7)));
+    Ok(())
+}
+
+#[test]
+fn a_stream_in_pieces_of_one_byte(rt: HostRuntime) -> Result<(), AllocError> {
+    let mut feed = Feed::new(rt.alloc(), GREATEST);
+    let stream = b" set a 0 0 3 \r\na\nc\r\nversion\nfoo\r\nset a 0 0 1\r\nabcquit\r\n";
+    // The last byte of each unit.
+    let lasts: [usize; 5] = [19, 27, 32, 48, 54];
+    for (place, byte) in stream.iter().enumerate() {
+        assert!(rt; push_at_last(&mut feed, &[*byte])?);
+        let is_whole = pass_unit(&mut feed).is_some();
+        assert!(rt; is_whole == lasts.contains(&place), "at {place}");
+    }
+    assert_eq!(rt; feed.held(), 0);
+    Ok(())
+}
+
+#[test]
+fn the_longest_line_in_pieces(rt: HostRuntime) -> Result<(), AllocError> {
+    let mut feed = Feed::new(rt.alloc(), GREATEST);
+    let spaces = [b' '; 8191];
+    assert!(rt; push_at_last(&mut feed, b"version ")?);
+    for _ in 0..8 {
+        assert!(rt; matches!(feed.peek(), Peek::More));
+        assert!(rt; push_at_last(&mut feed, &spaces)?);
+    }
+    assert_eq!(rt; feed.held(), 65536);
+    assert!(rt; matches!(feed.peek(), Peek::More));
+    assert!(rt; push_at_last(&mut feed, b"\n")?);
+    assert!(rt; matches!(feed.peek(), Peek::Whole(Command::Version, 65537)));
+    Ok(())
+}
+
+#[test]
+fn a_line_one_byte_too_long_in_pieces(rt: HostRuntime) -> Result<(), AllocError> {
+    let mut feed = Feed::new(rt.alloc(), GREATEST);
+    let spaces = [b' '; 8192];
+    for _ in 0..8 {
+        assert!(rt; matches!(feed.peek(), Peek::More));
+        assert!(rt; push_at_last(&mut feed, &spaces)?);
+    }
+    assert!(rt; matches!(feed.peek(), Peek::More));
+    assert!(rt; push_at_last(&mut feed, b" ")?);
+    assert!(rt; matches!(feed.peek(), Peek::TooLong));
+    assert!(rt; push_at_last(&mut feed, b"\n")?);
+    assert!(rt; matches!(feed.peek(), Peek::TooLong));
     Ok(())
 }
