@@ -219,7 +219,7 @@ module _ (hash : List ℕ → ℕ) (shelves : ℕ) where
       (with_end (named event) (record first { state = new.state }), (new.state, decides_in first old new.state event stands (undone.decides refl), refl), refused_stands first old new event true stands undone)
   gives_up first old new event false stands undone =
       let same : new.state ≡ first.state = undone.undecided refl ∙ stands.state in
-      (with_end (named event) first, (takes_memory first old event stands undone.takes, refl), subst (λ (p : Plain). StandsAs (with_end (named event) (record first { state = p })) new) same (refused_stands first old new event false stands undone))
+      (with_end (named event) first, refl, subst (λ (p : Plain). StandsAs (with_end (named event) (record first { state = p })) new) same (refused_stands first old new event false stands undone))
 
   -- what is told of the events before a refused one, and of it
   pub told_until : (old mid new : WorldState) (events : List Event) (event : Event) (refused : Refused) → Told hash shelves old (take refused.at events) mid → slice_get events refused.at ≡ Some event → refused.session ≡ named event → Undone refused.decided mid event new → ToldUntil hash shelves refused old events new
@@ -230,7 +230,7 @@ module _ (hash : List ℕ → ℕ) (shelves : ℕ) where
     told = λ first stands.
         let so_far = told.told first stands in
         let up = gives_up so_far.0 mid new event refused.decided so_far.2 undone in
-        (so_far.0, up.0, so_far.1, up.1, up.2);
+        (so_far.0, up.0, so_far.1, up.1, up.2, takes_memory so_far.0 mid event so_far.2 undone.takes);
   }
 
 -- one event more of a list is told, with the hashes and shelves that the world still has

@@ -185,12 +185,12 @@ TakesMemory old (Close n) = ⊥
 -- Memory ran out in an event: its turn's step was decided and isn't told, or nothing was done; and its session is closed.
 abbrev pub GivesUp : Bool → PlainWorld → Event → PlainWorld → Type 0
 GivesUp true old event new = (state : Plain) × Decides old event state × (new ≡ with_end (named event) (record old { state = state }))
-GivesUp false old event new = TakesMemory old event × (new ≡ with_end (named event) old)
+GivesUp false old event new = new ≡ with_end (named event) old
 
--- What the events before a refused one make of a world, and then that one.
+-- What the events before a refused one make of a world, and then that one, which takes memory there.
 pub record ToldUntil (hash : List ℕ → ℕ) (shelves : ℕ) (refused : Refused) (old : WorldState) (events : List Event) (new : WorldState) : Type 0 where
   pub event : Event
   pub here : slice_get events refused.at ≡ Some event
   pub session : refused.session ≡ named event
   pub told : (first : PlainWorld) → StandsAs first old
-      → (mid : PlainWorld) × (last : PlainWorld) × Runs hash shelves first (take refused.at events) mid × GivesUp refused.decided mid event last × StandsAs last new
+      → (mid : PlainWorld) × (last : PlainWorld) × Runs hash shelves first (take refused.at events) mid × GivesUp refused.decided mid event last × StandsAs last new × TakesMemory mid event

@@ -238,3 +238,35 @@ fn keys_of_one_hash_are_apart(rt: HostRuntime) -> Result<(), Fail> {
     }
     Ok(())
 }
+
+#[test]
+fn a_world_goes_on_after_a_refusal(rt: HostRuntime) -> Result<(), Fail> {
+    let alloc = rt.alloc();
+    let mut world = world(alloc, Fnv)?;
+    run(&mut world, alloc, &[Event::Open, Event::Open])?;
+    let events = [
+        Event::Piece(1, Bytes::of(b"set a 0 0 1\r\nx\r\nget a\r\n")),
+        Event::Turn(1),
+        Event::Turn(1),
+    ];
+    let stands = match world.run(alloc, &events) {
+        Ok(()) => {
+            let told = b"STORED\r\nVALUE a 0 1\r\nx\r\nEND\r\n".as_slice();
+            assert_eq!(rt; world.out(1), told);
+            true
+        }
+        Err(refused) => {
+            assert!(rt; refused.session == Some(1) && world.is_closed(1));
+            refused.decided || refused.at == 2
+        }
+    };
+    let hit = if stands {
+        "VALUE a 0 1\r\nx\r\nEND\r\n"
+    } else {
+        "END\r\n"
+    };
+    let events = [Event::Piece(2, Bytes::of(b"get a\r\n")), Event::Turn(2)];
+    run(&mut world, alloc, &events)?;
+    assert_eq!(rt; world.out(2), hit.as_bytes());
+    Ok(())
+}
