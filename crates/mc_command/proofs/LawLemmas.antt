@@ -1,5 +1,5 @@
 -- What a step does to the items under other keys, and what it depends on.
-use Rattle.std.proofs.Common.{◌≡◌, ◌≢◌, ◌≤◌, ◌<◌, ◌+◌, ◌&&◌, ◌||◌, ℕ, Bool, true, false, cond, leb, ltb, eqb, List, Option, Some, None, refl, sym, ap, subst, ◌∙◌, arith}
+use Rattle.std.proofs.Common.{◌≡◌, ◌≢◌, ◌≤◌, ◌<◌, ◌+◌, ◌-◌, ◌&&◌, ◌||◌, ℕ, Bool, true, false, cond, leb, ltb, eqb, set, List, Option, Some, None, refl, sym, ap, subst, ◌∙◌, arith}
 use Rattle.std.proofs.lemmas.Bool.{le-leb, leb-true, lt-ltb, ne_eqb, false_from_ne_true}
 use Rattle.std.specs.Prelude.{is_some}
 use Rattle.std.specs.Cmp.Lexicographic.{nat_list_cmp_total}
@@ -8,12 +8,13 @@ use Rattle.mc_time.specs.declared.expiry.Expiry.{Expiry}
 use Rattle.mc_time.specs.declared.expiry.Expiry.TheVariants.{Never, At}
 use Rattle.mc_time.specs.Death.{is_dead, is_expired, is_flushed, moment_named, expiry_of}
 use Rattle.mc_command.specs.declared.reply.Reply.{Reply}
-use Rattle.mc_command.specs.declared.reply.Reply.TheVariants.{TooLarge}
+use Rattle.mc_command.specs.declared.reply.Reply.TheVariants.{TooLarge, NoChunk}
 use Rattle.mc_command.specs.declared.step.KeyStep.{KeyStep}
 use Rattle.mc_command.specs.declared.step.KeyStep.TheVariants.{Store, Cas, Read, ReadTouch, Touch, Delete, Count, Flush}
+use Rattle.mc_slab.specs.Classes.{class_holding}
 use Rattle.mc_command.specs.Commands.{key_of}
-use Rattle.mc_command.specs.Plain.{Plain, Entry, Items, Row, Outcome, Change, Leaves, Writes, SetsExpiry, Removes, Answered, Spent, plain, applied, changed, charge, written, without_dead, standing, alive, living, flushed, store_row, cas_row, read_row, read_touch_row, touch_row, delete_row, count_row}
-use Rattle.mc_command.specs.Laws.{IsOnKey, AgreeAt, AgreeAfter}
+use Rattle.mc_command.specs.Plain.{Plain, Entry, Items, Row, Outcome, Change, Leaves, Writes, Recounts, SetsExpiry, Removes, Answered, Spent, plain, applied, changed, wrote, charge, item_class, count_of, pages_of, chunks_of, has_room, with_chunk, written, without_dead, standing, alive, living, flushed, store_row, cas_row, read_row, read_touch_row, touch_row, delete_row, count_row}
+use Rattle.mc_command.specs.Laws.{IsOnKey, AgreeAt, AgreeAfter, HaveSameRoom}
 use Rattle.mc_command.proofs.ItemLemmas.{bytes_cmp, same_bytes, laws, exact, is_equal}
 
 -- other bytes
@@ -35,15 +36,33 @@ abbrev Keeps : Plain → List ℕ → Outcome → Type 0
 Keeps old other (Answered reply new) = get new.items other ≡ get old.items other
 Keeps old other Spent = Unit {0}
 
-write_keeps : (too_large spent : Bool) (reply : Reply) (old new : Plain) (other : List ℕ) → get new.items other ≡ get old.items other → Keeps old other (cond too_large (Answered TooLarge old) (cond spent Spent (Answered reply new)))
-write_keeps true spent reply old new other h = refl
-write_keeps false true reply old new other h = tt
-write_keeps false false reply old new other h = h
+-- a page more changes no item
+paged_items : (b : Bool) (more old : Plain) → more.items ≡ old.items → (cond b more old).items ≡ old.items
+paged_items true more old same = same
+paged_items false more old same = refl
+
+with_chunk-items : (old : Plain) (class : ℕ) → (with_chunk old class).items ≡ old.items
+with_chunk-items old class = paged_items (eqb (count_of old.items class) (chunks_of old class)) (record old { pages = set old.pages (class - 1) (pages_of old class + 1) }) old refl
+
+write_keeps : (too_large spent stays room : Bool) (reply : Reply) (old new placed : Plain) (other : List ℕ) → get new.items other ≡ get old.items other → get placed.items other ≡ get old.items other
+    → Keeps old other (cond too_large (Answered TooLarge old) (cond spent Spent (cond stays (Answered reply new) (cond room (Answered reply placed) (Answered NoChunk old)))))
+write_keeps true spent stays room reply old new placed other h k = refl
+write_keeps false true stays room reply old new placed other h k = tt
+write_keeps false false true room reply old new placed other h k = h
+write_keeps false false false true reply old new placed other h k = k
+write_keeps false false false false reply old new placed other h k = refl
+
+wrote_keeps : (stays : Bool) (reply : Reply) (key : List ℕ) (flags : ℕ) (expiry : Expiry) (block : List ℕ) (old : Plain) (now : ℕ) (other : List ℕ) → other ≢ key → Keeps old other (wrote stays reply key flags expiry block old now)
+wrote_keeps stays reply key flags expiry block old now other ne =
+    let class : ℕ = class_holding (charge key block) in
+    write_keeps (ltb old.greatest (charge key block)) (eqb old.next_unique 18446744073709551615) stays (has_room old class) reply old (written old key flags expiry block now) (written (with_chunk old class) key flags expiry block now) other
+    (inserted_other old.items key other _ ne)
+    (inserted_other (with_chunk old class).items key other _ ne ∙ ap (λ (m : Items). get m other) (with_chunk-items old class))
 
 changed_keeps : (reply : Reply) (change : Change) (key : List ℕ) (old : Plain) (now : ℕ) (other : List ℕ) → other ≢ key → Keeps old other (changed reply change key old now)
 changed_keeps reply Leaves key old now other ne = refl
-changed_keeps reply (Writes flags expiry block) key old now other ne =
-    write_keeps (ltb old.greatest (charge key block)) (eqb old.next_unique 18446744073709551615) reply old (written old key flags expiry block now) other (inserted_other old.items key other _ ne)
+changed_keeps reply (Writes flags expiry block) key old now other ne = wrote_keeps false reply key flags expiry block old now other ne
+changed_keeps reply (Recounts item block) key old now other ne = wrote_keeps (eqb (item_class key item) (class_holding (charge key block))) reply key item.flags item.expiry block old now other ne
 changed_keeps reply (SetsExpiry item expiry) key old now other ne = inserted_other old.items key other _ ne
 changed_keeps reply Removes key old now other ne = removed_other old.items key other ne
 
@@ -81,47 +100,84 @@ without_dead_agrees : (item : Option Entry) (key : List ℕ) (a b : Plain) → A
 without_dead_agrees None key a b same = record { item = remove_agrees a.items b.items key; cut = same.cut; next_unique = same.next_unique; greatest = same.greatest }
 without_dead_agrees (Some item) key a b same = same
 
-write_agrees : (too_large spent : Bool) (reply : Reply) (key : List ℕ) (a b new other : Plain) → AgreeAt key a b → AgreeAt key new other
-    → AgreeAfter key (cond too_large (Answered TooLarge a) (cond spent Spent (Answered reply new))) (cond too_large (Answered TooLarge b) (cond spent Spent (Answered reply other)))
-write_agrees true spent reply key a b new other same after = (refl, same)
-write_agrees false true reply key a b new other same after = tt
-write_agrees false false reply key a b new other same after = (refl, after)
+write_agrees : (too_large spent stays room : Bool) (reply : Reply) (key : List ℕ) (a b new other placed moved : Plain) → AgreeAt key a b → AgreeAt key new other → AgreeAt key placed moved
+    → AgreeAfter key (cond too_large (Answered TooLarge a) (cond spent Spent (cond stays (Answered reply new) (cond room (Answered reply placed) (Answered NoChunk a)))))
+    (cond too_large (Answered TooLarge b) (cond spent Spent (cond stays (Answered reply other) (cond room (Answered reply moved) (Answered NoChunk b)))))
+write_agrees true spent stays room reply key a b new other placed moved same after took = (refl, same)
+write_agrees false true stays room reply key a b new other placed moved same after took = tt
+write_agrees false false true room reply key a b new other placed moved same after took = (refl, after)
+write_agrees false false false true reply key a b new other placed moved same after took = (refl, took)
+write_agrees false false false false reply key a b new other placed moved same after took = (refl, same)
 
-changed_agrees : (reply : Reply) (change : Change) (key : List ℕ) (a b : Plain) (now : ℕ) → AgreeAt key a b → AgreeAfter key (changed reply change key a now) (changed reply change key b now)
-changed_agrees reply Leaves key a b now same = (refl, same)
-changed_agrees reply (Writes flags expiry block) key a b now same =
+paged_agrees : (here there : Bool) (key : List ℕ) (a b more other : Plain) → AgreeAt key a b → AgreeAt key more b → AgreeAt key a other → AgreeAt key more other → AgreeAt key (cond here more a) (cond there other b)
+paged_agrees true true key a b more other h k l m = m
+paged_agrees true false key a b more other h k l m = k
+paged_agrees false true key a b more other h k l m = l
+paged_agrees false false key a b more other h k l m = h
+
+with_chunk_agrees : (key : List ℕ) (a b : Plain) (class : ℕ) → AgreeAt key a b → AgreeAt key (with_chunk a class) (with_chunk b class)
+with_chunk_agrees key a b class same =
+    paged_agrees (eqb (count_of a.items class) (chunks_of a class)) (eqb (count_of b.items class) (chunks_of b class)) key a b (record a { pages = set a.pages (class - 1) (pages_of a class + 1) }) (record b { pages = set b.pages (class - 1) (pages_of b class + 1) }) same
+    (record { item = same.item; cut = same.cut; next_unique = same.next_unique; greatest = same.greatest })
+    (record { item = same.item; cut = same.cut; next_unique = same.next_unique; greatest = same.greatest })
+    (record { item = same.item; cut = same.cut; next_unique = same.next_unique; greatest = same.greatest })
+
+written_agrees : (key : List ℕ) (flags : ℕ) (expiry : Expiry) (block : List ℕ) (a b : Plain) (now : ℕ) → AgreeAt key a b → AgreeAt key (written a key flags expiry block now) (written b key flags expiry block now)
+written_agrees key flags expiry block a b now same =
     let put : ℕ → Entry = λ n. record { flags = flags; expiry = expiry; block = block; unique = n; updated = now } in
-    let after : AgreeAt key (written a key flags expiry block now) (written b key flags expiry block now) = record {
+    record {
       item = insert_agrees a.items b.items key (put a.next_unique) ∙ ap (λ n. get (insert b.items key (put n)) key) same.next_unique;
       cut = same.cut;
       next_unique = ap (λ n. n + 1) same.next_unique;
       greatest = same.greatest;
-    } in
-    subst (λ n. AgreeAfter key (changed reply (Writes flags expiry block) key a now) (cond (ltb n (charge key block)) (Answered TooLarge b) (cond (eqb b.next_unique 18446744073709551615) Spent (Answered reply (written b key flags expiry block now))))) same.greatest
-    (subst (λ n. AgreeAfter key (changed reply (Writes flags expiry block) key a now) (cond (ltb a.greatest (charge key block)) (Answered TooLarge b) (cond (eqb n 18446744073709551615) Spent (Answered reply (written b key flags expiry block now))))) same.next_unique
-    (write_agrees (ltb a.greatest (charge key block)) (eqb a.next_unique 18446744073709551615) reply key a b _ _ same after))
-changed_agrees reply (SetsExpiry item expiry) key a b now same =
+    }
+
+-- the same tests in two states
+same_tests : (n m u v : ℕ) (r s stays : Bool) (charge : ℕ) (large spent kept placed full : Outcome) → n ≡ m → u ≡ v → r ≡ s
+    → cond (ltb n charge) large (cond (eqb u 18446744073709551615) spent (cond stays kept (cond r placed full))) ≡ cond (ltb m charge) large (cond (eqb v 18446744073709551615) spent (cond stays kept (cond s placed full)))
+same_tests n m u v r s stays charge large spent kept placed full e f g = cc
+
+wrote_agrees : (stays : Bool) (reply : Reply) (key : List ℕ) (flags : ℕ) (expiry : Expiry) (block : List ℕ) (a b : Plain) (now : ℕ) → AgreeAt key a b → ((class : ℕ) → has_room a class ≡ has_room b class)
+    → AgreeAfter key (wrote stays reply key flags expiry block a now) (wrote stays reply key flags expiry block b now)
+wrote_agrees stays reply key flags expiry block a b now same room =
+    let class : ℕ = class_holding (charge key block) in
+    subst (λ (o : Outcome). AgreeAfter key (wrote stays reply key flags expiry block a now) o)
+    (same_tests a.greatest b.greatest a.next_unique b.next_unique (has_room a class) (has_room b class) stays (charge key block) (Answered TooLarge b) Spent (Answered reply (written b key flags expiry block now)) (Answered reply (written (with_chunk b class) key flags expiry block now)) (Answered NoChunk b) same.greatest same.next_unique (room class))
+    (write_agrees (ltb a.greatest (charge key block)) (eqb a.next_unique 18446744073709551615) stays (has_room a class) reply key a b _ _ _ _ same (written_agrees key flags expiry block a b now same)
+    (written_agrees key flags expiry block (with_chunk a class) (with_chunk b class) now (with_chunk_agrees key a b class same)))
+
+changed_agrees : (reply : Reply) (change : Change) (key : List ℕ) (a b : Plain) (now : ℕ) → AgreeAt key a b → ((class : ℕ) → has_room a class ≡ has_room b class) → AgreeAfter key (changed reply change key a now) (changed reply change key b now)
+changed_agrees reply Leaves key a b now same room = (refl, same)
+changed_agrees reply (Writes flags expiry block) key a b now same room = wrote_agrees false reply key flags expiry block a b now same room
+changed_agrees reply (Recounts item block) key a b now same room = wrote_agrees (eqb (item_class key item) (class_holding (charge key block))) reply key item.flags item.expiry block a b now same room
+changed_agrees reply (SetsExpiry item expiry) key a b now same room =
     (refl, record { item = insert_agrees a.items b.items key _; cut = same.cut; next_unique = same.next_unique; greatest = same.greatest })
-changed_agrees reply Removes key a b now same =
+changed_agrees reply Removes key a b now same room =
     (refl, record { item = remove_agrees a.items b.items key; cut = same.cut; next_unique = same.next_unique; greatest = same.greatest })
 
 standing_agrees : (a b : Plain) (key : List ℕ) (now : ℕ) → AgreeAt key a b → standing a key now ≡ standing b key now
 standing_agrees a b key now same = ap (λ (o : Option Entry). alive a.cut now o) same.item ∙ ap (λ (c : Option ℕ). alive c now (get b.items key)) same.cut
 
-applied_agrees : (of : Option Entry → Row) (key : List ℕ) (a b : Plain) (now : ℕ) → AgreeAt key a b → AgreeAfter key (applied of key a now) (applied of key b now)
-applied_agrees of key a b now same =
-    subst (λ (item : Option Entry). AgreeAfter key (applied of key a now) (changed (of item).0 (of item).1 key (without_dead item key b) now)) (standing_agrees a b key now same)
-    (changed_agrees (of (standing a key now)).0 (of (standing a key now)).1 key _ _ now (without_dead_agrees (standing a key now) key a b same))
+-- the states that a step finds have the same room
+abbrev SameRoomAt : List ℕ → ℕ → Plain → Plain → Type 0
+SameRoomAt key now a b = (class : ℕ) → has_room (without_dead (standing a key now) key a) class ≡ has_room (without_dead (standing b key now) key b) class
 
-pub one_key : (a b : Plain) (step : KeyStep) (now : ℕ) → IsOnKey step → AgreeAt (key_of step) a b → AgreeAfter (key_of step) (plain a step now) (plain b step now)
-one_key a b (Store verb key flags exptime block) now on same = applied_agrees (store_row verb flags (expiry_of exptime now) block) key a b now same
-one_key a b (Cas key flags exptime block unique) now on same = applied_agrees (cas_row flags (expiry_of exptime now) block unique) key a b now same
-one_key a b (Read key) now on same = applied_agrees read_row key a b now same
-one_key a b (ReadTouch key exptime) now on same = applied_agrees (read_touch_row (expiry_of exptime now)) key a b now same
-one_key a b (Touch key exptime) now on same = applied_agrees (touch_row (expiry_of exptime now)) key a b now same
-one_key a b (Delete key) now on same = applied_agrees delete_row key a b now same
-one_key a b (Count key up by) now on same = applied_agrees (count_row up by) key a b now same
-one_key a b (Flush delay) now on same = absurd on
+applied_agrees : (of : Option Entry → Row) (key : List ℕ) (a b : Plain) (now : ℕ) → AgreeAt key a b → SameRoomAt key now a b → AgreeAfter key (applied of key a now) (applied of key b now)
+applied_agrees of key a b now same room =
+    let stands = standing_agrees a b key now same in
+    subst (λ (item : Option Entry). AgreeAfter key (applied of key a now) (changed (of item).0 (of item).1 key (without_dead item key b) now)) stands
+    (changed_agrees (of (standing a key now)).0 (of (standing a key now)).1 key _ _ now (without_dead_agrees (standing a key now) key a b same)
+    (λ class. room class ∙ ap (λ (item : Option Entry). has_room (without_dead item key b) class) (sym stands)))
+
+pub one_key : (a b : Plain) (step : KeyStep) (now : ℕ) → IsOnKey step → AgreeAt (key_of step) a b → HaveSameRoom step now a b → AgreeAfter (key_of step) (plain a step now) (plain b step now)
+one_key a b (Store verb key flags exptime block) now on same room = applied_agrees (store_row verb flags (expiry_of exptime now) block) key a b now same room
+one_key a b (Cas key flags exptime block unique) now on same room = applied_agrees (cas_row flags (expiry_of exptime now) block unique) key a b now same room
+one_key a b (Read key) now on same room = applied_agrees read_row key a b now same room
+one_key a b (ReadTouch key exptime) now on same room = applied_agrees (read_touch_row (expiry_of exptime now)) key a b now same room
+one_key a b (Touch key exptime) now on same room = applied_agrees (touch_row (expiry_of exptime now)) key a b now same room
+one_key a b (Delete key) now on same room = applied_agrees delete_row key a b now same room
+one_key a b (Count key up by) now on same room = applied_agrees (count_row up by) key a b now same room
+one_key a b (Flush delay) now on same room = absurd on
 
 -- the dead stay dead
 later_true : (moment now later : ℕ) → now ≤ later → leb moment now ≡ true → leb moment later ≡ true

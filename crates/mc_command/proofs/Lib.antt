@@ -8,3 +8,4 @@ pub mod CountLemmas
 pub mod RoomLemmas
 pub mod RecountLemmas
 pub mod WriteLemmas
+pub mod PageLemmas

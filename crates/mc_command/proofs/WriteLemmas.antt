@@ -71,14 +71,19 @@ cas-is old key now item w unique stands same =
     ap (λ (r : Row). changed r.0 r.1 key (found key old now) now) row
 
 -- an incr or a decr of a number is one that may stay
-pub count-is : (old : Plain) (key : List ℕ) (now : ℕ) (item : Entry) (w : Written) (up : Bool) (by number : ℕ) (stays : Bool) → standing old key now ≡ Some item → number_of item.block ≡ Some number
-    → w ≡ record { flags = item.flags; expiry = item.expiry; block = decimal (counted up by number) } → stays ≡ eqb (item_class key item) (class_holding (charge key w.block))
-    → applied (count_row up by) key old now ≡ writing stays (Number (counted up by number)) w key old now
-count-is old key now item w up by number stays stands is written same =
-    let row : count_row up by (standing old key now) ≡ (Number (counted up by number), Recounts item (decimal (counted up by number))) = ap (count_row up by) stands ∙ ap (number_row item up by) is in
+pub count-is : (old : Plain) (key : List ℕ) (now : ℕ) (item : Entry) (w : Written) (up : Bool) (by number new : ℕ) (stays : Bool) → standing old key now ≡ Some item → number_of item.block ≡ Some number → new ≡ counted up by number
+    → w ≡ record { flags = item.flags; expiry = item.expiry; block = decimal new } → stays ≡ eqb (item_class key item) (class_holding (charge key w.block))
+    → applied (count_row up by) key old now ≡ writing stays (Number new) w key old now
+count-is old key now item w up by number new stays stands is counts written same =
+    let row : count_row up by (standing old key now) ≡ (Number new, Recounts item (decimal new)) =
+    ap (count_row up by) stands ∙ ap (number_row item up by) is ∙ ap (λ (n : ℕ). (Number n, Recounts item (decimal n))) (sym counts) in
     ap (λ (r : Row). changed r.0 r.1 key (found key old now) now) row
-    ∙ ap (λ (v : Written). writing (eqb (item_class key item) (class_holding (charge key v.block))) (Number (counted up by number)) v key old now) (sym written)
-    ∙ ap (λ b. writing b (Number (counted up by number)) w key old now) (sym same)
+    ∙ ap (λ (v : Written). writing (eqb (item_class key item) (class_holding (charge key v.block))) (Number new) v key old now) (sym written)
+    ∙ ap (λ b. writing b (Number new) w key old now) (sym same)
+
+pub stays-class : (old : Plain) (key : List ℕ) (now : ℕ) (item : Entry) (class : ℕ) (stays : Bool) → standing old key now ≡ Some item → stays ≡ eqb (item_class key item) class → stays ≡ true → of_class key (standing old key now) class ≡ 1
+stays-class old key now item class stays stands same keeps =
+    ap (λ (o : Option Entry). of_class key o class) stands ∙ ap (λ b. cond b 1 0) (sym same ∙ keeps)
 
 -- chunks of one class
 pub same-class : (a b : ℕ) → option_eq eqb (class_of a) (class_of b) ≡ eqb (class_holding a) (class_holding b)
@@ -95,3 +100,8 @@ same-class a b =
     (λ fits. rw (le-leb a 1048576 fits_a, le-leb b 1048576 fits) refl)
     (cases_lt 1048576 b))
     (cases_lt 1048576 a)
+
+pub stays-is : (key block : List ℕ) (item : Entry) (a b : Option ℕ) → a ≡ class_of (charge key item.block) → b ≡ class_of (charge key block) → option_eq eqb a b ≡ eqb (item_class key item) (class_holding (charge key block))
+stays-is key block item a b is other =
+    ap (λ (o : Option ℕ). option_eq eqb o b) is ∙ ap (λ (o : Option ℕ). option_eq eqb (class_of (charge key item.block)) o) other
+    ∙ same-class (charge key item.block) (charge key block)
