@@ -4,9 +4,9 @@ ghost use Rattle.mc_slab.specs.Chunks.{chunk_class, IsChunkOf};
 ghost use Rattle.mc_item.specs.Items.{IsItem, charge_of};
 
 use crate::header::{
-    HEADER, block_length_in, expiry_in, flags_in, key_length_in, unique_in, updated_in,
+    HEADER, Header, block_length_in, expiry_in, flags_in, key_length_in, unique_in, updated_in,
 };
-use crate::run::{write_expiry, write_number, write_parts};
+use crate::run::{write_expiry, write_item, write_number};
 use mc_slab::{Chunk, Class};
 use mc_time::{Expiry, Moment};
 use std::marker::Model;
@@ -61,7 +61,16 @@ impl Item {
         } }
         ensures is_item { IsItem result }
     {
-        write_parts(chunk.bytes_mut(), &parts);
+        let header = Header {
+            flags: parts.flags,
+            expiry: parts.expiry,
+            unique: parts.unique,
+            updated: parts.updated,
+            key_length: parts.key.len() as u64,
+            block_length: (parts.first.len() + parts.second.len()) as u64,
+        };
+        let bytes = chunk.bytes_mut();
+        write_item(bytes, header, parts.key, parts.first, parts.second);
         Item { chunk }
     }
 

@@ -5,7 +5,6 @@ ghost use Rattle.mc_slab.specs.Chunks.{IsChunk, chunk_class};
 ghost use Rattle.mc_item.specs.Layout.{item_in, key_length_in, HoldsItem};
 
 use crate::header::{HEADER, Header};
-use crate::item::Parts;
 use itoa::Buffer;
 use mc_time::{Expiry, Moment};
 
@@ -18,35 +17,35 @@ fn put(bytes: &mut [u8], offset: usize, source: &[u8])
     bytes[offset..offset + source.len()].copy_from_slice(source);
 }
 
-/// Writes an item of those parts into a chunk.
-pub(crate) fn write_parts(bytes: &mut [u8], parts: &Parts<'_>)
+/// Writes an item into a chunk: the header, the key, and the block, which is `first` followed by `second`.
+pub(crate) fn write_item(
+    bytes: &mut [u8],
+    header: Header,
+    key: &[u8],
+    first: &[u8],
+    second: &[u8],
+)
     requires chunk { IsChunk bytes.old }
-    requires key { length parts.now.key.now ≤ 250 }
-    requires room { 48 + length parts.now.key.now + length parts.now.first.now + length parts.now.second.now ≤ length bytes.old }
+    requires short { length key.now ≤ 250 }
+    requires key_length { header.key_length ≡ length key.now }
+    requires block_length { header.block_length ≡ length first.now + length second.now }
+    requires room { 48 + length key.now + (length first.now + length second.now) ≤ length bytes.old }
     ensures value { item_in bytes.new ≡ record {
-      key = parts.now.key.now;
-      flags = parts.now.flags;
-      expiry = parts.now.expiry;
-      block = parts.now.first.now ++ parts.now.second.now;
-      unique = parts.now.unique;
-      updated = parts.now.updated;
+      key = key.now;
+      flags = header.flags;
+      expiry = header.expiry;
+      block = first.now ++ second.now;
+      unique = header.unique;
+      updated = header.updated;
       class = chunk_class bytes.old;
     } }
     ensures holds { HoldsItem bytes.new }
 {
-    let header = Header {
-        flags: parts.flags,
-        expiry: parts.expiry,
-        unique: parts.unique,
-        updated: parts.updated,
-        key_length: parts.key.len() as u64,
-        block_length: parts.first.len() as u64 + parts.second.len() as u64,
-    };
     header.write(bytes);
-    let block = HEADER + parts.key.len();
-    put(bytes, HEADER, parts.key);
-    put(bytes, block, parts.first);
-    put(bytes, block + parts.first.len(), parts.second);
+    let block = HEADER + key.len();
+    put(bytes, HEADER, key);
+    put(bytes, block, first);
+    put(bytes, block + first.len(), second);
 }
 
 /// The block of the item in a chunk becomes the number's digits.
