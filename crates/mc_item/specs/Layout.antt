@@ -11,7 +11,7 @@
 --       32       8   the key's length
 --       40       8   the block's length
 use Rattle.std.specs.Prelude.{ℕ, ◌+◌, ◌≤◌, ◌^◌, ◌==◌, List, length, take, drop, if◌then◌else◌}
-use Rattle.byteorder.specs.Endian.{little_number}
+use Rattle.byteorder.specs.Endian.{little_number, little_bytes}
 use Rattle.mc_time.specs.declared.expiry.Expiry.{Expiry}
 use Rattle.mc_time.specs.declared.expiry.Expiry.TheVariants.{Never, At}
 use Rattle.mc_slab.specs.Chunks.{IsChunk, chunk_class}
@@ -21,6 +21,10 @@ use Rattle.mc_item.specs.declared.header.Header.{Header}
 -- the number in so many bytes from the offset on
 unfoldable pub number_at : ℕ → ℕ → List ℕ → ℕ
 number_at offset count bytes = little_number count (drop offset bytes)
+
+-- so many bytes that hold a number
+unfoldable pub number_bytes : ℕ → ℕ → List ℕ
+number_bytes count number = little_bytes count number
 
 -- each of the header's numbers
 abbrev pub flags_in : List ℕ → ℕ

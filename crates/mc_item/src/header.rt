@@ -1,6 +1,5 @@
 ghost use Rattle.std.specs.Prelude.{◌≡◌, ◌+◌, ◌≤◌, ◌^◌, ◌++◌, length, take, drop};
-ghost use Rattle.byteorder.specs.Endian.{little_bytes};
-ghost use Rattle.mc_item.specs.Layout.{number_at, header_in, updated_in, expires_number, moment_number};
+ghost use Rattle.mc_item.specs.Layout.{number_at, number_bytes, header_in, updated_in, expires_number, moment_number};
 
 use byteorder::{ByteOrder, LittleEndian};
 use mc_time::{Expiry, Moment};
@@ -29,6 +28,7 @@ pub(crate) struct Header {
 }
 
 /// The number in 4 bytes from the offset on, lowest byte first.
+#[tactic(auto, unfolding(crate::specs::Layout::number_at))]
 fn read_u32(bytes: &[u8], offset: usize) -> u32
     requires { offset + 4 ≤ length bytes.now }
     ensures { result ≡ number_at offset 4 bytes.now }
@@ -37,6 +37,7 @@ fn read_u32(bytes: &[u8], offset: usize) -> u32
 }
 
 /// The number in 8 bytes from the offset on, lowest byte first.
+#[tactic(auto, unfolding(crate::specs::Layout::number_at))]
 fn read_u64(bytes: &[u8], offset: usize) -> u64
     requires { offset + 8 ≤ length bytes.now }
     ensures { result ≡ number_at offset 8 bytes.now }
@@ -47,7 +48,7 @@ fn read_u64(bytes: &[u8], offset: usize) -> u64
 /// Writes the number into the 4 bytes from the offset on, lowest byte first.
 fn put_u32(bytes: &mut [u8], offset: usize, number: u32)
     requires { offset + 4 ≤ length bytes.old }
-    ensures before { take (offset + 4) bytes.new ≡ take offset bytes.old ++ little_bytes 4 number }
+    ensures before { take (offset + 4) bytes.new ≡ take offset bytes.old ++ number_bytes 4 number }
     ensures behind { drop (offset + 4) bytes.new ≡ drop (offset + 4) bytes.old }
 {
     LittleEndian::write_u32(&mut bytes[offset..], number);
@@ -56,7 +57,7 @@ fn put_u32(bytes: &mut [u8], offset: usize, number: u32)
 /// Writes the number into the 8 bytes from the offset on, lowest byte first.
 fn put_u64(bytes: &mut [u8], offset: usize, number: u64)
     requires { offset + 8 ≤ length bytes.old }
-    ensures before { take (offset + 8) bytes.new ≡ take offset bytes.old ++ little_bytes 8 number }
+    ensures before { take (offset + 8) bytes.new ≡ take offset bytes.old ++ number_bytes 8 number }
     ensures behind { drop (offset + 8) bytes.new ≡ drop (offset + 8) bytes.old }
 {
     LittleEndian::write_u64(&mut bytes[offset..], number);
