@@ -9,11 +9,17 @@ pub(crate) const HEADER: usize = 48;
 
 // Where the numbers of the header stand. The flags and whether the item expires have 4 bytes each, the others 8.
 const FLAGS: usize = 0;
+
 const EXPIRES: usize = 4;
+
 const EXPIRY: usize = 8;
+
 const UNIQUE: usize = 16;
+
 const UPDATED: usize = 24;
+
 const KEY_LENGTH: usize = 32;
+
 const BLOCK_LENGTH: usize = 40;
 
 /// What stands before an item's key and block. The lengths are in bytes.

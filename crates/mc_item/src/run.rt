@@ -18,13 +18,7 @@ fn put(bytes: &mut [u8], offset: usize, source: &[u8])
 }
 
 /// Writes an item into a chunk: the header, the key, and the block, which is `first` followed by `second`.
-pub(crate) fn write_item(
-    bytes: &mut [u8],
-    header: Header,
-    key: &[u8],
-    first: &[u8],
-    second: &[u8],
-)
+pub(crate) fn write_item(bytes: &mut [u8], header: Header, key: &[u8], first: &[u8], second: &[u8])
     requires chunk { IsChunk bytes.old }
     requires short { length key.now ≤ 250 }
     requires key_length { header.key_length ≡ length key.now }

@@ -1,4 +1,4 @@
-use Rattle.std.proofs.Common.{rules, ◌≡◌, ◌+◌, ◌≤◌, ◌^◌, ◌++◌, length, take, drop, ℕ, ◌-◌, ◌*◌, ◌<◌, ◌/◌, ◌%◌, List, [], ◌∷◌, refl}
+use Rattle.std.proofs.Common.{refl}
 use Rattle.mc_item.specs.Layout.{number_bytes}
 use Rattle.mc_item.proofs.LayoutLemmas.{take-field, drop-field}
 use Rattle.mc_item.proofs.header.put_u32.Goals as goal

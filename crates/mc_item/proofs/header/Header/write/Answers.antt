@@ -1,5 +1,4 @@
-use Rattle.std.proofs.Common.{◌≡◌, ◌+◌, ◌≤◌, ◌^◌, ◌++◌, length, take, drop, ℕ, ◌<◌, List, [], refl, arith, ◌∙◌}
-use Rattle.mc_item.specs.Layout.{number_bytes, header_in}
+use Rattle.std.proofs.Common.{◌≡◌, take, arith, ◌∙◌}
 use Rattle.mc_item.proofs.LayoutLemmas.{header_bytes, Reads-taken, header_in-reads, drop-further}
 use Rattle.mc_item.proofs.header.Header.write.Goals as goal
 
