@@ -2,6 +2,7 @@ ghost use Rattle.std.specs.Prelude.{◌≡◌, ◌+◌, ◌≤◌, ◌++◌, len
 ghost use Rattle.mc_slab.specs.Classes.{size_of};
 ghost use Rattle.mc_slab.specs.Chunks.{chunk_class, IsChunkOf};
 ghost use Rattle.mc_item.specs.Items.{IsItem, charge_of};
+ghost use Rattle.mc_item.specs.Layout.{item_in};
 
 use crate::header::{
     HEADER, Header, block_length_in, expiry_in, flags_in, key_length_in, unique_in, updated_in,
@@ -158,9 +159,10 @@ impl Item {
         write_expiry(self.chunk.bytes_mut(), expiry);
     }
 
-    /// Its chunk, of its class and of any content.
+    /// Its chunk, of its class. The item's run still lies in it.
     pub fn into_chunk(self) -> Chunk
         ensures chunk { IsChunkOf self.class result }
+        ensures run { item_in result ≡ self }
         ensures is_item { IsItem self }
     {
         self.chunk

@@ -6,3 +6,6 @@ mod item;
 mod run;
 
 pub use item::{Item, Parts};
+
+#[cfg(test)]
+mod tests;
