@@ -165,6 +165,7 @@ impl Item {
         ensures run { item_in result ≡ self }
         ensures is_item { IsItem self }
     {
-        self.chunk
+        let Item { chunk } = self;
+        chunk
     }
 }
