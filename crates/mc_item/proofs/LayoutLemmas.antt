@@ -1,0 +1,92 @@
+-- What a write at an offset leaves, and what a header reads as that was written number by number.
+use Rattle.std.proofs.Common.{◌≡◌, ℕ, ◌+◌, ◌-◌, ◌^◌, ◌<◌, ◌≤◌, List, [], ◌++◌, length, take, drop, refl, sym, ap, subst, ◌∙◌, append_assoc, arith}
+use Rattle.std.proofs.lemmas.List.{length-append, length-take-le, length-drop, take_all, take_at, drop_at, drop-drop, append-nil, take-append-drop}
+use Rattle.std.proofs.Math.ListN.{drop_of_length-le}
+use Rattle.byteorder.specs.Numbers.{little_number-reads_back}
+use Rattle.mc_item.specs.Layout.{number_at, number_bytes, expires_number, moment_number, header_in}
+use Rattle.std.specs.Prelude.{◌==◌, if◌then◌else◌}
+use Rattle.mc_time.specs.declared.expiry.Expiry.{Expiry}
+use Rattle.mc_time.specs.declared.expiry.Expiry.TheVariants.{Never, At}
+use Rattle.mc_item.specs.declared.header.Header.{Header}
+use borrow.Rule.Slice.PartMut.{put_mid}
+
+-- a field in front of more, behind a front
+take_front : (front field more rest : List ℕ) (n : ℕ) → length front + length field ≡ n → take n (front ++ ((field ++ more) ++ rest)) ≡ front ++ field
+take_front front field more rest n same =
+    let parts : front ++ ((field ++ more) ++ rest) ≡ (front ++ field) ++ (more ++ rest) = simp append_assoc in
+    ap (take n) parts ∙ take_at (front ++ field) (more ++ rest) n (simp length-append (omega arith))
+
+drop_front : (front field more rest : List ℕ) (n : ℕ) → length front + length field ≡ n → drop n (front ++ ((field ++ more) ++ rest)) ≡ more ++ rest
+drop_front front field more rest n same =
+    let parts : front ++ ((field ++ more) ++ rest) ≡ (front ++ field) ++ (more ++ rest) = simp append_assoc in
+    ap (drop n) parts ∙ drop_at (front ++ field) (more ++ rest) n (simp length-append (omega arith))
+
+-- what lies behind a field, where a slice runs to its list's end
+behind : (offset size : ℕ) (old : List ℕ) → drop size (take (length old - offset) (drop offset old)) ++ drop (length old - offset) (drop offset old) ≡ drop (offset + size) old
+behind offset size old =
+    let whole : length (drop offset old) ≡ length old - offset = length-drop offset old in
+    let none : drop (length old - offset) (drop offset old) ≡ [] = drop_of_length-le (drop offset old) (omega arith) in
+    let all : take (length old - offset) (drop offset old) ≡ drop offset old = take_all _ (drop offset old) (omega arith) in
+    rw (none, all, append-nil) (drop-drop size offset old)
+
+-- a field was written at the offset
+pub take-field : (offset size : ℕ) (old field : List ℕ) → offset + size ≤ length old → length field ≡ size → take (offset + size) (put_mid offset (length old - offset) old (field ++ drop size (take (length old - offset) (drop offset old)))) ≡ take offset old ++ field
+take-field offset size old field within same =
+    let front : length (take offset old) ≡ offset = length-take-le offset old (omega arith) in
+    take_front (take offset old) field _ _ (offset + size) (omega arith)
+
+-- and what is behind it stays
+pub drop-field : (offset size : ℕ) (old field : List ℕ) → offset + size ≤ length old → length field ≡ size → drop (offset + size) (put_mid offset (length old - offset) old (field ++ drop size (take (length old - offset) (drop offset old)))) ≡ drop (offset + size) old
+drop-field offset size old field within same =
+    let front : length (take offset old) ≡ offset = length-take-le offset old (omega arith) in
+    drop_front (take offset old) field _ _ (offset + size) (omega arith) ∙ behind offset size old
+
+-- the header's bytes
+abbrev pub header_bytes : (flags expires moment unique updated key_length block_length : ℕ) → List ℕ
+header_bytes flags expires moment unique updated key_length block_length =
+    ((((((number_bytes 4 flags ++ number_bytes 4 expires) ++ number_bytes 8 moment) ++ number_bytes 8 unique) ++ number_bytes 8 updated) ++ number_bytes 8 key_length) ++ number_bytes 8 block_length)
+
+-- bytes in which those numbers stand
+pub record Reads (flags expires moment unique updated key_length block_length : ℕ) (bytes : List ℕ) : Type 0 where
+  pub flags_is : number_at 0 4 bytes ≡ flags
+  pub expires_is : number_at 4 4 bytes ≡ expires
+  pub moment_is : number_at 8 8 bytes ≡ moment
+  pub unique_is : number_at 16 8 bytes ≡ unique
+  pub updated_is : number_at 24 8 bytes ≡ updated
+  pub key_length_is : number_at 32 8 bytes ≡ key_length
+  pub block_length_is : number_at 40 8 bytes ≡ block_length
+
+reads_header : (flags expires moment unique updated key_length block_length : ℕ) (rest : List ℕ) → flags < 2 ^ 32 → expires < 2 ^ 32 → moment < 2 ^ 64 → unique < 2 ^ 64 → updated < 2 ^ 64 → key_length < 2 ^ 64 → block_length < 2 ^ 64 → Reads flags expires moment unique updated key_length block_length (header_bytes flags expires moment unique updated key_length block_length ++ rest)
+unfolding number_at number_bytes
+reads_header flags expires moment unique updated key_length block_length rest f e m u d k b = record {
+  flags_is = little_number-reads_back 4 flags (number_bytes 4 expires ++ (number_bytes 8 moment ++ (number_bytes 8 unique ++ (number_bytes 8 updated ++ (number_bytes 8 key_length ++ (number_bytes 8 block_length ++ rest)))))) f;
+  expires_is = little_number-reads_back 4 expires (number_bytes 8 moment ++ (number_bytes 8 unique ++ (number_bytes 8 updated ++ (number_bytes 8 key_length ++ (number_bytes 8 block_length ++ rest))))) e;
+  moment_is = little_number-reads_back 8 moment (number_bytes 8 unique ++ (number_bytes 8 updated ++ (number_bytes 8 key_length ++ (number_bytes 8 block_length ++ rest)))) m;
+  unique_is = little_number-reads_back 8 unique (number_bytes 8 updated ++ (number_bytes 8 key_length ++ (number_bytes 8 block_length ++ rest))) u;
+  updated_is = little_number-reads_back 8 updated (number_bytes 8 key_length ++ (number_bytes 8 block_length ++ rest)) d;
+  key_length_is = little_number-reads_back 8 key_length (number_bytes 8 block_length ++ rest) k;
+  block_length_is = little_number-reads_back 8 block_length rest b;
+}
+
+-- a header that was written number by number reads as it was
+pub Reads-taken : (flags expires moment unique updated key_length block_length : ℕ) (bytes : List ℕ) → take 48 bytes ≡ header_bytes flags expires moment unique updated key_length block_length → flags < 2 ^ 32 → expires < 2 ^ 32 → moment < 2 ^ 64 → unique < 2 ^ 64 → updated < 2 ^ 64 → key_length < 2 ^ 64 → block_length < 2 ^ 64 → Reads flags expires moment unique updated key_length block_length bytes
+Reads-taken flags expires moment unique updated key_length block_length bytes same f e m u d k b =
+    let whole : header_bytes flags expires moment unique updated key_length block_length ++ drop 48 bytes ≡ bytes = ap (λ (front : List ℕ). front ++ drop 48 bytes) (sym same) ∙ take-append-drop 48 bytes in
+    subst (Reads flags expires moment unique updated key_length block_length) whole (reads_header flags expires moment unique updated key_length block_length (drop 48 bytes) f e m u d k b)
+
+-- an expiry is read as it was written
+expiry_read : (expiry : Expiry) (expires moment : ℕ) → expires ≡ expires_number expiry → moment ≡ moment_number expiry → (if expires == 0 then Never else At moment) ≡ expiry
+expiry_read Never expires moment e m = rw e refl
+expiry_read (At second) expires moment e m = rw (e, m) refl
+
+pub header_in-reads : (header : Header) (expires moment updated : ℕ) (bytes : List ℕ) → expires ≡ expires_number header.expiry → moment ≡ moment_number header.expiry → updated ≡ header.updated → Reads header.flags expires moment header.unique updated header.key_length header.block_length bytes → header_in bytes ≡ header
+header_in-reads header expires moment updated bytes e m u reads =
+    rw (reads.flags_is, reads.expires_is, reads.moment_is, reads.unique_is, reads.updated_is, reads.key_length_is, reads.block_length_is, u, expiry_read header.expiry expires moment e m) refl
+
+-- what stays behind a place stays behind a later one
+pub drop-further : (near far : ℕ) (xs ys : List ℕ) → near ≤ far → drop near xs ≡ drop near ys → drop far xs ≡ drop far ys
+drop-further near far xs ys within same =
+    let place : near + (far - near) ≡ far = omega arith in
+    let left : drop far xs ≡ drop (far - near) (drop near xs) = rw (drop-drop (far - near) near xs, place) refl in
+    let right : drop far ys ≡ drop (far - near) (drop near ys) = rw (drop-drop (far - near) near ys, place) refl in
+    left ∙ ap (drop (far - near)) same ∙ sym right

@@ -1,0 +1,12 @@
+use Rattle.std.proofs.Common.{refl}
+use Rattle.mc_item.specs.Layout.{number_bytes}
+use Rattle.mc_item.proofs.LayoutLemmas.{take-field, drop-field}
+use Rattle.mc_item.proofs.header.put_u64.Goals as goal
+
+pub returns-clause-before : goal.returns-clause-before
+unfolding number_bytes
+returns-clause-before c = rw c.write_u64.ensures (take-field c.args.offset 8 c.args.bytes.now (number_bytes 8 c.args.number) c.requires refl)
+
+pub returns-clause-behind : goal.returns-clause-behind
+unfolding number_bytes
+returns-clause-behind c = rw c.write_u64.ensures (drop-field c.args.offset 8 c.args.bytes.now (number_bytes 8 c.args.number) c.requires refl)

@@ -1,0 +1,50 @@
+-- What contracts see of an item.
+use Rattle.std.specs.Prelude.{◌≡◌, ℕ, ◌+◌, ◌≤◌, List, length, Option, Some, None, refl}
+use Rattle.std.specs.Coded.{Coded, code_by, coded×, coded_ℕ, coded_list, coded_option}
+use Rattle.mc_time.specs.declared.expiry.Expiry.{Expiry}
+use Rattle.mc_time.specs.declared.expiry.Expiry.TheVariants.{Never, At}
+use Rattle.mc_slab.specs.Classes.{IsClass, size_of}
+
+-- an item's key and what stands under it, and the class of the chunk that it lies in
+pub record ItemState : Type 0 where
+  pub key : List ℕ
+  pub flags : ℕ
+  pub expiry : Expiry
+  pub block : List ℕ
+  pub unique : ℕ
+  pub updated : ℕ
+  pub class : ℕ
+
+-- how many bytes of its chunk an item takes: a header of 48, its key, and its block
+abbrev pub charge_of : ItemState → ℕ
+charge_of item = 48 + length item.key + length item.block
+
+-- What is true of every item: it lies in a chunk of a class, its key has at most 250 bytes, and its charge fits the chunk.
+pub record IsItem (item : ItemState) : Type 0 where
+  pub is_class : IsClass item.class
+  pub key : length item.key ≤ 250
+  pub fits : charge_of item ≤ size_of item.class
+
+-- how a proof stores an expiry, and an item
+abbrev pub expiry_moment : Expiry → Option ℕ
+expiry_moment Never = None
+expiry_moment (At moment) = Some moment
+
+abbrev pub moment_expiry : Option ℕ → Expiry
+moment_expiry None = Never
+moment_expiry (Some moment) = At moment
+
+pub moment_expiry-expiry_moment : (expiry : Expiry) → moment_expiry (expiry_moment expiry) ≡ expiry
+moment_expiry-expiry_moment Never = refl
+moment_expiry-expiry_moment (At moment) = refl
+
+abbrev pub coded_expiry : Coded Expiry
+coded_expiry = code_by (Option ℕ) (coded_option coded_ℕ) expiry_moment moment_expiry moment_expiry-expiry_moment
+
+abbrev pub coded_item : Coded ItemState
+coded_item =
+    code_by (List ℕ × (ℕ × (Expiry × (List ℕ × (ℕ × (ℕ × ℕ))))))
+    (coded× (coded_list coded_ℕ) (coded× coded_ℕ (coded× coded_expiry (coded× (coded_list coded_ℕ) (coded× coded_ℕ (coded× coded_ℕ coded_ℕ))))))
+    (λ i. (i.key, (i.flags, (i.expiry, (i.block, (i.unique, (i.updated, i.class)))))))
+    (λ p. record { key = p.0; flags = p.1.0; expiry = p.1.1.0; block = p.1.1.1.0; unique = p.1.1.1.1.0; updated = p.1.1.1.1.1.0; class = p.1.1.1.1.1.1 })
+    (λ _. refl)

@@ -1,0 +1,92 @@
+-- How an item lies in its chunk: a header of 48 bytes, the key, and the block, in one run. What is behind is of any content.
+--
+-- The header's numbers stand with their lowest byte first:
+--
+--   offset   bytes   number
+--        0       4   flags
+--        4       4   0 where the item never expires
+--        8       8   otherwise the second at which it expires
+--       16       8   unique
+--       24       8   the second at which it was updated
+--       32       8   the key's length
+--       40       8   the block's length
+use Rattle.std.specs.Prelude.{ℕ, ◌+◌, ◌≤◌, ◌^◌, ◌==◌, List, length, take, drop, if◌then◌else◌}
+use Rattle.byteorder.specs.Endian.{little_number, little_bytes}
+use Rattle.mc_time.specs.declared.expiry.Expiry.{Expiry}
+use Rattle.mc_time.specs.declared.expiry.Expiry.TheVariants.{Never, At}
+use Rattle.mc_slab.specs.Chunks.{IsChunk, chunk_class}
+use Rattle.mc_item.specs.Items.{ItemState}
+use Rattle.mc_item.specs.declared.header.Header.{Header}
+
+-- the number in so many bytes from the offset on
+unfoldable pub number_at : ℕ → ℕ → List ℕ → ℕ
+number_at offset count bytes = little_number count (drop offset bytes)
+
+-- so many bytes that hold a number
+unfoldable pub number_bytes : ℕ → ℕ → List ℕ
+number_bytes count number = little_bytes count number
+
+-- each of the header's numbers
+abbrev pub flags_in : List ℕ → ℕ
+flags_in bytes = number_at 0 4 bytes
+
+abbrev pub expiry_in : List ℕ → Expiry
+expiry_in bytes = if number_at 4 4 bytes == 0 then Never else At (number_at 8 8 bytes)
+
+abbrev pub unique_in : List ℕ → ℕ
+unique_in bytes = number_at 16 8 bytes
+
+abbrev pub updated_in : List ℕ → ℕ
+updated_in bytes = number_at 24 8 bytes
+
+abbrev pub key_length_in : List ℕ → ℕ
+key_length_in bytes = number_at 32 8 bytes
+
+abbrev pub block_length_in : List ℕ → ℕ
+block_length_in bytes = number_at 40 8 bytes
+
+-- the header
+abbrev pub header_in : List ℕ → Header
+header_in bytes = record {
+  flags = flags_in bytes;
+  expiry = expiry_in bytes;
+  unique = unique_in bytes;
+  updated = updated_in bytes;
+  key_length = key_length_in bytes;
+  block_length = block_length_in bytes;
+}
+
+-- the two numbers that an expiry is written as
+abbrev pub expires_number : Expiry → ℕ
+expires_number Never = 0
+expires_number (At moment) = 1
+
+abbrev pub moment_number : Expiry → ℕ
+moment_number Never = 0
+moment_number (At moment) = moment
+
+-- the key, and the block behind it
+abbrev pub key_in : List ℕ → List ℕ
+key_in bytes = take (key_length_in bytes) (drop 48 bytes)
+
+abbrev pub block_in : List ℕ → List ℕ
+block_in bytes = take (block_length_in bytes) (drop (48 + key_length_in bytes) bytes)
+
+-- the item that lies in a chunk
+abbrev pub item_in : List ℕ → ItemState
+item_in chunk = record {
+  key = key_in chunk;
+  flags = flags_in chunk;
+  expiry = expiry_in chunk;
+  block = block_in chunk;
+  unique = unique_in chunk;
+  updated = updated_in chunk;
+  class = chunk_class chunk;
+}
+
+-- An item lies in the bytes: they are a chunk, the key is not too long, the run ends within them, and the moment is one.
+pub record HoldsItem (bytes : List ℕ) : Type 0 where
+  pub chunk : IsChunk bytes
+  pub key : key_length_in bytes ≤ 250
+  pub room : 48 + key_length_in bytes + block_length_in bytes ≤ length bytes
+  pub updated : updated_in bytes ≤ 2 ^ 62

@@ -1,0 +1,169 @@
+ghost use Rattle.std.specs.Prelude.{◌≡◌, ◌+◌, ◌≤◌, ◌^◌, ◌++◌, length, take, drop};
+ghost use Rattle.mc_item.specs.Layout.{number_at, number_bytes, header_in, updated_in, expires_number, moment_number};
+
+use byteorder::{ByteOrder, LittleEndian};
+use mc_time::{Expiry, Moment};
+
+/// How many bytes of an item's chunk come before its key.
+pub(crate) const HEADER: usize = 48;
+
+// Where the numbers of the header stand. The flags and whether the item expires have 4 bytes each, the others 8.
+const FLAGS: usize = 0;
+
+const EXPIRES: usize = 4;
+
+const EXPIRY: usize = 8;
+
+const UNIQUE: usize = 16;
+
+const UPDATED: usize = 24;
+
+const KEY_LENGTH: usize = 32;
+
+const BLOCK_LENGTH: usize = 40;
+
+/// What stands before an item's key and block. The lengths are in bytes.
+#[derive(Clone, Copy)]
+pub(crate) struct Header {
+    pub flags: u32,
+    pub expiry: Expiry,
+    pub unique: u64,
+    pub updated: Moment,
+    pub key_length: u64,
+    pub block_length: u64,
+}
+
+/// The number in 4 bytes from the offset on, lowest byte first.
+#[tactic(auto, unfolding(crate::specs::Layout::number_at))]
+fn read_u32(bytes: &[u8], offset: usize) -> u32
+    requires { offset + 4 ≤ length bytes.now }
+    ensures { result ≡ number_at offset 4 bytes.now }
+{
+    LittleEndian::read_u32(&bytes[offset..])
+}
+
+/// The number in 8 bytes from the offset on, lowest byte first.
+#[tactic(auto, unfolding(crate::specs::Layout::number_at))]
+fn read_u64(bytes: &[u8], offset: usize) -> u64
+    requires { offset + 8 ≤ length bytes.now }
+    ensures { result ≡ number_at offset 8 bytes.now }
+{
+    LittleEndian::read_u64(&bytes[offset..])
+}
+
+/// Writes the number into the 4 bytes from the offset on, lowest byte first.
+fn put_u32(bytes: &mut [u8], offset: usize, number: u32)
+    requires { offset + 4 ≤ length bytes.old }
+    ensures before { take (offset + 4) bytes.new ≡ take offset bytes.old ++ number_bytes 4 number }
+    ensures behind { drop (offset + 4) bytes.new ≡ drop (offset + 4) bytes.old }
+{
+    LittleEndian::write_u32(&mut bytes[offset..], number);
+}
+
+/// Writes the number into the 8 bytes from the offset on, lowest byte first.
+fn put_u64(bytes: &mut [u8], offset: usize, number: u64)
+    requires { offset + 8 ≤ length bytes.old }
+    ensures before { take (offset + 8) bytes.new ≡ take offset bytes.old ++ number_bytes 8 number }
+    ensures behind { drop (offset + 8) bytes.new ≡ drop (offset + 8) bytes.old }
+{
+    LittleEndian::write_u64(&mut bytes[offset..], number);
+}
+
+/// The flags of the item in a chunk.
+pub(crate) fn flags_in(bytes: &[u8]) -> u32
+    requires { 48 ≤ length bytes.now }
+    ensures { result ≡ (header_in bytes.now).flags }
+{
+    read_u32(bytes, FLAGS)
+}
+
+/// When the item in a chunk expires.
+pub(crate) fn expiry_in(bytes: &[u8]) -> Expiry
+    requires { 48 ≤ length bytes.now }
+    ensures { result ≡ (header_in bytes.now).expiry }
+{
+    if read_u32(bytes, EXPIRES) == 0 {
+        Expiry::Never
+    } else {
+        Expiry::At(read_u64(bytes, EXPIRY))
+    }
+}
+
+/// The unique number of the item in a chunk.
+pub(crate) fn unique_in(bytes: &[u8]) -> u64
+    requires { 48 ≤ length bytes.now }
+    ensures { result ≡ (header_in bytes.now).unique }
+{
+    read_u64(bytes, UNIQUE)
+}
+
+/// When the item in a chunk was updated.
+pub(crate) fn updated_in(bytes: &[u8]) -> Moment
+    requires size { 48 ≤ length bytes.now }
+    requires latest { updated_in bytes.now ≤ 2 ^ 62 }
+    ensures { result ≡ (header_in bytes.now).updated }
+{
+    Moment::from_seconds(read_u64(bytes, UPDATED))
+}
+
+/// How many bytes the key of the item in a chunk has.
+pub(crate) fn key_length_in(bytes: &[u8]) -> u64
+    requires { 48 ≤ length bytes.now }
+    ensures { result ≡ (header_in bytes.now).key_length }
+{
+    read_u64(bytes, KEY_LENGTH)
+}
+
+/// How many bytes the block of the item in a chunk has.
+pub(crate) fn block_length_in(bytes: &[u8]) -> u64
+    requires { 48 ≤ length bytes.now }
+    ensures { result ≡ (header_in bytes.now).block_length }
+{
+    read_u64(bytes, BLOCK_LENGTH)
+}
+
+/// The two numbers that stand for an expiry.
+fn numbers_of(expiry: Expiry) -> (u32, u64)
+    ensures expires { result.0 ≡ expires_number expiry }
+    ensures moment { result.1 ≡ moment_number expiry }
+{
+    match expiry {
+        Expiry::Never => (0, 0),
+        Expiry::At(moment) => (1, moment),
+    }
+}
+
+impl Header {
+    /// The header of the item in a chunk.
+    pub(crate) fn read(bytes: &[u8]) -> Header
+        requires size { 48 ≤ length bytes.now }
+        requires latest { updated_in bytes.now ≤ 2 ^ 62 }
+        ensures { result ≡ header_in bytes.now }
+    {
+        Header {
+            flags: flags_in(bytes),
+            expiry: expiry_in(bytes),
+            unique: unique_in(bytes),
+            updated: updated_in(bytes),
+            key_length: key_length_in(bytes),
+            block_length: block_length_in(bytes),
+        }
+    }
+
+    /// Writes the header. What is behind it stays.
+    pub(crate) fn write(self, bytes: &mut [u8])
+        requires { 48 ≤ length bytes.old }
+        ensures value { header_in bytes.new ≡ self }
+        ensures latest { self.updated ≤ 2 ^ 62 }
+        ensures behind { drop 48 bytes.new ≡ drop 48 bytes.old }
+    {
+        put_u32(bytes, FLAGS, self.flags);
+        let (expires, moment) = numbers_of(self.expiry);
+        put_u32(bytes, EXPIRES, expires);
+        put_u64(bytes, EXPIRY, moment);
+        put_u64(bytes, UNIQUE, self.unique);
+        put_u64(bytes, UPDATED, self.updated.seconds());
+        put_u64(bytes, KEY_LENGTH, self.key_length);
+        put_u64(bytes, BLOCK_LENGTH, self.block_length);
+    }
+}

@@ -1,0 +1,171 @@
+ghost use Rattle.std.specs.Prelude.{◌≡◌, ◌+◌, ◌≤◌, ◌++◌, length, decimal};
+ghost use Rattle.mc_slab.specs.Classes.{size_of};
+ghost use Rattle.mc_slab.specs.Chunks.{chunk_class, IsChunkOf};
+ghost use Rattle.mc_item.specs.Items.{IsItem, charge_of};
+ghost use Rattle.mc_item.specs.Layout.{item_in};
+
+use crate::header::{
+    HEADER, Header, block_length_in, expiry_in, flags_in, key_length_in, unique_in, updated_in,
+};
+use crate::run::{write_expiry, write_item, write_number};
+use mc_slab::{Chunk, Class};
+use mc_time::{Expiry, Moment};
+use std::marker::Model;
+
+/// What an item is made of. Its block is `first` followed by `second`.
+#[derive(Clone, Copy)]
+pub struct Parts<'a> {
+    /// From 0 to 250 bytes.
+    pub key: &'a [u8],
+    pub first: &'a [u8],
+    pub second: &'a [u8],
+    pub flags: u32,
+    pub expiry: Expiry,
+    pub unique: u64,
+    pub updated: Moment,
+}
+
+/// An item that lies in its chunk, in one run of bytes: a header of 48, its key, and its block. Contracts see its parts and
+/// its chunk's class. It is moved and never copied; one that is let go, and whose chunk isn't given back to its slab, stays
+/// out in the slab's account for ever. No call takes memory.
+#[derive(Drop)]
+pub struct Item {
+    chunk: Chunk,
+}
+
+impl Model for Item {
+    ghost use Rattle.mc_item.specs.Items.{ItemState, coded_item};
+    ghost use Rattle.mc_item.specs.Layout.{item_in, HoldsItem};
+
+    ghost Value = { ItemState };
+
+    ghost coded = { coded_item };
+
+    ghost view = { λ i. item_in i.chunk };
+
+    ghost invariant = { λ i. HoldsItem i.chunk };
+}
+
+impl Item {
+    /// The item of those parts, in that chunk. It copies the key and the block.
+    pub fn write(mut chunk: Chunk, parts: Parts<'_>) -> Item
+        requires key { length parts.key.now ≤ 250 }
+        requires room { 48 + length parts.key.now + length parts.first.now + length parts.second.now ≤ length chunk }
+        ensures value { result ≡ record {
+          key = parts.entry.key.now;
+          flags = parts.entry.flags;
+          expiry = parts.entry.expiry;
+          block = parts.entry.first.now ++ parts.entry.second.now;
+          unique = parts.entry.unique;
+          updated = parts.entry.updated;
+          class = chunk_class chunk;
+        } }
+        ensures is_item { IsItem result }
+    {
+        let header = Header {
+            flags: parts.flags,
+            expiry: parts.expiry,
+            unique: parts.unique,
+            updated: parts.updated,
+            key_length: parts.key.len() as u64,
+            block_length: (parts.first.len() + parts.second.len()) as u64,
+        };
+        let bytes = chunk.bytes_mut();
+        write_item(bytes, header, parts.key, parts.first, parts.second);
+        Item { chunk }
+    }
+
+    /// Its key, from 0 to 250 bytes.
+    pub fn key(&self) -> &[u8]
+        ensures value { result.now ≡ self.now.key }
+        ensures is_item { IsItem self.now }
+    {
+        let bytes = self.chunk.bytes();
+        let length = key_length_in(bytes) as usize;
+        &bytes[HEADER..HEADER + length]
+    }
+
+    /// Its block.
+    pub fn block(&self) -> &[u8]
+        ensures value { result.now ≡ self.now.block }
+        ensures is_item { IsItem self.now }
+    {
+        let bytes = self.chunk.bytes();
+        let start = HEADER + key_length_in(bytes) as usize;
+        let length = block_length_in(bytes) as usize;
+        &bytes[start..start + length]
+    }
+
+    /// The flags that were stored with it.
+    pub fn flags(&self) -> u32
+        ensures { result ≡ self.now.flags }
+    {
+        flags_in(self.chunk.bytes())
+    }
+
+    /// When it expires.
+    pub fn expiry(&self) -> Expiry
+        ensures { result ≡ self.now.expiry }
+    {
+        expiry_in(self.chunk.bytes())
+    }
+
+    /// The number that no other write has.
+    pub fn unique(&self) -> u64
+        ensures { result ≡ self.now.unique }
+    {
+        unique_in(self.chunk.bytes())
+    }
+
+    /// When its block was last written.
+    pub fn updated(&self) -> Moment
+        ensures { result ≡ self.now.updated }
+    {
+        updated_in(self.chunk.bytes())
+    }
+
+    /// How many bytes of its chunk it takes: 48, and those of its key and its block.
+    pub fn charge(&self) -> u64
+        ensures value { result ≡ charge_of self.now }
+        ensures is_item { IsItem self.now }
+    {
+        let bytes = self.chunk.bytes();
+        HEADER as u64 + key_length_in(bytes) + block_length_in(bytes)
+    }
+
+    /// The class of its chunk.
+    pub fn class(&self) -> Class
+        ensures value { result ≡ self.now.class }
+        ensures is_item { IsItem self.now }
+    {
+        self.chunk.class()
+    }
+
+    /// Its block becomes the number's decimal digits, with nothing before or behind them. The key, the flags and the expiry
+    /// stay. It writes in place.
+    pub fn rewrite_number(&mut self, number: u64, unique: u64, updated: Moment)
+        requires room { 48 + length self.old.key + length (decimal number) ≤ size_of self.old.class }
+        ensures value { self.new ≡ record self.old { block = decimal number; unique = unique; updated = updated } }
+        ensures is_item { IsItem self.new }
+    {
+        write_number(self.chunk.bytes_mut(), number, unique, updated);
+    }
+
+    /// It expires then. All else stays.
+    pub fn set_expiry(&mut self, expiry: Expiry)
+        ensures value { self.new ≡ record self.old { expiry = expiry } }
+        ensures is_item { IsItem self.new }
+    {
+        write_expiry(self.chunk.bytes_mut(), expiry);
+    }
+
+    /// Its chunk, of its class. The item's run still lies in it.
+    pub fn into_chunk(self) -> Chunk
+        ensures chunk { IsChunkOf self.class result }
+        ensures run { item_in result ≡ self }
+        ensures is_item { IsItem self }
+    {
+        let Item { chunk } = self;
+        chunk
+    }
+}
