@@ -9,3 +9,4 @@ pub mod RoomLemmas
 pub mod RecountLemmas
 pub mod WriteLemmas
 pub mod PageLemmas
+pub mod RefusalLemmas

@@ -10,6 +10,7 @@ ghost use Rattle.std.specs.Prelude.{◌≡◌, ◌≢◌, ◌-◌, ◌^◌, ◌�
 ghost use Rattle.std.specs.Option.{option_copied};
 ghost use Rattle.std.specs.FinMap.{get, remove};
 ghost use Rattle.mc_command.specs.Commands.{key_of};
+ghost use Rattle.mc_time.specs.Death as death;
 ghost use Rattle.mc_slab.specs.Classes.{IsClass, class_holding};
 ghost use Rattle.mc_slab.specs.Slabs.{out_of};
 ghost use Rattle.mc_command.specs.Accounts.{AreOf, held_class, dead_class};
@@ -301,11 +302,11 @@ impl PlainStore {
         &mut self,
         alloc: Global,
         key: &[u8],
-        expiry: Expiry,
+        exptime: i64,
         now: Moment,
     ) -> Result<Reply, AllocError>
-        ensures took { IfOk result (λ reply. applied (read_touch_row expiry) key.now self.old now ≡ Answered reply self.new) }
-        ensures refused { OnErr result (MayFail (applied (read_touch_row expiry) key.now self.old now)) }
+        ensures took { IfOk result (λ reply. applied (read_touch_row (death.expiry_of exptime now)) key.now self.old now ≡ Answered reply self.new) }
+        ensures refused { OnErr result (MayFail (applied (read_touch_row (death.expiry_of exptime now)) key.now self.old now)) }
         ensures err { OnErr result (self.new ≡ self.old) }
     {
         let Some(found) = self.standing(key, now) else {
@@ -313,18 +314,18 @@ impl PlainStore {
             return Ok(Reply::Miss);
         };
         let reply = found.hit(alloc)?;
-        self.set_expiry(key, expiry);
+        self.set_expiry(key, expiry_of(exptime, now));
         Ok(reply)
     }
 
-    fn touch(&mut self, key: &[u8], expiry: Expiry, now: Moment) -> Reply
-        ensures { applied (touch_row expiry) key.now self.old now ≡ Answered result self.new }
+    fn touch(&mut self, key: &[u8], exptime: i64, now: Moment) -> Reply
+        ensures { applied (touch_row (death.expiry_of exptime now)) key.now self.old now ≡ Answered result self.new }
     {
         if self.standing(key, now).is_none() {
             self.remove(key);
             return Reply::NotFound;
         }
-        self.set_expiry(key, expiry);
+        self.set_expiry(key, expiry_of(exptime, now));
         Reply::Touched
     }
 
@@ -366,8 +367,8 @@ impl PlainStore {
         self.write(alloc, key, written, stays, Reply::Number(number), now)
     }
 
-    fn flush(&mut self, delay: u64, now: Moment)
-        ensures { self.new ≡ flushed delay self.old now }
+    fn flush(&mut self, delay: u64, now: Moment) -> Reply
+        ensures { Answered result self.new ≡ Answered Reply.Flushed (flushed delay self.old now) }
     {
         if delay == 0 {
             self.items.clear();
@@ -376,6 +377,7 @@ impl PlainStore {
             self.drop_all_dead(now);
         }
         self.cut = cut_after(delay, now);
+        Reply::Flushed
     }
 
     /// Drops every item that is dead.
@@ -427,12 +429,12 @@ impl Steps for PlainStore {
 
     ghost spent = { λ old step now. plain old step now ≡ Spent };
 
+    // With the numbers spent a write is refused, and a step that copies no block never is.
     fn step(&mut self, alloc: Global, step: &KeyStep<'_>, now: Moment) -> Result<Reply, StepFault>
         requires { length (key_of step.now) ≤ 250 }
         ensures took { IfOk result (λ reply. plain self.old step.now now ≡ Answered reply self.new) }
         ensures spent { result ≡ Err StepFault.NumbersSpent → plain self.old step.now now ≡ Spent }
         ensures err { OnErr result (self.new ≡ self.old) }
-        // With the numbers spent a write is refused, and a step that copies no block never is.
         ensures numbers { plain self.old step.now now ≡ Spent → IsErr result }
         ensures refused { OnErr result (MayFail (plain self.old step.now now)) }
     {
@@ -459,18 +461,12 @@ impl Steps for PlainStore {
             }
             KeyStep::Read { key } => Ok(self.read(alloc, key.as_slice(), now)?),
             KeyStep::ReadTouch { key, exptime } => {
-                let expiry = expiry_of(*exptime, now);
-                Ok(self.read_touch(alloc, key.as_slice(), expiry, now)?)
+                Ok(self.read_touch(alloc, key.as_slice(), *exptime, now)?)
             }
-            KeyStep::Touch { key, exptime } => {
-                Ok(self.touch(key.as_slice(), expiry_of(*exptime, now), now))
-            }
+            KeyStep::Touch { key, exptime } => Ok(self.touch(key.as_slice(), *exptime, now)),
             KeyStep::Delete { key } => Ok(self.delete(key.as_slice(), now)),
             KeyStep::Count { key, up, by } => self.count(alloc, key.as_slice(), *up, *by, now),
-            KeyStep::Flush { delay } => {
-                self.flush(*delay, now);
-                Ok(Reply::Flushed)
-            }
+            KeyStep::Flush { delay } => Ok(self.flush(*delay, now)),
         }
     }
 }
