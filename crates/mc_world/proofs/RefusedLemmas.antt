@@ -1,5 +1,5 @@
 -- What was served of a session until memory ran out, and the close of it.
-use Rattle.std.proofs.Common.{◌≡◌, ◌⊎◌, inl, inr, ℕ, zero, suc, ◌+◌, ◌^◌, ◌<◌, ◌≤◌, Bool, true, false, List, [], ◌∷◌, ◌++◌, length, take, Option, Some, None, refl, sym, ap, ◌∙◌, subst, arith, append_assoc, append-nil, if◌then◌else◌}
+use Rattle.std.proofs.Common.{◌≡◌, ◌⊎◌, inl, inr, ℕ, zero, suc, ◌+◌, ◌^◌, ◌<◌, ◌≤◌, Bool, true, false, List, [], ◌∷◌, ◌++◌, length, take, Option, Some, None, Result, Ok, Err, OnOk, refl, sym, ap, ◌∙◌, subst, arith, append_assoc, append-nil, if◌then◌else◌}
 use Rattle.std.specs.Bool.{MatchBool}
 use Rattle.std.specs.List.{slice_get}
 use Rattle.std.specs.Io.KnownBytes.{Appends, Consumes, IsAtEnd}
@@ -289,3 +289,12 @@ module _ (hash : List ℕ → ℕ) (shelves : ℕ) (may_give : ℕ → Type 0) (
   refused_closed mid new r r' w w' =
       subst (λ (k : ℕ). HasRefused hash shelves may_give k first mid r r' w w' → Told hash shelves mid (Close k ∷ []) new → ServedUntilRefused hash shelves may_give first new r r' w w') (sym number)
       (refused_closed_at hash shelves may_give first mid new r r' w w')
+
+-- what is said with hashes and shelves that are the same
+pub with_same : {hash still : List ℕ → ℕ} {shelves as_many : ℕ} (P : (List ℕ → ℕ) → ℕ → Type 0) → still ≡ hash → as_many ≡ shelves → P still as_many → P hash shelves
+with_same {hash = hash} {still = still} {shelves = shelves} {as_many = as_many} P same_hash same_shelves p = subst (λ (k : ℕ). P hash k) same_shelves (subst (λ (f : List ℕ → ℕ). P f as_many) same_hash p)
+
+-- what follows from a fact of an outcome
+pub on_ok : {T E : Type 0} (A B : Type 0) (r : Result T E) → (A → B) → OnOk r A → OnOk r B
+on_ok A B (Ok x) f a = f a
+on_ok A B (Err e) f a = tt
