@@ -1,23 +1,28 @@
 -- What was served of a session until memory ran out, and the close of it.
-use Rattle.std.proofs.Common.{◌≡◌, ◌⊎◌, inl, inr, ℕ, zero, suc, ◌+◌, ◌^◌, ◌<◌, ◌≤◌, Bool, true, false, List, [], ◌∷◌, ◌++◌, length, take, Option, Some, None, refl, sym, ap, ◌∙◌, subst, arith, append_assoc, append-nil, if◌then◌else◌}
+use Rattle.std.proofs.Common.{◌≡◌, ◌⊎◌, inl, inr, ℕ, zero, suc, ◌+◌, ◌^◌, ◌<◌, ◌≤◌, Bool, true, false, List, [], ◌∷◌, ◌++◌, length, take, Option, Some, None, Result, Ok, Err, OnOk, IfErr, refl, sym, ap, ◌∙◌, subst, arith, append_assoc, append-nil, if◌then◌else◌}
 use Rattle.std.specs.Bool.{MatchBool}
 use Rattle.std.specs.List.{slice_get}
 use Rattle.std.specs.Io.KnownBytes.{Appends, Consumes, IsAtEnd}
 use Rattle.std.proofs.KnownBytes.{Consumes-trans, Appends-trans}
 use Rattle.mc_command.specs.Plain.{Plain}
 use Rattle.mc_session.specs.Turns.{SessionState}
+use Rattle.mc_session.specs.declared.serving.ServeFault.{ServeFault}
+use Rattle.mc_session.specs.declared.serving.ServeFault.TheVariants.{NoMemory, Write}
+use Rattle.mc_shelf.specs.declared.store.Settings.{Settings}
 use Rattle.mc_world.specs.Connections.{Connection, IsRest, shut, Stands, with_piece, ended}
 use Rattle.mc_world.specs.Worlds.{PlainWorld, WorldState, output_of, numbered, changed, open_connection, at_connection, Happens, Runs, StandAll, StandsAs, Told, ToldUntil, named, with_end, GivesUp}
 use Rattle.mc_world.specs.Serving.{next_session, with_written, with_front, shelf_of, IsService, turn, piece, IsCut, before_clock, after_clock, Came, Served, ServedAll, ServedUntilRefused}
-use Rattle.mc_world.specs.Rounds.{Writes, HasEnded, ReadsRefused, GivesTurn, GivesRefused, HasServed, HasRefused, GoesOn, IsRefused, turn_events}
+use Rattle.mc_world.specs.Rounds.{Writes, HasEnded, Begins, Keeps, GoesFar, ReadsRefused, GivesTurn, GivesRefused, HasServed, HasRefused, GoesOn, IsRefused, turn_events}
+use Rattle.mc_world.specs.Sessions.{world_of}
+use Rattle.mc_world.specs.declared.world.World.{World}
 use Rattle.mc_world.specs.declared.event.Event.{Event}
 use Rattle.mc_world.specs.declared.event.Event.TheVariants.{Open, Piece, Turn, Clock, Grow, Close}
 use Rattle.mc_world.specs.declared.event.Refused.{Refused}
 use Rattle.mc_world.proofs.UpdateLemmas.{update, at_number, if_opened, changed_opened, number_twice}
 use Rattle.mc_world.proofs.FrontLemmas.{end_leaves, change_fronted, runs_fronted, gives_up_fronted}
-use Rattle.mc_world.proofs.WrittenLemmas.{Fronts, fronts, put_on, ended_written, written_twice}
+use Rattle.mc_world.proofs.WrittenLemmas.{kept_on, Fronts, fronts, put_on, ended_written, written_twice}
 use Rattle.mc_world.proofs.OnlyLemmas.{from_only}
-use Rattle.mc_world.proofs.ServeLemmas.{IsAt, is_at, runs_join, told_behind}
+use Rattle.mc_world.proofs.ServeLemmas.{served_nothing, IsAt, is_at, runs_join, told_behind}
 
 abbrev opens : Connection → Bool
 opens c = c.is_open
@@ -289,3 +294,59 @@ module _ (hash : List ℕ → ℕ) (shelves : ℕ) (may_give : ℕ → Type 0) (
   refused_closed mid new r r' w w' =
       subst (λ (k : ℕ). HasRefused hash shelves may_give k first mid r r' w w' → Told hash shelves mid (Close k ∷ []) new → ServedUntilRefused hash shelves may_give first new r r' w w') (sym number)
       (refused_closed_at hash shelves may_give first mid new r r' w w')
+
+-- what is said with hashes and shelves that are the same
+pub with_same : {hash still : List ℕ → ℕ} {shelves as_many : ℕ} (P : (List ℕ → ℕ) → ℕ → Type 0) → still ≡ hash → as_many ≡ shelves → P still as_many → P hash shelves
+with_same {hash = hash} {still = still} {shelves = shelves} {as_many = as_many} P same_hash same_shelves p = subst (λ (k : ℕ). P hash k) same_shelves (subst (λ (f : List ℕ → ℕ). P f as_many) same_hash p)
+
+-- what follows from a fact of an outcome
+pub on_ok : {T E : Type 0} (A B : Type 0) (r : Result T E) → (A → B) → OnOk r A → OnOk r B
+on_ok A B (Ok x) f a = f a
+on_ok A B (Err e) f a = tt
+
+-- no writing is short of memory
+pub writes_no_memory : {T : Type 0} (r : Result T ServeFault) → IfErr r (λ fault. fault ≡ Write) → r ≡ Err NoMemory → ⊥
+writes_no_memory (Ok x) fault is = cc
+writes_no_memory (Err f) fault is = let it : Write ≡ NoMemory = cc in cc
+
+-- A whole run: the worlds before it, after the opening, after the rounds and after the close.
+module _ {K : Type 0} (hash_of : K → List ℕ → ℕ) (may_give : ℕ → Type 0) (n : ℕ) (w0 w1 w2 w3 : World K) (r r' w w' : Option (List ℕ))
+    (begins : Begins (hash_of w0.store.hasher) w0.store.settings.shelves n (world_of w0) (world_of w1)) (room : length (world_of w0).sessions < 65535)
+    (keeps1 : Keeps w0 w1) (keeps2 : Keeps w1 w2)
+    (told : Told (hash_of w2.store.hasher) w2.store.settings.shelves (world_of w2) (Close n ∷ []) (world_of w3)) where
+  abbrev first : HasServed (hash_of w0.store.hasher) w0.store.settings.shelves may_give n 0 (world_of w0) (world_of w1) r r w w
+  first = served_nothing (hash_of w0.store.hasher) w0.store.settings.shelves may_give n (world_of w0) (world_of w1) r w begins room
+
+  still : Keeps w0 w2
+  still = kept_on w0 w1 w2 keeps1 keeps2
+
+  closed : Told (hash_of w0.store.hasher) w0.store.settings.shelves (world_of w2) (Close n ∷ []) (world_of w3)
+  closed = with_same (λ h s. Told h s (world_of w2) (Close n ∷ []) (world_of w3)) (ap hash_of still.1) (ap (λ (s : Settings). s.shelves) still.0) told
+
+  abbrev Far : Type 0
+  Far = GoesFar (hash_of w1.store.hasher) w1.store.settings.shelves may_give n (world_of w1) (world_of w2) r r' w w'
+
+  far : Far → (turns : ℕ) × (turns ≤ 2 ^ 40) × HasServed (hash_of w0.store.hasher) w0.store.settings.shelves may_give n turns (world_of w0) (world_of w2) r r' w w'
+  far goes = with_same (λ h s. GoesFar h s may_give n (world_of w1) (world_of w2) r r' w w') (ap hash_of keeps1.1) (ap (λ (s : Settings). s.shelves) keeps1.0) goes (world_of w0) r w first
+
+  pub ran : Far → Served (hash_of w0.store.hasher) w0.store.settings.shelves may_give (world_of w0) (world_of w3) r r' w w'
+  ran goes =
+      let came = far goes in
+      served_closed (hash_of w0.store.hasher) w0.store.settings.shelves may_give n (world_of w0) begins.number came.0 (world_of w2) (world_of w3) r r' w w' came.1 came.2 closed
+
+  pub ran_and_wrote : Far → (w4 : World K) (w'' : Option (List ℕ)) → Writes n (world_of w3) (world_of w4) w' w'' → Served (hash_of w0.store.hasher) w0.store.settings.shelves may_give (world_of w0) (world_of w4) r r' w w''
+  ran_and_wrote goes w4 w'' writes =
+      let came = far goes in
+      served_wrote (hash_of w0.store.hasher) w0.store.settings.shelves may_give n (world_of w0) begins.number came.0 (world_of w2) (world_of w3) (world_of w4) r r' w w' w'' came.1 came.2 closed writes
+
+  pub ran_whole : Far → (w4 : World K) (w'' : Option (List ℕ)) → Writes n (world_of w3) (world_of w4) w' w'' → HasEnded n (world_of w2) r' → output_of (numbered n (world_of w4).sessions) ≡ []
+      → ServedAll (hash_of w0.store.hasher) w0.store.settings.shelves may_give (world_of w0) (world_of w4) r r' w w''
+  ran_whole goes w4 w'' writes ended all =
+      let came = far goes in
+      served_all (hash_of w0.store.hasher) w0.store.settings.shelves may_give n (world_of w0) begins.number came.0 (world_of w2) (world_of w3) (world_of w4) r r' w w' w'' came.1 came.2 closed writes ended all
+
+  pub ran_short : IsRefused (hash_of w1.store.hasher) w1.store.settings.shelves may_give n 0 (world_of w1) (world_of w2) r r' w w' → ServedUntilRefused (hash_of w0.store.hasher) w0.store.settings.shelves may_give (world_of w0) (world_of w3) r r' w w'
+  ran_short refuses =
+      let refused : HasRefused (hash_of w0.store.hasher) w0.store.settings.shelves may_give n (world_of w0) (world_of w2) r r' w w' =
+      with_same (λ h s. IsRefused h s may_give n 0 (world_of w1) (world_of w2) r r' w w') (ap hash_of keeps1.1) (ap (λ (s : Settings). s.shelves) keeps1.0) refuses (world_of w0) r w first in
+      refused_closed (hash_of w0.store.hasher) w0.store.settings.shelves may_give n (world_of w0) begins.number (world_of w2) (world_of w3) r r' w w' refused closed
