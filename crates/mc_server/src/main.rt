@@ -1,7 +1,7 @@
 //! `mcserver`: a cache server that speaks memcached's text protocol.
 #![tactic(auto)]
 
-ghost use Rattle.std.specs.Prelude.{◌≡◌, ◌≢◌};
+ghost use Rattle.std.specs.Prelude.{◌≡◌, ◌≢◌, ◌≤◌};
 ghost use Rattle.std.specs.Process.{exit_status};
 ghost use Rattle.std.specs.IoError.{error_kind};
 ghost use Rattle.std.specs.declared.io.ErrorKind.TheVariants as io_kind;
@@ -13,15 +13,17 @@ mod options;
 
 use clap::error::ErrorKind;
 use ending::{Ending, ending};
-use mc_command::PlainStore;
-use mc_session::{ServeFault, serve};
-use mc_time::{Fixed, SystemClock};
+use mc_hop::Fnv;
+use mc_session::ServeFault;
+use mc_shelf::Settings;
+use mc_time::{Clock, Fixed, SystemClock};
+use mc_world::{World, serve_one};
 use options::Options;
 use std::process::ExitCode;
 use std::{env, io};
 
-/// The pages of the store.
-const PAGES: u32 = 64;
+/// How many shelves the store has.
+const SHELVES: u32 = 64;
 
 /// The greatest charge of an item, in bytes: one page.
 const GREATEST: u64 = 1_048_576;
@@ -46,22 +48,30 @@ fn main(rt: HostRuntime) -> ExitCode {
 }
 
 /// One session over standard input and output, to its end.
-fn session(rt: &HostRuntime, options: Options) -> Result<(), ServeFault> {
+fn session(rt: &HostRuntime, options: Options) -> Result<(), ServeFault>
+    requires { 1 ≤ options.pages × options.pages ≤ 65536 }
+{
+    match options.now {
+        Some(moment) => served(rt, options.pages, &Fixed(moment)),
+        None => served(rt, options.pages, &SystemClock::new(rt)),
+    }
+}
+
+/// The same in a new world with a store of so many pages, at the clock's moments.
+fn served<C: Clock>(rt: &HostRuntime, pages: u32, clock: &C) -> Result<(), ServeFault>
+    requires { 1 ≤ pages × pages ≤ 65536 }
+{
     let alloc = rt.alloc();
-    let Ok(mut store) = PlainStore::new(alloc, PAGES, GREATEST) else {
+    let settings = Settings {
+        pages,
+        greatest: GREATEST,
+        shelves: SHELVES,
+    };
+    let Ok(mut world) = World::new(alloc, settings, Fnv, clock.now()) else {
         return Err(ServeFault::NoMemory);
     };
     let (mut input, mut output) = (rt.stdin(), rt.stdout());
-    match options.now {
-        Some(moment) => {
-            let clock = Fixed(moment);
-            serve(alloc, &mut input, &mut output, GREATEST, &mut store, &clock)
-        }
-        None => {
-            let clock = SystemClock::new(rt);
-            serve(alloc, &mut input, &mut output, GREATEST, &mut store, &clock)
-        }
-    }
+    serve_one(alloc, &mut input, &mut output, &mut world, clock)
 }
 
 /// Says how the program ends, and gives its status.
