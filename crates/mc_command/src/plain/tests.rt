@@ -11,9 +11,9 @@ use std::test::Fail;
 
 /// What is asked of a key.
 #[derive(Clone, Copy)]
-enum Ask {
-    Store(Verb, i64, &'static [u8]),
-    Cas(u64, &'static [u8]),
+enum Ask<'a> {
+    Store(Verb, i64, &'a [u8]),
+    Cas(u64, &'a [u8]),
     Get,
     Gat(i64),
     Touch(i64),
@@ -25,14 +25,14 @@ enum Ask {
 
 /// What it is answered.
 #[derive(Clone, Copy)]
-enum Want {
-    Told(&'static str),
-    Hit(u64, &'static [u8]),
+enum Want<'a> {
+    Told(&'a str),
+    Hit(u64, &'a [u8]),
 }
 
-type Row = (u64, &'static [u8], Ask, Want);
+type Row<'a> = (u64, &'a [u8], Ask<'a>, Want<'a>);
 
-fn step_of(key: &[u8], ask: Ask) -> KeyStep<'_>
+fn step_of<'a>(key: &'a [u8], ask: Ask<'a>) -> KeyStep<'a>
     requires { length key.now ≤ 250 }
     ensures { length (key_of result) ≤ 250 }
 {
@@ -81,7 +81,7 @@ fn told(reply: &Reply) -> &'static str {
     }
 }
 
-fn is_wanted(reply: &Reply, want: Want) -> bool {
+fn is_wanted(reply: &Reply, want: Want<'_>) -> bool {
     match want {
         Want::Told(text) => told(reply) == text,
         Want::Hit(wanted, bytes) => match reply {
@@ -153,8 +153,17 @@ fn take(
     store.step(alloc, step, now)
 }
 
-fn answers(rt: &impl Abort, alloc: Global, greatest: u64, rows: &[Row]) -> Result<(), Fail> {
-    let mut store = PlainStore::new(alloc, 64, greatest)?;
+fn answers(
+    rt: &impl Abort,
+    alloc: Global,
+    pages: u32,
+    greatest: u64,
+    rows: &[Row<'_>],
+) -> Result<(), Fail>
+    requires pages { (1 ≤ pages) × (pages ≤ 65536) }
+    requires greatest { greatest ≤ 1048576 }
+{
+    let mut store = PlainStore::new(alloc, pages, greatest)?;
     for (seconds, key, ask, want) in rows {
         assert!(rt; key.len() <= 250);
         let now = Moment::from_seconds_at_most(*seconds);
@@ -167,7 +176,7 @@ fn answers(rt: &impl Abort, alloc: Global, greatest: u64, rows: &[Row]) -> Resul
 
 #[test]
 fn exptimes_up_to_30_days_count_from_now(rt: HostRuntime) -> Result<(), Fail> {
-    let rows: [Row; 6] = [
+    let rows: [Row<'_>; 6] = [
         (
             1000,
             b"a",
@@ -185,12 +194,12 @@ fn exptimes_up_to_30_days_count_from_now(rt: HostRuntime) -> Result<(), Fail> {
         (2592999, b"a", Ask::Get, Want::Hit(1, b"x")),
         (2593000, b"a", Ask::Get, Want::Told("miss")),
     ];
-    answers(&rt, rt.alloc(), 1048576, &rows)
+    answers(&rt, rt.alloc(), 64, 1048576, &rows)
 }
 
 #[test]
 fn a_flush_comes_after_its_delay(rt: HostRuntime) -> Result<(), Fail> {
-    let rows: [Row; 8] = [
+    let rows: [Row<'_>; 8] = [
         (1000, b"a", Ask::Flush(10), Want::Told("flushed")),
         (
             1005,
@@ -210,12 +219,12 @@ fn a_flush_comes_after_its_delay(rt: HostRuntime) -> Result<(), Fail> {
         (1011, b"b", Ask::Flush(0), Want::Told("flushed")),
         (1011, b"b", Ask::Get, Want::Told("miss")),
     ];
-    answers(&rt, rt.alloc(), 1048576, &rows)
+    answers(&rt, rt.alloc(), 64, 1048576, &rows)
 }
 
 #[test]
 fn storage_commands_store_on_their_condition(rt: HostRuntime) -> Result<(), Fail> {
-    let rows: [Row; 12] = [
+    let rows: [Row<'_>; 12] = [
         (
             1000,
             b"a",
@@ -264,12 +273,12 @@ fn storage_commands_store_on_their_condition(rt: HostRuntime) -> Result<(), Fail
             Want::Told("stored"),
         ),
     ];
-    answers(&rt, rt.alloc(), 1048576, &rows)
+    answers(&rt, rt.alloc(), 64, 1048576, &rows)
 }
 
 #[test]
 fn touches_set_the_expiry_and_deletes_remove(rt: HostRuntime) -> Result<(), Fail> {
-    let rows: [Row; 10] = [
+    let rows: [Row<'_>; 10] = [
         (1000, b"a", Ask::Touch(0), Want::Told("not found")),
         (
             1000,
@@ -291,12 +300,12 @@ fn touches_set_the_expiry_and_deletes_remove(rt: HostRuntime) -> Result<(), Fail
         (1009, b"a", Ask::Delete, Want::Told("deleted")),
         (1009, b"a", Ask::Gat(0), Want::Told("miss")),
     ];
-    answers(&rt, rt.alloc(), 1048576, &rows)
+    answers(&rt, rt.alloc(), 64, 1048576, &rows)
 }
 
 #[test]
 fn counts_wrap_up_and_stop_at_zero(rt: HostRuntime) -> Result<(), Fail> {
-    let rows: [Row; 7] = [
+    let rows: [Row<'_>; 7] = [
         (1000, b"n", Ask::Incr(1), Want::Told("not found")),
         (
             1000,
@@ -315,13 +324,13 @@ fn counts_wrap_up_and_stop_at_zero(rt: HostRuntime) -> Result<(), Fail> {
         ),
         (1000, b"n", Ask::Incr(1), Want::Told("not numeric")),
     ];
-    answers(&rt, rt.alloc(), 1048576, &rows)
+    answers(&rt, rt.alloc(), 64, 1048576, &rows)
 }
 
 #[test]
 fn what_is_too_large_is_not_written(rt: HostRuntime) -> Result<(), Fail> {
     // A charge is 48 bytes beside the key and the block.
-    let rows: [Row; 3] = [
+    let rows: [Row<'_>; 3] = [
         (
             1000,
             b"a",
@@ -336,5 +345,123 @@ fn what_is_too_large_is_not_written(rt: HostRuntime) -> Result<(), Fail> {
         ),
         (1000, b"a", Ask::Get, Want::Hit(1, b"x")),
     ];
-    answers(&rt, rt.alloc(), 50, &rows)
+    answers(&rt, rt.alloc(), 64, 50, &rows)
+}
+
+/// So many bytes, asked for again where memory is refused.
+fn filled(alloc: Global, len: usize) -> Result<Vec<u8>, AllocError> {
+    match vec![in alloc; b'x'; len] {
+        Err(_) => vec![in alloc; b'x'; len],
+        bytes => bytes,
+    }
+}
+
+// A page has one chunk that holds a charge of more than 493552 bytes, and here there is one page.
+
+#[test]
+fn a_full_chunk_is_not_written_over(rt: HostRuntime) -> Result<(), Fail> {
+    let large = filled(rt.alloc(), 600000)?;
+    let large = large.as_slice();
+    let rows: [Row<'_>; 7] = [
+        (
+            1000,
+            b"a",
+            Ask::Store(Verb::Set, 0, large),
+            Want::Told("stored"),
+        ),
+        (
+            1000,
+            b"b",
+            Ask::Store(Verb::Set, 0, b"x"),
+            Want::Told("no chunk"),
+        ),
+        (
+            1000,
+            b"a",
+            Ask::Store(Verb::Set, 0, large),
+            Want::Told("no chunk"),
+        ),
+        (1000, b"a", Ask::Get, Want::Hit(1, large)),
+        (1000, b"a", Ask::Delete, Want::Told("deleted")),
+        (
+            1000,
+            b"b",
+            Ask::Store(Verb::Set, 0, b"x"),
+            Want::Told("no chunk"),
+        ),
+        (
+            1000,
+            b"b",
+            Ask::Store(Verb::Set, 0, large),
+            Want::Told("stored"),
+        ),
+    ];
+    answers(&rt, rt.alloc(), 1, 1048576, &rows)
+}
+
+#[test]
+fn the_dead_hold_their_chunks_until_they_are_dropped(rt: HostRuntime) -> Result<(), Fail> {
+    let large = filled(rt.alloc(), 600000)?;
+    let large = large.as_slice();
+    let rows: [Row<'_>; 8] = [
+        (
+            1000,
+            b"a",
+            Ask::Store(Verb::Set, 10, large),
+            Want::Told("stored"),
+        ),
+        (
+            1010,
+            b"b",
+            Ask::Store(Verb::Set, 0, large),
+            Want::Told("no chunk"),
+        ),
+        (
+            1010,
+            b"a",
+            Ask::Store(Verb::Set, 10, large),
+            Want::Told("stored"),
+        ),
+        (1010, b"a", Ask::Get, Want::Hit(2, large)),
+        // What finds no chunk for its own class drops the key's dead item all the same.
+        (
+            1020,
+            b"a",
+            Ask::Store(Verb::Set, 0, b"x"),
+            Want::Told("no chunk"),
+        ),
+        (
+            1020,
+            b"b",
+            Ask::Store(Verb::Set, 0, large),
+            Want::Told("stored"),
+        ),
+        (1020, b"b", Ask::Flush(0), Want::Told("flushed")),
+        (
+            1020,
+            b"a",
+            Ask::Store(Verb::Set, 0, large),
+            Want::Told("stored"),
+        ),
+    ];
+    answers(&rt, rt.alloc(), 1, 1048576, &rows)
+}
+
+#[test]
+fn a_number_asks_room_where_its_class_changes(rt: HostRuntime) -> Result<(), Fail> {
+    // 48 bytes, a key of 47 and a block of 1 are the 96 of the first class's chunks.
+    let key = b"a key of as many bytes as leave room for one, 0";
+    let rows: [Row<'_>; 5] = [
+        (
+            1000,
+            key,
+            Ask::Store(Verb::Set, 0, b"9"),
+            Want::Told("stored"),
+        ),
+        (1000, key, Ask::Incr(1), Want::Told("no chunk")),
+        (1000, key, Ask::Get, Want::Hit(1, b"9")),
+        (1000, key, Ask::Decr(9), Want::Told("number 0")),
+        (1000, key, Ask::Get, Want::Hit(2, b"0")),
+    ];
+    answers(&rt, rt.alloc(), 1, 1048576, &rows)
 }
