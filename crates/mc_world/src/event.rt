@@ -21,6 +21,7 @@ pub enum Event<'a> {
 }
 
 /// Memory ran out in an event. The events before it are done, its session is closed, and no later one is run.
+/// Only an opening, a piece of an open session and a turn that is due are ever refused.
 #[derive(Debug, Drop, PartialEq, Eq)]
 pub struct Refused {
     /// Which event.
