@@ -188,3 +188,16 @@ kept_on a b c one two = (two.0 ∙ one.0, two.1 ∙ one.1, λ can. two.2 (one.2 
 
 pub kept_same : {K : Type 0} (a b : World K) → b ≡ a → KeepsStore a b
 kept_same {K = K} a b same = (ap (λ (w : World K). w.store.settings) same, ap (λ (w : World K). w.store.hasher) same, λ can. subst (λ (w : World K). CanStand (world_of w)) (sym same) can)
+
+-- the world after a write of so many bytes, and after one that failed
+pub wrote_front : {K : Type 0} (n k : ℕ) (old new last : World K) (out : List ℕ) (a b : Option (List ℕ)) → last ≡ new → new ≡ record old { sessions = changed n old.sessions (λ s. sent s k) (numbered n old.sessions) }
+    → out ≡ output_of (numbered n old.sessions) → Appends a b (take k out) → Writes n (world_of old) (world_of last) a b
+wrote_front {K = K} n k old new last out a b same is there appends =
+    subst (λ (w : World K). Writes n (world_of old) (world_of w) a b) (sym (same ∙ is)) (writes_front n k (world_of old) a b (subst (λ (o : List ℕ). Appends a b (take k o)) there appends))
+
+pub wrote_none : {K : Type 0} (n : ℕ) (old last : World K) (a b : Option (List ℕ)) → last ≡ old → Keeps a b → Writes n (world_of old) (world_of last) a b
+wrote_none {K = K} n old last a b same kept = subst (λ (w : World K). Writes n (world_of old) (world_of w) a b) (sym same) (writes_kept n (world_of old) a b kept)
+
+pub kept_sent : {K : Type 0} (n k : ℕ) (old new last : World K) → last ≡ new → new ≡ record old { sessions = changed n old.sessions (λ s. sent s k) (numbered n old.sessions) } → (CanStand (world_of old) → CanStand (world_of new)) → KeepsStore old last
+kept_sent {K = K} n k old new last same is stands =
+    subst (λ (w : World K). KeepsStore old w) (sym same) (ap (λ (w : World K). w.store.settings) is, ap (λ (w : World K). w.store.hasher) is, stands)

@@ -4,6 +4,8 @@
 mod event;
 mod laws;
 mod serving;
+#[cfg(test)]
+mod serving_tests;
 mod sessions;
 #[cfg(test)]
 mod tests;
