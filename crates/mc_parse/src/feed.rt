@@ -73,7 +73,8 @@ impl Feed {
         Ok(())
     }
 
-    /// What the unread bytes begin with. It takes no memory.
+    /// What the unread bytes begin with. It takes no memory. Bytes that were there before the last piece came aren't
+    /// searched again, and where a block is awaited it costs nothing until the block is there.
     pub fn peek(&self) -> Peek<'_>
         // What it finds is spelled by the front that it counts, and no byte is to be passed over.
         ensures found { IfSome (unit_of result) (λ found. (self.now.passed ≡ 0) × IsSpelled self.now.greatest found self.now.bytes) }
