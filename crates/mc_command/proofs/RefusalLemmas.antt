@@ -105,14 +105,16 @@ ne-from a b other same = let yes : eqb a b ≡ true = eq-eqb a b same in cc
 wrote-exactly : (stays : Bool) (reply : Reply) (key : List ℕ) (flags : ℕ) (expiry : Expiry) (block : List ℕ) (old : Plain) (now : ℕ) → is_refusal reply ≡ false
     → (wrote stays reply key flags expiry block old now ≡ Answered NoChunk old) ↔ LacksChunk old (cond stays None (Some (charge key block)))
 wrote-exactly true reply key flags expiry block old now other =
-    let class : ℕ = class_holding (charge key block) in
-    ((λ is. let fails = (tested-fails (ltb old.greatest (charge key block)) (eqb old.next_unique 18446744073709551615) true (has_room old class) reply old (written old key flags expiry block now) (written (with_chunk old class) key flags expiry block now) old other is).0 in absurd (no_truth fails.2)),
-    (λ lacks. absurd lacks))
+    let class : ℕ = class_holding (charge key block) in (
+      (λ is. let fails = (tested-fails (ltb old.greatest (charge key block)) (eqb old.next_unique 18446744073709551615) true (has_room old class) reply old (written old key flags expiry block now) (written (with_chunk old class) key flags expiry block now) old other is).0 in absurd (no_truth fails.2)),
+      (λ lacks. absurd lacks),
+    )
 wrote-exactly false reply key flags expiry block old now other =
-    let class : ℕ = class_holding (charge key block) in
-    ((λ is. let fails = (tested-fails (ltb old.greatest (charge key block)) (eqb old.next_unique 18446744073709551615) false (has_room old class) reply old (written old key flags expiry block now) (written (with_chunk old class) key flags expiry block now) old other is).0 in
-    (ltb-false _ _ fails.0, ne-from _ _ fails.1, fails.3)),
-    (λ lacks. rw (le-ltb _ _ lacks.0, ne_eqb _ _ lacks.1, lacks.2) refl))
+    let class : ℕ = class_holding (charge key block) in (
+      (λ is. let fails = (tested-fails (ltb old.greatest (charge key block)) (eqb old.next_unique 18446744073709551615) false (has_room old class) reply old (written old key flags expiry block now) (written (with_chunk old class) key flags expiry block now) old other is).0 in
+          (ltb-false _ _ fails.0, ne-from _ _ fails.1, fails.3)),
+      (λ lacks. rw (le-ltb _ _ lacks.0, ne_eqb _ _ lacks.1, lacks.2) refl),
+    )
 
 wrote-left : (stays : Bool) (reply : Reply) (key : List ℕ) (flags : ℕ) (expiry : Expiry) (block : List ℕ) (old new : Plain) (now : ℕ) → is_refusal reply ≡ false → wrote stays reply key flags expiry block old now ≡ Answered NoChunk new → new ≡ old
 wrote-left stays reply key flags expiry block old new now other is =

@@ -356,6 +356,18 @@ fn filled(alloc: Global, len: usize) -> Result<Vec<u8>, AllocError> {
     }
 }
 
+/// A set and what it is answered.
+fn set<'a>(
+    seconds: u64,
+    key: &'a [u8],
+    exptime: i64,
+    block: &'a [u8],
+    want: &'static str,
+) -> Row<'a> {
+    let ask = Ask::Store(Verb::Set, exptime, block);
+    (seconds, key, ask, Want::Told(want))
+}
+
 // A page has one chunk that holds a charge of more than 493552 bytes, and here there is one page.
 
 #[test]
@@ -363,38 +375,13 @@ fn a_full_chunk_is_not_written_over(rt: HostRuntime) -> Result<(), Fail> {
     let large = filled(rt.alloc(), 600000)?;
     let large = large.as_slice();
     let rows: [Row<'_>; 7] = [
-        (
-            1000,
-            b"a",
-            Ask::Store(Verb::Set, 0, large),
-            Want::Told("stored"),
-        ),
-        (
-            1000,
-            b"b",
-            Ask::Store(Verb::Set, 0, b"x"),
-            Want::Told("no chunk"),
-        ),
-        (
-            1000,
-            b"a",
-            Ask::Store(Verb::Set, 0, large),
-            Want::Told("no chunk"),
-        ),
+        set(1000, b"a", 0, large, "stored"),
+        set(1000, b"b", 0, b"x", "no chunk"),
+        set(1000, b"a", 0, large, "no chunk"),
         (1000, b"a", Ask::Get, Want::Hit(1, large)),
         (1000, b"a", Ask::Delete, Want::Told("deleted")),
-        (
-            1000,
-            b"b",
-            Ask::Store(Verb::Set, 0, b"x"),
-            Want::Told("no chunk"),
-        ),
-        (
-            1000,
-            b"b",
-            Ask::Store(Verb::Set, 0, large),
-            Want::Told("stored"),
-        ),
+        set(1000, b"b", 0, b"x", "no chunk"),
+        set(1000, b"b", 0, large, "stored"),
     ];
     answers(&rt, rt.alloc(), 1, 1048576, &rows)
 }
@@ -404,45 +391,15 @@ fn the_dead_hold_their_chunks_until_they_are_dropped(rt: HostRuntime) -> Result<
     let large = filled(rt.alloc(), 600000)?;
     let large = large.as_slice();
     let rows: [Row<'_>; 8] = [
-        (
-            1000,
-            b"a",
-            Ask::Store(Verb::Set, 10, large),
-            Want::Told("stored"),
-        ),
-        (
-            1010,
-            b"b",
-            Ask::Store(Verb::Set, 0, large),
-            Want::Told("no chunk"),
-        ),
-        (
-            1010,
-            b"a",
-            Ask::Store(Verb::Set, 10, large),
-            Want::Told("stored"),
-        ),
+        set(1000, b"a", 10, large, "stored"),
+        set(1010, b"b", 0, large, "no chunk"),
+        set(1010, b"a", 10, large, "stored"),
         (1010, b"a", Ask::Get, Want::Hit(2, large)),
         // What finds no chunk for its own class drops the key's dead item all the same.
-        (
-            1020,
-            b"a",
-            Ask::Store(Verb::Set, 0, b"x"),
-            Want::Told("no chunk"),
-        ),
-        (
-            1020,
-            b"b",
-            Ask::Store(Verb::Set, 0, large),
-            Want::Told("stored"),
-        ),
+        set(1020, b"a", 0, b"x", "no chunk"),
+        set(1020, b"b", 0, large, "stored"),
         (1020, b"b", Ask::Flush(0), Want::Told("flushed")),
-        (
-            1020,
-            b"a",
-            Ask::Store(Verb::Set, 0, large),
-            Want::Told("stored"),
-        ),
+        set(1020, b"a", 0, large, "stored"),
     ];
     answers(&rt, rt.alloc(), 1, 1048576, &rows)
 }
@@ -452,12 +409,7 @@ fn a_number_asks_room_where_its_class_changes(rt: HostRuntime) -> Result<(), Fai
     // 48 bytes, a key of 47 and a block of 1 are the 96 of the first class's chunks.
     let key = b"a key of as many bytes as leave room for one, 0";
     let rows: [Row<'_>; 5] = [
-        (
-            1000,
-            key,
-            Ask::Store(Verb::Set, 0, b"9"),
-            Want::Told("stored"),
-        ),
+        set(1000, key, 0, b"9", "stored"),
         (1000, key, Ask::Incr(1), Want::Told("no chunk")),
         (1000, key, Ask::Get, Want::Hit(1, b"9")),
         (1000, key, Ask::Decr(9), Want::Told("number 0")),

@@ -47,10 +47,11 @@ invariant_of-self-2 c =
     let stands = standing old key c.args.now in
     let dead : c.dead_class-dead.result ≡ dead_class stands key old = subst (λ (p : Plain). c.dead_class-dead.result ≡ dead_class (standing p key c.args.now) key p) (sym c.self.view_is) c.dead_class-dead.ensures in
     let over : c.standing_class-replaced.result ≡ held_class key stands = subst (λ (p : Plain). c.standing_class-replaced.result ≡ held_class key (standing p key c.args.now)) (sym c.self.view_is) c.standing_class-replaced.ensures in
-    let put = items_of-put i.items.entries c.insert.new.self.entries c.in_ok-bytes.bytes key c.of-item.result _ c.in_ok-insert.ensures.entries c.in_ok-bytes.ensures.items c.of-item.ensures in
-    (c.self.invariant.0,
-    rw (put, c.give-2.ensures.given, over, c.take.ensures.taken, c.give.ensures.given, dead)
-    (put-are i.greatest i.cut i.next_unique (items_of i.items.entries) i.accounts key c.self.invariant.1 c.give.ensures.is_slab.out c.args.class c.requires.is_class stands _ (standing-in old key c.args.now) c.requires.class))
+    let put = items_of-put i.items.entries c.insert.new.self.entries c.in_ok-bytes.bytes key c.of-item.result _ c.in_ok-insert.ensures.entries c.in_ok-bytes.ensures.items c.of-item.ensures in (
+      c.self.invariant.0,
+      rw (put, c.give-2.ensures.given, over, c.take.ensures.taken, c.give.ensures.given, dead)
+          (put-are i.greatest i.cut i.next_unique (items_of i.items.entries) i.accounts key c.self.invariant.1 c.give.ensures.is_slab.out c.args.class c.requires.is_class stands _ (standing-in old key c.args.now) c.requires.class),
+    )
 
 pub returns-clause-placed : goal.returns-clause-placed
 returns-clause-placed c =

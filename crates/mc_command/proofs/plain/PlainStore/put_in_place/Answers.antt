@@ -23,9 +23,10 @@ invariant_of-self c =
     let item : Entry = record { flags = c.args.written.flags; expiry = c.args.written.expiry; block = c.args.written.block; unique = i.next_unique; updated = c.args.now } in
     let one : of_class key (get (items_of i.items.entries) key) (item_class key item) ≡ 1 = subst (λ (p : Plain). of_class key (get p.items key) (item_class key item) ≡ 1) (sym c.self.view_is) c.requires.class in
     let some : IsSome (item_at i.items.entries key) = subst IsSome (get-items_of i.items.entries key) (of_class-some key (get (items_of i.items.entries) key) _ one) in
-    rw c.of.ensures
-    (c.self.invariant.0,
-    AreOf-set i.items.entries (c.get_mut.follows.lender item).entries i.accounts key item (c.get_mut.follows.holds item).0 some c.self.invariant.1 (of_class-same key (get (items_of i.items.entries) key) item one))
+    rw c.of.ensures (
+      c.self.invariant.0,
+      AreOf-set i.items.entries (c.get_mut.follows.lender item).entries i.accounts key item (c.get_mut.follows.holds item).0 some c.self.invariant.1 (of_class-same key (get (items_of i.items.entries) key) item one),
+    )
 
 pub returns : goal.returns
 returns c =

@@ -24,10 +24,11 @@ pub invariant_of-self : goal.invariant_of-self
 invariant_of-self c =
     let items : Items = items_of c.self.inside.items.entries in
     let key = c.args.key.now in
-    let there = get-items_of c.self.inside.items.entries key ∙ sym c.in-Some.ensures.value in
-    (c.self.invariant.0,
-    rw (c.give.ensures.given, items_of-removed c.self.inside.items.entries c.remove.new.self.entries key (λ k. c.remove.ensures.updates.0 k), ← class-is items key c.in-Some.item c.class.result there c.class.ensures.value)
-    (AreOf-removed items c.self.inside.accounts key c.give.ensures.is_slab.out c.self.invariant.1))
+    let there = get-items_of c.self.inside.items.entries key ∙ sym c.in-Some.ensures.value in (
+      c.self.invariant.0,
+      rw (c.give.ensures.given, items_of-removed c.self.inside.items.entries c.remove.new.self.entries key (λ k. c.remove.ensures.updates.0 k), ← class-is items key c.in-Some.item c.class.result there c.class.ensures.value)
+          (AreOf-removed items c.self.inside.accounts key c.give.ensures.is_slab.out c.self.invariant.1),
+    )
 
 pub returns-in-Some : goal.returns-in-Some
 returns-in-Some c =

@@ -15,10 +15,11 @@ invariant_of-self c =
           let i = c.self.inside in
           let key = c.args.key.now in
           let there = get-items_of i.items.entries key ∙ sym w.in-Some.ensures.value in
-          rw w.self-inside-is
-          (c.self.invariant.0,
-          AreOf-set i.items.entries (c.get_mut.follows.lender w.set_expiry.new.self).entries i.accounts key w.set_expiry.new.self (c.get_mut.follows.holds w.set_expiry.new.self).0 (rw (← w.in-Some.ensures.value) (search rules)) c.self.invariant.1
-          (λ class. ap (λ (o : Option Entry). of_class key o class) there ∙ ap (λ (e : Entry). of_class key (Some e) class) (sym w.set_expiry.ensures)))
+          rw w.self-inside-is (
+            c.self.invariant.0,
+            AreOf-set i.items.entries (c.get_mut.follows.lender w.set_expiry.new.self).entries i.accounts key w.set_expiry.new.self (c.get_mut.follows.holds w.set_expiry.new.self).0 (rw (← w.in-Some.ensures.value) (search rules)) c.self.invariant.1
+                (λ class. ap (λ (o : Option Entry). of_class key o class) there ∙ ap (λ (e : Entry). of_class key (Some e) class) (sym w.set_expiry.ensures)),
+          )
       | in_default w ↦ rw (w.self-inside-is, c.get_mut.follows.holds-at-none) c.self.invariant
     ]
 

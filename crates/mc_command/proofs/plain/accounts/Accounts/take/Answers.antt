@@ -26,9 +26,10 @@ invariant_of-self c =
     elim c.if-self-at.branch [
       | then-self-at w ↦
           let full : get_or s.out c.place-at.result 0 ≡ chunks_of s c.args.class = w.if-self-at.true ∙ chunks in
-          rw w.self-inside-is
-          (IsSlab-page s slab c.args.class c.place-at.result c.place-at.ensures.is_class c.place-at.ensures.value c.self.inside.pages_in_use c.self.invariant.1 c.chunks-chunks.ensures.some room full,
-          pages-more s slab c.args.class c.place-at.result c.place-at.ensures.is_class c.place-at.ensures.value c.self.inside.pages_in_use c.self.invariant.1 c.chunks-chunks.ensures.some room full)
+          rw w.self-inside-is (
+            IsSlab-page s slab c.args.class c.place-at.result c.place-at.ensures.is_class c.place-at.ensures.value c.self.inside.pages_in_use c.self.invariant.1 c.chunks-chunks.ensures.some room full,
+            pages-more s slab c.args.class c.place-at.result c.place-at.ensures.is_class c.place-at.ensures.value c.self.inside.pages_in_use c.self.invariant.1 c.chunks-chunks.ensures.some room full,
+          )
       | else-self-at w ↦
           rw w.self-inside-is
           (IsSlab-chunk s slab c.args.class c.place-at.result c.place-at.ensures.is_class c.place-at.ensures.value c.self.inside.pages_in_use c.self.invariant.1 c.chunks-chunks.ensures.some room (λ e. w.if-self-at.false (e ∙ sym chunks)), c.self.invariant.1)
