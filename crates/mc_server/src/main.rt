@@ -13,18 +13,21 @@ mod options;
 
 use clap::error::ErrorKind;
 use ending::{Ending, ending};
-use mc_command::PlainStore;
-use mc_session::{ServeFault, serve};
-use mc_time::{Fixed, SystemClock};
+use mc_hop::Fnv;
+use mc_session::ServeFault;
+use mc_shelf::Settings;
+use mc_time::{Clock, Fixed, SystemClock};
+use mc_world::{World, serve_one};
 use options::Options;
 use std::process::ExitCode;
 use std::{env, io};
 
-/// The pages of the store.
-const PAGES: u32 = 64;
-
-/// The greatest charge of an item, in bytes: one page.
-const GREATEST: u64 = 1_048_576;
+/// The store: 64 pages, a page for the greatest charge of an item, and 64 shelves.
+const SETTINGS: Settings = Settings {
+    pages: 64,
+    greatest: 1_048_576,
+    shelves: 64,
+};
 
 fn main(rt: HostRuntime) -> ExitCode {
     let alloc = rt.alloc();
@@ -47,21 +50,25 @@ fn main(rt: HostRuntime) -> ExitCode {
 
 /// One session over standard input and output, to its end.
 fn session(rt: &HostRuntime, options: Options) -> Result<(), ServeFault> {
+    match options.now {
+        Some(moment) => serve_by(rt, &Fixed(moment)),
+        None => serve_by(rt, &SystemClock::new(rt)),
+    }
+}
+
+/// The same in a world of its own, by that clock.
+fn serve_by<C: Clock>(rt: &HostRuntime, clock: &C) -> Result<(), ServeFault> {
     let alloc = rt.alloc();
-    let Ok(mut store) = PlainStore::new(alloc, PAGES, GREATEST) else {
+    let Ok(mut world) = World::new(alloc, SETTINGS, Fnv, clock.now()) else {
         return Err(ServeFault::NoMemory);
     };
-    let (mut input, mut output) = (rt.stdin(), rt.stdout());
-    match options.now {
-        Some(moment) => {
-            let clock = Fixed(moment);
-            serve(alloc, &mut input, &mut output, GREATEST, &mut store, &clock)
-        }
-        None => {
-            let clock = SystemClock::new(rt);
-            serve(alloc, &mut input, &mut output, GREATEST, &mut store, &clock)
-        }
-    }
+    serve_one(
+        alloc,
+        &mut rt.stdin(),
+        &mut rt.stdout(),
+        &mut world,
+        clock,
+    )
 }
 
 /// Says how the program ends, and gives its status.
