@@ -16,7 +16,7 @@ pub const NOT_TEXT: Ending = (
     "error: invalid UTF-8 was detected in one or more arguments",
 );
 
-/// How the program ends after a session: what `serve` answered, as a status and a line for
+/// How the program ends after a session: what `serve_one` answered, as a status and a line for
 /// standard error. It takes no memory.
 pub fn ending(served: &Result<(), ServeFault>) -> (u8, &'static str)
     ensures well { IsOk served.now → (result.0 ≡ 0) × (result.1.now ≡ codes "") }

@@ -27,9 +27,11 @@ const FULL: usize = 65536;
 
 /// Serves one session of a world, which it opens and closes: reads pieces, takes turns at the clock's moments, each with
 /// some growth of a shelf, and writes their texts, until the input ends or the session closes. The output is written when
-/// no turn is due, at the end, and when it holds 64 KiB or more.
+/// no turn is due, at the end, and when it holds 64 KiB or more. Fewer than 65535 sessions were opened before.
 ///
-/// A failure leaves a beginning of the run, and what was not written stays in the session's output.
+/// It fails with `Read` where the reader fails and after 2^40 turns, with `Write` where the writer fails or takes nothing,
+/// and with `NoMemory` where a growth is refused. A failure leaves a beginning of the run: the session is closed, what was
+/// not written stays in its output, and the world may serve another.
 pub fn serve_one<R: Read, W: Write, K: KeyHash + Drop, C: Clock>(
     alloc: Global,
     reader: &mut R,
