@@ -3,9 +3,9 @@ use Rattle.std.proofs.Common.{◌≡◌, ◌⊎◌, inl, inr, ℕ, zero, suc, �
 use Rattle.std.specs.List.{slice_get}
 use Rattle.std.specs.Option.{MatchOption}
 use Rattle.mc_command.specs.Plain.{Plain}
-use Rattle.mc_parse.specs.Units.{ProtocolUnit}
+use Rattle.mc_parse.specs.Units.{ProtocolUnit, Request}
 use Rattle.mc_world.specs.Connections.{Connection, IsNext, HasNoNext, fresh, with_piece, after_turn, ended}
-use Rattle.mc_world.specs.Worlds.{PlainWorld, numbered, if_open, put, changed, open_connection, at_connection, NextTurn, Turns, Happens, Runs, named, with_end, Decides, GivesUp}
+use Rattle.mc_world.specs.Worlds.{PlainWorld, numbered, if_open, put, changed, open_connection, at_connection, NextTurn, NextStep, Turns, Happens, Runs, named, with_end, Decides, GivesUp}
 use Rattle.mc_world.specs.Serving.{in_front, with_front}
 use Rattle.mc_world.specs.declared.event.Event.{Event}
 use Rattle.mc_world.specs.declared.event.Event.TheVariants.{Open, Piece, Turn, Clock, Grow, Purge, Close}
@@ -94,6 +94,17 @@ turn_alike n bytes w c d out state same turn = record {
   text = turn.text;
   next = next_alike c d out turn.unit turn.at same turn.next;
   answers = turn.answers;
+}
+
+step_alike : (n : ℕ) (bytes : List ℕ) (w : PlainWorld) (c d : Connection) (out : List ℕ) (state : Plain) → d ≡ record c { out = out } → NextStep w c state → NextStep (with_front n bytes w) d state
+step_alike n bytes w c d out state same turn = record {
+  command = turn.command;
+  at = turn.at;
+  step = turn.step;
+  reply = turn.reply;
+  next = next_alike c d out (Request turn.command) turn.at same turn.next;
+  is_step = turn.is_step;
+  replied = turn.replied;
 }
 
 -- the connections after a turn
@@ -200,12 +211,12 @@ module _ (hash : List ℕ → ℕ) (shelves n : ℕ) (bytes : List ℕ) where
   end_fronted None w = refl
   end_fronted (Some k) w = change_fronted n k bytes w ended end_leaves
 
-  decides_fronted : (w : PlainWorld) (k : ℕ) (state : Plain) (o p : Option Connection) → Alike o p → (connection : Connection) × (o ≡ Some connection) × NextTurn w connection state → (connection : Connection) × (p ≡ Some connection) × NextTurn (Fronted w) connection state
+  decides_fronted : (w : PlainWorld) (k : ℕ) (state : Plain) (o p : Option Connection) → Alike o p → (connection : Connection) × (o ≡ Some connection) × NextStep w connection state → (connection : Connection) × (p ≡ Some connection) × NextStep (Fronted w) connection state
   decides_fronted w k state None p like (c, is, turn) = cc
   decides_fronted w k state (Some d) None like h = absurd like
   decides_fronted w k state (Some d) (Some e) (out, same) (c, is, turn) =
       let it : d ≡ c = cc in
-      (e, refl, turn_alike n bytes w d e out state same (subst (λ (x : Connection). NextTurn w x state) (sym it) turn))
+      (e, refl, step_alike n bytes w d e out state same (subst (λ (x : Connection). NextStep w x state) (sym it) turn))
 
   decides_too : (w : PlainWorld) (event : Event) (state : Plain) → Decides w event state → Decides (Fronted w) event state
   decides_too w Open state h = h

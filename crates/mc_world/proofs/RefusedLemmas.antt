@@ -10,7 +10,7 @@ use Rattle.mc_session.specs.declared.serving.ServeFault.{ServeFault}
 use Rattle.mc_session.specs.declared.serving.ServeFault.TheVariants.{NoMemory, Write}
 use Rattle.mc_shelf.specs.declared.store.Settings.{Settings}
 use Rattle.mc_world.specs.Connections.{Connection, IsRest, shut, Stands, with_piece, ended}
-use Rattle.mc_world.specs.Worlds.{PlainWorld, WorldState, output_of, numbered, changed, open_connection, at_connection, Happens, Runs, StandAll, StandsAs, Told, ToldUntil, named, with_end, GivesUp}
+use Rattle.mc_world.specs.Worlds.{PlainWorld, WorldState, output_of, numbered, changed, open_connection, at_connection, Happens, Runs, StandAll, StandsAs, Told, ToldUntil, named, with_end, TakesMemory, GivesUp}
 use Rattle.mc_world.specs.Serving.{next_session, with_written, with_front, shelf_of, IsService, turn, piece, IsCut, before_clock, after_clock, Came, Served, ServedAll, ServedUntilRefused}
 use Rattle.mc_world.specs.Rounds.{Writes, HasEnded, Begins, Keeps, GoesFar, ReadsRefused, GivesTurn, GivesRefused, HasServed, HasRefused, GoesOn, IsRefused, turn_events}
 use Rattle.mc_world.specs.Sessions.{world_of}
@@ -119,7 +119,7 @@ module _ (hash : List ℕ → ℕ) (shelves : ℕ) (may_give : ℕ → Type 0) (
   refused_at : (turns now : ℕ) (old new : WorldState) (reader writer : Option (List ℕ)) → turns < 2 ^ 40 → may_give now → (at : ℕ) (decided : Bool) (event : Event)
       → slice_get (turn_events n (shelf_of turns shelves) now) at ≡ Some event
       → ((plain : PlainWorld) → StandsAs plain old
-      → (mid : PlainWorld) × (last : PlainWorld) × Runs hash shelves plain (take at (turn_events n (shelf_of turns shelves) now)) mid × GivesUp decided mid event last × StandsAs last new)
+      → (mid : PlainWorld) × (last : PlainWorld) × Runs hash shelves plain (take at (turn_events n (shelf_of turns shelves) now)) mid × GivesUp decided mid event last × StandsAs last new × TakesMemory mid event)
       → IsRefused hash shelves may_give n turns old new reader reader writer writer
   refused_at turns now old new reader writer few gives zero decided event here told first reader_first writer_first served = record {
     number = served.number;
