@@ -1,11 +1,11 @@
 -- The accounts of the classes, after an item took a chunk or gave one back.
-use Rattle.std.proofs.Common.{◌≡◌, ◌≢◌, ℕ, ◌+◌, ◌-◌, ◌*◌, ◌<◌, ◌≤◌, ◌||◌, Bool, true, false, cond, eqb, ltb, List, length, get_or, set, replicate, sum, refl, sym, ap, subst, ◌∙◌, ⊎_elim, arith}
-use Rattle.std.proofs.lemmas.Bool.{cases_eq, eq-eqb, ne_eqb, ltb-true, le-ltb, or_cases}
+use Rattle.std.proofs.Common.{◌≡◌, ◌≢◌, ℕ, ◌+◌, ◌-◌, ◌<◌, ◌≤◌, true, cond, eqb, ltb, List, length, get_or, set, replicate, sum, refl, sym, ap, subst, ◌∙◌, ⊎_elim, arith}
+use Rattle.std.proofs.lemmas.Bool.{cases_eq, eq-eqb, ne_eqb, ltb-true, or_cases}
 use Rattle.std.proofs.lemmas.Grind.{get_or-set_at}
 use Rattle.std.proofs.lemmas.List.{length-set, get_or-set_other, get_or-replicate}
-use Rattle.std.proofs.lemmas.List.Sums.{sum_by-set, get_or-le-sum_by}
+use Rattle.std.proofs.lemmas.List.Sums.{sum_by-set}
 use Rattle.mc_slab.specs.Classes.{IsClass, chunks_a_page}
-use Rattle.mc_slab.specs.Slabs.{SlabState, IsSlab, out_of, pages_of, chunks_of, pages_left, has_room, with_out, untouched}
+use Rattle.mc_slab.specs.Slabs.{SlabState, IsSlab, out_of, pages_of, chunks_of, pages_left, has_room, untouched}
 
 -- what a list of the classes has at one of them, after a write at another's place
 pub at_class : (xs : List ℕ) (at class k n : ℕ) → length xs ≡ 40 → at ≡ class - 1 → IsClass class → IsClass k → get_or (set xs at n) (k - 1) 0 ≡ cond (eqb k class) n (get_or xs (k - 1) 0)

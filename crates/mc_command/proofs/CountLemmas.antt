@@ -1,13 +1,13 @@
 -- How many items of a class stand, after each change of the items.
-use Rattle.std.proofs.Common.{◌≡◌, ℕ, ◌+◌, ◌≤◌, Bool, true, false, cond, not, eqb, ◌&&◌, List, [], ◌∷◌, length, Option, Some, None, refl, sym, ap, subst, ◌∙◌, arith}
+use Rattle.std.proofs.Common.{◌≡◌, ℕ, ◌+◌, ◌≤◌, Bool, true, false, cond, eqb, ◌&&◌, List, [], ◌∷◌, length, Option, Some, None, refl, sym, ap, subst, ◌∙◌, arith}
 use lib.Dec.{T}
 use Rattle.std.specs.Ordering.{is_eq, is_lt}
 use Rattle.std.specs.Cmp.Lexicographic.{nat_list_cmp_total}
 use Rattle.std.specs.declared.cmp.Ordering.{Ordering}
 use Rattle.std.specs.declared.cmp.Ordering.TheVariants.{Less, Equal, Greater}
-use Rattle.std.specs.FinMap.{get, insert, remove, retain_keys, empty, entries, entries_sorted, entries-insert, entries-from_sorted, get-entries, get-remove, get-retain_keys, get-from_sorted, get-from_entries, from_entries, from_sorted, len-empty, len-entries, same_map, find, put, is_sorted}
+use Rattle.std.specs.FinMap.{get, insert, remove, retain_keys, empty, entries, entries_sorted, entries-insert, entries-from_sorted, get-entries, get-remove, get-retain_keys, get-from_sorted, get-from_entries, from_sorted, len-empty, len-entries, same_map, find, put, is_sorted}
 use Rattle.std.specs.FinMap.Entries.{by_order, below_all, where_key, is_sorted-where_key, find-where_key}
-use Rattle.std.specs.List.{count_by, filter, AllByRecursion}
+use Rattle.std.specs.List.{count_by, AllByRecursion}
 use Rattle.std.specs.List.Sorted.{IsStrictlySortedBy}
 use Rattle.std.specs.Map.{keys_of}
 use Rattle.std.specs.declared.vec.Vec.{Vec}
@@ -17,7 +17,7 @@ use Rattle.std.proofs.lemmas.List.Sums.{sum_by-cons, count_by-le-length}
 use Rattle.mc_time.specs.declared.expiry.Expiry.TheVariants.{Never}
 use Rattle.mc_command.specs.Plain.{Entry, Items, item_class, count_of}
 use Rattle.mc_command.specs.Laws.{of_class}
-use Rattle.mc_command.proofs.ItemLemmas.{Entries, bytes_cmp, key_cmp, pairs, same_bytes, laws, exact, is_equal, insert-remove}
+use Rattle.mc_command.proofs.ItemLemmas.{Entries, bytes_cmp, key_cmp, pairs, laws, exact, insert-remove}
 
 abbrev Pair : Type 0
 Pair = List ℕ × Entry

@@ -133,9 +133,9 @@ written_agrees key flags expiry block a b now same =
     }
 
 -- the same tests in two states
-same_tests : (n m u v : ℕ) (r s stays : Bool) (charge : ℕ) (large spent kept placed full : Outcome) → n ≡ m → u ≡ v → r ≡ s
-    → cond (ltb n charge) large (cond (eqb u 18446744073709551615) spent (cond stays kept (cond r placed full))) ≡ cond (ltb m charge) large (cond (eqb v 18446744073709551615) spent (cond stays kept (cond s placed full)))
-same_tests n m u v r s stays charge large spent kept placed full e f g = cc
+same_tests : (n m u v : ℕ) (r s stays : Bool) (charge : ℕ) (large short kept placed full : Outcome) → n ≡ m → u ≡ v → r ≡ s
+    → cond (ltb n charge) large (cond (eqb u 18446744073709551615) short (cond stays kept (cond r placed full))) ≡ cond (ltb m charge) large (cond (eqb v 18446744073709551615) short (cond stays kept (cond s placed full)))
+same_tests n m u v r s stays charge large short kept placed full e f g = cc
 
 wrote_agrees : (stays : Bool) (reply : Reply) (key : List ℕ) (flags : ℕ) (expiry : Expiry) (block : List ℕ) (a b : Plain) (now : ℕ) → AgreeAt key a b → ((class : ℕ) → has_room a class ≡ has_room b class)
     → AgreeAfter key (wrote stays reply key flags expiry block a now) (wrote stays reply key flags expiry block b now)

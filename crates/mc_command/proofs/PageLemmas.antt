@@ -1,21 +1,16 @@
 -- What a step does to the pages, and when it is refused for want of a chunk.
-use Rattle.std.proofs.Common.{◌≡◌, ◌≢◌, ◌≤◌, ◌<◌, ◌+◌, ◌-◌, ◌||◌, ℕ, zero, suc, Bool, true, false, cond, leb, ltb, eqb, List, [], ◌∷◌, length, get_or, set, sum, Option, Some, None, refl, sym, ap, subst, ◌∙◌, ⊎_elim, arith}
-use Rattle.std.specs.Prelude.{◌↔◌}
-use Rattle.std.proofs.lemmas.Bool.{cases_lt, ltb-true, ltb-false, le-ltb, eqb-true, ne_eqb, or_cases, cases_Bool}
+use Rattle.std.proofs.Common.{◌≡◌, ◌≤◌, ◌<◌, ◌+◌, ◌-◌, ◌||◌, ℕ, zero, suc, Bool, true, false, cond, ltb, eqb, List, [], ◌∷◌, length, get_or, set, sum, Option, Some, None, refl, ap, subst, ◌∙◌, ⊎_elim, arith}
+use Rattle.std.proofs.lemmas.Bool.{cases_lt, ltb-true, eqb-true, or_cases}
 use Rattle.std.proofs.lemmas.List.{set_past}
 use Rattle.std.proofs.lemmas.List.Sums.{sum_by-set}
 use Rattle.mc_time.specs.declared.expiry.Expiry.{Expiry}
 use Rattle.mc_time.specs.Death.{expiry_of}
 use Rattle.mc_slab.specs.Classes.{class_holding}
 use Rattle.mc_command.specs.declared.reply.Reply.{Reply}
-use Rattle.mc_command.specs.declared.reply.Reply.TheVariants.{Stored, NotStored, Exists, NotFound, Miss, Hit, Touched, Deleted, Number, NotNumeric, TooLarge, NoChunk, Flushed}
-use Rattle.mc_command.specs.declared.step.Verb.{Verb}
-use Rattle.mc_command.specs.declared.step.Verb.TheVariants.{Set, Add, Replace, Append, Prepend}
+use Rattle.mc_command.specs.declared.reply.Reply.TheVariants.{TooLarge, NoChunk}
 use Rattle.mc_command.specs.declared.step.KeyStep.{KeyStep}
 use Rattle.mc_command.specs.declared.step.KeyStep.TheVariants.{Store, Cas, Read, ReadTouch, Touch, Delete, Count, Flush}
-use Rattle.mc_command.specs.Commands.{key_of}
-use Rattle.mc_command.specs.Plain.{Plain, Entry, Row, Outcome, Change, Leaves, Writes, Recounts, SetsExpiry, Removes, Answered, Spent, plain, applied, changed, wrote, charge, item_class, count_of, pages_of, chunks_of, has_room, with_chunk, written, without_dead, standing, flushed, store_row, cas_row, read_row, read_touch_row, touch_row, delete_row, count_row, number_row, number_of}
-use Rattle.mc_command.specs.Laws.{IsOnKey, found_by, row_of, chunk_taken, LacksChunk}
+use Rattle.mc_command.specs.Plain.{Plain, Entry, Row, Outcome, Change, Leaves, Writes, Recounts, SetsExpiry, Removes, Answered, Spent, plain, applied, changed, wrote, charge, item_class, count_of, pages_of, chunks_of, has_room, with_chunk, written, without_dead, standing, store_row, cas_row, read_row, read_touch_row, touch_row, delete_row, count_row}
 
 -- one state's pages and limit after another's
 record Grows (old new : Plain) : Type 0 where

@@ -6,7 +6,7 @@ use Rattle.std.specs.declared.vec.Vec.{Vec}
 use Rattle.std.specs.declared.alloc.Global.{Global}
 use Rattle.std.proofs.lemmas.Bool.{eq-eqb}
 use Rattle.mc_slab.specs.Classes.{IsClass, chunks_a_page}
-use Rattle.mc_slab.specs.Slabs.{SlabState, IsSlab, out_of, pages_of, chunks_of, has_room, taken}
+use Rattle.mc_slab.specs.Slabs.{SlabState, IsSlab, out_of, chunks_of, has_room, taken}
 use Rattle.mc_command.specs.Plain.{Entry, count_of}
 use Rattle.mc_command.specs.Items.{items_of}
 use Rattle.mc_command.specs.Accounts.{AreOf, held_class}

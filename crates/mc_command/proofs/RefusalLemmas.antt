@@ -1,5 +1,5 @@
 -- When a step is refused for want of a chunk.
-use Rattle.std.proofs.Common.{◌≡◌, ◌≢◌, ◌≤◌, ℕ, Bool, true, false, cond, ltb, eqb, List, ◌++◌, Option, Some, None, refl, sym, ap, subst, ◌∙◌}
+use Rattle.std.proofs.Common.{◌≡◌, ◌≢◌, ℕ, Bool, true, false, cond, ltb, eqb, List, Option, Some, None, refl, sym, ap}
 use Rattle.std.specs.Prelude.{◌↔◌}
 use Rattle.std.proofs.lemmas.Bool.{ltb-false, le-ltb, eq-eqb, ne_eqb}
 use Rattle.mc_time.specs.declared.expiry.Expiry.{Expiry}
@@ -12,7 +12,7 @@ use Rattle.mc_command.specs.declared.step.Verb.TheVariants.{Set, Add, Replace, A
 use Rattle.mc_command.specs.declared.step.KeyStep.{KeyStep}
 use Rattle.mc_command.specs.declared.step.KeyStep.TheVariants.{Store, Cas, Read, ReadTouch, Touch, Delete, Count, Flush}
 use Rattle.mc_command.specs.Commands.{key_of}
-use Rattle.mc_command.specs.Plain.{Plain, Entry, Row, Outcome, Change, Leaves, Writes, Recounts, SetsExpiry, Removes, Answered, Spent, plain, applied, changed, wrote, charge, item_class, has_room, with_chunk, written, without_dead, standing, store_row, cas_row, read_row, read_touch_row, touch_row, delete_row, count_row, number_row, number_of}
+use Rattle.mc_command.specs.Plain.{Plain, Entry, Row, Outcome, Change, Leaves, Writes, Recounts, SetsExpiry, Removes, Answered, Spent, plain, changed, wrote, charge, item_class, has_room, with_chunk, written, without_dead, standing, store_row, cas_row, number_row, number_of}
 use Rattle.mc_command.specs.Laws.{IsOnKey, found_by, row_of, chunk_taken, LacksChunk}
 
 -- the reply that a refusal is

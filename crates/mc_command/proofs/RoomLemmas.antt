@@ -1,13 +1,13 @@
 -- The accounts of the items, and the room that they leave.
-use Rattle.std.proofs.Common.{◌≡◌, ◌≢◌, ℕ, ◌+◌, ◌-◌, ◌*◌, ◌<◌, ◌≤◌, ◌||◌, Bool, true, false, cond, leb, ltb, eqb, List, length, get_or, set, sum, Option, Some, None, refl, sym, ap, subst, ◌∙◌, ⊎_elim, arith}
+use Rattle.std.proofs.Common.{◌≡◌, ℕ, ◌+◌, ◌-◌, ◌<◌, ◌≤◌, ◌||◌, Bool, true, false, cond, leb, ltb, eqb, List, length, get_or, set, sum, Option, Some, None, refl, sym, ap, subst, ◌∙◌, ⊎_elim, arith}
 use Rattle.std.specs.Prelude.{IfSome}
 use Rattle.std.specs.List.{list_all, position_or_len}
 use Rattle.std.specs.FinMap.{get, insert, remove, retain_keys}
-use Rattle.std.proofs.lemmas.Bool.{cases_eq, cases_lt, eq-eqb, ne_eqb, eqb-true, leb-true, le-leb, lt-leb, ltb-true, lt-ltb, le-ltb}
+use Rattle.std.proofs.lemmas.Bool.{cases_eq, cases_lt, eq-eqb, ne_eqb, leb-true, le-leb, lt-leb, lt-ltb, le-ltb}
 use Rattle.std.proofs.lemmas.List.Folds.{list_all_at}
-use Rattle.std.proofs.lemmas.List.Sums.{position_or_len_is, prefix_len-le-length, fails_before_first}
+use Rattle.std.proofs.lemmas.List.Sums.{position_or_len_is, fails_before_first}
 use Rattle.std.proofs.lemmas.List.{length-set}
-use Rattle.mc_slab.specs.Classes.{IsClass, chunk_sizes, class_holding, class_of, chunks_a_page}
+use Rattle.mc_slab.specs.Classes.{IsClass, chunk_sizes, class_holding}
 use Rattle.mc_slab.specs.Slabs.{SlabState, IsSlab, out_of, taken, given, with_page}
 use Rattle.mc_slab.specs.Slabs as slab
 use Rattle.mc_command.specs.Plain.{Plain, Entry, Items, charge, item_class, count_of}

@@ -1,5 +1,5 @@
 -- A write's outcome, by the tests that it passes.
-use Rattle.std.proofs.Common.{◌≡◌, ◌<◌, ◌≤◌, ℕ, Bool, true, false, cond, leb, eqb, ltb, List, Option, Some, None, refl, ap, sym, subst, ◌∙◌, ⊎_elim, arith}
+use Rattle.std.proofs.Common.{◌≡◌, ◌<◌, ℕ, Bool, true, false, cond, eqb, ltb, List, Option, Some, None, refl, ap, sym, ◌∙◌, ⊎_elim, arith}
 use Rattle.std.specs.Prelude.{IsSome, decimal}
 use Rattle.std.specs.Option.{option_eq}
 use Rattle.std.proofs.lemmas.Bool.{cases_lt, eq-eqb, ne_eqb, lt-leb, le-leb}
@@ -71,10 +71,10 @@ cas-is old key now item w unique stands same =
     ap (λ (r : Row). changed r.0 r.1 key (found key old now) now) row
 
 -- an incr or a decr of a number is one that may stay
-pub count-is : (old : Plain) (key : List ℕ) (now : ℕ) (item : Entry) (w : Written) (up : Bool) (by number new : ℕ) (stays : Bool) → standing old key now ≡ Some item → number_of item.block ≡ Some number → new ≡ counted up by number
+pub count-is : (old : Plain) (key : List ℕ) (now : ℕ) (item : Entry) (w : Written) (up : Bool) (by stood new : ℕ) (stays : Bool) → standing old key now ≡ Some item → number_of item.block ≡ Some stood → new ≡ counted up by stood
     → w ≡ record { flags = item.flags; expiry = item.expiry; block = decimal new } → stays ≡ eqb (item_class key item) (class_holding (charge key w.block))
     → applied (count_row up by) key old now ≡ writing stays (Number new) w key old now
-count-is old key now item w up by number new stays stands is counts written same =
+count-is old key now item w up by stood new stays stands is counts written same =
     let row : count_row up by (standing old key now) ≡ (Number new, Recounts item (decimal new)) =
     ap (count_row up by) stands ∙ ap (number_row item up by) is ∙ ap (λ (n : ℕ). (Number n, Recounts item (decimal n))) (sym counts) in
     ap (λ (r : Row). changed r.0 r.1 key (found key old now) now) row

@@ -1,7 +1,6 @@
-use Rattle.std.proofs.Common.{◌≡◌, ℕ, Option, Some, None, ap, sym, ◌∙◌}
+use Rattle.std.proofs.Common.{◌≡◌, Some, None, ap, sym, ◌∙◌}
 use Rattle.std.specs.FinMap.{get}
-use Rattle.mc_command.specs.Plain.{Plain, Entry}
-use Rattle.mc_command.specs.Accounts.{held_class, dead_class}
+use Rattle.mc_command.specs.Accounts.{held_class}
 use Rattle.mc_command.proofs.ItemLemmas.{get-items_of}
 use Rattle.mc_command.proofs.PlainLemmas.{dead-is}
 use Rattle.mc_command.proofs.plain.PlainStore.dead_class.Goals as goal

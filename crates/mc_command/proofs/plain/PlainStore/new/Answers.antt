@@ -1,4 +1,4 @@
-use Rattle.std.proofs.Common.{◌≡◌, ap, sym, ◌∙◌}
+use Rattle.std.proofs.Common.{ap, sym, ◌∙◌}
 use Rattle.mc_slab.specs.Slabs.{SlabState, out_of}
 use Rattle.mc_command.specs.Plain.{count_of}
 use Rattle.mc_command.specs.Items.{items_of}

@@ -1,10 +1,7 @@
-use Rattle.std.proofs.Common.{◌≡◌, ◌<◌, ℕ, true, Option, ap, sym, subst, ◌∙◌, refl}
-use Rattle.std.specs.Prelude.{IfSome}
-use Rattle.mc_slab.specs.Slabs.{SlabState, out_of, taken}
-use Rattle.mc_slab.specs.Slabs as slab
+use Rattle.std.proofs.Common.{◌≡◌, true, sym, subst, ◌∙◌}
 use Rattle.mc_command.specs.Plain.{Plain, standing, has_room, without_dead}
 use Rattle.mc_command.specs.Items.{items_of}
-use Rattle.mc_command.specs.Accounts.{left, dead_class, held_class}
+use Rattle.mc_command.specs.Accounts.{dead_class, held_class}
 use Rattle.mc_command.proofs.PlainLemmas.{dead-out, found-room, stands-out, put-are, put-placed, standing-in, items_of-put}
 use Rattle.mc_command.proofs.RoomLemmas.{shown}
 use Rattle.mc_command.proofs.plain.PlainStore.put.Goals as goal

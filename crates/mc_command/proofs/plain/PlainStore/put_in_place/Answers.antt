@@ -1,4 +1,4 @@
-use Rattle.std.proofs.Common.{◌≡◌, ◌+◌, ℕ, Option, Some, refl, ap, sym, subst, ◌∙◌}
+use Rattle.std.proofs.Common.{◌≡◌, ◌+◌, refl, sym, subst}
 use Rattle.std.specs.Prelude.{IsSome}
 use Rattle.std.specs.FinMap.{get, insert}
 use Rattle.mc_command.specs.Plain.{Plain, Entry, item_class}
@@ -6,7 +6,7 @@ use Rattle.mc_command.specs.Items.{items_of}
 use Rattle.mc_command.specs.Laws.{of_class}
 use Rattle.mc_command.proofs.ItemLemmas.{item_at, get-items_of}
 use Rattle.mc_command.proofs.PlainLemmas.{items_of-set, AreOf-set, of_class-some, of_class-same, is_some-copied}
-use Rattle.mc_command.proofs.RoomLemmas.{shown, shown-same}
+use Rattle.mc_command.proofs.RoomLemmas.{shown-same}
 use Rattle.mc_command.proofs.plain.PlainStore.put_in_place.Goals as goal
 
 pub unwrap-item-requires : goal.unwrap-item-requires

@@ -1,10 +1,10 @@
 use Rattle.std.proofs.Common.{◌≡◌, ◌<◌, ℕ, List, Option, Some, ap, sym, refl, ◌∙◌, subst}
 use Rattle.std.specs.Prelude.{IfSome}
-use Rattle.std.specs.FinMap.{get, remove}
-use Rattle.mc_slab.specs.Slabs.{SlabState, out_of}
+use Rattle.std.specs.FinMap.{get}
+use Rattle.mc_slab.specs.Slabs.{out_of}
 use Rattle.mc_command.specs.Plain.{Entry, Items}
 use Rattle.mc_command.specs.Items.{items_of}
-use Rattle.mc_command.specs.Accounts.{AreOf, left, held_class}
+use Rattle.mc_command.specs.Accounts.{held_class}
 use Rattle.mc_command.proofs.ItemLemmas.{items_of-removed, get-items_of}
 use Rattle.mc_command.proofs.RoomLemmas.{AreOf-out, AreOf-removed, shown-left, shown-same}
 use Rattle.mc_command.proofs.plain.PlainStore.remove.Goals as goal

@@ -1,4 +1,4 @@
-use Rattle.std.proofs.Common.{◌≡◌, ℕ, List, cond, ltb, None, Some, ap, sym, ◌∙◌}
+use Rattle.std.proofs.Common.{ℕ, List, cond, ltb, None, Some, ap, sym, ◌∙◌}
 use Rattle.mc_command.specs.declared.reply.Reply.TheVariants.{NoChunk}
 use Rattle.mc_command.specs.Plain.{Plain, Answered, charge}
 use Rattle.mc_slab.specs.Classes.{class_holding}

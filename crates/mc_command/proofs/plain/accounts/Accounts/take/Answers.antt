@@ -1,4 +1,4 @@
-use Rattle.std.proofs.Common.{◌≡◌, ◌≢◌, ℕ, ◌+◌, ◌-◌, ◌*◌, ◌<◌, ◌≤◌, Fits, w32, get_or, true, ap, sym, subst, ◌∙◌, arith}
+use Rattle.std.proofs.Common.{◌≡◌, ℕ, ◌≤◌, get_or, true, ap, sym, subst, ◌∙◌, arith}
 use Rattle.mc_slab.specs.Slabs.{SlabState, IsSlab, chunks_of, has_room, out_of}
 use Rattle.mc_command.proofs.AccountLemmas.{IsSlab-chunk, IsSlab-page, pages-more}
 use Rattle.mc_command.proofs.plain.accounts.Accounts.take.Goals as goal
