@@ -62,13 +62,7 @@ fn serve_by<C: Clock>(rt: &HostRuntime, clock: &C) -> Result<(), ServeFault> {
     let Ok(mut world) = World::new(alloc, SETTINGS, Fnv, clock.now()) else {
         return Err(ServeFault::NoMemory);
     };
-    serve_one(
-        alloc,
-        &mut rt.stdin(),
-        &mut rt.stdout(),
-        &mut world,
-        clock,
-    )
+    serve_one(alloc, &mut rt.stdin(), &mut rt.stdout(), &mut world, clock)
 }
 
 /// Says how the program ends, and gives its status.
