@@ -1,0 +1,5 @@
+pub mod RowLemmas
+pub mod IndexLemmas
+pub mod StandLemmas
+pub mod PlaceLemmas
+pub mod PlanLemmas

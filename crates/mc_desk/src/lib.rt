@@ -1,0 +1,15 @@
+//! A shelf of items and the desk that shelves share: a step on one key, in chunks.
+#![tactic(auto)]
+
+mod desk;
+mod entry;
+mod index;
+mod number;
+mod plan;
+mod shelf;
+mod write;
+
+pub use desk::Desk;
+pub use entry::Entry;
+pub use plan::Plan;
+pub use shelf::Shelf;
