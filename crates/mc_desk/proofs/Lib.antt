@@ -3,3 +3,4 @@ pub mod IndexLemmas
 pub mod StandLemmas
 pub mod PlaceLemmas
 pub mod PlanLemmas
+pub mod ApplyLemmas

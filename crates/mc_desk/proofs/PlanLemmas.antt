@@ -43,7 +43,7 @@ store_speaks Append flags expiry block (Some old) = tt
 store_speaks Prepend flags expiry block None = tt
 store_speaks Prepend flags expiry block (Some old) = tt
 
-abbrev cas_if : Bool → ℕ → Expiry → List ℕ → Row
+abbrev pub cas_if : Bool → ℕ → Expiry → List ℕ → Row
 cas_if b flags expiry block = if b then (Stored, Writes flags expiry block) else (Exists, Leaves)
 
 cas_speaks : (flags : ℕ) (expiry : Expiry) (block : List ℕ) (unique : ℕ) (stands : Option Entry) → SpeaksOf stands (cas_row flags expiry block unique stands).1
@@ -95,7 +95,7 @@ within dead greatest size other e = elim (ltb greatest size) as (λ b. ltb great
     same : Write size ≡ Write other → size ≡ other
     same e = cc
 
-not_answered_write : (dead : Bool) (reply : Reply) (size : ℕ) → answered dead reply ≡ Write size → ⊥
+pub not_answered_write : (dead : Bool) (reply : Reply) (size : ℕ) → answered dead reply ≡ Write size → ⊥
 not_answered_write true reply size e = cc
 not_answered_write false reply size e = cc
 
@@ -130,13 +130,13 @@ module _ (insert_counts : InsertCounts) (remove_counts : RemoveCounts) (key : Li
   under = record s { items = base stands key s.items }
 
   -- no dead item stood there
-  at_under : (found stood : Option Entry) → get shelf.items key ≡ found → is_some found && is_none stood ≡ false → IsAt key shelf desk (record s { items = base stood key s.items })
+  pub at_under : (found stood : Option Entry) → get shelf.items key ≡ found → is_some found && is_none stood ≡ false → IsAt key shelf desk (record s { items = base stood key s.items })
   at_under found (Some item) is none = at
   at_under None None is none = at_none insert_counts remove_counts key shelf desk s at is
   at_under (Some dead) None is none = absurd (true≢false none)
 
   -- a dead item stood there
-  dead_there : (found stood : Option Entry) → get shelf.items key ≡ found → is_some found && is_none stood ≡ true → (old : Entry) × (get shelf.items key ≡ Some old) × (record s { items = base stood key s.items } ≡ record s { items = remove s.items key })
+  pub dead_there : (found stood : Option Entry) → get shelf.items key ≡ found → is_some found && is_none stood ≡ true → (old : Entry) × (get shelf.items key ≡ Some old) × (record s { items = base stood key s.items } ≡ record s { items = remove s.items key })
   dead_there found (Some item) is dead = absurd (true≢false (sym (and_false found dead)))
     where
       and_false : (found : Option Entry) → is_some found && false ≡ true → false ≡ true

@@ -1,15 +1,17 @@
 -- What a step asks of a shelf.
-use Rattle.std.specs.Prelude.{◌≡◌, ℕ, ◌≤◌, length, ◌&&◌, Bool, true, false, List, Option, Some, None, is_some, is_none, nat_lt, ◌==◌, if◌then◌else◌}
-use Rattle.std.specs.FinMap.{get}
+use Rattle.std.specs.Prelude.{◌≡◌, ℕ, ◌<◌, ◌≤◌, length, ◌&&◌, Bool, true, false, List, decimal, Option, Some, None, is_some, is_none, nat_lt, ◌==◌, if◌then◌else◌}
+use Rattle.std.specs.FinMap.{get, insert}
 use Rattle.std.specs.Borrow.{Bor}
 use Rattle.mc_time.specs.declared.expiry.Expiry.{Expiry}
 use Rattle.mc_command.specs.declared.step.KeyStep.{KeyStep}
+use Rattle.mc_command.specs.declared.step.KeyStep.TheVariants.{Store, Cas, Read, ReadTouch, Touch, Delete, Count, Flush}
 use Rattle.mc_command.specs.declared.reply.Reply.{Reply}
-use Rattle.mc_command.specs.declared.reply.Reply.TheVariants.{TooLarge}
-use Rattle.mc_slab.specs.Classes.{class_holding}
+use Rattle.mc_command.specs.declared.reply.Reply.TheVariants.{Number, TooLarge}
+use Rattle.mc_slab.specs.Classes.{IsClass, class_holding}
 use Rattle.mc_slab.specs.Chunks.{chunk_class}
+use Rattle.mc_slab.specs.Slabs.{given, out_of}
 use Rattle.mc_command.specs.Commands.{key_of}
-use Rattle.mc_command.specs.Plain.{Plain, Entry, Row, Change, Writes, Recounts, SetsExpiry, Removes, Answered, Spent, plain, charge, alive, item_class}
+use Rattle.mc_command.specs.Plain.{Plain, Items, Entry, Row, Change, Writes, Recounts, SetsExpiry, Removes, Answered, Spent, plain, charge, alive, item_class}
 use Rattle.mc_command.specs.Plain as machine
 use Rattle.mc_command.specs.Laws.{IsOnKey, row_of, of_class}
 use Rattle.mc_desk.specs.States.{EntryState, ShelfState, DeskState, IsAt}
@@ -51,6 +53,13 @@ next_by dead greatest (Charges size) = if nat_lt greatest size then answered dea
 -- the key's item is dead
 abbrev pub has_dead : ShelfState → List ℕ → ℕ → Bool
 has_dead shelf key now = is_some (get shelf.items key) && is_none (alive shelf.cut now (get shelf.items key))
+
+-- the item that stands under a step's key, and its row
+abbrev pub stood : ShelfState → KeyStep → ℕ → Option Entry
+stood shelf step now = alive shelf.cut now (get shelf.items (key_of step))
+
+abbrev pub row_at : ShelfState → KeyStep → ℕ → Row
+row_at shelf step now = row_of step now (stood shelf step now)
 
 -- what comes next in a step
 abbrev pub next_of : ShelfState → KeyStep → ℕ → Next
@@ -119,3 +128,36 @@ HoldsWrite chunk key change = (flags : ℕ) × (expiry : Expiry) × (block : Lis
 -- the entry of what a change writes
 abbrev pub IsEntry : (hash unique updated : ℕ) (key : List ℕ) → Change → EntryState → Type 0
 IsEntry hash unique updated key change entry = (flags : ℕ) × (expiry : Expiry) × (block : List ℕ) × Puts change flags expiry block × (entry ≡ record { hash = hash; key = key; item = record { flags = flags; expiry = expiry; block = block; unique = unique; updated = updated } })
+
+-- the items after a change wrote one under the key
+abbrev pub IsWritten : (unique updated : ℕ) (key : List ℕ) → Change → Items → Items → Type 0
+IsWritten unique updated key change old new = (flags : ℕ) × (expiry : Expiry) × (block : List ℕ) × Puts change flags expiry block × (new ≡ insert old key (record { flags = flags; expiry = expiry; block = block; unique = unique; updated = updated }))
+
+-- the chunk of the item that was found goes back
+abbrev pub GivesBack : (key : List ℕ) → Option Entry → DeskState → DeskState → Type 0
+GivesBack key None old new = new ≡ old
+GivesBack key (Some item) old new = (new ≡ record old { slab = given old.slab (item_class key item) }) × IsClass (item_class key item)
+
+-- a chunk of the key's item is out
+abbrev pub IsOut : List ℕ → ShelfState → DeskState → Type 0
+IsOut key shelf desk = (item : Entry) → get shelf.items key ≡ Some item → IsClass (item_class key item) → 0 < out_of desk.slab (item_class key item)
+
+-- the key's item is of the class
+abbrev pub has_class : (key : List ℕ) → Option Entry → (class : ℕ) → Bool
+has_class key None class = false
+has_class key (Some item) class = item_class key item == class
+
+-- the step is incr or decr
+abbrev pub counts : KeyStep → Bool
+counts (Store verb key flags exptime block) = false
+counts (Cas key flags exptime block unique) = false
+counts (Read key) = false
+counts (ReadTouch key exptime) = false
+counts (Touch key exptime) = false
+counts (Delete key) = false
+counts (Count key up by) = true
+counts (Flush delay) = false
+
+-- the row counts an item that stands to the number
+abbrev pub IsRecount : Option Entry → Row → (number : ℕ) → Type 0
+IsRecount stands row number = (old : Entry) × (stands ≡ Some old) × (row ≡ (Number number, Recounts old (decimal number)))

@@ -1,6 +1,6 @@
 ghost use Rattle.std.specs.Prelude.{◌≡◌, ℕ, ◌+◌, ◌-◌, ◌^◌, ◌<◌, ◌≤◌, ◌≢◌, ◌↔◌, IfOk, OnOk, OnErr, Err};
 ghost use Rattle.mc_slab.specs.Chunks.{IsChunkOf, chunk_class};
-ghost use Rattle.mc_slab.specs.Slabs.{IsSlab, IsFull, untouched, pages_of, out_of, chunks_of, pages_left, taken, given};
+ghost use Rattle.mc_slab.specs.Slabs.{IsSlab, IsFull, untouched, pages_of, out_of, chunks_of, pages_left, has_room, taken, given};
 
 use mc_slab::{Account, Chunk, Class, Slab, TakeFault};
 use std::alloc::{AllocError, Global};
@@ -58,11 +58,22 @@ impl Desk {
     pub(crate) fn draw(&mut self) -> u64
         requires { self.old.next_unique < 2 ^ 64 - 1 }
         ensures number { result ≡ self.old.next_unique }
+        ensures slab { IsSlab self.old.slab }
         ensures drawn { self.new ≡ record self.old { next_unique = self.old.next_unique + 1 } }
     {
         let number = self.next_unique;
         self.next_unique += 1;
         number
+    }
+
+    /// Whether a chunk of the class can be had: one is free, or a page is left.
+    pub(crate) fn has_room(&self, class: Class) -> bool
+        ensures value { result ≡ has_room self.now.slab class }
+        ensures slab { IsSlab self.now.slab }
+    {
+        let Account { pages, out } = self.slab.account(class);
+        let chunks = u64::from(pages) * u64::from(class.chunks_a_page());
+        u64::from(out) < chunks || 0 < self.slab.pages_left()
     }
 
     /// Takes a chunk of the class, of any content.

@@ -3,10 +3,11 @@ ghost use Rattle.std.specs.FinMap.{empty, entries, get, insert, remove, len};
 ghost use Rattle.mc_slab.specs.Classes.{class_holding, size_of};
 ghost use Rattle.mc_command.specs.Plain.{Entry as Item, charge, item_class};
 ghost use Rattle.mc_desk.specs.States.{row};
-ghost use Rattle.mc_desk.specs.Plans.{item_in};
+ghost use Rattle.mc_desk.specs.Plans.{item_in, has_class};
 ghost use Rattle.mc_desk.specs.Places.{IsPlace, StandsAt, IsGap};
 
 use crate::entry::Entry;
+use mc_slab::Class;
 use mc_time::{Expiry, Moment};
 use std::alloc::{AllocError, Global};
 use std::marker::Model;
@@ -78,6 +79,17 @@ impl Index {
         match place {
             Place::Found(at) => Some(self.at(at)),
             Place::Gap(_) => None,
+        }
+    }
+
+    /// Whether the entry at a key's place has a chunk of the class.
+    pub(crate) fn has_class(&self, place: Place, class: Class) -> bool
+        requires { (key : List ℕ) × IsPlace self.now.items key place }
+        ensures { (key : List ℕ) → IsPlace self.now.items key place → result ≡ has_class key (get self.now.items key) class }
+    {
+        match place {
+            Place::Found(at) => self.at(at).class().number() == class.number(),
+            Place::Gap(_) => false,
         }
     }
 

@@ -1,6 +1,7 @@
 //! A shelf of items and the desk that shelves share: a step on one key, in chunks.
 #![tactic(auto)]
 
+mod apply;
 mod desk;
 mod entry;
 mod index;

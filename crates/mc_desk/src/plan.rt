@@ -124,6 +124,22 @@ pub(crate) fn key_of<'a>(step: &KeyStep<'a>) -> &'a [u8]
     }
 }
 
+/// Whether a step is incr or decr.
+pub(crate) fn counts(step: &KeyStep<'_>) -> bool
+    ensures { result ≡ plans.counts step.now }
+{
+    match step {
+        KeyStep::Count { .. } => true,
+        KeyStep::Store { .. }
+        | KeyStep::Cas { .. }
+        | KeyStep::Read { .. }
+        | KeyStep::ReadTouch { .. }
+        | KeyStep::Touch { .. }
+        | KeyStep::Delete { .. }
+        | KeyStep::Flush { .. } => false,
+    }
+}
+
 /// What a step asks, by the item that stands. It copies the block of a hit.
 pub(crate) fn row_told(
     alloc: Global,

@@ -10,7 +10,7 @@ ghost use Rattle.mc_command.specs.Plain as machine;
 ghost use Rattle.mc_command.specs.Plain.{Entry as Item, charge, Recounts, item_class, store_row};
 ghost use Rattle.mc_command.specs.Laws.{row_of};
 ghost use Rattle.mc_desk.specs.Places.{IsPlace};
-ghost use Rattle.mc_desk.specs.Plans.{HoldsWrite, IsEntry, item_in};
+ghost use Rattle.mc_desk.specs.Plans.{HoldsWrite, IsEntry, IsWritten, GivesBack, item_in};
 
 use crate::desk::Desk;
 use crate::entry::Entry;
@@ -59,6 +59,29 @@ fn put(index: &mut Index, place: Place, entry: Entry, desk: &mut Desk)
             desk.give(old.into_chunk());
         }
     }
+}
+
+/// Puts what a step writes at its key's place, and answers the step. The chunk of the item that stood there goes back.
+pub(crate) fn write_in(
+    index: &mut Index,
+    cut: Option<u64>,
+    place: Place,
+    step: &KeyStep<'_>,
+    slot: Slot,
+    desk: &mut Desk,
+) -> Reply
+    requires key { length (commands.key_of step.now) ≤ 250 }
+    requires place { IsPlace index.old.items (commands.key_of step.now) place }
+    requires room { 0 < index.old.room }
+    requires puts { HoldsWrite slot.chunk (commands.key_of step.now) (row_of step.now slot.updated (machine.alive cut slot.updated (get index.old.items (commands.key_of step.now)))).1 }
+    requires out { (item : Item) → get index.old.items (commands.key_of step.now) ≡ Some item → IsClass (item_class (commands.key_of step.now) item) → 0 < out_of desk.old.slab (item_class (commands.key_of step.now) item) }
+    ensures reply { result ≡ (row_of step.now slot.updated (machine.alive cut slot.updated (get index.old.items (commands.key_of step.now)))).0 }
+    ensures items { IsWritten slot.unique slot.updated (commands.key_of step.now) (row_of step.now slot.updated (machine.alive cut slot.updated (get index.old.items (commands.key_of step.now)))).1 index.old.items index.new.items }
+    ensures desk { GivesBack (commands.key_of step.now) (get index.old.items (commands.key_of step.now)) desk.old desk.new }
+{
+    let (entry, reply) = compose(index, cut, place, step, slot);
+    put(index, place, entry, desk);
+    reply
 }
 
 /// The entry of a write, and the step's answer.
