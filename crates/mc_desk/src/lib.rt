@@ -8,6 +8,8 @@ mod index;
 mod number;
 mod plan;
 mod shelf;
+#[cfg(test)]
+mod tests;
 mod write;
 
 pub use desk::Desk;

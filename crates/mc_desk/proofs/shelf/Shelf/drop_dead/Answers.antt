@@ -1,4 +1,4 @@
-use Rattle.std.proofs.Common.{◌≡◌, true, false, refl, sym, ap, subst, ◌∙◌}
+use Rattle.std.proofs.Common.{◌≡◌, true, false, refl, sym, subst, ◌∙◌}
 use Rattle.std.specs.FinMap.{get, remove}
 use Rattle.mc_slab.specs.Slabs.{given}
 use Rattle.mc_command.specs.Plain.{Plain, alive, item_class, without_dead}

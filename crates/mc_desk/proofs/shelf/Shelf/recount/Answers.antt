@@ -1,4 +1,4 @@
-use Rattle.std.proofs.Common.{◌≡◌, ◌+◌, ◌≤◌, ℕ, List, Option, Some, decimal, sym, ap, subst, ◌∙◌}
+use Rattle.std.proofs.Common.{◌≡◌, ◌+◌, ◌≤◌, ℕ, Option, decimal, sym, ap, subst, ◌∙◌}
 use Rattle.std.specs.FinMap.{get, insert}
 use Rattle.mc_slab.specs.Classes.{class_holding, size_of}
 use Rattle.mc_command.specs.declared.reply.Reply.TheVariants.{Number}
@@ -7,7 +7,6 @@ use Rattle.mc_command.specs.Laws.{row_of}
 use Rattle.mc_command.specs.Plain.{Entry, alive}
 use Rattle.mc_desk.specs.States.{ShelfState, DeskState}
 use Rattle.mc_desk.specs.declared.index.Place.{Place}
-use Rattle.mc_desk.specs.declared.index.Place.TheVariants.{Found}
 use Rattle.mc_desk.specs.Places.{IsPlace, StandsAt}
 use Rattle.mc_desk.specs.Plans.{IsRecount, OthersStay, Takes, item_in, stood}
 use Rattle.mc_desk.proofs.StandLemmas.{others_put}

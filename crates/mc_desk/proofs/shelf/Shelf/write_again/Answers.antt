@@ -1,11 +1,11 @@
-use Rattle.std.proofs.Common.{◌≡◌, ◌+◌, ℕ, List, Option, Some, None, sym, ap, subst, ◌∙◌}
+use Rattle.std.proofs.Common.{◌≡◌, ◌+◌, ℕ, Option, None, sym, ap, subst, ◌∙◌}
 use Rattle.std.specs.FinMap.{get, remove}
 use Rattle.mc_slab.specs.Chunks.{IsChunkOf}
 use Rattle.mc_command.specs.declared.reply.Reply.{Reply}
 use Rattle.mc_command.specs.Commands.{key_of}
 use Rattle.mc_command.specs.Laws.{row_of}
 use Rattle.mc_command.specs.Plain.{Entry, Items, alive, item_class}
-use Rattle.mc_desk.specs.States.{ShelfState, DeskState}
+use Rattle.mc_desk.specs.States.{ShelfState}
 use Rattle.mc_desk.specs.declared.index.Place.{Place}
 use Rattle.mc_desk.specs.declared.index.Place.TheVariants.{Found}
 use Rattle.mc_desk.specs.Places.{IsPlace, StandsAt}

@@ -1,14 +1,13 @@
-use Rattle.std.proofs.Common.{◌≡◌, ◌≢◌, ◌<◌, ◌+◌, ◌-◌, ◌^◌, ℕ, Ok, Err, arith, refl, sym, ap, subst, ◌∙◌}
+use Rattle.std.proofs.Common.{◌≡◌, ◌≢◌, ◌+◌, ◌-◌, ◌^◌, ℕ, Ok, Err, arith, refl, sym, ap, subst, ◌∙◌}
 use Rattle.std.specs.FinMap.{get}
 use Rattle.mc_slab.specs.Classes.{IsClass}
 use Rattle.mc_slab.specs.Slabs.{IsFull, IsSlab, out_of, pages_of, taken}
 use Rattle.mc_command.specs.declared.reply.Reply.{Reply}
 use Rattle.mc_command.specs.declared.reply.Reply.TheVariants.{NoChunk}
 use Rattle.mc_command.specs.Commands.{key_of}
-use Rattle.mc_command.specs.Plain.{Answered, Plain, alive, item_class, without_dead}
-use Rattle.mc_desk.specs.States.{ShelfState, DeskState, IsAt}
-use Rattle.mc_desk.specs.Places.{IsPlace}
-use Rattle.mc_desk.specs.Plans.{GivesBack, HoldsWrite, IsApart, IsOut, IsWritten, OthersStay, Takes, has_dead, row_at, stood}
+use Rattle.mc_command.specs.Plain.{Answered, Plain, without_dead}
+use Rattle.mc_desk.specs.States.{ShelfState, DeskState}
+use Rattle.mc_desk.specs.Plans.{GivesBack, HoldsWrite, IsApart, IsOut, IsWritten, Takes, has_dead, row_at, stood}
 use Rattle.mc_desk.proofs.StandLemmas.{base_is}
 use Rattle.mc_desk.proofs.PlanLemmas.{takes_full, write_puts}
 use Rattle.mc_desk.proofs.ApplyLemmas.{full_of, holds_write, is_out, is_out_taken, others_written, takes_written}
