@@ -1,0 +1,47 @@
+//! What incr and decr make of a block, and of its number.
+
+ghost use Rattle.std.specs.Prelude.{◌≡◌, length};
+ghost use Rattle.std.specs.List.{take_while, list_all};
+ghost use Rattle.std.specs.Char.{is_ascii_digit};
+ghost use Rattle.mc_command.specs.Words.{is_space};
+ghost use Rattle.mc_command.specs.Plain as machine;
+ghost use Rattle.mc_command.specs.Plain.{number_of};
+
+use mc_command::number_up_to;
+
+/// The number that a block is: 1 to 20 digits of a value below 2^64, and then any number of spaces.
+pub(crate) fn number_of(block: &[u8]) -> Option<u64>
+    ensures { result ≡ number_of block.now }
+{
+    let (digits, rest) = block.split_at(digits_len(block));
+    if digits.len() <= 20 && is_blank(rest) {
+        number_up_to(u64::MAX, digits)
+    } else {
+        None
+    }
+}
+
+/// How many digits a text begins with.
+fn digits_len(text: &[u8]) -> usize
+    ensures { result ≡ length (take_while is_ascii_digit text.now) }
+{
+    text.iter().take_while(|byte| byte.is_ascii_digit()).count()
+}
+
+/// Whether a text has nothing but spaces.
+fn is_blank(text: &[u8]) -> bool
+    ensures { result ≡ list_all is_space text.now }
+{
+    text.iter().all(|byte| *byte == b' ')
+}
+
+/// The number counted up, which wraps at 2^64, or down, which stops at 0.
+pub(crate) fn counted(up: bool, by: u64, old: u64) -> u64
+    ensures { result ≡ machine.counted up by old }
+{
+    if up {
+        old.wrapping_add(by)
+    } else {
+        old.saturating_sub(by)
+    }
+}
