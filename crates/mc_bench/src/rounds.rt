@@ -1,6 +1,10 @@
 //! Rounds of turns.
+ghost use Rattle.std.specs.Prelude.{[], ◌∷◌, OnOk};
+ghost use Rattle.mc_world.specs.Worlds.{Told};
+ghost use Rattle.mc_world.specs.Sessions.{world_of};
+
 use mc_command::Bytes;
-use mc_hop::Fnv;
+use mc_hop::{Fnv, KeyHash};
 use mc_shelf::Settings;
 use mc_time::Moment;
 use mc_world::{Event, World};
@@ -59,7 +63,14 @@ fn written(world: &mut World<Fnv>, sessions: u16) -> u64 {
     bytes
 }
 
-fn run(world: &mut World<Fnv>, alloc: Global, event: Event<'_>) -> Result<(), AllocError> {
+/// One event of the world.
+fn run<K: KeyHash + Drop>(
+    world: &mut World<K>,
+    alloc: Global,
+    event: Event<'_>,
+) -> Result<(), AllocError>
+    ensures { OnOk result (Told (K.hash_of world.old.store.hasher) world.old.store.settings.shelves (world_of world.old) (event.entry ∷ []) (world_of world.new)) }
+{
     match world.run(alloc, &[event]) {
         Ok(()) => Ok(()),
         Err(_) => Err(AllocError),
