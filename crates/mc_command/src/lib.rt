@@ -22,7 +22,7 @@ pub use laws::{
     counts_follow, flushes_empty, one_key_decides, other_keys_stay, pages_stay,
     refused_without_room, the_dead_stay_dead,
 };
-pub use number::number_up_to;
+pub use number::{counted, number_of, number_up_to};
 pub use plain::{KeyTest, PlainStore};
 pub use reply::Reply;
 pub use step::{KeyStep, StepFault, Steps, Verb};

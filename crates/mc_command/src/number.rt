@@ -3,7 +3,7 @@ ghost use Rattle.std.specs.List.{take_while, list_all};
 ghost use Rattle.std.specs.Char.{is_ascii_digit};
 ghost use Rattle.mc_command.specs.Words.{is_space};
 ghost use Rattle.mc_command.specs.Numbers.{number_up_to};
-ghost use Rattle.mc_command.specs.Plain.{number_of};
+ghost use Rattle.mc_command.specs.Plain.{number_of, counted};
 
 /// The number that one or more decimal digits write, where it is at most `limit`. Leading zeros are allowed.
 pub fn number_up_to(limit: u64, word: &[u8]) -> Option<u64>
@@ -24,8 +24,9 @@ pub fn number_up_to(limit: u64, word: &[u8]) -> Option<u64>
     if number <= limit { Some(number) } else { None }
 }
 
-/// The number that a block is: 1 to 20 digits of a value below 2^64, and then any number of spaces.
-pub(crate) fn number_of(block: &[u8]) -> Option<u64>
+/// The number that a block is: 1 to 20 digits of a value below 2^64, and then any number of spaces and nothing else. The cost
+/// grows with its length.
+pub fn number_of(block: &[u8]) -> Option<u64>
     ensures { result ≡ number_of block.now }
 {
     let (digits, rest) = block.split_at(digits_len(block));
@@ -48,4 +49,15 @@ fn is_blank(text: &[u8]) -> bool
     ensures { result ≡ list_all is_space text.now }
 {
     text.iter().all(|byte| *byte == b' ')
+}
+
+/// What a number becomes by incr, which wraps at 2^64, or by decr, which stops at 0 (protocol.txt, "Increment/Decrement").
+pub fn counted(up: bool, by: u64, old: u64) -> u64
+    ensures { result ≡ counted up by old }
+{
+    if up {
+        old.wrapping_add(by)
+    } else {
+        old.saturating_sub(by)
+    }
 }

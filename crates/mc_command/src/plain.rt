@@ -18,7 +18,7 @@ ghost use Rattle.mc_command.specs.Items.{items_of, re_expired, found, rewritten,
 ghost use Rattle.mc_command.specs.Laws.{of_class};
 ghost use Rattle.mc_command.specs.Plain.{opening, plain, applied, standing, charge, count_of, has_room, flushed, Answered, Spent, store_row, cas_row, read_row, read_touch_row, touch_row, delete_row, count_row, counted, living, CopiesBlock, MayFail};
 
-use crate::number::number_of;
+use crate::number::{counted, number_of};
 use crate::plain::accounts::Accounts;
 use crate::plain::item::{Given, Item, Written, charge, class_of_item};
 pub use crate::plain::purge::KeyTest;
@@ -402,17 +402,6 @@ fn recount(accounts: &mut Accounts, items: &BTreeMap<Vec<u8>, Item>)
         if let Some(class) = item.class(key) {
             accounts.take(class);
         }
-    }
-}
-
-/// The number counted up, which wraps, or down, which stops at 0.
-fn counted(up: bool, by: u64, old: u64) -> u64
-    ensures { result ≡ counted up by old }
-{
-    if up {
-        old.wrapping_add(by)
-    } else {
-        old.saturating_sub(by)
     }
 }
 

@@ -1,6 +1,19 @@
-//! The store of one thread, by shelves: which keys are on which, and how dead items are dropped.
+//! The store of one thread, by shelves: the items of some keys each, and the desk that they share.
 #![tactic(auto)]
 
+mod apply;
+mod desk;
+mod entry;
+mod index;
+mod plan;
+mod shelf;
 mod store;
+#[cfg(test)]
+mod tests;
+mod write;
 
+pub use desk::Desk;
+pub use entry::Entry;
+pub use plan::Plan;
+pub use shelf::Shelf;
 pub use store::{Settings, Store};

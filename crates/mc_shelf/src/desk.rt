@@ -1,0 +1,99 @@
+ghost use Rattle.std.specs.Prelude.{◌≡◌, ℕ, ◌+◌, ◌-◌, ◌^◌, ◌<◌, ◌≤◌, ◌≢◌, ◌↔◌, IfOk, OnOk, OnErr, Err};
+ghost use Rattle.mc_slab.specs.Chunks.{IsChunkOf, chunk_class};
+ghost use Rattle.mc_slab.specs.Slabs.{IsSlab, IsFull, untouched, pages_of, out_of, chunks_of, pages_left, has_room, taken, given};
+
+use mc_slab::{Account, Chunk, Class, Slab, TakeFault};
+use std::alloc::{AllocError, Global};
+use std::marker::Model;
+
+/// What the shelves of a store share: the memory that items lie in, and the next unique number. Contracts see the slab's
+/// account and the number.
+#[derive(Drop)]
+pub struct Desk {
+    slab: Slab,
+    next_unique: u64,
+}
+
+impl Model for Desk {
+    ghost use Rattle.mc_slab.specs.Slabs.{IsSlab};
+    ghost use Rattle.mc_shelf.specs.States.{DeskState, coded_desk};
+
+    ghost Value = { DeskState };
+
+    ghost coded = { coded_desk };
+
+    ghost view = { λ d. record { slab = d.slab; next_unique = d.next_unique } };
+
+    ghost invariant = { λ d. IsSlab d.slab };
+}
+
+impl Desk {
+    /// A desk of that many pages, 1 to 65536, none of which has gone to a class, whose first number is 1.
+    pub fn new(alloc: Global, pages: u32) -> Result<Desk, AllocError>
+        requires { (1 ≤ pages) × (pages ≤ 65536) }
+        ensures { IfOk result (λ desk. desk ≡ record { slab = untouched pages; next_unique = 1 }) }
+    {
+        Ok(Desk {
+            slab: Slab::new(alloc, pages)?,
+            next_unique: 1,
+        })
+    }
+
+    /// What the class has: its pages, and its chunks that items lie in.
+    pub fn account(&self, class: Class) -> Account
+        ensures { result ≡ record { pages = pages_of self.now.slab class; out = out_of self.now.slab class } }
+    {
+        self.slab.account(class)
+    }
+
+    /// The number that the next write draws; 2^64 - 1 where they are spent.
+    pub fn next_unique(&self) -> u64
+        ensures value { result ≡ self.now.next_unique }
+        ensures slab { IsSlab self.now.slab }
+    {
+        self.next_unique
+    }
+
+    /// Draws the next number, where they are not spent.
+    pub(crate) fn draw(&mut self) -> u64
+        requires { self.old.next_unique < 2 ^ 64 - 1 }
+        ensures number { result ≡ self.old.next_unique }
+        ensures slab { IsSlab self.old.slab }
+        ensures drawn { self.new ≡ record self.old { next_unique = self.old.next_unique + 1 } }
+    {
+        let number = self.next_unique;
+        self.next_unique += 1;
+        number
+    }
+
+    /// Whether a chunk of the class can be had: one is free, or a page is left.
+    pub(crate) fn has_room(&self, class: Class) -> bool
+        ensures value { result ≡ has_room self.now.slab class }
+        ensures slab { IsSlab self.now.slab }
+    {
+        let Account { pages, out } = self.slab.account(class);
+        let chunks = u64::from(pages) * u64::from(class.chunks_a_page());
+        u64::from(out) < chunks || 0 < self.slab.pages_left()
+    }
+
+    /// Takes a chunk of the class, of any content.
+    pub(crate) fn take(&mut self, alloc: Global, class: Class) -> Result<Chunk, TakeFault>
+        ensures chunk { IfOk result (IsChunkOf class) }
+        ensures taken { OnOk result (self.new ≡ record self.old { slab = taken self.old.slab class }) }
+        ensures full { (pages out : ℕ) → (result ≡ Err (TakeFault.Full class pages out)) ↔ (IsFull self.old.slab class × (pages ≡ pages_of self.old.slab class) × (out ≡ out_of self.old.slab class)) }
+        ensures no_memory { result ≡ Err TakeFault.NoMemory → (out_of self.old.slab class ≡ chunks_of self.old.slab class) × (0 < pages_left self.old.slab) }
+        ensures err { OnErr result (self.new ≡ self.old) }
+        ensures slab { IsSlab self.old.slab }
+    {
+        self.slab.take(alloc, class)
+    }
+
+    /// Takes a chunk back, of whose class one is out. It takes no memory.
+    pub(crate) fn give(&mut self, chunk: Chunk)
+        requires { 0 < out_of self.old.slab (chunk_class chunk) }
+        ensures given { self.new ≡ record self.old { slab = given self.old.slab (chunk_class chunk) } }
+        ensures slab { IsSlab self.old.slab }
+    {
+        self.slab.give(chunk);
+    }
+}
