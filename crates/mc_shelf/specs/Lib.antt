@@ -1,3 +1,4 @@
 pub mod States
 pub mod Places
 pub mod Plans
+pub mod Stores

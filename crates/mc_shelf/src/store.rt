@@ -6,6 +6,7 @@ use mc_command::{KeyStep, KeyTest, PlainStore, Reply, StepFault, Steps};
 use mc_hop::KeyHash;
 use mc_time::Moment;
 use std::alloc::{AllocError, Global};
+use std::marker::Model;
 
 /// How a store is set up.
 #[derive(Clone, Copy, Debug, PartialEq, Eq)]
@@ -24,6 +25,16 @@ pub struct Store<K: KeyHash + Drop> {
     settings: Settings,
     hasher: K,
     plain: PlainStore,
+}
+
+impl<K: KeyHash + Drop> Model for Store<K> {
+    ghost use Rattle.mc_shelf.specs.Stores.{StoreState, coded_store};
+
+    ghost Value = { StoreState K };
+
+    ghost coded = { coded_store K.code };
+
+    ghost view = { λ s. record { settings = s.settings; hasher = s.hasher; plain = s.plain } };
 }
 
 impl<K: KeyHash + Drop> Store<K> {
