@@ -1,5 +1,7 @@
 //! Lists of events, and what they make of the sessions' outputs. Where memory is refused a test ends early.
 
+ghost use Rattle.std.specs.Prelude.{◌≤◌};
+
 use super::*;
 use mc_command::Bytes;
 use mc_hop::{Constant, Fnv, KeyHash};
@@ -14,10 +16,24 @@ const SHELF_OF_A: u32 = 12;
 
 const SHELF_OF_B: u32 = 37;
 
+/// What a step is answered that finds no chunk.
+const NO_CHUNK: &str = "SERVER_ERROR out of memory storing object\r\n";
+
 /// A world at 1000.
 fn world<K: KeyHash + Drop>(alloc: Global, hasher: K) -> Result<World<K>, AllocError> {
+    world_of(alloc, hasher, 64)
+}
+
+/// The same, of so many pages.
+fn world_of<K: KeyHash + Drop>(
+    alloc: Global,
+    hasher: K,
+    pages: u32,
+) -> Result<World<K>, AllocError>
+    requires { (1 ≤ pages) × (pages ≤ 65536) }
+{
     let settings = Settings {
-        pages: 64,
+        pages,
         greatest: 1048576,
         shelves: 64,
     };
@@ -44,17 +60,25 @@ fn answers<K: KeyHash + Drop>(
     piece: &str,
     output: &str,
 ) -> Result<(), Fail> {
+    answers_bytes(rt, alloc, world, moment, piece.as_bytes(), output)
+}
+
+/// The same of a piece of any bytes.
+fn answers_bytes<K: KeyHash + Drop>(
+    rt: &impl Abort,
+    alloc: Global,
+    world: &mut World<K>,
+    moment: u64,
+    piece: &[u8],
+    output: &str,
+) -> Result<(), Fail> {
     let clock = Event::Clock(Moment::from_seconds_at_most(moment));
-    run(
-        world,
-        alloc,
-        &[clock, Event::Piece(1, Bytes::of(piece.as_bytes()))],
-    )?;
+    run(world, alloc, &[clock, Event::Piece(1, Bytes::of(piece))])?;
     for _ in 0..100 {
         run(world, alloc, &[Event::Turn(1)])?;
     }
     assert!(rt; world.is_idle(1));
-    assert_eq!(rt; world.out(1), output.as_bytes(), "at {piece}");
+    assert_eq!(rt; world.out(1), output.as_bytes());
     let written = world.out(1).len();
     world.sent(1, written);
     assert!(rt; world.out(1).is_empty());
@@ -237,6 +261,52 @@ fn keys_of_one_hash_are_apart(rt: HostRuntime) -> Result<(), Fail> {
         answers(&rt, alloc, &mut world, 1000, &get, &hit)?;
     }
     Ok(())
+}
+
+/// A line that sets a key to 600000 bytes, and they: an item of the class of whole pages.
+fn large_set(alloc: Global, key: char, exptime: u32) -> Result<Vec<u8>, AllocError> {
+    let mut text = format!(in alloc; "set {key} 0 {exptime} 600000\r\n")?.into_bytes();
+    let line = text.len();
+    text.resize(line + 600000, b'x')?;
+    text.extend_from_slice(b"\r\n")?;
+    Ok(text)
+}
+
+/// A world of one page at 1000. An item that is dead at 1001 has the page, and so another key finds no room then.
+fn full_world(rt: &impl Abort, alloc: Global) -> Result<World<Fnv>, Fail> {
+    let mut world = world_of(alloc, Fnv, 1)?;
+    run(&mut world, alloc, &[Event::Open])?;
+    let dying = large_set(alloc, 'b', 1)?;
+    answers_bytes(rt, alloc, &mut world, 1000, &dying, "STORED\r\n")?;
+    let other = large_set(alloc, 'c', 0)?;
+    answers_bytes(rt, alloc, &mut world, 1001, &other, NO_CHUNK)?;
+    Ok(world)
+}
+
+#[test]
+fn a_purge_makes_room(rt: HostRuntime) -> Result<(), Fail> {
+    let alloc = rt.alloc();
+    let mut world = full_world(&rt, alloc)?;
+    run(&mut world, alloc, &[Event::Purge(SHELF_OF_B)])?;
+    let other = large_set(alloc, 'c', 0)?;
+    answers_bytes(&rt, alloc, &mut world, 1001, &other, "STORED\r\n")
+}
+
+#[test]
+fn a_get_of_a_dead_item_makes_room(rt: HostRuntime) -> Result<(), Fail> {
+    let alloc = rt.alloc();
+    let mut world = full_world(&rt, alloc)?;
+    answers(&rt, alloc, &mut world, 1001, "get b\r\n", "END\r\n")?;
+    let other = large_set(alloc, 'c', 0)?;
+    answers_bytes(&rt, alloc, &mut world, 1001, &other, "STORED\r\n")
+}
+
+#[test]
+fn a_dead_item_gives_its_chunk_to_its_own_key(rt: HostRuntime) -> Result<(), Fail> {
+    let alloc = rt.alloc();
+    let mut world = full_world(&rt, alloc)?;
+    let again = large_set(alloc, 'b', 0)?;
+    answers_bytes(&rt, alloc, &mut world, 1001, &again, "STORED\r\n")
 }
 
 #[test]
