@@ -15,6 +15,7 @@ ghost use Rattle.mc_shelf.specs.Plans.{HoldsWrite, IsEntry, IsWritten, GivesBack
 use crate::desk::Desk;
 use crate::entry::Entry;
 use crate::index::{Index, Place};
+use crate::plan;
 use crate::plan::alive;
 use crate::shelf::Shelf;
 use itoa::Buffer;
@@ -110,38 +111,31 @@ fn step_entry(slot: Slot, step: &KeyStep<'_>, item: Option<&Entry>) -> (Entry, R
     ensures reply { result.1 ≡ (row_of step.now slot.updated (item_in item.entry)).0 }
 {
     let now = slot.updated;
+    let key = plan::key_of(step);
     match step {
         KeyStep::Store {
             verb,
-            key,
-            flags,
-            exptime,
-            block,
-        } => {
-            let expiry = expiry_of(*exptime, now);
-            let entry = store_entry(
-                slot,
-                key.as_slice(),
-                *verb,
-                *flags,
-                expiry,
-                block.as_slice(),
-                item,
-            );
-            (entry, Reply::Stored)
-        }
-        KeyStep::Cas {
-            key,
             flags,
             exptime,
             block,
             ..
         } => {
             let expiry = expiry_of(*exptime, now);
-            let entry = entry_of(slot, key.as_slice(), *flags, expiry, block.as_slice(), &[]);
+            let block = block.as_slice();
+            let entry = store_entry(slot, key, *verb, *flags, expiry, block, item);
             (entry, Reply::Stored)
         }
-        KeyStep::Count { key, up, by } => {
+        KeyStep::Cas {
+            flags,
+            exptime,
+            block,
+            ..
+        } => {
+            let expiry = expiry_of(*exptime, now);
+            let entry = entry_of(slot, key, *flags, expiry, block.as_slice(), &[]);
+            (entry, Reply::Stored)
+        }
+        KeyStep::Count { up, by, .. } => {
             let Some(old) = item else {
                 unreachable!();
             };
@@ -149,7 +143,7 @@ fn step_entry(slot: Slot, step: &KeyStep<'_>, item: Option<&Entry>) -> (Entry, R
                 unreachable!();
             };
             let number = counted(*up, *by, number);
-            let entry = number_entry(slot, key.as_slice(), old, number);
+            let entry = number_entry(slot, key, old, number);
             (entry, Reply::Number(number))
         }
         _ => unreachable!(),
