@@ -2,6 +2,8 @@
 #![tactic(auto)]
 
 mod apply;
+#[cfg(test)]
+mod compare_tests;
 mod desk;
 mod entry;
 mod index;

@@ -1,0 +1,215 @@
+//! The store by shelves beside the plain store: the same steps, drawn at random, are answered alike.
+
+ghost use Rattle.std.specs.Prelude.{◌≤◌, length};
+ghost use Rattle.mc_command.specs.Commands.{key_of};
+
+use crate::{Settings, Store};
+use mc_command::{Bytes, KeyStep, KeyTest, PlainStore, Reply, StepFault, Steps, Verb};
+use mc_hop::Fnv;
+use mc_time::Moment;
+use std::alloc::Global;
+use std::test::*;
+
+/// Numbers that look random, by Knuth's MMIX generator.
+#[derive(Drop)]
+struct Dice {
+    state: u64,
+}
+
+impl Dice {
+    /// A number below `sides`, which is at least 1.
+    fn roll(&mut self, sides: u64) -> u64
+        requires { 1 ≤ sides }
+    {
+        self.state = self
+            .state
+            .wrapping_mul(6364136223846793005)
+            .wrapping_add(1442695040888963407);
+        (self.state >> 33) % sides
+    }
+}
+
+/// One of eight keys.
+fn key_at(number: u64) -> &'static [u8]
+    ensures { length result.now ≤ 250 }
+{
+    match number {
+        0 => b"a",
+        1 => b"b",
+        2 => b"key of one shelf",
+        3 => b"key of another shelf",
+        4 => b"",
+        5 => b"aa",
+        6 => b"ab",
+        _ => b"k",
+    }
+}
+
+/// Blocks from none to one of a whole page, and numbers among them.
+fn block_at(bytes: &[u8], number: u64) -> &[u8] {
+    let len = match number {
+        0 => 600000,
+        1 => 0,
+        2 => 5000,
+        3..12 => 20,
+        12..20 => 100,
+        _ => 1,
+    };
+    if len < bytes.len() {
+        &bytes[..len]
+    } else {
+        bytes
+    }
+}
+
+fn exptime_at(number: u64) -> i64 {
+    match number {
+        0 => -1,
+        1 => 2,
+        2 => 10,
+        _ => 0,
+    }
+}
+
+fn verb_at(number: u64) -> Verb {
+    match number {
+        0 => Verb::Add,
+        1 => Verb::Replace,
+        2 => Verb::Append,
+        3 => Verb::Prepend,
+        _ => Verb::Set,
+    }
+}
+
+/// A step of any kind.
+fn step_of<'a>(dice: &mut Dice, bytes: &'a [u8]) -> KeyStep<'a>
+    ensures { length (key_of result) ≤ 250 }
+{
+    let key = Bytes::of(key_at(dice.roll(8)));
+    let block = Bytes::of(block_at(bytes, dice.roll(40)));
+    let exptime = exptime_at(dice.roll(8));
+    match dice.roll(20) {
+        0 => KeyStep::Touch { key, exptime },
+        1 => KeyStep::ReadTouch { key, exptime },
+        2 => KeyStep::Delete { key },
+        3 => KeyStep::Flush { delay: dice.roll(4) },
+        4 => KeyStep::Cas {
+            key,
+            flags: 1,
+            exptime,
+            block,
+            unique: dice.roll(50),
+        },
+        5 | 6 | 7 => KeyStep::Count {
+            key,
+            up: dice.roll(2) == 0,
+            by: dice.roll(1000),
+        },
+        8 | 9 | 10 | 11 => KeyStep::Read { key },
+        _ => KeyStep::Store {
+            verb: verb_at(dice.roll(8)),
+            key,
+            flags: 2,
+            exptime,
+            block,
+        },
+    }
+}
+
+fn kind(reply: &Reply) -> u8 {
+    match reply {
+        Reply::Stored => 0,
+        Reply::NotStored => 1,
+        Reply::Exists => 2,
+        Reply::NotFound => 3,
+        Reply::Miss => 4,
+        Reply::Hit { .. } => 5,
+        Reply::Touched => 6,
+        Reply::Deleted => 7,
+        Reply::Number(_) => 8,
+        Reply::NotNumeric => 9,
+        Reply::TooLarge => 10,
+        Reply::NoChunk => 11,
+        Reply::Flushed => 12,
+    }
+}
+
+/// The flags, the unique number and the block of a hit, and a number.
+fn parts(reply: &Reply) -> (u32, u64, &[u8]) {
+    match reply {
+        Reply::Hit {
+            flags,
+            unique,
+            block,
+        } => (*flags, *unique, block.bytes()),
+        Reply::Number(number) => (0, *number, &[]),
+        _ => (0, 0, &[]),
+    }
+}
+
+/// Whether two replies are the same.
+fn is_same(reply: &Reply, other: &Reply) -> bool {
+    kind(reply) == kind(other) && parts(reply) == parts(other)
+}
+
+/// Takes a step in both stores, and compares the replies.
+fn is_answered_alike(
+    alloc: Global,
+    store: &mut Store<Fnv>,
+    plain: &mut PlainStore,
+    step: &KeyStep<'_>,
+    now: Moment,
+) -> Result<bool, StepFault>
+    requires { length (key_of step.now) ≤ 250 }
+{
+    let reply = store.step(alloc, step, now)?;
+    let wanted = plain.step(alloc, step, now)?;
+    Ok(is_same(&reply, &wanted))
+}
+
+/// All keys.
+#[derive(Drop)]
+struct AllKeys;
+
+impl KeyTest for AllKeys {
+    ghost use Rattle.std.specs.Prelude.{true};
+
+    ghost means = { λ test key. true };
+
+    fn is_meant(&self, _key: &[u8]) -> bool {
+        true
+    }
+}
+
+/// Drops the dead of all shelves, and of the plain store.
+fn purge_both(store: &mut Store<Fnv>, plain: &mut PlainStore, now: Moment) {
+    for shelf in 0..64 {
+        store.purge(shelf, now);
+    }
+    plain.purge(now, &AllKeys);
+}
+
+#[test]
+fn random_steps_are_answered_as_by_the_plain_store(rt: HostRuntime) -> Result<(), Fail> {
+    let alloc = rt.alloc();
+    let mut bytes = Vec::new(alloc);
+    bytes.resize(600000, b'7')?;
+    let settings = Settings {
+        pages: 4,
+        greatest: 1048576,
+        shelves: 64,
+    };
+    let mut store = Store::new(alloc, settings, Fnv)?;
+    let mut plain = PlainStore::new(alloc, 4, 1048576)?;
+    let mut dice = Dice { state: 1 };
+    for turn in 0..4000 {
+        let now = Moment::from_seconds_at_most(1000 + turn / 20);
+        let step = step_of(&mut dice, &bytes);
+        let alike = is_answered_alike(alloc, &mut store, &mut plain, &step, now)?;
+        assert!(rt; alike, "turn {turn}");
+        if turn % 500 == 0 {
+            purge_both(&mut store, &mut plain, now);
+        }
+    }
+    Ok(())
+}
