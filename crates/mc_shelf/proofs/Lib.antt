@@ -5,3 +5,4 @@ pub mod PlaceLemmas
 pub mod PlanLemmas
 pub mod ApplyLemmas
 pub mod SweepLemmas
+pub mod RefusalLemmas

@@ -1,12 +1,12 @@
-ghost use Rattle.std.specs.Prelude.{◌≡◌, ℕ, ◌≤◌, List, length, Some, None, IfOk};
+ghost use Rattle.std.specs.Prelude.{◌≡◌, ℕ, ◌≤◌, List, length, Some, None, IfOk, OnErr};
 ghost use Rattle.std.specs.FinMap.{empty, get, insert, remove};
 ghost use Rattle.mc_command.specs.declared.step.KeyStep.{KeyStep as Step};
 ghost use Rattle.mc_command.specs.Commands.{key_of};
-ghost use Rattle.mc_command.specs.Plain.{Entry as Item};
+ghost use Rattle.mc_command.specs.Plain.{Entry as Item, CopiesBlock, MayFail, Plain, plain};
 ghost use Rattle.mc_command.specs.Laws.{IsOnKey};
-ghost use Rattle.mc_shelf.specs.States.{DeskState};
+ghost use Rattle.mc_shelf.specs.States.{DeskState, IsAt};
 ghost use Rattle.mc_shelf.specs.Places.{IsPlace, StandsAt};
-ghost use Rattle.mc_shelf.specs.Plans.{next_of, IsPlan, CanSettle, Takes, OthersStay};
+ghost use Rattle.mc_shelf.specs.Plans.{next_of, row_at, IsPlan, CanSettle, Takes, OthersStay};
 
 use crate::index::{Index, Place};
 use crate::plan;
@@ -66,6 +66,7 @@ impl Shelf {
         ensures plan { IfOk result (λ plan. IsPlan plan self.old step.now now) }
         ensures hash { IfOk result (λ plan. plan.hash ≡ hash) }
         ensures unchanged { self.new ≡ self.old }
+        ensures refused { OnErr result ((desk : DeskState) (s : Plain) → IsAt (key_of step.now) self.old desk s → MayFail (plain s step.now now)) }
     {
         let place = self.index.find(plan::key_of(step));
         let next = self.next(alloc, step, place, now)?;
@@ -91,7 +92,8 @@ impl Shelf {
         requires on_key { IsOnKey step.now }
         requires key { length (key_of step.now) ≤ 250 }
         requires place { IsPlace self.now.items (key_of step.now) place }
-        ensures { IfOk result (λ next. next ≡ next_of self.now step.now now) }
+        ensures next { IfOk result (λ next. next ≡ next_of self.now step.now now) }
+        ensures refused { OnErr result (CopiesBlock (row_at self.now step.now now).0) }
     {
         let found = self.index.entry(place);
         let item = alive(found, self.cut, now);
