@@ -1,17 +1,18 @@
-ghost use Rattle.std.specs.Prelude.{◌≡◌, ℕ, ◌≤◌, List, length, Some, None, IfOk, OnErr};
+ghost use Rattle.std.specs.Prelude.{◌≡◌, ℕ, ◌≤◌, List, length, Some, None, Err, IfOk, OnErr};
 ghost use Rattle.std.specs.FinMap.{empty, get, insert, remove};
 ghost use Rattle.mc_command.specs.declared.step.KeyStep.{KeyStep as Step};
 ghost use Rattle.mc_command.specs.Commands.{key_of};
 ghost use Rattle.mc_command.specs.Plain.{Entry as Item, CopiesBlock, MayFail, Plain, plain};
 ghost use Rattle.mc_command.specs.Laws.{IsOnKey};
-ghost use Rattle.mc_shelf.specs.States.{DeskState, IsAt};
+ghost use Rattle.mc_shelf.specs.States.{CanStand, DeskState, IsAt};
 ghost use Rattle.mc_shelf.specs.Places.{IsPlace, StandsAt};
-ghost use Rattle.mc_shelf.specs.Plans.{next_of, row_at, IsPlan, CanSettle, Takes, OthersStay};
+ghost use Rattle.mc_shelf.specs.Plans.{next_of, row_at, IsPlan, CanSettle, Takes, IsSpent, OthersStay};
 
+use crate::desk::Desk;
 use crate::index::{Index, Place};
 use crate::plan;
 use crate::plan::{Next, Plan, alive, next_by, row_told};
-use mc_command::{KeyStep, Reply, counts_follow};
+use mc_command::{KeyStep, Reply, StepFault, counts_follow};
 use mc_time::{Expiry, Moment};
 use std::alloc::{AllocError, Global};
 use std::marker::Model;
@@ -48,6 +49,33 @@ impl Shelf {
             greatest,
             index: Index::new(alloc),
             cut: None,
+        }
+    }
+
+    /// A step on one key at a moment: looked up, and then settled, or applied at the desk. Refused, or with the unique numbers
+    /// spent, the shelf and the desk are as they were.
+    pub fn step(
+        &mut self,
+        alloc: Global,
+        step: &KeyStep<'_>,
+        hash: u64,
+        now: Moment,
+        desk: &mut Desk,
+    ) -> Result<Reply, StepFault>
+        requires on_key { IsOnKey step.now }
+        requires key { length (key_of step.now) ≤ 250 }
+        requires stands { CanStand (key_of step.now) self.old desk.old }
+        ensures took { IfOk result (λ reply. Takes step.now now self.old desk.old reply self.new desk.new) }
+        ensures spent { result ≡ Err StepFault.NumbersSpent → IsSpent step.now now self.old desk.old }
+        ensures err { OnErr result ((self.new ≡ self.old) × (desk.new ≡ desk.old)) }
+        ensures others { OthersStay (key_of step.now) self.old self.new }
+        ensures refused { OnErr result ((s : Plain) → IsAt (key_of step.now) self.old desk.old s → MayFail (plain s step.now now)) }
+    {
+        let plan = self.look(alloc, step, hash, now)?;
+        if plan.needs_desk() {
+            self.apply(alloc, plan, step, desk)
+        } else {
+            Ok(self.settle(plan))
         }
     }
 
