@@ -4,3 +4,5 @@ pub mod StandLemmas
 pub mod PlaceLemmas
 pub mod PlanLemmas
 pub mod ApplyLemmas
+pub mod SweepLemmas
+pub mod RefusalLemmas

@@ -1,11 +1,11 @@
 //! The steps of a shelf that need the desk.
 
-ghost use Rattle.std.specs.Prelude.{◌≡◌, ℕ, ◌-◌, ◌<◌, ◌≤◌, ◌^◌, List, length, true, false, Some, None, Err, IfOk, OnErr};
+ghost use Rattle.std.specs.Prelude.{◌≡◌, ℕ, ◌-◌, ◌<◌, ◌≤◌, ◌^◌, List, length, true, false, Some, None, Err, IfOk, IsErr, OnErr};
 ghost use Rattle.std.specs.FinMap.{get};
 ghost use Rattle.mc_slab.specs.Classes.{IsClass, class_holding, size_of};
 ghost use Rattle.mc_command.specs.Commands.{key_of};
 ghost use Rattle.mc_command.specs.Plain as machine;
-ghost use Rattle.mc_command.specs.Plain.{Plain, Entry as Item, without_dead};
+ghost use Rattle.mc_command.specs.Plain.{Plain, Entry as Item, MayFail, Spent, plain, without_dead};
 ghost use Rattle.mc_command.specs.Laws.{IsOnKey, row_of};
 ghost use Rattle.mc_shelf.specs.States.{IsAt, CanStand};
 ghost use Rattle.mc_shelf.specs.Places.{IsPlace};
@@ -53,6 +53,8 @@ impl Shelf {
         ensures spent { result ≡ Err StepFault.NumbersSpent → IsSpent step.now plan.moment self.old desk.old }
         ensures err { OnErr result ((self.new ≡ self.old) × (desk.new ≡ desk.old)) }
         ensures others { OthersStay (key_of step.now) self.old self.new }
+        ensures refused { OnErr result ((s : Plain) → IsAt (key_of step.now) self.old desk.old s → MayFail (plain s step.now plan.moment)) }
+        ensures numbers { (s : Plain) → IsAt (key_of step.now) self.old desk.old s → plain s step.now plan.moment ≡ Spent → IsErr result }
     {
         counts_follow();
         let Plan {

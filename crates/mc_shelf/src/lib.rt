@@ -10,6 +10,7 @@ mod index;
 mod plan;
 mod shelf;
 mod store;
+mod sweep;
 #[cfg(test)]
 mod tests;
 mod write;

@@ -1,17 +1,18 @@
-ghost use Rattle.std.specs.Prelude.{◌≡◌, ℕ, ◌≤◌, List, length, Some, None, IfOk};
+ghost use Rattle.std.specs.Prelude.{◌≡◌, ℕ, ◌≤◌, List, length, Some, None, Err, IfOk, OnErr};
 ghost use Rattle.std.specs.FinMap.{empty, get, insert, remove};
 ghost use Rattle.mc_command.specs.declared.step.KeyStep.{KeyStep as Step};
 ghost use Rattle.mc_command.specs.Commands.{key_of};
-ghost use Rattle.mc_command.specs.Plain.{Entry as Item};
+ghost use Rattle.mc_command.specs.Plain.{Entry as Item, CopiesBlock, MayFail, Plain, plain};
 ghost use Rattle.mc_command.specs.Laws.{IsOnKey};
-ghost use Rattle.mc_shelf.specs.States.{DeskState};
+ghost use Rattle.mc_shelf.specs.States.{CanStand, DeskState, IsAt};
 ghost use Rattle.mc_shelf.specs.Places.{IsPlace, StandsAt};
-ghost use Rattle.mc_shelf.specs.Plans.{next_of, IsPlan, CanSettle, Takes, OthersStay};
+ghost use Rattle.mc_shelf.specs.Plans.{next_of, row_at, IsPlan, CanSettle, Takes, IsSpent, OthersStay};
 
+use crate::desk::Desk;
 use crate::index::{Index, Place};
 use crate::plan;
 use crate::plan::{Next, Plan, alive, next_by, row_told};
-use mc_command::{KeyStep, Reply, counts_follow};
+use mc_command::{KeyStep, Reply, StepFault, counts_follow};
 use mc_time::{Expiry, Moment};
 use std::alloc::{AllocError, Global};
 use std::marker::Model;
@@ -51,6 +52,33 @@ impl Shelf {
         }
     }
 
+    /// A step on one key at a moment: looked up, and then settled, or applied at the desk. Refused, or with the unique numbers
+    /// spent, the shelf and the desk are as they were.
+    pub fn step(
+        &mut self,
+        alloc: Global,
+        step: &KeyStep<'_>,
+        hash: u64,
+        now: Moment,
+        desk: &mut Desk,
+    ) -> Result<Reply, StepFault>
+        requires on_key { IsOnKey step.now }
+        requires key { length (key_of step.now) ≤ 250 }
+        requires stands { CanStand (key_of step.now) self.old desk.old }
+        ensures took { IfOk result (λ reply. Takes step.now now self.old desk.old reply self.new desk.new) }
+        ensures spent { result ≡ Err StepFault.NumbersSpent → IsSpent step.now now self.old desk.old }
+        ensures err { OnErr result ((self.new ≡ self.old) × (desk.new ≡ desk.old)) }
+        ensures others { OthersStay (key_of step.now) self.old self.new }
+        ensures refused { OnErr result ((s : Plain) → IsAt (key_of step.now) self.old desk.old s → MayFail (plain s step.now now)) }
+    {
+        let plan = self.look(alloc, step, hash, now)?;
+        if plan.needs_desk() {
+            self.apply(alloc, plan, step, desk)
+        } else {
+            Ok(self.settle(plan))
+        }
+    }
+
     /// Finds out what a step at a moment does: where its key stands, and what comes next. It copies the block of a hit, and
     /// makes room for an entry more where one may be needed; nothing else takes memory. The shelf is as it was. The search
     /// costs as many comparisons as the binary logarithm of the number of items.
@@ -66,6 +94,7 @@ impl Shelf {
         ensures plan { IfOk result (λ plan. IsPlan plan self.old step.now now) }
         ensures hash { IfOk result (λ plan. plan.hash ≡ hash) }
         ensures unchanged { self.new ≡ self.old }
+        ensures refused { OnErr result ((desk : DeskState) (s : Plain) → IsAt (key_of step.now) self.old desk s → MayFail (plain s step.now now)) }
     {
         let place = self.index.find(plan::key_of(step));
         let next = self.next(alloc, step, place, now)?;
@@ -91,7 +120,8 @@ impl Shelf {
         requires on_key { IsOnKey step.now }
         requires key { length (key_of step.now) ≤ 250 }
         requires place { IsPlace self.now.items (key_of step.now) place }
-        ensures { IfOk result (λ next. next ≡ next_of self.now step.now now) }
+        ensures next { IfOk result (λ next. next ≡ next_of self.now step.now now) }
+        ensures refused { OnErr result (CopiesBlock (row_at self.now step.now now).0) }
     {
         let found = self.index.entry(place);
         let item = alive(found, self.cut, now);

@@ -7,6 +7,7 @@ use Rattle.mc_shelf.specs.Plans.{OthersStay, Takes, has_dead, row_at}
 use Rattle.mc_shelf.proofs.StandLemmas.{others_gone}
 use Rattle.mc_shelf.proofs.PlanLemmas.{item_discarded, takes_discard, write_fits, write_puts}
 use Rattle.mc_shelf.proofs.ApplyLemmas.{is_out}
+use Rattle.mc_shelf.proofs.RefusalLemmas.{may_fail, write_copies, never_spent, on_err}
 use Rattle.mc_shelf.proofs.shelf.Shelf.apply.Goals as goal
 
 pub discard-requires : goal.discard-requires
@@ -49,3 +50,14 @@ returns-in-Discard-clause-others c =
     let key = key_of c.args.step.now in
     let item = item_discarded shelf c.args.step.now c.args.plan.moment c.in-Discard.reply (sym plan.next ∙ c.in-Discard.is) in
     subst (λ (t : ShelfState). OthersStay key shelf t) (sym (c.discard.ensures.shelf key item.0 item.1 plan.place)) (others_gone key shelf)
+
+pub returns-in-Discard-clause-numbers : goal.returns-in-Discard-clause-numbers
+returns-in-Discard-clause-numbers c s at spent =
+    absurd (never_spent c.args.step.now c.args.plan.moment c.args.self.now c.args.desk.now c.in-Discard.reply c.discard.new.self c.discard.new.desk (returns-in-Discard-clause-took c) s at spent)
+
+pub returns-in-Write-clause-refused : goal.returns-in-Write-clause-refused
+returns-in-Write-clause-refused c =
+    let plan = c.requires.plan in
+    let shelf = c.args.self.now in
+    let copies = write_copies shelf c.args.step.now c.args.plan.moment c.in-Write.size (sym plan.next ∙ c.in-Write.is) in
+    on_err c.write.result _ (λ s at. may_fail c.args.step.now c.args.plan.moment shelf c.args.desk.now s plan.on_key copies at)
