@@ -7,7 +7,9 @@ mod entry;
 mod index;
 mod plan;
 mod shelf;
+mod shelves;
 mod store;
+mod sweep;
 #[cfg(test)]
 mod tests;
 mod write;
