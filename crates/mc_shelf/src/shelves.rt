@@ -8,7 +8,7 @@ ghost use Rattle.mc_shelf.specs.Unions.{plain_of, AreShelves, without};
 
 use crate::desk::Desk;
 use crate::shelf::Shelf;
-use mc_command::{KeyStep, Reply, StepFault, counts_follow, other_keys_stay};
+use mc_command::{KeyStep, Reply, StepFault, other_keys_stay};
 use mc_time::{Moment, cut_after};
 use std::alloc::{AllocError, Global};
 
@@ -74,7 +74,6 @@ impl Shelves {
         ensures purged { (shelf_of : List ℕ → ℕ) → AreShelves shelf_of self.old → plain_of self.new ≡ purged (λ key. shelf_of key == at) now (plain_of self.old) }
         ensures count { length self.new.list.items ≡ length self.old.list.items }
     {
-        counts_follow();
         let shelf = &mut self.list[at];
         shelf.purge(now, &mut self.desk);
     }
@@ -86,7 +85,6 @@ impl Shelves {
         ensures cleared { (shelf_of : List ℕ → ℕ) → AreShelves shelf_of self.old → plain_of self.new ≡ without (λ key. shelf_of key == at) (plain_of self.old) }
         ensures count { length self.new.list.items ≡ length self.old.list.items }
     {
-        counts_follow();
         let shelf = &mut self.list[at];
         shelf.clear(&mut self.desk);
     }
