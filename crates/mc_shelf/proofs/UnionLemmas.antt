@@ -1,13 +1,12 @@
 -- Shelves under one desk: what their items are together, and what a change of one of them makes of it.
-use Rattle.std.proofs.Common.{◌≡◌, ◌≢◌, ℕ, zero, suc, ◌+◌, ◌<◌, ◌≤◌, Bool, true, false, cond, not, ◌||◌, eqb, eqb-true, eq-eqb, ne_eqb, true≢false, List, [], ◌∷◌, ◌++◌, length, length-set, Option, Some, None, is_some, slice_get, slice_set, slice_index_or, refl, sym, ap, subst, ◌∙◌, arith, ◌⊎◌, inl, inr, ⊎_elim, Vec}
+use Rattle.std.proofs.Common.{◌≡◌, ◌≢◌, ℕ, zero, suc, ◌+◌, ◌<◌, ◌≤◌, Bool, true, false, cond, not, ◌||◌, eqb, eqb-true, eq-eqb, ne_eqb, true≢false, List, [], ◌∷◌, ◌++◌, length, length-set, Option, Some, None, is_some, slice_get, slice_set, slice_index_or, refl, sym, ap, subst, ◌∙◌, arith, ◌⊎◌, inl, inr, ⊎_elim, Vec, Result, Ok, Err, IfOk, OnErr}
 use Rattle.std.proofs.Props.{props}
-use Rattle.std.proofs.lemmas.Option.{slice_get_read}
+use Rattle.std.proofs.lemmas.Option.{get_or_from_slice_get, slice_get_read}
 use Rattle.std.proofs.lemmas.List.{set-get_or}
 use mathlib.Core.HLevel.{is_prop→PathP}
 use Rattle.std.specs.Vec.{with_item}
 use Rattle.std.specs.Option.{option_or}
 use Rattle.std.specs.declared.alloc.Global.{Global}
-use Rattle.std.specs.Ordering.{is_eq}
 use Rattle.std.specs.List.{count_by}
 use Rattle.std.specs.Cmp.Lexicographic.{nat_list_cmp_total}
 use Rattle.std.specs.FinMap.{empty, entries, get, find, get-empty, get-entries, get-from_entries, get-retain_keys, retain_keys, same_map}
@@ -15,13 +14,13 @@ use Rattle.std.specs.FinMap.Entries.{where_key}
 use Rattle.mc_slab.specs.Classes.{IsClass}
 use Rattle.mc_slab.specs.Slabs.{out_of}
 use Rattle.mc_command.specs.declared.step.KeyStep.{KeyStep}
+use Rattle.mc_command.specs.declared.step.StepFault.{StepFault}
 use Rattle.mc_command.specs.declared.reply.Reply.{Reply}
 use Rattle.mc_command.specs.Commands.{key_of}
 use Rattle.mc_command.specs.Laws.{IsOnKey}
 use Rattle.mc_command.specs.Plain.{Answered, Entry, Items, Plain, alive, count_of, living, plain}
 use Rattle.mc_command.specs.Purge.{purged}
 use Rattle.mc_command.proofs.ItemLemmas.{bytes_cmp, same_bytes, laws, exact, is_equal}
-
 use Rattle.mc_command.proofs.CountLemmas.{count-cons, is_of, entries-retain_keys}
 use Rattle.mc_shelf.specs.States.{ShelfState, DeskState, IsAt}
 use Rattle.mc_shelf.specs.Plans.{OthersStay, Takes}
@@ -168,14 +167,10 @@ not_true : (b : Bool) → not b ≡ true → b ≡ false
 not_true true e = absurd (true≢false (sym e))
 not_true false e = refl
 
-not_false : (b : Bool) → not b ≡ false → b ≡ true
-not_false true e = refl
-not_false false e = absurd (true≢false e)
-
-pub at_or_not : (k at : ℕ) → ((k ≡ at) × (eqb k at ≡ true)) ⊎ ((k ≢ at) × (eqb k at ≡ false))
-at_or_not k at = elim (eqb k at) as (λ b. eqb k at ≡ b → ((k ≡ at) × (b ≡ true)) ⊎ ((k ≢ at) × (b ≡ false))) [
-  | true ↦ λ h. inl (eqb-true k at h, refl)
-  | false ↦ λ h. inr (λ same. true≢false (sym (eq-eqb k at same) ∙ h), refl)
+at_or_not : (k at : ℕ) → (k ≡ at) ⊎ (k ≢ at)
+at_or_not k at = elim (eqb k at) as (λ b. eqb k at ≡ b → (k ≡ at) ⊎ (k ≢ at)) [
+  | true ↦ λ h. inl (eqb-true k at h)
+  | false ↦ λ h. inr (λ same. true≢false (sym (eq-eqb k at same) ∙ h))
 ] refl
 
 key_or_not : (q key : List ℕ) → (q ≡ key) ⊎ (q ≢ key)
@@ -183,6 +178,10 @@ key_or_not q key = elim (same_bytes q key) as (λ b. same_bytes q key ≡ b → 
   | true ↦ λ h. inl (exact q key (is_equal _ h))
   | false ↦ λ h. inr (λ same. true≢false (sym (laws.refl q) ∙ ap (same_bytes q) same ∙ h))
 ] refl
+
+-- the shelves with another shelf at a place, and another desk
+abbrev pub put_at : Shelves → ℕ → ShelfState → DeskState → Shelves
+put_at s at shelf desk = record { greatest = s.greatest; cut = s.cut; list = with_item s.list at shelf; desk = desk }
 
 module _ (shelf_of : List ℕ → ℕ) (s : Shelves) (are : AreShelves shelf_of s) (at : ℕ) (shelf : ShelfState) (here : slice_get s.list.items at ≡ Some shelf) where
   abbrev list : List ShelfState
@@ -209,6 +208,12 @@ module _ (shelf_of : List ℕ → ℕ) (s : Shelves) (are : AreShelves shelf_of 
     out = are.out;
   }
 
+  -- the same shelf at the same desk
+  pub same_after : (new : ShelfState) (desk : DeskState) → new ≡ shelf → desk ≡ s.desk → put_at s at new desk ≡ s
+  same_after new desk same same_desk =
+      let list_is : with_item s.list at new ≡ s.list = ap (with_item s.list at) same ∙ put_same s.list at shelf (sym (get_or_from_slice_get list at shelf shelf here)) in
+      λ i. record { greatest = s.greatest; cut = s.cut; list = list_is i; desk = same_desk i }
+
   own_part : retain_keys all mine ≡ shelf.items
   own_part = whole_part all shelf.items mine (λ q h. get_own q (eqb-true (shelf_of q) at h)) (λ q h. are.apart at shelf q here (λ same. true≢false (sym (eq-eqb (shelf_of q) at same) ∙ h)))
 
@@ -220,11 +225,8 @@ module _ (shelf_of : List ℕ → ℕ) (s : Shelves) (are : AreShelves shelf_of 
       omega arith
 
   module _ (new : ShelfState) (desk : DeskState) (apart : (q : List ℕ) → shelf_of q ≢ at → get new.items q ≡ None) where
-    abbrev pub put_list : List ShelfState
+    abbrev put_list : List ShelfState
     put_list = slice_set list at new
-
-    abbrev pub after : Shelves
-    after = record { greatest = s.greatest; cut = s.cut; list = with_item s.list at new; desk = desk }
 
     apart_all : (k : ℕ) (t : ShelfState) (q : List ℕ) → slice_get put_list k ≡ Some t → shelf_of q ≢ k → get t.items q ≡ None
     apart_all k t q there other =
@@ -236,7 +238,7 @@ module _ (shelf_of : List ℕ → ℕ) (s : Shelves) (are : AreShelves shelf_of 
     get_other : (q : List ℕ) → shelf_of q ≢ at → get (all_items put_list) q ≡ get all q
     get_other q other = get_first put_list q ∙ first_same list at shelf new q here (apart q other ∙ sym (are.apart at shelf q here other)) ∙ sym (get_first list q)
 
-    pub are_after : new.greatest ≡ shelf.greatest → new.cut ≡ shelf.cut → ((class : ℕ) → IsClass class → out_of desk.slab class ≡ count_of (all_items put_list) class) → AreShelves shelf_of after
+    are_after : new.greatest ≡ shelf.greatest → new.cut ≡ shelf.cut → ((class : ℕ) → IsClass class → out_of desk.slab class ≡ count_of (all_items put_list) class) → AreShelves shelf_of (put_at s at new desk)
     are_after greatest cut out = record {
       inside = λ key. subst (λ (n : ℕ). shelf_of key < n) (sym (length-set list at new)) (are.inside key);
       charges = λ k t there. ⊎_elim (λ h. ap (λ (u : ShelfState). u.greatest) h.1 ∙ greatest ∙ are.charges at shelf here) (λ h. are.charges k t h) (put_cases list at new k t there);
@@ -252,7 +254,7 @@ module _ (shelf_of : List ℕ → ℕ) (s : Shelves) (are : AreShelves shelf_of 
     rest_part = same_part (all_items put_list) all (λ q. not (mine q)) (λ q h. get_other q (λ same. true≢false (sym (eq-eqb (shelf_of q) at same) ∙ not_true (mine q) h)))
 
     -- the desk counts the chunks of all again, where it got back those of what was dropped
-    pub out_after : GivesFor shelf.items new.items s.desk desk → (class : ℕ) → IsClass class → out_of desk.slab class ≡ count_of (all_items put_list) class
+    out_after : GivesFor shelf.items new.items s.desk desk → (class : ℕ) → IsClass class → out_of desk.slab class ≡ count_of (all_items put_list) class
     out_after gives class is =
         let before = count_parts all mine class in
         let now = count_parts (all_items put_list) mine class in
@@ -266,26 +268,23 @@ module _ (shelf_of : List ℕ → ℕ) (s : Shelves) (are : AreShelves shelf_of 
   -- ---- some of the shelf's items are dropped
 
   module _ (new : ShelfState) (keep : List ℕ → Bool) (kept : (q : List ℕ) → get new.items q ≡ cond (keep q) (get shelf.items q) None) where
-    pub apart_kept : (q : List ℕ) → shelf_of q ≢ at → get new.items q ≡ None
+    apart_kept : (q : List ℕ) → shelf_of q ≢ at → get new.items q ≡ None
     apart_kept q other = kept q ∙ none_kept (keep q) (get shelf.items q) (are.apart at shelf q here other)
 
-    pub all_kept : (rest : List ℕ → Bool) → ((q : List ℕ) → shelf_of q ≡ at → rest q ≡ keep q) → ((q : List ℕ) → shelf_of q ≢ at → rest q ≡ true) → all_items (slice_set list at new) ≡ retain_keys all rest
+    all_kept : (rest : List ℕ → Bool) → ((q : List ℕ) → shelf_of q ≡ at → rest q ≡ keep q) → ((q : List ℕ) → shelf_of q ≢ at → rest q ≡ true) → all_items (slice_set list at new) ≡ retain_keys all rest
     all_kept rest own others =
         same_map nat_list_cmp_total exact _ _ (λ q.
         ⊎_elim
-        (λ h. get_new new s.desk apart_kept q h.0 ∙ kept q ∙ (λ i. cond (sym (own q h.0) i) (sym (get_own q h.0) i) None))
-        (λ h. get_other new s.desk apart_kept q h.0 ∙ ap (λ b. cond b (get all q) None) (sym (others q h.0)))
+        (λ h. get_new new s.desk apart_kept q h ∙ kept q ∙ (λ i. cond (sym (own q h) i) (sym (get_own q h) i) None))
+        (λ h. get_other new s.desk apart_kept q h ∙ ap (λ b. cond b (get all q) None) (sym (others q h)))
         (at_or_not (shelf_of q) at)
         ∙ sym (get-retain_keys all rest q (λ x h. ap rest (sym (exact q x h)))))
 
     module _ (desk : DeskState) (gives : GivesFor shelf.items new.items s.desk desk) where
-      abbrev pub swept : Shelves
-      swept = after new desk apart_kept
-
-      pub are_kept : new.greatest ≡ shelf.greatest → new.cut ≡ shelf.cut → AreShelves shelf_of swept
+      are_kept : new.greatest ≡ shelf.greatest → new.cut ≡ shelf.cut → AreShelves shelf_of (put_at s at new desk)
       are_kept greatest cut = are_after new desk apart_kept greatest cut (out_after new desk apart_kept gives)
 
-      pub plain_kept : (rest : List ℕ → Bool) → ((q : List ℕ) → shelf_of q ≡ at → rest q ≡ keep q) → ((q : List ℕ) → shelf_of q ≢ at → rest q ≡ true) → plain_of swept ≡ record (plain_of s) { items = retain_keys all rest }
+      plain_kept : (rest : List ℕ → Bool) → ((q : List ℕ) → shelf_of q ≡ at → rest q ≡ keep q) → ((q : List ℕ) → shelf_of q ≢ at → rest q ≡ true) → plain_of (put_at s at new desk) ≡ record (plain_of s) { items = retain_keys all rest }
       plain_kept rest own others = λ i. record { greatest = s.greatest; limit = gives.limit i; items = all_kept rest own others i; cut = s.cut; next_unique = gives.next_unique i; pages = gives.pages i }
 
   -- those that are dead
@@ -296,10 +295,10 @@ module _ (shelf_of : List ℕ → ℕ) (s : Shelves) (are : AreShelves shelf_of 
     kept_living : (q : List ℕ) → get new.items q ≡ cond (lives q) (get shelf.items q) None
     kept_living q = ap (λ (t : ShelfState). get t.items q) new_is ∙ get-retain_keys shelf.items lives q (λ x h. ap lives (sym (exact q x h)))
 
-    pub are_purged : AreShelves shelf_of (record { greatest = s.greatest; cut = s.cut; list = with_item s.list at new; desk = desk })
+    pub are_purged : AreShelves shelf_of (put_at s at new desk)
     are_purged = are_kept new lives kept_living desk gives (ap (λ (t : ShelfState). t.greatest) new_is) (ap (λ (t : ShelfState). t.cut) new_is)
 
-    pub plain_purged : plain_of (record { greatest = s.greatest; cut = s.cut; list = with_item s.list at new; desk = desk }) ≡ purged mine now (plain_of s)
+    pub plain_purged : plain_of (put_at s at new desk) ≡ purged mine now (plain_of s)
     plain_purged =
         plain_kept new lives kept_living desk gives (λ q. not (mine q) || is_some (alive s.cut now (get all q)))
         (λ q own i. not (eq-eqb (shelf_of q) at own i) || is_some (alive (sym (are.cuts at shelf here) i) now (get_own q own i)))
@@ -310,10 +309,10 @@ module _ (shelf_of : List ℕ → ℕ) (s : Shelves) (are : AreShelves shelf_of 
     kept_none : (q : List ℕ) → get new.items q ≡ None
     kept_none q = ap (λ (t : ShelfState). get t.items q) new_is ∙ get-empty bytes_cmp q
 
-    pub are_cleared : AreShelves shelf_of (record { greatest = s.greatest; cut = s.cut; list = with_item s.list at new; desk = desk })
+    pub are_cleared : AreShelves shelf_of (put_at s at new desk)
     are_cleared = are_kept new (λ q. false) kept_none desk gives (ap (λ (t : ShelfState). t.greatest) new_is) (ap (λ (t : ShelfState). t.cut) new_is)
 
-    pub plain_cleared : plain_of (record { greatest = s.greatest; cut = s.cut; list = with_item s.list at new; desk = desk }) ≡ without mine (plain_of s)
+    pub plain_cleared : plain_of (put_at s at new desk) ≡ without mine (plain_of s)
     plain_cleared =
         plain_kept new (λ q. false) kept_none desk gives (λ q. not (mine q))
         (λ q own. ap not (eq-eqb (shelf_of q) at own))
@@ -322,11 +321,8 @@ module _ (shelf_of : List ℕ → ℕ) (s : Shelves) (are : AreShelves shelf_of 
   -- ---- a step on one key
 
   module _ (step : KeyStep) (own : shelf_of (key_of step) ≡ at) (new : ShelfState) (desk : DeskState) (stay : OthersStay (key_of step) shelf new) where
-    pub apart_stay : (q : List ℕ) → shelf_of q ≢ at → get new.items q ≡ None
+    apart_stay : (q : List ℕ) → shelf_of q ≢ at → get new.items q ≡ None
     apart_stay q other = stay.items q (λ same. other (ap shelf_of same ∙ own)) ∙ are.apart at shelf q here other
-
-    abbrev pub stepped : Shelves
-    stepped = after new desk apart_stay
 
     -- what the plain machine does at the key is what the shelf did, and the other keys stay in both
     same_items : OthersLaw → IsOnKey step → (now : ℕ) (reply : Reply) (t : Plain) → plain (plain_of s) step now ≡ Answered reply t → IsAt (key_of step) new desk t → t.items ≡ all_items (slice_set list at new)
@@ -337,7 +333,7 @@ module _ (shelf_of : List ℕ → ℕ) (s : Shelves) (are : AreShelves shelf_of 
         (λ other. others_law (plain_of s) t step now reply q on answered other ∙ get_first list q ∙ sym (first_same list at shelf new q here (stay.items q other)) ∙ sym (get_first (slice_set list at new) q))
         (key_or_not q (key_of step)))
 
-    pub step_takes : OthersLaw → IsOnKey step → (now : ℕ) (reply : Reply) → Takes step now shelf s.desk reply new desk → (plain (plain_of s) step now ≡ Answered reply (plain_of stepped)) × AreShelves shelf_of stepped
+    step_takes : OthersLaw → IsOnKey step → (now : ℕ) (reply : Reply) → Takes step now shelf s.desk reply new desk → (plain (plain_of s) step now ≡ Answered reply (plain_of (put_at s at new desk))) × AreShelves shelf_of (put_at s at new desk)
     step_takes others_law on now reply takes =
         let took = takes (plain_of s) (plain_stands (key_of step) own) in
         let t = took.0 in
@@ -345,5 +341,13 @@ module _ (shelf_of : List ℕ → ℕ) (s : Shelves) (are : AreShelves shelf_of 
         let items = same_items others_law on now reply t took.1 stands in
         let greatest : t.greatest ≡ s.greatest = stands.greatest ∙ stay.greatest ∙ are.charges at shelf here in
         let cut : t.cut ≡ s.cut = stands.cut ∙ stay.cut ∙ are.cuts at shelf here in
-        let same : t ≡ plain_of stepped = λ i. record { greatest = greatest i; limit = stands.limit i; items = items i; cut = cut i; next_unique = stands.next_unique i; pages = stands.pages i } in
+        let same : t ≡ plain_of (put_at s at new desk) = λ i. record { greatest = greatest i; limit = stands.limit i; items = items i; cut = cut i; next_unique = stands.next_unique i; pages = stands.pages i } in
         (took.1 ∙ ap (Answered reply) same, are_after new desk apart_stay stay.greatest stay.cut (λ class is. stands.out class is ∙ ap (λ (m : Items). count_of m class) items))
+
+    pub ok_takes : OthersLaw → IsOnKey step → (now : ℕ) (result : Result Reply StepFault) → IfOk result (λ reply. Takes step now shelf s.desk reply new desk) → IfOk result (λ reply. plain (plain_of s) step now ≡ Answered reply (plain_of (put_at s at new desk)))
+    ok_takes others_law on now (Ok reply) takes = (step_takes others_law on now reply takes).0
+    ok_takes others_law on now (Err fault) takes = takes
+
+    pub are_stepped : OthersLaw → IsOnKey step → (now : ℕ) (result : Result Reply StepFault) → IfOk result (λ reply. Takes step now shelf s.desk reply new desk) → OnErr result ((new ≡ shelf) × (desk ≡ s.desk)) → AreShelves shelf_of (put_at s at new desk)
+    are_stepped others_law on now (Ok reply) takes same = (step_takes others_law on now reply takes).1
+    are_stepped others_law on now (Err fault) takes same = subst (λ (t : Shelves). AreShelves shelf_of t) (sym (same_after new desk same.0 same.1)) are
