@@ -51,7 +51,7 @@ find_below q (e ∷ es) below =
     ap (λ (o : Ordering). cond (is_eq o) (Some e.1) (find bytes_cmp q es)) (less _ (first _ _ below)) ∙ find_below q es (second _ _ below)
 
 -- the entries of the items whose keys pass a test
-entries-retain_keys : (items : Items) (keep : List ℕ → Bool) → entries (retain_keys items keep) ≡ where_key bytes_cmp keep (entries items)
+pub entries-retain_keys : (items : Items) (keep : List ℕ → Bool) → entries (retain_keys items keep) ≡ where_key bytes_cmp keep (entries items)
 entries-retain_keys items keep =
     let es = where_key bytes_cmp keep (entries items) in
     let sorted : T (is_sorted bytes_cmp es) = is_sorted-where_key bytes_cmp keep (entries items) (entries_sorted items) in
@@ -63,10 +63,10 @@ entries-retain_keys items keep =
     ap (λ (m : Items). entries m) same ∙ entries-from_sorted bytes_cmp es sorted
 
 module _ (class : ℕ) where
-  abbrev is_of : Pair → Bool
+  abbrev pub is_of : Pair → Bool
   is_of e = eqb (item_class e.0 e.1) class
 
-  count-cons : (e : Pair) (es : List Pair) → count_by is_of (e ∷ es) ≡ cond (is_of e) 1 0 + count_by is_of es
+  pub count-cons : (e : Pair) (es : List Pair) → count_by is_of (e ∷ es) ≡ cond (is_of e) 1 0 + count_by is_of es
   count-cons e es = sum_by-cons (λ (e : Pair). cond (is_of e) 1 0) e es
 
   count-put : (k : List ℕ) (v : Entry) (es : List Pair) → T (is_sorted bytes_cmp es) → count_by is_of (put bytes_cmp k v es) + of_class k (find bytes_cmp k es) class ≡ count_by is_of es + of_class k (Some v) class

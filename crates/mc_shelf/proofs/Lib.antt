@@ -4,5 +4,6 @@ pub mod StandLemmas
 pub mod PlaceLemmas
 pub mod PlanLemmas
 pub mod ApplyLemmas
-pub mod SweepLemmas
 pub mod RefusalLemmas
+pub mod SweepLemmas
+pub mod UnionLemmas

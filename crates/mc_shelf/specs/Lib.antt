@@ -2,4 +2,5 @@ pub mod States
 pub mod Places
 pub mod Plans
 pub mod Sweeps
+pub mod Unions
 pub mod Stores

@@ -9,6 +9,7 @@ mod entry;
 mod index;
 mod plan;
 mod shelf;
+mod shelves;
 mod store;
 mod sweep;
 #[cfg(test)]

@@ -1,8 +1,12 @@
-ghost use Rattle.std.specs.Prelude.{◌≡◌, ◌==◌, ◌%◌, ◌<◌, ◌≤◌, IfOk, nat_lt, if◌then◌else◌};
-ghost use Rattle.mc_command.specs.Plain.{opening, plain, Answered, Spent};
+ghost use Rattle.std.specs.Prelude.{◌≡◌, ◌==◌, ◌%◌, ◌<◌, ◌≤◌, length, IfOk, OnErr, IsErr, Err, nat_lt, if◌then◌else◌};
+ghost use Rattle.mc_command.specs.Commands.{key_of};
+ghost use Rattle.mc_command.specs.Plain.{opening, plain, Answered, Spent, MayFail};
 ghost use Rattle.mc_command.specs.Purge.{purged};
+ghost use Rattle.mc_command.specs.Laws.{IsOnKey};
 
-use mc_command::{KeyStep, KeyTest, PlainStore, Reply, StepFault, Steps};
+use crate::plan;
+use crate::shelves::Shelves;
+use mc_command::{KeyStep, Reply, StepFault, Steps};
 use mc_hop::KeyHash;
 use mc_time::Moment;
 use std::alloc::{AllocError, Global};
@@ -19,22 +23,27 @@ pub struct Settings {
     pub shelves: u32,
 }
 
-/// A store of one thread. A key is on the shelf that its hash names.
+/// A store of one thread: shelves of items, and the desk that they share. A key is on the shelf that its hash names. Contracts
+/// see how it was set up, its hasher, and the plain machine's state.
 #[derive(Drop)]
 pub struct Store<K: KeyHash + Drop> {
     settings: Settings,
     hasher: K,
-    plain: PlainStore,
+    shelves: Shelves,
 }
 
 impl<K: KeyHash + Drop> Model for Store<K> {
+    ghost use Rattle.std.specs.Prelude.{◌≡◌, ◌<◌, ◌%◌, length};
+    ghost use Rattle.mc_shelf.specs.Unions.{plain_of, AreShelves};
     ghost use Rattle.mc_shelf.specs.Stores.{StoreState, coded_store};
 
     ghost Value = { StoreState K };
 
     ghost coded = { coded_store K.code };
 
-    ghost view = { λ s. record { settings = s.settings; hasher = s.hasher; plain = s.plain } };
+    ghost view = { λ s. record { settings = s.settings; hasher = s.hasher; plain = plain_of s.shelves } };
+
+    ghost invariant = { λ s. AreShelves (λ key. K.hash_of s.hasher key % s.settings.shelves) s.shelves × (length s.shelves.list.items ≡ s.settings.shelves) × (0 < s.settings.shelves) };
 }
 
 impl<K: KeyHash + Drop> Store<K> {
@@ -47,11 +56,11 @@ impl<K: KeyHash + Drop> Store<K> {
         ensures settings { IfOk result (λ store. store.settings ≡ settings) }
         ensures hasher { IfOk result (λ store. store.hasher ≡ hasher) }
     {
-        let plain = PlainStore::new(alloc, settings.pages, settings.greatest)?;
+        let shelves = Shelves::new(alloc, settings.shelves, settings.pages, settings.greatest)?;
         Ok(Store {
             settings,
             hasher,
-            plain,
+            shelves,
         })
     }
 
@@ -62,42 +71,56 @@ impl<K: KeyHash + Drop> Store<K> {
         self.settings
     }
 
-    /// Drops the dead items of a shelf, and no other. Of a shelf that isn't there it drops none. It takes no memory.
+    /// Drops the dead items of a shelf, and no other. Of a shelf that isn't there it drops none. It takes no memory; the
+    /// cost grows with the number of the shelf's items.
     pub fn purge(&mut self, shelf: u32, now: Moment)
         ensures { self.new ≡ record self.old { plain = if nat_lt shelf self.old.settings.shelves then purged (λ key. K.hash_of self.old.hasher key % self.old.settings.shelves == shelf) now self.old.plain else self.old.plain } }
     {
         if shelf < self.settings.shelves {
-            let on_shelf = OnShelf {
-                hasher: &self.hasher,
-                shelf,
-                shelves: self.settings.shelves,
-            };
-            self.plain.purge(now, &on_shelf);
+            self.shelves.purge(shelf as usize, now);
         }
     }
 
-    /// Up to `n` entries of a shelf may move in its table; answers how many did. The store is as it was.
-    pub fn grow(&mut self, _shelf: u32, _n: usize) -> usize
-        ensures { self.new ≡ self.old }
+    /// Up to `n` entries of a shelf may move in its index; answers how many did, and 0 for a shelf that isn't there. The
+    /// store is as it was, and no memory is taken.
+    pub fn grow(&mut self, shelf: u32, n: usize) -> usize
+        ensures unchanged { self.new ≡ self.old }
+        ensures moved { result ≤ n }
     {
-        0
+        if shelf < self.settings.shelves {
+            self.shelves.grow(shelf as usize, n)
+        } else {
+            0
+        }
     }
-}
 
-/// The keys of one shelf.
-#[derive(Drop)]
-struct OnShelf<'a, K: KeyHash> {
-    hasher: &'a K,
-    shelf: u32,
-    shelves: u32,
-    ghost some: { 0 < shelves },
-}
+    /// A step on one key, on the key's shelf.
+    fn step_on_key(
+        &mut self,
+        alloc: Global,
+        step: &KeyStep<'_>,
+        now: Moment,
+    ) -> Result<Reply, StepFault>
+        requires on_key { IsOnKey step.now }
+        requires key { length (key_of step.now) ≤ 250 }
+        ensures took { IfOk result (λ reply. plain self.old.plain step.now now ≡ Answered reply self.new.plain) }
+        ensures set_up { (self.new.settings ≡ self.old.settings) × (self.new.hasher ≡ self.old.hasher) }
+        ensures spent { result ≡ Err StepFault.NumbersSpent → plain self.old.plain step.now now ≡ Spent }
+        ensures err { OnErr result (self.new ≡ self.old) }
+        ensures refused { OnErr result (MayFail (plain self.old.plain step.now now)) }
+    {
+        let hash = self.hasher.hash(plan::key_of(step));
+        let at = hash % u64::from(self.settings.shelves);
+        self.shelves.step(alloc, at as usize, step, hash, now)
+    }
 
-impl<'a, K: KeyHash> KeyTest for OnShelf<'a, K> {
-    ghost means = { λ test key. K.hash_of test.hasher.now key % test.shelves == test.shelf };
-
-    fn is_meant(&self, key: &[u8]) -> bool {
-        self.hasher.hash(key) % u64::from(self.shelves) == u64::from(self.shelf)
+    /// A flush of all shelves.
+    fn flush(&mut self, delay: u64, now: Moment) -> Reply
+        ensures took { plain self.old.plain (KeyStep.Flush delay) now ≡ Answered result self.new.plain }
+        ensures set_up { (self.new.settings ≡ self.old.settings) × (self.new.hasher ≡ self.old.hasher) }
+    {
+        self.shelves.flush(delay, now);
+        Reply::Flushed
     }
 }
 
@@ -106,7 +129,17 @@ impl<K: KeyHash + Drop> Steps for Store<K> {
 
     ghost spent = { λ old step now. plain old.plain step now ≡ Spent };
 
-    fn step(&mut self, alloc: Global, step: &KeyStep<'_>, now: Moment) -> Result<Reply, StepFault> {
-        self.plain.step(alloc, step, now)
+    fn step(&mut self, alloc: Global, step: &KeyStep<'_>, now: Moment) -> Result<Reply, StepFault>
+        requires { length (key_of step.now) ≤ 250 }
+        ensures took { IfOk result (λ reply. (plain self.old.plain step.now now ≡ Answered reply self.new.plain) × (self.new.settings ≡ self.old.settings) × (self.new.hasher ≡ self.old.hasher)) }
+        ensures spent { result ≡ Err StepFault.NumbersSpent → plain self.old.plain step.now now ≡ Spent }
+        ensures err { OnErr result (self.new ≡ self.old) }
+        ensures numbers { plain self.old.plain step.now now ≡ Spent → IsErr result }
+        ensures refused { OnErr result (MayFail (plain self.old.plain step.now now)) }
+    {
+        match step {
+            KeyStep::Flush { delay } => Ok(self.flush(*delay, now)),
+            _ => self.step_on_key(alloc, step, now),
+        }
     }
 }
