@@ -4,3 +4,4 @@ pub mod StandLemmas
 pub mod PlaceLemmas
 pub mod PlanLemmas
 pub mod ApplyLemmas
+pub mod StoreLemmas

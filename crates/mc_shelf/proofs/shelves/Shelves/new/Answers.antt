@@ -1,0 +1,9 @@
+use Rattle.std.proofs.Common.{refl}
+use Rattle.mc_shelf.proofs.StoreLemmas.{plain_new, shelves_new}
+use Rattle.mc_shelf.proofs.shelves.Shelves.new.Goals as goal
+
+pub returns-clause-plain : goal.returns-clause-plain
+returns-clause-plain c = plain_new c.args.count c.args.pages c.args.greatest _ (record { greatest = refl; cut = refl; list = c.in_ok-empty_shelves.ensures; desk = c.in_ok-new.ensures })
+
+pub returns-clause-shelved : goal.returns-clause-shelved
+returns-clause-shelved c = shelves_new c.args.count c.args.pages c.args.greatest _ (record { greatest = refl; cut = refl; list = c.in_ok-empty_shelves.ensures; desk = c.in_ok-new.ensures }) c.counts_follow.ensures.empty
