@@ -127,8 +127,8 @@ impl Shelves {
         ensures cleared { plain_of self.new ≡ record (plain_of self.old) { items = empty } }
         ensures count { length self.new.list.items ≡ length self.old.list.items }
     {
-        for at in 0..self.list.len() {
-            self.clear(at);
+        for place in 0..self.list.len() {
+            self.clear(place);
         }
     }
 

@@ -9,7 +9,7 @@ loop-at-init c = record {
   shelved = λ shelf_of are. are;
   purged = λ shelf_of are. swept_none shelf_of c.args.now (plain_of c.args.self.now);
   count = refl;
-  end = c.len-at-end.ensures ∙ c.args.self.now.list.ok.0;
+  end = omega (arith, c.args.self.now.list.ok.0);
 }
 
 pub loop-at-preserved : goal.loop-at-preserved
