@@ -7,3 +7,4 @@ pub mod ApplyLemmas
 pub mod RefusalLemmas
 pub mod SweepLemmas
 pub mod UnionLemmas
+pub mod StoreLemmas

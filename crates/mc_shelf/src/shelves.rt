@@ -4,6 +4,7 @@ ghost use Rattle.mc_command.specs.Commands.{key_of};
 ghost use Rattle.mc_command.specs.Plain.{opening, plain, flushed, MayFail, Answered, Spent};
 ghost use Rattle.mc_command.specs.Purge.{purged};
 ghost use Rattle.mc_command.specs.Laws.{IsOnKey};
+ghost use Rattle.mc_shelf.specs.States.{ShelfState};
 ghost use Rattle.mc_shelf.specs.Unions.{plain_of, AreShelves, without};
 
 use crate::desk::Desk;
@@ -35,6 +36,7 @@ impl Shelves {
         ensures count { IfOk result (λ s. length s.list.items ≡ count) }
         ensures shelved { IfOk result (λ s. (shelf_of : List ℕ → ℕ) → ((key : List ℕ) → shelf_of key < count) → AreShelves shelf_of s) }
     {
+        counts_follow();
         Ok(Shelves {
             greatest,
             cut: None,
@@ -120,11 +122,11 @@ impl Shelves {
     fn clear_all(&mut self)
         requires { (shelf_of : List ℕ → ℕ) × AreShelves shelf_of self.old }
         ensures shelved { (shelf_of : List ℕ → ℕ) → AreShelves shelf_of self.old → AreShelves shelf_of self.new }
-        ensures cleared { plain_of self.new ≡ without (λ _. true) (plain_of self.old) }
+        ensures cleared { plain_of self.new ≡ record (plain_of self.old) { items = empty } }
         ensures count { length self.new.list.items ≡ length self.old.list.items }
     {
-        for at in 0..self.list.len() {
-            self.clear(at);
+        for place in 0..self.list.len() {
+            self.clear(place);
         }
     }
 
@@ -163,7 +165,7 @@ fn empty_shelves(alloc: Global, count: u32, greatest: u64) -> Result<Vec<Shelf>,
 
 /// The cut of each.
 fn set_cuts(list: &mut Vec<Shelf>, cut: Option<u64>)
-    ensures { list.new.items ≡ map (λ shelf. record shelf { cut = cut }) list.old.items }
+    ensures { list.new.items ≡ map {A = ShelfState} (λ shelf. record shelf { cut = cut }) list.old.items }
 {
     for shelf in list.iter_mut() {
         shelf.set_cut(cut);
