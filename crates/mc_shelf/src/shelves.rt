@@ -9,7 +9,7 @@ ghost use Rattle.mc_shelf.specs.Unions.{plain_of, AreShelves, without};
 
 use crate::desk::Desk;
 use crate::shelf::Shelf;
-use mc_command::{KeyStep, Reply, StepFault, other_keys_stay};
+use mc_command::{KeyStep, Reply, StepFault, counts_follow, other_keys_stay};
 use mc_time::{Moment, cut_after};
 use std::alloc::{AllocError, Global};
 
