@@ -1,5 +1,5 @@
 -- How many items of a class stand, after each change of the items.
-use Rattle.std.proofs.Common.{◌≡◌, ℕ, ◌+◌, ◌≤◌, Bool, true, false, cond, eqb, ◌&&◌, List, [], ◌∷◌, length, Option, Some, None, refl, sym, ap, subst, ◌∙◌, arith}
+use Rattle.std.proofs.Common.{◌≡◌, ℕ, ◌+◌, ◌≤◌, Bool, true, false, cond, eqb, not, ◌&&◌, List, [], ◌∷◌, length, Option, Some, None, refl, sym, ap, subst, ◌∙◌, arith}
 use lib.Dec.{T}
 use Rattle.std.specs.Ordering.{is_eq, is_lt}
 use Rattle.std.specs.Cmp.Lexicographic.{nat_list_cmp_total}
@@ -51,7 +51,7 @@ find_below q (e ∷ es) below =
     ap (λ (o : Ordering). cond (is_eq o) (Some e.1) (find bytes_cmp q es)) (less _ (first _ _ below)) ∙ find_below q es (second _ _ below)
 
 -- the entries of the items whose keys pass a test
-pub entries-retain_keys : (items : Items) (keep : List ℕ → Bool) → entries (retain_keys items keep) ≡ where_key bytes_cmp keep (entries items)
+entries-retain_keys : (items : Items) (keep : List ℕ → Bool) → entries (retain_keys items keep) ≡ where_key bytes_cmp keep (entries items)
 entries-retain_keys items keep =
     let es = where_key bytes_cmp keep (entries items) in
     let sorted : T (is_sorted bytes_cmp es) = is_sorted-where_key bytes_cmp keep (entries items) (entries_sorted items) in
@@ -63,10 +63,10 @@ entries-retain_keys items keep =
     ap (λ (m : Items). entries m) same ∙ entries-from_sorted bytes_cmp es sorted
 
 module _ (class : ℕ) where
-  abbrev pub is_of : Pair → Bool
+  abbrev is_of : Pair → Bool
   is_of e = eqb (item_class e.0 e.1) class
 
-  pub count-cons : (e : Pair) (es : List Pair) → count_by is_of (e ∷ es) ≡ cond (is_of e) 1 0 + count_by is_of es
+  count-cons : (e : Pair) (es : List Pair) → count_by is_of (e ∷ es) ≡ cond (is_of e) 1 0 + count_by is_of es
   count-cons e es = sum_by-cons (λ (e : Pair). cond (is_of e) 1 0) e es
 
   count-put : (k : List ℕ) (v : Entry) (es : List Pair) → T (is_sorted bytes_cmp es) → count_by is_of (put bytes_cmp k v es) + of_class k (find bytes_cmp k es) class ≡ count_by is_of es + of_class k (Some v) class
@@ -131,6 +131,24 @@ module _ (class : ℕ) where
   -- those whose keys pass a test
   pub count-retain : (items : Items) (keep : List ℕ → Bool) → count_of (retain_keys items keep) class ≤ count_of items class
   count-retain items keep = rw (entries-retain_keys items keep) (count-where_key keep (entries items))
+
+  -- those whose keys pass a test, and the others
+  parts : (meant : List ℕ → Bool) (es : List Pair) → count_by is_of es ≡ count_by is_of (where_key bytes_cmp meant es) + count_by is_of (where_key bytes_cmp (λ key. not (meant key)) es)
+  parts meant [] = omega arith
+  parts meant (e ∷ es) =
+      let rest = parts meant es in
+      let all = count-cons e es in
+      let in_first = count-cons e (where_key bytes_cmp meant es) in
+      let in_second = count-cons e (where_key bytes_cmp (λ key. not (meant key)) es) in
+      let first = where_key bytes_cmp meant es in
+      let second = where_key bytes_cmp (λ key. not (meant key)) es in
+      elim (meant e.0) as (λ b. count_by is_of (e ∷ es) ≡ count_by is_of (cond b (e ∷ first) first) + count_by is_of (cond (not b) (e ∷ second) second)) [
+        | true ↦ omega arith
+        | false ↦ omega arith
+      ]
+
+  pub count-parted : (items : Items) (meant : List ℕ → Bool) → count_of items class ≡ count_of (retain_keys items meant) class + count_of (retain_keys items (λ key. not (meant key))) class
+  count-parted items meant = rw (entries-retain_keys items meant, entries-retain_keys items (λ key. not (meant key))) (parts meant (entries items))
 
 -- the entries of the items that a map's entries make
 below_entries : (k : Vec ℕ Global) (es : Entries) → AllByRecursion (λ y. key_cmp k y ≡ Less) (keys_of es) → T (below_all bytes_cmp k.items (pairs es))

@@ -1,6 +1,6 @@
 //! Laws of the plain machine, each the contract of a function that does nothing.
 
-ghost use Rattle.std.specs.Prelude.{◌≡◌, ◌≢◌, ◌+◌, ◌≤◌, ◌<◌, ◌↔◌, ℕ, List, Bool, Option, Some, None, sum, true};
+ghost use Rattle.std.specs.Prelude.{◌≡◌, ◌≢◌, ◌+◌, ◌≤◌, ◌<◌, ◌↔◌, ℕ, List, Bool, not, Option, Some, None, sum, true};
 ghost use Rattle.std.specs.FinMap.{get, insert, remove, retain_keys, empty};
 ghost use Rattle.mc_time.specs.declared.expiry.Expiry.{Expiry};
 ghost use Rattle.mc_time.specs.Death.{is_dead, moment_named};
@@ -52,6 +52,8 @@ pub fn counts_follow()
         count_of (remove items key) class + of_class key (get items key) class ≡ count_of items class }
     ensures retain { (items : Items) (keep : List ℕ → Bool) (class : ℕ) →
         count_of (retain_keys items keep) class ≤ count_of items class }
+    ensures parted { (items : Items) (meant : List ℕ → Bool) (class : ℕ) →
+        count_of items class ≡ count_of (retain_keys items meant) class + count_of (retain_keys items (λ key. not (meant key))) class }
 {}
 
 /// An item that is dead stays so, while nothing changes it and no flush comes.

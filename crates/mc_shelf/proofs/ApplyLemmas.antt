@@ -12,7 +12,6 @@ use Rattle.mc_command.specs.declared.step.Verb.{Verb}
 use Rattle.mc_command.specs.declared.step.Verb.TheVariants.{Set, Add, Replace, Append, Prepend}
 use Rattle.mc_command.specs.Commands.{key_of}
 use Rattle.mc_command.specs.Plain.{Entry, Items, Change, Recounts, Row, alive, charge, count_of, counted, opening, item_class, number_of, number_row, store_row, cas_row}
-use Rattle.mc_command.proofs.ItemLemmas.{insert-remove}
 use Rattle.mc_command.specs.Laws.{IsOnKey, of_class, row_of}
 use Rattle.mc_shelf.specs.declared.plan.Next.TheVariants.{Write}
 use Rattle.mc_command.specs.declared.reply.Reply.TheVariants.{NotNumeric, Number}
@@ -20,7 +19,7 @@ use Rattle.mc_shelf.specs.States.{ShelfState, DeskState, CanStand}
 use Rattle.mc_shelf.specs.Plans.{GivesBack, HoldsWrite, IsWritten, IsApart, OthersStay, Takes, counts, has_class, has_dead, next_by, next_of, row_at, stays, stood, told_of, Puts}
 use Rattle.mc_shelf.proofs.RowLemmas.{same_Some}
 use Rattle.mc_command.specs.declared.reply.Reply.{Reply}
-use Rattle.mc_shelf.proofs.StandLemmas.{InsertCounts, RemoveCounts, get_gone, get_put_other, item_of, limit-taken, out-given, out-taken, out_some}
+use Rattle.mc_shelf.proofs.StandLemmas.{InsertCounts, RemoveCounts, get_gone, get_put_other, insert-remove, item_of, limit-taken, out-given, out-taken, out_some}
 use Rattle.mc_shelf.proofs.PlanLemmas.{alive_found, cas_if, not_answered_write, takes_anew, takes_recount, takes_reuse, write_fits, write_puts}
 
 -- an item that is dead is found

@@ -2,8 +2,9 @@
 use Rattle.std.proofs.Common.{◌≡◌, ◌≢◌, ℕ, ◌+◌, ◌-◌, ◌*◌, ◌<◌, ◌≤◌, ◌^◌, Bool, true, false, cond, List, length, get_or, set, sum, Option, Some, None, Less, Equal, Greater, is_eq, eqb, if◌then◌else◌, refl, sym, ap, ◌∙◌, arith, get_or-set_same, get_or-set_other, length-set, lt-ltb, le-ltb, eq-eqb, ne_eqb, eqb-true, true≢false, inl, inr}
 use Rattle.std.proofs.lemmas.Bool.{cases_lt}
 use Rattle.std.specs.Cmp.{tied_itself}
-use Rattle.std.specs.FinMap.{get, insert, remove, get-insert, get-remove}
+use Rattle.std.specs.FinMap.{get, insert, remove, get-insert, get-remove, same_map}
 use Rattle.std.specs.Cmp.Lexicographic.{nat_list_cmp_total}
+use Rattle.std.specs.Ordering.{eq_by_cmp}
 use Rattle.mc_time.specs.declared.expiry.Expiry.{Expiry}
 use Rattle.mc_slab.specs.Classes.{IsClass, class_holding, chunks_a_page}
 use Rattle.mc_slab.specs.Slabs as slabs
@@ -18,6 +19,19 @@ use Rattle.mc_command.specs.Laws.{IsOnKey, row_of, of_class}
 use Rattle.mc_shelf.specs.States.{ShelfState, DeskState, IsAt}
 use Rattle.mc_shelf.specs.Plans.{OthersStay}
 use Rattle.mc_shelf.proofs.IndexLemmas.{order, same_key}
+
+-- an insertion after a removal of the same key
+chosen_twice : (b : Bool) (x y z : Option Entry) → cond b x (cond b y z) ≡ cond b x z
+chosen_twice true x y z = refl
+chosen_twice false x y z = refl
+
+pub insert-remove : (items : Items) (k : List ℕ) (item : Entry) → insert (remove items k) k item ≡ insert items k item
+insert-remove items k item =
+    same_map nat_list_cmp_total same_key _ _ (λ q.
+    get-insert nat_list_cmp_total (remove items k) k item q
+    ∙ ap (cond (eq_by_cmp order q k) (Some item)) (get-remove nat_list_cmp_total items k q)
+    ∙ chosen_twice (eq_by_cmp order q k) (Some item) None (get items q)
+    ∙ sym (get-insert nat_list_cmp_total items k item q))
 
 -- how counts of a class move, the laws of the plain machine
 abbrev pub InsertCounts : Type 0

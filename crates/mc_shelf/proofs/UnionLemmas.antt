@@ -7,10 +7,12 @@ use mathlib.Core.HLevel.{is_prop→PathP}
 use Rattle.std.specs.Vec.{with_item}
 use Rattle.std.specs.Option.{option_or}
 use Rattle.std.specs.declared.alloc.Global.{Global}
-use Rattle.std.specs.List.{count_by}
+use Rattle.std.specs.Cmp.{eq_by_cmp_equiv, IsEquivalence}
 use Rattle.std.specs.Cmp.Lexicographic.{nat_list_cmp_total}
+use Rattle.std.specs.Ordering.{eq_by_cmp, is_eq}
+use Rattle.std.specs.declared.cmp.Ordering.{Ordering}
+use Rattle.std.specs.declared.cmp.Ordering.TheVariants.{Less, Equal, Greater}
 use Rattle.std.specs.FinMap.{empty, entries, get, find, get-empty, get-entries, get-from_entries, get-retain_keys, retain_keys, same_map}
-use Rattle.std.specs.FinMap.Entries.{where_key}
 use Rattle.mc_slab.specs.Classes.{IsClass}
 use Rattle.mc_slab.specs.Slabs.{out_of}
 use Rattle.mc_command.specs.declared.step.KeyStep.{KeyStep}
@@ -20,27 +22,41 @@ use Rattle.mc_command.specs.Commands.{key_of}
 use Rattle.mc_command.specs.Laws.{IsOnKey}
 use Rattle.mc_command.specs.Plain.{Answered, Entry, Items, Plain, alive, count_of, living, plain}
 use Rattle.mc_command.specs.Purge.{purged}
-use Rattle.mc_command.proofs.ItemLemmas.{bytes_cmp, same_bytes, laws, exact, is_equal}
-use Rattle.mc_command.proofs.CountLemmas.{count-cons, is_of, entries-retain_keys}
 use Rattle.mc_shelf.specs.States.{ShelfState, DeskState, IsAt}
 use Rattle.mc_shelf.specs.Plans.{OthersStay, Takes}
 use Rattle.mc_shelf.specs.Sweeps.{AreOut, GivesFor}
 use Rattle.mc_shelf.specs.Unions.{AreShelves, all_entries, all_items, plain_of, without}
 use Rattle.mc_shelf.specs.declared.shelves.Shelves.{Shelves}
+use Rattle.mc_shelf.proofs.IndexLemmas.{order, same_key}
 
 -- the plain machine's step on a key leaves the other keys, as `other_keys_stay` says
 abbrev pub OthersLaw : Type 0
 OthersLaw = (old new : Plain) (step : KeyStep) (now : ℕ) (reply : Reply) (other : List ℕ) → IsOnKey step → plain old step now ≡ Answered reply new → other ≢ key_of step → get new.items other ≡ get old.items other
+
+-- the items whose keys pass a test and the others are all of them, as `counts_follow` says
+abbrev pub PartsLaw : Type 0
+PartsLaw = (items : Items) (meant : List ℕ → Bool) (class : ℕ) → count_of items class ≡ count_of (retain_keys items meant) class + count_of (retain_keys items (λ key. not (meant key))) class
+
+abbrev same_bytes : List ℕ → List ℕ → Bool
+same_bytes = eq_by_cmp order
+
+laws : IsEquivalence same_bytes
+laws = eq_by_cmp_equiv nat_list_cmp_total
+
+is_equal : (o : Ordering) → is_eq o ≡ true → o ≡ Equal
+is_equal Less h = cc
+is_equal Equal h = refl
+is_equal Greater h = cc
 
 -- ---- what all shelves have at a key
 
 abbrev Pair : Type 0
 Pair = List ℕ × Entry
 
-find_beside : (xs ys : List Pair) (q : List ℕ) → find bytes_cmp q (xs ++ ys) ≡ option_or (find bytes_cmp q xs) (find bytes_cmp q ys)
+find_beside : (xs ys : List Pair) (q : List ℕ) → find order q (xs ++ ys) ≡ option_or (find order q xs) (find order q ys)
 find_beside [] ys q = refl
 find_beside (x ∷ xs) ys q =
-    elim (same_bytes q x.0) as (λ b. cond b (Some x.1) (find bytes_cmp q (xs ++ ys)) ≡ option_or (cond b (Some x.1) (find bytes_cmp q xs)) (find bytes_cmp q ys)) [
+    elim (same_bytes q x.0) as (λ b. cond b (Some x.1) (find order q (xs ++ ys)) ≡ option_or (cond b (Some x.1) (find order q xs)) (find order q ys)) [
       | true ↦ refl
       | false ↦ find_beside xs ys q
     ]
@@ -50,7 +66,7 @@ abbrev first_of : List ShelfState → List ℕ → Option Entry
 first_of [] q = None
 first_of (shelf ∷ shelves) q = option_or (get shelf.items q) (first_of shelves q)
 
-find_first : (shelves : List ShelfState) (q : List ℕ) → find bytes_cmp q (all_entries shelves) ≡ first_of shelves q
+find_first : (shelves : List ShelfState) (q : List ℕ) → find order q (all_entries shelves) ≡ first_of shelves q
 find_first [] q = refl
 find_first (shelf ∷ shelves) q =
     find_beside (entries shelf.items) (all_entries shelves) q
@@ -120,41 +136,21 @@ put_same v at shelf here =
       small = v.small;
     }
 
--- ---- counts by keys
-
--- those of a class, by whether their keys pass a test
-parts : (class : ℕ) (meant : List ℕ → Bool) (es : List Pair)
-    → count_by (is_of class) es ≡ count_by (is_of class) (where_key bytes_cmp meant es) + count_by (is_of class) (where_key bytes_cmp (λ key. not (meant key)) es)
-parts class meant [] = omega arith
-parts class meant (e ∷ es) =
-    let rest = parts class meant es in
-    let all = count-cons class e es in
-    let in_first = count-cons class e (where_key bytes_cmp meant es) in
-    let in_second = count-cons class e (where_key bytes_cmp (λ key. not (meant key)) es) in
-    let first = where_key bytes_cmp meant es in
-    let second = where_key bytes_cmp (λ key. not (meant key)) es in
-    elim (meant e.0) as (λ b. count_by (is_of class) (e ∷ es) ≡ count_by (is_of class) (cond b (e ∷ first) first) + count_by (is_of class) (cond (not b) (e ∷ second) second)) [
-      | true ↦ omega arith
-      | false ↦ omega arith
-    ]
-
-count_parts : (items : Items) (meant : List ℕ → Bool) (class : ℕ) → count_of items class ≡ count_of (retain_keys items meant) class + count_of (retain_keys items (λ key. not (meant key))) class
-count_parts items meant class =
-    rw (entries-retain_keys items meant, entries-retain_keys items (λ key. not (meant key))) (parts class meant (entries items))
+-- ---- parts by keys
 
 -- two maps that have the same under the keys that pass
 same_part : (m n : Items) (meant : List ℕ → Bool) → ((q : List ℕ) → meant q ≡ true → get m q ≡ get n q) → retain_keys m meant ≡ retain_keys n meant
 same_part m n meant same =
-    same_map nat_list_cmp_total exact _ _ (λ q.
-    get-retain_keys m meant q (λ x h. ap meant (sym (exact q x h)))
+    same_map nat_list_cmp_total same_key _ _ (λ q.
+    get-retain_keys m meant q (λ x h. ap meant (sym (same_key q x h)))
     ∙ elim (meant q) as (λ b. meant q ≡ b → cond b (get m q) None ≡ cond b (get n q) None) [ true ↦ λ h. same q h | false ↦ λ h. refl ] refl
-    ∙ sym (get-retain_keys n meant q (λ x h. ap meant (sym (exact q x h)))))
+    ∙ sym (get-retain_keys n meant q (λ x h. ap meant (sym (same_key q x h)))))
 
 -- a map that has what another has under the keys that pass, and no more
 whole_part : (m n : Items) (meant : List ℕ → Bool) → ((q : List ℕ) → meant q ≡ true → get m q ≡ get n q) → ((q : List ℕ) → meant q ≡ false → get n q ≡ None) → retain_keys m meant ≡ n
 whole_part m n meant same none =
-    same_map nat_list_cmp_total exact _ _ (λ q.
-    get-retain_keys m meant q (λ x h. ap meant (sym (exact q x h)))
+    same_map nat_list_cmp_total same_key _ _ (λ q.
+    get-retain_keys m meant q (λ x h. ap meant (sym (same_key q x h)))
     ∙ elim (meant q) as (λ b. meant q ≡ b → cond b (get m q) None ≡ get n q) [ true ↦ λ h. same q h | false ↦ λ h. sym (none q h) ] refl)
 
 -- ---- shelves of which one is changed
@@ -175,7 +171,7 @@ at_or_not k at = elim (eqb k at) as (λ b. eqb k at ≡ b → (k ≡ at) ⊎ (k 
 
 key_or_not : (q key : List ℕ) → (q ≡ key) ⊎ (q ≢ key)
 key_or_not q key = elim (same_bytes q key) as (λ b. same_bytes q key ≡ b → (q ≡ key) ⊎ (q ≢ key)) [
-  | true ↦ λ h. inl (exact q key (is_equal _ h))
+  | true ↦ λ h. inl (same_key q key (is_equal _ h))
   | false ↦ λ h. inr (λ same. true≢false (sym (laws.refl q) ∙ ap (same_bytes q) same ∙ h))
 ] refl
 
@@ -217,9 +213,9 @@ module _ (shelf_of : List ℕ → ℕ) (s : Shelves) (are : AreShelves shelf_of 
   own_part : retain_keys all mine ≡ shelf.items
   own_part = whole_part all shelf.items mine (λ q h. get_own q (eqb-true (shelf_of q) at h)) (λ q h. are.apart at shelf q here (λ same. true≢false (sym (eq-eqb (shelf_of q) at same) ∙ h)))
 
-  pub shelf_out : AreOut shelf s.desk
-  shelf_out class is =
-      let split = count_parts all mine class in
+  pub shelf_out : PartsLaw → AreOut shelf s.desk
+  shelf_out parts class is =
+      let split = parts all mine class in
       let own : count_of (retain_keys all mine) class ≡ count_of shelf.items class = ap (λ (m : Items). count_of m class) own_part in
       let out = are.out class is in
       omega arith
@@ -254,10 +250,10 @@ module _ (shelf_of : List ℕ → ℕ) (s : Shelves) (are : AreShelves shelf_of 
     rest_part = same_part (all_items put_list) all (λ q. not (mine q)) (λ q h. get_other q (λ same. true≢false (sym (eq-eqb (shelf_of q) at same) ∙ not_true (mine q) h)))
 
     -- the desk counts the chunks of all again, where it got back those of what was dropped
-    out_after : GivesFor shelf.items new.items s.desk desk → (class : ℕ) → IsClass class → out_of desk.slab class ≡ count_of (all_items put_list) class
-    out_after gives class is =
-        let before = count_parts all mine class in
-        let now = count_parts (all_items put_list) mine class in
+    out_after : PartsLaw → GivesFor shelf.items new.items s.desk desk → (class : ℕ) → IsClass class → out_of desk.slab class ≡ count_of (all_items put_list) class
+    out_after parts gives class is =
+        let before = parts all mine class in
+        let now = parts (all_items put_list) mine class in
         let own : count_of (retain_keys all mine) class ≡ count_of shelf.items class = ap (λ (m : Items). count_of m class) own_part in
         let new_own : count_of (retain_keys (all_items put_list) mine) class ≡ count_of new.items class = ap (λ (m : Items). count_of m class) new_part in
         let rest : count_of (retain_keys (all_items put_list) (λ q. not (mine q))) class ≡ count_of (retain_keys all (λ q. not (mine q))) class = ap (λ (m : Items). count_of m class) rest_part in
@@ -273,16 +269,16 @@ module _ (shelf_of : List ℕ → ℕ) (s : Shelves) (are : AreShelves shelf_of 
 
     all_kept : (rest : List ℕ → Bool) → ((q : List ℕ) → shelf_of q ≡ at → rest q ≡ keep q) → ((q : List ℕ) → shelf_of q ≢ at → rest q ≡ true) → all_items (slice_set list at new) ≡ retain_keys all rest
     all_kept rest own others =
-        same_map nat_list_cmp_total exact _ _ (λ q.
+        same_map nat_list_cmp_total same_key _ _ (λ q.
         ⊎_elim
         (λ h. get_new new s.desk apart_kept q h ∙ kept q ∙ (λ i. cond (sym (own q h) i) (sym (get_own q h) i) None))
         (λ h. get_other new s.desk apart_kept q h ∙ ap (λ b. cond b (get all q) None) (sym (others q h)))
         (at_or_not (shelf_of q) at)
-        ∙ sym (get-retain_keys all rest q (λ x h. ap rest (sym (exact q x h)))))
+        ∙ sym (get-retain_keys all rest q (λ x h. ap rest (sym (same_key q x h)))))
 
     module _ (desk : DeskState) (gives : GivesFor shelf.items new.items s.desk desk) where
-      are_kept : new.greatest ≡ shelf.greatest → new.cut ≡ shelf.cut → AreShelves shelf_of (put_at s at new desk)
-      are_kept greatest cut = are_after new desk apart_kept greatest cut (out_after new desk apart_kept gives)
+      are_kept : PartsLaw → new.greatest ≡ shelf.greatest → new.cut ≡ shelf.cut → AreShelves shelf_of (put_at s at new desk)
+      are_kept parts greatest cut = are_after new desk apart_kept greatest cut (out_after new desk apart_kept parts gives)
 
       plain_kept : (rest : List ℕ → Bool) → ((q : List ℕ) → shelf_of q ≡ at → rest q ≡ keep q) → ((q : List ℕ) → shelf_of q ≢ at → rest q ≡ true) → plain_of (put_at s at new desk) ≡ record (plain_of s) { items = retain_keys all rest }
       plain_kept rest own others = λ i. record { greatest = s.greatest; limit = gives.limit i; items = all_kept rest own others i; cut = s.cut; next_unique = gives.next_unique i; pages = gives.pages i }
@@ -293,10 +289,10 @@ module _ (shelf_of : List ℕ → ℕ) (s : Shelves) (are : AreShelves shelf_of 
     lives q = is_some (alive shelf.cut now (get shelf.items q))
 
     kept_living : (q : List ℕ) → get new.items q ≡ cond (lives q) (get shelf.items q) None
-    kept_living q = ap (λ (t : ShelfState). get t.items q) new_is ∙ get-retain_keys shelf.items lives q (λ x h. ap lives (sym (exact q x h)))
+    kept_living q = ap (λ (t : ShelfState). get t.items q) new_is ∙ get-retain_keys shelf.items lives q (λ x h. ap lives (sym (same_key q x h)))
 
-    pub are_purged : AreShelves shelf_of (put_at s at new desk)
-    are_purged = are_kept new lives kept_living desk gives (ap (λ (t : ShelfState). t.greatest) new_is) (ap (λ (t : ShelfState). t.cut) new_is)
+    pub are_purged : PartsLaw → AreShelves shelf_of (put_at s at new desk)
+    are_purged parts = are_kept new lives kept_living desk gives parts (ap (λ (t : ShelfState). t.greatest) new_is) (ap (λ (t : ShelfState). t.cut) new_is)
 
     pub plain_purged : plain_of (put_at s at new desk) ≡ purged mine now (plain_of s)
     plain_purged =
@@ -307,10 +303,10 @@ module _ (shelf_of : List ℕ → ℕ) (s : Shelves) (are : AreShelves shelf_of 
   -- all of them
   module _ (new : ShelfState) (desk : DeskState) (new_is : new ≡ record shelf { items = empty }) (gives : GivesFor shelf.items new.items s.desk desk) where
     kept_none : (q : List ℕ) → get new.items q ≡ None
-    kept_none q = ap (λ (t : ShelfState). get t.items q) new_is ∙ get-empty bytes_cmp q
+    kept_none q = ap (λ (t : ShelfState). get t.items q) new_is ∙ get-empty order q
 
-    pub are_cleared : AreShelves shelf_of (put_at s at new desk)
-    are_cleared = are_kept new (λ q. false) kept_none desk gives (ap (λ (t : ShelfState). t.greatest) new_is) (ap (λ (t : ShelfState). t.cut) new_is)
+    pub are_cleared : PartsLaw → AreShelves shelf_of (put_at s at new desk)
+    are_cleared parts = are_kept new (λ q. false) kept_none desk gives parts (ap (λ (t : ShelfState). t.greatest) new_is) (ap (λ (t : ShelfState). t.cut) new_is)
 
     pub plain_cleared : plain_of (put_at s at new desk) ≡ without mine (plain_of s)
     plain_cleared =
@@ -327,7 +323,7 @@ module _ (shelf_of : List ℕ → ℕ) (s : Shelves) (are : AreShelves shelf_of 
     -- what the plain machine does at the key is what the shelf did, and the other keys stay in both
     same_items : OthersLaw → IsOnKey step → (now : ℕ) (reply : Reply) (t : Plain) → plain (plain_of s) step now ≡ Answered reply t → IsAt (key_of step) new desk t → t.items ≡ all_items (slice_set list at new)
     same_items others_law on now reply t answered stands =
-        same_map nat_list_cmp_total exact _ _ (λ q.
+        same_map nat_list_cmp_total same_key _ _ (λ q.
         ⊎_elim
         (λ same. ap (get t.items) same ∙ stands.item ∙ sym (get_new new desk apart_stay (key_of step) own) ∙ ap (get (all_items (slice_set list at new))) (sym same))
         (λ other. others_law (plain_of s) t step now reply q on answered other ∙ get_first list q ∙ sym (first_same list at shelf new q here (stay.items q other)) ∙ sym (get_first (slice_set list at new) q))

@@ -76,6 +76,7 @@ impl Shelves {
         ensures purged { (shelf_of : List ℕ → ℕ) → AreShelves shelf_of self.old → plain_of self.new ≡ purged (λ key. shelf_of key == at) now (plain_of self.old) }
         ensures count { length self.new.list.items ≡ length self.old.list.items }
     {
+        counts_follow();
         let shelf = &mut self.list[at];
         shelf.purge(now, &mut self.desk);
     }
@@ -87,6 +88,7 @@ impl Shelves {
         ensures cleared { (shelf_of : List ℕ → ℕ) → AreShelves shelf_of self.old → plain_of self.new ≡ without (λ key. shelf_of key == at) (plain_of self.old) }
         ensures count { length self.new.list.items ≡ length self.old.list.items }
     {
+        counts_follow();
         let shelf = &mut self.list[at];
         shelf.clear(&mut self.desk);
     }
