@@ -31,6 +31,9 @@ KEYS = 1000
 MEGA = 1_000_000
 WORLDS = f"{ROOT}/crates/mc_bench/out/mc_bench"
 SESSIONS = [1, 100, 10_000]
+# what mcserver says last, and of an item that finds no chunk
+VERSION = b"VERSION 1.6.0\r\n"
+REFUSED = b"SERVER_ERROR out of memory storing object\r\n"
 # what a session is told in a round, of a set and a get of its key
 TOLD = b"STORED\r\nVALUE key 0 1\r\nx\r\nEND\r\n"
 
@@ -137,14 +140,39 @@ class Server:
         """Sends data, and gives what comes back, up to and with this end."""
         sending = threading.Thread(target=self.send, args=(data,))
         sending.start()
-        got = b""
+        got = bytearray()
         while not got.endswith(end):
             piece = self.receive()
             if not piece:
-                sys.exit(f"the server went after {got[-100:]!r}")
+                sys.exit(f"the server went after {bytes(got[-100:])!r}")
             got += piece
         sending.join()
-        return got
+        return bytes(got)
+
+    def filled(self, sets_of, asked):
+        """Sets so many items, of which the store takes the first. Gives how many those are, and the resident bytes then."""
+        got = self.answer(sets_of + b"version\r\n", VERSION)
+        count = got.count(b"STORED\r\n")
+        if got != b"STORED\r\n" * count + REFUSED * (asked - count) + VERSION or count == asked:
+            sys.exit(f"{count} of {asked} items were stored, and not the first, or all of them")
+        return count, self.resident()
+
+    def emptied(self, deletes_of, asked, count):
+        """Deletes them from the last to the first, of which so many stand."""
+        got = self.answer(deletes_of + b"version\r\n", VERSION)
+        if got != b"NOT_FOUND\r\n" * (asked - count) + b"DELETED\r\n" * count + VERSION:
+            sys.exit(f"other items than the first {count} were there to be deleted")
+
+    def cost(self, data):
+        """The processor's seconds that its process takes for this data."""
+        before = self.processor()
+        self.answer(data + b"version\r\n", VERSION)
+        return self.processor() - before
+
+    def processor(self):
+        """The processor's seconds that its process has had."""
+        with open(f"/proc/{self.started.pid}/schedstat") as it:
+            return int(it.read().split()[0]) / 1e9
 
     def resident(self):
         """The resident bytes of its process."""
@@ -252,34 +280,47 @@ class Bench:
                 print(f"{name:<25}{count:>11,}{found:>15.0f}" + (f"  {found / last:.2f}" if last else ""), flush=True)
                 last = found
 
-    def standing(self):
-        """What a set of a new key and a get cost while so many items stand."""
-        print(f"\n{'items that stand':<17}{'ns a set':>9}{'ns a get':>9}")
+    def standing(self, least=200_000):
+        """What a set of a new key, a set of one that stands, and a get cost while so many items stand."""
+        print(f"\n{'items that stand':<17}{'ns a set of a new key':>22}{'ns a set again':>16}{'ns a get':>10}  (of the processor's time)")
         for count in (10_000, 100_000, 1_000_000):
             order = [it * 7919 % count for it in range(count)]
+            times = max(least // count, 1)
             sets_of = b"".join(stored(b"set", key(it), more=b" noreply") for it in order)
             gets_of = b"".join(b"get %s\r\n" % key(it) for it in order)
-            _, empty, _, _ = self.run(b"")
-            _, filled, _, _ = self.run(sets_of)
-            _, both, _, _ = self.run(sets_of + gets_of)
-            print(f"{count:<17,}{(filled - empty) / count * 1e9:>9.0f}{(both - filled) / count * 1e9:>9.0f}", flush=True)
+            found = []
+            for _ in range(self.runs if count < MEGA else 1):
+                server = Server([self.program, *ARGS])
+                server.answer(b"version\r\n", VERSION)
+                new = server.cost(sets_of) / count
+                again = server.cost(sets_of * times) / count / times
+                found.append((new, again, server.cost(gets_of * times) / count / times))
+                server.stop()
+            new, again, got = (statistics.median(it) * 1e9 for it in zip(*found))
+            print(f"{count:<17,}{new:>22.0f}{again:>16.0f}{got:>10.0f}", flush=True)
 
     def refilled(self, times=100):
         """A store of 64 pages is filled to the refusal and emptied by deletes, again and again."""
-        server = Server([self.program, "--stdin", "--now", "1000", "-m", "64"])
-        sets_of = [stored(b"set", key(it), b"b" * 500_000) for it in range(65)]
-        deletes_of = [b"delete %s\r\n" % key(it) for it in range(65)]
-        stream = b"".join(sets_of + deletes_of) + b"version\r\n"
-        refused = b"SERVER_ERROR out of memory storing object\r\n"
-        wanted = b"STORED\r\n" * 64 + refused + b"DELETED\r\n" * 64 + b"NOT_FOUND\r\n" + b"VERSION 1.6.0\r\n"
-        found = []
-        for number in range(times):
-            if server.answer(stream, b"VERSION 1.6.0\r\n") != wanted:
-                sys.exit(f"the answers of time {number} are others")
-            found.append(server.resident() / MEGA)
-        server.stop()
-        print(f"\n64 pages filled to the refusal and emptied {times} times, each with the same answers")
-        print(f"MB of memory after the first time {found[0]:.1f}, at most {max(found):.1f}, after the last {found[-1]:.1f}", flush=True)
+        print(f"\n64 pages filled to the refusal and emptied {times} times\n")
+        print(f"{'bytes a block':<15}{'time':>5}{'items stored':>14}{'MB when full':>14}{'MB when empty':>15}")
+        # more than fit: chunks of 600 and of 1048576 bytes, of which a page has 1,747 and one
+        for size, asked in ((500, 112_000), (500_000, 66)):
+            order = [it * 7919 % asked for it in range(asked)]
+            fill = b"".join(stored(b"set", key(it), b"b" * size) for it in order)
+            empty = b"".join(b"delete %s\r\n" % key(it) for it in reversed(order))
+            server = Server([self.program, "--stdin", "--now", "1000", "-m", "64"])
+            counts, most = set(), 0
+            for time_of in range(1, times + 1):
+                count, full = server.filled(fill, asked)
+                server.emptied(empty, asked, count)
+                left = server.resident()
+                counts.add(count)
+                most = max(most, full, left)
+                if time_of in (1, 2, times // 2, times):
+                    print(f"{size:<15,}{time_of:>5}{count:>14,}{full / MEGA:>14.1f}{left / MEGA:>15.1f}", flush=True)
+            server.stop()
+            same = "the same count each time" if len(counts) == 1 else f"NOT the same count each time: {sorted(counts)}"
+            print(f"{size:<15,}{'most':>5}{'':>14}{most / MEGA:>14.1f}  {same}", flush=True)
 
     def memory(self):
         print(f"\n{'the most memory':<45}{'MB in':>9}{'MB of memory':>14}")
