@@ -6,3 +6,4 @@ pub mod PlanLemmas
 pub mod ApplyLemmas
 pub mod SweepLemmas
 pub mod RefusalLemmas
+pub mod AloneLemmas
