@@ -1,17 +1,16 @@
 -- What a write leaves of a shelf and a desk.
-use Rattle.std.proofs.Common.{◌≡◌, ◌≢◌, ℕ, ◌+◌, ◌-◌, ◌<◌, ◌≤◌, ◌^◌, Bool, true, false, ◌&&◌, ◌||◌, List, length, Result, Ok, Err, IfOk, OnErr, Option, Some, None, is_some, is_none, refl, sym, ap, subst, ◌∙◌, arith, eqb, eqb-true, ltb, ltb-false, decimal, if◌then◌else◌, true≢false}
-use Rattle.std.proofs.lemmas.List.{get_or-replicate}
-use Rattle.std.specs.FinMap.{empty, get, insert, remove}
+use Rattle.std.proofs.Common.{◌≡◌, ◌≢◌, ℕ, ◌+◌, ◌-◌, ◌<◌, ◌≤◌, ◌^◌, Bool, true, false, ◌&&◌, ◌||◌, List, length, Option, Some, None, is_some, is_none, refl, sym, ap, subst, ◌∙◌, arith, eqb, eqb-true, ltb, ltb-false, decimal, if◌then◌else◌, true≢false}
+use Rattle.std.specs.FinMap.{get, insert, remove}
 use Rattle.mc_slab.specs.Classes.{IsClass, class_holding, size_of}
 use Rattle.mc_slab.specs.Chunks.{IsChunkOf}
-use Rattle.mc_slab.specs.Slabs.{SlabState, IsSlab, IsFull, taken, untouched, has_room, out_of, chunks_of, pages_left}
+use Rattle.mc_slab.specs.Slabs.{SlabState, IsSlab, IsFull, taken, has_room, out_of, chunks_of, pages_left}
 use Rattle.mc_time.specs.declared.expiry.Expiry.{Expiry}
 use Rattle.mc_command.specs.declared.step.KeyStep.{KeyStep}
 use Rattle.mc_command.specs.declared.step.KeyStep.TheVariants.{Store, Cas, Read, ReadTouch, Touch, Delete, Count, Flush}
 use Rattle.mc_command.specs.declared.step.Verb.{Verb}
 use Rattle.mc_command.specs.declared.step.Verb.TheVariants.{Set, Add, Replace, Append, Prepend}
 use Rattle.mc_command.specs.Commands.{key_of}
-use Rattle.mc_command.specs.Plain.{Entry, Items, Change, Recounts, Row, alive, charge, count_of, counted, opening, item_class, number_of, number_row, store_row, cas_row}
+use Rattle.mc_command.specs.Plain.{Entry, Items, Change, Recounts, Row, alive, charge, counted, item_class, number_of, number_row, store_row, cas_row}
 use Rattle.mc_command.specs.Laws.{IsOnKey, of_class, row_of}
 use Rattle.mc_shelf.specs.declared.plan.Next.TheVariants.{Write}
 use Rattle.mc_command.specs.declared.reply.Reply.TheVariants.{NotNumeric, Number}
@@ -258,27 +257,3 @@ takes_count insert_counts remove_counts step now shelf desk on size next kept mo
     subst (λ (r : Reply). Takes step now shelf desk r (record shelf { items = insert shelf.items key (record old { block = decimal number; unique = desk.next_unique; updated = now }) }) (record desk { next_unique = desk.next_unique + 1 })) (ap (λ (r : Row). r.0) is) took
 
 -- ---- states that stand
-
--- an empty shelf and a new desk
-pub opens : ((class : ℕ) → count_of empty class ≡ 0) → (key : List ℕ) (pages greatest : ℕ) → CanStand key (record { greatest = greatest; items = empty; cut = None }) (record { slab = untouched pages; next_unique = 1 })
-opens none key pages greatest = record {
-  plain = opening pages greatest;
-  stands = record {
-    greatest = refl;
-    cut = refl;
-    item = refl;
-    next_unique = refl;
-    limit = refl;
-    pages = refl;
-    out = λ class is. get_or-replicate 40 (class - 1) 0 0 (omega (arith, is.0, is.1)) ∙ sym (none class);
-  };
-}
-
--- after a step there is a state that stands
-pub stands_after : (step : KeyStep) (now : ℕ) (shelf : ShelfState) (desk : DeskState) (reply : Reply) (new : ShelfState) (new_desk : DeskState) → Takes step now shelf desk reply new new_desk → CanStand (key_of step) shelf desk → CanStand (key_of step) new new_desk
-stands_after step now shelf desk reply new new_desk takes can = let took = takes can.plain can.stands in record { plain = took.0; stands = took.2 }
-
-pub stands_kept : {E : Type 0} (result : Result Reply E) (step : KeyStep) (now : ℕ) (shelf : ShelfState) (desk : DeskState) (new : ShelfState) (new_desk : DeskState) → IfOk result (λ reply. Takes step now shelf desk reply new new_desk)
-    → OnErr result ((new ≡ shelf) × (new_desk ≡ desk)) → CanStand (key_of step) shelf desk → CanStand (key_of step) new new_desk
-stands_kept (Ok reply) step now shelf desk new new_desk takes kept can = stands_after step now shelf desk reply new new_desk takes can
-stands_kept (Err fault) step now shelf desk new new_desk takes kept can = subst (λ (d : DeskState). CanStand (key_of step) new d) (sym kept.1) (subst (λ (t : ShelfState). CanStand (key_of step) t desk) (sym kept.0) can)

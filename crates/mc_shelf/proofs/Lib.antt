@@ -6,5 +6,6 @@ pub mod PlanLemmas
 pub mod ApplyLemmas
 pub mod RefusalLemmas
 pub mod SweepLemmas
+pub mod AloneLemmas
 pub mod UnionLemmas
 pub mod StoreLemmas

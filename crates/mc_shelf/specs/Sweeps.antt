@@ -27,3 +27,7 @@ pub record DropsDead (now : ℕ) (old new : ShelfState) (desk desk' : DeskState)
 -- all items from that place on are alive at the moment
 abbrev pub AreAliveFrom : (at now : ℕ) → ShelfState → Type 0
 AreAliveFrom at now shelf = (place : ℕ) (key : List ℕ) (item : Entry) → at ≤ place → slice_get (entries shelf.items) place ≡ Some (key, item) → alive shelf.cut now (Some item) ≡ Some item
+
+-- the chunks of the desk that are out are those of the shelf's items
+abbrev pub IsAlone : ShelfState → DeskState → Type 0
+IsAlone shelf desk = (class : ℕ) → IsClass class → out_of desk.slab class ≡ count_of shelf.items class

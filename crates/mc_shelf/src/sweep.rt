@@ -33,10 +33,10 @@ impl Shelf {
         ensures shelf { self.new ≡ record self.old { items = empty } }
         ensures desk { GivesFor self.old.items self.new.items desk.old desk.new }
     {
-        let mut at = self.index.len();
-        while at > 0 {
-            at -= 1;
-            self.drop_at(at, desk);
+        let mut left = self.index.len();
+        while left > 0 {
+            left -= 1;
+            self.drop_at(left, desk);
         }
     }
 

@@ -1,40 +1,67 @@
-//! One key of a shelf, over a desk of one page: the replies of the protocol. Where an allocation is refused the shelf and
-//! the desk are as they were, and take the step when they are asked again.
+//! Keys of a shelf, over a desk of one page: the replies of the protocol, and what a purge, a flush and a cut leave. Where an
+//! allocation is refused the shelf and the desk are as they were, and take the step when they are asked again.
 
 ghost use Rattle.std.specs.Prelude.{◌≡◌, [], ◌∷◌, IfOk};
 ghost use Rattle.mc_command.specs.Commands.{key_of};
 ghost use Rattle.mc_command.specs.Laws.{IsOnKey};
 ghost use Rattle.mc_slab.specs.Slabs.{untouched};
-ghost use Rattle.mc_shelf.specs.States.{CanStand};
 
 use super::*;
-use mc_command::{Bytes, KeyStep, Reply, StepFault, Verb, counts_follow};
+use mc_command::{Bytes, KeyStep, Reply, StepFault, Verb, counts_follow, other_keys_stay};
+use mc_slab::class_of;
 use mc_time::Moment;
 use std::alloc::{AllocError, Global};
+use std::marker::Model;
 use std::process::Abort;
 use std::test::*;
 
-/// What is asked of the key.
+/// What is asked of a key.
 #[derive(Clone, Copy)]
 enum Ask<'a> {
     Store(Verb, &'a [u8]),
+    SetFor(i64, &'a [u8]),
     Cas(u64, &'a [u8]),
     Get,
     Incr(u64),
     Delete,
 }
 
-fn step_of<'a>(ask: Ask<'a>) -> KeyStep<'a>
+/// When what is asked of a key of one byte, and the reply.
+#[derive(Clone, Copy)]
+struct Turn<'a> {
+    seconds: u64,
+    key: u8,
+    ask: Ask<'a>,
+    want: &'static str,
+}
+
+fn at<'a>(seconds: u64, key: u8, ask: Ask<'a>, want: &'static str) -> Turn<'a> {
+    Turn {
+        seconds,
+        key,
+        ask,
+        want,
+    }
+}
+
+fn step_of<'a>(key: &'a [u8], ask: Ask<'a>) -> KeyStep<'a>
     ensures on_key { IsOnKey result }
-    ensures key { key_of result ≡ 107 ∷ [] }
+    ensures key { key_of result ≡ key.now }
 {
-    let key = Bytes::of(b"k");
+    let key = Bytes::of(key);
     match ask {
         Ask::Store(verb, block) => KeyStep::Store {
             verb,
             key,
             flags: 7,
             exptime: 0,
+            block: Bytes::of(block),
+        },
+        Ask::SetFor(exptime, block) => KeyStep::Store {
+            verb: Verb::Set,
+            key,
+            flags: 7,
+            exptime,
             block: Bytes::of(block),
         },
         Ask::Cas(unique, block) => KeyStep::Cas {
@@ -69,6 +96,81 @@ fn told(reply: &Reply) -> &'static str {
     }
 }
 
+/// A shelf that has a desk of its own.
+#[derive(Drop)]
+struct Alone {
+    shelf: Shelf,
+    desk: Desk,
+}
+
+impl Model for Alone {
+    ghost use Rattle.std.specs.Coded.{coded×};
+    ghost use Rattle.mc_shelf.specs.States.{ShelfState, DeskState, coded_shelf, coded_desk};
+    ghost use Rattle.mc_shelf.specs.Sweeps.{IsAlone};
+
+    ghost Value = { ShelfState × DeskState };
+
+    ghost coded = { coded× coded_shelf coded_desk };
+
+    ghost view = { λ a. (a.shelf, a.desk) };
+
+    ghost invariant = { λ a. IsAlone a.shelf a.desk };
+}
+
+impl Alone {
+    /// A shelf of no items, and a desk of one page.
+    fn open(alloc: Global) -> Result<Alone, AllocError> {
+        counts_follow();
+        let desk = desk_of(alloc)?;
+        Ok(Alone {
+            shelf: Shelf::new(alloc, 1048576),
+            desk,
+        })
+    }
+
+    /// Takes a step, again where it is refused memory.
+    fn take(&mut self, alloc: Global, turn: Turn<'_>) -> Result<Reply, StepFault> {
+        match self.take_once(alloc, turn) {
+            Err(_) => self.take_once(alloc, turn),
+            taken => taken,
+        }
+    }
+
+    /// Takes a step, which may be refused memory: the shelf and the desk are then as they were.
+    fn take_once(&mut self, alloc: Global, turn: Turn<'_>) -> Result<Reply, StepFault> {
+        other_keys_stay();
+        let key = [turn.key];
+        let step = step_of(&key, turn.ask);
+        let now = Moment::from_seconds_at_most(turn.seconds);
+        self.shelf.step(alloc, &step, 1, now, &mut self.desk)
+    }
+
+    fn purge(&mut self, seconds: u64) {
+        let now = Moment::from_seconds_at_most(seconds);
+        self.shelf.purge(now, &mut self.desk);
+    }
+
+    fn clear(&mut self) {
+        self.shelf.clear(&mut self.desk);
+    }
+
+    fn set_cut(&mut self, cut: Option<u64>) {
+        self.shelf.set_cut(cut);
+    }
+
+    fn grow(&mut self, n: usize) -> usize {
+        self.shelf.grow(n)
+    }
+
+    /// How many chunks of the least class are out.
+    fn out(&self) -> u32 {
+        match class_of(96) {
+            Some(class) => self.desk.account(class).out,
+            None => 0,
+        }
+    }
+}
+
 /// A desk of one page, asked for again where memory is refused.
 fn desk_of(alloc: Global) -> Result<Desk, AllocError>
     ensures { IfOk result (λ desk. desk ≡ record { slab = untouched 1; next_unique = 1 }) }
@@ -79,154 +181,118 @@ fn desk_of(alloc: Global) -> Result<Desk, AllocError>
     }
 }
 
-/// A shelf of no items, and a desk of one page.
-fn open(alloc: Global) -> Result<(Shelf, Desk), AllocError>
-    ensures { IfOk result (λ both. CanStand (107 ∷ []) both.0 both.1) }
-{
-    counts_follow();
-    let desk = desk_of(alloc)?;
-    Ok((Shelf::new(alloc, 1048576), desk))
-}
-
-/// Takes a step, which may be refused memory: the shelf and the desk are then as they were.
-fn take_once(
-    alloc: Global,
-    shelf: &mut Shelf,
-    desk: &mut Desk,
-    step: &KeyStep<'_>,
-    now: Moment,
-) -> Result<Reply, StepFault>
-    requires on_key { IsOnKey step.now }
-    requires key { key_of step.now ≡ 107 ∷ [] }
-    requires stands { CanStand (107 ∷ []) shelf.old desk.old }
-    ensures { CanStand (107 ∷ []) shelf.new desk.new }
-{
-    let plan = shelf.look(alloc, step, 1, now)?;
-    if plan.needs_desk() {
-        shelf.apply(alloc, plan, step, desk)
-    } else {
-        Ok(shelf.settle(plan))
+/// Takes steps and compares their replies.
+fn tell(rt: &impl Abort, alloc: Global, alone: &mut Alone, turns: &[Turn<'_>]) -> Result<(), Fail> {
+    for turn in turns {
+        let reply = alone.take(alloc, *turn)?;
+        assert!(rt;
+            told(&reply) == turn.want,
+            "{} at {}",
+            told(&reply),
+            turn.seconds
+        );
     }
-}
-
-/// Takes a step, again where it is refused memory.
-fn take(
-    alloc: Global,
-    shelf: &mut Shelf,
-    desk: &mut Desk,
-    step: &KeyStep<'_>,
-    now: Moment,
-) -> Result<Reply, StepFault>
-    requires on_key { IsOnKey step.now }
-    requires key { key_of step.now ≡ 107 ∷ [] }
-    requires stands { CanStand (107 ∷ []) shelf.old desk.old }
-    ensures { CanStand (107 ∷ []) shelf.new desk.new }
-{
-    match take_once(alloc, shelf, desk, step, now) {
-        Err(_) => take_once(alloc, shelf, desk, step, now),
-        taken => taken,
-    }
-}
-
-/// Takes a step and compares its reply.
-fn tell(
-    rt: &impl Abort,
-    alloc: Global,
-    shelf: &mut Shelf,
-    desk: &mut Desk,
-    ask: Ask<'_>,
-    want: &str,
-) -> Result<(), Fail>
-    requires { CanStand (107 ∷ []) shelf.old desk.old }
-    ensures { CanStand (107 ∷ []) shelf.new desk.new }
-{
-    let now = Moment::from_seconds_at_most(1000);
-    let step = step_of(ask);
-    let reply = take(alloc, shelf, desk, &step, now)?;
-    assert!(rt; told(&reply) == want, "{}", told(&reply));
     Ok(())
 }
 
 #[test]
 fn a_key_is_written_in_chunks(rt: HostRuntime) -> Result<(), Fail> {
     let alloc = rt.alloc();
-    let (mut shelf, mut desk) = open(alloc)?;
-    tell(&rt, alloc, &mut shelf, &mut desk, Ask::Get, "miss")?;
-    tell(
-        &rt,
-        alloc,
-        &mut shelf,
-        &mut desk,
-        Ask::Store(Verb::Set, b"1"),
-        "stored",
-    )?;
-    tell(
-        &rt,
-        alloc,
-        &mut shelf,
-        &mut desk,
-        Ask::Store(Verb::Add, b"2"),
-        "not stored",
-    )?;
-    tell(
-        &rt,
-        alloc,
-        &mut shelf,
-        &mut desk,
-        Ask::Store(Verb::Append, b"0"),
-        "stored",
-    )?;
-    tell(&rt, alloc, &mut shelf, &mut desk, Ask::Incr(5), "number 15")?;
-    tell(
-        &rt,
-        alloc,
-        &mut shelf,
-        &mut desk,
-        Ask::Cas(1, b"x"),
-        "exists",
-    )?;
-    tell(
-        &rt,
-        alloc,
-        &mut shelf,
-        &mut desk,
-        Ask::Cas(3, b"x"),
-        "stored",
-    )?;
-    tell(
-        &rt,
-        alloc,
-        &mut shelf,
-        &mut desk,
-        Ask::Incr(5),
-        "not numeric",
-    )?;
-    tell(&rt, alloc, &mut shelf, &mut desk, Ask::Delete, "deleted")?;
-    tell(&rt, alloc, &mut shelf, &mut desk, Ask::Delete, "not found")
+    let mut alone = Alone::open(alloc)?;
+    let turns = [
+        at(1000, b'k', Ask::Get, "miss"),
+        at(1000, b'k', Ask::Store(Verb::Set, b"1"), "stored"),
+        at(1000, b'k', Ask::Store(Verb::Add, b"2"), "not stored"),
+        at(1000, b'k', Ask::Store(Verb::Append, b"0"), "stored"),
+        at(1000, b'k', Ask::Incr(5), "number 15"),
+        at(1000, b'k', Ask::Cas(1, b"x"), "exists"),
+        at(1000, b'k', Ask::Cas(3, b"x"), "stored"),
+        at(1000, b'k', Ask::Incr(5), "not numeric"),
+        at(1000, b'k', Ask::Delete, "deleted"),
+        at(1000, b'k', Ask::Delete, "not found"),
+    ];
+    tell(&rt, alloc, &mut alone, &turns)
 }
 
 /// The one page goes to the class of the longer item.
 #[test]
 fn a_number_that_leaves_its_class_takes_a_chunk(rt: HostRuntime) -> Result<(), Fail> {
     let alloc = rt.alloc();
-    let (mut shelf, mut desk) = open(alloc)?;
+    let mut alone = Alone::open(alloc)?;
     let long = b"9                                                           ";
-    tell(
-        &rt,
-        alloc,
-        &mut shelf,
-        &mut desk,
-        Ask::Store(Verb::Set, long),
-        "stored",
-    )?;
-    tell(&rt, alloc, &mut shelf, &mut desk, Ask::Incr(6), "no chunk")?;
-    tell(&rt, alloc, &mut shelf, &mut desk, Ask::Get, "hit")?;
-    tell(
-        &rt,
-        alloc,
-        &mut shelf,
-        &mut desk,
-        Ask::Store(Verb::Append, b" "),
-        "stored",
-    )
+    let turns = [
+        at(1000, b'k', Ask::Store(Verb::Set, long), "stored"),
+        at(1000, b'k', Ask::Incr(6), "no chunk"),
+        at(1000, b'k', Ask::Get, "hit"),
+        at(1000, b'k', Ask::Store(Verb::Append, b" "), "stored"),
+    ];
+    tell(&rt, alloc, &mut alone, &turns)
+}
+
+/// Three items, of which the second expires first, and the last one next.
+fn three() -> [Turn<'static>; 3] {
+    [
+        at(1000, b'a', Ask::Store(Verb::Set, b"1"), "stored"),
+        at(1000, b'b', Ask::SetFor(10, b"2"), "stored"),
+        at(1000, b'c', Ask::SetFor(20, b"3"), "stored"),
+    ]
+}
+
+#[test]
+fn a_purge_drops_the_dead(rt: HostRuntime) -> Result<(), Fail> {
+    let alloc = rt.alloc();
+    let mut alone = Alone::open(alloc)?;
+    tell(&rt, alloc, &mut alone, &three())?;
+    alone.purge(1009);
+    assert!(rt; alone.out() == 3, "{} are out", alone.out());
+    alone.purge(1015);
+    assert!(rt; alone.out() == 2, "{} are out", alone.out());
+    let turns = [
+        at(1015, b'a', Ask::Get, "hit"),
+        at(1015, b'b', Ask::Get, "miss"),
+        at(1015, b'c', Ask::Get, "hit"),
+    ];
+    tell(&rt, alloc, &mut alone, &turns)
+}
+
+#[test]
+fn a_cleared_shelf_has_no_item(rt: HostRuntime) -> Result<(), Fail> {
+    let alloc = rt.alloc();
+    let mut alone = Alone::open(alloc)?;
+    tell(&rt, alloc, &mut alone, &three())?;
+    alone.clear();
+    assert!(rt; alone.out() == 0, "{} are out", alone.out());
+    let turns = [
+        at(1000, b'a', Ask::Get, "miss"),
+        at(1000, b'c', Ask::Delete, "not found"),
+        at(1000, b'b', Ask::Store(Verb::Add, b"4"), "stored"),
+    ];
+    tell(&rt, alloc, &mut alone, &turns)
+}
+
+/// What was updated before the cut is dead from it on, and what is written then isn't.
+#[test]
+fn a_cut_ends_what_was_updated_before(rt: HostRuntime) -> Result<(), Fail> {
+    let alloc = rt.alloc();
+    let mut alone = Alone::open(alloc)?;
+    tell(&rt, alloc, &mut alone, &three())?;
+    alone.set_cut(Some(1005));
+    let turns = [
+        at(1004, b'a', Ask::Get, "hit"),
+        at(1005, b'a', Ask::Get, "miss"),
+        at(1005, b'a', Ask::Store(Verb::Set, b"5"), "stored"),
+    ];
+    tell(&rt, alloc, &mut alone, &turns)?;
+    alone.purge(1005);
+    assert!(rt; alone.out() == 1, "{} are out", alone.out());
+    tell(&rt, alloc, &mut alone, &[at(1006, b'a', Ask::Get, "hit")])
+}
+
+#[test]
+fn a_list_has_no_entry_to_move(rt: HostRuntime) -> Result<(), Fail> {
+    let alloc = rt.alloc();
+    let mut alone = Alone::open(alloc)?;
+    tell(&rt, alloc, &mut alone, &three())?;
+    assert!(rt; alone.grow(2) == 0, "some moved");
+    tell(&rt, alloc, &mut alone, &[at(1000, b'b', Ask::Get, "hit")])
 }

@@ -1,4 +1,4 @@
-ghost use Rattle.std.specs.Prelude.{◌≡◌, ℕ, ◌+◌, ◌-◌, ◌<◌, ◌≤◌, ◌↔◌, map, IfOk, OnOk, OnErr, Err};
+ghost use Rattle.std.specs.Prelude.{◌≡◌, ℕ, ◌+◌, ◌-◌, ◌<◌, ◌≤◌, ◌↔◌, ◌⊎◌, map, IfOk, IfErr, OnOk, OnErr, Err};
 ghost use Rattle.std.specs.List.{range_with_len};
 ghost use Rattle.mc_slab.specs.Chunks.{IsChunkOf, chunk_class};
 ghost use Rattle.mc_slab.specs.Slabs.{IsSlab, IsFull, untouched, empty_stock, pages_of, out_of, chunks_of, pages_left, with_chunk, taken, given};
@@ -70,6 +70,7 @@ impl Slab {
         ensures taken { OnOk result (self.new ≡ taken self.old class) }
         ensures full { (pages out : ℕ) → (result ≡ Err (TakeFault.Full class pages out)) ↔ (IsFull self.old class × (pages ≡ pages_of self.old class) × (out ≡ out_of self.old class)) }
         ensures no_memory { result ≡ Err TakeFault.NoMemory → (out_of self.old class ≡ chunks_of self.old class) × (0 < pages_left self.old) }
+        ensures faults { IfErr result (λ fault. (fault ≡ TakeFault.NoMemory) ⊎ (fault ≡ TakeFault.Full class (pages_of self.old class) (out_of self.old class))) }
         ensures err { OnErr result (self.new ≡ self.old) }
         ensures is_slab { OnOk result (IsSlab self.new) }
     {
@@ -84,6 +85,7 @@ impl Slab {
         ensures free { OnOk result (out_of self.new class < chunks_of self.new class) }
         ensures full { (pages out : ℕ) → (result ≡ Err (TakeFault.Full class pages out)) ↔ (IsFull self.old class × (pages ≡ pages_of self.old class) × (out ≡ out_of self.old class)) }
         ensures no_memory { result ≡ Err TakeFault.NoMemory → (out_of self.old class ≡ chunks_of self.old class) × (0 < pages_left self.old) }
+        ensures faults { IfErr result (λ fault. (fault ≡ TakeFault.NoMemory) ⊎ (fault ≡ TakeFault.Full class (pages_of self.old class) (out_of self.old class))) }
         ensures err { OnErr result (self.new ≡ self.old) }
     {
         let stock = &mut self.stocks[class.index()];
