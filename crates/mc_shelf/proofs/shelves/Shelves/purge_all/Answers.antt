@@ -18,9 +18,9 @@ loop-at-preserved c =
     record {
       shelved = λ shelf_of are. c.purge.ensures.shelved shelf_of (before.shelved shelf_of are);
       purged = λ shelf_of are.
-        c.purge.ensures.purged shelf_of (before.shelved shelf_of are)
-        ∙ ap (purged (λ key. eqb (shelf_of key) c.loop-at.at) c.args.now) (before.purged shelf_of are)
-        ∙ swept_more shelf_of c.loop-at.at c.args.now (plain_of c.args.self.now);
+          c.purge.ensures.purged shelf_of (before.shelved shelf_of are)
+          ∙ ap (purged (λ key. eqb (shelf_of key) c.loop-at.at) c.args.now) (before.purged shelf_of are)
+          ∙ swept_more shelf_of c.loop-at.at c.args.now (plain_of c.args.self.now);
       count = c.purge.ensures.count ∙ before.count;
       end = before.end;
     }
