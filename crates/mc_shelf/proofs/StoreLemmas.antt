@@ -7,7 +7,6 @@ use Rattle.std.proofs.lemmas.Option.{get_or_from_slice_get, slice_get-map, slice
 use Rattle.std.specs.Ordering.{nat_cmp}
 use Rattle.std.specs.Cmp.Lexicographic.{slice_cmp, nat_list_cmp_total}
 use Rattle.std.specs.FinMap.{entries, empty, from_entries, len-empty, len-entries, get, retain_keys, get-retain_keys, get-empty, same_map, slice_cmp-IsAntisymmetric, nat_cmp-IsAntisymmetric, IsAntisymmetric}
-use Rattle.mc_slab.specs.Classes.{IsClass}
 use Rattle.mc_slab.specs.Slabs.{untouched, out_of}
 use Rattle.mc_command.specs.Plain.{Plain, Items, Entry, alive, count_of, opening}
 use Rattle.mc_command.specs.Purge.{purged}

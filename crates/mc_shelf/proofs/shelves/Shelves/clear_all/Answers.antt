@@ -1,5 +1,5 @@
-use Rattle.std.proofs.Common.{◌≡◌, ℕ, List, length, eqb, ltb, refl, ap, ◌∙◌, arith}
-use Rattle.mc_shelf.specs.Unions.{plain_of, AreShelves, without}
+use Rattle.std.proofs.Common.{◌≡◌, ℕ, length, eqb, ltb, refl, ap, ◌∙◌, arith}
+use Rattle.mc_shelf.specs.Unions.{plain_of, without}
 use Rattle.mc_shelf.proofs.StoreLemmas.{cleared_none, cleared_more, cleared_all}
 use Rattle.mc_shelf.proofs.shelves.Shelves.clear_all.Goals as goal
 

@@ -1,6 +1,6 @@
-use Rattle.std.proofs.Common.{◌≡◌, ℕ, List, length, eqb, ltb, refl, ap, ◌∙◌, arith}
+use Rattle.std.proofs.Common.{◌≡◌, ℕ, length, eqb, ltb, refl, ap, ◌∙◌, arith}
 use Rattle.mc_command.specs.Purge.{purged}
-use Rattle.mc_shelf.specs.Unions.{plain_of, AreShelves}
+use Rattle.mc_shelf.specs.Unions.{plain_of}
 use Rattle.mc_shelf.proofs.StoreLemmas.{swept_none, swept_more, swept_all}
 use Rattle.mc_shelf.proofs.shelves.Shelves.purge_all.Goals as goal
 
