@@ -7,7 +7,6 @@ use Rattle.std.proofs.lemmas.Option.{get_or_from_slice_get, slice_get-map, slice
 use Rattle.std.specs.Ordering.{nat_cmp}
 use Rattle.std.specs.Cmp.Lexicographic.{slice_cmp, nat_list_cmp_total}
 use Rattle.std.specs.FinMap.{entries, empty, from_entries, len-empty, len-entries, get, retain_keys, get-retain_keys, get-empty, same_map, slice_cmp-IsAntisymmetric, nat_cmp-IsAntisymmetric, IsAntisymmetric}
-use Rattle.mc_slab.specs.Classes.{IsClass}
 use Rattle.mc_slab.specs.Slabs.{untouched, out_of}
 use Rattle.mc_command.specs.Plain.{Plain, Items, Entry, alive, count_of, opening}
 use Rattle.mc_command.specs.Purge.{purged}
@@ -152,15 +151,15 @@ module _ (cut : Option ℕ) (s t : Shelves) (is : AreCut cut s t) where
   shelves_cut shelf_of are = record {
     inside = λ key. subst (λ n. shelf_of key < n) (sym (ap length is.list ∙ length-map s.list.items (cut_as cut))) (are.inside key);
     charges = λ at shelf here.
-      let old = before_cut at shelf here in
-      ap (λ (shelf : ShelfState). shelf.greatest) old.2 ∙ are.charges at old.0 old.1 ∙ sym is.greatest;
+        let old = before_cut at shelf here in
+        ap (λ (shelf : ShelfState). shelf.greatest) old.2 ∙ are.charges at old.0 old.1 ∙ sym is.greatest;
     cuts = λ at shelf here. ap (λ (shelf : ShelfState). shelf.cut) (before_cut at shelf here).2 ∙ sym is.cut;
     apart = λ at shelf key here other.
-      let old = before_cut at shelf here in
-      ap (λ (shelf : ShelfState). get shelf.items key) old.2 ∙ are.apart at old.0 key old.1 other;
+        let old = before_cut at shelf here in
+        ap (λ (shelf : ShelfState). get shelf.items key) old.2 ∙ are.apart at old.0 key old.1 other;
     out = λ class is_class.
-      ap (λ (d : DeskState). out_of d.slab class) is.desk ∙ are.out class is_class
-      ∙ ap (λ (es : List (List ℕ × Entry)). count_of (from_entries es) class) (sym same_entries);
+        ap (λ (d : DeskState). out_of d.slab class) is.desk ∙ are.out class is_class
+        ∙ ap (λ (es : List (List ℕ × Entry)). count_of (from_entries es) class) (sym same_entries);
   }
 
 -- a shelf of no items
@@ -208,6 +207,6 @@ module _ (count pages greatest : ℕ) (s : Shelves) (new : AreNew count pages gr
     cuts = λ at shelf here. ap (λ (shelf : ShelfState). shelf.cut) (is_bare at shelf here) ∙ sym new.cut;
     apart = λ at shelf key here other. ap (λ (shelf : ShelfState). get shelf.items key) (is_bare at shelf here) ∙ get-empty (slice_cmp nat_cmp) key;
     out = λ class is_class.
-      ap (λ (d : DeskState). out_of d.slab class) new.desk ∙ get_or-replicate 40 (class - 1) 0 0 (omega (arith, is_class.0, is_class.1))
-      ∙ sym (ap (λ (items : Items). count_of items class) new_items ∙ none class);
+        ap (λ (d : DeskState). out_of d.slab class) new.desk ∙ get_or-replicate 40 (class - 1) 0 0 (omega (arith, is_class.0, is_class.1))
+        ∙ sym (ap (λ (items : Items). count_of items class) new_items ∙ none class);
   }

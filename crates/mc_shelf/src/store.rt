@@ -1,3 +1,8 @@
+//! The store of one thread, as callers see it: how it is set up, its hasher, and the plain machine's state.
+
+#[cfg(test)]
+mod tests;
+
 ghost use Rattle.std.specs.Prelude.{◌≡◌, ◌==◌, ◌%◌, ◌<◌, ◌≤◌, length, IfOk, OnErr, IsErr, Err, nat_lt, if◌then◌else◌};
 ghost use Rattle.mc_command.specs.Commands.{key_of};
 ghost use Rattle.mc_command.specs.Plain.{opening, plain, Answered, Spent, MayFail};
@@ -15,11 +20,11 @@ use std::marker::Model;
 /// How a store is set up.
 #[derive(Clone, Copy, Debug, PartialEq, Eq)]
 pub struct Settings {
-    /// How many pages of 1048576 bytes it may have.
+    /// How many pages of 1048576 bytes it may have, 1 to 65536.
     pub pages: u32,
-    /// The greatest charge of an item, in bytes.
+    /// The greatest charge of an item, in bytes: 1048576.
     pub greatest: u64,
-    /// How many shelves it has.
+    /// How many shelves it has: 64.
     pub shelves: u32,
 }
 
@@ -47,7 +52,7 @@ impl<K: KeyHash + Drop> Model for Store<K> {
 }
 
 impl<K: KeyHash + Drop> Store<K> {
-    /// A store of no items.
+    /// A store of no items, no class of which has a page. The one error is a refused allocation.
     pub fn new(alloc: Global, settings: Settings, hasher: K) -> Result<Store<K>, AllocError>
         requires pages { 1 ≤ settings.pages × settings.pages ≤ 65536 }
         requires greatest { settings.greatest ≡ 1048576 }
@@ -82,7 +87,7 @@ impl<K: KeyHash + Drop> Store<K> {
     }
 
     /// Up to `n` entries of a shelf may move in its index; answers how many did, and 0 for a shelf that isn't there. The
-    /// store is as it was, and no memory is taken.
+    /// store is as it was, and no memory is taken. The cost grows with `n`.
     pub fn grow(&mut self, shelf: u32, n: usize) -> usize
         ensures unchanged { self.new ≡ self.old }
         ensures moved { result ≤ n }
@@ -94,7 +99,7 @@ impl<K: KeyHash + Drop> Store<K> {
         }
     }
 
-    /// A step on one key, on the key's shelf.
+    /// A step on one key, on the key's shelf. Where it isn't taken the store is as it was.
     fn step_on_key(
         &mut self,
         alloc: Global,
@@ -114,7 +119,7 @@ impl<K: KeyHash + Drop> Store<K> {
         self.shelves.step(alloc, at as usize, step, hash, now)
     }
 
-    /// A flush of all shelves.
+    /// A flush of all shelves. It takes no memory.
     fn flush(&mut self, delay: u64, now: Moment) -> Reply
         ensures took { plain self.old.plain (KeyStep.Flush delay) now ≡ Answered result self.new.plain }
         ensures set_up { (self.new.settings ≡ self.old.settings) × (self.new.hasher ≡ self.old.hasher) }

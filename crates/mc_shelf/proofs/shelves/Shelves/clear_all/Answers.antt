@@ -1,5 +1,5 @@
-use Rattle.std.proofs.Common.{◌≡◌, ℕ, List, length, eqb, ltb, refl, ap, ◌∙◌, arith}
-use Rattle.mc_shelf.specs.Unions.{plain_of, AreShelves, without}
+use Rattle.std.proofs.Common.{◌≡◌, ℕ, length, eqb, ltb, refl, ap, ◌∙◌, arith}
+use Rattle.mc_shelf.specs.Unions.{plain_of, without}
 use Rattle.mc_shelf.proofs.StoreLemmas.{cleared_none, cleared_more, cleared_all}
 use Rattle.mc_shelf.proofs.shelves.Shelves.clear_all.Goals as goal
 
@@ -17,9 +17,9 @@ loop-place-preserved c =
     record {
       shelved = λ shelf_of are. c.clear.ensures.shelved shelf_of (before.shelved shelf_of are);
       cleared = λ shelf_of are.
-        c.clear.ensures.cleared shelf_of (before.shelved shelf_of are)
-        ∙ ap (without (λ key. eqb (shelf_of key) c.loop-place.place)) (before.cleared shelf_of are)
-        ∙ cleared_more shelf_of c.loop-place.place (plain_of c.args.self.now);
+          c.clear.ensures.cleared shelf_of (before.shelved shelf_of are)
+          ∙ ap (without (λ key. eqb (shelf_of key) c.loop-place.place)) (before.cleared shelf_of are)
+          ∙ cleared_more shelf_of c.loop-place.place (plain_of c.args.self.now);
       count = c.clear.ensures.count ∙ before.count;
       end = before.end;
     }

@@ -8,5 +8,5 @@ invariant-loop-place l = record {
   shelved : (shelf_of : List ℕ → ℕ) → AreShelves shelf_of l.fn.self → AreShelves shelf_of l.self;
   cleared : (shelf_of : List ℕ → ℕ) → AreShelves shelf_of l.fn.self → plain_of l.self ≡ without (λ key. nat_lt (shelf_of key) l.place) (plain_of l.fn.self);
   count : length l.self.list.items ≡ length l.fn.self.list.items;
-  end : l.place-end ≡ length l.fn.self.list.items
+  end : l.place-end ≡ length l.fn.self.list.items;
 }

@@ -1,6 +1,6 @@
-use Rattle.std.proofs.Common.{◌≡◌, ℕ, List, length, eqb, ltb, refl, ap, ◌∙◌, arith}
+use Rattle.std.proofs.Common.{◌≡◌, ℕ, length, eqb, ltb, refl, ap, ◌∙◌, arith}
 use Rattle.mc_command.specs.Purge.{purged}
-use Rattle.mc_shelf.specs.Unions.{plain_of, AreShelves}
+use Rattle.mc_shelf.specs.Unions.{plain_of}
 use Rattle.mc_shelf.proofs.StoreLemmas.{swept_none, swept_more, swept_all}
 use Rattle.mc_shelf.proofs.shelves.Shelves.purge_all.Goals as goal
 
@@ -18,9 +18,9 @@ loop-at-preserved c =
     record {
       shelved = λ shelf_of are. c.purge.ensures.shelved shelf_of (before.shelved shelf_of are);
       purged = λ shelf_of are.
-        c.purge.ensures.purged shelf_of (before.shelved shelf_of are)
-        ∙ ap (purged (λ key. eqb (shelf_of key) c.loop-at.at) c.args.now) (before.purged shelf_of are)
-        ∙ swept_more shelf_of c.loop-at.at c.args.now (plain_of c.args.self.now);
+          c.purge.ensures.purged shelf_of (before.shelved shelf_of are)
+          ∙ ap (purged (λ key. eqb (shelf_of key) c.loop-at.at) c.args.now) (before.purged shelf_of are)
+          ∙ swept_more shelf_of c.loop-at.at c.args.now (plain_of c.args.self.now);
       count = c.purge.ensures.count ∙ before.count;
       end = before.end;
     }

@@ -9,5 +9,5 @@ invariant-loop-at l = record {
   shelved : (shelf_of : List ℕ → ℕ) → AreShelves shelf_of l.fn.self → AreShelves shelf_of l.self;
   purged : (shelf_of : List ℕ → ℕ) → AreShelves shelf_of l.fn.self → plain_of l.self ≡ purged (λ key. nat_lt (shelf_of key) l.at) l.now (plain_of l.fn.self);
   count : length l.self.list.items ≡ length l.fn.self.list.items;
-  end : l.at-end ≡ length l.fn.self.list.items
+  end : l.at-end ≡ length l.fn.self.list.items;
 }
