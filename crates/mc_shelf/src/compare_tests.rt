@@ -85,29 +85,45 @@ fn verb_at(number: u64) -> Verb {
 fn step_of<'a>(dice: &mut Dice, bytes: &'a [u8]) -> KeyStep<'a>
     ensures { length (key_of result) ≤ 250 }
 {
-    let key = Bytes::of(key_at(dice.roll(8)));
-    let block = Bytes::of(block_at(bytes, dice.roll(40)));
+    let key = key_at(dice.roll(8));
+    let block = block_at(bytes, dice.roll(40));
     let exptime = exptime_at(dice.roll(8));
-    match dice.roll(20) {
+    let number = dice.roll(1000);
+    let kind = dice.roll(20);
+    step_with(Bytes::of(key), Bytes::of(block), exptime, number, kind)
+}
+
+/// The step of that kind, 0 to 19.
+fn step_with<'a>(
+    key: Bytes<'a>,
+    block: Bytes<'a>,
+    exptime: i64,
+    number: u64,
+    kind: u64,
+) -> KeyStep<'a>
+    requires { length key ≤ 250 }
+    ensures { length (key_of result) ≤ 250 }
+{
+    match kind {
         0 => KeyStep::Touch { key, exptime },
         1 => KeyStep::ReadTouch { key, exptime },
         2 => KeyStep::Delete { key },
-        3 => KeyStep::Flush { delay: dice.roll(4) },
+        3 => KeyStep::Flush { delay: number % 4 },
         4 => KeyStep::Cas {
             key,
             flags: 1,
             exptime,
             block,
-            unique: dice.roll(50),
+            unique: number % 50,
         },
-        5 | 6 | 7 => KeyStep::Count {
+        5..8 => KeyStep::Count {
             key,
-            up: dice.roll(2) == 0,
-            by: dice.roll(1000),
+            up: number % 2 == 0,
+            by: number,
         },
-        8 | 9 | 10 | 11 => KeyStep::Read { key },
+        8..12 => KeyStep::Read { key },
         _ => KeyStep::Store {
-            verb: verb_at(dice.roll(8)),
+            verb: verb_at(number % 8),
             key,
             flags: 2,
             exptime,
