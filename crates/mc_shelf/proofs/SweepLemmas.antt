@@ -69,12 +69,6 @@ gives_both a b c d e f one two = record {
   next_unique = two.next_unique ∙ one.next_unique;
 }
 
-pub out_still : (a b : ShelfState) (d e : DeskState) → AreOut a d → GivesFor a.items b.items d e → AreOut b e
-out_still a b d e are gives class is =
-    let before = are class is in
-    let after = gives.out class is in
-    omega arith
-
 module _ (remove_counts : RemoveCounts) (shelf : ShelfState) (desk : DeskState) (key : List ℕ) (item : Entry) (found : get shelf.items key ≡ Some item) where
   -- a chunk of an item that stands is out
   pub out_held : AreOut shelf desk → IsClass (item_class key item) → 0 < out_of desk.slab (item_class key item)
