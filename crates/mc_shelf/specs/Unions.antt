@@ -1,10 +1,10 @@
 -- What shelves that share a desk are together.
-use Rattle.std.specs.Prelude.{◌≡◌, ◌≢◌, ℕ, ◌<◌, Bool, not, List, [], ◌∷◌, ◌++◌, length, Option, Some, None, slice_get}
+use Rattle.std.specs.Prelude.{◌≡◌, ◌≢◌, ℕ, ◌<◌, Bool, not, List, [], ◌∷◌, ◌++◌, length, Some, None, slice_get}
 use Rattle.std.specs.FinMap.{entries, from_entries, get, retain_keys}
 use Rattle.mc_slab.specs.Classes.{IsClass}
 use Rattle.mc_slab.specs.Slabs.{out_of}
 use Rattle.mc_command.specs.Plain.{Items, Entry, Plain, count_of}
-use Rattle.mc_shelf.specs.States.{ShelfState, DeskState}
+use Rattle.mc_shelf.specs.States.{ShelfState}
 use Rattle.mc_shelf.specs.declared.shelves.Shelves.{Shelves}
 
 -- the items of all shelves under their keys, one shelf's after another's

@@ -1,15 +1,15 @@
 -- A slab's stocks, and what a change of one of them changes in what contracts see.
-use Rattle.std.proofs.Common.{◌≡◌, ℕ, ◌+◌, ◌-◌, ◌*◌, ◌<◌, ◌≤◌, Bool, true, false, eqb, List, map, length, get_or, set, sum, refl, sym, ap, subst, ◌∙◌, arith}
+use Rattle.std.proofs.Common.{◌≡◌, ℕ, ◌+◌, ◌-◌, ◌*◌, ◌<◌, ◌≤◌, true, false, eqb, List, map, length, get_or, set, sum, refl, sym, ap, subst, ◌∙◌, arith}
 use Rattle.std.proofs.Math.Seq.{map-set_same}
 use Rattle.std.proofs.lemmas.Bool.{eq-eqb, ne_eqb}
 use Rattle.std.proofs.lemmas.List.{get_or-map, length-map, map-set, set-get_or, get_or-set_same}
 use Rattle.std.proofs.lemmas.List.Elements.{All-set}
 use Rattle.std.proofs.lemmas.List.FromFn.{length-range_with_len, get_or-range_with_len, get_or-map-range_with_len}
 use Rattle.std.proofs.lemmas.List.Sums.{sum_by-set}
-use Rattle.std.specs.List.{All, range_with_len}
+use Rattle.std.specs.List.{range_with_len}
 use Rattle.mc_slab.specs.Classes.{IsClass, chunks_a_page}
 use Rattle.mc_slab.specs.Stocks.{StockState, all_chunks}
-use Rattle.mc_slab.specs.Slabs.{SlabState, IsSlab, AreStocks, empty_stock, state_of, pages_of, out_of, chunks_of, with_page, with_chunk, with_out}
+use Rattle.mc_slab.specs.Slabs.{IsSlab, AreStocks, empty_stock, state_of, pages_of, out_of, chunks_of, with_page, with_chunk, with_out}
 use Rattle.mc_slab.proofs.ClassLemmas.{chunks_a_page-least}
 
 -- the stock of a class stands at the index

@@ -1,5 +1,5 @@
 -- What contracts see of a slab, and what taking and giving a chunk change in it.
-use Rattle.std.specs.Prelude.{◌≡◌, ◌≢◌, ℕ, ◌+◌, ◌-◌, ◌*◌, ◌<◌, ◌≤◌, ◌==◌, Bool, ◌||◌, nat_lt, List, map, length, replicate, sum, slice_index, slice_set, refl, if◌then◌else◌}
+use Rattle.std.specs.Prelude.{◌≡◌, ℕ, ◌+◌, ◌-◌, ◌*◌, ◌≤◌, ◌==◌, Bool, ◌||◌, nat_lt, List, map, length, replicate, sum, slice_index, slice_set, refl, if◌then◌else◌}
 use Rattle.std.specs.Coded.{Coded, code_by, coded×, coded_ℕ, coded_list}
 use Rattle.std.specs.List.{All, range_with_len}
 use Rattle.mc_slab.specs.Classes.{IsClass, chunks_a_page}

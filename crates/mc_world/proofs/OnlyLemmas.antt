@@ -1,11 +1,10 @@
 -- A single event that is refused memory.
-use Rattle.std.proofs.Common.{◌≡◌, ℕ, zero, suc, ◌+◌, Bool, true, false, List, [], ◌∷◌, length, take, Option, Some, None, Result, Ok, Err, OnOk, IfErr, refl, sym, ap, ◌∙◌, subst}
+use Rattle.std.proofs.Common.{◌≡◌, ℕ, zero, suc, Bool, true, false, List, [], ◌∷◌, take, Some, None, Result, Ok, Err, OnOk, IfErr, refl, subst}
 use Rattle.std.specs.List.{slice_get}
-use Rattle.mc_command.specs.Plain.{Plain}
 use Rattle.mc_world.specs.Connections.{ended}
-use Rattle.mc_world.specs.Worlds.{PlainWorld, WorldState, at_connection, Runs, StandsAs, Told, ToldUntil, named, with_end, GivesUp}
+use Rattle.mc_world.specs.Worlds.{PlainWorld, WorldState, at_connection, Runs, Told, ToldUntil, GivesUp}
 use Rattle.mc_world.specs.declared.event.Event.{Event}
-use Rattle.mc_world.specs.declared.event.Event.TheVariants.{Open, Piece, Turn, Clock, Grow, Purge, Close}
+use Rattle.mc_world.specs.declared.event.Event.TheVariants.{Open, Close}
 use Rattle.mc_world.specs.declared.event.Refused.{Refused}
 
 module _ (hash : List ℕ → ℕ) (shelves : ℕ) where

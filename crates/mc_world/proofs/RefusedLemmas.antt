@@ -1,23 +1,19 @@
 -- What was served of a session until memory ran out, and the close of it.
-use Rattle.std.proofs.Common.{◌≡◌, ◌⊎◌, inl, inr, ℕ, zero, suc, ◌+◌, ◌^◌, ◌<◌, ◌≤◌, Bool, true, false, List, [], ◌∷◌, ◌++◌, length, take, Option, Some, None, Result, Ok, Err, OnOk, IfErr, refl, sym, ap, ◌∙◌, subst, arith, append_assoc, append-nil, if◌then◌else◌}
-use Rattle.std.specs.Bool.{MatchBool}
+use Rattle.std.proofs.Common.{◌≡◌, ℕ, zero, suc, ◌+◌, ◌^◌, ◌<◌, ◌≤◌, Bool, true, false, List, [], ◌∷◌, ◌++◌, length, take, Option, Some, None, Result, Ok, Err, OnOk, IfErr, refl, sym, ap, ◌∙◌, subst, arith, append-nil, if◌then◌else◌}
 use Rattle.std.specs.List.{slice_get}
-use Rattle.std.specs.Io.KnownBytes.{Appends, Consumes, IsAtEnd}
 use Rattle.std.proofs.KnownBytes.{Consumes-trans, Appends-trans}
-use Rattle.mc_command.specs.Plain.{Plain}
 use Rattle.mc_session.specs.Turns.{SessionState}
 use Rattle.mc_session.specs.declared.serving.ServeFault.{ServeFault}
 use Rattle.mc_session.specs.declared.serving.ServeFault.TheVariants.{NoMemory, Write}
 use Rattle.mc_shelf.specs.declared.store.Settings.{Settings}
-use Rattle.mc_world.specs.Connections.{Connection, IsRest, shut, Stands, with_piece, ended}
-use Rattle.mc_world.specs.Worlds.{PlainWorld, WorldState, output_of, numbered, changed, open_connection, at_connection, Happens, Runs, StandAll, StandsAs, Told, ToldUntil, named, with_end, TakesMemory, GivesUp}
-use Rattle.mc_world.specs.Serving.{next_session, with_written, with_front, shelf_of, IsService, turn, piece, IsCut, before_clock, after_clock, Came, Served, ServedAll, ServedUntilRefused}
-use Rattle.mc_world.specs.Rounds.{Writes, HasEnded, Begins, Keeps, GoesFar, ReadsRefused, GivesTurn, GivesRefused, HasServed, HasRefused, GoesOn, IsRefused, turn_events}
+use Rattle.mc_world.specs.Connections.{Connection, shut, Stands, with_piece, ended}
+use Rattle.mc_world.specs.Worlds.{PlainWorld, WorldState, output_of, numbered, changed, open_connection, at_connection, Runs, StandAll, StandsAs, Told, named, with_end, TakesMemory, GivesUp}
+use Rattle.mc_world.specs.Serving.{next_session, with_written, with_front, shelf_of, turn, piece, before_clock, after_clock, Came, Served, ServedAll, ServedUntilRefused}
+use Rattle.mc_world.specs.Rounds.{Writes, HasEnded, Begins, Keeps, GoesFar, ReadsRefused, GivesRefused, HasServed, HasRefused, IsRefused, turn_events}
 use Rattle.mc_world.specs.Sessions.{world_of}
 use Rattle.mc_world.specs.declared.world.World.{World}
 use Rattle.mc_world.specs.declared.event.Event.{Event}
-use Rattle.mc_world.specs.declared.event.Event.TheVariants.{Open, Piece, Turn, Clock, Grow, Close}
-use Rattle.mc_world.specs.declared.event.Refused.{Refused}
+use Rattle.mc_world.specs.declared.event.Event.TheVariants.{Piece, Turn, Clock, Grow, Close}
 use Rattle.mc_world.proofs.UpdateLemmas.{update, at_number, if_opened, changed_opened, number_twice}
 use Rattle.mc_world.proofs.FrontLemmas.{end_leaves, change_fronted, runs_fronted, gives_up_fronted}
 use Rattle.mc_world.proofs.WrittenLemmas.{kept_on, Fronts, fronts, put_on, ended_written, written_twice}

@@ -1,14 +1,14 @@
 -- What was served of a session until now, and a turn, a write or a read more.
-use Rattle.std.proofs.Common.{◌≡◌, ◌⊎◌, inl, inr, ℕ, zero, suc, ◌+◌, ◌^◌, ◌<◌, ◌≤◌, Bool, true, false, List, [], ◌∷◌, ◌++◌, length, Option, Some, None, nat_lt, refl, sym, ap, ◌∙◌, subst, arith, append_assoc, append-nil, length-append, if◌then◌else◌}
-use Rattle.std.specs.Io.KnownBytes.{Appends, Consumes, IsAtEnd}
+use Rattle.std.proofs.Common.{◌≡◌, ℕ, ◌+◌, ◌<◌, ◌≤◌, Bool, true, List, [], ◌∷◌, ◌++◌, length, Option, nat_lt, refl, sym, ap, ◌∙◌, subst, arith, append-nil, length-append, if◌then◌else◌}
+use Rattle.std.specs.Io.KnownBytes.{Consumes}
 use Rattle.std.proofs.KnownBytes.{Consumes-nil, Appends-nil, Consumes-trans, Appends-trans}
 use Rattle.std.proofs.lemmas.Bool.{lt-ltb}
 use Rattle.mc_world.specs.Connections.{fresh}
-use Rattle.mc_world.specs.Worlds.{PlainWorld, WorldState, output_of, numbered, Happens, Runs, StandsAs, Told}
+use Rattle.mc_world.specs.Worlds.{PlainWorld, WorldState, Happens, Runs, StandsAs, Told}
 use Rattle.mc_world.specs.Serving.{next_session, with_written, with_front, shelf_of, IsService, starts, turn, piece}
-use Rattle.mc_world.specs.Rounds.{Writes, HasEnded, Begins, Reads, fed_piece, read_nothing, GivesTurn, HasServed, GoesOn, GoesFar, turn_events}
+use Rattle.mc_world.specs.Rounds.{Writes, Begins, Reads, fed_piece, read_nothing, GivesTurn, HasServed, GoesOn, turn_events}
 use Rattle.mc_world.specs.declared.event.Event.{Event}
-use Rattle.mc_world.specs.declared.event.Event.TheVariants.{Open, Piece, Turn, Clock, Grow, Close}
+use Rattle.mc_world.specs.declared.event.Event.TheVariants.{Open, Piece}
 use Rattle.mc_world.proofs.StandLemmas.{stand_length}
 use Rattle.mc_world.proofs.FrontLemmas.{IsOpened, runs_grow, runs_fronted}
 use Rattle.mc_world.proofs.WrittenLemmas.{Fronts, fronts, put_on, written_nothing, written_twice}

@@ -1,7 +1,7 @@
 -- One element of a list is changed, by its number.
-use Rattle.std.proofs.Common.{◌≡◌, ℕ, zero, suc, ◌+◌, ◌-◌, ◌<◌, ◌≤◌, Bool, true, false, List, [], ◌∷◌, ◌++◌, length, Option, Some, None, slice_set, refl, sym, ap, ◌∙◌, subst, arith, if◌then◌else◌}
+use Rattle.std.proofs.Common.{◌≡◌, ℕ, zero, suc, ◌-◌, ◌<◌, Bool, true, false, List, [], ◌∷◌, ◌++◌, length, Option, Some, None, slice_set, refl, ap, ◌∙◌, arith, if◌then◌else◌}
 use Rattle.std.specs.List.{slice_get}
-use Rattle.mc_world.specs.Worlds.{numbered, if_open, put, changed}
+use Rattle.mc_world.specs.Worlds.{numbered, if_open, changed}
 
 -- the element at that place, counted from 0
 abbrev pub update : {A : Type 0} → List A → ℕ → (A → A) → List A

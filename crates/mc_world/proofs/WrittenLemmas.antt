@@ -1,24 +1,20 @@
 -- What was written of a session, in front of its output and of its connection's.
-use Rattle.std.proofs.Common.{◌≡◌, ◌⊎◌, inl, inr, ℕ, zero, suc, ◌+◌, ◌<◌, ◌≤◌, Bool, true, false, List, [], ◌∷◌, ◌++◌, length, take, drop, Option, Some, None, nat_lt, refl, sym, ap, ◌∙◌, subst, arith, append_assoc, length-append, if◌then◌else◌}
+use Rattle.std.proofs.Common.{◌≡◌, inl, inr, ℕ, zero, suc, Bool, true, false, List, [], ◌∷◌, ◌++◌, length, take, drop, Option, Some, None, refl, sym, ap, ◌∙◌, subst, append_assoc}
 use Rattle.std.specs.Bool.{MatchBool}
 use Rattle.std.specs.List.{slice_get}
 use Rattle.std.specs.Io.KnownBytes.{Appends, Keeps}
 use Rattle.std.proofs.KnownBytes.{Appends-nil, Appends-trans, Appends-kept}
 use Rattle.std.proofs.Math.Seq.{drop-append_seam}
-use Rattle.std.proofs.lemmas.Bool.{lt-ltb}
 use Rattle.std.proofs.lemmas.List.{take-append-drop}
 use Rattle.mc_session.specs.Turns.{SessionState, sent}
-use Rattle.mc_world.specs.Connections.{Connection, IsRest, shut, Stands, fresh, with_piece, ended}
-use Rattle.mc_world.specs.Worlds.{PlainWorld, WorldState, numbered, changed, output_of, IsIdle, IsClosed, at_connection, open_connection, Happens, Runs, StandAll, StandsAs, CanStand, Told, named, with_end, GivesUp}
-use Rattle.mc_world.specs.Serving.{next_session, with_written, in_front, with_front, IsService, starts, turn, piece}
+use Rattle.mc_world.specs.Connections.{Connection, IsRest, shut, Stands}
+use Rattle.mc_world.specs.Worlds.{PlainWorld, WorldState, numbered, changed, output_of, IsIdle, IsClosed, StandAll, StandsAs, CanStand}
+use Rattle.mc_world.specs.Serving.{with_written, in_front, with_front}
 use Rattle.mc_world.specs.Rounds.{Writes, HasEnded, Keeps as KeepsStore}
 use Rattle.mc_world.specs.declared.world.World.{World}
 use Rattle.mc_world.specs.Sessions.{world_of}
-use Rattle.mc_world.specs.declared.event.Event.{Event}
-use Rattle.mc_world.specs.declared.event.Event.TheVariants.{Open, Piece, Turn, Clock, Grow, Purge, Close}
-use Rattle.mc_world.proofs.StandLemmas.{stand_length, stand_numbered, changed_both, less, stand_sent}
-use Rattle.mc_world.proofs.UpdateLemmas.{update, at_number, if_opened, mapped, changed_is, changed_opened, number_twice, number_nothing, number_get, changed_length}
-use Rattle.mc_world.proofs.FrontLemmas.{IsOpened, runs_grow, runs_fronted, change_fronted}
+use Rattle.mc_world.proofs.StandLemmas.{stand_numbered, changed_both, less, stand_sent}
+use Rattle.mc_world.proofs.UpdateLemmas.{update, at_number, mapped, changed_is, number_twice, number_nothing, number_get, changed_length}
 
 -- bytes in front of a session's output
 abbrev pub before : List ℕ → SessionState → SessionState

@@ -1,12 +1,12 @@
 -- What a run of a session of a world did until now, and what its parts do.
-use Rattle.std.specs.Prelude.{◌≡◌, ◌⊎◌, ℕ, zero, suc, ◌+◌, ◌^◌, ◌<◌, ◌≤◌, Bool, List, [], ◌∷◌, ◌++◌, length, Option}
+use Rattle.std.specs.Prelude.{◌≡◌, ◌⊎◌, ℕ, ◌^◌, ◌<◌, ◌≤◌, Bool, List, [], ◌∷◌, ◌++◌, length, Option}
 use Rattle.std.specs.Io.KnownBytes.{Appends, Consumes, IsAtEnd}
 use Rattle.mc_world.specs.Connections.{ended}
 use Rattle.mc_world.specs.Worlds.{PlainWorld, WorldState, numbered, at_connection, IsIdle, IsClosed, Runs, StandsAs, CanStand, Told, ToldUntil, GivesUp}
 use Rattle.mc_world.specs.Sessions.{world_of}
 use Rattle.mc_world.specs.Serving.{next_session, with_written, IsService, IsCut}
 use Rattle.mc_world.specs.declared.event.Event.{Event}
-use Rattle.mc_world.specs.declared.event.Event.TheVariants.{Open, Piece, Turn, Clock, Grow, Close}
+use Rattle.mc_world.specs.declared.event.Event.TheVariants.{Open, Piece, Turn, Clock, Grow}
 use Rattle.mc_world.specs.declared.event.Refused.{Refused}
 use Rattle.mc_world.specs.declared.world.World.{World}
 

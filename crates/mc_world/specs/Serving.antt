@@ -1,7 +1,6 @@
 -- A whole run of one session of a world over a reader and a writer.
 use Rattle.std.specs.Prelude.{◌≡◌, ◌⊎◌, ℕ, ◌+◌, ◌%◌, ◌^◌, ◌≤◌, max, Bool, false, List, [], ◌∷◌, ◌++◌, length, Option}
 use Rattle.std.specs.Io.KnownBytes.{Appends, Consumes, IsAtEnd}
-use Rattle.mc_session.specs.Turns.{SessionState}
 use Rattle.mc_world.specs.Connections.{Connection}
 use Rattle.mc_world.specs.Worlds.{PlainWorld, WorldState, numbered, changed, output_of, IsIdle, IsClosed, Runs, StandsAs, Told, GivesUp}
 use Rattle.mc_world.specs.declared.event.Event.{Event}

@@ -1,5 +1,4 @@
-use Rattle.std.proofs.Common.{◌≡◌, ℕ, ◌-◌, ◌+◌, ◌<◌, ◌≤◌, true, false, refl, sym, arith}
-use Rattle.mc_slab.specs.Classes.{PartsAt}
+use Rattle.std.proofs.Common.{◌-◌, ◌≤◌, refl, sym, arith}
 use Rattle.mc_slab.proofs.ClassLemmas.{class_of-some, class_of-none, charge_most, charge_above}
 use Rattle.mc_slab.proofs.class.class_of.Goals as goal
 

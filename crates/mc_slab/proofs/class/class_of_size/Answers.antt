@@ -1,5 +1,4 @@
-use Rattle.std.proofs.Common.{◌≡◌, ◌+◌, sym, arith}
-use Rattle.mc_slab.specs.Classes.{class_holding}
+use Rattle.std.proofs.Common.{sym}
 use Rattle.mc_slab.proofs.ClassLemmas.{class_holding-is}
 use Rattle.mc_slab.proofs.class.class_of_size.Goals as goal
 

@@ -1,8 +1,6 @@
 use Rattle.std.proofs.Common.{refl}
 use Rattle.mc_world.specs.Sessions.{world_of}
 use Rattle.mc_world.proofs.OnlyLemmas.{open_refused}
-use Rattle.mc_world.proofs.ServeLemmas.{served_nothing}
-use Rattle.mc_world.proofs.RefusedLemmas.{served_closed}
 use Rattle.mc_world.proofs.serving.begin.Goals as goal
 
 pub returns-in-Err-clause-err : goal.returns-in-Err-clause-err

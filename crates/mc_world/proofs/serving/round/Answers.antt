@@ -1,7 +1,7 @@
-use Rattle.std.proofs.Common.{◌≡◌, ◌≤◌, ◌^◌, ◌+◌, inr, ap, sym, subst, arith, OnOk}
+use Rattle.std.proofs.Common.{◌≤◌, ◌^◌, ◌+◌, inr, ap, sym, subst, arith}
 use Rattle.mc_shelf.specs.declared.store.Settings.{Settings}
 use Rattle.mc_world.specs.Sessions.{world_of}
-use Rattle.mc_world.specs.Rounds.{HasEnded, GoesOn, Reads, ReadsRefused, Keeps}
+use Rattle.mc_world.specs.Rounds.{HasEnded, GoesOn, Reads, ReadsRefused}
 use Rattle.mc_world.specs.declared.world.World.{World}
 use Rattle.mc_world.proofs.WrittenLemmas.{kept_on, idle_wrote}
 use Rattle.mc_world.proofs.ServeLemmas.{goes_on_turn, turned_and_wrote, turned_wrote_and_read}

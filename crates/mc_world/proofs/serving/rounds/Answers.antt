@@ -1,4 +1,4 @@
-use Rattle.std.proofs.Common.{◌≡◌, ◌≤◌, ◌^◌, ◌+◌, ℕ, ap, arith}
+use Rattle.std.proofs.Common.{◌≤◌, ◌^◌, ◌+◌, ap, arith}
 use Rattle.mc_shelf.specs.declared.store.Settings.{Settings}
 use Rattle.mc_world.specs.Sessions.{world_of}
 use Rattle.mc_world.specs.Rounds.{GoesOn, IsRefused}

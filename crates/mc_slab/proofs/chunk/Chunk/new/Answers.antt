@@ -1,6 +1,5 @@
-use Rattle.std.proofs.Common.{◌≡◌, length, vec_len, sym, ◌∙◌}
+use Rattle.std.proofs.Common.{◌≡◌, vec_len, sym, ◌∙◌}
 use Rattle.mc_slab.specs.Classes.{size_of}
-use Rattle.mc_slab.specs.Chunks.{IsChunkOf}
 use Rattle.mc_slab.proofs.ClassLemmas.{IsChunkOf-length, IsChunk-IsChunkOf}
 use Rattle.mc_slab.proofs.chunk.Chunk.new.Goals as goal
 

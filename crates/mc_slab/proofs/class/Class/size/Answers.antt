@@ -1,5 +1,5 @@
-use Rattle.std.proofs.Common.{◌≡◌, ℕ, ◌-◌, get_or, ap, sym, ◌∙◌, arith}
-use Rattle.mc_slab.specs.Classes.{chunk_sizes, size_of}
+use Rattle.std.proofs.Common.{◌≡◌, ℕ, ap}
+use Rattle.mc_slab.specs.Classes.{size_of}
 use Rattle.mc_slab.proofs.ClassLemmas.{chunk_sizes-is, size_of-least, size_of-most}
 use Rattle.mc_slab.proofs.class.Class.size.Goals as goal
 

@@ -1,7 +1,4 @@
-use Rattle.std.proofs.Common.{◌≡◌, ◌-◌, ◌≤◌, refl, arith}
-use Rattle.mc_slab.specs.Chunks.{IsChunkOf}
-use Rattle.mc_slab.specs.Stocks.{StockState, all_chunks}
-use Rattle.mc_slab.specs.Slabs.{AreStocks, state_of, with_out, out_of, given}
+use Rattle.std.proofs.Common.{refl, arith}
 use Rattle.mc_slab.proofs.SlabLemmas.{StockAt, IsSlab-state_of, class_at, out_at, within_at, AreStocks-set, state_of-out}
 use Rattle.mc_slab.proofs.slab.Slab.give.Goals as goal
 

@@ -1,8 +1,8 @@
-use Rattle.std.proofs.Common.{◌≡◌, ◌≢◌, ℕ, ◌+◌, ◌-◌, ◌*◌, ◌<◌, ◌≤◌, true, false, List, refl, sym, ap, subst, ◌∙◌, arith}
+use Rattle.std.proofs.Common.{◌≡◌, ◌≢◌, ◌+◌, ◌-◌, ◌*◌, ◌<◌, ◌≤◌, true, false, List, refl, sym, ap, subst, ◌∙◌, arith}
 use Rattle.mc_slab.specs.Classes.{chunks_a_page}
 use Rattle.mc_slab.specs.Stocks.{StockState, all_chunks}
-use Rattle.mc_slab.specs.Slabs.{SlabState, IsFull, state_of, with_chunk, with_page, pages_of, out_of, chunks_of, pages_left}
-use Rattle.mc_slab.proofs.SlabLemmas.{StockAt, within_at, class_at, pages_at, out_at, chunks_at, few_at, AreStocks-set, set-same, state_of-page, with_chunk-free, with_chunk-none, free-with_page}
+use Rattle.mc_slab.specs.Slabs.{SlabState, IsFull, state_of, pages_of, out_of, chunks_of}
+use Rattle.mc_slab.proofs.SlabLemmas.{StockAt, within_at, pages_at, out_at, chunks_at, few_at, AreStocks-set, set-same, state_of-page, with_chunk-free, with_chunk-none, free-with_page}
 use Rattle.mc_slab.proofs.slab.Slab.make_ready.Goals as goal
 
 pub returns-then-not-is_all_out-clause-ready : goal.returns-then-not-is_all_out-clause-ready

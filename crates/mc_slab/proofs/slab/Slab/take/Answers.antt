@@ -1,8 +1,8 @@
-use Rattle.std.proofs.Common.{◌≡◌, ℕ, ◌+◌, ◌<◌, List, Err, refl, sym, ap, subst, ◌∙◌, arith}
+use Rattle.std.proofs.Common.{◌≡◌, ℕ, ◌+◌, ◌<◌, Err, refl, sym, ap, subst, ◌∙◌, arith}
 use Rattle.std.proofs.lemmas.Result.{err_from_is_err_and}
 use Rattle.mc_slab.specs.declared.slab.TakeFault.TheVariants.{Full}
 use Rattle.mc_slab.specs.Chunks.{IsChunkOf}
-use Rattle.mc_slab.specs.Stocks.{StockState, all_chunks}
+use Rattle.mc_slab.specs.Stocks.{all_chunks}
 use Rattle.mc_slab.specs.Slabs.{SlabState, state_of, with_chunk, with_out, out_of, chunks_of}
 use Rattle.mc_slab.proofs.SlabLemmas.{StockAt, IsSlab-state_of, class_at, out_at, chunks_at, AreStocks-set, state_of-out}
 use Rattle.mc_slab.proofs.slab.Slab.take.Goals as goal
