@@ -31,6 +31,19 @@ IsSingle (FlushAll delay quiet) = Unit {0}
 IsSingle Version = ⊥
 IsSingle Quit = ⊥
 
+-- a block comes after its line
+abbrev pub HasBlock : Command → Type 0
+HasBlock (Store verb key flags exptime block quiet) = Unit {0}
+HasBlock (Cas key flags exptime block unique quiet) = Unit {0}
+HasBlock (Get keys with_unique) = ⊥
+HasBlock (GetTouch exptime keys with_unique) = ⊥
+HasBlock (Touch key exptime quiet) = ⊥
+HasBlock (Delete key quiet) = ⊥
+HasBlock (Count key up by quiet) = ⊥
+HasBlock (FlushAll delay quiet) = ⊥
+HasBlock Version = ⊥
+HasBlock Quit = ⊥
+
 -- it ended in noreply
 abbrev pub is_quiet : Command → Bool
 is_quiet (Store verb key flags exptime block quiet) = quiet

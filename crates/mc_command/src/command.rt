@@ -1,5 +1,5 @@
 ghost use Rattle.std.specs.Prelude.{◌≡◌, ◌<◌, [], ◌∷◌, length, slice_get};
-ghost use Rattle.mc_command.specs.Commands.{steps, is_quiet, IsSingle};
+ghost use Rattle.mc_command.specs.Commands.{steps, is_quiet, HasBlock, IsSingle};
 
 use crate::bytes::Bytes;
 use crate::keys::Keys;
@@ -123,6 +123,31 @@ fn only_step<'a>(command: &Command<'a>) -> KeyStep<'a>
     ensures { steps command.now ≡ result ∷ [] }
 {
     match command {
+        Command::Store { .. } | Command::Cas { .. } => block_step(command),
+        Command::Touch { key, exptime, .. } => KeyStep::Touch {
+            key: Bytes::of(key.as_slice()),
+            exptime: *exptime,
+        },
+        Command::Delete { key, .. } => KeyStep::Delete {
+            key: Bytes::of(key.as_slice()),
+        },
+        Command::Count { key, up, by, .. } => KeyStep::Count {
+            key: Bytes::of(key.as_slice()),
+            up: *up,
+            by: *by,
+        },
+        Command::FlushAll { delay, .. } => KeyStep::Flush { delay: *delay },
+        Command::Get { .. } | Command::GetTouch { .. } | Command::Version | Command::Quit =>
+            unreachable!(),
+    }
+}
+
+/// The step of a command that a block comes after.
+fn block_step<'a>(command: &Command<'a>) -> KeyStep<'a>
+    requires { HasBlock command.now }
+    ensures { steps command.now ≡ result ∷ [] }
+{
+    match command {
         Command::Store {
             verb,
             key,
@@ -151,20 +176,6 @@ fn only_step<'a>(command: &Command<'a>) -> KeyStep<'a>
             block: Bytes::of(block.as_slice()),
             unique: *unique,
         },
-        Command::Touch { key, exptime, .. } => KeyStep::Touch {
-            key: Bytes::of(key.as_slice()),
-            exptime: *exptime,
-        },
-        Command::Delete { key, .. } => KeyStep::Delete {
-            key: Bytes::of(key.as_slice()),
-        },
-        Command::Count { key, up, by, .. } => KeyStep::Count {
-            key: Bytes::of(key.as_slice()),
-            up: *up,
-            by: *by,
-        },
-        Command::FlushAll { delay, .. } => KeyStep::Flush { delay: *delay },
-        Command::Get { .. } | Command::GetTouch { .. } | Command::Version | Command::Quit =>
-            unreachable!(),
+        _ => unreachable!(),
     }
 }
