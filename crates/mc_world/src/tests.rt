@@ -25,11 +25,7 @@ fn world<K: KeyHash + Drop>(alloc: Global, hasher: K) -> Result<World<K>, AllocE
 }
 
 /// The same, of so many pages.
-fn world_of<K: KeyHash + Drop>(
-    alloc: Global,
-    hasher: K,
-    pages: u32,
-) -> Result<World<K>, AllocError>
+fn world_of<K: KeyHash + Drop>(alloc: Global, hasher: K, pages: u32) -> Result<World<K>, AllocError>
     requires { (1 ≤ pages) × (pages ≤ 65536) }
 {
     let settings = Settings {
