@@ -1,3 +1,5 @@
+//! The header of an item: numbers at their places in its first 48 bytes, lowest byte first.
+
 ghost use Rattle.std.specs.Prelude.{◌≡◌, ◌+◌, ◌≤◌, ◌^◌, ◌++◌, length, take, drop};
 ghost use Rattle.mc_item.specs.Layout.{number_at, number_bytes, header_in, updated_in, expires_number, moment_number};
 

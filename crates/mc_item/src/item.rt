@@ -1,3 +1,5 @@
+//! An item in its chunk.
+
 ghost use Rattle.std.specs.Prelude.{◌≡◌, ◌+◌, ◌≤◌, ◌++◌, length, decimal};
 ghost use Rattle.mc_slab.specs.Classes.{size_of};
 ghost use Rattle.mc_slab.specs.Chunks.{chunk_class, IsChunkOf};
@@ -17,11 +19,17 @@ use std::marker::Model;
 pub struct Parts<'a> {
     /// From 0 to 250 bytes.
     pub key: &'a [u8],
+    /// The front of the block.
     pub first: &'a [u8],
+    /// What comes after it in the block.
     pub second: &'a [u8],
+    /// The flags that the client stores with it.
     pub flags: u32,
+    /// When it expires.
     pub expiry: Expiry,
+    /// The number that no other write has.
     pub unique: u64,
+    /// When its block was written.
     pub updated: Moment,
 }
 

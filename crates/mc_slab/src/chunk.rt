@@ -1,3 +1,5 @@
+//! Chunks: blocks of memory of their class's length.
+
 ghost use Rattle.std.specs.Prelude.{◌≡◌, IfOk};
 ghost use Rattle.std.specs.Borrow.{sem};
 ghost use Rattle.mc_slab.specs.Classes.{size_of};
@@ -9,7 +11,7 @@ use std::marker::Model;
 
 /// A block of its class's length. Contracts see it as its bytes. It is moved and never copied; one that is let go, and not
 /// given back to its slab, stays out in the slab's account for ever.
-#[derive(Debug, Drop)]
+#[derive(Drop)]
 pub struct Chunk {
     bytes: Vec<u8>,
 }

@@ -1,3 +1,5 @@
+//! Slab classes: the sizes of chunks.
+
 ghost use Rattle.std.specs.Prelude.{◌≡◌, ℕ, ◌-◌, ◌+◌, ◌<◌, ◌≤◌, ◌↔◌, [], ◌∷◌, IfSome, IsNone, length};
 ghost use Rattle.mc_slab.specs.Classes.{IsClass, chunk_sizes, size_of, chunks_a_page, class_holding, class_of, PartsAt};
 
@@ -5,10 +7,10 @@ use std::alloc::AllocError;
 use std::marker::Model;
 
 /// How many bytes a page has.
-pub const PAGE: u32 = 1 << 20;
+pub(crate) const PAGE: u32 = 1 << 20;
 
 /// How many classes there are.
-pub const CLASSES: u8 = 40;
+pub(crate) const CLASSES: u8 = 40;
 
 /// How many bytes a chunk of each class has, class 1 first.
 static SIZES: [u32; 40] = [
@@ -99,7 +101,7 @@ fn smaller_sizes(charge: u64) -> usize
     SIZES.partition_point(|size| u64::from(*size) < charge)
 }
 
-/// The smallest class whose chunks hold a charge of that many bytes; none above 1048576. It takes six comparisons.
+/// The smallest class whose chunks hold a charge of that many bytes; none above 1048576. It takes at most six comparisons.
 pub fn class_of(charge: u64) -> Option<Class>
     ensures value { result ≡ class_of charge }
     ensures none { IsNone result ↔ (1048576 < charge) }

@@ -1,3 +1,5 @@
+//! The slab: pages that go to classes, and the chunks that are taken of them.
+
 ghost use Rattle.std.specs.Prelude.{◌≡◌, ℕ, ◌+◌, ◌-◌, ◌<◌, ◌≤◌, ◌↔◌, ◌⊎◌, map, IfOk, IfErr, OnOk, OnErr, Err};
 ghost use Rattle.std.specs.List.{range_with_len};
 ghost use Rattle.mc_slab.specs.Chunks.{IsChunkOf, chunk_class};
@@ -16,7 +18,14 @@ use thiserror::Error;
 pub enum TakeFault {
     /// Every chunk of the class's pages is out, and no page is left.
     #[error("all {out} chunks of the class's {pages} pages are out, and no page is left")]
-    Full { class: Class, pages: u32, out: u32 },
+    Full {
+        /// The class that was asked for.
+        class: Class,
+        /// How many pages it has.
+        pages: u32,
+        /// How many of their chunks are out: all.
+        out: u32,
+    },
     /// The class needs a page, and memory for one was refused.
     #[error("out of memory")]
     NoMemory,
@@ -30,8 +39,9 @@ impl From<AllocError> for TakeFault {
     }
 }
 
-/// The memory of a store: pages of 1048576 bytes, which go to a class of chunks one by one and stay with it. Contracts see
-/// the limit of pages, and of each class its pages and its chunks that are out.
+/// The memory of a store: pages of 1048576 bytes, which go to a class of chunks one by one and stay with it. A page is made as
+/// allocations of its chunks, each with the allocator's overhead, all at once. Contracts see the limit of pages, and of each
+/// class its pages and its chunks that are out.
 #[derive(Drop)]
 pub struct Slab {
     pages_left: u32,

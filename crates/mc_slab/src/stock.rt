@@ -1,3 +1,5 @@
+//! What one class has: its pages, its chunks that are out, and its free ones.
+
 ghost use Rattle.std.specs.Prelude.{◌≡◌, ◌+◌, ◌-◌, ◌*◌, ◌<◌, ◌≤◌, ◌↔◌, [], IsTrue, OnOk, OnErr, vec_len, vec_capacity};
 ghost use Rattle.std.specs.List.{All};
 ghost use Rattle.mc_slab.specs.Classes.{IsClass, chunks_a_page};
@@ -12,7 +14,9 @@ use std::marker::Model;
 /// What a class has: its pages, and how many of their chunks are out.
 #[derive(Clone, Copy, Debug, PartialEq, Eq)]
 pub struct Account {
+    /// How many pages of 1048576 bytes went to the class.
     pub pages: u32,
+    /// How many chunks of them are out.
     pub out: u32,
 }
 
@@ -80,6 +84,7 @@ impl Stock {
         ensures err { OnErr result (self.new ≡ self.old) }
     {
         let chunks = self.class.chunks_a_page();
+        // None is free here, so there is room for all: those that are out, and those of the new page.
         self.free
             .reserve_exact(self.out as usize + chunks as usize)?;
         make_chunks(&mut self.free, alloc, self.class, chunks)?;
