@@ -36,8 +36,8 @@ struct Aim {
 impl Shelf {
     /// A step that needs the desk, and its answer. A write goes into a chunk more, which is asked while the key's old item
     /// still has its own; a dead item's chunk of the same class is used again, and so is that of a number that incr and decr
-    /// leave in its class. A page that the slab gives to a class is all that takes memory. Refused, or with the unique
-    /// numbers spent, the shelf and the desk are as they were.
+    /// leave in its class. A page that the slab gives to a class is all that takes memory, since `look` has made the room of
+    /// a new key's entry. Refused, or with the unique numbers spent, the shelf and the desk are as they were.
     pub fn apply(
         &mut self,
         alloc: Global,
@@ -162,7 +162,7 @@ impl Shelf {
             self.drop_dead(aim.place, aim.moment, desk);
             return Ok(Reply::NoChunk);
         }
-        self.index.reserve()?;
+        self.index.reserve_for(aim.place)?;
         match desk.take(alloc, aim.class) {
             Ok(chunk) => {
                 let slot = Slot {

@@ -108,6 +108,17 @@ impl Index {
         self.list.reserve(1)
     }
 
+    /// Makes room for an entry at a place: one more where that is a gap.
+    pub(crate) fn reserve_for(&mut self, place: Place) -> Result<(), AllocError>
+        ensures items { self.new.items ≡ self.old.items }
+        ensures room { OnOk result ((at : ℕ) → place ≡ Place.Gap at → 0 < self.new.room) }
+    {
+        match place {
+            Place::Gap(_) => self.reserve(),
+            Place::Found(_) => Ok(()),
+        }
+    }
+
     /// Puts an entry of a new key into its gap. It takes no memory. The cost grows with the number of entries.
     pub(crate) fn insert(&mut self, at: usize, entry: Entry)
         requires gap { IsGap self.old.items entry.key at }

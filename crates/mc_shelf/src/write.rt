@@ -46,7 +46,7 @@ impl Shelf {
 /// Puts an entry at its key's place. The chunk of the one that stood there goes back.
 fn put(index: &mut Index, place: Place, entry: Entry, desk: &mut Desk)
     requires place { IsPlace index.old.items entry.key place }
-    requires room { 0 < index.old.room }
+    requires room { (at : ℕ) → place ≡ Place.Gap at → 0 < index.old.room }
     requires out { (item : Item) → get index.old.items entry.key ≡ Some item → IsClass (item_class entry.key item) → 0 < out_of desk.old.slab (item_class entry.key item) }
     ensures items { index.new.items ≡ insert index.old.items entry.key entry.item }
     ensures none { get index.old.items entry.key ≡ None → desk.new ≡ desk.old }
@@ -72,7 +72,7 @@ pub(crate) fn write_in(
 ) -> Reply
     requires key { length (commands.key_of step.now) ≤ 250 }
     requires place { IsPlace index.old.items (commands.key_of step.now) place }
-    requires room { 0 < index.old.room }
+    requires room { (at : ℕ) → place ≡ Place.Gap at → 0 < index.old.room }
     requires puts { HoldsWrite slot.chunk (commands.key_of step.now) (row_of step.now slot.updated (machine.alive cut slot.updated (get index.old.items (commands.key_of step.now)))).1 }
     requires out { (item : Item) → get index.old.items (commands.key_of step.now) ≡ Some item → IsClass (item_class (commands.key_of step.now) item) → 0 < out_of desk.old.slab (item_class (commands.key_of step.now) item) }
     ensures reply { result ≡ (row_of step.now slot.updated (machine.alive cut slot.updated (get index.old.items (commands.key_of step.now)))).0 }

@@ -15,8 +15,8 @@ use Rattle.mc_shelf.proofs.shelf.Shelf.write_anew.Goals as goal
 
 pub write_in-requires-clause-puts : goal.write_in-requires-clause-puts
 write_in-requires-clause-puts c =
-    let shelf : ShelfState = record { greatest = c.self.inside.greatest; items = c.reserve.new.self.items; cut = c.self.inside.cut } in
-    let same : shelf ≡ c.args.self.now = (λ i. record { greatest = c.self.inside.greatest; items = c.reserve.ensures.items i; cut = c.self.inside.cut }) ∙ c.self.view_is in
+    let shelf : ShelfState = record { greatest = c.self.inside.greatest; items = c.reserve_for.new.self.items; cut = c.self.inside.cut } in
+    let same : shelf ≡ c.args.self.now = (λ i. record { greatest = c.self.inside.greatest; items = c.reserve_for.ensures.items i; cut = c.self.inside.cut }) ∙ c.self.view_is in
     let next = c.requires.next in
     subst (λ (t : ShelfState). HoldsWrite c.in-Ok.chunk (key_of c.args.step.now) (row_at t c.args.step.now c.args.aim.moment).1) (sym same)
     (holds_write c.args.self.now c.args.step.now c.args.aim.moment next.0 c.args.aim.class c.in-Ok.chunk next.1 next.2 next.3 c.in-Ok.ensures.chunk)
@@ -24,8 +24,8 @@ write_in-requires-clause-puts c =
 pub write_in-requires-clause-out : goal.write_in-requires-clause-out
 write_in-requires-clause-out c =
     let key = key_of c.args.step.now in
-    let shelf : ShelfState = record { greatest = c.self.inside.greatest; items = c.reserve.new.self.items; cut = c.self.inside.cut } in
-    let same : shelf ≡ c.args.self.now = (λ i. record { greatest = c.self.inside.greatest; items = c.reserve.ensures.items i; cut = c.self.inside.cut }) ∙ c.self.view_is in
+    let shelf : ShelfState = record { greatest = c.self.inside.greatest; items = c.reserve_for.new.self.items; cut = c.self.inside.cut } in
+    let same : shelf ≡ c.args.self.now = (λ i. record { greatest = c.self.inside.greatest; items = c.reserve_for.ensures.items i; cut = c.self.inside.cut }) ∙ c.self.view_is in
     let drawn : c.draw.new.self ≡ record { slab = taken c.args.desk.now.slab c.args.aim.class; next_unique = c.args.desk.now.next_unique + 1 } =
     c.draw.ensures.drawn ∙ ap (λ (d : DeskState). record d { next_unique = d.next_unique + 1 }) c.in-Ok.ensures.taken in
     let out : IsOut key c.args.self.now (record { slab = taken c.args.desk.now.slab c.args.aim.class; next_unique = c.args.desk.now.next_unique + 1 }) =
@@ -42,8 +42,8 @@ returns-in-Ok-clause-took c =
     let key = key_of step in
     let now = c.args.aim.moment in
     let desk = c.args.desk.now in
-    let shelf : ShelfState = record { greatest = c.self.inside.greatest; items = c.reserve.new.self.items; cut = c.self.inside.cut } in
-    let same : shelf ≡ c.args.self.now = (λ i. record { greatest = c.self.inside.greatest; items = c.reserve.ensures.items i; cut = c.self.inside.cut }) ∙ c.self.view_is in
+    let shelf : ShelfState = record { greatest = c.self.inside.greatest; items = c.reserve_for.new.self.items; cut = c.self.inside.cut } in
+    let same : shelf ≡ c.args.self.now = (λ i. record { greatest = c.self.inside.greatest; items = c.reserve_for.ensures.items i; cut = c.self.inside.cut }) ∙ c.self.view_is in
     let new : ShelfState = record { greatest = c.self.inside.greatest; items = c.write_in.new.index.items; cut = c.self.inside.cut } in
     let drawn : c.draw.new.self ≡ record { slab = taken desk.slab c.args.aim.class; next_unique = desk.next_unique + 1 } =
     c.draw.ensures.drawn ∙ ap (λ (d : DeskState). record d { next_unique = d.next_unique + 1 }) c.in-Ok.ensures.taken in
@@ -67,8 +67,8 @@ returns-in-Ok-clause-others c =
     let step = c.args.step.now in
     let key = key_of step in
     let now = c.args.aim.moment in
-    let shelf : ShelfState = record { greatest = c.self.inside.greatest; items = c.reserve.new.self.items; cut = c.self.inside.cut } in
-    let same : shelf ≡ c.args.self.now = (λ i. record { greatest = c.self.inside.greatest; items = c.reserve.ensures.items i; cut = c.self.inside.cut }) ∙ c.self.view_is in
+    let shelf : ShelfState = record { greatest = c.self.inside.greatest; items = c.reserve_for.new.self.items; cut = c.self.inside.cut } in
+    let same : shelf ≡ c.args.self.now = (λ i. record { greatest = c.self.inside.greatest; items = c.reserve_for.ensures.items i; cut = c.self.inside.cut }) ∙ c.self.view_is in
     let new : ShelfState = record { greatest = c.self.inside.greatest; items = c.write_in.new.index.items; cut = c.self.inside.cut } in
     let written = subst (λ (t : ShelfState). IsWritten c.draw.result now key (row_at t step now).1 t.items c.write_in.new.index.items) same c.write_in.ensures.items in
     others_written key c.args.self.now new c.draw.result now (row_at c.args.self.now step now).1 written (ap (λ (t : ShelfState). t.greatest) c.self.view_is) (ap (λ (t : ShelfState). t.cut) c.self.view_is)
