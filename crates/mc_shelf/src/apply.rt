@@ -20,7 +20,7 @@ use crate::plan::{Next, Plan, alive, counts};
 use crate::shelf::Shelf;
 use crate::write::{Slot, write_in};
 use mc_command::{KeyStep, Reply, StepFault, counted, counts_follow, number_of};
-use mc_slab::{Class, class_of};
+use mc_slab::{Class, TakeFault, class_of};
 use mc_time::Moment;
 use std::alloc::Global;
 
@@ -174,7 +174,8 @@ impl Shelf {
                 let cut = self.cut;
                 Ok(write_in(&mut self.index, cut, aim.place, step, slot, desk))
             }
-            Err(_) => Err(StepFault::NoMemory),
+            Err(TakeFault::NoMemory) => Err(StepFault::NoMemory),
+            Err(TakeFault::Full { .. }) => unreachable!(),
         }
     }
 
