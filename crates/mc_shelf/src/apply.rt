@@ -87,6 +87,7 @@ impl Shelf {
         requires { size ≤ self.now.greatest }
         ensures { (result ≡ class_holding size) × (size ≤ size_of result) × IsClass result }
     {
+        // Read for the invariant's clause on it: a charge of at most 1048576 bytes has a class.
         let _greatest = self.greatest;
         let Some(class) = class_of(size) else {
             unreachable!();

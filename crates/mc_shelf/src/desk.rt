@@ -1,3 +1,5 @@
+//! What the shelves of a store share.
+
 ghost use Rattle.std.specs.Prelude.{◌≡◌, ℕ, ◌+◌, ◌-◌, ◌^◌, ◌<◌, ◌≤◌, ◌≢◌, ◌↔◌, ◌⊎◌, IfOk, IfErr, OnOk, OnErr, Err};
 ghost use Rattle.mc_slab.specs.Chunks.{IsChunkOf, chunk_class};
 ghost use Rattle.mc_slab.specs.Slabs.{IsSlab, IsFull, untouched, pages_of, out_of, chunks_of, pages_left, has_room, taken, given};

@@ -1,3 +1,5 @@
+//! Entries in the order of their keys.
+
 ghost use Rattle.std.specs.Prelude.{◌≡◌, ℕ, ◌<◌, ◌≤◌, List, Some, None, IfOk, OnOk, OnErr, IfSome, slice_get, decimal};
 ghost use Rattle.std.specs.FinMap.{empty, entries, get, insert, remove, len};
 ghost use Rattle.mc_slab.specs.Classes.{class_holding, size_of};
@@ -16,7 +18,9 @@ use std::mem;
 /// Where a key stands in an index, or would stand.
 #[derive(Clone, Copy)]
 pub(crate) enum Place {
+    /// Its entry is the one at that place of the list.
     Found(usize),
+    /// No entry has it: its own would come before the one at that place, or last.
     Gap(usize),
 }
 

@@ -1,4 +1,4 @@
-//! The steps of a shelf that need the desk.
+//! What a step writes, and the chunk that goes back.
 
 ghost use Rattle.std.specs.Prelude.{◌≡◌, ℕ, ◌<◌, ◌≤◌, ◌++◌, List, length, decimal, Some, None};
 ghost use Rattle.std.specs.FinMap.{get, insert, remove};
@@ -153,9 +153,13 @@ fn step_entry(slot: Slot, step: &KeyStep<'_>, item: Option<&Entry>) -> (Entry, R
 /// Where a write goes: a chunk, and what stands beside the key and the block.
 #[derive(Drop)]
 pub(crate) struct Slot {
+    /// The hash of the key.
     pub(crate) hash: u64,
+    /// The unique number of the write.
     pub(crate) unique: u64,
+    /// The moment of the write.
     pub(crate) updated: Moment,
+    /// The chunk, of the class that the item's charge asks for.
     pub(crate) chunk: Chunk,
 }
 
