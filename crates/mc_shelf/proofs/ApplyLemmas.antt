@@ -1,5 +1,6 @@
 -- What a write leaves of a shelf and a desk.
 use Rattle.std.proofs.Common.{◌≡◌, ◌≢◌, ℕ, ◌+◌, ◌-◌, ◌<◌, ◌≤◌, ◌^◌, Bool, true, false, ◌&&◌, ◌||◌, List, length, Option, Some, None, is_some, is_none, refl, sym, ap, subst, ◌∙◌, arith, eqb, eqb-true, ltb, ltb-false, decimal, if◌then◌else◌, true≢false}
+use Rattle.std.proofs.lemmas.Bool.{le-ltb}
 use Rattle.std.specs.FinMap.{get, insert, remove}
 use Rattle.mc_slab.specs.Classes.{IsClass, class_holding, size_of}
 use Rattle.mc_slab.specs.Chunks.{IsChunkOf}
@@ -38,6 +39,13 @@ full_of slab class is is_class none =
     neither : (a b : Bool) → a || b ≡ false → (a ≡ false) × (b ≡ false)
     neither true b e = absurd (true≢false e)
     neither false b e = (refl, e)
+
+-- and one that has room isn't
+pub room_not_full : (slab : SlabState) (class : ℕ) → has_room slab class ≡ true → IsFull slab class → ⊥
+room_not_full slab class room full = true≢false (sym room ∙ none)
+  where
+    none : has_room slab class ≡ false
+    none = rw (le-ltb (out_of slab class) (chunks_of slab class) (omega (arith, full.all_out)), le-ltb 0 (pages_left slab) (omega (arith, full.no_page))) refl
 
 -- what stays of a desk that a chunk goes back to, and what is out after it
 number_given : (key : List ℕ) (found : Option Entry) (old new : DeskState) → GivesBack key found old new → new.next_unique ≡ old.next_unique

@@ -20,7 +20,7 @@ use crate::plan::{Next, Plan, alive, counts};
 use crate::shelf::Shelf;
 use crate::write::{Slot, write_in};
 use mc_command::{KeyStep, Reply, StepFault, counted, counts_follow, number_of};
-use mc_slab::{Class, class_of};
+use mc_slab::{Class, TakeFault, class_of};
 use mc_time::Moment;
 use std::alloc::Global;
 
@@ -36,8 +36,8 @@ struct Aim {
 impl Shelf {
     /// A step that needs the desk, and its answer. A write goes into a chunk more, which is asked while the key's old item
     /// still has its own; a dead item's chunk of the same class is used again, and so is that of a number that incr and decr
-    /// leave in its class. A page that the slab gives to a class is all that takes memory. Refused, or with the unique
-    /// numbers spent, the shelf and the desk are as they were.
+    /// leave in its class. A page that the slab gives to a class is all that takes memory, since `look` has made the room of
+    /// a new key's entry. Refused, or with the unique numbers spent, the shelf and the desk are as they were.
     pub fn apply(
         &mut self,
         alloc: Global,
@@ -87,6 +87,7 @@ impl Shelf {
         requires { size ≤ self.now.greatest }
         ensures { (result ≡ class_holding size) × (size ≤ size_of result) × IsClass result }
     {
+        // Read for the invariant's clause on it: a charge of at most 1048576 bytes has a class.
         let _greatest = self.greatest;
         let Some(class) = class_of(size) else {
             unreachable!();
@@ -162,7 +163,7 @@ impl Shelf {
             self.drop_dead(aim.place, aim.moment, desk);
             return Ok(Reply::NoChunk);
         }
-        self.index.reserve()?;
+        self.index.reserve_for(aim.place)?;
         match desk.take(alloc, aim.class) {
             Ok(chunk) => {
                 let slot = Slot {
@@ -174,7 +175,8 @@ impl Shelf {
                 let cut = self.cut;
                 Ok(write_in(&mut self.index, cut, aim.place, step, slot, desk))
             }
-            Err(_) => Err(StepFault::NoMemory),
+            Err(TakeFault::NoMemory) => Err(StepFault::NoMemory),
+            Err(TakeFault::Full { .. }) => unreachable!(),
         }
     }
 

@@ -1,4 +1,6 @@
-ghost use Rattle.std.specs.Prelude.{◌≡◌, ℕ, ◌+◌, ◌-◌, ◌^◌, ◌<◌, ◌≤◌, ◌≢◌, ◌↔◌, IfOk, OnOk, OnErr, Err};
+//! What the shelves of a store share.
+
+ghost use Rattle.std.specs.Prelude.{◌≡◌, ℕ, ◌+◌, ◌-◌, ◌^◌, ◌<◌, ◌≤◌, ◌≢◌, ◌↔◌, ◌⊎◌, IfOk, IfErr, OnOk, OnErr, Err};
 ghost use Rattle.mc_slab.specs.Chunks.{IsChunkOf, chunk_class};
 ghost use Rattle.mc_slab.specs.Slabs.{IsSlab, IsFull, untouched, pages_of, out_of, chunks_of, pages_left, has_room, taken, given};
 
@@ -82,6 +84,7 @@ impl Desk {
         ensures taken { OnOk result (self.new ≡ record self.old { slab = taken self.old.slab class }) }
         ensures full { (pages out : ℕ) → (result ≡ Err (TakeFault.Full class pages out)) ↔ (IsFull self.old.slab class × (pages ≡ pages_of self.old.slab class) × (out ≡ out_of self.old.slab class)) }
         ensures no_memory { result ≡ Err TakeFault.NoMemory → (out_of self.old.slab class ≡ chunks_of self.old.slab class) × (0 < pages_left self.old.slab) }
+        ensures faults { IfErr result (λ fault. (fault ≡ TakeFault.NoMemory) ⊎ (fault ≡ TakeFault.Full class (pages_of self.old.slab class) (out_of self.old.slab class))) }
         ensures err { OnErr result (self.new ≡ self.old) }
         ensures slab { IsSlab self.old.slab }
     {

@@ -1,3 +1,5 @@
+//! An item, and the hash of its key.
+
 ghost use Rattle.std.specs.Ordering.{nat_cmp};
 ghost use Rattle.std.specs.Cmp.Lexicographic.{slice_cmp};
 ghost use Rattle.std.specs.Prelude.{◌≡◌, ◌+◌, ◌≤◌, ◌++◌, length, decimal};
@@ -94,6 +96,7 @@ impl Entry {
         ensures value { result.now ≡ self.now.item.block }
         ensures size { length self.now.item.block ≤ 1048576 }
     {
+        // Read for the clause on it: no chunk, and so no block in one, is longer than 1048576 bytes.
         let _size = self.item.class().size();
         self.item.block()
     }

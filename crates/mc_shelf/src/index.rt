@@ -1,3 +1,5 @@
+//! Entries in the order of their keys.
+
 ghost use Rattle.std.specs.Prelude.{◌≡◌, ℕ, ◌<◌, ◌≤◌, List, Some, None, IfOk, OnOk, OnErr, IfSome, slice_get, decimal};
 ghost use Rattle.std.specs.FinMap.{empty, entries, get, insert, remove, len};
 ghost use Rattle.mc_slab.specs.Classes.{class_holding, size_of};
@@ -16,7 +18,9 @@ use std::mem;
 /// Where a key stands in an index, or would stand.
 #[derive(Clone, Copy)]
 pub(crate) enum Place {
+    /// Its entry is the one at that place of the list.
     Found(usize),
+    /// No entry has it: its own would come before the one at that place, or last.
     Gap(usize),
 }
 
@@ -106,6 +110,17 @@ impl Index {
         ensures room { OnOk result (0 < self.new.room) }
     {
         self.list.reserve(1)
+    }
+
+    /// Makes room for an entry at a place: one more where that is a gap.
+    pub(crate) fn reserve_for(&mut self, place: Place) -> Result<(), AllocError>
+        ensures items { self.new.items ≡ self.old.items }
+        ensures room { OnOk result ((at : ℕ) → place ≡ Place.Gap at → 0 < self.new.room) }
+    {
+        match place {
+            Place::Gap(_) => self.reserve(),
+            Place::Found(_) => Ok(()),
+        }
     }
 
     /// Puts an entry of a new key into its gap. It takes no memory. The cost grows with the number of entries.

@@ -1,3 +1,5 @@
+//! What a step asks, by the protocol's table and the item that stands under its key.
+
 ghost use Rattle.std.specs.Prelude.{◌≡◌, ℕ, ◌≤◌, List, length, IfOk, OnErr};
 ghost use Rattle.mc_time.specs.declared.expiry.Expiry.{Expiry as Expires};
 ghost use Rattle.mc_command.specs.Commands as commands;
@@ -46,9 +48,13 @@ pub(crate) enum Next {
 /// What a shelf has found out about a step: where its key stands, and what comes next.
 #[derive(Drop)]
 pub struct Plan {
+    /// The hash of the step's key.
     pub(crate) hash: u64,
+    /// Where the key stands, or would stand.
     pub(crate) place: Place,
+    /// What comes next.
     pub(crate) next: Next,
+    /// The moment of the step: that of the look-up, and of a write.
     pub(crate) moment: Moment,
 }
 
@@ -83,6 +89,7 @@ pub(crate) fn next_by(dead: bool, greatest: u64, told: Told) -> Next
     }
 }
 
+/// An answer that leaves the key's item. A dead one is dropped.
 fn answered(dead: bool, reply: Reply) -> Next
     ensures { result ≡ plans.answered dead reply }
 {
@@ -183,6 +190,8 @@ fn charge(key: &[u8], block: &[u8]) -> u64
     CHUNK_HEAD + key.len() as u64 + block.len() as u64
 }
 
+/// set, add, replace, append and prepend. add stores only where no item stands; replace, append and prepend only where one
+/// does.
 fn store_told(verb: Verb, key: &[u8], block: &[u8], item: Option<&Entry>) -> Told
     requires { length key.now ≤ 250 }
     ensures { (flags : ℕ) (expiry : Expires) → result ≡ told_by key.now (store_row verb flags expiry block.now (item_in item.entry)) }
@@ -202,6 +211,7 @@ fn store_told(verb: Verb, key: &[u8], block: &[u8], item: Option<&Entry>) -> Tol
     }
 }
 
+/// cas. It stores only over an item that has the unique number it names.
 fn cas_told(key: &[u8], block: &[u8], unique: u64, item: Option<&Entry>) -> Told
     requires { length key.now ≤ 250 }
     ensures { (flags : ℕ) (expiry : Expires) → result ≡ told_by key.now (cas_row flags expiry block.now unique (item_in item.entry)) }
@@ -229,6 +239,7 @@ fn hit(alloc: Global, item: &Entry) -> Result<Reply, AllocError>
     })
 }
 
+/// get and gets. A hit is answered with a copy of the block.
 fn read_told(alloc: Global, item: Option<&Entry>) -> Result<Told, AllocError>
     ensures told { (key : List ℕ) → IfOk result (λ told. told ≡ told_by key (read_row (item_in item.entry))) }
     ensures refused { OnErr result (CopiesBlock (read_row (item_in item.entry)).0) }
@@ -239,6 +250,7 @@ fn read_told(alloc: Global, item: Option<&Entry>) -> Result<Told, AllocError>
     }
 }
 
+/// gat and gats: as get and gets, and the item of a hit expires then.
 fn read_touch_told(alloc: Global, expiry: Expiry, item: Option<&Entry>) -> Result<Told, AllocError>
     ensures told { (key : List ℕ) → IfOk result (λ told. told ≡ told_by key (read_touch_row expiry (item_in item.entry))) }
     ensures refused { OnErr result (CopiesBlock (read_touch_row expiry (item_in item.entry)).0) }
@@ -249,6 +261,7 @@ fn read_touch_told(alloc: Global, expiry: Expiry, item: Option<&Entry>) -> Resul
     }
 }
 
+/// touch. The item that stands expires then.
 fn touch_told(expiry: Expiry, item: Option<&Entry>) -> Told
     ensures { (key : List ℕ) → result ≡ told_by key (touch_row expiry (item_in item.entry)) }
 {
@@ -258,6 +271,7 @@ fn touch_told(expiry: Expiry, item: Option<&Entry>) -> Told
     }
 }
 
+/// delete. The item that stands is removed.
 fn delete_told(item: Option<&Entry>) -> Told
     ensures { (key : List ℕ) → result ≡ told_by key (delete_row (item_in item.entry)) }
 {
@@ -267,6 +281,7 @@ fn delete_told(item: Option<&Entry>) -> Told
     }
 }
 
+/// incr and decr. A block that is a number is written anew, as the decimal digits of the number that it comes to.
 fn count_told(key: &[u8], up: bool, by: u64, item: Option<&Entry>) -> Told
     requires { length key.now ≤ 250 }
     ensures { result ≡ told_by key.now (count_row up by (item_in item.entry)) }

@@ -1,3 +1,5 @@
+//! A shelf, and the steps on one of its keys.
+
 ghost use Rattle.std.specs.Prelude.{◌≡◌, ℕ, ◌≤◌, List, length, Some, None, Err, IfOk, OnErr};
 ghost use Rattle.std.specs.FinMap.{empty, get, insert, remove};
 ghost use Rattle.mc_command.specs.declared.step.KeyStep.{KeyStep as Step};
@@ -21,8 +23,11 @@ use std::marker::Model;
 /// Contracts see a finite map.
 #[derive(Drop)]
 pub struct Shelf {
+    /// The greatest charge of an item, in bytes, 0 to 1048576.
     pub(crate) greatest: u64,
+    /// The items, by their keys.
     pub(crate) index: Index,
+    /// The second of the flush that waits or has come, at which what was written before it dies.
     pub(crate) cut: Option<u64>,
 }
 

@@ -1,3 +1,5 @@
+//! The shelves of a store, and what goes through all of them.
+
 ghost use Rattle.std.specs.Prelude.{◌≡◌, ℕ, ◌<◌, ◌≤◌, ◌==◌, true, List, length, map, replicate, Option, None, IfOk, OnErr, Err};
 ghost use Rattle.std.specs.FinMap.{empty};
 ghost use Rattle.mc_command.specs.Commands.{key_of};
@@ -13,7 +15,8 @@ use mc_command::{KeyStep, Reply, StepFault, counts_follow, other_keys_stay};
 use mc_time::{Moment, cut_after};
 use std::alloc::{AllocError, Global};
 
-/// Shelves, and the desk that they share.
+/// Shelves, and the desk that they share. The greatest charge and the flush are those of each shelf. They stand here too, so
+/// that what contracts see of them needs no shelf.
 #[derive(Drop)]
 pub(crate) struct Shelves {
     greatest: u64,

@@ -1,4 +1,4 @@
-//! The steps of a shelf that need the desk.
+//! What a step writes, and the chunk that goes back.
 
 ghost use Rattle.std.specs.Prelude.{◌≡◌, ℕ, ◌<◌, ◌≤◌, ◌++◌, List, length, decimal, Some, None};
 ghost use Rattle.std.specs.FinMap.{get, insert, remove};
@@ -46,7 +46,7 @@ impl Shelf {
 /// Puts an entry at its key's place. The chunk of the one that stood there goes back.
 fn put(index: &mut Index, place: Place, entry: Entry, desk: &mut Desk)
     requires place { IsPlace index.old.items entry.key place }
-    requires room { 0 < index.old.room }
+    requires room { (at : ℕ) → place ≡ Place.Gap at → 0 < index.old.room }
     requires out { (item : Item) → get index.old.items entry.key ≡ Some item → IsClass (item_class entry.key item) → 0 < out_of desk.old.slab (item_class entry.key item) }
     ensures items { index.new.items ≡ insert index.old.items entry.key entry.item }
     ensures none { get index.old.items entry.key ≡ None → desk.new ≡ desk.old }
@@ -72,7 +72,7 @@ pub(crate) fn write_in(
 ) -> Reply
     requires key { length (commands.key_of step.now) ≤ 250 }
     requires place { IsPlace index.old.items (commands.key_of step.now) place }
-    requires room { 0 < index.old.room }
+    requires room { (at : ℕ) → place ≡ Place.Gap at → 0 < index.old.room }
     requires puts { HoldsWrite slot.chunk (commands.key_of step.now) (row_of step.now slot.updated (machine.alive cut slot.updated (get index.old.items (commands.key_of step.now)))).1 }
     requires out { (item : Item) → get index.old.items (commands.key_of step.now) ≡ Some item → IsClass (item_class (commands.key_of step.now) item) → 0 < out_of desk.old.slab (item_class (commands.key_of step.now) item) }
     ensures reply { result ≡ (row_of step.now slot.updated (machine.alive cut slot.updated (get index.old.items (commands.key_of step.now)))).0 }
@@ -153,9 +153,13 @@ fn step_entry(slot: Slot, step: &KeyStep<'_>, item: Option<&Entry>) -> (Entry, R
 /// Where a write goes: a chunk, and what stands beside the key and the block.
 #[derive(Drop)]
 pub(crate) struct Slot {
+    /// The hash of the key.
     pub(crate) hash: u64,
+    /// The unique number of the write.
     pub(crate) unique: u64,
+    /// The moment of the write.
     pub(crate) updated: Moment,
+    /// The chunk, of the class that the item's charge asks for.
     pub(crate) chunk: Chunk,
 }
 

@@ -1,6 +1,7 @@
-use Rattle.std.proofs.Common.{◌≡◌, ◌≢◌, ◌+◌, ◌-◌, ◌^◌, ℕ, Ok, Err, arith, refl, sym, ap, subst, ◌∙◌}
+use Rattle.std.proofs.Common.{◌≡◌, ◌≢◌, ◌⊎◌, inl, inr, ◌+◌, ◌-◌, ◌^◌, ℕ, Ok, Err, IfErr, arith, refl, sym, ap, subst, ◌∙◌}
 use Rattle.std.specs.FinMap.{get}
 use Rattle.mc_slab.specs.Classes.{IsClass}
+use Rattle.mc_slab.specs.declared.slab.TakeFault.TheVariants.{Full, NoMemory}
 use Rattle.mc_slab.specs.Slabs.{IsFull, IsSlab, out_of, pages_of, taken}
 use Rattle.mc_command.specs.declared.reply.Reply.{Reply}
 use Rattle.mc_command.specs.declared.reply.Reply.TheVariants.{NoChunk}
@@ -10,13 +11,13 @@ use Rattle.mc_shelf.specs.States.{ShelfState, DeskState}
 use Rattle.mc_shelf.specs.Plans.{GivesBack, HoldsWrite, IsApart, IsOut, IsWritten, Takes, has_dead, row_at, stood}
 use Rattle.mc_shelf.proofs.StandLemmas.{base_is}
 use Rattle.mc_shelf.proofs.PlanLemmas.{takes_full, write_puts}
-use Rattle.mc_shelf.proofs.ApplyLemmas.{full_of, holds_write, is_out, is_out_taken, others_written, takes_written}
+use Rattle.mc_shelf.proofs.ApplyLemmas.{full_of, holds_write, is_out, is_out_taken, others_written, room_not_full, takes_written}
 use Rattle.mc_shelf.proofs.shelf.Shelf.write_anew.Goals as goal
 
 pub write_in-requires-clause-puts : goal.write_in-requires-clause-puts
 write_in-requires-clause-puts c =
-    let shelf : ShelfState = record { greatest = c.self.inside.greatest; items = c.reserve.new.self.items; cut = c.self.inside.cut } in
-    let same : shelf ≡ c.args.self.now = (λ i. record { greatest = c.self.inside.greatest; items = c.reserve.ensures.items i; cut = c.self.inside.cut }) ∙ c.self.view_is in
+    let shelf : ShelfState = record { greatest = c.self.inside.greatest; items = c.reserve_for.new.self.items; cut = c.self.inside.cut } in
+    let same : shelf ≡ c.args.self.now = (λ i. record { greatest = c.self.inside.greatest; items = c.reserve_for.ensures.items i; cut = c.self.inside.cut }) ∙ c.self.view_is in
     let next = c.requires.next in
     subst (λ (t : ShelfState). HoldsWrite c.in-Ok.chunk (key_of c.args.step.now) (row_at t c.args.step.now c.args.aim.moment).1) (sym same)
     (holds_write c.args.self.now c.args.step.now c.args.aim.moment next.0 c.args.aim.class c.in-Ok.chunk next.1 next.2 next.3 c.in-Ok.ensures.chunk)
@@ -24,13 +25,27 @@ write_in-requires-clause-puts c =
 pub write_in-requires-clause-out : goal.write_in-requires-clause-out
 write_in-requires-clause-out c =
     let key = key_of c.args.step.now in
-    let shelf : ShelfState = record { greatest = c.self.inside.greatest; items = c.reserve.new.self.items; cut = c.self.inside.cut } in
-    let same : shelf ≡ c.args.self.now = (λ i. record { greatest = c.self.inside.greatest; items = c.reserve.ensures.items i; cut = c.self.inside.cut }) ∙ c.self.view_is in
+    let shelf : ShelfState = record { greatest = c.self.inside.greatest; items = c.reserve_for.new.self.items; cut = c.self.inside.cut } in
+    let same : shelf ≡ c.args.self.now = (λ i. record { greatest = c.self.inside.greatest; items = c.reserve_for.ensures.items i; cut = c.self.inside.cut }) ∙ c.self.view_is in
     let drawn : c.draw.new.self ≡ record { slab = taken c.args.desk.now.slab c.args.aim.class; next_unique = c.args.desk.now.next_unique + 1 } =
     c.draw.ensures.drawn ∙ ap (λ (d : DeskState). record d { next_unique = d.next_unique + 1 }) c.in-Ok.ensures.taken in
     let out : IsOut key c.args.self.now (record { slab = taken c.args.desk.now.slab c.args.aim.class; next_unique = c.args.desk.now.next_unique + 1 }) =
     is_out_taken c.counts_follow.ensures.insert c.counts_follow.ensures.remove key c.args.self.now c.args.desk.now c.args.aim.class c.requires.stands c.take.ensures.slab c.requires.next.4 in
     subst (λ (d : DeskState). IsOut key shelf d) (sym drawn) (subst (λ (t : ShelfState). IsOut key t (record { slab = taken c.args.desk.now.slab c.args.aim.class; next_unique = c.args.desk.now.next_unique + 1 })) (sym same) out)
+
+pub unreachable-requires : goal.unreachable-requires
+unreachable-requires c =
+    let slab = c.args.desk.now.slab in
+    let class = c.args.aim.class in
+    let room = sym c.has_room.ensures.value ∙ c.if-not-has_room.false in
+    let faults = subst (λ r. IfErr r (λ fault. (fault ≡ NoMemory) ⊎ (fault ≡ Full class (pages_of slab class) (out_of slab class)))) c.in-Err-Full.is c.take.ensures.faults in
+    elim faults [
+      | inl none ↦ apart (sym none ∙ c.in-Err-Full.field-0-is)
+      | inr full ↦ room_not_full slab class room ((c.take.ensures.full (pages_of slab class) (out_of slab class)).0 (c.in-Err-Full.is ∙ ap Err full)).0
+    ]
+  where
+    apart : {class pages out : ℕ} → NoMemory ≡ Full class pages out → ⊥
+    apart e = cc
 
 pub drop_dead-requires : goal.drop_dead-requires
 drop_dead-requires c =
@@ -42,8 +57,8 @@ returns-in-Ok-clause-took c =
     let key = key_of step in
     let now = c.args.aim.moment in
     let desk = c.args.desk.now in
-    let shelf : ShelfState = record { greatest = c.self.inside.greatest; items = c.reserve.new.self.items; cut = c.self.inside.cut } in
-    let same : shelf ≡ c.args.self.now = (λ i. record { greatest = c.self.inside.greatest; items = c.reserve.ensures.items i; cut = c.self.inside.cut }) ∙ c.self.view_is in
+    let shelf : ShelfState = record { greatest = c.self.inside.greatest; items = c.reserve_for.new.self.items; cut = c.self.inside.cut } in
+    let same : shelf ≡ c.args.self.now = (λ i. record { greatest = c.self.inside.greatest; items = c.reserve_for.ensures.items i; cut = c.self.inside.cut }) ∙ c.self.view_is in
     let new : ShelfState = record { greatest = c.self.inside.greatest; items = c.write_in.new.index.items; cut = c.self.inside.cut } in
     let drawn : c.draw.new.self ≡ record { slab = taken desk.slab c.args.aim.class; next_unique = desk.next_unique + 1 } =
     c.draw.ensures.drawn ∙ ap (λ (d : DeskState). record d { next_unique = d.next_unique + 1 }) c.in-Ok.ensures.taken in
@@ -67,8 +82,8 @@ returns-in-Ok-clause-others c =
     let step = c.args.step.now in
     let key = key_of step in
     let now = c.args.aim.moment in
-    let shelf : ShelfState = record { greatest = c.self.inside.greatest; items = c.reserve.new.self.items; cut = c.self.inside.cut } in
-    let same : shelf ≡ c.args.self.now = (λ i. record { greatest = c.self.inside.greatest; items = c.reserve.ensures.items i; cut = c.self.inside.cut }) ∙ c.self.view_is in
+    let shelf : ShelfState = record { greatest = c.self.inside.greatest; items = c.reserve_for.new.self.items; cut = c.self.inside.cut } in
+    let same : shelf ≡ c.args.self.now = (λ i. record { greatest = c.self.inside.greatest; items = c.reserve_for.ensures.items i; cut = c.self.inside.cut }) ∙ c.self.view_is in
     let new : ShelfState = record { greatest = c.self.inside.greatest; items = c.write_in.new.index.items; cut = c.self.inside.cut } in
     let written = subst (λ (t : ShelfState). IsWritten c.draw.result now key (row_at t step now).1 t.items c.write_in.new.index.items) same c.write_in.ensures.items in
     others_written key c.args.self.now new c.draw.result now (row_at c.args.self.now step now).1 written (ap (λ (t : ShelfState). t.greatest) c.self.view_is) (ap (λ (t : ShelfState). t.cut) c.self.view_is)
