@@ -8,13 +8,13 @@ use Rattle.mc_command.specs.declared.step.Verb.TheVariants.{Set, Add, Replace, A
 use Rattle.mc_command.specs.declared.step.KeyStep.{KeyStep}
 use Rattle.mc_command.specs.declared.step.KeyStep.TheVariants.{Store, Cas, Read, ReadTouch, Touch, Delete, Count, Flush}
 use Rattle.mc_command.specs.declared.reply.Reply.{Reply}
-use Rattle.mc_command.specs.declared.reply.Reply.TheVariants.{TooLarge, NoChunk}
+use Rattle.mc_command.specs.declared.reply.Reply.TheVariants.{Stored, NotStored, Exists, NotFound, Miss, Hit, Touched, Deleted, Number, NotNumeric, TooLarge, NoChunk, Flushed}
 use Rattle.mc_command.specs.Commands.{key_of}
 use Rattle.mc_command.specs.Plain.{Plain, Entry, Change, Leaves, Writes, Recounts, SetsExpiry, Removes, Answered, Spent, CopiesBlock, MayFail, plain, changed, wrote, written, with_chunk, has_room, charge, item_class, alive, number_of, number_row, store_row, cas_row, count_row}
 use Rattle.mc_command.specs.Laws.{IsOnKey, row_of}
 use Rattle.mc_shelf.specs.declared.plan.Next.TheVariants.{Write}
 use Rattle.mc_shelf.specs.States.{ShelfState, DeskState, IsAt}
-use Rattle.mc_shelf.specs.Plans.{Puts, Takes, has_dead, next_of, row_at}
+use Rattle.mc_shelf.specs.Plans.{IsHit, Puts, Takes, has_dead, next_of, row_at}
 use Rattle.mc_shelf.proofs.StandLemmas.{base, step_is}
 use Rattle.mc_shelf.proofs.PlanLemmas.{cas_if, write_puts}
 
@@ -44,6 +44,22 @@ pub may_fail : (step : KeyStep) (now : ℕ) (shelf : ShelfState) (desk : DeskSta
 may_fail step now shelf desk s on copies at =
     let row = row_at shelf step now in
     subst MayFail (sym (step_is step now shelf desk s on at)) (may_change row.0 row.1 (key_of step) (record s { items = base (alive shelf.cut now (get shelf.items (key_of step))) (key_of step) s.items }) now copies)
+
+-- a hit's block is copied
+pub hit_copies : (reply : Reply) → IsHit reply → CopiesBlock reply
+hit_copies Stored hit = tt
+hit_copies NotStored hit = hit
+hit_copies Exists hit = hit
+hit_copies NotFound hit = hit
+hit_copies Miss hit = hit
+hit_copies (Hit flags unique block) hit = tt
+hit_copies Touched hit = hit
+hit_copies Deleted hit = hit
+hit_copies (Number number) hit = tt
+hit_copies NotNumeric hit = hit
+hit_copies TooLarge hit = tt
+hit_copies NoChunk hit = tt
+hit_copies Flushed hit = hit
 
 -- ---- a write answers so
 

@@ -6,7 +6,7 @@ use Rattle.mc_time.specs.declared.expiry.Expiry.{Expiry}
 use Rattle.mc_command.specs.declared.step.KeyStep.{KeyStep}
 use Rattle.mc_command.specs.declared.step.KeyStep.TheVariants.{Store, Cas, Read, ReadTouch, Touch, Delete, Count, Flush}
 use Rattle.mc_command.specs.declared.reply.Reply.{Reply}
-use Rattle.mc_command.specs.declared.reply.Reply.TheVariants.{Number, TooLarge}
+use Rattle.mc_command.specs.declared.reply.Reply.TheVariants.{Stored, NotStored, Exists, NotFound, Miss, Hit, Touched, Deleted, Number, NotNumeric, TooLarge, NoChunk, Flushed}
 use Rattle.mc_slab.specs.Classes.{IsClass, class_holding}
 use Rattle.mc_slab.specs.Chunks.{chunk_class}
 use Rattle.mc_slab.specs.Slabs.{given, out_of}
@@ -60,6 +60,22 @@ stood shelf step now = alive shelf.cut now (get shelf.items (key_of step))
 
 abbrev pub row_at : ShelfState → KeyStep → ℕ → Row
 row_at shelf step now = row_of step now (stood shelf step now)
+
+-- a retrieval found an item
+abbrev pub IsHit : Reply → Type 0
+IsHit Stored = ⊥
+IsHit NotStored = ⊥
+IsHit Exists = ⊥
+IsHit NotFound = ⊥
+IsHit Miss = ⊥
+IsHit (Hit flags unique block) = Unit {0}
+IsHit Touched = ⊥
+IsHit Deleted = ⊥
+IsHit (Number number) = ⊥
+IsHit NotNumeric = ⊥
+IsHit TooLarge = ⊥
+IsHit NoChunk = ⊥
+IsHit Flushed = ⊥
 
 -- what comes next in a step
 abbrev pub next_of : ShelfState → KeyStep → ℕ → Next

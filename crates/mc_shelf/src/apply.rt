@@ -1,8 +1,9 @@
 //! The steps of a shelf that need the desk.
 
-ghost use Rattle.std.specs.Prelude.{◌≡◌, ℕ, ◌-◌, ◌<◌, ◌≤◌, ◌^◌, List, length, true, false, Some, None, Err, IfOk, IsErr, OnErr};
+ghost use Rattle.std.specs.Prelude.{◌≡◌, ◌≢◌, ℕ, ◌-◌, ◌<◌, ◌≤◌, ◌^◌, List, length, true, false, Some, None, Err, IfOk, IsErr, OnErr};
 ghost use Rattle.std.specs.FinMap.{get};
 ghost use Rattle.mc_slab.specs.Classes.{IsClass, class_holding, size_of};
+ghost use Rattle.mc_slab.specs.Slabs.{has_room};
 ghost use Rattle.mc_command.specs.Commands.{key_of};
 ghost use Rattle.mc_command.specs.Plain as machine;
 ghost use Rattle.mc_command.specs.Plain.{Plain, Entry as Item, MayFail, Spent, plain, without_dead};
@@ -55,6 +56,8 @@ impl Shelf {
         ensures others { OthersStay (key_of step.now) self.old self.new }
         ensures refused { OnErr result ((s : Plain) → IsAt (key_of step.now) self.old desk.old s → MayFail (plain s step.now plan.moment)) }
         ensures numbers { (s : Plain) → IsAt (key_of step.now) self.old desk.old s → plain s step.now plan.moment ≡ Spent → IsErr result }
+        ensures told { (size : ℕ) → plan.next ≡ Next.Write size → desk.old.next_unique ≡ 2 ^ 64 - 1 → result ≡ Err StepFault.NumbersSpent }
+        ensures no_memory { result ≡ Err StepFault.NoMemory → (size : ℕ) × (plan.next ≡ Next.Write size) × (desk.old.next_unique ≢ 2 ^ 64 - 1) × (has_room desk.old.slab (class_holding size) ≡ true) }
     {
         counts_follow();
         let Plan {
@@ -112,6 +115,8 @@ impl Shelf {
         ensures spent { result ≡ Err StepFault.NumbersSpent → IsSpent step.now aim.moment self.old desk.old }
         ensures err { OnErr result ((self.new ≡ self.old) × (desk.new ≡ desk.old)) }
         ensures others { OthersStay (key_of step.now) self.old self.new }
+        ensures told { desk.old.next_unique ≡ 2 ^ 64 - 1 → result ≡ Err StepFault.NumbersSpent }
+        ensures no_memory { result ≡ Err StepFault.NoMemory → (desk.old.next_unique ≢ 2 ^ 64 - 1) × (has_room desk.old.slab aim.class ≡ true) }
     {
         counts_follow();
         if desk.next_unique() == u64::MAX {
@@ -155,6 +160,7 @@ impl Shelf {
         requires stands { CanStand (key_of step.now) self.old desk.old }
         ensures took { IfOk result (λ reply. Takes step.now aim.moment self.old desk.old reply self.new desk.new) }
         ensures refused { OnErr result (result ≡ Err StepFault.NoMemory) }
+        ensures room { OnErr result (has_room desk.old.slab aim.class ≡ true) }
         ensures err { OnErr result ((self.new ≡ self.old) × (desk.new ≡ desk.old)) }
         ensures others { OthersStay (key_of step.now) self.old self.new }
     {

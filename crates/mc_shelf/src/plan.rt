@@ -4,10 +4,10 @@ ghost use Rattle.std.specs.Prelude.{◌≡◌, ℕ, ◌≤◌, List, length, IfO
 ghost use Rattle.mc_time.specs.declared.expiry.Expiry.{Expiry as Expires};
 ghost use Rattle.mc_command.specs.Commands as commands;
 ghost use Rattle.mc_command.specs.Plain as machine;
-ghost use Rattle.mc_command.specs.Plain.{CopiesBlock, store_row, cas_row, read_row, read_touch_row, touch_row, delete_row, count_row};
+ghost use Rattle.mc_command.specs.Plain.{store_row, cas_row, read_row, read_touch_row, touch_row, delete_row, count_row};
 ghost use Rattle.mc_command.specs.Laws.{IsOnKey, row_of};
 ghost use Rattle.mc_shelf.specs.Plans as plans;
-ghost use Rattle.mc_shelf.specs.Plans.{told_by, item_in, wants_desk};
+ghost use Rattle.mc_shelf.specs.Plans.{told_by, item_in, wants_desk, IsHit};
 
 use crate::entry::Entry;
 use crate::index::Place;
@@ -156,7 +156,7 @@ pub(crate) fn row_told(
     requires on_key { IsOnKey step.now }
     requires key { length (commands.key_of step.now) ≤ 250 }
     ensures told { IfOk result (λ told. told ≡ told_by (commands.key_of step.now) (row_of step.now now (item_in item.entry))) }
-    ensures refused { OnErr result (CopiesBlock (row_of step.now now (item_in item.entry)).0) }
+    ensures refused { OnErr result (IsHit (row_of step.now now (item_in item.entry)).0) }
 {
     Ok(match step {
         KeyStep::Store {
@@ -242,7 +242,7 @@ fn hit(alloc: Global, item: &Entry) -> Result<Reply, AllocError>
 /// get and gets. A hit is answered with a copy of the block.
 fn read_told(alloc: Global, item: Option<&Entry>) -> Result<Told, AllocError>
     ensures told { (key : List ℕ) → IfOk result (λ told. told ≡ told_by key (read_row (item_in item.entry))) }
-    ensures refused { OnErr result (CopiesBlock (read_row (item_in item.entry)).0) }
+    ensures refused { OnErr result (IsHit (read_row (item_in item.entry)).0) }
 {
     match item {
         None => Ok(Told::Leaves(Reply::Miss)),
@@ -253,7 +253,7 @@ fn read_told(alloc: Global, item: Option<&Entry>) -> Result<Told, AllocError>
 /// gat and gats: as get and gets, and the item of a hit expires then.
 fn read_touch_told(alloc: Global, expiry: Expiry, item: Option<&Entry>) -> Result<Told, AllocError>
     ensures told { (key : List ℕ) → IfOk result (λ told. told ≡ told_by key (read_touch_row expiry (item_in item.entry))) }
-    ensures refused { OnErr result (CopiesBlock (read_touch_row expiry (item_in item.entry)).0) }
+    ensures refused { OnErr result (IsHit (read_touch_row expiry (item_in item.entry)).0) }
 {
     match item {
         None => Ok(Told::Leaves(Reply::Miss)),

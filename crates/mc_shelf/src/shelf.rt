@@ -1,14 +1,14 @@
 //! A shelf, and the steps on one of its keys.
 
-ghost use Rattle.std.specs.Prelude.{◌≡◌, ℕ, ◌≤◌, List, length, Some, None, Err, IfOk, OnErr};
+ghost use Rattle.std.specs.Prelude.{◌≡◌, ◌⊎◌, ℕ, ◌≤◌, List, length, Some, None, Err, IfOk, OnErr};
 ghost use Rattle.std.specs.FinMap.{empty, get, insert, remove};
 ghost use Rattle.mc_command.specs.declared.step.KeyStep.{KeyStep as Step};
 ghost use Rattle.mc_command.specs.Commands.{key_of};
-ghost use Rattle.mc_command.specs.Plain.{Entry as Item, CopiesBlock, MayFail, Plain, plain};
+ghost use Rattle.mc_command.specs.Plain.{Entry as Item, MayFail, Plain, plain};
 ghost use Rattle.mc_command.specs.Laws.{IsOnKey};
 ghost use Rattle.mc_shelf.specs.States.{CanStand, DeskState, IsAt};
 ghost use Rattle.mc_shelf.specs.Places.{IsPlace, StandsAt};
-ghost use Rattle.mc_shelf.specs.Plans.{next_of, row_at, IsPlan, CanSettle, Takes, IsSpent, OthersStay};
+ghost use Rattle.mc_shelf.specs.Plans.{next_of, row_at, IsHit, IsPlan, CanSettle, Takes, IsSpent, OthersStay};
 
 use crate::desk::Desk;
 use crate::index::{Index, Place};
@@ -99,6 +99,7 @@ impl Shelf {
         ensures plan { IfOk result (λ plan. IsPlan plan self.old step.now now) }
         ensures hash { IfOk result (λ plan. plan.hash ≡ hash) }
         ensures unchanged { self.new ≡ self.old }
+        ensures asked { OnErr result (IsHit (row_at self.old step.now now).0 ⊎ ((get self.old.items (key_of step.now) ≡ None) × (size : ℕ) × (next_of self.old step.now now ≡ Next.Write size))) }
         ensures refused { OnErr result ((desk : DeskState) (s : Plain) → IsAt (key_of step.now) self.old desk s → MayFail (plain s step.now now)) }
     {
         let place = self.index.find(plan::key_of(step));
@@ -126,7 +127,7 @@ impl Shelf {
         requires key { length (key_of step.now) ≤ 250 }
         requires place { IsPlace self.now.items (key_of step.now) place }
         ensures next { IfOk result (λ next. next ≡ next_of self.now step.now now) }
-        ensures refused { OnErr result (CopiesBlock (row_at self.now step.now now).0) }
+        ensures refused { OnErr result (IsHit (row_at self.now step.now now).0) }
     {
         let found = self.index.entry(place);
         let item = alive(found, self.cut, now);

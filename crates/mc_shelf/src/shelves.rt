@@ -150,6 +150,7 @@ impl Shelves {
         requires { at < length self.old.list.items }
         ensures unchanged { self.new ≡ self.old }
         ensures moved { result ≤ n }
+        ensures none { result ≡ 0 }
     {
         let shelf = &mut self.list[at];
         shelf.grow(n)

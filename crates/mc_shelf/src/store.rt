@@ -91,6 +91,7 @@ impl<K: KeyHash + Drop> Store<K> {
     pub fn grow(&mut self, shelf: u32, n: usize) -> usize
         ensures unchanged { self.new ≡ self.old }
         ensures moved { result ≤ n }
+        ensures none { result ≡ 0 }
     {
         if shelf < self.settings.shelves {
             self.shelves.grow(shelf as usize, n)

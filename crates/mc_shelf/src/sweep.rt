@@ -52,6 +52,7 @@ impl Shelf {
     pub fn grow(&mut self, n: usize) -> usize
         ensures unchanged { self.new ≡ self.old }
         ensures moved { result ≤ n }
+        ensures none { result ≡ 0 }
     {
         0
     }
