@@ -114,7 +114,7 @@ impl Shelf {
         ensures others { OthersStay (key_of step.now) self.old self.new }
     {
         counts_follow();
-        if desk.next_unique() == u64::MAX {
+        if desk.is_spent() {
             return Err(StepFault::NumbersSpent);
         }
         if !self.has_class(aim.place, aim.class) {
