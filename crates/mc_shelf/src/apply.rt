@@ -119,7 +119,7 @@ impl Shelf {
         ensures no_memory { result ≡ Err StepFault.NoMemory → (desk.old.next_unique ≢ 2 ^ 64 - 1) × (has_room desk.old.slab aim.class ≡ true) }
     {
         counts_follow();
-        if desk.next_unique() == u64::MAX {
+        if desk.is_spent() {
             return Err(StepFault::NumbersSpent);
         }
         if !self.has_class(aim.place, aim.class) {

@@ -1,6 +1,6 @@
 //! What the shelves of a store share.
 
-ghost use Rattle.std.specs.Prelude.{◌≡◌, ℕ, ◌+◌, ◌-◌, ◌^◌, ◌<◌, ◌≤◌, ◌≢◌, ◌↔◌, ◌⊎◌, IfOk, IfErr, OnOk, OnErr, Err};
+ghost use Rattle.std.specs.Prelude.{◌≡◌, ℕ, ◌+◌, ◌-◌, ◌^◌, ◌<◌, ◌≤◌, ◌≢◌, true, false, ◌↔◌, ◌⊎◌, IfOk, IfErr, OnOk, OnErr, Err};
 ghost use Rattle.mc_slab.specs.Chunks.{IsChunkOf, chunk_class};
 ghost use Rattle.mc_slab.specs.Slabs.{IsSlab, IsFull, untouched, pages_of, out_of, chunks_of, pages_left, has_room, taken, given};
 
@@ -54,6 +54,14 @@ impl Desk {
         ensures slab { IsSlab self.now.slab }
     {
         self.next_unique
+    }
+
+    /// Whether the unique numbers are spent.
+    pub(crate) fn is_spent(&self) -> bool
+        ensures spent { result ≡ true → self.now.next_unique ≡ 2 ^ 64 - 1 }
+        ensures left { result ≡ false → self.now.next_unique < 2 ^ 64 - 1 }
+    {
+        self.next_unique() == u64::MAX
     }
 
     /// Draws the next number, where they are not spent.

@@ -1,12 +1,12 @@
-use Rattle.std.proofs.Common.{◌≡◌, ◌-◌, ◌^◌, arith, sym, ◌∙◌}
+use Rattle.std.proofs.Common.{◌≡◌, ◌-◌, ◌^◌, sym, ◌∙◌}
 use Rattle.mc_command.specs.Commands.{key_of}
 use Rattle.mc_shelf.proofs.PlanLemmas.{is_spent}
 use Rattle.mc_shelf.proofs.ApplyLemmas.{moves_other, other_stood}
 use Rattle.mc_shelf.proofs.shelf.Shelf.write.Goals as goal
 
-pub returns-then-next_unique-eq18446744073709551615-clause-spent : goal.returns-then-next_unique-eq18446744073709551615-clause-spent
-returns-then-next_unique-eq18446744073709551615-clause-spent c e =
-    let spent : c.args.desk.now.next_unique ≡ 2 ^ 64 - 1 = omega (arith, c.next_unique.ensures.value, c.if-next_unique-eq18446744073709551615.true) in
+pub returns-then-is_spent-clause-spent : goal.returns-then-is_spent-clause-spent
+returns-then-is_spent-clause-spent c e =
+    let spent : c.args.desk.now.next_unique ≡ 2 ^ 64 - 1 = c.is_spent.ensures.spent c.if-is_spent.true in
     is_spent c.counts_follow.ensures.insert c.counts_follow.ensures.remove c.args.step.now c.args.aim.moment c.args.self.now c.args.desk.now c.requires.on_key c.requires.next.0 c.requires.next.1 spent
 
 pub write_anew-requires-clause-anew : goal.write_anew-requires-clause-anew
