@@ -20,8 +20,8 @@ use Rattle.mc_command.specs.Laws.{IsOnKey, row_of, of_class}
 use Rattle.mc_shelf.specs.declared.plan.Next.{Next}
 use Rattle.mc_shelf.specs.declared.plan.Next.TheVariants.{Answer, Expire, Discard, Write}
 use Rattle.mc_shelf.specs.States.{ShelfState, DeskState, IsAt}
-use Rattle.mc_shelf.specs.Plans.{told_of, answered, next_by, next_of, has_dead, HoldsWrite, IsApart, Puts, stays, Takes, IsSpent}
-use Rattle.mc_shelf.proofs.StandLemmas.{InsertCounts, RemoveCounts, base, step_is, at_none, at_dropped, at_put_again, at_wrote, bump, item_of, out-taken, pages_after, pages-taken, room_free, room_none, room_some, wrote_full, wrote_kept, wrote_spent, wrote_too_large}
+use Rattle.mc_shelf.specs.Plans.{told_of, answered, next_by, next_of, has_dead, row_at, HoldsWrite, IsApart, IsHit, Puts, stays, Takes, IsSpent}
+use Rattle.mc_shelf.proofs.StandLemmas.{InsertCounts, RemoveCounts, base, step_is, at_none, at_dropped, at_put_again, at_wrote, bump, item_of, out-taken, pages_after, pages-taken, room_free, room_none, room_some, wrote_full, wrote_kept, wrote_taken, wrote_spent, wrote_too_large}
 
 -- the item that a row's change speaks of is the one that stands
 abbrev pub SpeaksOf : Option Entry → Change → Type 0
@@ -356,6 +356,67 @@ module _ (insert_counts : InsertCounts) (remove_counts : RemoveCounts) (step : K
       (record s { items = remove s.items (key_of step) }, step_is step now shelf desk s on at ∙ took, at_dropped insert_counts remove_counts (key_of step) shelf desk s at old found is is_class)
 
 -- ---- a write
+
+answered_spent : (reply : Reply) (t : Plain) → Answered reply t ≡ Spent → ⊥
+answered_spent reply t e = cc
+
+wrote_more : (reply : Reply) (key : List ℕ) (flags : ℕ) (expiry : Expiry) (block : List ℕ) (t : Plain) (now : ℕ) (kept : Bool) → charge key block ≤ t.greatest → t.next_unique ≢ 2 ^ 64 - 1 → machine.wrote kept reply key flags expiry block t now ≡ Spent → ⊥
+wrote_more reply key flags expiry block t now true fits more e = answered_spent reply _ (sym (wrote_kept reply key flags expiry block t now fits more) ∙ e)
+wrote_more reply key flags expiry block t now false fits more e =
+    elim (has_room t (class_holding (charge key block))) as (λ b. has_room t (class_holding (charge key block)) ≡ b → ⊥) [
+      | true ↦ λ room. answered_spent reply _ (sym (wrote_taken reply key flags expiry block t now fits more room) ∙ e)
+      | false ↦ λ room. answered_spent NoChunk _ (sym (wrote_full reply key flags expiry block t now fits more room) ∙ e)
+    ] refl
+
+-- a write with a number left isn't spent
+pub not_spent : (step : KeyStep) (now : ℕ) (shelf : ShelfState) (desk : DeskState) → IsOnKey step → (size : ℕ) → next_of shelf step now ≡ Write size → desk.next_unique ≢ 2 ^ 64 - 1 → (s : Plain) → IsAt (key_of step) shelf desk s → plain s step now ≡ Spent → ⊥
+not_spent step now shelf desk on size next more s at spent =
+    let key = key_of step in
+    let row = row_at shelf step now in
+    let under : Plain = record s { items = base (alive shelf.cut now (get shelf.items key)) key s.items } in
+    let puts = write_puts (has_dead shelf key now) shelf.greatest key row.0 row.1 size next in
+    let fits = write_fits (has_dead shelf key now) shelf.greatest key row.0 row.1 puts.0 puts.1 puts.2 size next puts.3 in
+    wrote_more row.0 key puts.0 puts.1 puts.2 under now (stays key row.1) (rw at.greatest fits.0) (λ e. more (sym at.next_unique ∙ e))
+    (sym (step_is step now shelf desk s on at ∙ changed_wrote row.0 row.1 key puts.0 puts.1 puts.2 under now puts.3) ∙ spent)
+
+hit_store : (verb : Verb) (flags : ℕ) (expiry : Expiry) (block : List ℕ) (stands : Option Entry) → IsHit (store_row verb flags expiry block stands).0 → ⊥
+hit_store Set flags expiry block None hit = hit
+hit_store Set flags expiry block (Some old) hit = hit
+hit_store Add flags expiry block None hit = hit
+hit_store Add flags expiry block (Some old) hit = hit
+hit_store Replace flags expiry block None hit = hit
+hit_store Replace flags expiry block (Some old) hit = hit
+hit_store Append flags expiry block None hit = hit
+hit_store Append flags expiry block (Some old) hit = hit
+hit_store Prepend flags expiry block None hit = hit
+hit_store Prepend flags expiry block (Some old) hit = hit
+
+hit_cas : (flags : ℕ) (expiry : Expiry) (block : List ℕ) (unique : ℕ) (stands : Option Entry) → IsHit (cas_row flags expiry block unique stands).0 → ⊥
+hit_cas flags expiry block unique None hit = hit
+hit_cas flags expiry block unique (Some old) hit = elim (eqb old.unique unique) as (λ b. IsHit (cas_if b flags expiry block).0 → ⊥) [ true ↦ λ h. h | false ↦ λ h. h ] hit
+
+hit_count : (up : Bool) (by : ℕ) (stands : Option Entry) → IsHit (count_row up by stands).0 → ⊥
+hit_count up by None hit = hit
+hit_count up by (Some old) hit = elim (number_of old.block) as (λ n. IsHit (number_row old up by n).0 → ⊥) [ None ↦ λ h. h | Some n ↦ λ h. h ] hit
+
+-- a hit draws no number
+hit_row : (step : KeyStep) (now : ℕ) (stands : Option Entry) → IsHit (row_of step now stands).0 → (t : Plain) → changed (row_of step now stands).0 (row_of step now stands).1 (key_of step) t now ≡ Spent → ⊥
+hit_row (Store verb key flags exptime block) now stands hit t e = hit_store verb flags _ block stands hit
+hit_row (Cas key flags exptime block unique) now stands hit t e = hit_cas flags _ block unique stands hit
+hit_row (Read key) now None hit t e = hit
+hit_row (Read key) now (Some old) hit t e = answered_spent _ _ e
+hit_row (ReadTouch key exptime) now None hit t e = hit
+hit_row (ReadTouch key exptime) now (Some old) hit t e = answered_spent _ _ e
+hit_row (Touch key exptime) now None hit t e = hit
+hit_row (Touch key exptime) now (Some old) hit t e = hit
+hit_row (Delete key) now None hit t e = hit
+hit_row (Delete key) now (Some old) hit t e = hit
+hit_row (Count key up by) now stands hit t e = hit_count up by stands hit
+hit_row (Flush delay) now _ hit t e = hit
+
+pub hit_not_spent : (step : KeyStep) (now : ℕ) (shelf : ShelfState) (desk : DeskState) → IsOnKey step → IsHit (row_at shelf step now).0 → (s : Plain) → IsAt (key_of step) shelf desk s → plain s step now ≡ Spent → ⊥
+hit_not_spent step now shelf desk on hit s at spent =
+    hit_row step now (alive shelf.cut now (get shelf.items (key_of step))) hit (record s { items = base (alive shelf.cut now (get shelf.items (key_of step))) (key_of step) s.items }) (sym (step_is step now shelf desk s on at) ∙ spent)
 
 module _ (insert_counts : InsertCounts) (remove_counts : RemoveCounts) (step : KeyStep) (now : ℕ) (shelf : ShelfState) (desk : DeskState) (on : IsOnKey step) (size : ℕ) (next : next_of shelf step now ≡ Write size) where
   abbrev stood_item : Option Entry

@@ -4,7 +4,7 @@ ghost use Rattle.std.specs.Prelude.{◌≡◌, ◌⊎◌, ℕ, ◌≤◌, List, 
 ghost use Rattle.std.specs.FinMap.{empty, get, insert, remove};
 ghost use Rattle.mc_command.specs.declared.step.KeyStep.{KeyStep as Step};
 ghost use Rattle.mc_command.specs.Commands.{key_of};
-ghost use Rattle.mc_command.specs.Plain.{Entry as Item, MayFail, Plain, plain};
+ghost use Rattle.mc_command.specs.Plain.{Entry as Item, MayFail, Plain, Spent, plain};
 ghost use Rattle.mc_command.specs.Laws.{IsOnKey};
 ghost use Rattle.mc_shelf.specs.States.{CanStand, DeskState, IsAt};
 ghost use Rattle.mc_shelf.specs.Places.{IsPlace, StandsAt};
@@ -72,6 +72,7 @@ impl Shelf {
         requires stands { CanStand (key_of step.now) self.old desk.old }
         ensures took { IfOk result (λ reply. Takes step.now now self.old desk.old reply self.new desk.new) }
         ensures spent { result ≡ Err StepFault.NumbersSpent → IsSpent step.now now self.old desk.old }
+        ensures told { (item : Item) → get self.old.items (key_of step.now) ≡ Some item → (s : Plain) → IsAt (key_of step.now) self.old desk.old s → plain s step.now now ≡ Spent → result ≡ Err StepFault.NumbersSpent }
         ensures err { OnErr result ((self.new ≡ self.old) × (desk.new ≡ desk.old)) }
         ensures others { OthersStay (key_of step.now) self.old self.new }
         ensures refused { OnErr result ((s : Plain) → IsAt (key_of step.now) self.old desk.old s → MayFail (plain s step.now now)) }

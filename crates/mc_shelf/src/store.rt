@@ -3,9 +3,10 @@
 #[cfg(test)]
 mod tests;
 
-ghost use Rattle.std.specs.Prelude.{◌≡◌, ◌==◌, ◌%◌, ◌<◌, ◌≤◌, length, IfOk, OnErr, IsErr, Err, nat_lt, if◌then◌else◌};
+ghost use Rattle.std.specs.Prelude.{◌≡◌, ◌==◌, ◌%◌, ◌<◌, ◌≤◌, length, Some, IfOk, OnErr, IsErr, Err, nat_lt, if◌then◌else◌};
+ghost use Rattle.std.specs.FinMap.{get};
 ghost use Rattle.mc_command.specs.Commands.{key_of};
-ghost use Rattle.mc_command.specs.Plain.{opening, plain, Answered, Spent, MayFail};
+ghost use Rattle.mc_command.specs.Plain.{Entry as Item, opening, plain, Answered, Spent, MayFail};
 ghost use Rattle.mc_command.specs.Purge.{purged};
 ghost use Rattle.mc_command.specs.Laws.{IsOnKey};
 
@@ -112,6 +113,7 @@ impl<K: KeyHash + Drop> Store<K> {
         ensures took { IfOk result (λ reply. plain self.old.plain step.now now ≡ Answered reply self.new.plain) }
         ensures set_up { (self.new.settings ≡ self.old.settings) × (self.new.hasher ≡ self.old.hasher) }
         ensures spent { result ≡ Err StepFault.NumbersSpent → plain self.old.plain step.now now ≡ Spent }
+        ensures told { (item : Item) → get self.old.plain.items (key_of step.now) ≡ Some item → plain self.old.plain step.now now ≡ Spent → result ≡ Err StepFault.NumbersSpent }
         ensures err { OnErr result (self.new ≡ self.old) }
         ensures refused { OnErr result (MayFail (plain self.old.plain step.now now)) }
     {
@@ -139,6 +141,7 @@ impl<K: KeyHash + Drop> Steps for Store<K> {
         requires { length (key_of step.now) ≤ 250 }
         ensures took { IfOk result (λ reply. (plain self.old.plain step.now now ≡ Answered reply self.new.plain) × (self.new.settings ≡ self.old.settings) × (self.new.hasher ≡ self.old.hasher)) }
         ensures spent { result ≡ Err StepFault.NumbersSpent → plain self.old.plain step.now now ≡ Spent }
+        ensures told { (item : Item) → get self.old.plain.items (key_of step.now) ≡ Some item → plain self.old.plain step.now now ≡ Spent → result ≡ Err StepFault.NumbersSpent }
         ensures err { OnErr result (self.new ≡ self.old) }
         ensures numbers { plain self.old.plain step.now now ≡ Spent → IsErr result }
         ensures refused { OnErr result (MayFail (plain self.old.plain step.now now)) }

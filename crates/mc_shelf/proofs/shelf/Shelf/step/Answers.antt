@@ -1,7 +1,14 @@
-use Rattle.std.proofs.Common.{ℕ, IfOk, sym, subst}
+use Rattle.std.proofs.Common.{◌≡◌, ℕ, IfOk, IsErr, Ok, Err, Result, refl, sym, subst, ◌∙◌, true≢false}
+use Rattle.mc_command.specs.Plain.{Spent, plain}
+use Rattle.mc_command.specs.Commands.{key_of}
+use Rattle.mc_command.specs.declared.reply.Reply.{Reply}
+use Rattle.mc_command.specs.declared.step.StepFault.{StepFault}
+use Rattle.mc_command.specs.declared.step.StepFault.TheVariants.{NoMemory, NumbersSpent}
+use Rattle.mc_shelf.specs.States.{IsAt}
+use Rattle.mc_shelf.proofs.PlanLemmas.{not_spent}
 use Rattle.mc_shelf.specs.States.{ShelfState}
 use Rattle.mc_shelf.specs.Plans.{IsPlan, Takes}
-use Rattle.mc_shelf.proofs.RefusalLemmas.{on_err}
+use Rattle.mc_shelf.proofs.RefusalLemmas.{never_spent, on_err}
 use Rattle.mc_shelf.proofs.shelf.Shelf.step.Goals as goal
 
 pub returns-in_err-plan-clause-refused : goal.returns-in_err-plan-clause-refused
@@ -20,3 +27,23 @@ returns-else-needs_desk-clause-took c =
     let desk = c.args.desk.now in
     let plan = subst (λ (t : ShelfState). IsPlan c.in_ok-plan.plan t step c.args.now) (sym c.look.ensures.unchanged) c.in_ok-plan.ensures.plan in
     subst (λ (t : ShelfState). Takes step c.args.now t desk c.settle.result c.settle.new.self desk) c.look.ensures.unchanged (c.settle.ensures.takes step c.args.now plan desk)
+
+-- a fault that isn't want of memory tells that the numbers are spent
+tells_spent : (result : Result Reply StepFault) → IsErr result → (result ≡ Err NoMemory → ⊥) → result ≡ Err NumbersSpent
+tells_spent (Ok reply) err other = absurd (true≢false (sym err))
+tells_spent (Err NoMemory) err other = absurd (other refl)
+tells_spent (Err NumbersSpent) err other = refl
+
+pub returns-then-needs_desk-clause-told : goal.returns-then-needs_desk-clause-told
+returns-then-needs_desk-clause-told c item found s at spent =
+    let step = c.args.step.now in
+    let desk = c.args.desk.now in
+    let plan = c.in_ok-plan.ensures.plan in
+    let there = subst (λ (t : ShelfState). IsAt (key_of step) t desk s) (sym c.look.ensures.unchanged) at in
+    let then = subst (λ (n : ℕ). plain s step n ≡ Spent) (sym plan.moment) spent in
+    tells_spent c.apply.result (c.apply.ensures.numbers s there then)
+    (λ e. let asked = c.apply.ensures.no_memory e in not_spent step c.args.now c.args.self.now desk plan.on_key asked.0 (sym plan.next ∙ asked.1) asked.2 s at spent)
+
+pub returns-else-needs_desk-clause-told : goal.returns-else-needs_desk-clause-told
+returns-else-needs_desk-clause-told c item found s at spent =
+    absurd (never_spent c.args.step.now c.args.now c.args.self.now c.args.desk.now c.settle.result c.settle.new.self c.args.desk.now (returns-else-needs_desk-clause-took c) s at spent)

@@ -1,4 +1,4 @@
-use Rattle.std.proofs.Common.{◌≡◌, ◌<◌, ℕ, List, length, OnErr, slice_index_or, Ok, Err, Result, slice_get, Some, subst}
+use Rattle.std.proofs.Common.{◌≡◌, ◌<◌, ℕ, List, length, OnErr, slice_index_or, Ok, Err, Result, slice_get, Some, sym, subst, ◌∙◌}
 use Rattle.mc_command.specs.declared.step.StepFault.{StepFault}
 use Rattle.mc_command.specs.declared.reply.Reply.{Reply}
 use Rattle.mc_command.specs.Commands.{key_of}
@@ -77,3 +77,13 @@ returns-clause-refused c =
     let key = key_of c.args.step.now in
     let here = stands_there shelved.0 s shelved.1 key c.args.at shelved.2 shelf c.index_mut-shelf.ensures.value in
     refused c.step.result c.step.ensures.refused (λ h. h (plain_of s) (plain_stands shelved.0 s shelved.1 c.args.at shelf here key shelved.2))
+
+pub returns-clause-told : goal.returns-clause-told
+returns-clause-told c item found spent =
+    let s = c.args.self.now in
+    let shelf = c.index_mut-shelf.result.now in
+    let shelved = c.requires.shelved in
+    let key = key_of c.args.step.now in
+    let here = stands_there shelved.0 s shelved.1 key c.args.at shelved.2 shelf c.index_mut-shelf.ensures.value in
+    let stands = plain_stands shelved.0 s shelved.1 c.args.at shelf here key shelved.2 in
+    c.step.ensures.told item (sym stands.item ∙ found) (plain_of s) stands spent
