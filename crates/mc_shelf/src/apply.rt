@@ -3,7 +3,7 @@
 ghost use Rattle.std.specs.Prelude.{◌≡◌, ◌≢◌, ℕ, ◌-◌, ◌<◌, ◌≤◌, ◌^◌, List, length, true, false, Some, None, Err, IfOk, IsErr, OnErr};
 ghost use Rattle.std.specs.FinMap.{get};
 ghost use Rattle.mc_slab.specs.Classes.{IsClass, class_holding, size_of};
-ghost use Rattle.mc_slab.specs.Slabs.{has_room};
+ghost use Rattle.mc_slab.specs.Slabs.{chunks_of, has_room, out_of, pages_left};
 ghost use Rattle.mc_command.specs.Commands.{key_of};
 ghost use Rattle.mc_command.specs.Plain as machine;
 ghost use Rattle.mc_command.specs.Plain.{Plain, Entry as Item, MayFail, Spent, plain, without_dead};
@@ -58,6 +58,7 @@ impl Shelf {
         ensures numbers { (s : Plain) → IsAt (key_of step.now) self.old desk.old s → plain s step.now plan.moment ≡ Spent → IsErr result }
         ensures told { (size : ℕ) → plan.next ≡ Next.Write size → desk.old.next_unique ≡ 2 ^ 64 - 1 → result ≡ Err StepFault.NumbersSpent }
         ensures no_memory { result ≡ Err StepFault.NoMemory → (size : ℕ) × (plan.next ≡ Next.Write size) × (desk.old.next_unique ≢ 2 ^ 64 - 1) × (has_room desk.old.slab (class_holding size) ≡ true) }
+        ensures page { result ≡ Err StepFault.NoMemory → (size : ℕ) → plan.next ≡ Next.Write size → (item : Item) → get self.old.items (key_of step.now) ≡ Some item → (out_of desk.old.slab (class_holding size) ≡ chunks_of desk.old.slab (class_holding size)) × (0 < pages_left desk.old.slab) }
     {
         counts_follow();
         let Plan {
@@ -117,6 +118,7 @@ impl Shelf {
         ensures others { OthersStay (key_of step.now) self.old self.new }
         ensures told { desk.old.next_unique ≡ 2 ^ 64 - 1 → result ≡ Err StepFault.NumbersSpent }
         ensures no_memory { result ≡ Err StepFault.NoMemory → (desk.old.next_unique ≢ 2 ^ 64 - 1) × (has_room desk.old.slab aim.class ≡ true) }
+        ensures page { result ≡ Err StepFault.NoMemory → (item : Item) → get self.old.items (key_of step.now) ≡ Some item → (out_of desk.old.slab aim.class ≡ chunks_of desk.old.slab aim.class) × (0 < pages_left desk.old.slab) }
     {
         counts_follow();
         if desk.is_spent() {
@@ -161,6 +163,7 @@ impl Shelf {
         ensures took { IfOk result (λ reply. Takes step.now aim.moment self.old desk.old reply self.new desk.new) }
         ensures refused { OnErr result (result ≡ Err StepFault.NoMemory) }
         ensures room { OnErr result (has_room desk.old.slab aim.class ≡ true) }
+        ensures page { OnErr result ((item : Item) → get self.old.items (key_of step.now) ≡ Some item → (out_of desk.old.slab aim.class ≡ chunks_of desk.old.slab aim.class) × (0 < pages_left desk.old.slab)) }
         ensures err { OnErr result ((self.new ≡ self.old) × (desk.new ≡ desk.old)) }
         ensures others { OthersStay (key_of step.now) self.old self.new }
     {

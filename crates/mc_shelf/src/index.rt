@@ -116,6 +116,7 @@ impl Index {
     pub(crate) fn reserve_for(&mut self, place: Place) -> Result<(), AllocError>
         ensures items { self.new.items ≡ self.old.items }
         ensures room { OnOk result ((at : ℕ) → place ≡ Place.Gap at → 0 < self.new.room) }
+        ensures none { OnErr result ((key : List ℕ) → IsPlace self.old.items key place → get self.old.items key ≡ None) }
     {
         match place {
             Place::Gap(_) => self.reserve(),
