@@ -1,4 +1,5 @@
-//! The store by shelves beside the plain store: the same steps, drawn at random, are answered alike.
+//! The store by shelves beside the plain store: the same steps, drawn at random, are answered alike. Where an allocation is
+//! refused, a store takes the step when it is asked again.
 
 ghost use Rattle.std.specs.Prelude.{◌≤◌, length};
 ghost use Rattle.mc_command.specs.Commands.{key_of};
@@ -7,7 +8,7 @@ use crate::{Settings, Store};
 use mc_command::{Bytes, KeyStep, KeyTest, PlainStore, Reply, StepFault, Steps, Verb};
 use mc_hop::Fnv;
 use mc_time::Moment;
-use std::alloc::Global;
+use std::alloc::{AllocError, Global};
 use std::test::*;
 
 /// Numbers that look random, by Knuth's MMIX generator.
@@ -168,6 +169,21 @@ fn is_same(reply: &Reply, other: &Reply) -> bool {
     kind(reply) == kind(other) && parts(reply) == parts(other)
 }
 
+/// The step's answer, asked for again where memory is refused.
+fn asked<S: Steps>(
+    store: &mut S,
+    alloc: Global,
+    step: &KeyStep<'_>,
+    now: Moment,
+) -> Result<Reply, StepFault>
+    requires { length (key_of step.now) ≤ 250 }
+{
+    match store.step(alloc, step, now) {
+        Err(StepFault::NoMemory) => store.step(alloc, step, now),
+        answer => answer,
+    }
+}
+
 /// Takes a step in both stores, and compares the replies.
 fn is_answered_alike(
     alloc: Global,
@@ -178,8 +194,8 @@ fn is_answered_alike(
 ) -> Result<bool, StepFault>
     requires { length (key_of step.now) ≤ 250 }
 {
-    let reply = store.step(alloc, step, now)?;
-    let wanted = plain.step(alloc, step, now)?;
+    let reply = asked(store, alloc, step, now)?;
+    let wanted = asked(plain, alloc, step, now)?;
     Ok(is_same(&reply, &wanted))
 }
 
@@ -205,9 +221,8 @@ fn purge_both(store: &mut Store<Fnv>, plain: &mut PlainStore, now: Moment) {
     plain.purge(now, &AllKeys);
 }
 
-#[test]
-fn random_steps_are_answered_as_by_the_plain_store(rt: HostRuntime) -> Result<(), Fail> {
-    let alloc = rt.alloc();
+/// The bytes that blocks are taken of, and both stores, of four pages.
+fn opened(alloc: Global) -> Result<(Vec<u8>, Store<Fnv>, PlainStore), AllocError> {
     let mut bytes = Vec::new(alloc);
     bytes.resize(600000, b'7')?;
     let settings = Settings {
@@ -215,8 +230,18 @@ fn random_steps_are_answered_as_by_the_plain_store(rt: HostRuntime) -> Result<()
         greatest: 1048576,
         shelves: 64,
     };
-    let mut store = Store::new(alloc, settings, Fnv)?;
-    let mut plain = PlainStore::new(alloc, 4, 1048576)?;
+    let store = Store::new(alloc, settings, Fnv)?;
+    let plain = PlainStore::new(alloc, 4, 1048576)?;
+    Ok((bytes, store, plain))
+}
+
+#[test]
+fn random_steps_are_answered_as_by_the_plain_store(rt: HostRuntime) -> Result<(), Fail> {
+    let alloc = rt.alloc();
+    let (bytes, mut store, mut plain) = match opened(alloc) {
+        Err(_) => opened(alloc)?,
+        Ok(all) => all,
+    };
     let mut dice = Dice { state: 1 };
     for turn in 0..4000 {
         let now = Moment::from_seconds_at_most(1000 + turn / 20);
