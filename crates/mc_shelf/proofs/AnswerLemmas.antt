@@ -158,9 +158,9 @@ room_le t slab class pages limit count room =
       | inr all ↦ elim (cases_lt (sum t.pages) t.limit) [
         | inl left ↦ rw (le-ltb (count_of t.items class) (get_or t.pages (class - 1) 0 * chunks_a_page class) all, lt-ltb (sum t.pages) t.limit left) refl
         | inr none ↦
-          let all_out : ltb (out_of slab class) (slabs.chunks_of slab class) ≡ false = le-ltb (out_of slab class) (slabs.chunks_of slab class) (omega arith) in
-          let no_page : ltb 0 (slab.limit - sum slab.pages) ≡ false = le-ltb 0 (slab.limit - sum slab.pages) (omega arith) in
-          absurd (true≢false (sym room ∙ λ i. all_out i || no_page i))
+            let all_out : ltb (out_of slab class) (slabs.chunks_of slab class) ≡ false = le-ltb (out_of slab class) (slabs.chunks_of slab class) (omega arith) in
+            let no_page : ltb 0 (slab.limit - sum slab.pages) ≡ false = le-ltb 0 (slab.limit - sum slab.pages) (omega arith) in
+            absurd (true≢false (sym room ∙ λ i. all_out i || no_page i))
       ]
     ]
 

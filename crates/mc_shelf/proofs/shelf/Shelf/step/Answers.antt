@@ -1,5 +1,5 @@
 use Rattle.std.proofs.Common.{◌≡◌, ℕ, IfOk, IsErr, Ok, Err, Result, refl, sym, subst, ◌∙◌, true≢false}
-use Rattle.mc_command.specs.Plain.{Answered, Plain, Spent, plain}
+use Rattle.mc_command.specs.Plain.{Answered, Spent, plain}
 use Rattle.mc_command.specs.Commands.{key_of}
 use Rattle.mc_command.specs.declared.reply.Reply.{Reply}
 use Rattle.mc_command.specs.declared.reply.Reply.TheVariants.{NoChunk, TooLarge}
