@@ -5,6 +5,7 @@ pub mod PlaceLemmas
 pub mod PlanLemmas
 pub mod ApplyLemmas
 pub mod RefusalLemmas
+pub mod AnswerLemmas
 pub mod SweepLemmas
 pub mod AloneLemmas
 pub mod UnionLemmas

@@ -379,7 +379,7 @@ not_spent step now shelf desk on size next more s at spent =
     wrote_more row.0 key puts.0 puts.1 puts.2 under now (stays key row.1) (rw at.greatest fits.0) (λ e. more (sym at.next_unique ∙ e))
     (sym (step_is step now shelf desk s on at ∙ changed_wrote row.0 row.1 key puts.0 puts.1 puts.2 under now puts.3) ∙ spent)
 
-hit_store : (verb : Verb) (flags : ℕ) (expiry : Expiry) (block : List ℕ) (stands : Option Entry) → IsHit (store_row verb flags expiry block stands).0 → ⊥
+pub hit_store : (verb : Verb) (flags : ℕ) (expiry : Expiry) (block : List ℕ) (stands : Option Entry) → IsHit (store_row verb flags expiry block stands).0 → ⊥
 hit_store Set flags expiry block None hit = hit
 hit_store Set flags expiry block (Some old) hit = hit
 hit_store Add flags expiry block None hit = hit
@@ -391,11 +391,11 @@ hit_store Append flags expiry block (Some old) hit = hit
 hit_store Prepend flags expiry block None hit = hit
 hit_store Prepend flags expiry block (Some old) hit = hit
 
-hit_cas : (flags : ℕ) (expiry : Expiry) (block : List ℕ) (unique : ℕ) (stands : Option Entry) → IsHit (cas_row flags expiry block unique stands).0 → ⊥
+pub hit_cas : (flags : ℕ) (expiry : Expiry) (block : List ℕ) (unique : ℕ) (stands : Option Entry) → IsHit (cas_row flags expiry block unique stands).0 → ⊥
 hit_cas flags expiry block unique None hit = hit
 hit_cas flags expiry block unique (Some old) hit = elim (eqb old.unique unique) as (λ b. IsHit (cas_if b flags expiry block).0 → ⊥) [ true ↦ λ h. h | false ↦ λ h. h ] hit
 
-hit_count : (up : Bool) (by : ℕ) (stands : Option Entry) → IsHit (count_row up by stands).0 → ⊥
+pub hit_count : (up : Bool) (by : ℕ) (stands : Option Entry) → IsHit (count_row up by stands).0 → ⊥
 hit_count up by None hit = hit
 hit_count up by (Some old) hit = elim (number_of old.block) as (λ n. IsHit (number_row old up by n).0 → ⊥) [ None ↦ λ h. h | Some n ↦ λ h. h ] hit
 

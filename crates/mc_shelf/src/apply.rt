@@ -6,7 +6,7 @@ ghost use Rattle.mc_slab.specs.Classes.{IsClass, class_holding, size_of};
 ghost use Rattle.mc_slab.specs.Slabs.{chunks_of, has_room, out_of, pages_left};
 ghost use Rattle.mc_command.specs.Commands.{key_of};
 ghost use Rattle.mc_command.specs.Plain as machine;
-ghost use Rattle.mc_command.specs.Plain.{Plain, Entry as Item, MayFail, Spent, plain, without_dead};
+ghost use Rattle.mc_command.specs.Plain.{Answered, Plain, Entry as Item, MayFail, Spent, plain, without_dead};
 ghost use Rattle.mc_command.specs.Laws.{IsOnKey, row_of};
 ghost use Rattle.mc_shelf.specs.States.{IsAt, CanStand};
 ghost use Rattle.mc_shelf.specs.Places.{IsPlace};
@@ -58,6 +58,7 @@ impl Shelf {
         ensures numbers { (s : Plain) → IsAt (key_of step.now) self.old desk.old s → plain s step.now plan.moment ≡ Spent → IsErr result }
         ensures told { (size : ℕ) → plan.next ≡ Next.Write size → desk.old.next_unique ≡ 2 ^ 64 - 1 → result ≡ Err StepFault.NumbersSpent }
         ensures no_memory { result ≡ Err StepFault.NoMemory → (size : ℕ) × (plan.next ≡ Next.Write size) × (desk.old.next_unique ≢ 2 ^ 64 - 1) × (has_room desk.old.slab (class_holding size) ≡ true) }
+        ensures full { result ≡ Err StepFault.NoMemory → (s : Plain) → IsAt (key_of step.now) self.old desk.old s → (new : Plain) → plain s step.now plan.moment ≡ Answered Reply.NoChunk new → ⊥ }
         ensures page { result ≡ Err StepFault.NoMemory → (size : ℕ) → plan.next ≡ Next.Write size → (item : Item) → get self.old.items (key_of step.now) ≡ Some item → (out_of desk.old.slab (class_holding size) ≡ chunks_of desk.old.slab (class_holding size)) × (0 < pages_left desk.old.slab) }
     {
         counts_follow();

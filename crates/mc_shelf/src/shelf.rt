@@ -1,10 +1,10 @@
 //! A shelf, and the steps on one of its keys.
 
-ghost use Rattle.std.specs.Prelude.{◌≡◌, ◌⊎◌, ℕ, ◌≤◌, List, length, Some, None, Err, IfOk, OnErr};
+ghost use Rattle.std.specs.Prelude.{◌≡◌, ◌⊎◌, ℕ, ◌≤◌, List, length, Some, None, Err, IfOk, IsOk, OnErr};
 ghost use Rattle.std.specs.FinMap.{empty, get, insert, remove};
 ghost use Rattle.mc_command.specs.declared.step.KeyStep.{KeyStep as Step};
 ghost use Rattle.mc_command.specs.Commands.{key_of};
-ghost use Rattle.mc_command.specs.Plain.{Entry as Item, MayFail, Plain, Spent, plain};
+ghost use Rattle.mc_command.specs.Plain.{Answered, Entry as Item, MayFail, Plain, Spent, plain};
 ghost use Rattle.mc_command.specs.Laws.{IsOnKey};
 ghost use Rattle.mc_shelf.specs.States.{CanStand, DeskState, IsAt};
 ghost use Rattle.mc_shelf.specs.Places.{IsPlace, StandsAt};
@@ -73,6 +73,8 @@ impl Shelf {
         ensures took { IfOk result (λ reply. Takes step.now now self.old desk.old reply self.new desk.new) }
         ensures spent { result ≡ Err StepFault.NumbersSpent → IsSpent step.now now self.old desk.old }
         ensures told { (item : Item) → get self.old.items (key_of step.now) ≡ Some item → (s : Plain) → IsAt (key_of step.now) self.old desk.old s → plain s step.now now ≡ Spent → result ≡ Err StepFault.NumbersSpent }
+        ensures large { (s : Plain) → IsAt (key_of step.now) self.old desk.old s → (new : Plain) → plain s step.now now ≡ Answered Reply.TooLarge new → IsOk result }
+        ensures full { (item : Item) → get self.old.items (key_of step.now) ≡ Some item → (s : Plain) → IsAt (key_of step.now) self.old desk.old s → (new : Plain) → plain s step.now now ≡ Answered Reply.NoChunk new → IsOk result }
         ensures err { OnErr result ((self.new ≡ self.old) × (desk.new ≡ desk.old)) }
         ensures others { OthersStay (key_of step.now) self.old self.new }
         ensures refused { OnErr result ((s : Plain) → IsAt (key_of step.now) self.old desk.old s → MayFail (plain s step.now now)) }

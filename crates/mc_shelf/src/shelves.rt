@@ -1,9 +1,9 @@
 //! The shelves of a store, and what goes through all of them.
 
-ghost use Rattle.std.specs.Prelude.{◌≡◌, ℕ, ◌<◌, ◌≤◌, ◌==◌, true, List, length, map, replicate, Option, Some, None, IfOk, OnErr, Err};
+ghost use Rattle.std.specs.Prelude.{◌≡◌, ℕ, ◌<◌, ◌≤◌, ◌==◌, true, List, length, map, replicate, Option, Some, None, IfOk, IsOk, OnErr, Err};
 ghost use Rattle.std.specs.FinMap.{empty, get};
 ghost use Rattle.mc_command.specs.Commands.{key_of};
-ghost use Rattle.mc_command.specs.Plain.{Entry as Item, opening, plain, flushed, MayFail, Answered, Spent};
+ghost use Rattle.mc_command.specs.Plain.{Entry as Item, Plain, opening, plain, flushed, MayFail, Answered, Spent};
 ghost use Rattle.mc_command.specs.Purge.{purged};
 ghost use Rattle.mc_command.specs.Laws.{IsOnKey};
 ghost use Rattle.mc_shelf.specs.States.{ShelfState};
@@ -65,6 +65,8 @@ impl Shelves {
         ensures count { length self.new.list.items ≡ length self.old.list.items }
         ensures spent { result ≡ Err StepFault.NumbersSpent → plain (plain_of self.old) step.now now ≡ Spent }
         ensures told { (item : Item) → get (plain_of self.old).items (key_of step.now) ≡ Some item → plain (plain_of self.old) step.now now ≡ Spent → result ≡ Err StepFault.NumbersSpent }
+        ensures large { (new : Plain) → plain (plain_of self.old) step.now now ≡ Answered Reply.TooLarge new → IsOk result }
+        ensures full { (item : Item) (new : Plain) → get (plain_of self.old).items (key_of step.now) ≡ Some item → plain (plain_of self.old) step.now now ≡ Answered Reply.NoChunk new → IsOk result }
         ensures err { OnErr result (self.new ≡ self.old) }
         ensures refused { OnErr result (MayFail (plain (plain_of self.old) step.now now)) }
     {

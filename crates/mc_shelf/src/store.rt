@@ -3,10 +3,10 @@
 #[cfg(test)]
 mod tests;
 
-ghost use Rattle.std.specs.Prelude.{◌≡◌, ◌==◌, ◌%◌, ◌<◌, ◌≤◌, length, Some, IfOk, OnErr, IsErr, Err, nat_lt, if◌then◌else◌};
+ghost use Rattle.std.specs.Prelude.{◌≡◌, ◌==◌, ◌%◌, ◌<◌, ◌≤◌, length, Some, IfOk, OnErr, IsErr, IsOk, Err, nat_lt, if◌then◌else◌};
 ghost use Rattle.std.specs.FinMap.{get};
 ghost use Rattle.mc_command.specs.Commands.{key_of};
-ghost use Rattle.mc_command.specs.Plain.{Entry as Item, opening, plain, Answered, Spent, MayFail};
+ghost use Rattle.mc_command.specs.Plain.{Entry as Item, Plain, opening, plain, Answered, Spent, MayFail};
 ghost use Rattle.mc_command.specs.Purge.{purged};
 ghost use Rattle.mc_command.specs.Laws.{IsOnKey};
 
@@ -114,6 +114,8 @@ impl<K: KeyHash + Drop> Store<K> {
         ensures set_up { (self.new.settings ≡ self.old.settings) × (self.new.hasher ≡ self.old.hasher) }
         ensures spent { result ≡ Err StepFault.NumbersSpent → plain self.old.plain step.now now ≡ Spent }
         ensures told { (item : Item) → get self.old.plain.items (key_of step.now) ≡ Some item → plain self.old.plain step.now now ≡ Spent → result ≡ Err StepFault.NumbersSpent }
+        ensures large { (new : Plain) → plain self.old.plain step.now now ≡ Answered Reply.TooLarge new → IsOk result }
+        ensures full { (item : Item) (new : Plain) → get self.old.plain.items (key_of step.now) ≡ Some item → plain self.old.plain step.now now ≡ Answered Reply.NoChunk new → IsOk result }
         ensures err { OnErr result (self.new ≡ self.old) }
         ensures refused { OnErr result (MayFail (plain self.old.plain step.now now)) }
     {
@@ -142,6 +144,8 @@ impl<K: KeyHash + Drop> Steps for Store<K> {
         ensures took { IfOk result (λ reply. (plain self.old.plain step.now now ≡ Answered reply self.new.plain) × (self.new.settings ≡ self.old.settings) × (self.new.hasher ≡ self.old.hasher)) }
         ensures spent { result ≡ Err StepFault.NumbersSpent → plain self.old.plain step.now now ≡ Spent }
         ensures told { (item : Item) → get self.old.plain.items (key_of step.now) ≡ Some item → plain self.old.plain step.now now ≡ Spent → result ≡ Err StepFault.NumbersSpent }
+        ensures large { (new : Plain) → plain self.old.plain step.now now ≡ Answered Reply.TooLarge new → IsOk result }
+        ensures full { (item : Item) (new : Plain) → get self.old.plain.items (key_of step.now) ≡ Some item → plain self.old.plain step.now now ≡ Answered Reply.NoChunk new → IsOk result }
         ensures err { OnErr result (self.new ≡ self.old) }
         ensures numbers { plain self.old.plain step.now now ≡ Spent → IsErr result }
         ensures refused { OnErr result (MayFail (plain self.old.plain step.now now)) }

@@ -1,5 +1,6 @@
-use Rattle.std.proofs.Common.{◌≤◌, ℕ, sym, subst, ◌∙◌}
-use Rattle.mc_slab.specs.Slabs.{given}
+use Rattle.std.proofs.Common.{◌≡◌, ◌≤◌, ℕ, true, sym, subst, ◌∙◌}
+use Rattle.mc_slab.specs.Classes.{IsClass}
+use Rattle.mc_slab.specs.Slabs.{given, has_room}
 use Rattle.mc_command.specs.Commands.{key_of}
 use Rattle.mc_command.specs.Plain.{item_class}
 use Rattle.mc_shelf.specs.States.{ShelfState, DeskState}
@@ -7,6 +8,7 @@ use Rattle.mc_shelf.specs.Plans.{OthersStay, Takes, has_dead, row_at}
 use Rattle.mc_shelf.proofs.StandLemmas.{others_gone}
 use Rattle.mc_shelf.proofs.PlanLemmas.{item_discarded, takes_discard, write_fits, write_puts}
 use Rattle.mc_shelf.proofs.ApplyLemmas.{is_out}
+use Rattle.mc_shelf.proofs.AnswerLemmas.{write_not_full}
 use Rattle.mc_shelf.proofs.RefusalLemmas.{may_fail, write_copies, never_spent, on_err}
 use Rattle.mc_shelf.proofs.shelf.Shelf.apply.Goals as goal
 
@@ -61,3 +63,11 @@ returns-in-Write-clause-refused c =
     let shelf = c.args.self.now in
     let copies = write_copies shelf c.args.step.now c.args.plan.moment c.in-Write.size (sym plan.next ∙ c.in-Write.is) in
     on_err c.write.result _ (λ s at. may_fail c.args.step.now c.args.plan.moment shelf c.args.desk.now s plan.on_key copies at)
+
+pub returns-in-Write-clause-full : goal.returns-in-Write-clause-full
+returns-in-Write-clause-full c e s at new answered =
+    let plan = c.requires.plan in
+    let desk = c.args.desk.now in
+    let class = c.class_for-class.ensures in
+    write_not_full c.counts_follow.ensures.remove c.args.step.now c.args.plan.moment c.args.self.now desk plan.on_key c.in-Write.size (sym plan.next ∙ c.in-Write.is)
+    (subst IsClass class.0 class.2) (subst (λ (n : ℕ). has_room desk.slab n ≡ true) class.0 (c.write.ensures.no_memory e).1) s at new answered

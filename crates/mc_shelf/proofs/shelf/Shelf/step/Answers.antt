@@ -1,13 +1,15 @@
 use Rattle.std.proofs.Common.{◌≡◌, ℕ, IfOk, IsErr, Ok, Err, Result, refl, sym, subst, ◌∙◌, true≢false}
-use Rattle.mc_command.specs.Plain.{Spent, plain}
+use Rattle.mc_command.specs.Plain.{Answered, Spent, plain}
 use Rattle.mc_command.specs.Commands.{key_of}
 use Rattle.mc_command.specs.declared.reply.Reply.{Reply}
+use Rattle.mc_command.specs.declared.reply.Reply.TheVariants.{NoChunk, TooLarge}
 use Rattle.mc_command.specs.declared.step.StepFault.{StepFault}
 use Rattle.mc_command.specs.declared.step.StepFault.TheVariants.{NoMemory, NumbersSpent}
 use Rattle.mc_shelf.specs.States.{IsAt}
 use Rattle.mc_shelf.proofs.PlanLemmas.{not_spent}
 use Rattle.mc_shelf.specs.States.{ShelfState}
 use Rattle.mc_shelf.specs.Plans.{IsPlan, Takes}
+use Rattle.mc_shelf.proofs.AnswerLemmas.{answered_apart, no_fault, write_not_large}
 use Rattle.mc_shelf.proofs.RefusalLemmas.{never_spent, on_err}
 use Rattle.mc_shelf.proofs.shelf.Shelf.step.Goals as goal
 
@@ -47,3 +49,24 @@ returns-then-needs_desk-clause-told c item found s at spent =
 pub returns-else-needs_desk-clause-told : goal.returns-else-needs_desk-clause-told
 returns-else-needs_desk-clause-told c item found s at spent =
     absurd (never_spent c.args.step.now c.args.now c.args.self.now c.args.desk.now c.settle.result c.settle.new.self c.args.desk.now (returns-else-needs_desk-clause-took c) s at spent)
+
+pub returns-then-needs_desk-clause-large : goal.returns-then-needs_desk-clause-large
+returns-then-needs_desk-clause-large c s at new answered =
+    let step = c.args.step.now in
+    let desk = c.args.desk.now in
+    let plan = c.in_ok-plan.ensures.plan in
+    let there = subst (λ (t : ShelfState). IsAt (key_of step) t desk s) (sym c.look.ensures.unchanged) at in
+    let then = subst (λ (n : ℕ). plain s step n ≡ Answered TooLarge new) (sym plan.moment) answered in
+    no_fault c.apply.result
+    (λ e. let asked = c.apply.ensures.no_memory e in write_not_large step c.args.now c.args.self.now desk plan.on_key asked.0 (sym plan.next ∙ asked.1) s at new answered)
+    (λ e. answered_apart (plain s step c.in_ok-plan.plan.moment) TooLarge new (c.apply.ensures.spent e s there) then)
+
+pub returns-then-needs_desk-clause-full : goal.returns-then-needs_desk-clause-full
+returns-then-needs_desk-clause-full c item found s at new answered =
+    let step = c.args.step.now in
+    let desk = c.args.desk.now in
+    let plan = c.in_ok-plan.ensures.plan in
+    let there = subst (λ (t : ShelfState). IsAt (key_of step) t desk s) (sym c.look.ensures.unchanged) at in
+    let then = subst (λ (n : ℕ). plain s step n ≡ Answered NoChunk new) (sym plan.moment) answered in
+    no_fault c.apply.result (λ e. c.apply.ensures.full e s there new then)
+    (λ e. answered_apart (plain s step c.in_ok-plan.plan.moment) NoChunk new (c.apply.ensures.spent e s there) then)

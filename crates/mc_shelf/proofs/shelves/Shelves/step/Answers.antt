@@ -87,3 +87,22 @@ returns-clause-told c item found spent =
     let here = stands_there shelved.0 s shelved.1 key c.args.at shelved.2 shelf c.index_mut-shelf.ensures.value in
     let stands = plain_stands shelved.0 s shelved.1 c.args.at shelf here key shelved.2 in
     c.step.ensures.told item (sym stands.item ∙ found) (plain_of s) stands spent
+
+pub returns-clause-large : goal.returns-clause-large
+returns-clause-large c new answered =
+    let s = c.args.self.now in
+    let shelf = c.index_mut-shelf.result.now in
+    let shelved = c.requires.shelved in
+    let key = key_of c.args.step.now in
+    let here = stands_there shelved.0 s shelved.1 key c.args.at shelved.2 shelf c.index_mut-shelf.ensures.value in
+    c.step.ensures.large (plain_of s) (plain_stands shelved.0 s shelved.1 c.args.at shelf here key shelved.2) new answered
+
+pub returns-clause-full : goal.returns-clause-full
+returns-clause-full c item new found answered =
+    let s = c.args.self.now in
+    let shelf = c.index_mut-shelf.result.now in
+    let shelved = c.requires.shelved in
+    let key = key_of c.args.step.now in
+    let here = stands_there shelved.0 s shelved.1 key c.args.at shelved.2 shelf c.index_mut-shelf.ensures.value in
+    let stands = plain_stands shelved.0 s shelved.1 c.args.at shelf here key shelved.2 in
+    c.step.ensures.full item (sym stands.item ∙ found) (plain_of s) stands new answered
