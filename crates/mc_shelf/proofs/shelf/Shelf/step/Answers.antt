@@ -1,4 +1,4 @@
-use Rattle.std.proofs.Common.{◌≡◌, ℕ, IfOk, IsErr, Ok, Err, Result, refl, sym, subst, ◌∙◌, true≢false}
+use Rattle.std.proofs.Common.{◌≡◌, ℕ, IfOk, IsErr, Ok, Err, Some, None, Result, refl, sym, subst, ◌∙◌, true≢false, inl, inr}
 use Rattle.mc_command.specs.Plain.{Answered, Spent, plain}
 use Rattle.mc_command.specs.Commands.{key_of}
 use Rattle.mc_command.specs.declared.reply.Reply.{Reply}
@@ -9,7 +9,7 @@ use Rattle.mc_shelf.specs.States.{IsAt}
 use Rattle.mc_shelf.proofs.PlanLemmas.{not_spent}
 use Rattle.mc_shelf.specs.States.{ShelfState}
 use Rattle.mc_shelf.specs.Plans.{IsPlan, Takes}
-use Rattle.mc_shelf.proofs.AnswerLemmas.{answered_apart, no_fault, write_not_large}
+use Rattle.mc_shelf.proofs.AnswerLemmas.{answered_apart, hit_apart, no_fault, write_not_large}
 use Rattle.mc_shelf.proofs.RefusalLemmas.{never_spent, on_err}
 use Rattle.mc_shelf.proofs.shelf.Shelf.step.Goals as goal
 
@@ -49,6 +49,26 @@ returns-then-needs_desk-clause-told c item found s at spent =
 pub returns-else-needs_desk-clause-told : goal.returns-else-needs_desk-clause-told
 returns-else-needs_desk-clause-told c item found s at spent =
     absurd (never_spent c.args.step.now c.args.now c.args.self.now c.args.desk.now c.settle.result c.settle.new.self c.args.desk.now (returns-else-needs_desk-clause-took c) s at spent)
+
+pub returns-in_err-plan-clause-large : goal.returns-in_err-plan-clause-large
+returns-in_err-plan-clause-large c s at new answered =
+    let step = c.args.step.now in
+    let shelf = c.args.self.now in
+    elim c.in_err-plan.ensures.asked [
+      | inl hit ↦ absurd (hit_apart step c.args.now shelf c.args.desk.now c.requires.on_key hit TooLarge (λ h. h) s at new answered)
+      | inr write ↦ absurd (write_not_large step c.args.now shelf c.args.desk.now c.requires.on_key write.1 write.2 s at new answered)
+    ]
+
+pub returns-in_err-plan-clause-full : goal.returns-in_err-plan-clause-full
+returns-in_err-plan-clause-full c item found s at new answered =
+    let step = c.args.step.now in
+    elim c.in_err-plan.ensures.asked [
+      | inl hit ↦ absurd (hit_apart step c.args.now c.args.self.now c.args.desk.now c.requires.on_key hit NoChunk (λ h. h) s at new answered)
+      | inr write ↦ absurd (stands (sym found ∙ write.0))
+    ]
+  where
+    stands : Some item ≡ None → ⊥
+    stands e = cc
 
 pub returns-then-needs_desk-clause-large : goal.returns-then-needs_desk-clause-large
 returns-then-needs_desk-clause-large c s at new answered =
