@@ -27,6 +27,7 @@ use Rattle.mc_shelf.specs.Plans.{OthersStay, Takes}
 use Rattle.mc_shelf.specs.Sweeps.{AreOut, GivesFor}
 use Rattle.mc_shelf.specs.Unions.{AreShelves, all_entries, all_items, plain_of, without}
 use Rattle.mc_shelf.specs.declared.shelves.Shelves.{Shelves}
+use Rattle.mc_shelf.proofs.RowLemmas.{same_Some}
 use Rattle.mc_shelf.proofs.IndexLemmas.{order, same_key}
 
 -- the plain machine's step on a key leaves the other keys, as `other_keys_stay` says
@@ -83,9 +84,6 @@ or_none (Some item) = refl
 first_none : (shelves : List ShelfState) (q : List ℕ) → ((at : ℕ) (shelf : ShelfState) → slice_get shelves at ≡ Some shelf → get shelf.items q ≡ None) → first_of shelves q ≡ None
 first_none [] q none = refl
 first_none (shelf ∷ shelves) q none = λ i. option_or (none 0 shelf refl i) (first_none shelves q (λ at s. none (suc at) s) i)
-
-same_Some : (a b : ShelfState) → Some a ≡ Some b → a ≡ b
-same_Some a b e = cc
 
 -- only this one has
 first_own : (shelves : List ShelfState) (at : ℕ) (shelf : ShelfState) (q : List ℕ) → slice_get shelves at ≡ Some shelf
