@@ -418,6 +418,8 @@ impl Steps for PlainStore {
 
     ghost spent = { λ old step now. plain old step now ≡ Spent };
 
+    ghost same = { λ old new. new ≡ old };
+
     // With the numbers spent a write is refused, and a step that copies no block never is.
     fn step(&mut self, alloc: Global, step: &KeyStep<'_>, now: Moment) -> Result<Reply, StepFault>
         requires { length (key_of step.now) ≤ 250 }

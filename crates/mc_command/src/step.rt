@@ -101,11 +101,13 @@ pub trait Steps {
     ghost took: { Self → KeyStep → ℕ → Reply → Self → Type 0 };
     /// The unique numbers that the step needs at that moment are spent.
     ghost spent: { Self → KeyStep → ℕ → Type 0 };
+    /// No step is answered differently by the one than by the other: what they hold is the same, though how may differ.
+    ghost same: { Self → Self → Type 0 };
 
-    /// Takes one step on one key. Where it isn't taken the store is as it was.
+    /// Takes one step on one key. Where it isn't taken, what the store holds is the same.
     fn step(&mut self, alloc: Global, step: &KeyStep<'_>, now: Moment) -> Result<Reply, StepFault>
         requires { length (key_of step.now) ≤ 250 }
         ensures took { IfOk result (λ reply. took self.old step.now now reply self.new) }
         ensures spent { result ≡ Err StepFault.NumbersSpent → spent self.old step.now now }
-        ensures err { OnErr result (self.new ≡ self.old) };
+        ensures err { OnErr result (same self.old self.new) };
 }

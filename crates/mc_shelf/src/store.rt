@@ -139,6 +139,8 @@ impl<K: KeyHash + Drop> Steps for Store<K> {
 
     ghost spent = { λ old step now. plain old.plain step now ≡ Spent };
 
+    ghost same = { λ old new. (new.plain ≡ old.plain) × (new.settings ≡ old.settings) × (new.hasher ≡ old.hasher) };
+
     fn step(&mut self, alloc: Global, step: &KeyStep<'_>, now: Moment) -> Result<Reply, StepFault>
         requires { length (key_of step.now) ≤ 250 }
         ensures took { IfOk result (λ reply. (plain self.old.plain step.now now ≡ Answered reply self.new.plain) × (self.new.settings ≡ self.old.settings) × (self.new.hasher ≡ self.old.hasher)) }
