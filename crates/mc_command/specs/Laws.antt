@@ -1,13 +1,13 @@
 -- What the laws of the plain machine speak of.
 use Rattle.std.specs.Prelude.{◌≡◌, ◌≢◌, ℕ, ◌-◌, ◌^◌, ◌≤◌, ◌==◌, false, List, Option, Some, None, if◌then◌else◌}
 use Rattle.std.specs.FinMap.{get}
-use Rattle.mc_time.specs.Death.{expiry_of}
 use Rattle.mc_slab.specs.Classes.{class_holding}
 use Rattle.mc_command.specs.Commands.{key_of}
 use Rattle.mc_command.specs.declared.step.KeyStep.{KeyStep}
 use Rattle.mc_command.specs.declared.step.KeyStep.TheVariants.{Store, Cas, Read, ReadTouch, Touch, Delete, Count, Flush}
-use Rattle.mc_command.specs.declared.reply.Reply.TheVariants.{Flushed}
-use Rattle.mc_command.specs.Plain.{Plain, Entry, Row, Change, Leaves, Writes, Recounts, SetsExpiry, Removes, Outcome, Answered, Spent, charge, item_class, has_room, standing, without_dead, store_row, cas_row, read_row, read_touch_row, touch_row, delete_row, count_row}
+use Rattle.mc_command.specs.declared.row.Row.{Row}
+use Rattle.mc_command.specs.declared.row.Row.TheVariants.{Refuses, Reads, Touches, Deletes, Writes}
+use Rattle.mc_command.specs.Plain.{Plain, Entry, Outcome, Answered, Spent, charge, item_class, has_room, standing, without_dead, keeps_chunk, block_of, written_block, row_of}
 
 -- a step on one key: any but a flush
 abbrev pub IsOnKey : KeyStep → Type 0
@@ -42,24 +42,20 @@ AgreeAfter key (Answered reply a) Spent = ⊥
 AgreeAfter key Spent (Answered other b) = ⊥
 AgreeAfter key Spent Spent = Unit {0}
 
--- a step's row of the protocol's table, by the key's item
-abbrev pub row_of : KeyStep → ℕ → Option Entry → Row
-row_of (Store verb key flags exptime block) now = store_row verb flags (expiry_of exptime now) block
-row_of (Cas key flags exptime block unique) now = cas_row flags (expiry_of exptime now) block unique
-row_of (Read key) now = read_row
-row_of (ReadTouch key exptime) now = read_touch_row (expiry_of exptime now)
-row_of (Touch key exptime) now = touch_row (expiry_of exptime now)
-row_of (Delete key) now = delete_row
-row_of (Count key up by) now = count_row up by
-row_of (Flush delay) now = λ item. (Flushed, Leaves)
+-- the charge that a row takes a chunk for at a step's key, if it takes one
+abbrev pub chunk_taken : KeyStep → Row → Option Entry → Option ℕ
+chunk_taken step (Refuses refusal) item = None
+chunk_taken step (Reads expiry) item = None
+chunk_taken step (Touches expiry) item = None
+chunk_taken step Deletes item = None
+chunk_taken step (Writes draft) item =
+    if keeps_chunk draft.body (key_of step) item then None
+    else Some (charge (key_of step) (written_block draft.body (block_of step) item))
 
--- the charge that a change takes a chunk for, if it takes one
-abbrev pub chunk_taken : List ℕ → Change → Option ℕ
-chunk_taken key Leaves = None
-chunk_taken key (Writes flags expiry block) = Some (charge key block)
-chunk_taken key (Recounts item block) = if item_class key item == class_holding (charge key block) then None else Some (charge key block)
-chunk_taken key (SetsExpiry item expiry) = None
-chunk_taken key Removes = None
+-- the charge that a step takes a chunk for, if it takes one
+abbrev pub chunk_of : KeyStep → ℕ → Plain → Option ℕ
+chunk_of step now old =
+    let item = standing old (key_of step) now in chunk_taken step (row_of step now item) item
 
 -- what is written is neither too large nor short of a unique number, and there is no chunk for it
 abbrev pub LacksChunk : Plain → Option ℕ → Type 0

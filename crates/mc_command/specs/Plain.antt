@@ -1,5 +1,5 @@
 -- The plain machine: one step on one key at a time.
-use Rattle.std.specs.Prelude.{ℕ, ◌≡◌, ◌+◌, ◌-◌, ◌*◌, ◌^◌, ◌%◌, ◌==◌, ◌&&◌, ◌||◌, Bool, true, false, List, ◌++◌, length, drop, replicate, sum, slice_index, slice_set, Option, Some, None, is_some, refl, nat_lt, nat_le, decimal, if◌then◌else◌}
+use Rattle.std.specs.Prelude.{ℕ, ◌≡◌, ◌+◌, ◌-◌, ◌*◌, ◌^◌, ◌%◌, ◌==◌, ◌&&◌, ◌||◌, Bool, true, false, List, [], ◌++◌, length, drop, replicate, sum, slice_index, slice_set, Option, Some, None, is_some, refl, nat_lt, nat_le, decimal, if◌then◌else◌}
 use Rattle.std.specs.Coded.{Coded, code_by, coded×, coded_ℕ, coded_list, coded_option}
 use Rattle.std.specs.Ordering.{nat_cmp}
 use Rattle.std.specs.Cmp.Lexicographic.{slice_cmp}
@@ -16,6 +16,14 @@ use Rattle.mc_command.specs.declared.step.Verb.{Verb}
 use Rattle.mc_command.specs.declared.step.Verb.TheVariants.{Set, Add, Replace, Append, Prepend}
 use Rattle.mc_command.specs.declared.step.KeyStep.{KeyStep}
 use Rattle.mc_command.specs.declared.step.KeyStep.TheVariants.{Store, Cas, Read, ReadTouch, Touch, Delete, Count, Flush}
+use Rattle.mc_command.specs.Commands.{key_of}
+use Rattle.mc_command.specs.declared.row.Row.{Row}
+use Rattle.mc_command.specs.declared.row.Row.TheVariants.{Refuses, Reads, Touches, Deletes, Writes}
+use Rattle.mc_command.specs.declared.row.Refusal.{Refusal}
+use Rattle.mc_command.specs.declared.row.Refusal.TheVariants as refusal
+use Rattle.mc_command.specs.declared.row.Body.{Body}
+use Rattle.mc_command.specs.declared.row.Body.TheVariants.{Given, Appended, Prepended, Counted}
+use Rattle.mc_command.specs.declared.row.Draft.{Draft}
 use Rattle.mc_command.specs.declared.reply.Reply.{Reply}
 use Rattle.mc_command.specs.declared.reply.Reply.TheVariants.{Stored, NotStored, Exists, NotFound, Miss, Hit, Touched, Deleted, Number, NotNumeric, TooLarge, NoChunk, Flushed}
 
@@ -49,19 +57,6 @@ opening limit greatest = record { greatest = greatest; limit = limit; items = em
 pub data Outcome : Type 0 where
   Answered : Reply → Plain → Outcome
   Spent : Outcome
-
--- what a row of the protocol's table does to the key's item: it leaves it, writes one under the next unique number, writes
--- a number that it was counted to, puts it there again with another expiry, or removes it
-pub data Change : Type 0 where
-  Leaves : Change
-  Writes : (flags : ℕ) → Expiry → (block : List ℕ) → Change
-  Recounts : Entry → (block : List ℕ) → Change
-  SetsExpiry : Entry → Expiry → Change
-  Removes : Change
-
--- what a step is answered, and what it does to the key's item
-abbrev pub Row : Type 0
-Row = Reply × Change
 
 -- a chunk holds 48 bytes beside the key and the block
 abbrev pub charge : List ℕ → List ℕ → ℕ
@@ -102,52 +97,115 @@ abbrev pub counted : Bool → ℕ → ℕ → ℕ
 counted true by old = (old + by) % (2 ^ 64)
 counted false by old = old - by
 
+-- a write of the step's own block, with these flags and this expiry
+abbrev pub given : (flags : ℕ) → Expiry → Row
+given flags expiry = Writes (record { flags = flags; expiry = expiry; body = Given })
+
+-- a write beside the old item's block, with its flags and its expiry
+abbrev pub joined : Entry → Body → Row
+joined old body = Writes (record { flags = old.flags; expiry = old.expiry; body = body })
+
 -- set, add, replace, append, prepend
-abbrev pub store_row : Verb → (flags : ℕ) → Expiry → (block : List ℕ) → Option Entry → Row
-store_row Set flags expiry block item = (Stored, Writes flags expiry block)
-store_row Add flags expiry block None = (Stored, Writes flags expiry block)
-store_row Add flags expiry block (Some old) = (NotStored, Leaves)
-store_row Replace flags expiry block None = (NotStored, Leaves)
-store_row Replace flags expiry block (Some old) = (Stored, Writes flags expiry block)
-store_row Append flags expiry block None = (NotStored, Leaves)
-store_row Append flags expiry block (Some old) = (Stored, Writes old.flags old.expiry (old.block ++ block))
-store_row Prepend flags expiry block None = (NotStored, Leaves)
-store_row Prepend flags expiry block (Some old) = (Stored, Writes old.flags old.expiry (block ++ old.block))
+abbrev pub store_row : Verb → (flags : ℕ) → Expiry → Option Entry → Row
+store_row Set flags expiry item = given flags expiry
+store_row Add flags expiry None = given flags expiry
+store_row Add flags expiry (Some old) = Refuses refusal.NotStored
+store_row Replace flags expiry None = Refuses refusal.NotStored
+store_row Replace flags expiry (Some old) = given flags expiry
+store_row Append flags expiry None = Refuses refusal.NotStored
+store_row Append flags expiry (Some old) = joined old Appended
+store_row Prepend flags expiry None = Refuses refusal.NotStored
+store_row Prepend flags expiry (Some old) = joined old Prepended
 
 -- cas
-abbrev pub cas_row : (flags : ℕ) → Expiry → (block : List ℕ) → (unique : ℕ) → Option Entry → Row
-cas_row flags expiry block unique None = (NotFound, Leaves)
-cas_row flags expiry block unique (Some old) = if old.unique == unique then (Stored, Writes flags expiry block) else (Exists, Leaves)
+abbrev pub cas_row : (flags : ℕ) → Expiry → (unique : ℕ) → Option Entry → Row
+cas_row flags expiry unique None = Refuses refusal.NotFound
+cas_row flags expiry unique (Some old) = if old.unique == unique then given flags expiry else Refuses refusal.Exists
 
--- get, gets
-abbrev pub read_row : Option Entry → Row
-read_row None = (Miss, Leaves)
-read_row (Some old) = (Hit old.flags old.unique old.block, Leaves)
-
--- gat, gats
-abbrev pub read_touch_row : Expiry → Option Entry → Row
-read_touch_row expiry None = (Miss, Leaves)
-read_touch_row expiry (Some old) = (Hit old.flags old.unique old.block, SetsExpiry old expiry)
+-- get, gets, and with an expiry gat, gats
+abbrev pub read_row : Option Expiry → Option Entry → Row
+read_row expiry None = Refuses refusal.Miss
+read_row expiry (Some old) = Reads expiry
 
 -- touch
 abbrev pub touch_row : Expiry → Option Entry → Row
-touch_row expiry None = (NotFound, Leaves)
-touch_row expiry (Some old) = (Touched, SetsExpiry old expiry)
+touch_row expiry None = Refuses refusal.NotFound
+touch_row expiry (Some old) = Touches expiry
 
 -- delete
 abbrev pub delete_row : Option Entry → Row
-delete_row None = (NotFound, Leaves)
-delete_row (Some old) = (Deleted, Removes)
+delete_row None = Refuses refusal.NotFound
+delete_row (Some old) = Deletes
 
 -- incr and decr of an item, by the number that its block is
 abbrev pub number_row : Entry → Bool → ℕ → Option ℕ → Row
-number_row old up by None = (NotNumeric, Leaves)
-number_row old up by (Some number) = (Number (counted up by number), Recounts old (decimal (counted up by number)))
+number_row old up by None = Refuses refusal.NotNumeric
+number_row old up by (Some number) = joined old (Counted (counted up by number))
 
 -- incr, decr
 abbrev pub count_row : Bool → ℕ → Option Entry → Row
-count_row up by None = (NotFound, Leaves)
+count_row up by None = Refuses refusal.NotFound
 count_row up by (Some old) = number_row old up by (number_of old.block)
+
+-- The protocol's table: the row of a step on a key, by the item that stands under it. A flush is on no key, which is said
+-- as one under which nothing stands.
+abbrev pub row_of : KeyStep → ℕ → Option Entry → Row
+row_of (Store verb key flags exptime block) now item = store_row verb flags (expiry_of exptime now) item
+row_of (Cas key flags exptime block unique) now item = cas_row flags (expiry_of exptime now) unique item
+row_of (Read key) now item = read_row None item
+row_of (ReadTouch key exptime) now item = read_row (Some (expiry_of exptime now)) item
+row_of (Touch key exptime) now item = touch_row (expiry_of exptime now) item
+row_of (Delete key) now item = delete_row item
+row_of (Count key up by) now item = count_row up by item
+row_of (Flush delay) now item = Refuses refusal.NotFound
+
+-- the reply of a refusal
+abbrev pub refusal_reply : Refusal → Reply
+refusal_reply refusal.NotStored = NotStored
+refusal_reply refusal.Exists = Exists
+refusal_reply refusal.NotFound = NotFound
+refusal_reply refusal.Miss = Miss
+refusal_reply refusal.NotNumeric = NotNumeric
+
+-- the reply of a retrieval, by the item that it finds
+abbrev pub hit_of : Option Entry → Reply
+hit_of None = Miss
+hit_of (Some old) = Hit old.flags old.unique old.block
+
+-- the reply of a write
+abbrev pub write_reply : Body → Reply
+write_reply Given = Stored
+write_reply Appended = Stored
+write_reply Prepended = Stored
+write_reply (Counted number) = Number number
+
+-- the block that a step brings, and none where it brings none
+abbrev pub block_of : KeyStep → List ℕ
+block_of (Store verb key flags exptime block) = block
+block_of (Cas key flags exptime block unique) = block
+block_of (Read key) = []
+block_of (ReadTouch key exptime) = []
+block_of (Touch key exptime) = []
+block_of (Delete key) = []
+block_of (Count key up by) = []
+block_of (Flush delay) = []
+
+-- the block that a write puts under the key, by the one that the step brings and the item that stands
+abbrev pub written_block : Body → List ℕ → Option Entry → List ℕ
+written_block Given block item = block
+written_block Appended block None = block
+written_block Appended block (Some old) = old.block ++ block
+written_block Prepended block None = block
+written_block Prepended block (Some old) = block ++ old.block
+written_block (Counted number) block item = decimal number
+
+-- a number that an item was counted to stays in its chunk where its class stays
+abbrev pub keeps_chunk : Body → List ℕ → Option Entry → Bool
+keeps_chunk Given key item = false
+keeps_chunk Appended key item = false
+keeps_chunk Prepended key item = false
+keeps_chunk (Counted number) key None = false
+keeps_chunk (Counted number) key (Some old) = item_class key old == class_holding (charge key (decimal number))
 
 -- an item that isn't dead
 abbrev pub alive : Option ℕ → ℕ → Option Entry → Option Entry
@@ -184,20 +242,30 @@ wrote stays reply key flags expiry block old now =
     else if has_room old (class_holding (charge key block)) then Answered reply (written (with_chunk old (class_holding (charge key block))) key flags expiry block now)
     else Answered NoChunk old
 
--- a row's change of the key's item: a number that an item was counted to stays in its chunk where its class stays
-abbrev pub changed : Reply → Change → List ℕ → Plain → ℕ → Outcome
-changed reply Leaves key old now = Answered reply old
-changed reply (Writes flags expiry block) key old now = wrote false reply key flags expiry block old now
-changed reply (Recounts item block) key old now = wrote (item_class key item == class_holding (charge key block)) reply key item.flags item.expiry block old now
-changed reply (SetsExpiry item expiry) key old now = Answered reply (record old { items = insert old.items key (record item { expiry = expiry }) })
-changed reply Removes key old now = Answered reply (record old { items = remove old.items key })
+-- the key's item with another expiry, if there is one
+abbrev pub expiring : Option Entry → List ℕ → Expiry → Plain → Plain
+expiring None key expiry old = old
+expiring (Some item) key expiry old = record old { items = insert old.items key (record item { expiry = expiry }) }
 
--- a row at a key: the key's dead item is dropped, and then the row applies to the item that stands
-abbrev pub applied : (Option Entry → Row) → List ℕ → Plain → ℕ → Outcome
-applied of key old now =
-    let item = standing old key now in
-    let told = of item in
-    changed told.0 told.1 key (without_dead item key old) now
+-- the same where an expiry is given
+abbrev pub perhaps_expiring : Option Entry → List ℕ → Option Expiry → Plain → Plain
+perhaps_expiring item key None old = old
+perhaps_expiring item key (Some expiry) old = expiring item key expiry old
+
+-- what a row does at a step's key, where this item stands and a dead one is dropped
+abbrev pub changed : Row → KeyStep → Option Entry → Plain → ℕ → Outcome
+changed (Refuses refusal) step item old now = Answered (refusal_reply refusal) old
+changed (Reads expiry) step item old now = Answered (hit_of item) (perhaps_expiring item (key_of step) expiry old)
+changed (Touches expiry) step item old now = Answered Touched (expiring item (key_of step) expiry old)
+changed Deletes step item old now = Answered Deleted (record old { items = remove old.items (key_of step) })
+changed (Writes draft) step item old now =
+    wrote (keeps_chunk draft.body (key_of step) item) (write_reply draft.body) (key_of step) draft.flags draft.expiry (written_block draft.body (block_of step) item) old now
+
+-- a step at its key: the key's dead item is dropped, and then the step's row applies to the item that stands
+abbrev pub stepped : Plain → KeyStep → ℕ → Outcome
+stepped old step now =
+    let item = standing old (key_of step) now in
+    changed (row_of step now item) step item (without_dead item (key_of step) old) now
 
 -- A flush at once leaves no item and no flush that waits. One with a delay drops what is dead, and from its moment on what
 -- was updated before that is dead too; it takes the place of a flush that waits.
@@ -208,16 +276,16 @@ flushed delay old now =
 
 -- one step at a moment
 abbrev pub plain : Plain → KeyStep → ℕ → Outcome
-plain old (Store verb key flags exptime block) now = applied (store_row verb flags (expiry_of exptime now) block) key old now
-plain old (Cas key flags exptime block unique) now = applied (cas_row flags (expiry_of exptime now) block unique) key old now
-plain old (Read key) now = applied read_row key old now
-plain old (ReadTouch key exptime) now = applied (read_touch_row (expiry_of exptime now)) key old now
-plain old (Touch key exptime) now = applied (touch_row (expiry_of exptime now)) key old now
-plain old (Delete key) now = applied delete_row key old now
-plain old (Count key up by) now = applied (count_row up by) key old now
+plain old (Store verb key flags exptime block) now = stepped old (Store verb key flags exptime block) now
+plain old (Cas key flags exptime block unique) now = stepped old (Cas key flags exptime block unique) now
+plain old (Read key) now = stepped old (Read key) now
+plain old (ReadTouch key exptime) now = stepped old (ReadTouch key exptime) now
+plain old (Touch key exptime) now = stepped old (Touch key exptime) now
+plain old (Delete key) now = stepped old (Delete key) now
+plain old (Count key up by) now = stepped old (Count key up by) now
 plain old (Flush delay) now = Answered Flushed (flushed delay old now)
 
--- a reply that a block is copied for, or that comes after one was
+-- a reply that a block is copied for
 abbrev pub CopiesBlock : Reply → Type 0
 CopiesBlock Stored = Unit {0}
 CopiesBlock NotStored = ⊥
@@ -229,14 +297,14 @@ CopiesBlock Touched = ⊥
 CopiesBlock Deleted = ⊥
 CopiesBlock (Number number) = Unit {0}
 CopiesBlock NotNumeric = ⊥
-CopiesBlock TooLarge = Unit {0}
-CopiesBlock NoChunk = Unit {0}
+CopiesBlock TooLarge = ⊥
+CopiesBlock NoChunk = ⊥
 CopiesBlock Flushed = ⊥
 
--- what may end in a fault: the unique numbers are spent, or memory is needed
+-- what may be refused memory: a hit and a write, and nothing else
 abbrev pub MayFail : Outcome → Type 0
 MayFail (Answered reply new) = CopiesBlock reply
-MayFail Spent = Unit {0}
+MayFail Spent = ⊥
 
 -- how a proof stores an expiry, an entry, and the state
 abbrev pub expiry_moment : Expiry → Option ℕ

@@ -8,7 +8,7 @@ ghost use Rattle.mc_command.specs.declared.step.KeyStep.{KeyStep};
 ghost use Rattle.mc_command.specs.declared.reply.Reply.{Reply};
 ghost use Rattle.mc_command.specs.Commands.{key_of};
 ghost use Rattle.mc_command.specs.Plain.{Plain, Items, Entry, plain, alive, standing, count_of, pages_of, Answered};
-ghost use Rattle.mc_command.specs.Laws.{IsOnKey, AgreeAt, AgreeAfter, HaveSameRoom, found_by, row_of, chunk_taken, LacksChunk, of_class};
+ghost use Rattle.mc_command.specs.Laws.{IsOnKey, AgreeAt, AgreeAfter, HaveSameRoom, found_by, chunk_of, LacksChunk, of_class};
 
 /// A step on one key leaves the items under other keys as they are.
 pub fn other_keys_stay()
@@ -27,7 +27,7 @@ pub fn one_key_decides()
 /// number, and finds no room. Nothing changes then, but that a dead item of the key is dropped.
 pub fn refused_without_room()
     ensures exactly { (old : Plain) (step : KeyStep) (now : ℕ) →
-        IsOnKey step → (plain old step now ≡ Answered Reply.NoChunk (found_by step now old)) ↔ LacksChunk (found_by step now old) (chunk_taken (key_of step) (row_of step now (standing old (key_of step) now)).1) }
+        IsOnKey step → (plain old step now ≡ Answered Reply.NoChunk (found_by step now old)) ↔ LacksChunk (found_by step now old) (chunk_of step now old) }
     ensures unchanged { (old new : Plain) (step : KeyStep) (now : ℕ) →
         plain old step now ≡ Answered Reply.NoChunk new → new ≡ found_by step now old }
 {}

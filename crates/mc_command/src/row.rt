@@ -1,0 +1,120 @@
+//! The rows of the protocol's table: what a step on a key does, by the item that stands under it.
+
+ghost use Rattle.std.specs.Prelude.{◌≡◌};
+ghost use Rattle.mc_command.specs.Commands as commands;
+ghost use Rattle.mc_command.specs.Plain as machine;
+ghost use Rattle.mc_command.specs.Rows.{standing_in};
+
+use crate::number::{counted, number_of};
+use crate::reply::Reply;
+use crate::step::{KeyStep, Verb};
+use mc_time::{Expiry, Moment, expiry_of};
+
+/// Why a step leaves the key's item as it is (protocol.txt, the replies of each command).
+#[derive(Clone, Copy, Debug, PartialEq, Eq)]
+pub enum Refusal {
+    /// The condition of add, replace, append or prepend fails.
+    NotStored,
+    /// The item has another unique number than the one that cas names.
+    Exists,
+    /// No item stands under the key.
+    NotFound,
+    /// A retrieval finds no item.
+    Miss,
+    /// The block that incr or decr is to count is no number.
+    NotNumeric,
+}
+
+/// How the block of a write is made.
+#[derive(Clone, Copy, Debug, PartialEq, Eq)]
+pub enum Body {
+    /// It is the step's own.
+    Given,
+    /// The step's own goes behind the old item's.
+    Appended,
+    /// The step's own goes before the old item's.
+    Prepended,
+    /// It is the decimal digits of this number.
+    Counted(u64),
+}
+
+/// What a write puts under the key, but for its unique number and its moment.
+#[derive(Clone, Copy, Debug, PartialEq, Eq)]
+pub struct Draft {
+    pub flags: u32,
+    pub expiry: Expiry,
+    pub body: Body,
+}
+
+/// What a step does at its key.
+#[derive(Clone, Copy, Debug, PartialEq, Eq)]
+pub enum Row {
+    /// Answers so, and leaves the item.
+    Refuses(Refusal),
+    /// Answers with the item, and sets its expiry where one is given.
+    Reads(Option<Expiry>),
+    /// Sets the item's expiry.
+    Touches(Expiry),
+    /// Removes the item.
+    Deletes,
+    /// Writes an item, under the next unique number.
+    Writes(Draft),
+}
+
+/// What stands under a key, and lends its fields.
+pub trait Standing {
+    ghost use Rattle.std.specs.Prelude.{◌≡◌};
+    ghost use Rattle.mc_command.specs.Plain.{Entry};
+
+    /// The item, as contracts see it.
+    ghost entry_of: { Self → Entry };
+
+    /// The flags that were stored with it.
+    fn flags(&self) -> u32
+        ensures { result ≡ (entry_of self.now).flags };
+
+    /// When it expires.
+    fn expiry(&self) -> Expiry
+        ensures { result ≡ (entry_of self.now).expiry };
+
+    /// The number that no other write has.
+    fn unique(&self) -> u64
+        ensures { result ≡ (entry_of self.now).unique };
+
+    /// Its block.
+    fn block(&self) -> &[u8]
+        ensures { result.now ≡ (entry_of self.now).block };
+}
+
+/// Finds the row of a step by the item that stands under its key. A flush is on no key, which is answered as one under which
+/// nothing stands. The cost is that of a few comparisons, and of reading the digits of a number that is to be counted.
+pub fn row<T: Standing>(step: &KeyStep<'_>, item: Option<&T>, now: Moment) -> Row
+    ensures { result ≡ machine.row_of step.now now (standing_in T.entry_of item.entry) }
+{
+    match step {
+        KeyStep::Store {
+            verb,
+            flags,
+            exptime,
+            ..
+        } => store_row(*verb, *flags, expiry_of(*exptime, now), item),
+        KeyStep::Cas {
+            flags,
+            exptime,
+            unique,
+            ..
+        } => cas_row(*flags, expiry_of(*exptime, now), *unique, item),
+        KeyStep::Read { .. } => read_row(None, item),
+        KeyStep::ReadTouch { exptime, .. } => read_row(Some(expiry_of(*exptime, now)), item),
+        KeyStep::Touch { exptime, .. } => match item {
+            None => Row::Refuses(Refusal::NotFound),
+            Some(_) => Row::Touches(expiry_of(*exptime, now)),
+        },
+        KeyStep::Delete { .. } => match item {
+            None => Row::Refuses(Refusal::NotFound),
+            Some(_) => Row::Deletes,
+        },
+        KeyStep::Count { up, by, .. } => count_row(*up, *by, item),
+        KeyStep::Flush { .. } => Row::Refuses(Refusal::NotFound),
+    }
+}
