@@ -60,9 +60,12 @@ is_quiet Quit = false
 -- what is left of a command after so many of its steps: a retrieval of the keys that are left
 abbrev pub after_steps : Command → ℕ → Command
 after_steps (Get keys with_unique) taken = Get (drop taken keys) with_unique
-after_steps (GetTouch exptime keys with_unique) taken = GetTouch exptime (drop taken keys) with_unique
-after_steps (Store verb key flags exptime block quiet) taken = Store verb key flags exptime block quiet
-after_steps (Cas key flags exptime block unique quiet) taken = Cas key flags exptime block unique quiet
+after_steps (GetTouch exptime keys with_unique) taken =
+    GetTouch exptime (drop taken keys) with_unique
+after_steps (Store verb key flags exptime block quiet) taken =
+    Store verb key flags exptime block quiet
+after_steps (Cas key flags exptime block unique quiet) taken =
+    Cas key flags exptime block unique quiet
 after_steps (Touch key exptime quiet) taken = Touch key exptime quiet
 after_steps (Delete key quiet) taken = Delete key quiet
 after_steps (Count key up by quiet) taken = Count key up by quiet
@@ -81,6 +84,10 @@ key_of (DeleteStep key) = key
 key_of (CountStep key up by) = key
 key_of (FlushStep delay) = []
 
--- no key of the command's steps is longer than 250 bytes
+-- how many bytes a key has at most
+abbrev pub longest_key : ℕ
+longest_key = 250
+
+-- no key of the command's steps is longer than that
 abbrev pub HasShortKeys : Command → Type 0
-HasShortKeys command = All (λ step. length (key_of step) ≤ 250) (steps command)
+HasShortKeys command = All (λ step. length (key_of step) ≤ longest_key) (steps command)

@@ -64,7 +64,8 @@ pub enum Command<'a> {
     Quit,
 }
 
-/// How many steps the command has: one a key for a retrieval, none for version and quit, one for every other.
+/// Counts the steps of a command: one a key for a retrieval, none for version and quit, one for every
+/// other.
 pub fn steps_of(command: &Command<'_>) -> usize
     ensures { result ≡ length (steps command.now) }
 {

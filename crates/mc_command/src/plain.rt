@@ -10,7 +10,7 @@ mod write;
 ghost use Rattle.std.specs.Prelude.{◌≡◌, ◌≤◌, ℕ, length, Err, IfOk, OnErr};
 ghost use Rattle.std.specs.Option.{option_copied};
 ghost use Rattle.std.specs.FinMap.{get, remove};
-ghost use Rattle.mc_command.specs.Commands.{key_of};
+ghost use Rattle.mc_command.specs.Commands.{key_of, longest_key};
 ghost use Rattle.mc_slab.specs.Classes.{IsClass};
 ghost use Rattle.mc_slab.specs.Slabs.{out_of};
 ghost use Rattle.mc_command.specs.Accounts.{AreOf, held_class, dead_class};
@@ -65,8 +65,8 @@ impl Model for PlainStore {
 }
 
 impl PlainStore {
-    /// Makes a store of no items, with at most that many pages, 1 to 65536, and that greatest charge of
-    /// an item in bytes, at most 1048576.
+    /// Makes a store of no items, with at most that many pages, 1 to 65536, and that greatest charge
+    /// of an item in bytes, at most 1048576. Refused where memory is.
     pub fn new(alloc: Global, pages: u32, greatest: u64) -> Result<PlainStore, AllocError>
         requires pages { (1 ≤ pages) × (pages ≤ 65536) }
         requires greatest { greatest ≤ 1048576 }
@@ -83,7 +83,7 @@ impl PlainStore {
 }
 
 impl PlainStore {
-    /// The item that stands under the key: one that isn't dead.
+    /// Finds the item that stands under the key: one that isn't dead.
     fn standing(&self, key: &[u8], now: Moment) -> Option<&Item>
         ensures { option_copied result ≡ standing self.now key.now now }
     {
@@ -93,14 +93,14 @@ impl PlainStore {
         }
     }
 
-    /// The class of the item that stands under the key.
+    /// Finds the class of the item that stands under the key.
     fn standing_class(&self, key: &[u8], now: Moment) -> Option<Class>
         ensures { result ≡ held_class key.now (standing self.now key.now now) }
     {
         self.standing(key, now)?.class(key)
     }
 
-    /// The class of the key's dead item, where no item stands under it.
+    /// Finds the class of the key's dead item, where no item stands under it.
     fn dead_class(&self, key: &[u8], now: Moment) -> Option<Class>
         ensures { result ≡ dead_class (standing self.now key.now now) key.now self.now }
     {
@@ -110,7 +110,7 @@ impl PlainStore {
         self.items.get(key)?.class(key)
     }
 
-    /// Whether a chunk of the class can be had, once the key's item is dropped if it is dead.
+    /// Tells whether a chunk of the class can be had, once the key's item is dropped if it is dead.
     fn has_room(&self, key: &[u8], class: Class, now: Moment) -> bool
         ensures value { result ≡ has_room (found key.now self.now now) class }
         ensures is_class { IsClass class }
@@ -156,7 +156,8 @@ impl PlainStore {
         given: &Given<'_>,
         now: Moment,
     ) -> Result<Reply, StepFault>
-        ensures { Ends (plain self.old (store_step verb key.now given.now) now) result self.old self.new }
+        ensures { Ends (plain self.old (store_step verb key.now given.now) now)
+            result self.old self.new }
     {
         let Some(write) = given.write_by(verb, self.standing(key, now), now) else {
             self.drop_dead(key, now);
@@ -174,7 +175,8 @@ impl PlainStore {
         unique: u64,
         now: Moment,
     ) -> Result<Reply, StepFault>
-        ensures { Ends (plain self.old (cas_step key.now given.now unique) now) result self.old self.new }
+        ensures { Ends (plain self.old (cas_step key.now given.now unique) now)
+            result self.old self.new }
     {
         let Some(item) = self.standing(key, now) else {
             self.remove(key);
@@ -207,7 +209,8 @@ impl PlainStore {
         exptime: i64,
         now: Moment,
     ) -> Result<Reply, StepFault>
-        ensures { Ends (plain self.old (KeyStep.ReadTouch key.now exptime) now) result self.old self.new }
+        ensures { Ends (plain self.old (KeyStep.ReadTouch key.now exptime) now)
+            result self.old self.new }
     {
         let Some(found) = self.standing(key, now) else {
             self.remove(key);
@@ -279,7 +282,7 @@ impl PlainStore {
         Reply::Flushed
     }
 
-    /// Takes a step.
+    /// Takes a step. A step that writes no item and hits none takes no memory.
     fn taken(&mut self, alloc: Global, step: &KeyStep<'_>, now: Moment) -> Result<Reply, StepFault>
         ensures { Ends (plain self.old step.now now) result self.old self.new }
     {
@@ -333,9 +336,11 @@ impl PlainStore {
     }
 }
 
-/// Counts the items of each class anew, after some are gone. The pages stay. The cost grows with the number of items.
+/// Counts the items of each class anew, after some are gone. The pages stay. The cost grows with the
+/// number of items.
 fn recount(accounts: &mut Accounts, items: &BTreeMap<Vec<u8>, Item>)
-    requires { (class : ℕ) → IsClass class → count_of (items_of items.now.entries) class ≤ out_of accounts.old class }
+    requires { (class : ℕ) → IsClass class →
+        count_of (items_of items.now.entries) class ≤ out_of accounts.old class }
     ensures counts { AreOf (items_of items.now.entries) accounts.new }
     ensures pages { accounts.new.pages ≡ accounts.old.pages }
     ensures limit { accounts.new.limit ≡ accounts.old.limit }
@@ -356,10 +361,12 @@ impl Steps for PlainStore {
     ghost same = { λ old new. new ≡ old };
 
     fn step(&mut self, alloc: Global, step: &KeyStep<'_>, now: Moment) -> Result<Reply, StepFault>
-        requires { length (key_of step.now) ≤ 250 }
-        ensures took { IfOk result (λ reply. plain self.old step.now now ≡ Answered reply self.new) }
+        requires { length (key_of step.now) ≤ longest_key }
+        ensures took { IfOk result
+            (λ reply. plain self.old step.now now ≡ Answered reply self.new) }
         ensures spent { result ≡ Err StepFault.NumbersSpent → plain self.old step.now now ≡ Spent }
-        ensures numbers { plain self.old step.now now ≡ Spent → result ≡ Err StepFault.NumbersSpent }
+        ensures numbers { plain self.old step.now now ≡ Spent →
+            result ≡ Err StepFault.NumbersSpent }
         ensures refused { result ≡ Err StepFault.NoMemory → MayFail (plain self.old step.now now) }
         ensures err { OnErr result (self.new ≡ self.old) }
     {

@@ -2,7 +2,7 @@ ghost use Rattle.std.specs.Prelude.{◌≡◌, ◌+◌, ◌-◌, ◌^◌, ◌++�
 ghost use Rattle.std.specs.Option.{option_copied};
 ghost use Rattle.mc_time.specs.Death as death;
 ghost use Rattle.mc_slab.specs.Classes.{IsClass, class_of};
-ghost use Rattle.mc_command.specs.Plain.{Plain, charge};
+ghost use Rattle.mc_command.specs.Plain.{Plain, charge, chunk_head};
 ghost use Rattle.mc_command.specs.Steps.{storing, stored_by};
 
 use crate::block::Block;
@@ -145,7 +145,8 @@ impl<'a> Given<'a> {
         now: Moment,
     ) -> Option<LentWrite<'b>>
         ensures { (key : List ℕ) (mid : Plain) →
-            storing verb key self.now (option_copied standing.entry) mid now ≡ stored_by result key mid now }
+            storing verb key self.now (option_copied standing.entry) mid now
+            ≡ stored_by result key mid now }
     {
         match standing {
             None => match verb {
@@ -220,7 +221,8 @@ impl Item {
 
     /// Makes the reply of a retrieval that finds it.
     pub(crate) fn hit(&self, alloc: Global) -> Result<Reply, AllocError>
-        ensures { IfOk result (λ reply. reply ≡ Reply.Hit self.now.flags self.now.unique self.now.block) }
+        ensures { IfOk result
+            (λ reply. reply ≡ Reply.Hit self.now.flags self.now.unique self.now.block) }
     {
         Ok(Reply::Hit {
             flags: self.flags,
@@ -246,10 +248,10 @@ impl Item {
     }
 }
 
-/// Finds the charge in bytes of an item of that key and a block so long, or 2^64 - 1 where it is above
-/// that.
+/// Finds the charge in bytes of an item of that key and a block so long, or 2^64 - 1 where it is
+/// above that.
 fn charge_of(key: &[u8], block_len: u64) -> u64
-    ensures { result ≡ min (48 + length key.now + block_len) (2 ^ 64 - 1) }
+    ensures { result ≡ min (chunk_head + length key.now + block_len) (2 ^ 64 - 1) }
 {
     CHUNK_HEAD
         .saturating_add(key.len() as u64)

@@ -1,5 +1,5 @@
-//! The protocol's worked examples at their moments, and each kind of step once. Where an allocation is refused the store
-//! answers as before, and takes the step when it is asked again.
+//! The protocol's worked examples at their moments, and each kind of step once. Where an allocation is
+//! refused the store answers as before, and takes the step when it is asked again.
 
 ghost use Rattle.std.specs.Prelude.{◌≤◌, length};
 ghost use Rattle.mc_command.specs.Commands.{key_of};
@@ -418,7 +418,8 @@ fn a_number_asks_room_where_its_class_changes(rt: HostRuntime) -> Result<(), Fai
     answers(&rt, rt.alloc(), 1, 1048576, &rows)
 }
 
-// What isn't written takes no memory: it is answered at once, also where an allocation would be refused.
+// What isn't written takes no memory: it is answered at once, also where an allocation would be
+// refused.
 
 /// What a step is answered that isn't asked again.
 fn told_at_once(

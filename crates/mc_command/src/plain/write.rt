@@ -1,12 +1,13 @@
-//! How the plain store writes: it finds out first whether the write can be made, and copies the block
-//! only then.
+//! How the plain store writes: it finds out first whether the write can be made, and copies the
+//! block only then.
 
 ghost use Rattle.std.specs.Prelude.{◌≡◌, ◌≢◌, ◌-◌, ◌^◌, ◌==◌, nat_lt, true, if◌then◌else◌, Some, None, IsTrue, OnOk, OnErr};
 ghost use Rattle.std.specs.FinMap.{get};
-ghost use Rattle.mc_slab.specs.Classes.{IsClass, class_holding};
+ghost use Rattle.mc_slab.specs.Classes.{IsClass};
 ghost use Rattle.mc_command.specs.Laws.{of_class};
-ghost use Rattle.mc_command.specs.Plain.{standing, charge, has_room, CopiesBlock};
-ghost use Rattle.mc_command.specs.Steps.{Ends, Prepares, IsReady, found, writing, rewritten, placed, done};
+ghost use Rattle.mc_command.specs.Plain.{charge, block_class, has_room, CopiesBlock};
+ghost use Rattle.mc_command.specs.Steps.{Ends, Prepares, IsReady, StaysIn};
+ghost use Rattle.mc_command.specs.Steps.{found, writing, rewritten, placed, done};
 
 use crate::plain::PlainStore;
 use crate::plain::item::{Item, LentWrite, Written};
@@ -31,7 +32,7 @@ impl PlainStore {
     /// Finds the class that holds a write; none where its charge is above the greatest.
     fn class_for(&self, key: &[u8], write: &LentWrite<'_>) -> Option<Class>
         ensures { result ≡ (if nat_lt self.now.greatest (charge key.now write.now.block) then None
-            else Some (class_holding (charge key.now write.now.block))) }
+            else Some (block_class key.now write.now.block)) }
     {
         if self.greatest < write.charge(key) {
             return None;
@@ -59,9 +60,9 @@ impl PlainStore {
         now: Moment,
     ) -> Result<Next, StepFault>
         requires reply { CopiesBlock reply }
-        requires stays { stays ≡ true →
-            of_class key.now (standing self.now key.now now) (class_holding (charge key.now write.now.block)) ≡ 1 }
-        ensures { Prepares (writing stays reply write.now key.now self.now now) result key.now self.now now }
+        requires stays { stays ≡ true → StaysIn self.now key.now write.now now }
+        ensures { Prepares (writing stays reply write.now key.now self.now now)
+            result key.now self.now now }
     {
         let Some(class) = self.class_for(key, write) else {
             return Ok(Next::Answer(Reply::TooLarge));
@@ -105,8 +106,8 @@ impl PlainStore {
         }
     }
 
-    /// Writes in a chunk of the class, in place of the key's old item, dead or not. Refused, nothing
-    /// changes.
+    /// Writes in a chunk of the class, in place of the key's old item, dead or not. Refused, it
+    /// changes nothing.
     fn put(
         &mut self,
         alloc: Global,
@@ -115,7 +116,7 @@ impl PlainStore {
         written: Written,
         now: Moment,
     ) -> Result<(), AllocError>
-        requires class { class ≡ class_holding (charge key.now written.block) }
+        requires class { class ≡ block_class key.now written.block }
         requires is_class { IsClass class }
         requires room { IsTrue (has_room (found key.now self.old now) class) }
         requires number { self.old.next_unique ≢ 2 ^ 64 - 1 }
@@ -137,7 +138,8 @@ impl PlainStore {
     /// Writes in the chunk of the item that stands under the key, whose class stays. It takes no
     /// memory.
     fn put_in_place(&mut self, key: &[u8], written: Written, now: Moment)
-        requires class { of_class key.now (get self.old.items key.now) (class_holding (charge key.now written.block)) ≡ 1 }
+        requires class { of_class key.now (get self.old.items key.now)
+            (block_class key.now written.block) ≡ 1 }
         requires number { self.old.next_unique ≢ 2 ^ 64 - 1 }
         ensures { self.new ≡ rewritten written key.now self.old now }
     {
