@@ -38,9 +38,9 @@ pub record Entry : Type 0 where
 abbrev pub Items : Type 0
 Items = FinMap (slice_cmp nat_cmp) Entry
 
--- The state: the items, the flush that is waiting or has come, the number that the next write draws,
--- and how many pages each slab class has, class 1 first. Beside them, what no step changes: the
--- greatest charge and the limit of pages.
+-- The state: the items, the flush that is waiting or has come, the number that the next write
+-- draws, and how many pages each slab class has, class 1 first. Beside them, what no step changes:
+-- the greatest charge and the limit of pages.
 pub record Plain : Type 0 where
   pub greatest : ℕ
   pub limit : ℕ
@@ -270,17 +270,18 @@ written old key flags expiry block now = record old {
   next_unique = old.next_unique + 1;
 }
 
--- A write, of an item that stays in the old one's chunk or takes one of its class. It is asked first
--- whether the charge is at most the greatest, then whether a unique number is left, and then, of one
--- that takes a chunk, whether one can be had.
+-- A write, of an item that stays in the old one's chunk or takes one of its class. It is asked
+-- first whether the charge is at most the greatest, then whether a unique number is left, and then,
+-- of one that takes a chunk, whether one can be had.
 abbrev pub wrote
-    : (stays : Bool) → Reply → List ℕ → (flags : ℕ) → Expiry → (block : List ℕ) → Plain → ℕ → Outcome
+    : (stays : Bool) → Reply → List ℕ → (flags : ℕ) → Expiry → (block : List ℕ) → Plain → ℕ
+    → Outcome
 wrote stays reply key flags expiry block old now =
     if nat_lt old.greatest (charge key block) then Answered TooLarge old
     else if old.next_unique == 2 ^ 64 - 1 then Spent
     else if stays then Answered reply (written old key flags expiry block now)
-    else if has_room old (block_class key block)
-    then Answered reply (written (with_chunk old (block_class key block)) key flags expiry block now)
+    else if has_room old (block_class key block) then
+      Answered reply (written (with_chunk old (block_class key block)) key flags expiry block now)
     else Answered NoChunk old
 
 -- the key's item with another expiry, if there is one
@@ -308,8 +309,8 @@ changed (Writes draft) step item old now =
     wrote (keeps_chunk draft.body key item) (write_reply draft.body) key draft.flags draft.expiry
     (written_block draft.body (block_of step) item) old now
 
--- a step at its key: the key's dead item is dropped, and then the step's row applies to the item that
--- stands
+-- a step at its key: the key's dead item is dropped, and then the step's row applies to the item
+-- that stands
 abbrev pub stepped : Plain → KeyStep → ℕ → Outcome
 stepped old step now =
     let item = standing old (key_of step) now in
@@ -372,7 +373,8 @@ moment_expiry-expiry_moment (At moment) = refl
 
 abbrev pub coded_expiry : Coded Expiry
 coded_expiry =
-    code_by (Option ℕ) (coded_option coded_ℕ) expiry_moment moment_expiry moment_expiry-expiry_moment
+    code_by (Option ℕ) (coded_option coded_ℕ) expiry_moment moment_expiry
+    moment_expiry-expiry_moment
 
 abbrev pub coded_entry : Coded Entry
 coded_entry =

@@ -18,17 +18,17 @@ pub fn other_keys_stay()
 {}
 
 /// States that a step on one key depends on that key's item, the cut, the next unique number, the
-/// greatest charge, and for which classes there is room: states that agree there give one answer, and
-/// agree at the key and in those numbers after it.
+/// greatest charge, and for which classes there is room: states that agree there give one answer,
+/// and agree at the key and in those numbers after it.
 pub fn one_key_decides()
     ensures { (a b : Plain) (step : KeyStep) (now : ℕ) →
         IsOnKey step → AgreeAt (key_of step) a b → HaveSameRoom step now a b →
         AgreeAfter (key_of step) (plain a step now) (plain b step now) }
 {}
 
-/// States that a step is refused for want of a chunk exactly where what it writes takes one, is not too
-/// large, can draw a unique number, and finds no room. Nothing changes then, but that a dead item of
-/// the key is dropped.
+/// States that a step is refused for want of a chunk exactly where what it writes takes one, is not
+/// too large, can draw a unique number, and finds no room. Nothing changes then, but that a dead
+/// item of the key is dropped.
 pub fn refused_without_room()
     ensures exactly { (old : Plain) (step : KeyStep) (now : ℕ) →
         IsOnKey step → (plain old step now ≡ Answered Reply.NoChunk (found_by step now old))
@@ -37,7 +37,8 @@ pub fn refused_without_room()
         plain old step now ≡ Answered Reply.NoChunk new → new ≡ found_by step now old }
 {}
 
-/// States that no step takes a page from a class, changes the limit, or has more pages than the limit.
+/// States that no step takes a page from a class, changes the limit, or has more pages than the
+/// limit.
 pub fn pages_stay()
     ensures never_fall { (old new : Plain) (step : KeyStep) (now : ℕ) (reply : Reply) (class : ℕ) →
         plain old step now ≡ Answered reply new → pages_of old class ≤ pages_of new class }
@@ -48,8 +49,8 @@ pub fn pages_stay()
         sum old.pages ≤ old.limit → sum new.pages ≤ new.limit }
 {}
 
-/// States how many items of a class there are after each change of the items: an item that is put takes
-/// the place of the key's old one, and one that is taken out counts no more.
+/// States how many items of a class there are after each change of the items: an item that is put
+/// takes the place of the key's old one, and one that is taken out counts no more.
 pub fn counts_follow()
     ensures empty { (class : ℕ) → count_of empty class ≡ 0 }
     ensures insert { (items : Items) (key : List ℕ) (item : Entry) (class : ℕ) →
@@ -73,8 +74,8 @@ pub fn the_dead_stay_dead()
         is_dead expiry updated cut later ≡ true }
 {}
 
-/// States that a flush at once leaves no item. One with a delay leaves those that are alive, and none of
-/// them stands at its moment or later while it was updated before that.
+/// States that a flush at once leaves no item. One with a delay leaves those that are alive, and
+/// none of them stands at its moment or later while it was updated before that.
 pub fn flushes_empty()
     ensures once { (old new : Plain) (now : ℕ) (reply : Reply) (key : List ℕ) →
         plain old (KeyStep.Flush 0) now ≡ Answered reply new → get new.items key ≡ None }

@@ -5,8 +5,8 @@ ghost use Rattle.mc_command.specs.Words.{is_space};
 ghost use Rattle.mc_command.specs.Numbers.{number_up_to};
 ghost use Rattle.mc_command.specs.Plain.{number_of, counted};
 
-/// Reads the number that one or more decimal digits write; none where another byte is there, or where
-/// the number is above `limit`. Leading zeros are allowed. The cost grows with the length.
+/// Reads the number that one or more decimal digits write; none where another byte is there, or
+/// where the number is above `limit`. Leading zeros are allowed. The cost grows with the length.
 pub fn number_up_to(limit: u64, word: &[u8]) -> Option<u64>
     ensures { result ≡ number_up_to limit word.now }
 {
@@ -25,8 +25,8 @@ pub fn number_up_to(limit: u64, word: &[u8]) -> Option<u64>
     if number <= limit { Some(number) } else { None }
 }
 
-/// Reads the number that a block is: 1 to 20 digits of a value below 2^64, and then any number of spaces
-/// and nothing else; none of any other block. The cost grows with its length.
+/// Reads the number that a block is: 1 to 20 digits of a value below 2^64, and then any number of
+/// spaces and nothing else; none of any other block. The cost grows with its length.
 pub fn number_of(block: &[u8]) -> Option<u64>
     ensures { result ≡ number_of block.now }
 {
@@ -52,8 +52,8 @@ fn is_blank(text: &[u8]) -> bool
     text.iter().all(|byte| *byte == b' ')
 }
 
-/// Counts a number up by incr, which wraps at 2^64, or down by decr, which stops at 0 (protocol.txt,
-/// "Increment/Decrement").
+/// Counts a number up by incr, which wraps at 2^64, or down by decr, which stops at 0
+/// (protocol.txt, "Increment/Decrement").
 pub fn counted(up: bool, by: u64, old: u64) -> u64
     ensures { result ≡ counted up by old }
 {

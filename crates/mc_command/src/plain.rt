@@ -65,8 +65,8 @@ impl Model for PlainStore {
 }
 
 impl PlainStore {
-    /// Makes a store of no items, with at most that many pages, 1 to 65536, and that greatest charge
-    /// of an item in bytes, at most 1048576. Refused where memory is.
+    /// Makes a store of no items, with at most that many pages, 1 to 65536, and that greatest
+    /// charge of an item in bytes, at most 1048576. Refused where memory is.
     pub fn new(alloc: Global, pages: u32, greatest: u64) -> Result<PlainStore, AllocError>
         requires pages { (1 ≤ pages) × (pages ≤ 65536) }
         requires greatest { greatest ≤ 1048576 }
@@ -336,8 +336,8 @@ impl PlainStore {
     }
 }
 
-/// Counts the items of each class anew, after some are gone. The pages stay. The cost grows with the
-/// number of items.
+/// Counts the items of each class anew, after some are gone. The pages stay. The cost grows with
+/// the number of items.
 fn recount(accounts: &mut Accounts, items: &BTreeMap<Vec<u8>, Item>)
     requires { (class : ℕ) → IsClass class →
         count_of (items_of items.now.entries) class ≤ out_of accounts.old class }

@@ -50,8 +50,8 @@ impl Accounts {
         }
     }
 
-    /// Tells whether a chunk of the class can be had, once an item of the other class, if there is one,
-    /// has given its chunk back.
+    /// Tells whether a chunk of the class can be had, once an item of the other class, if there is
+    /// one, has given its chunk back.
     pub(crate) fn has_room(&self, class: Class, leaving: Option<Class>) -> bool
         ensures value { result ≡ has_room (left self.now leaving) class }
         ensures is_class { IsClass class }

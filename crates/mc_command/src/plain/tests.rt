@@ -1,5 +1,5 @@
-//! The protocol's worked examples at their moments, and each kind of step once. Where an allocation is
-//! refused the store answers as before, and takes the step when it is asked again.
+//! The protocol's worked examples at their moments, and each kind of step once. Where an allocation
+//! is refused the store answers as before, and takes the step when it is asked again.
 
 ghost use Rattle.std.specs.Prelude.{◌≤◌, length};
 ghost use Rattle.mc_command.specs.Commands.{key_of};
