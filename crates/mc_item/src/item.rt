@@ -3,7 +3,7 @@
 ghost use Rattle.std.specs.Prelude.{◌≡◌, ◌+◌, ◌≤◌, ◌++◌, length, decimal};
 ghost use Rattle.mc_slab.specs.Classes.{size_of};
 ghost use Rattle.mc_slab.specs.Chunks.{chunk_class, IsChunkOf};
-ghost use Rattle.mc_item.specs.Items.{IsItem, charge_of};
+ghost use Rattle.mc_item.specs.Items.{IsItem, charge_of, header_size, longest_key};
 ghost use Rattle.mc_item.specs.Layout.{item_in};
 
 use crate::header::{
@@ -57,8 +57,9 @@ impl Model for Item {
 impl Item {
     /// The item of those parts, in that chunk. It copies the key and the block.
     pub fn write(mut chunk: Chunk, parts: Parts<'_>) -> Item
-        requires key { length parts.key.now ≤ 250 }
-        requires room { 48 + length parts.key.now + length parts.first.now + length parts.second.now ≤ length chunk }
+        requires key { length parts.key.now ≤ longest_key }
+        requires room { header_size + length parts.key.now
+            + length parts.first.now + length parts.second.now ≤ length chunk }
         ensures value { result ≡ record {
           key = parts.entry.key.now;
           flags = parts.entry.flags;
@@ -152,8 +153,13 @@ impl Item {
     /// Its block becomes the number's decimal digits, with nothing before or behind them. The key, the flags and the expiry
     /// stay. It writes in place.
     pub fn rewrite_number(&mut self, number: u64, unique: u64, updated: Moment)
-        requires room { 48 + length self.old.key + length (decimal number) ≤ size_of self.old.class }
-        ensures value { self.new ≡ record self.old { block = decimal number; unique = unique; updated = updated } }
+        requires room { header_size + length self.old.key + length (decimal number)
+            ≤ size_of self.old.class }
+        ensures value { self.new ≡ record self.old {
+          block = decimal number;
+          unique = unique;
+          updated = updated;
+        } }
         ensures is_item { IsItem self.new }
     {
         write_number(self.chunk.bytes_mut(), number, unique, updated);

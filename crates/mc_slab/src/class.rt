@@ -101,13 +101,15 @@ fn smaller_sizes(charge: u64) -> usize
     SIZES.partition_point(|size| u64::from(*size) < charge)
 }
 
-/// The smallest class whose chunks hold a charge of that many bytes; none above 1048576. It takes at most six comparisons.
+/// Finds the smallest class whose chunks hold a charge of that many bytes; there is none above
+/// 1048576. It takes at most six comparisons.
 pub fn class_of(charge: u64) -> Option<Class>
     ensures value { result ≡ class_of charge }
     ensures none { IsNone result ↔ (1048576 < charge) }
     ensures is_class { IfSome result IsClass }
     ensures holds { IfSome result (λ class. charge ≤ size_of class) }
-    ensures smallest { IfSome result (λ class. (smaller : ℕ) → 1 ≤ smaller → smaller < class → size_of smaller < charge) }
+    ensures smallest { IfSome result (λ class.
+        (smaller : ℕ) → 1 ≤ smaller → smaller < class → size_of smaller < charge) }
 {
     let smaller = smaller_sizes(charge);
     if smaller < SIZES.len() {

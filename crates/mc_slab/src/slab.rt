@@ -1,9 +1,23 @@
 //! The slab: pages that go to classes, and the chunks that are taken of them.
 
-ghost use Rattle.std.specs.Prelude.{◌≡◌, ℕ, ◌+◌, ◌-◌, ◌<◌, ◌≤◌, ◌↔◌, ◌⊎◌, map, IfOk, IfErr, OnOk, OnErr, Err};
+ghost use Rattle.std.specs.Prelude.{◌≡◌, ℕ, ◌<◌, ◌≤◌, ◌↔◌, ◌⊎◌, map, IfOk, IfErr, OnOk, OnErr, Err};
 ghost use Rattle.std.specs.List.{range_with_len};
 ghost use Rattle.mc_slab.specs.Chunks.{IsChunkOf, chunk_class};
-ghost use Rattle.mc_slab.specs.Slabs.{IsSlab, IsFull, untouched, empty_stock, pages_of, out_of, chunks_of, pages_left, with_chunk, taken, given};
+ghost use Rattle.mc_slab.specs.Slabs.{
+  IsSlab,
+  WantsPage,
+  TellsFull,
+  full_fault,
+  untouched,
+  empty_stock,
+  pages_of,
+  out_of,
+  chunks_of,
+  pages_left,
+  with_chunk,
+  taken,
+  given,
+};
 ghost use Rattle.mc_slab.specs.declared.slab.TakeFault.TheVariants.{NoMemory};
 
 use crate::chunk::Chunk;
@@ -78,9 +92,11 @@ impl Slab {
     pub fn take(&mut self, alloc: Global, class: Class) -> Result<Chunk, TakeFault>
         ensures chunk { IfOk result (IsChunkOf class) }
         ensures taken { OnOk result (self.new ≡ taken self.old class) }
-        ensures full { (pages out : ℕ) → (result ≡ Err (TakeFault.Full class pages out)) ↔ (IsFull self.old class × (pages ≡ pages_of self.old class) × (out ≡ out_of self.old class)) }
-        ensures no_memory { result ≡ Err TakeFault.NoMemory → (out_of self.old class ≡ chunks_of self.old class) × (0 < pages_left self.old) }
-        ensures faults { IfErr result (λ fault. (fault ≡ TakeFault.NoMemory) ⊎ (fault ≡ TakeFault.Full class (pages_of self.old class) (out_of self.old class))) }
+        ensures full { (pages out : ℕ) → (result ≡ Err (TakeFault.Full class pages out))
+            ↔ TellsFull self.old class pages out }
+        ensures no_memory { result ≡ Err TakeFault.NoMemory → WantsPage self.old class }
+        ensures faults { IfErr result (λ fault.
+            (fault ≡ TakeFault.NoMemory) ⊎ (fault ≡ full_fault self.old class)) }
         ensures err { OnErr result (self.new ≡ self.old) }
         ensures is_slab { OnOk result (IsSlab self.new) }
     {
@@ -93,9 +109,11 @@ impl Slab {
     fn make_ready(&mut self, alloc: Global, class: Class) -> Result<(), TakeFault>
         ensures ready { OnOk result (self.new ≡ with_chunk self.old class) }
         ensures free { OnOk result (out_of self.new class < chunks_of self.new class) }
-        ensures full { (pages out : ℕ) → (result ≡ Err (TakeFault.Full class pages out)) ↔ (IsFull self.old class × (pages ≡ pages_of self.old class) × (out ≡ out_of self.old class)) }
-        ensures no_memory { result ≡ Err TakeFault.NoMemory → (out_of self.old class ≡ chunks_of self.old class) × (0 < pages_left self.old) }
-        ensures faults { IfErr result (λ fault. (fault ≡ TakeFault.NoMemory) ⊎ (fault ≡ TakeFault.Full class (pages_of self.old class) (out_of self.old class))) }
+        ensures full { (pages out : ℕ) → (result ≡ Err (TakeFault.Full class pages out))
+            ↔ TellsFull self.old class pages out }
+        ensures no_memory { result ≡ Err TakeFault.NoMemory → WantsPage self.old class }
+        ensures faults { IfErr result (λ fault.
+            (fault ≡ TakeFault.NoMemory) ⊎ (fault ≡ full_fault self.old class)) }
         ensures err { OnErr result (self.new ≡ self.old) }
     {
         let stock = &mut self.stocks[class.index()];
@@ -124,7 +142,8 @@ impl Slab {
 
     /// What the class has.
     pub fn account(&self, class: Class) -> Account
-        ensures value { result ≡ record { pages = pages_of self.now class; out = out_of self.now class } }
+        ensures value { result
+            ≡ record { pages = pages_of self.now class; out = out_of self.now class } }
         ensures is_slab { IsSlab self.now }
     {
         let stock = &self.stocks[class.index()];
