@@ -67,7 +67,7 @@ impl Class {
         usize::from(self.number) - 1
     }
 
-    /// Its number, from 1 to 40.
+    /// Gives its number, 1 to 40.
     pub fn number(self) -> u8
         ensures value { result ≡ self }
         ensures is_class { IsClass result }
@@ -75,7 +75,7 @@ impl Class {
         self.number
     }
 
-    /// How many bytes a chunk of it has.
+    /// Gives the size of its chunks, 96 to 1048576 bytes.
     pub fn size(self) -> u32
         ensures value { result ≡ size_of self }
         ensures range { (96 ≤ result) × (result ≤ 1048576) }
@@ -84,7 +84,7 @@ impl Class {
         SIZES[usize::from(self.number) - 1]
     }
 
-    /// How many chunks of it a page gives.
+    /// Counts the chunks of it that a page of 1048576 bytes gives, 1 to 10922.
     pub fn chunks_a_page(self) -> u32
         ensures value { result ≡ chunks_a_page self }
         ensures range { (1 ≤ result) × (result ≤ 10922) }

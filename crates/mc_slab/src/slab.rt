@@ -75,7 +75,8 @@ impl Model for Slab {
 }
 
 impl Slab {
-    /// A slab of that many pages, 1 to 65536, none of which has gone to a class.
+    /// Makes a slab of at most that many pages, 1 to 65536, none of which a class has yet. The one
+    /// error is a refused allocation.
     pub fn new(alloc: Global, pages: u32) -> Result<Slab, AllocError>
         requires { (1 ≤ pages) × (pages ≤ 65536) }
         ensures value { IfOk result (λ slab. slab ≡ untouched pages) }
@@ -87,8 +88,8 @@ impl Slab {
         })
     }
 
-    /// Takes a chunk of the class, of any content. A page goes to the class only where all its chunks are out, and only that
-    /// takes memory.
+    /// Takes a chunk of the class, of any content. A page goes to the class only where all its
+    /// chunks are out, and only that takes memory. Refused, the slab is as it was.
     pub fn take(&mut self, alloc: Global, class: Class) -> Result<Chunk, TakeFault>
         ensures chunk { IfOk result (IsChunkOf class) }
         ensures taken { OnOk result (self.new ≡ taken self.old class) }
@@ -140,7 +141,7 @@ impl Slab {
         stock.give(chunk);
     }
 
-    /// What the class has.
+    /// Counts the class's pages, and its chunks that are out.
     pub fn account(&self, class: Class) -> Account
         ensures value { result
             ≡ record { pages = pages_of self.now class; out = out_of self.now class } }
@@ -150,7 +151,7 @@ impl Slab {
         stock.account()
     }
 
-    /// How many pages no class has yet.
+    /// Counts the pages that no class has yet.
     pub fn pages_left(&self) -> u32
         ensures value { result ≡ pages_left self.now }
         ensures is_slab { IsSlab self.now }
