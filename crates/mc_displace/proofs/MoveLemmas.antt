@@ -1,6 +1,6 @@
 -- Which entries can be moved into an empty bucket.
-use Rattle.std.proofs.Common.{◌≡◌, ℕ, zero, suc, ◌+◌, ◌-◌, ◌<◌, ◌≤◌, Bool, true, false, cond, eqb, List, Option, Some, None, length, get_or, refl, sym, ap, subst, ◌∙◌, arith, ◌⊎◌, ⊎_elim}
-use Rattle.std.proofs.lemmas.Bool.{cases_eq, eqb-true, eq-eqb}
+use Rattle.std.proofs.Common.{◌≡◌, ℕ, ◌+◌, ◌-◌, ◌<◌, ◌≤◌, Bool, cond, List, Option, Some, None, length, get_or, sym, ap, ◌∙◌, arith, ⊎_elim}
+use Rattle.std.proofs.lemmas.Bool.{cases_eq, eq-eqb}
 use Rattle.std.specs.Int.{bit_at}
 use Rattle.mc_hop.specs.Tables.{home_in, homed}
 use Rattle.mc_displace.specs.Moves.{IsMovable}

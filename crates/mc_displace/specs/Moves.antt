@@ -1,5 +1,5 @@
 -- Which entry can be moved into an empty bucket, and where bringing one near ends.
-use Rattle.std.specs.Prelude.{◌≡◌, ℕ, ◌+◌, ◌<◌, ◌≤◌, List, Option, Some, None, length, slice_index_or}
+use Rattle.std.specs.Prelude.{◌≡◌, ℕ, ◌+◌, ◌<◌, ◌≤◌, List, Option, Some, None, slice_index_or}
 use Rattle.mc_hop.specs.Tables.{home_in}
 
 -- the bucket's entry stands before the empty bucket, and that is within 31 of its home

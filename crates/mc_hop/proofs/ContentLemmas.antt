@@ -1,5 +1,5 @@
 -- What a change of one bucket changes in the table's content.
-use Rattle.std.proofs.Common.{◌≡◌, ℕ, zero, suc, ◌+◌, ◌<◌, ◌≤◌, Bool, true, false, cond, true≢false, List, [], ◌∷◌, Option, Some, None, length, get_or, set, refl, sym, ap, subst, ◌∙◌, arith, ◌⊎◌, ⊎_elim}
+use Rattle.std.proofs.Common.{◌≡◌, ℕ, zero, suc, ◌<◌, Bool, true, false, cond, List, [], ◌∷◌, Option, Some, None, length, get_or, set, refl, sym, ap, subst, ◌∙◌, arith, ⊎_elim}
 use Rattle.std.proofs.lemmas.Bool.{cases_eq}
 use Rattle.std.proofs.lemmas.Option.{none-some}
 use Rattle.std.proofs.lemmas.List.{length-set, set-set, set-get_or, get_or-set_same, get_or-set_other}
@@ -7,8 +7,8 @@ use Rattle.std.specs.Ordering.{nat_cmp, eq_by_cmp, is_eq}
 use Rattle.std.specs.declared.cmp.Ordering.{Ordering}
 use Rattle.std.specs.declared.cmp.Ordering.TheVariants.{Less, Equal, Greater}
 use Rattle.std.specs.Cmp.Lexicographic.{slice_cmp, nat_list_cmp_total}
-use Rattle.std.specs.FinMap.{find, get, insert, remove, get-insert, get-remove, get-from_entries, same_map, nat_cmp-IsAntisymmetric, slice_cmp-IsAntisymmetric}
-use Rattle.mc_hop.specs.Tables.{IsAt, IsAbsent}
+use Rattle.std.specs.FinMap.{FinMap, find, get, insert, remove, get-insert, get-remove, get-from_entries, same_map, nat_cmp-IsAntisymmetric, slice_cmp-IsAntisymmetric}
+use Rattle.mc_hop.specs.Tables.{IsAbsent}
 use Rattle.mc_hop.specs.Contents.{rows, content}
 
 abbrev order : List ℕ → List ℕ → Ordering
@@ -129,3 +129,24 @@ module _ {X : Type 0} (hash_of : X → ℕ) (key_of : X → List ℕ) where
       let whole : set (set items at None) at (Some x) ≡ items = set-set items at None (Some x) ∙ ap (set items at) (sym e) ∙ set-get_or items at None in
       ap (content hash_of key_of) (sym whole)
       ∙ content-put (set items at None) at x (subst (λ (n : ℕ). at < n) (sym (length-set items at None)) l) (get_or-set_same items at None None l) (gone_after items at x alone l)
+
+  -- another entry of the same hash and key in its place
+  insert_again : (m : FinMap order X) (q : List ℕ) (x y : X) → insert (insert m q x) q y ≡ insert m q y
+  insert_again m q x y =
+      same_map nat_list_cmp_total (slice_cmp-IsAntisymmetric nat_cmp-IsAntisymmetric) _ _ (λ p.
+      get-insert nat_list_cmp_total (insert m q x) q y p
+      ∙ ap (cond (same p q) (Some y)) (get-insert nat_list_cmp_total m q x p)
+      ∙ twice (same p q) (Some y) (Some x) (get m p)
+      ∙ sym (get-insert nat_list_cmp_total m q y p)) where
+        twice : (b : Bool) (a o r : Option X) → cond b a (cond b o r) ≡ cond b a r
+        twice true a o r = refl
+        twice false a o r = refl
+
+  pub content-over : (items : List (Option X)) (at : ℕ) (x y : X) → get_or items at None ≡ Some x → hash_of y ≡ hash_of x → key_of y ≡ key_of x → ((other : ℕ) (z : X) → get_or items other None ≡ Some z → hash_of z ≡ hash_of x → key_of z ≡ key_of x → other ≡ at) → at < length items → content hash_of key_of (set items at (Some y)) ≡ insert (content hash_of key_of items) (hash_of x ∷ key_of x) y
+  content-over items at x y e same_hash same_keys alone l =
+      let gone = gone_after items at x alone l in
+      let absent : IsAbsent hash_of key_of (set items at None) (hash_of y) (key_of y) = λ p is. gone p (record { entry = is.entry; there = is.there; same_hash = is.same_hash ∙ same_hash; same_key = is.same_key ∙ same_keys }) in
+      ap (content hash_of key_of) (sym (set-set items at None (Some y)))
+      ∙ content-put (set items at None) at y (subst (λ (n : ℕ). at < n) (sym (length-set items at None)) l) (get_or-set_same items at None None l) absent
+      ∙ ap (λ (q : List ℕ). insert (content hash_of key_of (set items at None)) q y) (λ i. same_hash i ∷ same_keys i)
+      ∙ sym (ap (λ (m : FinMap order X). insert m (hash_of x ∷ key_of x) y) (content-back items at x e alone l) ∙ insert_again (content hash_of key_of (set items at None)) (hash_of x ∷ key_of x) x y)

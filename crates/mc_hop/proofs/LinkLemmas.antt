@@ -1,9 +1,9 @@
 -- The numbers of buckets and the places of values: what putting and taking a value changes.
-use Rattle.std.proofs.Common.{◌≡◌, ◌≢◌, ℕ, zero, suc, ◌+◌, ◌-◌, ◌<◌, ◌≤◌, ◌^◌, Bool, true, false, cond, List, [], ◌∷◌, ◌++◌, Option, Some, None, is_some, true≢false, replicate, map, length, length-set, length-append, get_or, set, refl, sym, ap, subst, ◌∙◌, arith, ◌⊎◌, inl, inr, ⊎_elim}
+use Rattle.std.proofs.Common.{◌≡◌, ◌≢◌, ℕ, zero, suc, ◌+◌, ◌-◌, ◌<◌, ◌≤◌, ◌^◌, Bool, true, cond, List, [], ◌∷◌, ◌++◌, Option, Some, None, is_some, true≢false, replicate, map, length, length-set, length-append, get_or, set, refl, sym, ap, subst, ◌∙◌, arith, ⊎_elim}
 use Rattle.std.proofs.lemmas.Bool.{cases_eq, cases_lt, lt-ltb, le-ltb}
 use Rattle.std.proofs.lemmas.Option.{none-some, slice_get_read, get_or_from_slice_get}
 use Rattle.std.proofs.Math.Seq.{get_or-append_seam}
-use Rattle.std.proofs.lemmas.List.{length-replicate, get_or_past, map-set, get_or_read, get_or-set_same, get_or-set_other, get_or-map, length-map, same_lists, get_or_append_left, get_or-append_right, ext_get_or}
+use Rattle.std.proofs.lemmas.List.{length-replicate, get_or_past, map-set, get_or-set_same, get_or-set_other, get_or-map, length-map, get_or_append_left, ext_get_or}
 use Rattle.std.specs.Prelude.{slice_get}
 use Rattle.mc_hop.specs.Cells.{CellsState, filled}
 use Rattle.mc_hop.specs.declared.cells.Cell.{Cell}

@@ -1,5 +1,5 @@
 -- One hopscotch table: walks over a hop word, and what a change of one bucket changes.
-use Rattle.std.proofs.Common.{◌≡◌, ◌≢◌, ℕ, ◌+◌, ◌-◌, ◌/◌, ◌<◌, ◌≤◌, ◌^◌, Bool, true, false, cond, eqb, List, [], ◌∷◌, Option, Some, None, zero, suc, replicate, length, length-set, get_or, set, refl, sym, ap, subst, ◌∙◌, arith, ◌⊎◌, inl, inr, ⊎_elim}
+use Rattle.std.proofs.Common.{◌≡◌, ◌≢◌, ℕ, ◌+◌, ◌-◌, ◌/◌, ◌<◌, ◌≤◌, ◌^◌, Bool, cond, eqb, List, [], ◌∷◌, Option, Some, None, zero, suc, replicate, length, length-set, get_or, set, refl, sym, ap, subst, ◌∙◌, arith, ⊎_elim}
 use Rattle.std.proofs.lemmas.Bool.{cases_eq, eq-eqb, ne_eqb}
 use Rattle.std.proofs.lemmas.Option.{none-some}
 use Rattle.std.proofs.lemmas.List.{length-replicate, get_or-set_same, get_or-set_other}
@@ -8,7 +8,7 @@ use Rattle.std.proofs.lemmas.Nat.Bits.{bit_at-zero}
 use Rattle.std.specs.Int.{bit_at}
 use Rattle.mc_hop.specs.Tables.{HopState, IsAt, IsAbsent, IsTable, home_in, homed}
 
-same_Some : {A : Type 0} (x y : A) → Some x ≡ Some y → x ≡ y
+pub same_Some : {A : Type 0} (x y : A) → Some x ≡ Some y → x ≡ y
 same_Some x y e = cc
 
 -- Where a walk from a home stands: of the bits of its word the lowest so many are clear. Each bit that is set in the word is
@@ -196,3 +196,43 @@ pub filled_inside : {X : Type 0} (items : List (Option X)) (at : ℕ) (x : X) �
 filled_inside [] at x e = absurd (none-some x e)
 filled_inside (o ∷ items) zero x e = omega arith
 filled_inside (o ∷ items) (suc at) x e = omega (arith, filled_inside items at x e)
+
+-- another entry of the same hash and key in an entry's place
+pub IsTable-over : {X : Type 0} (hash_of : X → ℕ) (key_of : X → List ℕ) (k : ℕ) (words : List ℕ) (items : List (Option X)) (at : ℕ) (x y : X) → IsTable hash_of key_of k words items → get_or items at None ≡ Some x → hash_of y ≡ hash_of x → key_of y ≡ key_of x → IsTable hash_of key_of k words (set items at (Some y))
+IsTable-over {X} hash_of key_of k words items at x y table there same_hash same_keys = record {
+  least = table.least;
+  most = table.most;
+  words_length = table.words_length;
+  items_length = length-set items at (Some y) ∙ table.items_length;
+  true_hops = λ b j within.
+      ⊎_elim
+      (λ (e : b + j ≡ at).
+      table.true_hops b j within
+      ∙ ap (λ (n : ℕ). homed hash_of k b (get_or items n None)) e
+      ∙ ap (homed hash_of k b) there
+      ∙ ap (λ (h : ℕ). cond (eqb (home_in k h) b) 1 0) (sym same_hash)
+      ∙ sym (ap (λ (n : ℕ). homed hash_of k b (get_or (set items at (Some y)) n None)) e ∙ ap (homed hash_of k b) (get_or-set_same items at (Some y) None inside)))
+      (λ (n : b + j ≡ at → ⊥). table.true_hops b j within ∙ sym (ap (homed hash_of k b) (get_or-set_other items at (b + j) (Some y) None n)))
+      (cases_eq (b + j) at);
+  near = λ p z got.
+      let old = stood p z got in
+      let its = table.near p old.0 old.1 in
+      let home : home_in k (hash_of old.0) ≡ home_in k (hash_of z) = ap (home_in k) old.2 in
+      (subst (λ (n : ℕ). n ≤ p) home its.0, subst (λ (n : ℕ). p ≤ n + 31) home its.1);
+  apart = λ p q z w got other hashes keys.
+      let first = stood p z got in
+      let second = stood q w other in
+      table.apart p q first.0 second.0 first.1 second.1 (first.2 ∙ hashes ∙ sym second.2) (first.3 ∙ keys ∙ sym second.3);
+} where
+  inside : at < length items
+  inside = filled_inside items at x there
+
+  -- what was in a bucket before, with the same hash and key
+  stood : (p : ℕ) (z : X) → get_or (set items at (Some y)) p None ≡ Some z → (o : X) × (get_or items p None ≡ Some o) × (hash_of o ≡ hash_of z) × (key_of o ≡ key_of z)
+  stood p z got =
+      ⊎_elim
+      (λ (e : p ≡ at).
+      let is : y ≡ z = same_Some y z (sym (get_or-set_same items at (Some y) None inside) ∙ ap (λ (n : ℕ). get_or (set items at (Some y)) n None) (sym e) ∙ got) in
+      (x, ap (λ (n : ℕ). get_or items n None) e ∙ there, sym same_hash ∙ ap hash_of is, sym same_keys ∙ ap key_of is))
+      (λ (n : p ≡ at → ⊥). (z, sym (get_or-set_other items at p (Some y) None n) ∙ got, refl, refl))
+      (cases_eq p at)

@@ -1,5 +1,5 @@
 -- How the buckets and the list of values point to each other.
-use Rattle.std.specs.Prelude.{◌≡◌, ◌≢◌, nat_lt, if◌then◌else◌, slice_set, ℕ, zero, suc, ◌+◌, ◌-◌, ◌<◌, ◌≤◌, ◌^◌, List, [], ◌∷◌, Option, Some, None, map, length, slice_get, slice_index_or}
+use Rattle.std.specs.Prelude.{◌≡◌, ◌≢◌, nat_lt, if◌then◌else◌, slice_set, ℕ, zero, suc, ◌+◌, ◌-◌, ◌<◌, ◌≤◌, ◌^◌, List, [], ◌∷◌, Option, None, map, length, slice_get, slice_index_or}
 use Rattle.mc_hop.specs.declared.cells.Cell.{Cell}
 
 -- the words of buckets, and their numbers: one more than the place of the value, or 0

@@ -5,13 +5,13 @@ ghost use Rattle.std.specs.Prelude.{◌∷◌};
 ghost use Rattle.std.specs.FinMap.{insert, remove};
 ghost use Rattle.std.specs.Int.{bit_at};
 ghost use Rattle.mc_hop.specs.Contents.{content};
-ghost use Rattle.mc_hop.specs.Tables.{HopState, home_in, homed, IsAt, IsAbsent, IsFirstFree, NoneFree};
+ghost use Rattle.mc_hop.specs.Cells.{filled};
+ghost use Rattle.mc_hop.specs.Tables.{KeepsKey, HopState, home_in, homed, IsAt, IsAbsent, IsFirstFree, NoneFree};
 
 use crate::bits::{lowest, with_bit, without_bit};
 use crate::cells::Cells;
 use crate::hash::Keyed;
 use crate::reads::{Counts, Uncounted};
-
 use std::alloc::{AllocError, Global};
 use std::marker::Model;
 
@@ -33,7 +33,8 @@ pub struct Hop<T: Keyed + Drop> {
 }
 
 impl<T: Keyed + Drop> Model for Hop<T> {
-    ghost use Rattle.mc_hop.specs.Tables.{HopState, coded_hop, IsTable};
+    ghost use Rattle.mc_hop.specs.Cells.{filled};
+    ghost use Rattle.mc_hop.specs.Tables.{KeepsKey, HopState, coded_hop, IsTable};
 
     ghost Value = { HopState T };
 
@@ -169,6 +170,31 @@ impl<T: Keyed + Drop> Hop<T> {
         let word = self.cells.word(home);
         self.cells.set_word(home, with_bit(word, bit));
         self.cells.put(at, entry);
+    }
+
+    /// Changes the entry of a bucket that has one, by a closure that keeps its hash and its key, and
+    /// hands out what the closure answers beside it. It takes no memory of its own.
+    pub fn update<R, F: FnOnce(T) -> (T, R)>(&mut self, at: usize, change: F) -> R
+        requires filled { is_some (slice_index_or self.old.items at None) ≡ true }
+        requires keeps { (entry : T) → slice_index_or self.old.items at None ≡ Some entry →
+            KeepsKey T.hash_of T.key_of (F.pre change) (F.post change) entry }
+        ensures { (entry : T) → slice_index_or self.old.items at None ≡ Some entry →
+            (pair : T × R) × F.post change entry pair × (result ≡ pair.1)
+            × (self.new ≡ record self.old { items = slice_set self.old.items at (Some pair.0) })
+            × (content T.hash_of T.key_of self.new.items
+            ≡ insert (content T.hash_of T.key_of self.old.items) (T.hash_of entry ∷ T.key_of entry) pair.0) }
+    {
+        let entry = self.cells.take(at);
+        let (entry, answer) = change(entry);
+        self.cells.put(at, entry);
+        answer
+    }
+
+    /// Counts the entries.
+    pub fn len(&self) -> usize
+        ensures { result ≡ filled self.now.items }
+    {
+        self.cells.count()
     }
 
     /// Takes the entry of a bucket out.

@@ -1,4 +1,4 @@
-use Rattle.std.proofs.Common.{◌+◌, ◌<◌, ◌≤◌, ap, is_some, arith}
+use Rattle.std.proofs.Common.{ap, is_some, arith}
 use Rattle.mc_displace.proofs.displace.bring_near.Goals as goal
 
 pub returns-in-None-clause-stuck : goal.returns-in-None-clause-stuck

@@ -1,5 +1,3 @@
-use Rattle.std.proofs.Common.{◌≡◌, ℕ, ◌+◌, ◌≤◌, ◌<◌, Option, None, get_or, length}
-use Rattle.mc_hop.specs.Contents.{content}
 use Rattle.mc_displace.proofs.MoveLemmas.{Brought}
 use Rattle.mc_displace.proofs.displace.bring_near.Given as goal
 

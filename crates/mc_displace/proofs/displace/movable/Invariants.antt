@@ -1,5 +1,3 @@
-use Rattle.std.proofs.Common.{ℕ, ◌<◌}
-use Rattle.mc_hop.specs.Tables.{home_in}
 use Rattle.mc_displace.proofs.MoveLemmas.{NoneOfHomesBelow}
 use Rattle.mc_displace.proofs.displace.movable.Given as goal
 

@@ -1,5 +1,4 @@
-use Rattle.std.proofs.Common.{◌≡◌, ℕ, ◌+◌, ◌≤◌, sym, ap, ◌∙◌, arith}
-use Rattle.mc_hop.specs.Tables.{home_in}
+use Rattle.std.proofs.Common.{sym, ◌∙◌}
 use Rattle.mc_displace.proofs.MoveLemmas.{within_reach}
 use Rattle.mc_displace.proofs.displace.shift.Goals as goal
 

@@ -1,4 +1,4 @@
-use Rattle.std.proofs.Common.{rules, ◌≡◌, ◌<◌, ℕ, arith, w32}
+use Rattle.std.proofs.Common.{arith, w32}
 use Rattle.std.proofs.lemmas.Nat.Bits.{bit_at-trailing_zeros}
 use Rattle.mc_hop.proofs.bits.lowest.Goals as goal
 

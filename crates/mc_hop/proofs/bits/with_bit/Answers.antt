@@ -1,4 +1,4 @@
-use Rattle.std.proofs.Common.{rules, ◌≡◌, ◌<◌, ℕ, arith, w32}
+use Rattle.std.proofs.Common.{w32}
 use Rattle.std.proofs.lemmas.Nat.Bits.{bit_at_set_same, bit_at_set_other}
 use Rattle.mc_hop.proofs.bits.with_bit.Goals as goal
 

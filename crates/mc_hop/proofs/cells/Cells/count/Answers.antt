@@ -1,7 +1,6 @@
-use Rattle.std.proofs.Common.{ℕ, ◌+◌, ◌≤◌, List, Option, ap, sym, subst, ◌∙◌, arith}
-use Rattle.std.specs.Prelude.{map}
+use Rattle.std.proofs.Common.{ap, sym, ◌∙◌, arith}
 use Rattle.mc_hop.specs.Cells.{filled}
-use Rattle.mc_hop.specs.Links.{ats_of, item_of}
+use Rattle.mc_hop.specs.Links.{ats_of}
 use Rattle.mc_hop.proofs.LinkLemmas.{filled_used, seen_items}
 use Rattle.mc_hop.proofs.cells.Cells.count.Goals as goal
 

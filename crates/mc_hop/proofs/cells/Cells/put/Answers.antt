@@ -1,5 +1,5 @@
-use Rattle.std.proofs.Common.{◌≡◌, ℕ, List, Option, ap, sym, subst, ◌∙◌, arith}
-use Rattle.mc_hop.proofs.LinkLemmas.{put_linked, put_items, put_room, same_state, seen_items, seen_words, inside_by}
+use Rattle.std.proofs.Common.{◌∙◌, arith}
+use Rattle.mc_hop.proofs.LinkLemmas.{put_linked, put_items, put_room, same_state, seen_items, seen_words}
 use Rattle.mc_hop.proofs.cells.Cells.put.Goals as goal
 
 pub push_reserved-requires : goal.push_reserved-requires

@@ -1,4 +1,4 @@
-use Rattle.std.proofs.Common.{refl, ap, ◌∙◌, arith}
+use Rattle.std.proofs.Common.{refl, ◌∙◌, arith}
 use Rattle.mc_hop.proofs.LinkLemmas.{take_small, take_linked, take_items, take_here, same_state, seen_items, seen_words, swapped}
 use Rattle.mc_hop.proofs.cells.Cells.take.Goals as goal
 

@@ -1,8 +1,7 @@
-use Rattle.std.proofs.Common.{◌≡◌, ℕ, ◌+◌, ◌<◌, ◌≤◌, List, Option, None, ap, sym, subst, ◌∙◌, arith}
+use Rattle.std.proofs.Common.{ℕ, ap, ◌∙◌, arith}
 use Rattle.std.proofs.lemmas.Nat.Bits.{bit_at-zero}
 use Rattle.std.specs.Int.{bit_at}
-use Rattle.mc_hop.specs.Tables.{HopState, IsAbsent, home_in}
-use Rattle.mc_hop.proofs.TableLemmas.{Walked, absent_after, absent_by_value}
+use Rattle.mc_hop.proofs.TableLemmas.{absent_by_value}
 use Rattle.mc_hop.proofs.table.Hop.find_counted.Goals as goal
 
 pub returns-then-word-eq0-clause-none : goal.returns-then-word-eq0-clause-none

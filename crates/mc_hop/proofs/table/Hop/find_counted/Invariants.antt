@@ -1,4 +1,4 @@
-use Rattle.std.proofs.Common.{ℕ, ◌+◌, ◌≤◌}
+use Rattle.std.proofs.Common.{◌+◌, ◌≤◌}
 use Rattle.mc_hop.proofs.TableLemmas.{Walked}
 use Rattle.mc_hop.proofs.table.Hop.find_counted.Given as goal
 

@@ -1,4 +1,3 @@
-use Rattle.std.proofs.Common.{◌≡◌, ℕ, ◌+◌, ◌<◌, ◌≤◌}
 use Rattle.mc_hop.specs.Tables.{NoneFree}
 use Rattle.mc_hop.proofs.table.Hop.free_from.Given as goal
 

@@ -1,7 +1,5 @@
-use Rattle.std.proofs.Common.{ap, ◌∙◌, ◌<◌, ◌≤◌, ℕ, List, Option, arith}
-use Rattle.std.specs.Prelude.{length}
+use Rattle.std.proofs.Common.{ap}
 use Rattle.mc_hop.specs.Tables.{HopState}
-use Rattle.mc_hop.specs.Contents.{content}
 use Rattle.mc_hop.proofs.TableLemmas.{put_by_value, inside_by}
 use Rattle.mc_hop.proofs.ContentLemmas.{content-put}
 use Rattle.mc_hop.proofs.table.Hop.put_within.Goals as goal
