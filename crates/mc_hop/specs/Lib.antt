@@ -1,1 +1,5 @@
 pub mod Hash
+pub mod Cells
+pub mod Links
+pub mod Tables
+pub mod Contents

@@ -1,6 +1,13 @@
-//! Hashes of keys.
+//! Hashes of keys, and one hopscotch table (Herlihy, Shavit and Tzafrir, "Hopscotch Hashing", DISC 2008).
 #![tactic(auto)]
 
+mod bits;
+mod cells;
 mod hash;
+mod reads;
+mod table;
 
+pub use bits::lowest;
 pub use hash::{Constant, Fnv, KeyHash, Keyed};
+pub use reads::{Counts, Reads, Uncounted};
+pub use table::Hop;

@@ -15,14 +15,22 @@ pub record ItemState : Type 0 where
   pub updated : ℕ
   pub class : ℕ
 
--- how many bytes of its chunk an item takes: a header of 48, its key, and its block
-abbrev pub charge_of : ItemState → ℕ
-charge_of item = 48 + length item.key + length item.block
+-- how many bytes of its chunk an item's header takes
+abbrev pub header_size : ℕ
+header_size = 48
 
--- What is true of every item: it lies in a chunk of a class, its key has at most 250 bytes, and its charge fits the chunk.
+-- how many bytes the longest key has
+abbrev pub longest_key : ℕ
+longest_key = 250
+
+-- how many bytes of its chunk an item takes: its header, its key, and its block
+abbrev pub charge_of : ItemState → ℕ
+charge_of item = header_size + length item.key + length item.block
+
+-- What is true of every item: it lies in a chunk of a class, its key is not too long, and its charge fits the chunk.
 pub record IsItem (item : ItemState) : Type 0 where
   pub is_class : IsClass item.class
-  pub key : length item.key ≤ 250
+  pub key : length item.key ≤ longest_key
   pub fits : charge_of item ≤ size_of item.class
 
 -- how a proof stores an expiry, and an item

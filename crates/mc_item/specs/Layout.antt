@@ -15,7 +15,7 @@ use Rattle.byteorder.specs.Endian.{little_number, little_bytes}
 use Rattle.mc_time.specs.declared.expiry.Expiry.{Expiry}
 use Rattle.mc_time.specs.declared.expiry.Expiry.TheVariants.{Never, At}
 use Rattle.mc_slab.specs.Chunks.{IsChunk, chunk_class}
-use Rattle.mc_item.specs.Items.{ItemState}
+use Rattle.mc_item.specs.Items.{ItemState, header_size, longest_key}
 use Rattle.mc_item.specs.declared.header.Header.{Header}
 
 -- the number in so many bytes from the offset on
@@ -67,10 +67,10 @@ moment_number (At moment) = moment
 
 -- the key, and the block behind it
 abbrev pub key_in : List ℕ → List ℕ
-key_in bytes = take (key_length_in bytes) (drop 48 bytes)
+key_in bytes = take (key_length_in bytes) (drop header_size bytes)
 
 abbrev pub block_in : List ℕ → List ℕ
-block_in bytes = take (block_length_in bytes) (drop (48 + key_length_in bytes) bytes)
+block_in bytes = take (block_length_in bytes) (drop (header_size + key_length_in bytes) bytes)
 
 -- the item that lies in a chunk
 abbrev pub item_in : List ℕ → ItemState
@@ -87,6 +87,6 @@ item_in chunk = record {
 -- An item lies in the bytes: they are a chunk, the key is not too long, the run ends within them, and the moment is one.
 pub record HoldsItem (bytes : List ℕ) : Type 0 where
   pub chunk : IsChunk bytes
-  pub key : key_length_in bytes ≤ 250
-  pub room : 48 + key_length_in bytes + block_length_in bytes ≤ length bytes
+  pub key : key_length_in bytes ≤ longest_key
+  pub room : header_size + key_length_in bytes + block_length_in bytes ≤ length bytes
   pub updated : updated_in bytes ≤ 2 ^ 62

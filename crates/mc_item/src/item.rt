@@ -3,7 +3,7 @@
 ghost use Rattle.std.specs.Prelude.{◌≡◌, ◌+◌, ◌≤◌, ◌++◌, length, decimal};
 ghost use Rattle.mc_slab.specs.Classes.{size_of};
 ghost use Rattle.mc_slab.specs.Chunks.{chunk_class, IsChunkOf};
-ghost use Rattle.mc_item.specs.Items.{IsItem, charge_of};
+ghost use Rattle.mc_item.specs.Items.{IsItem, charge_of, header_size, longest_key};
 ghost use Rattle.mc_item.specs.Layout.{item_in};
 
 use crate::header::{
@@ -55,10 +55,12 @@ impl Model for Item {
 }
 
 impl Item {
-    /// The item of those parts, in that chunk. It copies the key and the block.
+    /// Writes an item of those parts into a chunk. It copies the key and the block, and takes no
+    /// memory.
     pub fn write(mut chunk: Chunk, parts: Parts<'_>) -> Item
-        requires key { length parts.key.now ≤ 250 }
-        requires room { 48 + length parts.key.now + length parts.first.now + length parts.second.now ≤ length chunk }
+        requires key { length parts.key.now ≤ longest_key }
+        requires room { header_size + length parts.key.now
+            + length parts.first.now + length parts.second.now ≤ length chunk }
         ensures value { result ≡ record {
           key = parts.entry.key.now;
           flags = parts.entry.flags;
@@ -83,7 +85,7 @@ impl Item {
         Item { chunk }
     }
 
-    /// Its key, from 0 to 250 bytes.
+    /// Lends its key, 0 to 250 bytes.
     pub fn key(&self) -> &[u8]
         ensures value { result.now ≡ self.now.key }
         ensures is_item { IsItem self.now }
@@ -93,7 +95,7 @@ impl Item {
         &bytes[HEADER..HEADER + length]
     }
 
-    /// Its block.
+    /// Lends its block.
     pub fn block(&self) -> &[u8]
         ensures value { result.now ≡ self.now.block }
         ensures is_item { IsItem self.now }
@@ -104,35 +106,35 @@ impl Item {
         &bytes[start..start + length]
     }
 
-    /// The flags that were stored with it.
+    /// Reads the flags that were stored with it.
     pub fn flags(&self) -> u32
         ensures { result ≡ self.now.flags }
     {
         flags_in(self.chunk.bytes())
     }
 
-    /// When it expires.
+    /// Reads when it expires.
     pub fn expiry(&self) -> Expiry
         ensures { result ≡ self.now.expiry }
     {
         expiry_in(self.chunk.bytes())
     }
 
-    /// The number that no other write has.
+    /// Reads its unique number, which no other write has.
     pub fn unique(&self) -> u64
         ensures { result ≡ self.now.unique }
     {
         unique_in(self.chunk.bytes())
     }
 
-    /// When its block was last written.
+    /// Reads when its block was last written.
     pub fn updated(&self) -> Moment
         ensures { result ≡ self.now.updated }
     {
         updated_in(self.chunk.bytes())
     }
 
-    /// How many bytes of its chunk it takes: 48, and those of its key and its block.
+    /// Counts the bytes of its chunk that it takes: 48 of its header, its key's and its block's.
     pub fn charge(&self) -> u64
         ensures value { result ≡ charge_of self.now }
         ensures is_item { IsItem self.now }
@@ -141,7 +143,7 @@ impl Item {
         HEADER as u64 + key_length_in(bytes) + block_length_in(bytes)
     }
 
-    /// The class of its chunk.
+    /// Finds the class of its chunk.
     pub fn class(&self) -> Class
         ensures value { result ≡ self.now.class }
         ensures is_item { IsItem self.now }
@@ -149,17 +151,22 @@ impl Item {
         self.chunk.class()
     }
 
-    /// Its block becomes the number's decimal digits, with nothing before or behind them. The key, the flags and the expiry
-    /// stay. It writes in place.
+    /// Writes a number in place of its block: the decimal digits, with nothing before or behind
+    /// them. The key, the flags and the expiry stay. It takes no memory.
     pub fn rewrite_number(&mut self, number: u64, unique: u64, updated: Moment)
-        requires room { 48 + length self.old.key + length (decimal number) ≤ size_of self.old.class }
-        ensures value { self.new ≡ record self.old { block = decimal number; unique = unique; updated = updated } }
+        requires room { header_size + length self.old.key + length (decimal number)
+            ≤ size_of self.old.class }
+        ensures value { self.new ≡ record self.old {
+          block = decimal number;
+          unique = unique;
+          updated = updated;
+        } }
         ensures is_item { IsItem self.new }
     {
         write_number(self.chunk.bytes_mut(), number, unique, updated);
     }
 
-    /// It expires then. All else stays.
+    /// Sets its expiry. All else stays.
     pub fn set_expiry(&mut self, expiry: Expiry)
         ensures value { self.new ≡ record self.old { expiry = expiry } }
         ensures is_item { IsItem self.new }
@@ -167,7 +174,7 @@ impl Item {
         write_expiry(self.chunk.bytes_mut(), expiry);
     }
 
-    /// Its chunk, of its class. The item's run still lies in it.
+    /// Gives its chunk back, to be given to the slab or written anew.
     pub fn into_chunk(self) -> Chunk
         ensures chunk { IsChunkOf self.class result }
         ensures run { item_in result ≡ self }

@@ -2,6 +2,7 @@
 
 ghost use Rattle.std.specs.Prelude.{◌≡◌, ◌+◌, ◌≤◌, ◌++◌, length, take, drop, decimal};
 ghost use Rattle.mc_slab.specs.Chunks.{IsChunk, chunk_class};
+ghost use Rattle.mc_item.specs.Items.{header_size, longest_key};
 ghost use Rattle.mc_item.specs.Layout.{item_in, key_length_in, HoldsItem};
 
 use crate::header::{HEADER, Header};
@@ -11,8 +12,10 @@ use mc_time::{Expiry, Moment};
 /// Copies the source to the offset.
 fn put(bytes: &mut [u8], offset: usize, source: &[u8])
     requires { offset + length source.now ≤ length bytes.old }
-    ensures before { take (offset + length source.now) bytes.new ≡ take offset bytes.old ++ source.now }
-    ensures behind { drop (offset + length source.now) bytes.new ≡ drop (offset + length source.now) bytes.old }
+    ensures before { take (offset + length source.now) bytes.new
+        ≡ take offset bytes.old ++ source.now }
+    ensures behind { drop (offset + length source.now) bytes.new
+        ≡ drop (offset + length source.now) bytes.old }
 {
     bytes[offset..offset + source.len()].copy_from_slice(source);
 }
@@ -20,10 +23,11 @@ fn put(bytes: &mut [u8], offset: usize, source: &[u8])
 /// Writes an item into a chunk: the header, the key, and the block, which is `first` followed by `second`.
 pub(crate) fn write_item(bytes: &mut [u8], header: Header, key: &[u8], first: &[u8], second: &[u8])
     requires chunk { IsChunk bytes.old }
-    requires short { length key.now ≤ 250 }
+    requires short { length key.now ≤ longest_key }
     requires key_length { header.key_length ≡ length key.now }
     requires block_length { header.block_length ≡ length first.now + length second.now }
-    requires room { 48 + length key.now + (length first.now + length second.now) ≤ length bytes.old }
+    requires room { header_size + length key.now + (length first.now + length second.now)
+        ≤ length bytes.old }
     ensures value { item_in bytes.new ≡ record {
       key = key.now;
       flags = header.flags;
@@ -45,8 +49,12 @@ pub(crate) fn write_item(bytes: &mut [u8], header: Header, key: &[u8], first: &[
 /// The block of the item in a chunk becomes the number's digits.
 pub(crate) fn write_number(bytes: &mut [u8], number: u64, unique: u64, updated: Moment)
     requires item { HoldsItem bytes.old }
-    requires room { 48 + key_length_in bytes.old + length (decimal number) ≤ length bytes.old }
-    ensures value { item_in bytes.new ≡ record (item_in bytes.old) { block = decimal number; unique = unique; updated = updated } }
+    requires room { header_size + key_length_in bytes.old + length (decimal number) ≤ length bytes.old }
+    ensures value { item_in bytes.new ≡ record (item_in bytes.old) {
+      block = decimal number;
+      unique = unique;
+      updated = updated;
+    } }
     ensures holds { HoldsItem bytes.new }
 {
     let mut buffer = Buffer::new();

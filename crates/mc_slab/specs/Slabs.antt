@@ -1,9 +1,11 @@
 -- What contracts see of a slab, and what taking and giving a chunk change in it.
-use Rattle.std.specs.Prelude.{◌≡◌, ℕ, ◌+◌, ◌-◌, ◌*◌, ◌≤◌, ◌==◌, Bool, ◌||◌, nat_lt, List, map, length, replicate, sum, slice_index, slice_set, refl, if◌then◌else◌}
+use Rattle.std.specs.Prelude.{◌≡◌, ℕ, ◌+◌, ◌-◌, ◌*◌, ◌≤◌, ◌<◌, ◌==◌, Bool, ◌||◌, nat_lt, List, map, length, replicate, sum, slice_index, slice_set, refl, if◌then◌else◌}
 use Rattle.std.specs.Coded.{Coded, code_by, coded×, coded_ℕ, coded_list}
 use Rattle.std.specs.List.{All, range_with_len}
 use Rattle.mc_slab.specs.Classes.{IsClass, chunks_a_page}
 use Rattle.mc_slab.specs.Stocks.{StockState, all_chunks}
+use Rattle.mc_slab.specs.declared.slab.TakeFault.{TakeFault}
+use Rattle.mc_slab.specs.declared.slab.TakeFault.TheVariants.{Full}
 
 -- how many pages the classes may have together, and of each class, class 1 first, its pages and its chunks that are out
 pub record SlabState : Type 0 where
@@ -14,7 +16,9 @@ pub record SlabState : Type 0 where
 -- how a proof stores it
 abbrev pub coded_slab : Coded SlabState
 coded_slab =
-    code_by (ℕ × (List ℕ × List ℕ)) (coded× coded_ℕ (coded× (coded_list coded_ℕ) (coded_list coded_ℕ))) (λ s. (s.limit, (s.pages, s.out)))
+    code_by (ℕ × (List ℕ × List ℕ))
+    (coded× coded_ℕ (coded× (coded_list coded_ℕ) (coded_list coded_ℕ)))
+    (λ s. (s.limit, (s.pages, s.out)))
     (λ p. record { limit = p.0; pages = p.1.0; out = p.1.1 })
     (λ _. refl)
 
@@ -76,6 +80,19 @@ pub record IsSlab (slab : SlabState) : Type 0 where
 pub record IsFull (slab : SlabState) (class : ℕ) : Type 0 where
   pub all_out : out_of slab class ≡ chunks_of slab class
   pub no_page : pages_left slab ≡ 0
+
+-- all chunks of the class are out, and a page is left for it
+abbrev pub WantsPage : SlabState → ℕ → Type 0
+WantsPage slab class = (out_of slab class ≡ chunks_of slab class) × (0 < pages_left slab)
+
+-- what a full class is told with: its pages, and its chunks, which are all out
+abbrev pub TellsFull : SlabState → (class pages out : ℕ) → Type 0
+TellsFull slab class pages out =
+    IsFull slab class × (pages ≡ pages_of slab class) × (out ≡ out_of slab class)
+
+-- the fault that tells so
+abbrev pub full_fault : SlabState → ℕ → TakeFault
+full_fault slab class = Full class (pages_of slab class) (out_of slab class)
 
 -- the stock of a class that has no page
 abbrev pub empty_stock : ℕ → StockState

@@ -40,14 +40,14 @@ impl Chunk {
         Ok(Chunk { bytes })
     }
 
-    /// Its class.
+    /// Finds its class, by its length.
     pub fn class(&self) -> Class
         ensures { IsChunkOf result self.now }
     {
         class_of_size(self.bytes.len())
     }
 
-    /// Its bytes, as many as its class's size.
+    /// Lends its bytes, as many as its class's size.
     pub fn bytes(&self) -> &[u8]
         ensures value { result.now ≡ self.now }
         ensures chunk { IsChunk self.now }
@@ -55,7 +55,7 @@ impl Chunk {
         self.bytes.as_slice()
     }
 
-    /// Its bytes, to be written.
+    /// Lends its bytes, to be written.
     pub fn bytes_mut(&mut self) -> &mut [u8]
         ensures* writes_back { sem 𝓛 (LendsBytes self.entry result) }
         ensures value { result.now ≡ self.old }

@@ -67,7 +67,7 @@ impl Class {
         usize::from(self.number) - 1
     }
 
-    /// Its number, from 1 to 40.
+    /// Gives its number, 1 to 40.
     pub fn number(self) -> u8
         ensures value { result ≡ self }
         ensures is_class { IsClass result }
@@ -75,7 +75,7 @@ impl Class {
         self.number
     }
 
-    /// How many bytes a chunk of it has.
+    /// Gives the size of its chunks, 96 to 1048576 bytes.
     pub fn size(self) -> u32
         ensures value { result ≡ size_of self }
         ensures range { (96 ≤ result) × (result ≤ 1048576) }
@@ -84,7 +84,7 @@ impl Class {
         SIZES[usize::from(self.number) - 1]
     }
 
-    /// How many chunks of it a page gives.
+    /// Counts the chunks of it that a page of 1048576 bytes gives, 1 to 10922.
     pub fn chunks_a_page(self) -> u32
         ensures value { result ≡ chunks_a_page self }
         ensures range { (1 ≤ result) × (result ≤ 10922) }
@@ -101,13 +101,15 @@ fn smaller_sizes(charge: u64) -> usize
     SIZES.partition_point(|size| u64::from(*size) < charge)
 }
 
-/// The smallest class whose chunks hold a charge of that many bytes; none above 1048576. It takes at most six comparisons.
+/// Finds the smallest class whose chunks hold a charge of that many bytes; there is none above
+/// 1048576. It takes at most six comparisons.
 pub fn class_of(charge: u64) -> Option<Class>
     ensures value { result ≡ class_of charge }
     ensures none { IsNone result ↔ (1048576 < charge) }
     ensures is_class { IfSome result IsClass }
     ensures holds { IfSome result (λ class. charge ≤ size_of class) }
-    ensures smallest { IfSome result (λ class. (smaller : ℕ) → 1 ≤ smaller → smaller < class → size_of smaller < charge) }
+    ensures smallest { IfSome result (λ class.
+        (smaller : ℕ) → 1 ≤ smaller → smaller < class → size_of smaller < charge) }
 {
     let smaller = smaller_sizes(charge);
     if smaller < SIZES.len() {

@@ -3,10 +3,19 @@
 ghost use Rattle.std.specs.Prelude.{◌≡◌, ◌/◌, List, [], ◌∷◌, map, Some, None};
 ghost use Rattle.mc_slab.specs.Classes.{chunk_sizes, class_of};
 
-/// The whole table: the chunk sizes, how many chunks a page gives, and the edges between classes.
+/// Says the whole table: the chunk sizes, how many chunks a page gives, and the edges between
+/// classes.
 pub fn table_of_classes()
-    ensures sizes { chunk_sizes ≡ 96 ∷ 120 ∷ 152 ∷ 192 ∷ 240 ∷ 304 ∷ 384 ∷ 480 ∷ 600 ∷ 752 ∷ 944 ∷ 1184 ∷ 1480 ∷ 1856 ∷ 2320 ∷ 2904 ∷ 3632 ∷ 4544 ∷ 5680 ∷ 7104 ∷ 8880 ∷ 11104 ∷ 13880 ∷ 17352 ∷ 21696 ∷ 27120 ∷ 33904 ∷ 42384 ∷ 52984 ∷ 66232 ∷ 82792 ∷ 103496 ∷ 129376 ∷ 161720 ∷ 202152 ∷ 252696 ∷ 315872 ∷ 394840 ∷ 493552 ∷ 1048576 ∷ [] }
-    ensures chunks { map (λ size. 1048576 / size) chunk_sizes ≡ 10922 ∷ 8738 ∷ 6898 ∷ 5461 ∷ 4369 ∷ 3449 ∷ 2730 ∷ 2184 ∷ 1747 ∷ 1394 ∷ 1110 ∷ 885 ∷ 708 ∷ 564 ∷ 451 ∷ 361 ∷ 288 ∷ 230 ∷ 184 ∷ 147 ∷ 118 ∷ 94 ∷ 75 ∷ 60 ∷ 48 ∷ 38 ∷ 30 ∷ 24 ∷ 19 ∷ 15 ∷ 12 ∷ 10 ∷ 8 ∷ 6 ∷ 5 ∷ 4 ∷ 3 ∷ 2 ∷ 2 ∷ 1 ∷ [] }
+    ensures sizes { chunk_sizes ≡
+        96 ∷ 120 ∷ 152 ∷ 192 ∷ 240 ∷ 304 ∷ 384 ∷ 480 ∷ 600 ∷ 752 ∷ 944 ∷ 1184 ∷ 1480 ∷ 1856 ∷
+        2320 ∷ 2904 ∷ 3632 ∷ 4544 ∷ 5680 ∷ 7104 ∷ 8880 ∷ 11104 ∷ 13880 ∷ 17352 ∷ 21696 ∷ 27120 ∷
+        33904 ∷ 42384 ∷ 52984 ∷ 66232 ∷ 82792 ∷ 103496 ∷ 129376 ∷ 161720 ∷ 202152 ∷ 252696 ∷
+        315872 ∷ 394840 ∷ 493552 ∷ 1048576 ∷ [] }
+    ensures chunks { map (λ size. 1048576 / size) chunk_sizes ≡
+        10922 ∷ 8738 ∷ 6898 ∷ 5461 ∷ 4369 ∷ 3449 ∷ 2730 ∷ 2184 ∷ 1747 ∷ 1394 ∷ 1110 ∷ 885 ∷ 708 ∷
+        564 ∷ 451 ∷ 361 ∷ 288 ∷ 230 ∷ 184 ∷ 147 ∷ 118 ∷ 94 ∷ 75 ∷ 60 ∷ 48 ∷ 38 ∷ 30 ∷ 24 ∷ 19 ∷
+        15 ∷ 12 ∷ 10 ∷ 8 ∷ 6 ∷ 5 ∷ 4 ∷ 3 ∷ 2 ∷ 2 ∷ 1 ∷ [] }
     ensures first { (class_of 0 ≡ Some 1) × (class_of 96 ≡ Some 1) × (class_of 97 ≡ Some 2) }
-    ensures last { (class_of 493552 ≡ Some 39) × (class_of 493553 ≡ Some 40) × (class_of 1048576 ≡ Some 40) × (class_of 1048577 ≡ None) }
+    ensures last { (class_of 493552 ≡ Some 39) × (class_of 493553 ≡ Some 40)
+        × (class_of 1048576 ≡ Some 40) × (class_of 1048577 ≡ None) }
 {}

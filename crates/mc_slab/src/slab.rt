@@ -1,9 +1,23 @@
 //! The slab: pages that go to classes, and the chunks that are taken of them.
 
-ghost use Rattle.std.specs.Prelude.{◌≡◌, ℕ, ◌+◌, ◌-◌, ◌<◌, ◌≤◌, ◌↔◌, ◌⊎◌, map, IfOk, IfErr, OnOk, OnErr, Err};
+ghost use Rattle.std.specs.Prelude.{◌≡◌, ℕ, ◌<◌, ◌≤◌, ◌↔◌, ◌⊎◌, map, IfOk, IfErr, OnOk, OnErr, Err};
 ghost use Rattle.std.specs.List.{range_with_len};
 ghost use Rattle.mc_slab.specs.Chunks.{IsChunkOf, chunk_class};
-ghost use Rattle.mc_slab.specs.Slabs.{IsSlab, IsFull, untouched, empty_stock, pages_of, out_of, chunks_of, pages_left, with_chunk, taken, given};
+ghost use Rattle.mc_slab.specs.Slabs.{
+  IsSlab,
+  WantsPage,
+  TellsFull,
+  full_fault,
+  untouched,
+  empty_stock,
+  pages_of,
+  out_of,
+  chunks_of,
+  pages_left,
+  with_chunk,
+  taken,
+  given,
+};
 ghost use Rattle.mc_slab.specs.declared.slab.TakeFault.TheVariants.{NoMemory};
 
 use crate::chunk::Chunk;
@@ -61,7 +75,8 @@ impl Model for Slab {
 }
 
 impl Slab {
-    /// A slab of that many pages, 1 to 65536, none of which has gone to a class.
+    /// Makes a slab of at most that many pages, 1 to 65536, none of which a class has yet. The one
+    /// error is a refused allocation.
     pub fn new(alloc: Global, pages: u32) -> Result<Slab, AllocError>
         requires { (1 ≤ pages) × (pages ≤ 65536) }
         ensures value { IfOk result (λ slab. slab ≡ untouched pages) }
@@ -73,14 +88,16 @@ impl Slab {
         })
     }
 
-    /// Takes a chunk of the class, of any content. A page goes to the class only where all its chunks are out, and only that
-    /// takes memory.
+    /// Takes a chunk of the class, of any content. A page goes to the class only where all its
+    /// chunks are out, and only that takes memory. Refused, the slab is as it was.
     pub fn take(&mut self, alloc: Global, class: Class) -> Result<Chunk, TakeFault>
         ensures chunk { IfOk result (IsChunkOf class) }
         ensures taken { OnOk result (self.new ≡ taken self.old class) }
-        ensures full { (pages out : ℕ) → (result ≡ Err (TakeFault.Full class pages out)) ↔ (IsFull self.old class × (pages ≡ pages_of self.old class) × (out ≡ out_of self.old class)) }
-        ensures no_memory { result ≡ Err TakeFault.NoMemory → (out_of self.old class ≡ chunks_of self.old class) × (0 < pages_left self.old) }
-        ensures faults { IfErr result (λ fault. (fault ≡ TakeFault.NoMemory) ⊎ (fault ≡ TakeFault.Full class (pages_of self.old class) (out_of self.old class))) }
+        ensures full { (pages out : ℕ) → (result ≡ Err (TakeFault.Full class pages out))
+            ↔ TellsFull self.old class pages out }
+        ensures no_memory { result ≡ Err TakeFault.NoMemory → WantsPage self.old class }
+        ensures faults { IfErr result (λ fault.
+            (fault ≡ TakeFault.NoMemory) ⊎ (fault ≡ full_fault self.old class)) }
         ensures err { OnErr result (self.new ≡ self.old) }
         ensures is_slab { OnOk result (IsSlab self.new) }
     {
@@ -93,9 +110,11 @@ impl Slab {
     fn make_ready(&mut self, alloc: Global, class: Class) -> Result<(), TakeFault>
         ensures ready { OnOk result (self.new ≡ with_chunk self.old class) }
         ensures free { OnOk result (out_of self.new class < chunks_of self.new class) }
-        ensures full { (pages out : ℕ) → (result ≡ Err (TakeFault.Full class pages out)) ↔ (IsFull self.old class × (pages ≡ pages_of self.old class) × (out ≡ out_of self.old class)) }
-        ensures no_memory { result ≡ Err TakeFault.NoMemory → (out_of self.old class ≡ chunks_of self.old class) × (0 < pages_left self.old) }
-        ensures faults { IfErr result (λ fault. (fault ≡ TakeFault.NoMemory) ⊎ (fault ≡ TakeFault.Full class (pages_of self.old class) (out_of self.old class))) }
+        ensures full { (pages out : ℕ) → (result ≡ Err (TakeFault.Full class pages out))
+            ↔ TellsFull self.old class pages out }
+        ensures no_memory { result ≡ Err TakeFault.NoMemory → WantsPage self.old class }
+        ensures faults { IfErr result (λ fault.
+            (fault ≡ TakeFault.NoMemory) ⊎ (fault ≡ full_fault self.old class)) }
         ensures err { OnErr result (self.new ≡ self.old) }
     {
         let stock = &mut self.stocks[class.index()];
@@ -122,16 +141,17 @@ impl Slab {
         stock.give(chunk);
     }
 
-    /// What the class has.
+    /// Counts the class's pages, and its chunks that are out.
     pub fn account(&self, class: Class) -> Account
-        ensures value { result ≡ record { pages = pages_of self.now class; out = out_of self.now class } }
+        ensures value { result
+            ≡ record { pages = pages_of self.now class; out = out_of self.now class } }
         ensures is_slab { IsSlab self.now }
     {
         let stock = &self.stocks[class.index()];
         stock.account()
     }
 
-    /// How many pages no class has yet.
+    /// Counts the pages that no class has yet.
     pub fn pages_left(&self) -> u32
         ensures value { result ≡ pages_left self.now }
         ensures is_slab { IsSlab self.now }

@@ -39,7 +39,9 @@ impl Model for Stock {
 
     ghost view = { λ s. record { class = s.class; pages = s.pages; out = s.out } };
 
-    ghost invariant = { λ s. IsStock (record { class = s.class; pages = s.pages; out = s.out }) s.free.items (vec_capacity s.free) };
+    ghost invariant = { λ s.
+        IsStock (record { class = s.class; pages = s.pages; out = s.out })
+        s.free.items (vec_capacity s.free) };
 }
 
 impl Stock {

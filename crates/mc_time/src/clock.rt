@@ -33,7 +33,7 @@ pub struct SystemClock<R: time::Clock + Drop> {
 }
 
 impl<R: time::Clock + Drop> SystemClock<R> {
-    /// The clock of that runtime.
+    /// Makes the clock of a runtime.
     pub fn new(rt: R) -> SystemClock<R> {
         SystemClock { rt }
     }

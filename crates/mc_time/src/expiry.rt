@@ -14,8 +14,9 @@ pub enum Expiry {
 /// The number of seconds up to which an exptime counts from now: 30 days.
 const LONGEST_RELATIVE: u64 = 2592000;
 
-/// The expiry that an exptime names (protocol.txt, "Expiration times"): 0 is never, a negative one is over at every
-/// moment, one up to 30 days counts from now, and a greater one is a Unix time.
+/// Finds the expiry that an exptime names (protocol.txt, "Expiration times"): 0 is never, a
+/// negative one is over at every moment, one of up to 30 days counts from now, in seconds, and a
+/// greater one is a Unix time.
 pub fn expiry_of(exptime: i64, now: Moment) -> Expiry
     ensures { result ≡ expiry_of exptime now }
 {
@@ -28,7 +29,8 @@ pub fn expiry_of(exptime: i64, now: Moment) -> Expiry
     }
 }
 
-/// The moment of a flush with that delay, which is read as an exptime is. There is none where the delay is 0.
+/// Finds the moment of a flush with that delay, which is read as an exptime is. There is none where
+/// the delay is 0.
 pub fn cut_after(delay: u64, now: Moment) -> Option<u64>
     ensures { result ≡ (if delay == 0 then None else Some (moment_named delay now)) }
 {
@@ -39,7 +41,8 @@ pub fn cut_after(delay: u64, now: Moment) -> Option<u64>
     }
 }
 
-/// Whether an item is dead at `now`: its expiry has come, or a flush at `cut` has come and it was updated before that.
+/// Tells whether an item is dead at `now`: its expiry has come, or a flush at `cut` has come and it
+/// was updated before that.
 pub fn is_dead(expiry: Expiry, updated: Moment, cut: Option<u64>, now: Moment) -> bool
     ensures { result ≡ is_dead expiry updated cut now }
 {

@@ -38,7 +38,7 @@ impl Moment {
     /// The latest moment, 2^62 seconds.
     pub const LATEST: u64 = 1 << 62;
 
-    /// The moment of that many seconds.
+    /// Makes the moment of that many seconds, 0 to 2^62.
     pub fn from_seconds(seconds: u64) -> Moment
         requires { seconds ≤ 2 ^ 62 }
         ensures { result ≡ seconds }
@@ -46,7 +46,7 @@ impl Moment {
         Moment { seconds }
     }
 
-    /// The moment of that many seconds, and the latest where there are more.
+    /// Makes the moment of that many seconds, or the latest where there are more.
     pub fn from_seconds_at_most(seconds: u64) -> Moment
         ensures { result ≡ min seconds (2 ^ 62) }
     {
@@ -55,7 +55,7 @@ impl Moment {
         }
     }
 
-    /// How many seconds it is, from 0 to 2^62.
+    /// Gives its seconds, 0 to 2^62.
     pub fn seconds(self) -> u64
         ensures value { result ≡ self }
         ensures latest { result ≤ 2 ^ 62 }

@@ -1,0 +1,42 @@
+-- Which entries can be moved into an empty bucket.
+use Rattle.std.proofs.Common.{◌≡◌, ℕ, ◌+◌, ◌-◌, ◌<◌, ◌≤◌, Bool, cond, List, Option, Some, None, length, get_or, sym, ap, ◌∙◌, arith, ⊎_elim}
+use Rattle.std.proofs.lemmas.Bool.{cases_eq, eq-eqb}
+use Rattle.std.specs.Int.{bit_at}
+use Rattle.mc_hop.specs.Tables.{home_in, homed}
+use Rattle.mc_displace.specs.Moves.{IsMovable}
+use Rattle.mc_hop.specs.Contents.{content}
+
+same_Some : {X : Type 0} (x y : X) → Some x ≡ Some y → x ≡ y
+same_Some x y e = cc
+
+-- an entry of the home is in reach of the empty bucket
+pub within_reach : {X : Type 0} (hash_of : X → ℕ) (k : ℕ) (items : List (Option X)) (free at : ℕ) (x : X) (home : ℕ) → IsMovable hash_of k items free at → get_or items at None ≡ Some x → home_in k (hash_of x) ≡ home → home_in k (hash_of x) ≤ at → (home ≤ free) × (free ≤ home + 31)
+within_reach hash_of k items free at x home m there is near =
+    let its : home_in k (hash_of m.entry) ≡ home = ap (λ z. home_in k (hash_of z)) (same_Some m.entry x (sym m.there ∙ there)) ∙ is in
+    (omega (arith, m.before, near, is), omega (arith, m.reach, its))
+
+-- no entry whose home is below that one can be moved
+abbrev pub NoneOfHomesBelow : {X : Type 0} → (X → ℕ) → ℕ → List (Option X) → ℕ → ℕ → Type 0
+NoneOfHomesBelow hash_of k items free home = (at : ℕ) (m : IsMovable hash_of k items free at) → home_in k (hash_of m.entry) < home → ⊥
+
+-- where the bits below the empty bucket are clear, no entry of the home can be moved
+pub none_of_home : {X : Type 0} (hash_of : X → ℕ) (k : ℕ) (items : List (Option X)) (free home word : ℕ) → NoneOfHomesBelow hash_of k items free home → ((at : ℕ) (x : X) → get_or items at None ≡ Some x → (home_in k (hash_of x) ≤ at) × (at ≤ home_in k (hash_of x) + 31)) → ((j : ℕ) → j < 32 → bit_at word j ≡ homed hash_of k home (get_or items (home + j) None)) → ((j : ℕ) → j < free - home → bit_at word j ≡ 0) → NoneOfHomesBelow hash_of k items free (home + 1)
+none_of_home hash_of k items free home word before near bits clear at m below =
+    ⊎_elim
+    (λ (e : home_in k (hash_of m.entry) ≡ home).
+    let place = near at m.entry m.there in
+    let same : at ≡ home + (at - home) = omega (arith, e, place.0) in
+    let one : homed hash_of k home (get_or items (home + (at - home)) None) ≡ 1 =
+    ap (λ (n : ℕ). homed hash_of k home (get_or items n None)) (sym same) ∙ ap (homed hash_of k home) m.there ∙ ap (λ (b : Bool). cond b 1 0) (eq-eqb _ _ e) in
+    let bit = bits (at - home) (omega (arith, e, place.1)) in
+    absurd (omega (arith, one, bit, clear (at - home) (omega (arith, e, place.0, m.before)))))
+    (λ (n : home_in k (hash_of m.entry) ≡ home → ⊥). before at m (omega (arith, below, n)))
+    (cases_eq (home_in k (hash_of m.entry)) home)
+
+-- after so many moves: the content is as it was, and the empty bucket has come so much nearer, and not past the home
+pub record Brought {X : Type 0} (hash_of : X → ℕ) (key_of : X → List ℕ) (first items : List (Option X)) (home start free turn : ℕ) : Type 0 where
+  pub same : content hash_of key_of items ≡ content hash_of key_of first
+  pub empty : get_or items free None ≡ None
+  pub inside : free < length items
+  pub low : home ≤ free
+  pub nearer : free + turn ≤ start

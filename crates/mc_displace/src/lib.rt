@@ -1,0 +1,6 @@
+//! Brings an empty bucket of a hopscotch table near a home.
+#![tactic(auto)]
+
+mod displace;
+
+pub use displace::bring_near;

@@ -1,0 +1,179 @@
+//! Buckets, each with a word of 32 bits and at most one value.
+
+ghost use Rattle.std.specs.Prelude.{◌≡◌, ◌+◌, ◌-◌, ◌<◌, ◌≤◌, ◌^◌, ◌↔◌, IsTrue, Some, None, IfOk, option_copied, false, vec_len, is_some, true, length, replicate, slice_index_or, slice_set};
+ghost use Rattle.mc_hop.specs.Cells.{empty_cells, filled};
+ghost use Rattle.mc_hop.specs.Links.{ats_of, words_of, renumbered};
+
+use std::alloc::{AllocError, Global};
+use std::marker::Model;
+
+/// A bucket: its word, and one more than the place of its value among the values, or 0 where it has none.
+#[derive(Clone, Copy)]
+struct Cell {
+    word: u32,
+    at: u32,
+}
+
+/// So many buckets with no value, whose words are 0.
+fn empty_list(alloc: Global, len: usize) -> Result<Vec<Cell>, AllocError>
+    ensures { IfOk result (λ cells. cells.items ≡ replicate len (record { word = 0; at = 0 })) }
+{
+    let mut cells = Vec::with_capacity(alloc, len)?;
+    cells.resize(len, Cell { word: 0, at: 0 })?;
+    Ok(cells)
+}
+
+/// The number of a bucket: one more than the place of its value, or 0.
+fn number_of(cells: &Vec<Cell>, at: usize) -> usize
+    requires { at < vec_len cells.now }
+    ensures { result ≡ slice_index_or (ats_of cells.now.items) at 0 }
+{
+    cells[at].at as usize
+}
+
+/// Sets the number of a bucket. Its word stays.
+fn set_number(cells: &mut Vec<Cell>, at: usize, number: usize)
+    requires inside { at < vec_len cells.old }
+    requires small { number < 2 ^ 32 }
+    ensures numbers { ats_of cells.new.items ≡ slice_set (ats_of cells.old.items) at number }
+    ensures words { words_of cells.new.items ≡ words_of cells.old.items }
+    ensures len { vec_len cells.new ≡ vec_len cells.old }
+{
+    cells[at].at = number as u32;
+}
+
+/// Sets the word of a bucket. Its number stays.
+fn set_word_in(cells: &mut Vec<Cell>, at: usize, word: u32)
+    requires { at < vec_len cells.old }
+    ensures numbers { ats_of cells.new.items ≡ ats_of cells.old.items }
+    ensures words { words_of cells.new.items ≡ slice_set (words_of cells.old.items) at word }
+{
+    cells[at].word = word;
+}
+
+/// The value that was at the last place stands at that one now, unless it was the last.
+fn renumber(cells: &mut Vec<Cell>, places: &Vec<u32>, place: usize)
+    requires inside { place < vec_len places.now → slice_index_or places.now.items place 0 < vec_len cells.old }
+    requires small { vec_len places.now < 2 ^ 32 - 1 }
+    ensures numbers { ats_of cells.new.items ≡ renumbered (ats_of cells.old.items) places.now.items place }
+    ensures words { words_of cells.new.items ≡ words_of cells.old.items }
+{
+    if place < places.len() {
+        set_number(cells, places[place] as usize, place + 1);
+    }
+}
+
+/// A row of buckets, each with a word and at most one value. The values lie side by side in a list of their own, in no order,
+/// so an empty bucket takes 8 bytes alone. Contracts see the words and the values, bucket by bucket.
+#[derive(Drop)]
+pub struct Cells<T: Drop> {
+    cells: Vec<Cell>,
+    items: Vec<T>,
+    places: Vec<u32>,
+}
+
+impl<T: Drop> Model for Cells<T> {
+    ghost use Rattle.std.specs.Prelude.{map, vec_capacity};
+    ghost use Rattle.mc_hop.specs.Cells.{CellsState, coded_cells};
+    ghost use Rattle.mc_hop.specs.Links.{IsLinked, ats_of, words_of, item_of};
+
+    ghost Value = { CellsState T };
+
+    ghost coded = { coded_cells T.code };
+
+    ghost view = { λ c. record { words = words_of c.cells.items; items = map (item_of c.items.items) (ats_of c.cells.items) } };
+
+    ghost invariant = { λ c. IsLinked (ats_of c.cells.items) c.items.items c.places.items (vec_capacity c.items) (vec_capacity c.places) };
+}
+
+impl<T: Drop> Cells<T> {
+    /// So many empty buckets, whose words are 0, with room for a value of each.
+    pub fn new(alloc: Global, len: usize) -> Result<Cells<T>, AllocError>
+        requires { len < 2 ^ 32 - 1 }
+        ensures { IfOk result (λ cells. cells ≡ empty_cells len) }
+    {
+        Ok(Cells {
+            cells: empty_list(alloc, len)?,
+            items: Vec::with_capacity(alloc, len)?,
+            places: Vec::with_capacity(alloc, len)?,
+        })
+    }
+
+    /// How many buckets there are.
+    pub fn len(&self) -> usize
+        ensures { result ≡ length self.now.items }
+    {
+        self.cells.len()
+    }
+
+    /// How many of them have a value.
+    pub fn count(&self) -> usize
+        ensures { result ≡ filled self.now.items }
+    {
+        self.items.len()
+    }
+
+    /// The word of a bucket.
+    pub fn word(&self, at: usize) -> u32
+        requires { at < length self.now.items }
+        ensures { result ≡ slice_index_or self.now.words at 0 }
+    {
+        self.cells[at].word
+    }
+
+    /// Sets the word of a bucket.
+    pub fn set_word(&mut self, at: usize, word: u32)
+        requires { at < length self.old.items }
+        ensures { self.new ≡ record self.old { words = slice_set self.old.words at word } }
+    {
+        set_word_in(&mut self.cells, at, word);
+    }
+
+    /// Whether a bucket has no value.
+    pub fn is_empty(&self, at: usize) -> bool
+        requires { at < length self.now.items }
+        ensures yes { result ≡ true → slice_index_or self.now.items at None ≡ None }
+        ensures no { result ≡ false → is_some (slice_index_or self.now.items at None) ≡ true }
+    {
+        number_of(&self.cells, at) == 0
+    }
+
+    /// The value of a bucket, if it has one.
+    pub fn get(&self, at: usize) -> Option<&T>
+        requires { at < length self.now.items }
+        ensures { option_copied result ≡ slice_index_or self.now.items at None }
+    {
+        let number = number_of(&self.cells, at);
+        if number == 0 {
+            None
+        } else {
+            Some(&self.items[number - 1])
+        }
+    }
+
+    /// Puts a value into an empty bucket. It takes no memory.
+    pub fn put(&mut self, at: usize, value: T)
+        requires inside { at < length self.old.items }
+        requires empty { slice_index_or self.old.items at None ≡ None }
+        ensures { self.new ≡ record self.old { items = slice_set self.old.items at (Some value) } }
+    {
+        let number = self.items.len() + 1;
+        self.items.push_reserved(value);
+        self.places.push_reserved(at as u32);
+        set_number(&mut self.cells, at, number);
+    }
+
+    /// Takes the value out of a bucket that has one.
+    pub fn take(&mut self, at: usize) -> T
+        requires { is_some (slice_index_or self.old.items at None) ≡ true }
+        ensures here { slice_index_or self.old.items at None ≡ Some result }
+        ensures taken { self.new ≡ record self.old { items = slice_set self.old.items at None } }
+    {
+        let place = number_of(&self.cells, at) - 1;
+        let value = self.items.swap_remove(place);
+        let _ = self.places.swap_remove(place);
+        set_number(&mut self.cells, at, 0);
+        renumber(&mut self.cells, &self.places, place);
+        value
+    }
+}
