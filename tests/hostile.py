@@ -32,6 +32,8 @@ def check(report, program):
         ("a device that is full", full_device),
         ("help on a device that is full", full_device_of_help),
         ("an input that cannot be read", unreadable_input),
+        ("an input that doesn't block", input_that_does_not_block),
+        ("an output that doesn't block", output_that_does_not_block),
         ("memory that runs out", memory_runs_out),
         ("an argument that is not text", argument_not_text),
         ("a peer that waits for each answer", waiting_peer),
@@ -194,6 +196,35 @@ def unreadable_input(program):
     finally:
         os.close(folder)
     return ended(ran, 1, b"mcserver: read fault\n") + ([] if ran.stdout in (b"", None) else ["it wrote something"])
+
+
+def input_that_does_not_block(program):
+    """Where nothing is there to be read the run ends, though more may come: what came before is answered."""
+    theirs, ours = os.pipe()
+    os.set_blocking(theirs, False)
+    os.write(ours, b"version\r\n")
+    started = subprocess.Popen([program, *ARGS], stdin=theirs, stdout=subprocess.PIPE, stderr=subprocess.PIPE)
+    ran = rows.outcome(started)
+    os.close(ours)
+    os.close(theirs)
+    found = ended(ran, 1, b"mcserver: read fault\n")
+    return found + ([] if ran.stdout == b"VERSION 1.6.0\r\n" else [rows.difference("output", b"VERSION 1.6.0\r\n", ran.stdout)])
+
+
+def output_that_does_not_block(program):
+    """Where the output's reader is behind the run ends, and what it wrote is a beginning."""
+    theirs, ours = os.pipe()
+    os.set_blocking(ours, False)
+    with tempfile.TemporaryFile() as given:
+        given.write(b"version\r\n" * 100_000)
+        given.seek(0)
+        started = subprocess.Popen([program, *ARGS], stdin=given, stdout=ours, stderr=subprocess.PIPE)
+        os.close(ours)
+        ran = rows.outcome(started)
+    with open(theirs, "rb") as it:
+        wrote = it.read()
+    found = ended(ran, 1, b"mcserver: write fault\n")
+    return found + ([] if (b"VERSION 1.6.0\r\n" * 100_000).startswith(wrote) else ["what it wrote is no beginning"])
 
 
 def memory_runs_out(program):
