@@ -1,5 +1,5 @@
 -- What the shell is told of an end of the program, and what is said on standard error.
-use Rattle.std.specs.Prelude.{ℕ, List, [], Ok, Err, codes}
+use Rattle.std.specs.Prelude.{ℕ, List, Ok, Err, codes}
 use Rattle.mc_session.specs.declared.serving.ServeFault.TheVariants as fault
 use Rattle.mc_server.specs.declared.end.End.{End}
 use Rattle.mc_server.specs.declared.end.End.TheVariants as end
