@@ -136,18 +136,22 @@ class Server:
     def receive(self):
         return self.link.recv(65536) if self.link else os.read(self.started.stdout.fileno(), 65536)
 
-    def answer(self, data, end):
-        """Sends data, and gives what comes back, up to and with this end."""
+    def pieces(self, data, end):
+        """Sends data, and gives what comes back piece by piece, up to and with this end."""
         sending = threading.Thread(target=self.send, args=(data,))
         sending.start()
-        got = bytearray()
-        while not got.endswith(end):
+        last = b""
+        while not last.endswith(end):
             piece = self.receive()
             if not piece:
-                sys.exit(f"the server went after {bytes(got[-100:])!r}")
-            got += piece
+                sys.exit(f"the server went after {last!r}")
+            yield piece
+            last = (last + piece)[-100:]
         sending.join()
-        return bytes(got)
+
+    def answer(self, data, end):
+        """Sends data, and gives what comes back, up to and with this end."""
+        return b"".join(self.pieces(data, end))
 
     def filled(self, sets_of, asked):
         """Sets so many items, of which the store takes the first. Gives how many those are, and the resident bytes then."""
@@ -174,10 +178,11 @@ class Server:
         with open(f"/proc/{self.started.pid}/schedstat") as it:
             return int(it.read().split()[0]) / 1e9
 
-    def resident(self):
-        """The resident bytes of its process."""
+    def resident(self, most=False):
+        """The resident bytes of its process, or the most that they were."""
+        name = "VmHWM:" if most else "VmRSS:"
         with open(f"/proc/{self.started.pid}/status") as it:
-            return next(int(line.split()[1]) * 1024 for line in it if line.startswith("VmRSS"))
+            return next(int(line.split()[1]) * 1024 for line in it if line.startswith(name))
 
     def stop(self):
         self.started.kill()
@@ -212,22 +217,21 @@ class Bench:
     def __init__(self, program, runs):
         self.program, self.runs = program, runs
 
-    def run(self, stream, to_file=True):
-        """Of several runs the median seconds, those of the processor, the bytes written and the most memory."""
-        seconds, processor, memory, wrote = [], [], 0, 0
+    def run(self, stream):
+        """Of several runs the median seconds, those of the processor, and the bytes written."""
+        seconds, processor, wrote = [], [], 0
         with tempfile.TemporaryFile() as given:
             given.write(stream)
             for _ in range(self.runs):
-                with tempfile.TemporaryFile() if to_file else open(os.devnull, "wb") as out:
+                with tempfile.TemporaryFile() as out:
                     given.seek(0)
                     found = measure.run([self.program, *ARGS], SECONDS, given, out)
                     if found["status"] != 0:
                         sys.exit(f"the program ended with status {found['status']}")
                     seconds.append(found["seconds"])
                     processor.append(found["processor"])
-                    memory = max(memory, found["memory"])
                     wrote = os.fstat(out.fileno()).st_size
-        return statistics.median(seconds), statistics.median(processor), wrote, memory
+        return statistics.median(seconds), statistics.median(processor), wrote
 
     def rates(self, counts, only):
         print("Time over input says by how much the processor's time grew, over how much the input did, since the row above.\n")
@@ -239,7 +243,7 @@ class Bench:
             for count in counts:
                 before, commands = make(count)
                 stream = before + b"".join(commands)
-                seconds, processor, wrote, _ = self.run(stream)
+                seconds, processor, wrote = self.run(stream)
                 size = len(stream)
                 growth = f"{processor / last[0] / (size / last[1]):.2f}" if last else ""
                 last = max(processor, 1e-9), size
@@ -250,14 +254,14 @@ class Bench:
         """What a key costs in lines of more and more of them, all keys being hits."""
         names = [b"k%d" % it for it in range(10_000)]
         before = b"".join(stored(b"set", it, more=b" noreply") for it in names)
-        _, idle, _, _ = self.run(before)
+        _, idle, _ = self.run(before)
         print(f"\n{'keys in a line':<17}{'lines':>9}{'seconds':>9}{'ns a key':>12}  against the cheapest (of the processor's time)")
         found = []
         for each in [1, 10, 100, 1000, 10_000]:
             lines = max(keys // each, 1)
             asked = [names[it % len(names)] for it in range(lines * each)]
             made = [b"get " + b" ".join(asked[it * each : (it + 1) * each]) + b"\r\n" for it in range(lines)]
-            seconds, processor, _, _ = self.run(before + b"".join(made))
+            seconds, processor, _ = self.run(before + b"".join(made))
             found.append((each, lines, seconds, max(processor - idle, 0) / (lines * each) * 1e9))
         least = min(it[3] for it in found) or 1
         for each, lines, seconds, cost in found:
@@ -323,6 +327,7 @@ class Bench:
             print(f"{size:<15,}{'most':>5}{'':>14}{most / MEGA:>14.1f}  {same}", flush=True)
 
     def memory(self):
+        """The most memory that its own process had, told while it waits for more input."""
         print(f"\n{'the most memory':<45}{'MB in':>9}{'MB of memory':>14}")
         one = stored(b"set", b"big", b"b" * MEGA)
         count = 50 * MEGA // len(stored(b"set", key(0)))
@@ -334,8 +339,11 @@ class Bench:
             "1,000 gets of one item of 1 MB": one + b"get big\r\n" * 1000,
         }
         for name, stream in inputs.items():
-            _, _, _, memory = self.run(stream, to_file=False)
-            print(f"{name:<45}{len(stream) / MEGA:>9.1f}{memory / MEGA:>14.1f}", flush=True)
+            server = Server([self.program, *ARGS])
+            for _ in server.pieces(stream + b"version\r\n", VERSION):
+                pass
+            print(f"{name:<45}{len(stream) / MEGA:>9.1f}{server.resident(most=True) / MEGA:>14.1f}", flush=True)
+            server.stop()
 
 
 # ---- worlds
@@ -356,6 +364,9 @@ def took(sessions, rounds, runs):
 
 def worlds(turns, runs):
     """What a turn costs in worlds of more and more sessions, all of which use one key. Opening them isn't counted."""
+    if not os.access(WORLDS, os.X_OK):
+        print(f"\nsessions in a world: no program is at {WORLDS}; make bench builds it", flush=True)
+        return
     print(f"\n{'sessions in a world':<21}{'turns':>11}{'processor':>11}{'ns a turn':>11}  against one session")
     first = None
     for sessions in SESSIONS:

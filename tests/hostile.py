@@ -1,10 +1,12 @@
 """What no row can say: long hostile inputs, memory that stays bounded, devices that fail, and talk in turns."""
+import hashlib
 import os
 import random
 import resource
 import select
 import subprocess
 import tempfile
+import threading
 import time
 
 import measure
@@ -22,11 +24,16 @@ def check(report, program):
         ("ten megabytes of random short lines", random_lines),
         ("a block of 64 megabytes that is too large", passed_block),
         ("a line that never ends", endless_line),
+        ("100 megabytes of sets of one key", sets_are_dropped),
+        ("100 megabytes of output", sent_is_dropped),
+        ("300 megabytes of output to one piece of input", output_is_written),
         ("a reader of the output that has gone", closed_pipe),
         ("a reader of the output that goes after its first bytes", closing_pipe),
         ("a device that is full", full_device),
         ("help on a device that is full", full_device_of_help),
         ("an input that cannot be read", unreadable_input),
+        ("an input that doesn't block", input_that_does_not_block),
+        ("an output that doesn't block", output_that_does_not_block),
         ("memory that runs out", memory_runs_out),
         ("an argument that is not text", argument_not_text),
         ("a peer that waits for each answer", waiting_peer),
@@ -54,9 +61,11 @@ def bounded(program, stream):
     found = ended(ran, 0, b"")
     if ran.stdout != wanted:
         found.append(rows.difference("output", wanted, ran.stdout))
-    if memory > MEMORY:
-        found.append(f"took {memory} bytes of memory, and {MEMORY} are meant to do")
-    return found
+    return found + too_much(memory)
+
+
+def too_much(memory):
+    return [f"took {memory} bytes of memory, and {MEMORY} are meant to do"] if memory > MEMORY else []
 
 
 def ended(ran, status, said):
@@ -89,6 +98,60 @@ def passed_block(program):
 
 def endless_line(program):
     return bounded(program, b"version\r\n" + b"get " + b"a" * 20_000_000)
+
+
+def digest(pieces):
+    """How long the pieces are together, and which bytes they are."""
+    size, which = 0, hashlib.sha256()
+    for piece in pieces:
+        size += len(piece)
+        which.update(piece)
+    return size, which.hexdigest()
+
+
+def flowing(program, given_pieces, wanted_pieces):
+    """A session answers so, in little memory, while all that it writes is read at once."""
+    theirs, ours = os.pipe()
+    wrote = []
+    reading = threading.Thread(target=lambda: wrote.extend(digest(iter(lambda: os.read(theirs, 2**20), b""))))
+    with tempfile.TemporaryFile() as given, tempfile.TemporaryFile() as said:
+        given.writelines(given_pieces)
+        given.seek(0)
+        reading.start()
+        found = measure.run([program, *ARGS], 3 * rows.SECONDS, given, ours, said)
+        os.close(ours)
+        reading.join()
+        os.close(theirs)
+        said.seek(0)
+        faults = ended(rows.Ran(found["status"], None, said.read(), found["late"]), 0, b"")
+    wanted = digest(wanted_pieces)
+    if tuple(wrote) != wanted:
+        faults.append(f"it wrote {wrote[0]} bytes, and not the {wanted[0]} that are wanted")
+    return faults + too_much(found["memory"])
+
+
+def sets_are_dropped(program):
+    """The front of the input that was read is dropped, though a piece of a set is always left behind it."""
+    # A set has an odd number of bytes, and a read gives 16384 of them: no read of the first 160 MB ends with a set.
+    one = b"set a 0 0 9973\r\n" + b"x" * 9973 + b"\r\n"
+    return flowing(program, [one] * 10_000, [b"STORED\r\n"] * 10_000)
+
+
+def sent_is_dropped(program):
+    """What was written of the output is dropped."""
+    return got_again(program, b"x" * 1000, 100_000)
+
+
+def output_is_written(program):
+    """Output is written before all the input that is there is answered."""
+    return got_again(program, b"x" * 1_000_000, 300)
+
+
+def got_again(program, block, times):
+    """An item is set, and asked for so many times."""
+    asked = b"set a 0 0 %d\r\n%s\r\n" % (len(block), block)
+    answer = b"VALUE a 0 %d\r\n%s\r\nEND\r\n" % (len(block), block)
+    return flowing(program, [asked] + [b"get a\r\n"] * times, [b"STORED\r\n"] + [answer] * times)
 
 
 def to_pipe(program, given, reads):
@@ -133,6 +196,35 @@ def unreadable_input(program):
     finally:
         os.close(folder)
     return ended(ran, 1, b"mcserver: read fault\n") + ([] if ran.stdout in (b"", None) else ["it wrote something"])
+
+
+def input_that_does_not_block(program):
+    """Where nothing is there to be read the run ends, though more may come: what came before is answered."""
+    theirs, ours = os.pipe()
+    os.set_blocking(theirs, False)
+    os.write(ours, b"version\r\n")
+    started = subprocess.Popen([program, *ARGS], stdin=theirs, stdout=subprocess.PIPE, stderr=subprocess.PIPE)
+    ran = rows.outcome(started)
+    os.close(ours)
+    os.close(theirs)
+    found = ended(ran, 1, b"mcserver: read fault\n")
+    return found + ([] if ran.stdout == b"VERSION 1.6.0\r\n" else [rows.difference("output", b"VERSION 1.6.0\r\n", ran.stdout)])
+
+
+def output_that_does_not_block(program):
+    """Where the output's reader is behind the run ends, and what it wrote is a beginning."""
+    theirs, ours = os.pipe()
+    os.set_blocking(ours, False)
+    with tempfile.TemporaryFile() as given:
+        given.write(b"version\r\n" * 100_000)
+        given.seek(0)
+        started = subprocess.Popen([program, *ARGS], stdin=given, stdout=ours, stderr=subprocess.PIPE)
+        os.close(ours)
+        ran = rows.outcome(started)
+    with open(theirs, "rb") as it:
+        wrote = it.read()
+    found = ended(ran, 1, b"mcserver: write fault\n")
+    return found + ([] if (b"VERSION 1.6.0\r\n" * 100_000).startswith(wrote) else ["what it wrote is no beginning"])
 
 
 def memory_runs_out(program):

@@ -1,113 +1,66 @@
 //! `mcserver`: a cache server that speaks memcached's text protocol.
 #![tactic(auto)]
 
-ghost use Rattle.std.specs.Prelude.{◌≡◌, ◌≢◌, ◌≤◌};
+ghost use Rattle.std.specs.Prelude.{◌≡◌};
 ghost use Rattle.std.specs.Process.{exit_status};
-ghost use Rattle.std.specs.IoError.{error_kind};
-ghost use Rattle.std.specs.declared.io.ErrorKind.TheVariants as io_kind;
-ghost use Rattle.clap.specs.Words.{kind_of};
-ghost use Rattle.clap.specs.declared.error.kind.ErrorKind.TheVariants as kind;
+ghost use Rattle.mc_server.specs.Ends.{status_of};
 
-mod ending;
+mod end;
 mod options;
+mod serving;
 
 use clap::error::ErrorKind;
-use ending::{Ending, ending};
-use mc_hop::Fnv;
-use mc_session::ServeFault;
-use mc_shelf::Settings;
-use mc_time::{Clock, Fixed, SystemClock};
-use mc_world::{World, serve_one};
-use options::Options;
+use end::{End, Ending};
+use mc_time::SystemClock;
 use std::process::ExitCode;
 use std::{env, io};
 
-/// How many shelves the store has.
-const SHELVES: u32 = 64;
-
-/// The greatest charge of an item, in bytes: one page.
-const GREATEST: u64 = 1_048_576;
-
 fn main(rt: HostRuntime) -> ExitCode {
+    said(&rt, &run(&rt))
+}
+
+/// Does what the command line asks for, with the program's own streams and clock.
+fn run(rt: &HostRuntime) -> End {
     let alloc = rt.alloc();
-    let words: Vec<String> = match env::args(&rt) {
-        Ok(words) => match words.collect(alloc) {
-            Ok(words) => words,
-            Err(_) => return said(&rt, ending(&Err(ServeFault::NoMemory))),
-        },
-        Err(error) => return not_read(&rt, &error),
+    let words = match words(rt) {
+        Ok(words) => words,
+        Err(end) => return end,
     };
     match options::parsed(alloc, words.as_slice()) {
-        Ok(options) if options.stdin => said(&rt, ending(&session(&rt, options))),
-        Ok(_) => said(&rt, ending::CANNOT_LISTEN),
-        Err(error) if error.kind() == ErrorKind::OutOfMemory => {
-            said(&rt, ending(&Err(ServeFault::NoMemory)))
+        Ok(options) => {
+            let (mut input, mut output) = (rt.stdin(), rt.stdout());
+            let system = SystemClock::new(rt);
+            serving::serve(alloc, options, &mut input, &mut output, &system)
         }
-        Err(error) => shown(&rt, &error),
+        Err(error) => End::of_options(&error, &printed(rt, &error)),
     }
 }
 
-/// One session over standard input and output, to its end.
-fn session(rt: &HostRuntime, options: Options) -> Result<(), ServeFault>
-    requires { 1 ≤ options.pages × options.pages ≤ 65536 }
-{
-    match options.now {
-        Some(moment) => served(rt, options.pages, &Fixed(moment)),
-        None => served(rt, options.pages, &SystemClock::new(rt)),
-    }
+/// The words of the command line, the program's own name first; or how the program ends without them.
+fn words(rt: &HostRuntime) -> Result<Vec<String>, End> {
+    let words = env::args(rt).map_err(End::of_words)?;
+    Ok(words.collect(rt.alloc())?)
 }
 
-/// The same in a new world with a store of so many pages, at the clock's moments.
-fn served<C: Clock>(rt: &HostRuntime, pages: u32, clock: &C) -> Result<(), ServeFault>
-    requires { 1 ≤ pages × pages ≤ 65536 }
-{
-    let alloc = rt.alloc();
-    let settings = Settings {
-        pages,
-        greatest: GREATEST,
-        shelves: SHELVES,
-    };
-    let Ok(mut world) = World::new(alloc, settings, Fnv, clock.now()) else {
-        return Err(ServeFault::NoMemory);
-    };
-    let (mut input, mut output) = (rt.stdin(), rt.stdout());
-    serve_one(alloc, &mut input, &mut output, &mut world, clock)
+/// Prints what `clap` says of the command line: help on standard output, a mistake on standard error. Of want of memory
+/// it says nothing.
+fn printed(rt: &HostRuntime, error: &clap::Error) -> io::Result<()> {
+    if error.kind() == ErrorKind::OutOfMemory {
+        return Ok(());
+    }
+    error.print(rt)
 }
 
 /// Says how the program ends, and gives its status.
-fn said(rt: &HostRuntime, how: Ending) -> ExitCode
-    ensures { exit_status result ≡ how.entry.0 }
+fn said(rt: &HostRuntime, end: &End) -> ExitCode
+    ensures { exit_status result ≡ status_of end.now }
 {
-    let (status, text) = how;
-    if !text.is_empty() {
-        // where standard error is closed too, the status alone tells
-        let _ = eprintln!(rt; "{text}");
+    let Ending { status, text, hint } = end.ending();
+    for line in [text, hint] {
+        if !line.is_empty() {
+            // where standard error is closed too, the status alone tells
+            let _ = eprintln!(rt; "{line}");
+        }
     }
     ExitCode::from(status)
-}
-
-/// Prints what `clap` says of the command line: its help on standard output, a mistake on standard error.
-fn shown(rt: &HostRuntime, error: &clap::Error) -> ExitCode
-    ensures mistake { kind_of error.now ≢ kind.DisplayHelp → kind_of error.now ≢ kind.DisplayVersion
-        → exit_status result ≡ 2 }
-{
-    let printed = error.print(rt);
-    if error.use_stderr() {
-        return ExitCode::from(2);
-    }
-    match printed {
-        Ok(()) => ExitCode::SUCCESS,
-        Err(_) => said(rt, ending(&Err(ServeFault::Write))),
-    }
-}
-
-/// The words of the command line could not be read: memory is wanting, or one isn't text.
-fn not_read(rt: &HostRuntime, error: &io::Error) -> ExitCode
-    ensures memory { error_kind error.now ≡ io_kind.OutOfMemory → exit_status result ≡ 1 }
-    ensures text { error_kind error.now ≢ io_kind.OutOfMemory → exit_status result ≡ 2 }
-{
-    if error.kind() == io::ErrorKind::OutOfMemory {
-        return said(rt, ending(&Err(ServeFault::NoMemory)));
-    }
-    said(rt, ending::NOT_TEXT)
 }

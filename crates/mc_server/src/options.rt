@@ -1,15 +1,25 @@
 //! What the command line asks for.
-ghost use Rattle.std.specs.Prelude.{◌≤◌, IfOk};
+ghost use Rattle.std.specs.Prelude.{◌≡◌, ◌≤◌, ◌^◌, ℕ, Some, None, min, option_map, IfOk};
 
 use clap::{Arg, ArgAction, Command, Error, value_parser};
 use mc_time::Moment;
 use std::alloc::Global;
+
+/// The version of memcached's protocol that is spoken, as `version` answers it.
+const VERSION: &str = "1.6.0";
 
 /// The most pages that a store may have.
 const MOST_PAGES: u32 = 65536;
 
 /// The pages of a store where the command line says nothing of them.
 const PAGES: u32 = 64;
+
+/// What stands below the options in the help.
+const STATUSES: &str = "\
+Exit status:
+  0  the input is at its end, or the session was closed by quit or by a line that is too long
+  1  a read or a write failed, memory ran out, or it can't listen
+  2  the command line is bad";
 
 /// What the command line asks for.
 #[derive(Clone, Copy)]
@@ -22,10 +32,41 @@ pub struct Options {
     pub pages: u32,
 }
 
+impl Options {
+    /// The options by what `clap` found: whether `--stdin` is there, the seconds of `--now`, and the pages of `-m`. The
+    /// store has 64 pages where none are asked for. What is out of range, which `clap` refuses, is brought into it.
+    pub fn new(stdin: bool, now: Option<u64>, pages: Option<u32>) -> Options
+        ensures stdin { result.stdin ≡ stdin }
+        ensures now { result.now ≡ option_map (min (2 ^ 62)) now }
+        ensures no_pages { pages ≡ None → result.pages ≡ 64 }
+        ensures asked { (n : ℕ) → pages ≡ Some n → 1 ≤ n → n ≤ 65536 → result.pages ≡ n }
+        ensures range { 1 ≤ result.pages × result.pages ≤ 65536 }
+    {
+        Options {
+            stdin,
+            now: now.map(Moment::from_seconds_at_most),
+            pages: match pages {
+                Some(pages) => pages.clamp(1, MOST_PAGES),
+                None => PAGES,
+            },
+        }
+    }
+}
+
 /// Reads the words of the command line, the program's own name first.
 pub fn parsed(alloc: Global, words: &[String]) -> Result<Options, Error>
     ensures pages { IfOk result (λ options. 1 ≤ options.pages × options.pages ≤ 65536) }
 {
+    let matches = command(alloc)?.try_get_matches_from(words)?;
+    Ok(Options::new(
+        matches.get_flag("stdin"),
+        matches.get_one::<u64>("now"),
+        matches.get_one::<u32>("pages"),
+    ))
+}
+
+/// The options that there are.
+fn command<'a>(alloc: Global) -> Result<Command<'a>, Error> {
     let stdin = Arg::new(alloc, "stdin")
         .long("stdin")
         .action(ArgAction::SetTrue)
@@ -42,28 +83,13 @@ pub fn parsed(alloc: Global, words: &[String]) -> Result<Options, Error>
         .action(ArgAction::Set)
         .value_parser(value_parser!(u32).range(1..=i64::from(MOST_PAGES)))
         .help("Keep items in at most N pages of 1 MiB, 1 to 65536 [default: 64]");
-    let matches = Command::new(alloc, "mcserver")
+    Command::new(alloc, "mcserver")
         .bin_name("mcserver")?
+        .version(VERSION)
         .about("A cache server that speaks memcached's text protocol")
+        .after_help(STATUSES)
         .arg(stdin)?
         .arg(now)?
-        .arg(pages)?
-        .try_get_matches_from(words)?;
-    Ok(Options {
-        stdin: matches.get_flag("stdin"),
-        now: matches
-            .get_one::<u64>("now")
-            .map(Moment::from_seconds_at_most),
-        pages: pages_of(matches.get_one::<u32>("pages")),
-    })
-}
-
-/// The pages that were asked for, within their limits, which `clap` has tested.
-fn pages_of(asked: Option<u32>) -> u32
-    ensures { 1 ≤ result × result ≤ 65536 }
-{
-    match asked {
-        Some(pages) => pages.clamp(1, MOST_PAGES),
-        None => PAGES,
-    }
+        .arg(pages)
+        .map_err(Error::from)
 }

@@ -1,0 +1,34 @@
+-- What the shell is told of an end of the program, and what is said on standard error.
+use Rattle.std.specs.Prelude.{ℕ, List, Ok, Err, codes}
+use Rattle.mc_session.specs.declared.serving.ServeFault.TheVariants as fault
+use Rattle.mc_server.specs.declared.end.End.{End}
+use Rattle.mc_server.specs.declared.end.End.TheVariants as end
+
+-- 0 at the end, 1 for a device's fault or want of memory, 2 for a bad command line
+abbrev pub status_of : End → ℕ
+status_of (end.Served (Ok _)) = 0
+status_of (end.Served (Err _)) = 1
+status_of end.CannotListen = 1
+status_of end.BadCommandLine = 2
+status_of end.NotText = 2
+status_of end.Shown = 0
+status_of end.NotShown = 1
+status_of end.NoMemory = 1
+
+-- what is wrong; of a bad command line clap has said it
+abbrev pub text_of : End → List ℕ
+text_of (end.Served (Ok _)) = codes ""
+text_of (end.Served (Err fault.Read)) = codes "mcserver: read fault"
+text_of (end.Served (Err fault.Write)) = codes "mcserver: write fault"
+text_of (end.Served (Err fault.NoMemory)) = codes "mcserver: out of memory"
+text_of end.CannotListen = codes "mcserver: cannot listen"
+text_of end.BadCommandLine = codes ""
+text_of end.NotText = codes "error: invalid UTF-8 was detected in one or more arguments"
+text_of end.Shown = codes ""
+text_of end.NotShown = codes "mcserver: write fault"
+text_of end.NoMemory = codes "mcserver: out of memory"
+
+-- what may be done about it
+abbrev pub hint_of : End → List ℕ
+hint_of end.CannotListen = codes "mcserver: there are no sockets yet; --stdin serves one session over standard input and output"
+hint_of _ = codes ""
