@@ -281,7 +281,7 @@ wrote stays reply key flags expiry block old now =
     else if old.next_unique == 2 ^ 64 - 1 then Spent
     else if stays then Answered reply (written old key flags expiry block now)
     else if has_room old (block_class key block) then
-      Answered reply (written (with_chunk old (block_class key block)) key flags expiry block now)
+    Answered reply (written (with_chunk old (block_class key block)) key flags expiry block now)
     else Answered NoChunk old
 
 -- the key's item with another expiry, if there is one
