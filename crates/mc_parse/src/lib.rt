@@ -13,7 +13,7 @@ mod progress;
 
 pub use feed::Feed;
 pub use laws::{
-    cutting_does_not_matter, no_spelling_begins_another, one_list_of_units,
+    a_spelling_has_a_byte, cutting_does_not_matter, no_spelling_begins_another, one_list_of_units,
     pieces_are_fed_as_joined,
 };
 pub use line::{Head, Line, line_of};
