@@ -10,6 +10,7 @@ mod line_laws;
 mod name;
 mod peek;
 mod progress;
+mod queue;
 
 pub use feed::Feed;
 pub use laws::{
@@ -20,6 +21,7 @@ pub use line::{Head, Line, line_of};
 pub use line_laws::{keys_of_a_line_are_keys, words_hold_no_space_or_feed};
 pub use name::Name;
 pub use peek::{Peek, peek_at};
+pub use queue::Queue;
 
 #[cfg(test)]
 mod tests;

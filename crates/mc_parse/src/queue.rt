@@ -1,5 +1,4 @@
 ghost use Rattle.std.specs.Prelude.{◌≡◌, ◌-◌, ◌≤◌, drop, length, vec_capacity};
-ghost use Rattle.mc_parse.specs.Queues.{IsSmallWhenEmpty};
 
 use std::alloc::{AllocError, Global};
 use std::marker::Model;
@@ -14,18 +13,19 @@ pub struct Queue {
 }
 
 impl Model for Queue {
-    ghost use Rattle.std.specs.Prelude.{ℕ, List, drop};
+    ghost use Rattle.std.specs.Prelude.{ℕ, List, drop, vec_capacity};
     ghost use Rattle.mc_parse.specs.Queues.{IsHalfFull};
 
     ghost Value = { List ℕ };
 
     ghost view = { λ q. drop q.taken q.buffer.items };
 
-    ghost invariant = { λ q. IsHalfFull q.taken q.buffer };
+    ghost invariant = { λ q. IsHalfFull q.taken q.buffer.items (vec_capacity q.buffer) };
 }
 
 impl Queue {
     ghost use Rattle.std.specs.Prelude.{◌≡◌, ◌↔◌, ◌*◌, ◌≤◌, [], ◌++◌, drop, length, IsTrue, OnOk, OnErr};
+    ghost use Rattle.mc_parse.specs.Queues.{OnlyAppends, HasWritten};
 
     /// Makes a queue of no bytes. It takes no memory.
     pub fn new(alloc: Global) -> Queue
@@ -87,6 +87,18 @@ impl Queue {
         result
     }
 
+    /// Appends what a function appends to a buffer, and returns what it returns. It finds the bytes that weren't taken yet
+    /// at the buffer's end, and may do nothing with the buffer but append to it.
+    pub fn append_with<R, W: FnOnce(&mut Vec<u8>) -> R>(&mut self, write: W) -> R
+        requires callable { W.IsAlwaysCallable write }
+        requires appends { OnlyAppends W.FnOnce write }
+        ensures { HasWritten W.FnOnce write self.old self.new result }
+    {
+        let result = write(&mut self.buffer);
+        give_back(&mut self.buffer, self.alloc);
+        result
+    }
+
     /// Takes the first `n` bytes away. What is left is moved to the front where it is no longer than what was taken, so
     /// that each byte that is taken pays for one that is moved.
     pub fn consume(&mut self, n: usize)
@@ -130,12 +142,9 @@ fn drop_front(buffer: &mut Vec<u8>, front: usize)
 /// Gives the memory of an empty buffer back, where it grew large.
 fn give_back(buffer: &mut Vec<u8>, alloc: Global)
     ensures same { buffer.new.items ≡ buffer.old.items }
-    ensures small { IsSmallWhenEmpty buffer.new }
+    ensures small { length buffer.new.items ≡ 0 → vec_capacity buffer.new ≤ 65536 }
 {
     if buffer.is_empty() && buffer.capacity() > KEPT {
         *buffer = Vec::new(alloc);
     }
 }
-
-#[cfg(test)]
-mod tests;
