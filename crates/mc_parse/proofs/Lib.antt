@@ -2,7 +2,8 @@ pub mod LineLemmas
 pub mod LineWords
 pub mod UnitLemmas
 pub mod SearchLemmas
-pub mod ProgressLemmas
+pub mod NoteLemmas
+pub mod AheadLemmas
 pub mod BeginLemmas
 pub mod StreamLemmas
 pub mod KeyLemmas

@@ -1,6 +1,6 @@
 -- A queue's buffer after bytes were appended to it.
 use Rattle.std.proofs.Common.{◌≡◌, ◌≤◌, ◌+◌, ℕ, List, ◌++◌, length, take, drop, sym, ap, ◌∙◌, arith, length-append}
-use Rattle.std.proofs.lemmas.List.{take-append-drop, take-append-le, drop-append-le}
+use Rattle.std.proofs.lemmas.List.{take-append-drop, take-append-le}
 
 -- no more bytes were taken than are left
 pub half_more : (taken : ℕ) (old more written new : List ℕ) → taken + taken ≤ length old → written ≡ old ++ more → new ≡ written → taken + taken ≤ length new

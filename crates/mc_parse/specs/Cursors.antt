@@ -35,3 +35,7 @@ pub record IsWithin (cursor : Cursor) (bytes : List ℕ) : Type 0 where
 pub record PointsInto (greatest : ℕ) (cursor : Cursor) (bytes : List ℕ) : Type 0 where
   pub within : IsWithin cursor bytes
   pub left : IsLeft greatest cursor.taken (Request (retrieval_left cursor bytes), cursor.len) bytes
+
+-- the cursor is before the first turn
+abbrev pub IsFirst : (greatest : ℕ) → Cursor → List ℕ → Type 0
+IsFirst greatest cursor bytes = PointsInto greatest cursor bytes × (cursor.taken ≡ 0)

@@ -1,9 +1,9 @@
 -- What a feed holds.
 use Rattle.std.specs.Prelude.{◌≡◌, ℕ, ◌-◌, List, [], ◌++◌, ◌⊎◌, length, drop, Option, IfSome}
 use Rattle.mc_parse.specs.declared.cursor.Cursor.{Cursor}
-use Rattle.mc_parse.specs.declared.progress.Progress.{Progress}
+use Rattle.mc_parse.specs.declared.ahead.Ahead.{Ahead}
 use Rattle.mc_parse.specs.Cursors.{PointsInto}
-use Rattle.mc_parse.specs.Progresses.{HasProgress}
+use Rattle.mc_parse.specs.Aheads.{Knows}
 
 -- the greatest charge, how many bytes are still to be passed over, and the bytes that came and weren't read yet
 pub record Unread : Type 0 where
@@ -28,8 +28,8 @@ abbrev pub IsSettled : Unread → Type 0
 IsSettled u = (u.passed ≡ 0) ⊎ (u.bytes ≡ [])
 
 -- What a feed keeps beside its bytes: none is unread while some are to be passed over, and what it notes of the turns that
--- were taken and of how far it has looked fits the unread bytes.
-pub record IsKept (greatest passed : ℕ) (cursor : Option Cursor) (progress : Progress) (bytes : List ℕ) : Type 0 where
+-- were taken and of what the unread bytes begin with is so.
+pub record IsKept (greatest passed : ℕ) (cursor : Option Cursor) (ahead : Ahead) (bytes : List ℕ) : Type 0 where
   pub settled : (passed ≡ 0) ⊎ (bytes ≡ [])
   pub points : IfSome cursor (λ c. PointsInto greatest c bytes)
-  pub looked : HasProgress greatest progress bytes
+  pub knows : Knows greatest ahead bytes

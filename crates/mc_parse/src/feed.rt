@@ -1,6 +1,6 @@
+use crate::ahead::Ahead;
 use crate::cursor::{Cursor, cursor_after};
 use crate::peek::Peek;
-use crate::progress::Progress;
 use crate::queue::Queue;
 use mc_command::LineFault;
 use std::alloc::{AllocError, Global};
@@ -16,8 +16,8 @@ pub struct Feed {
     unread: Queue,
     /// Where the retrieval stands that the unread bytes begin with, if turns of it were noted.
     cursor: Option<Cursor>,
-    /// How far the unread bytes were looked at before the last piece came.
-    progress: Progress,
+    /// What the unread bytes begin with.
+    ahead: Ahead,
 }
 
 impl Model for Feed {
@@ -27,7 +27,7 @@ impl Model for Feed {
 
     ghost view = { λ f. record { greatest = f.greatest; passed = f.passed; bytes = f.unread } };
 
-    ghost invariant = { λ f. IsKept f.greatest f.passed f.cursor f.progress f.unread };
+    ghost invariant = { λ f. IsKept f.greatest f.passed f.cursor f.ahead f.unread };
 }
 
 impl Feed {
@@ -37,6 +37,7 @@ impl Feed {
     ghost use Rattle.mc_parse.specs.Units.{ProtocolUnit, Request};
     ghost use Rattle.mc_parse.specs.Streams.{passed_after};
     ghost use Rattle.mc_parse.specs.Peeks.{unit_of, IsSpelled, IsLeft, BeginsWithNone, left_of};
+    ghost use Rattle.mc_parse.specs.Cursors.{PointsInto};
     ghost use Rattle.mc_parse.specs.Feeds.{pushed, read, IsSettled};
 
     /// A feed of no bytes, whose storage commands may charge at most `greatest` bytes. It takes no memory.
@@ -48,7 +49,7 @@ impl Feed {
             passed: 0,
             unread: Queue::new(alloc),
             cursor: None,
-            progress: Progress::none(),
+            ahead: Ahead::none(),
         }
     }
 
@@ -57,11 +58,11 @@ impl Feed {
         ensures ok { OnOk result (self.new ≡ pushed self.old piece.now) }
         ensures err { OnErr result (self.new ≡ self.old) }
     {
-        self.note_progress();
         let skipped = (piece.len() as u64).min(self.passed);
         let (_, kept) = piece.split_at(skipped as usize);
         self.unread.push(kept)?;
         self.passed -= skipped;
+        self.ahead = self.ahead.after(self.greatest, self.unread.as_slice());
         Ok(())
     }
 
@@ -99,8 +100,7 @@ impl Feed {
     pub fn mark(&mut self, taken: usize)
         ensures { self.new ≡ self.old }
     {
-        let cursor = cursor_after(self.cursor, self.greatest, self.unread.as_slice(), taken);
-        self.cursor = cursor;
+        self.cursor = self.cursor_at(taken);
     }
 
     /// Passes over the unit that the unread bytes begin with, which `peek` found to be spelled by `len` bytes. The bytes
@@ -125,10 +125,10 @@ impl Feed {
     {
         let left = self.unread.len() - len;
         let dropped = passed.min(left as u64);
-        self.cursor = None;
-        self.progress = Progress::none();
         self.passed = passed - dropped;
         self.unread.consume(len + dropped as usize);
+        self.cursor = None;
+        self.ahead = Ahead::none().after(self.greatest, self.unread.as_slice());
     }
 
     /// Drops what is unread and what is to be passed over. It takes no memory.
@@ -138,7 +138,7 @@ impl Feed {
         self.unread.clear();
         self.passed = 0;
         self.cursor = None;
-        self.progress = Progress::none();
+        self.ahead = Ahead::none();
     }
 
     /// Counts the unread bytes. There are none while bytes are to be passed over.
@@ -159,14 +159,6 @@ impl Feed {
         self.unread.held()
     }
 
-    /// Notes how far the unread bytes were looked at, so that they needn't be read again when more come.
-    fn note_progress(&mut self)
-        ensures { self.new ≡ self.old }
-    {
-        let progress = self.progress.after(self.greatest, self.unread.as_slice());
-        self.progress = progress;
-    }
-
     /// The same as `peek`. What else is said there follows from the two clauses.
     fn first_unit(&self) -> Peek<'_>
         ensures found { IfSome (unit_of result) (λ found. (self.now.passed ≡ 0) × IsSpelled self.now.greatest found self.now.bytes) }
@@ -175,7 +167,7 @@ impl Feed {
         if self.passed > 0 {
             return Peek::More;
         }
-        self.progress.peek(self.greatest, self.unread.as_slice())
+        self.ahead.peek(self.unread.as_slice())
     }
 
     /// The same as `peek_after`.
@@ -186,10 +178,25 @@ impl Feed {
         if taken == 0 || self.passed > 0 {
             return self.first_unit();
         }
-        let unread = self.unread.as_slice();
-        match cursor_after(self.cursor, self.greatest, unread, taken) {
-            Some(cursor) => cursor.peek(unread),
+        match self.cursor_at(taken) {
+            Some(cursor) => cursor.peek(self.unread.as_slice()),
             None => self.first_unit(),
         }
+    }
+
+    /// Moves to the cursor after `taken` turns of the retrieval that the unread bytes begin with. There is none where they
+    /// begin with something else.
+    fn cursor_at(&self, taken: usize) -> Option<Cursor>
+        ensures some { IfSome result (λ cursor. PointsInto self.now.greatest cursor self.now.bytes) }
+        ensures taken { IfSome result (λ cursor. cursor.taken ≡ taken) }
+        // Where there is none a unit is whole after any turns.
+        ensures none { (unit : ProtocolUnit) (len : ℕ) → result ≡ None → IsSpelled self.now.greatest (unit, len) self.now.bytes → left_of unit taken ≡ unit }
+    {
+        cursor_after(
+            self.cursor,
+            self.ahead.cursor(),
+            self.unread.as_slice(),
+            taken,
+        )
     }
 }

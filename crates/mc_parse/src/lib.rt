@@ -1,6 +1,7 @@
 //! Partial input as lent commands.
 #![tactic(auto)]
 
+mod ahead;
 mod cursor;
 mod exptime;
 mod feed;
@@ -8,8 +9,8 @@ mod laws;
 mod line;
 mod line_laws;
 mod name;
+mod note;
 mod peek;
-mod progress;
 mod queue;
 
 pub use feed::Feed;

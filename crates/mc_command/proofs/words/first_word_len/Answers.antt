@@ -10,4 +10,4 @@ returns-clause-rest c =
     let rest = c.split_at.result.1.now in
     let len = c.word_len.result in
     ap words (ap (λ n. drop (n + len) text) c.split_at.ensures.front_len ∙ sym (drop-drop len c.spaces.result text) ∙ ap (drop len) (sym c.split_at.ensures.back))
-    ∙ words-rest text rest c.spaces.result c.spaces.ensures c.split_at.ensures.back len c.word_len.ensures
+    ∙ words-rest text rest c.spaces.result c.spaces.ensures.len c.split_at.ensures.back len c.word_len.ensures

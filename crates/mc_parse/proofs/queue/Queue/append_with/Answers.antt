@@ -1,4 +1,4 @@
-use Rattle.std.proofs.Common.{refl, sym, ap, ◌∙◌, arith, rules, length, drop, take, ◌++◌, length-append}
+use Rattle.std.proofs.Common.{refl, take}
 use Rattle.std.specs.Fn.{FnOnceReturnsAtMut}
 use Rattle.mc_parse.proofs.QueueLemmas.{half_more, ends_old, ends_new}
 use Rattle.mc_parse.proofs.queue.Queue.append_with.Goals as goal
