@@ -1,5 +1,5 @@
 -- What is kept of a line that was read.
-use Rattle.std.specs.Prelude.{◌≡◌, ◌≤◌, ◌<◌, ◌+◌, ℕ, Bool, true, false, List, [], length, take, drop, Result, Ok, Err}
+use Rattle.std.specs.Prelude.{◌≡◌, ◌≤◌, ◌<◌, ◌+◌, ℕ, Bool, true, false, List, [], ◌∷◌, length, take, drop, Result, Ok, Err}
 use Rattle.std.specs.Str.Lines.{strip_carriage_return}
 use Rattle.mc_command.specs.Words.{words}
 use Rattle.mc_command.specs.declared.command.Command.{Command}
@@ -62,6 +62,14 @@ IsKeptOf line (Retrieval exptime count with_unique) =
 -- the line whose line feed is at this place says this
 abbrev pub Says : (greatest : ℕ) → (bytes : List ℕ) → (end : ℕ) → Result Line LineFault → Type 0
 Says greatest bytes end line = meaning greatest (words (strip_carriage_return (take end bytes))) ≡ line
+
+-- the word is the second of the words
+abbrev pub IsSecond : List ℕ → List (List ℕ) → Type 0
+IsSecond word ws = take 1 (drop 1 ws) ≡ word ∷ []
+
+-- the word stands in the text from this place on
+abbrev pub StandsAt : (at : ℕ) → (word text : List ℕ) → Type 0
+StandsAt at word text = word ≡ take (length word) (drop at text)
 
 -- the first line of the bytes is noted, and the place of its key
 pub record IsNoted (greatest : ℕ) (note : LineNote) (bytes : List ℕ) : Type 0 where

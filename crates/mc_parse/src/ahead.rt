@@ -1,7 +1,7 @@
 ghost use Rattle.std.specs.Prelude.{◌≡◌, ◌<◌, ◌+◌, ℕ, List, take, length, IfSome, None};
-ghost use Rattle.mc_parse.specs.Units.{ProtocolUnit, IsLine};
-ghost use Rattle.mc_parse.specs.Peeks.{unit_of, IsSpelled, BeginsWithNone, left_of};
-ghost use Rattle.mc_parse.specs.Cursors.{IsFirst};
+ghost use Rattle.mc_parse.specs.Units.{IsLine};
+ghost use Rattle.mc_parse.specs.Peeks.{unit_of, FindsSpelled, MissesNone, StaysWhole};
+ghost use Rattle.mc_parse.specs.Cursors.{IsFirstCursor};
 ghost use Rattle.mc_parse.specs.Aheads.{Knew, Knows, HasNoFeed};
 
 use crate::cursor::Cursor;
@@ -42,8 +42,10 @@ impl Ahead {
     /// Tells what the unread bytes begin with. It looks at no line.
     pub fn peek<'a>(&self, unread: &'a [u8]) -> Peek<'a>
         requires { (greatest : ℕ) × Knows greatest self.now unread.now }
-        ensures found { (greatest : ℕ) → Knows greatest self.now unread.now → IfSome (unit_of result) (λ found. IsSpelled greatest found unread.now) }
-        ensures none { (greatest : ℕ) → Knows greatest self.now unread.now → unit_of result ≡ None → BeginsWithNone greatest unread.now }
+        ensures found { (greatest : ℕ) → Knows greatest self.now unread.now →
+            FindsSpelled greatest (unit_of result) unread.now }
+        ensures none { (greatest : ℕ) → Knows greatest self.now unread.now →
+            MissesNone greatest (unit_of result) unread.now }
     {
         match self {
             Ahead::Searched(_) => peek_endless(unread),
@@ -55,10 +57,11 @@ impl Ahead {
     /// Gives the cursor before the first turn of the retrieval that the bytes begin with. There is none where they begin
     /// with something else.
     pub fn cursor(&self) -> Option<Cursor>
-        ensures some { (greatest : ℕ) (bytes : List ℕ) → Knows greatest self.now bytes → IfSome result (λ cursor. IsFirst greatest cursor bytes) }
+        ensures some { (greatest : ℕ) (bytes : List ℕ) →
+            Knows greatest self.now bytes → IsFirstCursor greatest result bytes }
         // Where there is none a unit is whole after any turns.
-        ensures none { (greatest : ℕ) (bytes : List ℕ) (unit : ProtocolUnit) (len taken : ℕ) → Knows greatest self.now bytes → result ≡ None →
-            IsSpelled greatest (unit, len) bytes → left_of unit taken ≡ unit }
+        ensures none { (greatest taken : ℕ) (bytes : List ℕ) →
+            Knows greatest self.now bytes → result ≡ None → StaysWhole greatest taken bytes }
     {
         match self {
             Ahead::Retrieval(cursor) => Some(*cursor),
@@ -70,8 +73,10 @@ impl Ahead {
 
 /// Tells what bytes begin with among whose first 65537 no line feed is.
 fn peek_endless(unread: &[u8]) -> Peek<'_>
-    ensures found { (greatest : ℕ) → HasNoFeed 65537 unread.now → IfSome (unit_of result) (λ found. IsSpelled greatest found unread.now) }
-    ensures none { (greatest : ℕ) → HasNoFeed 65537 unread.now → unit_of result ≡ None → BeginsWithNone greatest unread.now }
+    ensures found { (greatest : ℕ) →
+        HasNoFeed 65537 unread.now → FindsSpelled greatest (unit_of result) unread.now }
+    ensures none { (greatest : ℕ) →
+        HasNoFeed 65537 unread.now → MissesNone greatest (unit_of result) unread.now }
 {
     if unread.len() > LONGEST {
         Peek::TooLong

@@ -1,8 +1,9 @@
 ghost use Rattle.std.specs.Prelude.{◌≡◌, ◌≤◌, ◌<◌, ◌+◌, ◌-◌, ◌^◌, ℕ, List, IfSome, length, drop};
 ghost use Rattle.mc_command.specs.Words.{words};
-ghost use Rattle.mc_parse.specs.Units.{ProtocolUnit, Request};
-ghost use Rattle.mc_parse.specs.Peeks.{unit_of, IsSpelled, left_of};
-ghost use Rattle.mc_parse.specs.Cursors.{retrieval, retrieval_left, words_before, IsWithin, PointsInto, IsFirst};
+ghost use Rattle.mc_parse.specs.Units.{Request};
+ghost use Rattle.mc_parse.specs.Peeks.{unit_of};
+ghost use Rattle.mc_parse.specs.Cursors.{retrieval_left, words_before, IsWithin, PointsInto};
+ghost use Rattle.mc_parse.specs.Cursors.{IsCursor, IsFirstCursor, SpellsRetrieval};
 
 use crate::peek::{Peek, without_carriage_return};
 use mc_command::{Command, Keys, first_word_len};
@@ -37,7 +38,9 @@ impl Cursor {
     ) -> Cursor
         requires some { 0 < len }
         requires inside { len ≤ length unread.now }
-        ensures points { (greatest : ℕ) (keys : List (List ℕ)) → IsSpelled greatest (Request (retrieval exptime keys with_unique), len) unread.now → left ≡ length keys → PointsInto greatest result unread.now }
+        ensures points { (greatest : ℕ) (keys : List (List ℕ)) →
+            SpellsRetrieval greatest len exptime keys with_unique unread.now →
+            left ≡ length keys → PointsInto greatest result unread.now }
         ensures untaken { result.taken ≡ 0 }
     {
         let (line, _) = unread.split_at(len - 1);
@@ -58,7 +61,8 @@ impl Cursor {
         requires within { IsWithin self.now unread.now }
         requires taken { self.now.taken < 2 ^ 64 - 1 }
         ensures within { IsWithin result unread.now }
-        ensures points { (greatest : ℕ) → PointsInto greatest self.now unread.now → PointsInto greatest result unread.now }
+        ensures points { (greatest : ℕ) →
+            PointsInto greatest self.now unread.now → PointsInto greatest result unread.now }
         ensures taken { result.taken ≡ self.now.taken + 1 }
     {
         let (line, _) = unread.split_at(self.to);
@@ -74,7 +78,8 @@ impl Cursor {
     /// The retrieval of the keys that are left. It costs nothing.
     pub fn peek<'a>(&self, unread: &'a [u8]) -> Peek<'a>
         requires { IsWithin self.now unread.now }
-        ensures { unit_of result ≡ Some (Request (retrieval_left self.now unread.now), self.now.len) }
+        ensures { unit_of result ≡
+            Some (Request (retrieval_left self.now unread.now), self.now.len) }
     {
         let (line, _) = unread.split_at(self.to);
         let (_, text) = line.split_at(self.from);
@@ -100,10 +105,10 @@ pub fn cursor_after(
     unread: &[u8],
     taken: usize,
 ) -> Option<Cursor>
-    requires known { (greatest : ℕ) × IfSome known (λ cursor. PointsInto greatest cursor unread.now) }
-    requires first { (greatest : ℕ) × IfSome first (λ cursor. IsFirst greatest cursor unread.now) }
-    ensures some { (greatest : ℕ) → IfSome known (λ cursor. PointsInto greatest cursor unread.now) → IfSome first (λ cursor. IsFirst greatest cursor unread.now) →
-        IfSome result (λ cursor. PointsInto greatest cursor unread.now) }
+    requires known { (greatest : ℕ) × IsCursor greatest known unread.now }
+    requires first { (greatest : ℕ) × IsFirstCursor greatest first unread.now }
+    ensures some { (greatest : ℕ) → IsCursor greatest known unread.now →
+        IsFirstCursor greatest first unread.now → IsCursor greatest result unread.now }
     ensures taken { IfSome result (λ cursor. cursor.taken ≡ taken) }
     ensures none { result ≡ None → first ≡ None }
 {
@@ -120,7 +125,8 @@ pub fn cursor_after(
 fn moved_to(mut cursor: Cursor, unread: &[u8], taken: usize) -> Cursor
     requires within { IsWithin cursor unread.now }
     requires ahead { cursor.taken ≤ taken }
-    ensures points { (greatest : ℕ) → PointsInto greatest cursor unread.now → PointsInto greatest result unread.now }
+    ensures points { (greatest : ℕ) →
+        PointsInto greatest cursor unread.now → PointsInto greatest result unread.now }
     ensures taken { result.taken ≡ taken }
 {
     while cursor.taken < taken && cursor.left > 0 {

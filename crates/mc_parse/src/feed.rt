@@ -31,14 +31,11 @@ impl Model for Feed {
 }
 
 impl Feed {
-    ghost use Rattle.std.specs.Prelude.{◌≡◌, ◌≤◌, ◌<◌, ◌*◌, ℕ, [], drop, length, IfSome, OnOk, OnErr};
-    ghost use Rattle.mc_command.specs.Commands.{HasShortKeys};
-    ghost use Rattle.mc_command.specs.declared.command.Command.{Command};
-    ghost use Rattle.mc_parse.specs.Units.{ProtocolUnit, Request};
-    ghost use Rattle.mc_parse.specs.Streams.{passed_after};
-    ghost use Rattle.mc_parse.specs.Peeks.{unit_of, IsSpelled, IsLeft, BeginsWithNone, left_of};
-    ghost use Rattle.mc_parse.specs.Cursors.{PointsInto};
-    ghost use Rattle.mc_parse.specs.Feeds.{pushed, read, IsSettled};
+    ghost use Rattle.std.specs.Prelude.{◌≡◌, ◌≤◌, ◌<◌, ◌*◌, [], length, IfSome, OnOk, OnErr};
+    ghost use Rattle.mc_parse.specs.Peeks.{unit_of, FindsShortKeys, StaysWhole};
+    ghost use Rattle.mc_parse.specs.Cursors.{IsCursor};
+    ghost use Rattle.mc_parse.specs.Feeds.{pushed, read, IsSettled, HasNoUnit, HasUnit, ReadsUnit};
+    ghost use Rattle.mc_parse.specs.Feeds.{Finds, FindsAny, FindsLeft, FindsAnyLeft};
 
     /// A feed of no bytes, whose storage commands may charge at most `greatest` bytes. It takes no memory.
     pub fn new(alloc: Global, greatest: u64) -> Feed
@@ -70,14 +67,14 @@ impl Feed {
     /// searched again, and where a block is awaited it costs nothing until the block is there.
     pub fn peek(&self) -> Peek<'_>
         // What it finds is spelled by the front that it counts, and no byte is to be passed over.
-        ensures found { IfSome (unit_of result) (λ found. (self.now.passed ≡ 0) × IsSpelled self.now.greatest found self.now.bytes) }
+        ensures found { Finds self.now (unit_of result) }
         // It finds nothing exactly where no front of the stream spells anything.
-        ensures none { unit_of result ≡ None → BeginsWithNone self.now.greatest (drop self.now.passed self.now.bytes) }
-        ensures more { BeginsWithNone self.now.greatest (drop self.now.passed self.now.bytes) → unit_of result ≡ None }
+        ensures none { unit_of result ≡ None → HasNoUnit self.now }
+        ensures more { HasNoUnit self.now → unit_of result ≡ None }
         // Whatever a front spells is what it finds.
-        ensures only { (unit : ProtocolUnit) (len : ℕ) → self.now.passed ≡ 0 → IsSpelled self.now.greatest (unit, len) self.now.bytes → unit_of result ≡ Some (unit, len) }
+        ensures only { FindsAny self.now (unit_of result) }
         // No key of a command is longer than 250 bytes.
-        ensures keys { (command : Command) (len : ℕ) → unit_of result ≡ Some (Request command, len) → HasShortKeys command }
+        ensures keys { FindsShortKeys (unit_of result) }
     {
         self.first_unit()
     }
@@ -85,13 +82,13 @@ impl Feed {
     /// The same after `taken` turns of the first unit: of a retrieval, the retrieval of the keys that are left. Where
     /// `mark` was told of these turns it costs as much as the next key, whatever the line's length.
     pub fn peek_after(&self, taken: usize) -> Peek<'_>
-        ensures found { IfSome (unit_of result) (λ found. (self.now.passed ≡ 0) × IsLeft self.now.greatest taken found self.now.bytes) }
+        ensures found { FindsLeft self.now taken (unit_of result) }
         // It finds nothing exactly where no front of the stream spells anything.
-        ensures none { unit_of result ≡ None → BeginsWithNone self.now.greatest (drop self.now.passed self.now.bytes) }
-        ensures more { BeginsWithNone self.now.greatest (drop self.now.passed self.now.bytes) → unit_of result ≡ None }
+        ensures none { unit_of result ≡ None → HasNoUnit self.now }
+        ensures more { HasNoUnit self.now → unit_of result ≡ None }
         // Of whatever a front spells, what is left is what it finds.
-        ensures only { (unit : ProtocolUnit) (len : ℕ) → self.now.passed ≡ 0 → IsSpelled self.now.greatest (unit, len) self.now.bytes → unit_of result ≡ Some (left_of unit taken, len) }
-        ensures keys { (command : Command) (len : ℕ) → unit_of result ≡ Some (Request command, len) → HasShortKeys command }
+        ensures only { FindsAnyLeft self.now taken (unit_of result) }
+        ensures keys { FindsShortKeys (unit_of result) }
     {
         self.unit_after(taken)
     }
@@ -106,8 +103,8 @@ impl Feed {
     /// Passes over the unit that the unread bytes begin with, which `peek` found to be spelled by `len` bytes. The bytes
     /// that a fault passes over are dropped as they come. It takes no memory.
     pub fn done(&mut self, len: usize)
-        requires { (unit : ProtocolUnit) × IsSpelled self.old.greatest (unit, len) self.old.bytes × (self.old.passed ≡ 0) }
-        ensures { (unit : ProtocolUnit) → IsSpelled self.old.greatest (unit, len) self.old.bytes → self.new ≡ read self.old len (passed_after unit) }
+        requires { HasUnit self.old len }
+        ensures { ReadsUnit self.old len self.new }
     {
         let passed = match self.peek() {
             Peek::Bad(LineFault::TooLarge { passed }, _) => passed,
@@ -161,8 +158,8 @@ impl Feed {
 
     /// The same as `peek`. What else is said there follows from the two clauses.
     fn first_unit(&self) -> Peek<'_>
-        ensures found { IfSome (unit_of result) (λ found. (self.now.passed ≡ 0) × IsSpelled self.now.greatest found self.now.bytes) }
-        ensures none { unit_of result ≡ None → BeginsWithNone self.now.greatest (drop self.now.passed self.now.bytes) }
+        ensures found { Finds self.now (unit_of result) }
+        ensures none { unit_of result ≡ None → HasNoUnit self.now }
     {
         if self.passed > 0 {
             return Peek::More;
@@ -172,8 +169,8 @@ impl Feed {
 
     /// The same as `peek_after`.
     fn unit_after(&self, taken: usize) -> Peek<'_>
-        ensures found { IfSome (unit_of result) (λ found. (self.now.passed ≡ 0) × IsLeft self.now.greatest taken found self.now.bytes) }
-        ensures none { unit_of result ≡ None → BeginsWithNone self.now.greatest (drop self.now.passed self.now.bytes) }
+        ensures found { FindsLeft self.now taken (unit_of result) }
+        ensures none { unit_of result ≡ None → HasNoUnit self.now }
     {
         if taken == 0 || self.passed > 0 {
             return self.first_unit();
@@ -187,10 +184,10 @@ impl Feed {
     /// Moves to the cursor after `taken` turns of the retrieval that the unread bytes begin with. There is none where they
     /// begin with something else.
     fn cursor_at(&self, taken: usize) -> Option<Cursor>
-        ensures some { IfSome result (λ cursor. PointsInto self.now.greatest cursor self.now.bytes) }
+        ensures some { IsCursor self.now.greatest result self.now.bytes }
         ensures taken { IfSome result (λ cursor. cursor.taken ≡ taken) }
         // Where there is none a unit is whole after any turns.
-        ensures none { (unit : ProtocolUnit) (len : ℕ) → result ≡ None → IsSpelled self.now.greatest (unit, len) self.now.bytes → left_of unit taken ≡ unit }
+        ensures none { result ≡ None → StaysWhole self.now.greatest taken self.now.bytes }
     {
         cursor_after(
             self.cursor,

@@ -223,7 +223,9 @@ fn lone_line<'a>(command: Command<'a>, args: &[u8]) -> Result<Line<'a>, LineFaul
 
 /// A word that has to stand, and what follows it.
 fn next_word(text: &[u8]) -> Result<(&[u8], &[u8]), LineFault>
-    ensures { MatchResult result (λ p. words text.now ≡ p.0.now ∷ words p.1.now) (λ fault. (fault ≡ Unknown) × (words text.now ≡ [])) }
+    ensures { MatchResult result
+        (λ p. words text.now ≡ p.0.now ∷ words p.1.now)
+        (λ fault. (fault ≡ Unknown) × (words text.now ≡ [])) }
 {
     first_word(text).ok_or(LineFault::Unknown)
 }

@@ -1,7 +1,7 @@
-ghost use Rattle.std.specs.Prelude.{◌≡◌, ◌≤◌, List, ℕ, [], ◌∷◌, take, drop, length, IfSome, None, Ok};
+ghost use Rattle.std.specs.Prelude.{◌≡◌, ◌≤◌, List, ℕ, [], length, Ok};
 ghost use Rattle.mc_command.specs.Words.{words};
-ghost use Rattle.mc_parse.specs.Peeks.{unit_of, IsSpelled, BeginsWithNone};
-ghost use Rattle.mc_parse.specs.Notes.{said_of, IsKeptOf, StandsInLine, IsNoted};
+ghost use Rattle.mc_parse.specs.Peeks.{unit_of, FindsSpelled, MissesNone};
+ghost use Rattle.mc_parse.specs.Notes.{said_of, IsKeptOf, StandsInLine, IsSecond, StandsAt, IsNoted};
 ghost use Rattle.mc_parse.specs.Lines.{meaning};
 ghost use Rattle.mc_parse.specs.declared.line.Line.TheVariants.{Bare, Block};
 
@@ -69,7 +69,7 @@ impl LineNote {
         ensures said { result.said ≡ said }
         ensures key_len { result.key_len ≡ length key.now }
         ensures key_from { result.key_from ≤ length text.now }
-        ensures key { take 1 (drop 1 (words text.now)) ≡ key.now ∷ [] → key.now ≡ take (length key.now) (drop result.key_from text.now) }
+        ensures key { IsSecond key.now (words text.now) → StandsAt result.key_from key.now text.now }
     {
         LineNote {
             end,
@@ -82,8 +82,10 @@ impl LineNote {
     /// Tells what the unread bytes begin with. Of the line it looks at nothing.
     pub fn peek<'a>(&self, unread: &'a [u8]) -> Peek<'a>
         requires { (greatest : ℕ) × IsNoted greatest self.now unread.now }
-        ensures found { (greatest : ℕ) → IsNoted greatest self.now unread.now → IfSome (unit_of result) (λ found. IsSpelled greatest found unread.now) }
-        ensures none { (greatest : ℕ) → IsNoted greatest self.now unread.now → unit_of result ≡ None → BeginsWithNone greatest unread.now }
+        ensures found { (greatest : ℕ) → IsNoted greatest self.now unread.now →
+            FindsSpelled greatest (unit_of result) unread.now }
+        ensures none { (greatest : ℕ) → IsNoted greatest self.now unread.now →
+            MissesNone greatest (unit_of result) unread.now }
     {
         let (_, behind) = unread.split_at(self.key_from);
         let (key, _) = behind.split_at(self.key_len);
@@ -239,7 +241,8 @@ fn kept_command(command: Command<'_>) -> Kept<'_>
 /// Finds where the second word of a text begins.
 fn second_word_at(text: &[u8]) -> usize
     ensures within { result ≤ length text.now }
-    ensures at { (word : List ℕ) → take 1 (drop 1 (words text.now)) ≡ word ∷ [] → word ≡ take (length word) (drop result text.now) }
+    ensures at { (word : List ℕ) →
+        IsSecond word (words text.now) → StandsAt result word text.now }
 {
     let first = first_word_len(text);
     let (_, rest) = text.split_at(first);

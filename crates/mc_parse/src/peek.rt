@@ -1,8 +1,8 @@
-ghost use Rattle.std.specs.Prelude.{◌≡◌, ◌≢◌, ◌+◌, ◌++◌, ◌<◌, ℕ, List, length, take, IfSome};
+ghost use Rattle.std.specs.Prelude.{◌≡◌, ◌≢◌, ◌+◌, ◌<◌, ℕ, length, take, IfSome, None};
 ghost use Rattle.std.specs.List.{AllByRecursion};
 ghost use Rattle.std.specs.Str.Lines.{strip_carriage_return};
-ghost use Rattle.mc_parse.specs.Units.{ProtocolUnit, IsLine, with_block};
-ghost use Rattle.mc_parse.specs.Peeks.{unit_of, IsSpelled, BeginsWithNone};
+ghost use Rattle.mc_parse.specs.Units.{IsLine, HasLine, with_block};
+ghost use Rattle.mc_parse.specs.Peeks.{unit_of, FindsSpelled, MissesNone, FindsWhatever};
 ghost use Rattle.mc_parse.specs.Notes.{Says};
 
 use crate::ahead::Ahead;
@@ -30,11 +30,11 @@ pub const LONGEST: usize = 65536;
 /// first line, and of a block only at the two bytes behind it.
 pub fn peek_at(greatest: u64, unread: &[u8]) -> Peek<'_>
     // What it finds is spelled by the front that it counts.
-    ensures found { IfSome (unit_of result) (λ found. IsSpelled greatest found unread.now) }
-    // It finds nothing only where no front spells anything: the bytes have the list of no units (`AreUnits`).
-    ensures none { unit_of result ≡ None → BeginsWithNone greatest unread.now }
+    ensures found { FindsSpelled greatest (unit_of result) unread.now }
+    // It finds nothing only where no front spells anything.
+    ensures none { MissesNone greatest (unit_of result) unread.now }
     // Whatever a front spells is what it finds.
-    ensures only { (unit : ProtocolUnit) (len : ℕ) → IsSpelled greatest (unit, len) unread.now → unit_of result ≡ Some (unit, len) }
+    ensures only { FindsWhatever greatest (unit_of result) unread.now }
 {
     let ahead = Ahead::none().after(greatest, unread);
     ahead.peek(unread)
@@ -44,7 +44,7 @@ pub fn peek_at(greatest: u64, unread: &[u8]) -> Peek<'_>
 /// looked at.
 pub fn first_feed(unread: &[u8], searched: usize) -> Option<usize>
     requires { AllByRecursion (λ b. b ≢ 10) (take searched unread.now) }
-    ensures some { IfSome result (λ end. (end < length unread.now) × IsLine (take (end + 1) unread.now) (take end unread.now)) }
+    ensures some { IfSome result (λ end. HasLine end unread.now) }
     ensures none { result ≡ None → AllByRecursion (λ b. b ≢ 10) (take 65537 unread.now) }
 {
     let (front, _) = unread.split_at(unread.len().min(LONGEST + 1));
@@ -60,8 +60,10 @@ pub fn first_feed(unread: &[u8], searched: usize) -> Option<usize>
 pub fn peek_said<'a>(line: Result<Line<'a>, LineFault>, unread: &'a [u8], end: usize) -> Peek<'a>
     requires line { IsLine (take (end + 1) unread.now) (take end unread.now) }
     requires inside { end < length unread.now }
-    ensures found { (greatest : ℕ) → Says greatest unread.now end line.entry → IfSome (unit_of result) (λ found. IsSpelled greatest found unread.now) }
-    ensures none { (greatest : ℕ) → Says greatest unread.now end line.entry → unit_of result ≡ None → BeginsWithNone greatest unread.now }
+    ensures found { (greatest : ℕ) → Says greatest unread.now end line.entry →
+        FindsSpelled greatest (unit_of result) unread.now }
+    ensures none { (greatest : ℕ) → Says greatest unread.now end line.entry →
+        MissesNone greatest (unit_of result) unread.now }
 {
     let (_, rest) = unread.split_at(end + 1);
     match line {

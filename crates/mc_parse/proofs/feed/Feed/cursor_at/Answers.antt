@@ -19,7 +19,7 @@ returns-clause-some c =
     subst (λ (u : Unread). IfSome c.cursor_after.result (λ cursor. PointsInto u.greatest cursor u.bytes)) c.self.view_is here
 
 pub returns-clause-none : goal.returns-clause-none
-returns-clause-none c = λ unit len none is.
+returns-clause-none c = λ none unit len is.
     let greatest : c.self.inside.greatest ≡ c.args.self.now.greatest = ap (λ (u : Unread). u.greatest) c.self.view_is in
     let bytes : c.self.inside.unread ≡ c.args.self.now.bytes = ap (λ (u : Unread). u.bytes) c.self.view_is in
-    c.cursor.ensures.none c.self.inside.greatest c.self.inside.unread unit len c.args.taken c.self.invariant.knows (c.cursor_after.ensures.none none) (rw (greatest, bytes) is)
+    c.cursor.ensures.none c.self.inside.greatest c.args.taken c.self.inside.unread c.self.invariant.knows (c.cursor_after.ensures.none none) unit len (rw (greatest, bytes) is)
