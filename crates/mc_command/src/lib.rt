@@ -26,4 +26,4 @@ pub use number::{counted, number_of, number_up_to};
 pub use plain::{KeyTest, PlainStore};
 pub use reply::Reply;
 pub use step::{KeyStep, StepFault, Steps, Verb};
-pub use words::{Words, first_word, first_word_len, spaces_len};
+pub use words::{Words, first_key, first_word, first_word_len, spaces_len};
