@@ -105,9 +105,9 @@ module _ (passed skipped : ℕ) (bytes piece kept : List ℕ) (settled : (passed
   count_is = elim settled as (λ _. passed - skipped ≡ passed - length (bytes ++ piece)) [
     | inl zero ↦ omega arith
     | inr none ↦ elim (cases_lt passed (length piece)) as (λ _. passed - skipped ≡ passed - length (bytes ++ piece)) [
-        | inl less ↦ omega (arith, some (omega arith), length-append bytes piece, ap length none)
-        | inr more ↦ omega (arith, all more, length-append bytes piece, ap length none)
-      ]
+      | inl less ↦ omega (arith, some (omega arith), length-append bytes piece, ap length none)
+      | inr more ↦ omega (arith, all more, length-append bytes piece, ap length none)
+    ]
   ]
 
   kept_is : bytes ++ kept ≡ drop passed (bytes ++ piece)

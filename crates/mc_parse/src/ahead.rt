@@ -40,6 +40,7 @@ impl Ahead {
     }
 
     /// Tells what the unread bytes begin with. It looks at no line.
+    #[inline]
     pub fn peek<'a>(&self, unread: &'a [u8]) -> Peek<'a>
         requires { (greatest : ℕ) × Knows greatest self.now unread.now }
         ensures found { (greatest : ℕ) → Knows greatest self.now unread.now →
@@ -72,6 +73,7 @@ impl Ahead {
 }
 
 /// Tells what bytes begin with among whose first 65537 no line feed is.
+#[inline]
 fn peek_endless(unread: &[u8]) -> Peek<'_>
     ensures found { (greatest : ℕ) →
         HasNoFeed 65537 unread.now → FindsSpelled greatest (unit_of result) unread.now }

@@ -76,6 +76,7 @@ impl Cursor {
     }
 
     /// The retrieval of the keys that are left. It costs nothing.
+    #[inline]
     pub fn peek<'a>(&self, unread: &'a [u8]) -> Peek<'a>
         requires { IsWithin self.now unread.now }
         ensures { unit_of result ≡

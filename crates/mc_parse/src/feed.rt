@@ -81,6 +81,7 @@ impl Feed {
 
     /// The same after `taken` turns of the first unit: of a retrieval, the retrieval of the keys that are left. Where
     /// `mark` was told of these turns it costs as much as the next key, whatever the line's length.
+    #[inline]
     pub fn peek_after(&self, taken: usize) -> Peek<'_>
         ensures found { FindsLeft self.now taken (unit_of result) }
         // It finds nothing exactly where no front of the stream spells anything.
@@ -157,6 +158,7 @@ impl Feed {
     }
 
     /// The same as `peek`. What else is said there follows from the two clauses.
+    #[inline]
     fn first_unit(&self) -> Peek<'_>
         ensures found { Finds self.now (unit_of result) }
         ensures none { unit_of result ≡ None → HasNoUnit self.now }
@@ -168,6 +170,7 @@ impl Feed {
     }
 
     /// The same as `peek_after`.
+    #[inline]
     fn unit_after(&self, taken: usize) -> Peek<'_>
         ensures found { FindsLeft self.now taken (unit_of result) }
         ensures none { unit_of result ≡ None → HasNoUnit self.now }

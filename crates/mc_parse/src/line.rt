@@ -26,7 +26,9 @@ ghost use Rattle.mc_parse.specs.Lines.{
 
 use crate::exptime::{delay_of, exptime_of};
 use crate::name::{Name, name_of};
-use mc_command::{Bytes, Command, Keys, LineFault, Verb, Words, first_key, first_word, number_up_to};
+use mc_command::{
+    Bytes, Command, Keys, LineFault, Verb, Words, first_key, first_word, number_up_to,
+};
 
 /// What a line says.
 #[derive(Drop)]

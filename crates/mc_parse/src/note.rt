@@ -29,10 +29,22 @@ pub enum Said {
         quiet: bool,
         len: u32,
     },
-    Touch { exptime: i64, quiet: bool },
-    Delete { quiet: bool },
-    Count { up: bool, by: u64, quiet: bool },
-    FlushAll { delay: u64, quiet: bool },
+    Touch {
+        exptime: i64,
+        quiet: bool,
+    },
+    Delete {
+        quiet: bool,
+    },
+    Count {
+        up: bool,
+        by: u64,
+        quiet: bool,
+    },
+    FlushAll {
+        delay: u64,
+        quiet: bool,
+    },
     Version,
     Quit,
 }
@@ -80,6 +92,7 @@ impl LineNote {
     }
 
     /// Tells what the unread bytes begin with. Of the line it looks at nothing.
+    #[inline]
     pub fn peek<'a>(&self, unread: &'a [u8]) -> Peek<'a>
         requires { (greatest : ℕ) × IsNoted greatest self.now unread.now }
         ensures found { (greatest : ℕ) → IsNoted greatest self.now unread.now →
@@ -94,6 +107,7 @@ impl LineNote {
 }
 
 /// Makes the line again that says this of a key.
+#[inline]
 fn line_again(said: Said, key: &[u8]) -> Result<Line<'_>, LineFault>
     ensures { result ≡ said_of said key.now }
 {

@@ -57,6 +57,7 @@ pub fn first_feed(unread: &[u8], searched: usize) -> Option<usize>
 }
 
 /// Tells what the unread bytes begin with, whose first line says this and has its line feed at `end`.
+#[inline]
 pub fn peek_said<'a>(line: Result<Line<'a>, LineFault>, unread: &'a [u8], end: usize) -> Peek<'a>
     requires line { IsLine (take (end + 1) unread.now) (take end unread.now) }
     requires inside { end < length unread.now }
@@ -86,6 +87,7 @@ pub fn peek_said<'a>(line: Result<Line<'a>, LineFault>, unread: &'a [u8], end: u
 }
 
 /// The command that a block makes of a line's head.
+#[inline]
 fn with_block<'a>(head: Head<'a>, block: &'a [u8]) -> Command<'a>
     ensures { result ≡ with_block head.entry block.now }
 {
