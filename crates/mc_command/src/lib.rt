@@ -28,4 +28,4 @@ pub use plain::{KeyTest, PlainStore};
 pub use reply::Reply;
 pub use row::{Body, Draft, Refusal, Row, Standing, row_of};
 pub use step::{KeyStep, StepFault, Steps, Verb};
-pub use words::{Words, first_word, first_word_len};
+pub use words::{Words, first_key, first_word, first_word_len, spaces_len};

@@ -1,7 +1,7 @@
 -- A note of the turns that were taken fits the bytes: before the first turn, one turn on, and behind the last key.
 use Rattle.std.proofs.Common.{◌≡◌, ◌==◌, ◌≤◌, ◌+◌, ◌-◌, if◌then◌else◌, ℕ, Bool, true, false, List, [], ◌∷◌, ◌++◌, length, take, drop, refl, sym, ap, ◌∙◌, arith, ℤ, Option, Some, None, Result, Ok, Err, length-append, length-drop}
 use Rattle.std.proofs.Math.Seq.{take-append_seam}
-use Rattle.std.proofs.lemmas.List.{append-nil, drop-drop, take-take, length-take, length-take-le, take_all}
+use Rattle.std.proofs.lemmas.List.{append-nil, drop-drop, take-take, take-append-le, length-take, length-take-le, take_all}
 use Rattle.std.specs.Str.Lines.{strip_carriage_return}
 use Rattle.std.specs.List.{slice_index}
 use Rattle.mc_command.specs.Words.{words}
@@ -97,7 +97,7 @@ bare_retrieval (Ok (Block head len)) rest exptime keys with_unique h =
     absurd (no_block head h.0 exptime keys with_unique (stored_is head h.0 h.1 (retrieval exptime keys with_unique) h.5))
 
 -- a text without its carriage return is a front of it
-stripped_is : (text : List ℕ) → take (length (strip_carriage_return text)) text ≡ strip_carriage_return text
+pub stripped_is : (text : List ℕ) → take (length (strip_carriage_return text)) text ≡ strip_carriage_return text
 stripped_is text =
     elim (slice_index text (length text - 1) == 13) as (λ b. take (length (if b then take (length text - 1) text else text)) text ≡ (if b then take (length text - 1) text else text)) [
       | true ↦ ap (λ n. take n text) (length-take-le (length text - 1) text (omega arith))
@@ -145,5 +145,23 @@ module _ (greatest : ℕ) (bytes : List ℕ) (len : ℕ) (exptime : Option ℤ) 
         unit = Request (retrieval exptime keys with_unique);
         spelled = h;
         left = ap Request (ap (λ ws. retrieval exptime ws with_unique) keys_left ∙ sym (retrieval_whole exptime keys with_unique));
+      };
+    }
+
+-- it stays when more come
+pub points_more : (greatest : ℕ) (cursor : Cursor) (bytes more : List ℕ) → PointsInto greatest cursor bytes → PointsInto greatest cursor (bytes ++ more)
+points_more greatest cursor bytes more is =
+    let text : take cursor.to (bytes ++ more) ≡ take cursor.to bytes = take-append-le cursor.to bytes more (is.within.inside) in
+    let front : take cursor.len (bytes ++ more) ≡ take cursor.len bytes = take-append-le cursor.len bytes more is.left.spelled.within in
+    record {
+      within = record {
+        ordered = is.within.ordered;
+        inside = omega (arith, is.within.inside, length-append bytes more);
+        counted = rw text is.within.counted;
+      };
+      left = record {
+        unit = is.left.unit;
+        spelled = record { within = omega (arith, is.left.spelled.within, length-append bytes more); spelled = rw front is.left.spelled.spelled };
+        left = rw text is.left.left;
       };
     }

@@ -2,7 +2,8 @@ pub mod LineLemmas
 pub mod LineWords
 pub mod UnitLemmas
 pub mod SearchLemmas
-pub mod ProgressLemmas
+pub mod NoteLemmas
+pub mod AheadLemmas
 pub mod BeginLemmas
 pub mod StreamLemmas
 pub mod KeyLemmas
@@ -10,3 +11,4 @@ pub mod RetrievalLemmas
 pub mod CursorLemmas
 pub mod FeedLemmas
 pub mod FoundLemmas
+pub mod QueueLemmas

@@ -1,5 +1,6 @@
--- The keys of a retrieval are the words of its line behind its name, and behind the exptime of gat and gats.
-use Rattle.std.proofs.Common.{◌≡◌, ℕ, ◌-◌, ◌^◌, ◌+◌, Bool, true, false, cond, List, [], ◌∷◌, length, drop, refl, subst, ℤ, Option, Some, None, Result, Ok, Err, leb, if◌then◌else◌}
+-- The keys of a retrieval are the words of its line behind its name, and behind the exptime of gat and gats. The key of
+-- another command is the second word.
+use Rattle.std.proofs.Common.{◌≡◌, ℕ, ◌-◌, ◌^◌, ◌+◌, Bool, true, false, cond, List, [], ◌∷◌, length, take, drop, refl, subst, ℤ, Option, Some, None, Result, Ok, Err, leb, if◌then◌else◌}
 use Rattle.std.specs.Prelude.{codes}
 use Rattle.std.specs.List.{list_all}
 use Rattle.std.specs.Str.{bytes_eq}
@@ -19,23 +20,31 @@ use Rattle.mc_parse.specs.Exptimes.{exptime_of, delay_of}
 use Rattle.mc_parse.specs.Lines.{◌>>=◌, formed, is_key, key_formed, keys_formed, ending, delete_ending, delayed, fitting, name_of, store_line, cas_line, get_touch_line, touch_line, delete_line, count_line, flush_line, lone_line, named_line, meaning}
 use Rattle.mc_parse.specs.Cursors.{retrieval, words_before}
 
--- where the command is a retrieval, its keys are among these words
+-- the first of these words is the key
+abbrev pub KeyIs : List ℕ → List (List ℕ) → Type 0
+KeyIs key args = take 1 args ≡ key ∷ []
+
+-- the keys of the command are among these words; one that has a block stands in no line
 abbrev pub KeysAre : Command → List (List ℕ) → Type 0
 KeysAre (Get keys with_unique) args = args ≡ keys
 KeysAre (GetTouch exptime keys with_unique) args = drop 1 args ≡ keys
-KeysAre (StoreCommand verb key flags exptime block quiet) args = Unit {0}
-KeysAre (CasCommand key flags exptime block unique quiet) args = Unit {0}
-KeysAre (Touch key exptime quiet) args = Unit {0}
-KeysAre (Delete key quiet) args = Unit {0}
-KeysAre (Count key up by quiet) args = Unit {0}
+KeysAre (StoreCommand verb key flags exptime block quiet) args = ⊥
+KeysAre (CasCommand key flags exptime block unique quiet) args = ⊥
+KeysAre (Touch key exptime quiet) args = KeyIs key args
+KeysAre (Delete key quiet) args = KeyIs key args
+KeysAre (Count key up by quiet) args = KeyIs key args
 KeysAre (FlushAll delay quiet) args = Unit {0}
 KeysAre Version args = Unit {0}
 KeysAre Quit args = Unit {0}
 
+abbrev pub HeadKeyIs : Head → List (List ℕ) → Type 0
+HeadKeyIs (Store verb key flags exptime quiet) args = KeyIs key args
+HeadKeyIs (Cas key flags exptime unique quiet) args = KeyIs key args
+
 -- the same of a line's meaning
 abbrev pub Tells : Result Line LineFault → List (List ℕ) → Type 0
 Tells (Ok (Bare command)) args = KeysAre command args
-Tells (Ok (Block head len)) args = Unit {0}
+Tells (Ok (Block head len)) args = HeadKeyIs head args
 Tells (Err fault) args = Unit {0}
 
 -- after a step of which nothing is known
@@ -43,13 +52,21 @@ after : {A : Type 0} (args : List (List ℕ)) (r : Result A LineFault) (f : A �
 after args (Ok x) f more = more x
 after args (Err fault) f more = tt
 
+-- the key that is formed is the word itself
+after_key : (args : List (List ℕ)) (key : List ℕ) (f : List ℕ → Result Line LineFault) → Tells (f key) args → Tells (key_formed key >>= f) args
+after_key args key f h =
+    elim (is_key key) as (λ b. Tells ((if b then Ok key else Err BadFormat) >>= f) args) [
+      | true ↦ h
+      | false ↦ tt
+    ]
+
 -- a choice by a test
 either : (args : List (List ℕ)) (b : Bool) (x y : Result Line LineFault) → Tells x args → Tells y args → Tells (cond b x y) args
 either args true x y h k = h
 either args false x y h k = k
 
-fitting-tells : (args : List (List ℕ)) (greatest : ℕ) (key : List ℕ) (len : ℕ) (head : Head) → Tells (fitting greatest key len head) args
-fitting-tells args greatest key len head = either args (leb (48 + length key + len) greatest) (Ok (Block head len)) (Err (TooLarge (len + 2))) tt tt
+fitting-tells : (args : List (List ℕ)) (greatest : ℕ) (key : List ℕ) (len : ℕ) (head : Head) → HeadKeyIs head args → Tells (fitting greatest key len head) args
+fitting-tells args greatest key len head h = either args (leb (48 + length key + len) greatest) (Ok (Block head len)) (Err (TooLarge (len + 2))) h tt
 
 store_line-tells : (greatest : ℕ) (verb : Verb) (args : List (List ℕ)) → Tells (store_line greatest verb args) args
 store_line-tells greatest verb [] = tt
@@ -59,11 +76,11 @@ store_line-tells greatest verb (key ∷ flags ∷ exptime ∷ []) = tt
 store_line-tells greatest verb (key ∷ flags ∷ exptime ∷ bytes ∷ rest) =
     let args = key ∷ flags ∷ exptime ∷ bytes ∷ rest in
     after args (ending rest) _ (λ quiet.
-    after args (key_formed key) _ (λ k.
+    after_key args key _ (
     after args (formed BadFormat (number_up_to (2 ^ 32 - 1) flags)) _ (λ f.
     after args (formed BadFormat (exptime_of exptime)) _ (λ e.
     after args (formed BadFormat (number_up_to 2147483645 bytes)) _ (λ n.
-    fitting-tells args greatest k n (Store verb k f e quiet))))))
+    fitting-tells args greatest key n (Store verb key f e quiet) refl)))))
 
 cas_line-tells : (greatest : ℕ) (args : List (List ℕ)) → Tells (cas_line greatest args) args
 cas_line-tells greatest [] = tt
@@ -74,12 +91,12 @@ cas_line-tells greatest (key ∷ flags ∷ exptime ∷ bytes ∷ []) = tt
 cas_line-tells greatest (key ∷ flags ∷ exptime ∷ bytes ∷ unique ∷ rest) =
     let args = key ∷ flags ∷ exptime ∷ bytes ∷ unique ∷ rest in
     after args (ending rest) _ (λ quiet.
-    after args (key_formed key) _ (λ k.
+    after_key args key _ (
     after args (formed BadFormat (number_up_to (2 ^ 32 - 1) flags)) _ (λ f.
     after args (formed BadFormat (exptime_of exptime)) _ (λ e.
     after args (formed BadFormat (number_up_to 2147483645 bytes)) _ (λ n.
     after args (formed BadFormat (number_up_to (2 ^ 64 - 1) unique)) _ (λ u.
-    fitting-tells args greatest k n (Cas k f e u quiet)))))))
+    fitting-tells args greatest key n (Cas key f e u quiet) refl))))))
 
 -- the keys that are formed are the words themselves
 keys_formed-tells : (given args : List (List ℕ)) (f : List (List ℕ) → Result Line LineFault) → Tells (f args) given → Tells (keys_formed args >>= f) given
@@ -100,18 +117,18 @@ touch_line-tells [] = tt
 touch_line-tells (key ∷ []) = tt
 touch_line-tells (key ∷ exptime ∷ rest) =
     let args = key ∷ exptime ∷ rest in
-    after args (ending rest) _ (λ quiet. after args (key_formed key) _ (λ k. after args (formed BadFormat (exptime_of exptime)) _ (λ e. tt)))
+    after args (ending rest) _ (λ quiet. after_key args key _ (after args (formed BadFormat (exptime_of exptime)) _ (λ e. refl)))
 
 delete_line-tells : (args : List (List ℕ)) → Tells (delete_line args) args
 delete_line-tells [] = tt
-delete_line-tells (key ∷ rest) = after (key ∷ rest) (delete_ending rest) _ (λ quiet. after (key ∷ rest) (key_formed key) _ (λ k. tt))
+delete_line-tells (key ∷ rest) = after (key ∷ rest) (delete_ending rest) _ (λ quiet. after_key (key ∷ rest) key _ refl)
 
 count_line-tells : (up : Bool) (args : List (List ℕ)) → Tells (count_line up args) args
 count_line-tells up [] = tt
 count_line-tells up (key ∷ []) = tt
 count_line-tells up (key ∷ value ∷ rest) =
     let args = key ∷ value ∷ rest in
-    after args (ending rest) _ (λ quiet. after args (key_formed key) _ (λ k. after args (formed BadDelta (number_up_to (2 ^ 64 - 1) value)) _ (λ by. tt)))
+    after args (ending rest) _ (λ quiet. after_key args key _ (after args (formed BadDelta (number_up_to (2 ^ 64 - 1) value)) _ (λ by. refl)))
 
 delayed-tells : (args : List (List ℕ)) (word : List ℕ) (quiet : Bool) → Tells (delayed word quiet) args
 delayed-tells args word quiet = after args (formed BadFormat (delay_of word)) _ (λ delay. tt)
@@ -142,7 +159,7 @@ named_line-tells greatest FlushName args = flush_line-tells args
 named_line-tells greatest VersionName args = version_line-tells args
 named_line-tells greatest QuitName args = quit_line-tells args
 
-meaning-tells : (greatest : ℕ) (ws : List (List ℕ)) → Tells (meaning greatest ws) (drop 1 ws)
+pub meaning-tells : (greatest : ℕ) (ws : List (List ℕ)) → Tells (meaning greatest ws) (drop 1 ws)
 meaning-tells greatest [] = tt
 meaning-tells greatest (word ∷ args) = after args (formed Unknown (name_of word)) _ (λ name. named_line-tells greatest name args)
 

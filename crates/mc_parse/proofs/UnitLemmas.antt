@@ -118,10 +118,6 @@ module _ (greatest : ℕ) (bytes : List ℕ) (end : ℕ) (line : IsLine (take (e
     completes = completes;
   }
 
-  -- what the code found the line to say
-  pub meant_is : (text stripped : List ℕ) (said : Result Line LineFault) → text ≡ take end bytes → stripped ≡ strip_carriage_return text → said ≡ meaning greatest (words stripped) → meant ≡ said
-  meant_is text stripped said t s e = sym (e ∙ ap (λ k. meaning greatest (words k)) (s ∙ ap strip_carriage_return t))
-
   pub spells_bare : (unit : ProtocolUnit) → Completes meant [] unit → SpellsLine greatest unit (take (end + 1) bytes)
   spells_bare unit completes = record {
     line = take (end + 1) bytes;
@@ -151,6 +147,13 @@ module _ (greatest : ℕ) (bytes : List ℕ) (end : ℕ) (line : IsLine (take (e
       let said = sym (ap (λ s. meaning greatest (words (strip_carriage_return s))) t.0) ∙ is in
       let c = subst (λ m. Completes m h.rest unit) said h.completes in
       omega (arith, ap length t.1, length-append h.rest more, ap length c.2, length-append c.0 c.1, c.3, c.4)
+
+  -- whatever a front spells, the line completes it
+  pub completed : (unit : ProtocolUnit) (front more : List ℕ) → bytes ≡ front ++ more → SpellsLine greatest unit front → (rest : List ℕ) × Completes meant rest unit
+  completed unit front more e h =
+      let both = sym at_feed ∙ e ∙ parted front h.line h.text h.rest more h.parts h.is_line.ended in
+      let t = same_text (take end bytes) h.text (drop (end + 1) bytes) (h.rest ++ more) line.one_line h.is_line.one_line both in
+      (h.rest, subst (λ s. Completes (meaning greatest (words (strip_carriage_return s))) h.rest unit) (sym t.0) h.completes)
 
   -- where a block is still to come, no front spells anything
   none_at : (head : Head) (len : ℕ) → meant ≡ Ok (Block head len) → length (drop (end + 1) bytes) < len + 2 → (unit : ProtocolUnit) (front more : List ℕ) → bytes ≡ front ++ more → Spells greatest unit front → ⊥

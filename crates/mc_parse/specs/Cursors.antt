@@ -1,10 +1,10 @@
 -- Where a retrieval stands after some of its turns.
-use Rattle.std.specs.Prelude.{◌≡◌, ◌≤◌, ℕ, Bool, List, length, take, drop, ℤ, Option, Some, None}
+use Rattle.std.specs.Prelude.{◌≡◌, ◌≤◌, ℕ, Bool, List, length, take, drop, ℤ, Option, Some, None, IfSome}
 use Rattle.mc_command.specs.Words.{words}
 use Rattle.mc_command.specs.declared.command.Command.{Command}
 use Rattle.mc_command.specs.declared.command.Command.TheVariants.{Get, GetTouch}
 use Rattle.mc_parse.specs.Units.{Request}
-use Rattle.mc_parse.specs.Peeks.{IsLeft}
+use Rattle.mc_parse.specs.Peeks.{IsSpelled, IsLeft}
 use Rattle.mc_parse.specs.declared.cursor.Cursor.{Cursor}
 
 -- a retrieval of these keys: gat or gats where it has an exptime
@@ -35,3 +35,19 @@ pub record IsWithin (cursor : Cursor) (bytes : List ℕ) : Type 0 where
 pub record PointsInto (greatest : ℕ) (cursor : Cursor) (bytes : List ℕ) : Type 0 where
   pub within : IsWithin cursor bytes
   pub left : IsLeft greatest cursor.taken (Request (retrieval_left cursor bytes), cursor.len) bytes
+
+-- the cursor is before the first turn
+abbrev pub IsFirst : (greatest : ℕ) → Cursor → List ℕ → Type 0
+IsFirst greatest cursor bytes = PointsInto greatest cursor bytes × (cursor.taken ≡ 0)
+
+-- a cursor that there is points into the bytes
+abbrev pub IsCursor : (greatest : ℕ) → Option Cursor → List ℕ → Type 0
+IsCursor greatest cursor bytes = IfSome cursor (λ c. PointsInto greatest c bytes)
+
+-- and is before the first turn
+abbrev pub IsFirstCursor : (greatest : ℕ) → Option Cursor → List ℕ → Type 0
+IsFirstCursor greatest cursor bytes = IfSome cursor (λ c. IsFirst greatest c bytes)
+
+-- so many bytes spell the retrieval of these keys
+abbrev pub SpellsRetrieval : (greatest len : ℕ) → Option ℤ → List (List ℕ) → Bool → List ℕ → Type 0
+SpellsRetrieval greatest len exptime keys with_unique bytes = IsSpelled greatest (Request (retrieval exptime keys with_unique), len) bytes

@@ -1,9 +1,12 @@
 -- What a feed holds.
-use Rattle.std.specs.Prelude.{◌≡◌, ◌≤◌, ℕ, ◌-◌, List, [], ◌++◌, ◌⊎◌, length, drop, Option, IfSome}
+use Rattle.std.specs.Prelude.{◌≡◌, ℕ, ◌-◌, List, [], ◌++◌, ◌⊎◌, length, drop, Option, Some, IfSome}
 use Rattle.mc_parse.specs.declared.cursor.Cursor.{Cursor}
-use Rattle.mc_parse.specs.declared.progress.Progress.{Progress}
-use Rattle.mc_parse.specs.Cursors.{PointsInto}
-use Rattle.mc_parse.specs.Progresses.{HasProgress}
+use Rattle.mc_parse.specs.declared.ahead.Ahead.{Ahead}
+use Rattle.mc_parse.specs.Units.{ProtocolUnit}
+use Rattle.mc_parse.specs.Streams.{passed_after}
+use Rattle.mc_parse.specs.Peeks.{IsSpelled, BeginsWithNone, IsLeft, left_of}
+use Rattle.mc_parse.specs.Cursors.{IsCursor}
+use Rattle.mc_parse.specs.Aheads.{Knows}
 
 -- the greatest charge, how many bytes are still to be passed over, and the bytes that came and weren't read yet
 pub record Unread : Type 0 where
@@ -27,10 +30,38 @@ read u len passed = settled (record u { passed = passed; bytes = drop len u.byte
 abbrev pub IsSettled : Unread → Type 0
 IsSettled u = (u.passed ≡ 0) ⊎ (u.bytes ≡ [])
 
--- How a feed keeps its bytes: of those in its buffer so many were read, none is unread while some are to be passed over,
--- and what it notes of the turns that were taken and of how far it has looked fits the unread bytes.
-pub record IsKept (greatest passed start : ℕ) (cursor : Option Cursor) (progress : Progress) (buffer : List ℕ) : Type 0 where
-  pub inside : start ≤ length buffer
-  pub settled : (passed ≡ 0) ⊎ (start ≡ length buffer)
-  pub points : IfSome cursor (λ c. PointsInto greatest c (drop start buffer))
-  pub looked : HasProgress greatest progress (drop start buffer)
+-- no front of what is left behind the bytes to be passed over spells anything
+abbrev pub HasNoUnit : Unread → Type 0
+HasNoUnit u = BeginsWithNone u.greatest (drop u.passed u.bytes)
+
+-- what is found is spelled by the front that it counts, and no byte is to be passed over
+abbrev pub Finds : Unread → Option (ProtocolUnit × ℕ) → Type 0
+Finds u found = IfSome found (λ f. (u.passed ≡ 0) × IsSpelled u.greatest f u.bytes)
+
+-- whatever a front spells is found
+abbrev pub FindsAny : Unread → Option (ProtocolUnit × ℕ) → Type 0
+FindsAny u found = (unit : ProtocolUnit) (len : ℕ) → u.passed ≡ 0 → IsSpelled u.greatest (unit, len) u.bytes → found ≡ Some (unit, len)
+
+-- what is found is left, after so many turns, of a unit that the front spells which it counts
+abbrev pub FindsLeft : Unread → (taken : ℕ) → Option (ProtocolUnit × ℕ) → Type 0
+FindsLeft u taken found = IfSome found (λ f. (u.passed ≡ 0) × IsLeft u.greatest taken f u.bytes)
+
+-- of whatever a front spells, what is left after so many turns is found
+abbrev pub FindsAnyLeft : Unread → (taken : ℕ) → Option (ProtocolUnit × ℕ) → Type 0
+FindsAnyLeft u taken found =
+    (unit : ProtocolUnit) (len : ℕ) → u.passed ≡ 0 → IsSpelled u.greatest (unit, len) u.bytes → found ≡ Some (left_of unit taken, len)
+
+-- a unit is spelled by so many bytes, and no byte is to be passed over
+abbrev pub HasUnit : Unread → (len : ℕ) → Type 0
+HasUnit u len = (unit : ProtocolUnit) × IsSpelled u.greatest (unit, len) u.bytes × (u.passed ≡ 0)
+
+-- the one became the other by reading a unit of so many bytes, with the bytes that it passes over
+abbrev pub ReadsUnit : Unread → (len : ℕ) → Unread → Type 0
+ReadsUnit old len new = (unit : ProtocolUnit) → IsSpelled old.greatest (unit, len) old.bytes → new ≡ read old len (passed_after unit)
+
+-- What a feed keeps beside its bytes: none is unread while some are to be passed over, and what it notes of the turns that
+-- were taken and of what the unread bytes begin with is so.
+pub record IsKept (greatest passed : ℕ) (cursor : Option Cursor) (ahead : Ahead) (bytes : List ℕ) : Type 0 where
+  pub settled : (passed ≡ 0) ⊎ (bytes ≡ [])
+  pub points : IsCursor greatest cursor bytes
+  pub knows : Knows greatest ahead bytes

@@ -5,4 +5,6 @@ pub mod Peeks
 pub mod Streams
 pub mod Feeds
 pub mod Cursors
-pub mod Progresses
+pub mod Notes
+pub mod Aheads
+pub mod Queues

@@ -1,6 +1,7 @@
 -- What a peek says.
-use Rattle.std.specs.Prelude.{◌≡◌, ℕ, ◌≤◌, List, ◌++◌, length, take, Option, Some, None}
-use Rattle.mc_command.specs.Commands.{after_steps}
+use Rattle.std.specs.Prelude.{◌≡◌, ℕ, ◌≤◌, List, ◌++◌, length, take, Option, Some, None, IfSome}
+use Rattle.mc_command.specs.Commands.{after_steps, HasShortKeys}
+use Rattle.mc_command.specs.declared.command.Command.{Command}
 use Rattle.mc_parse.specs.Units.{ProtocolUnit, Request, Fault, LongLine, Spells}
 use Rattle.mc_parse.specs.declared.peek.Peek.{Peek}
 use Rattle.mc_parse.specs.declared.peek.Peek.TheVariants.{Whole, More, Bad, TooLong}
@@ -21,11 +22,31 @@ pub record IsSpelled (greatest : ℕ) (found : ProtocolUnit × ℕ) (bytes : Lis
 pub record BeginsWithNone (greatest : ℕ) (bytes : List ℕ) : Type 0 where
   pub none : (unit : ProtocolUnit) (front more : List ℕ) → bytes ≡ front ++ more → Spells greatest unit front → ⊥
 
+-- what is found is spelled by the front that it counts
+abbrev pub FindsSpelled : (greatest : ℕ) → Option (ProtocolUnit × ℕ) → List ℕ → Type 0
+FindsSpelled greatest found bytes = IfSome found (λ f. IsSpelled greatest f bytes)
+
+-- nothing is found only where no front spells anything
+abbrev pub MissesNone : (greatest : ℕ) → Option (ProtocolUnit × ℕ) → List ℕ → Type 0
+MissesNone greatest found bytes = found ≡ None → BeginsWithNone greatest bytes
+
+-- whatever a front spells is what is found
+abbrev pub FindsWhatever : (greatest : ℕ) → Option (ProtocolUnit × ℕ) → List ℕ → Type 0
+FindsWhatever greatest found bytes = (unit : ProtocolUnit) (len : ℕ) → IsSpelled greatest (unit, len) bytes → found ≡ Some (unit, len)
+
+-- no key of a command that is found is longer than 250 bytes
+abbrev pub FindsShortKeys : Option (ProtocolUnit × ℕ) → Type 0
+FindsShortKeys found = (command : Command) (len : ℕ) → found ≡ Some (Request command, len) → HasShortKeys command
+
 -- what is left of a unit after so many of its turns: of a command, the command of the steps that are left
 abbrev pub left_of : ProtocolUnit → ℕ → ProtocolUnit
 left_of (Request command) taken = Request (after_steps command taken)
 left_of (Fault fault) taken = Fault fault
 left_of LongLine taken = LongLine
+
+-- turns leave whatever the bytes begin with whole
+abbrev pub StaysWhole : (greatest taken : ℕ) → List ℕ → Type 0
+StaysWhole greatest taken bytes = (unit : ProtocolUnit) (len : ℕ) → IsSpelled greatest (unit, len) bytes → left_of unit taken ≡ unit
 
 -- the first bytes, so many of them, spell a unit of which this is left after so many turns
 pub record IsLeft (greatest taken : ℕ) (found : ProtocolUnit × ℕ) (bytes : List ℕ) : Type 0 where

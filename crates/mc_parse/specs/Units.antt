@@ -1,5 +1,5 @@
 -- What a front of the stream spells.
-use Rattle.std.specs.Prelude.{◌≡◌, ◌≢◌, ℕ, ◌≤◌, List, [], ◌∷◌, ◌++◌, length, Result, Ok, Err, if◌then◌else◌}
+use Rattle.std.specs.Prelude.{◌≡◌, ◌≢◌, ℕ, ◌+◌, ◌≤◌, ◌<◌, List, take, [], ◌∷◌, ◌++◌, length, Result, Ok, Err, if◌then◌else◌}
 use Rattle.std.specs.List.{AllByRecursion}
 use Rattle.std.specs.Str.{bytes_eq}
 use Rattle.std.specs.Str.Lines.{strip_carriage_return}
@@ -25,6 +25,10 @@ pub record IsLine (line text : List ℕ) : Type 0 where
   pub ended : line ≡ text ++ 10 ∷ []
   pub one_line : AllByRecursion (λ b. b ≢ 10) text
   pub short : length text ≤ 65536
+
+-- the bytes begin with a line whose line feed is at end
+abbrev pub HasLine : (end : ℕ) → List ℕ → Type 0
+HasLine end bytes = (end < length bytes) × IsLine (take (end + 1) bytes) (take end bytes)
 
 -- the command that a block makes of a line's head
 abbrev pub with_block : Head → List ℕ → Command

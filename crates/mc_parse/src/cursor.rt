@@ -1,11 +1,11 @@
 ghost use Rattle.std.specs.Prelude.{◌≡◌, ◌≤◌, ◌<◌, ◌+◌, ◌-◌, ◌^◌, ℕ, List, IfSome, length, drop};
 ghost use Rattle.mc_command.specs.Words.{words};
-ghost use Rattle.mc_command.specs.Commands.{after_steps};
-ghost use Rattle.mc_parse.specs.Units.{ProtocolUnit, Request};
-ghost use Rattle.mc_parse.specs.Peeks.{unit_of, IsSpelled, left_of};
-ghost use Rattle.mc_parse.specs.Cursors.{retrieval, retrieval_left, words_before, IsWithin, PointsInto};
+ghost use Rattle.mc_parse.specs.Units.{Request};
+ghost use Rattle.mc_parse.specs.Peeks.{unit_of};
+ghost use Rattle.mc_parse.specs.Cursors.{retrieval_left, words_before, IsWithin, PointsInto};
+ghost use Rattle.mc_parse.specs.Cursors.{IsCursor, IsFirstCursor, SpellsRetrieval};
 
-use crate::peek::{Peek, peek_at, without_carriage_return};
+use crate::peek::{Peek, without_carriage_return};
 use mc_command::{Command, Keys, first_word_len};
 
 /// Where a retrieval stands whose keys take a turn each: what is left of its line, so that the next turn needn't read the
@@ -28,47 +28,8 @@ pub struct Cursor {
 }
 
 impl Cursor {
-    /// A cursor before the first turn of the retrieval that the bytes begin with. There is none where they begin with
-    /// something else. It reads the line.
-    pub fn begin(greatest: u64, unread: &[u8]) -> Option<Cursor>
-        ensures some { IfSome result (λ cursor. PointsInto greatest cursor unread.now) }
-        ensures untaken { IfSome result (λ cursor. cursor.taken ≡ 0) }
-        // Where there is none a unit is whole after any turns.
-        ensures none { (unit : ProtocolUnit) (len taken : ℕ) → result ≡ None → IsSpelled greatest (unit, len) unread.now → left_of unit taken ≡ unit }
-    {
-        match peek_at(greatest, unread) {
-            Peek::Whole(command, len) => Cursor::of_command(unread, len, &command),
-            _ => None,
-        }
-    }
-
-    /// The same, where so many bytes spell this command.
-    fn of_command(unread: &[u8], len: usize, command: &Command<'_>) -> Option<Cursor>
-        requires some { 0 < len }
-        requires inside { len ≤ length unread.now }
-        ensures some { (greatest : ℕ) → IsSpelled greatest (Request command.now, len) unread.now → IfSome result (λ cursor. PointsInto greatest cursor unread.now) }
-        ensures untaken { IfSome result (λ cursor. cursor.taken ≡ 0) }
-        ensures none { (taken : ℕ) → result ≡ None → after_steps command.now taken ≡ command.now }
-    {
-        match command {
-            Command::Get { keys, with_unique } => Some(Cursor::of_line(
-                unread,
-                len,
-                keys.len(),
-                *with_unique,
-                None,
-            )),
-            Command::GetTouch {
-                exptime,
-                keys,
-                with_unique,
-            } => Some(Cursor::of_line(unread, len, keys.len(), *with_unique, Some(*exptime))),
-            _ => None,
-        }
-    }
-
-    /// The same, where so many bytes spell a retrieval of so many keys.
-    fn of_line(
+    /// Makes the cursor before the first turn of a retrieval of `left` keys that the first `len` bytes spell.
+    pub fn of_line(
         unread: &[u8],
         len: usize,
         left: usize,
@@ -77,7 +38,9 @@ impl Cursor {
     ) -> Cursor
         requires some { 0 < len }
         requires inside { len ≤ length unread.now }
-        ensures points { (greatest : ℕ) (keys : List (List ℕ)) → IsSpelled greatest (Request (retrieval exptime keys with_unique), len) unread.now → left ≡ length keys → PointsInto greatest result unread.now }
+        ensures points { (greatest : ℕ) (keys : List (List ℕ)) →
+            SpellsRetrieval greatest len exptime keys with_unique unread.now →
+            left ≡ length keys → PointsInto greatest result unread.now }
         ensures untaken { result.taken ≡ 0 }
     {
         let (line, _) = unread.split_at(len - 1);
@@ -98,7 +61,8 @@ impl Cursor {
         requires within { IsWithin self.now unread.now }
         requires taken { self.now.taken < 2 ^ 64 - 1 }
         ensures within { IsWithin result unread.now }
-        ensures points { (greatest : ℕ) → PointsInto greatest self.now unread.now → PointsInto greatest result unread.now }
+        ensures points { (greatest : ℕ) →
+            PointsInto greatest self.now unread.now → PointsInto greatest result unread.now }
         ensures taken { result.taken ≡ self.now.taken + 1 }
     {
         let (line, _) = unread.split_at(self.to);
@@ -112,9 +76,11 @@ impl Cursor {
     }
 
     /// The retrieval of the keys that are left. It costs nothing.
+    #[inline]
     pub fn peek<'a>(&self, unread: &'a [u8]) -> Peek<'a>
         requires { IsWithin self.now unread.now }
-        ensures { unit_of result ≡ Some (Request (retrieval_left self.now unread.now), self.now.len) }
+        ensures { unit_of result ≡
+            Some (Request (retrieval_left self.now unread.now), self.now.len) }
     {
         let (line, _) = unread.split_at(self.to);
         let (_, text) = line.split_at(self.from);
@@ -132,22 +98,27 @@ impl Cursor {
     }
 }
 
-/// The cursor after `taken` turns of the unit that the bytes begin with, which starts from a known one where it can. There
-/// is none where turns leave the unit whole.
+/// Moves to the cursor after `taken` turns, from the `known` one where it isn't beyond, or from the `first` one. There is
+/// none where there is no first.
 pub fn cursor_after(
     known: Option<Cursor>,
-    greatest: u64,
+    first: Option<Cursor>,
     unread: &[u8],
     taken: usize,
 ) -> Option<Cursor>
-    requires { IfSome known (λ cursor. PointsInto greatest cursor unread.now) }
-    ensures some { IfSome result (λ cursor. PointsInto greatest cursor unread.now) }
+    requires known { (greatest : ℕ) × IsCursor greatest known unread.now }
+    requires first { (greatest : ℕ) × IsFirstCursor greatest first unread.now }
+    ensures some { (greatest : ℕ) → IsCursor greatest known unread.now →
+        IsFirstCursor greatest first unread.now → IsCursor greatest result unread.now }
     ensures taken { IfSome result (λ cursor. cursor.taken ≡ taken) }
-    ensures none { (unit : ProtocolUnit) (len : ℕ) → result ≡ None → IsSpelled greatest (unit, len) unread.now → left_of unit taken ≡ unit }
+    ensures none { result ≡ None → first ≡ None }
 {
     match known {
         Some(cursor) if cursor.taken <= taken => Some(moved_to(cursor, unread, taken)),
-        _ => Some(moved_to(Cursor::begin(greatest, unread)?, unread, taken)),
+        _ => match first {
+            Some(cursor) => Some(moved_to(cursor, unread, taken)),
+            None => None,
+        },
     }
 }
 
@@ -155,7 +126,8 @@ pub fn cursor_after(
 fn moved_to(mut cursor: Cursor, unread: &[u8], taken: usize) -> Cursor
     requires within { IsWithin cursor unread.now }
     requires ahead { cursor.taken ≤ taken }
-    ensures points { (greatest : ℕ) → PointsInto greatest cursor unread.now → PointsInto greatest result unread.now }
+    ensures points { (greatest : ℕ) →
+        PointsInto greatest cursor unread.now → PointsInto greatest result unread.now }
     ensures taken { result.taken ≡ taken }
 {
     while cursor.taken < taken && cursor.left > 0 {

@@ -1,8 +1,7 @@
-ghost use Rattle.std.specs.Prelude.{◌≡◌, ◌≤◌, ◌-◌, [], drop, length, IsTrue};
-
+use crate::ahead::Ahead;
 use crate::cursor::{Cursor, cursor_after};
 use crate::peek::Peek;
-use crate::progress::Progress;
+use crate::queue::Queue;
 use mc_command::LineFault;
 use std::alloc::{AllocError, Global};
 use std::marker::Model;
@@ -11,51 +10,43 @@ use std::marker::Model;
 /// passed over, and the unread bytes.
 #[derive(Drop)]
 pub struct Feed {
-    alloc: Global,
     greatest: u64,
     /// How many bytes are still to be passed over.
     passed: u64,
-    buffer: Vec<u8>,
-    /// How many bytes of the buffer were read.
-    start: usize,
+    unread: Queue,
     /// Where the retrieval stands that the unread bytes begin with, if turns of it were noted.
     cursor: Option<Cursor>,
-    /// How far the unread bytes were looked at before the last piece came.
-    progress: Progress,
+    /// What the unread bytes begin with.
+    ahead: Ahead,
 }
 
 impl Model for Feed {
-    ghost use Rattle.std.specs.Prelude.{drop};
     ghost use Rattle.mc_parse.specs.Feeds.{Unread, IsKept};
 
     ghost Value = { Unread };
 
-    ghost view = { λ f. record { greatest = f.greatest; passed = f.passed; bytes = drop f.start f.buffer.items } };
+    ghost view = { λ f. record { greatest = f.greatest; passed = f.passed; bytes = f.unread } };
 
-    ghost invariant = { λ f. IsKept f.greatest f.passed f.start f.cursor f.progress f.buffer.items };
+    ghost invariant = { λ f. IsKept f.greatest f.passed f.cursor f.ahead f.unread };
 }
 
 impl Feed {
-    ghost use Rattle.std.specs.Prelude.{◌≡◌, ◌≤◌, ℕ, [], drop, length, IfSome, OnOk, OnErr};
-    ghost use Rattle.mc_command.specs.Commands.{HasShortKeys};
-    ghost use Rattle.mc_command.specs.declared.command.Command.{Command};
-    ghost use Rattle.mc_parse.specs.Units.{ProtocolUnit, Request};
-    ghost use Rattle.mc_parse.specs.Streams.{passed_after};
-    ghost use Rattle.mc_parse.specs.Peeks.{unit_of, IsSpelled, IsLeft, BeginsWithNone, left_of};
-    ghost use Rattle.mc_parse.specs.Feeds.{pushed, read, IsSettled};
+    ghost use Rattle.std.specs.Prelude.{◌≡◌, ◌≤◌, ◌<◌, ◌*◌, [], length, IfSome, OnOk, OnErr};
+    ghost use Rattle.mc_parse.specs.Peeks.{unit_of, FindsShortKeys, StaysWhole};
+    ghost use Rattle.mc_parse.specs.Cursors.{IsCursor};
+    ghost use Rattle.mc_parse.specs.Feeds.{pushed, read, IsSettled, HasNoUnit, HasUnit, ReadsUnit};
+    ghost use Rattle.mc_parse.specs.Feeds.{Finds, FindsAny, FindsLeft, FindsAnyLeft};
 
     /// A feed of no bytes, whose storage commands may charge at most `greatest` bytes. It takes no memory.
     pub fn new(alloc: Global, greatest: u64) -> Feed
         ensures { result ≡ record { greatest = greatest; passed = 0; bytes = [] } }
     {
         Feed {
-            alloc,
             greatest,
             passed: 0,
-            buffer: Vec::new(alloc),
-            start: 0,
+            unread: Queue::new(alloc),
             cursor: None,
-            progress: Progress::none(),
+            ahead: Ahead::none(),
         }
     }
 
@@ -64,12 +55,11 @@ impl Feed {
         ensures ok { OnOk result (self.new ≡ pushed self.old piece.now) }
         ensures err { OnErr result (self.new ≡ self.old) }
     {
-        self.note_progress();
-        self.make_room(piece.len());
         let skipped = (piece.len() as u64).min(self.passed);
         let (_, kept) = piece.split_at(skipped as usize);
-        self.buffer.extend_from_slice(kept)?;
+        self.unread.push(kept)?;
         self.passed -= skipped;
+        self.ahead = self.ahead.after(self.greatest, self.unread.as_slice());
         Ok(())
     }
 
@@ -77,28 +67,29 @@ impl Feed {
     /// searched again, and where a block is awaited it costs nothing until the block is there.
     pub fn peek(&self) -> Peek<'_>
         // What it finds is spelled by the front that it counts, and no byte is to be passed over.
-        ensures found { IfSome (unit_of result) (λ found. (self.now.passed ≡ 0) × IsSpelled self.now.greatest found self.now.bytes) }
+        ensures found { Finds self.now (unit_of result) }
         // It finds nothing exactly where no front of the stream spells anything.
-        ensures none { unit_of result ≡ None → BeginsWithNone self.now.greatest (drop self.now.passed self.now.bytes) }
-        ensures more { BeginsWithNone self.now.greatest (drop self.now.passed self.now.bytes) → unit_of result ≡ None }
+        ensures none { unit_of result ≡ None → HasNoUnit self.now }
+        ensures more { HasNoUnit self.now → unit_of result ≡ None }
         // Whatever a front spells is what it finds.
-        ensures only { (unit : ProtocolUnit) (len : ℕ) → self.now.passed ≡ 0 → IsSpelled self.now.greatest (unit, len) self.now.bytes → unit_of result ≡ Some (unit, len) }
+        ensures only { FindsAny self.now (unit_of result) }
         // No key of a command is longer than 250 bytes.
-        ensures keys { (command : Command) (len : ℕ) → unit_of result ≡ Some (Request command, len) → HasShortKeys command }
+        ensures keys { FindsShortKeys (unit_of result) }
     {
         self.first_unit()
     }
 
     /// The same after `taken` turns of the first unit: of a retrieval, the retrieval of the keys that are left. Where
     /// `mark` was told of these turns it costs as much as the next key, whatever the line's length.
+    #[inline]
     pub fn peek_after(&self, taken: usize) -> Peek<'_>
-        ensures found { IfSome (unit_of result) (λ found. (self.now.passed ≡ 0) × IsLeft self.now.greatest taken found self.now.bytes) }
+        ensures found { FindsLeft self.now taken (unit_of result) }
         // It finds nothing exactly where no front of the stream spells anything.
-        ensures none { unit_of result ≡ None → BeginsWithNone self.now.greatest (drop self.now.passed self.now.bytes) }
-        ensures more { BeginsWithNone self.now.greatest (drop self.now.passed self.now.bytes) → unit_of result ≡ None }
+        ensures none { unit_of result ≡ None → HasNoUnit self.now }
+        ensures more { HasNoUnit self.now → unit_of result ≡ None }
         // Of whatever a front spells, what is left is what it finds.
-        ensures only { (unit : ProtocolUnit) (len : ℕ) → self.now.passed ≡ 0 → IsSpelled self.now.greatest (unit, len) self.now.bytes → unit_of result ≡ Some (left_of unit taken, len) }
-        ensures keys { (command : Command) (len : ℕ) → unit_of result ≡ Some (Request command, len) → HasShortKeys command }
+        ensures only { FindsAnyLeft self.now taken (unit_of result) }
+        ensures keys { FindsShortKeys (unit_of result) }
     {
         self.unit_after(taken)
     }
@@ -107,15 +98,14 @@ impl Feed {
     pub fn mark(&mut self, taken: usize)
         ensures { self.new ≡ self.old }
     {
-        let cursor = cursor_after(self.cursor, self.greatest, self.unread(), taken);
-        self.cursor = cursor;
+        self.cursor = self.cursor_at(taken);
     }
 
     /// Passes over the unit that the unread bytes begin with, which `peek` found to be spelled by `len` bytes. The bytes
     /// that a fault passes over are dropped as they come. It takes no memory.
     pub fn done(&mut self, len: usize)
-        requires { (unit : ProtocolUnit) × IsSpelled self.old.greatest (unit, len) self.old.bytes × (self.old.passed ≡ 0) }
-        ensures { (unit : ProtocolUnit) → IsSpelled self.old.greatest (unit, len) self.old.bytes → self.new ≡ read self.old len (passed_after unit) }
+        requires { HasUnit self.old len }
+        ensures { ReadsUnit self.old len self.new }
     {
         let passed = match self.peek() {
             Peek::Bad(LineFault::TooLarge { passed }, _) => passed,
@@ -131,123 +121,82 @@ impl Feed {
         requires none { self.old.passed ≡ 0 }
         ensures { self.new ≡ read self.old len passed }
     {
-        let left = self.held() - len;
-        self.cursor = None;
-        self.progress = Progress::none();
+        let left = self.unread.len() - len;
         let dropped = passed.min(left as u64);
         self.passed = passed - dropped;
-        self.start += len + dropped as usize;
-        if self.start == self.buffer.len() {
-            empty(&mut self.buffer, self.alloc);
-            self.start = 0;
-        }
+        self.unread.consume(len + dropped as usize);
+        self.cursor = None;
+        self.ahead = Ahead::none().after(self.greatest, self.unread.as_slice());
     }
 
     /// Drops what is unread and what is to be passed over. It takes no memory.
     pub fn clear(&mut self)
         ensures { self.new ≡ record { greatest = self.old.greatest; passed = 0; bytes = [] } }
     {
-        empty(&mut self.buffer, self.alloc);
-        self.start = 0;
+        self.unread.clear();
         self.passed = 0;
         self.cursor = None;
-        self.progress = Progress::none();
+        self.ahead = Ahead::none();
     }
 
-    /// How many bytes are unread. Bytes that are passed over are never held.
-    pub fn held(&self) -> usize
+    /// Counts the unread bytes. There are none while bytes are to be passed over.
+    pub fn unread_len(&self) -> usize
         ensures unread { result ≡ length self.now.bytes }
         ensures settled { IsSettled self.now }
     {
-        self.buffer.len() - self.start
+        self.unread.len()
     }
 
-    /// Notes how far the unread bytes were looked at, so that they needn't be read again when more come.
-    fn note_progress(&mut self)
-        ensures { self.new ≡ self.old }
+    /// Counts the bytes that the feed holds in memory: the unread ones, and of those that were read at most as many.
+    pub fn held(&self) -> usize
+        ensures least { length self.now.bytes ≤ result }
+        ensures most { result ≤ 2 * length self.now.bytes }
+        // Bytes that are passed over are never held.
+        ensures passing { 0 < self.now.passed → result ≡ 0 }
     {
-        let progress = self.progress.after(self.greatest, self.unread());
-        self.progress = progress;
-    }
-
-    /// Drops the front that was read, where so many bytes find no room behind it.
-    fn make_room(&mut self, added: usize)
-        ensures { self.new ≡ self.old }
-    {
-        if wants_room(&self.buffer, self.start, added) {
-            drop_front(&mut self.buffer, self.start);
-            self.start = 0;
-        }
+        self.unread.held()
     }
 
     /// The same as `peek`. What else is said there follows from the two clauses.
+    #[inline]
     fn first_unit(&self) -> Peek<'_>
-        ensures found { IfSome (unit_of result) (λ found. (self.now.passed ≡ 0) × IsSpelled self.now.greatest found self.now.bytes) }
-        ensures none { unit_of result ≡ None → BeginsWithNone self.now.greatest (drop self.now.passed self.now.bytes) }
+        ensures found { Finds self.now (unit_of result) }
+        ensures none { unit_of result ≡ None → HasNoUnit self.now }
     {
         if self.passed > 0 {
             return Peek::More;
         }
-        self.progress.peek(self.greatest, self.unread())
+        self.ahead.peek(self.unread.as_slice())
     }
 
     /// The same as `peek_after`.
+    #[inline]
     fn unit_after(&self, taken: usize) -> Peek<'_>
-        ensures found { IfSome (unit_of result) (λ found. (self.now.passed ≡ 0) × IsLeft self.now.greatest taken found self.now.bytes) }
-        ensures none { unit_of result ≡ None → BeginsWithNone self.now.greatest (drop self.now.passed self.now.bytes) }
+        ensures found { FindsLeft self.now taken (unit_of result) }
+        ensures none { unit_of result ≡ None → HasNoUnit self.now }
     {
         if taken == 0 || self.passed > 0 {
             return self.first_unit();
         }
-        let unread = self.unread();
-        match cursor_after(self.cursor, self.greatest, unread, taken) {
-            Some(cursor) => cursor.peek(unread),
+        match self.cursor_at(taken) {
+            Some(cursor) => cursor.peek(self.unread.as_slice()),
             None => self.first_unit(),
         }
     }
 
-    /// The bytes that came and weren't read.
-    fn unread(&self) -> &[u8]
-        ensures { result.now ≡ self.now.bytes }
+    /// Moves to the cursor after `taken` turns of the retrieval that the unread bytes begin with. There is none where they
+    /// begin with something else.
+    fn cursor_at(&self, taken: usize) -> Option<Cursor>
+        ensures some { IsCursor self.now.greatest result self.now.bytes }
+        ensures taken { IfSome result (λ cursor. cursor.taken ≡ taken) }
+        // Where there is none a unit is whole after any turns.
+        ensures none { result ≡ None → StaysWhole self.now.greatest taken self.now.bytes }
     {
-        let (_, unread) = self.buffer.as_slice().split_at(self.start);
-        unread
-    }
-}
-
-/// The greatest buffer that is kept while it is empty.
-const KEPT: usize = 65536;
-
-/// Whether the front that was read is to be dropped before so many bytes are added: they find no room behind the unread
-/// bytes, and these are no more than what was read, so that each byte moves at most as often as one is read.
-fn wants_room(buffer: &Vec<u8>, start: usize, added: usize) -> bool
-    requires { start ≤ length buffer.now.items }
-    ensures { IsTrue result → length buffer.now.items - start ≤ start }
-{
-    let held = buffer.len();
-    held - start <= start && buffer.capacity().saturating_sub(held) < added
-}
-
-/// Drops the front of a buffer, where what is left is no longer than the front.
-fn drop_front(buffer: &mut Vec<u8>, start: usize)
-    requires inside { start ≤ length buffer.old.items }
-    requires half { length buffer.old.items - start ≤ start }
-    ensures { buffer.new.items ≡ drop start buffer.old.items }
-{
-    let left = buffer.len() - start;
-    let (front, rest) = buffer.as_mut_slice().split_at_mut(start);
-    let (onto, _) = front.split_at_mut(left);
-    onto.copy_from_slice(rest);
-    buffer.truncate(left);
-}
-
-/// Empties a buffer. One that grew large is given back.
-fn empty(buffer: &mut Vec<u8>, alloc: Global)
-    ensures { buffer.new.items ≡ [] }
-{
-    if buffer.capacity() > KEPT {
-        *buffer = Vec::new(alloc);
-    } else {
-        buffer.clear();
+        cursor_after(
+            self.cursor,
+            self.ahead.cursor(),
+            self.unread.as_slice(),
+            taken,
+        )
     }
 }

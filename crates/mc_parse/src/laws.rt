@@ -1,6 +1,6 @@
 //! Laws of the grammar, each the contract of a function that does nothing.
 
-ghost use Rattle.std.specs.Prelude.{◌≡◌, ℕ, List, ◌++◌};
+ghost use Rattle.std.specs.Prelude.{◌≡◌, ◌<◌, ℕ, List, ◌++◌, length};
 ghost use Rattle.std.specs.List.{fold, concat};
 ghost use Rattle.mc_parse.specs.Units.{Spells, ProtocolUnit};
 ghost use Rattle.mc_parse.specs.Streams.{AreUnits};
@@ -12,19 +12,29 @@ pub fn no_spelling_begins_another()
         Spells greatest u a → Spells greatest v b → a ++ x ≡ b ++ y → (u ≡ v) × (a ≡ b) }
 {}
 
+/// A spelling has at least one byte.
+pub fn a_spelling_has_a_byte()
+    ensures { (greatest : ℕ) (unit : ProtocolUnit) (front : List ℕ) →
+        Spells greatest unit front → 0 < length front }
+{}
+
 /// A stream has one list of units, and no other.
 pub fn one_list_of_units()
-    ensures some { (greatest passed : ℕ) (bytes : List ℕ) → (units : List ProtocolUnit) × AreUnits greatest passed bytes units }
+    ensures some { (greatest passed : ℕ) (bytes : List ℕ) →
+        (units : List ProtocolUnit) × AreUnits greatest passed bytes units }
     ensures same { (greatest passed : ℕ) (bytes : List ℕ) (units others : List ProtocolUnit) →
-        AreUnits greatest passed bytes units → AreUnits greatest passed bytes others → units ≡ others }
+        AreUnits greatest passed bytes units → AreUnits greatest passed bytes others →
+        units ≡ others }
 {}
 
 /// Pieces that come one after another leave what they leave joined.
 pub fn cutting_does_not_matter()
-    ensures { (unread : Unread) (piece more : List ℕ) → pushed (pushed unread piece) more ≡ pushed unread (piece ++ more) }
+    ensures { (unread : Unread) (piece more : List ℕ) →
+        pushed (pushed unread piece) more ≡ pushed unread (piece ++ more) }
 {}
 
-/// So do any number of pieces: feeding them in turn is feeding them joined.
+/// Any number of pieces that are fed in turn leave what they leave joined.
 pub fn pieces_are_fed_as_joined()
-    ensures { (unread : Unread) (pieces : List (List ℕ)) → IsSettled unread → fold pushed unread pieces ≡ pushed unread (concat pieces) }
+    ensures { (unread : Unread) (pieces : List (List ℕ)) →
+        IsSettled unread → fold pushed unread pieces ≡ pushed unread (concat pieces) }
 {}

@@ -26,7 +26,9 @@ ghost use Rattle.mc_parse.specs.Lines.{
 
 use crate::exptime::{delay_of, exptime_of};
 use crate::name::{Name, name_of};
-use mc_command::{Bytes, Command, Keys, LineFault, Verb, Words, first_word, number_up_to};
+use mc_command::{
+    Bytes, Command, Keys, LineFault, Verb, Words, first_key, first_word, number_up_to,
+};
 
 /// What a line says.
 #[derive(Drop)]
@@ -84,7 +86,7 @@ pub fn line_of(greatest: u64, text: &[u8]) -> Result<Line<'_>, LineFault>
 fn store_line(greatest: u64, verb: Verb, args: &[u8]) -> Result<Line<'_>, LineFault>
     ensures { result ≡ store_line greatest verb (words args.now) }
 {
-    let (key, rest) = next_word(args)?;
+    let (key, rest) = next_key(args)?;
     let (flags, rest) = next_word(rest)?;
     let (exptime, rest) = next_word(rest)?;
     let (bytes, rest) = next_word(rest)?;
@@ -110,7 +112,7 @@ fn store_line(greatest: u64, verb: Verb, args: &[u8]) -> Result<Line<'_>, LineFa
 fn cas_line(greatest: u64, args: &[u8]) -> Result<Line<'_>, LineFault>
     ensures { result ≡ cas_line greatest (words args.now) }
 {
-    let (key, rest) = next_word(args)?;
+    let (key, rest) = next_key(args)?;
     let (flags, rest) = next_word(rest)?;
     let (exptime, rest) = next_word(rest)?;
     let (bytes, rest) = next_word(rest)?;
@@ -158,7 +160,7 @@ fn get_touch_line(with_unique: bool, args: &[u8]) -> Result<Line<'_>, LineFault>
 fn touch_line(args: &[u8]) -> Result<Line<'_>, LineFault>
     ensures { result ≡ touch_line (words args.now) }
 {
-    let (key, rest) = next_word(args)?;
+    let (key, rest) = next_key(args)?;
     let (exptime, rest) = next_word(rest)?;
     let quiet = ending(rest)?;
     let key = key_formed(key)?;
@@ -173,7 +175,7 @@ fn touch_line(args: &[u8]) -> Result<Line<'_>, LineFault>
 fn delete_line(args: &[u8]) -> Result<Line<'_>, LineFault>
     ensures { result ≡ delete_line (words args.now) }
 {
-    let (key, rest) = next_word(args)?;
+    let (key, rest) = next_key(args)?;
     let quiet = delete_ending(rest)?;
     let key = key_formed(key)?;
     Ok(Line::Bare(Command::Delete { key, quiet }))
@@ -182,7 +184,7 @@ fn delete_line(args: &[u8]) -> Result<Line<'_>, LineFault>
 fn count_line(up: bool, args: &[u8]) -> Result<Line<'_>, LineFault>
     ensures { result ≡ count_line up (words args.now) }
 {
-    let (key, rest) = next_word(args)?;
+    let (key, rest) = next_key(args)?;
     let (value, rest) = next_word(rest)?;
     let quiet = ending(rest)?;
     let key = key_formed(key)?;
@@ -223,9 +225,20 @@ fn lone_line<'a>(command: Command<'a>, args: &[u8]) -> Result<Line<'a>, LineFaul
 
 /// A word that has to stand, and what follows it.
 fn next_word(text: &[u8]) -> Result<(&[u8], &[u8]), LineFault>
-    ensures { MatchResult result (λ p. words text.now ≡ p.0.now ∷ words p.1.now) (λ fault. (fault ≡ Unknown) × (words text.now ≡ [])) }
+    ensures { MatchResult result
+        (λ p. words text.now ≡ p.0.now ∷ words p.1.now)
+        (λ fault. (fault ≡ Unknown) × (words text.now ≡ [])) }
 {
     first_word(text).ok_or(LineFault::Unknown)
+}
+
+/// A word that has to stand and is a key, and what follows it.
+fn next_key(text: &[u8]) -> Result<(&[u8], &[u8]), LineFault>
+    ensures { MatchResult result
+        (λ p. words text.now ≡ p.0.now ∷ words p.1.now)
+        (λ fault. (fault ≡ Unknown) × (words text.now ≡ [])) }
+{
+    first_key(text).ok_or(LineFault::Unknown)
 }
 
 /// The end of a line: nothing, or `noreply`, which makes the command quiet.

@@ -18,6 +18,7 @@ pub fn words_hold_no_space_or_feed()
 pub fn keys_of_a_line_are_keys()
     ensures bare { (greatest : ℕ) (text : List ℕ) (command : Command) → All (λ b. b ≢ 10) text →
         meaning greatest (words text) ≡ Ok (Bare command) → HasKeys IsKey command }
-    ensures block { (greatest : ℕ) (text : List ℕ) (head : Head) (len : ℕ) (block : List ℕ) → All (λ b. b ≢ 10) text →
-        meaning greatest (words text) ≡ Ok (Block head len) → HasKeys IsKey (with_block head block) }
+    ensures block { (greatest : ℕ) (text : List ℕ) (head : Head) (len : ℕ) (block : List ℕ) →
+        All (λ b. b ≢ 10) text → meaning greatest (words text) ≡ Ok (Block head len) →
+        HasKeys IsKey (with_block head block) }
 {}

@@ -1,10 +1,12 @@
-ghost use Rattle.std.specs.Prelude.{◌≡◌, ◌≢◌, ◌+◌, ◌++◌, ◌<◌, ℕ, List, length, take, IfSome};
+ghost use Rattle.std.specs.Prelude.{◌≡◌, ◌≢◌, ◌+◌, ◌<◌, ℕ, length, take, IfSome, None};
 ghost use Rattle.std.specs.List.{AllByRecursion};
 ghost use Rattle.std.specs.Str.Lines.{strip_carriage_return};
-ghost use Rattle.mc_parse.specs.Units.{ProtocolUnit, IsLine, with_block};
-ghost use Rattle.mc_parse.specs.Peeks.{unit_of, IsSpelled, BeginsWithNone};
+ghost use Rattle.mc_parse.specs.Units.{IsLine, HasLine, with_block};
+ghost use Rattle.mc_parse.specs.Peeks.{unit_of, FindsSpelled, MissesNone, FindsWhatever};
+ghost use Rattle.mc_parse.specs.Notes.{Says};
 
-use crate::line::{Head, Line, line_of};
+use crate::ahead::Ahead;
+use crate::line::{Head, Line};
 use mc_command::{Bytes, Command, LineFault};
 use memchr::memchr;
 
@@ -24,38 +26,25 @@ pub enum Peek<'a> {
 /// The longest line, without its end.
 pub const LONGEST: usize = 65536;
 
-/// What bytes begin with, where none is to be passed over and a charge may be at most `greatest`. It looks at the first
-/// line, and of a block only at the two bytes behind it.
+/// Finds what bytes begin with, where none is to be passed over and a charge may be at most `greatest`. It looks at the
+/// first line, and of a block only at the two bytes behind it.
 pub fn peek_at(greatest: u64, unread: &[u8]) -> Peek<'_>
     // What it finds is spelled by the front that it counts.
-    ensures found { IfSome (unit_of result) (λ found. IsSpelled greatest found unread.now) }
-    // It finds nothing only where no front spells anything: the bytes have the list of no units (`AreUnits`).
-    ensures none { unit_of result ≡ None → BeginsWithNone greatest unread.now }
+    ensures found { FindsSpelled greatest (unit_of result) unread.now }
+    // It finds nothing only where no front spells anything.
+    ensures none { MissesNone greatest (unit_of result) unread.now }
     // Whatever a front spells is what it finds.
-    ensures only { (unit : ProtocolUnit) (len : ℕ) → IsSpelled greatest (unit, len) unread.now → unit_of result ≡ Some (unit, len) }
+    ensures only { FindsWhatever greatest (unit_of result) unread.now }
 {
-    first_unit(greatest, unread, 0)
-}
-
-/// The same, where none of the first `searched` bytes is a line feed. That nothing else is spelled follows from the two
-/// clauses.
-pub fn first_unit(greatest: u64, unread: &[u8], searched: usize) -> Peek<'_>
-    requires { AllByRecursion (λ b. b ≢ 10) (take searched unread.now) }
-    ensures found { IfSome (unit_of result) (λ found. IsSpelled greatest found unread.now) }
-    ensures none { unit_of result ≡ None → BeginsWithNone greatest unread.now }
-{
-    match first_feed(unread, searched) {
-        None if unread.len() > LONGEST => Peek::TooLong,
-        None => Peek::More,
-        Some(end) => peek_line(greatest, unread, end),
-    }
+    let ahead = Ahead::none().after(greatest, unread);
+    ahead.peek(unread)
 }
 
 /// Where the first line feed is, if a line may be so long. None of the first `searched` bytes is one, and they aren't
 /// looked at.
 pub fn first_feed(unread: &[u8], searched: usize) -> Option<usize>
     requires { AllByRecursion (λ b. b ≢ 10) (take searched unread.now) }
-    ensures some { IfSome result (λ end. (end < length unread.now) × IsLine (take (end + 1) unread.now) (take end unread.now)) }
+    ensures some { IfSome result (λ end. HasLine end unread.now) }
     ensures none { result ≡ None → AllByRecursion (λ b. b ≢ 10) (take 65537 unread.now) }
 {
     let (front, _) = unread.split_at(unread.len().min(LONGEST + 1));
@@ -67,16 +56,18 @@ pub fn first_feed(unread: &[u8], searched: usize) -> Option<usize>
     }
 }
 
-/// The unread bytes begin with a line whose line feed is at `end`.
-fn peek_line(greatest: u64, unread: &[u8], end: usize) -> Peek<'_>
+/// Tells what the unread bytes begin with, whose first line says this and has its line feed at `end`.
+#[inline]
+pub fn peek_said<'a>(line: Result<Line<'a>, LineFault>, unread: &'a [u8], end: usize) -> Peek<'a>
     requires line { IsLine (take (end + 1) unread.now) (take end unread.now) }
     requires inside { end < length unread.now }
-    ensures found { IfSome (unit_of result) (λ found. IsSpelled greatest found unread.now) }
-    ensures none { unit_of result ≡ None → BeginsWithNone greatest unread.now }
+    ensures found { (greatest : ℕ) → Says greatest unread.now end line.entry →
+        FindsSpelled greatest (unit_of result) unread.now }
+    ensures none { (greatest : ℕ) → Says greatest unread.now end line.entry →
+        MissesNone greatest (unit_of result) unread.now }
 {
-    let (text, _) = unread.split_at(end);
     let (_, rest) = unread.split_at(end + 1);
-    match line_of(greatest, without_carriage_return(text)) {
+    match line {
         Err(fault) => Peek::Bad(fault, end + 1),
         Ok(Line::Bare(command)) => Peek::Whole(command, end + 1),
         Ok(Line::Block(head, len)) => {
@@ -95,20 +86,8 @@ fn peek_line(greatest: u64, unread: &[u8], end: usize) -> Peek<'_>
     }
 }
 
-/// How many bytes the first unit has, whose line feed is at `end`. While fewer came, nothing is spelled.
-pub fn len_of_unit(greatest: u64, unread: &[u8], end: usize) -> usize
-    requires line { IsLine (take (end + 1) unread.now) (take end unread.now) }
-    requires inside { end < length unread.now }
-    ensures { (more : List ℕ) → length (unread.now ++ more) < result → BeginsWithNone greatest (unread.now ++ more) }
-{
-    let (text, _) = unread.split_at(end);
-    match line_of(greatest, without_carriage_return(text)) {
-        Ok(Line::Block(_, len)) => end + 1 + (len as usize + 2),
-        _ => end + 1,
-    }
-}
-
 /// The command that a block makes of a line's head.
+#[inline]
 fn with_block<'a>(head: Head<'a>, block: &'a [u8]) -> Command<'a>
     ensures { result ≡ with_block head.entry block.now }
 {

@@ -8,6 +8,6 @@ pub returns-clause-rest : goal.returns-clause-rest
 returns-clause-rest c =
     let text = c.args.text.now in
     let rest = c.split_at.result.1.now in
-    let len = c.word_len.result in
+    let len = c.key_len.result in
     ap words (ap (λ n. drop (n + len) text) c.split_at.ensures.front_len ∙ sym (drop-drop len c.spaces.result text) ∙ ap (drop len) (sym c.split_at.ensures.back))
-    ∙ words-rest text rest c.spaces.result c.spaces.ensures c.split_at.ensures.back len c.word_len.ensures
+    ∙ words-rest text rest c.spaces.result c.spaces.ensures.len c.split_at.ensures.back len c.key_len.ensures

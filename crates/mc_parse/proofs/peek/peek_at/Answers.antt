@@ -3,4 +3,6 @@ use Rattle.mc_parse.proofs.UnitLemmas.{found_only}
 use Rattle.mc_parse.proofs.peek.peek_at.Goals as goal
 
 pub returns-clause-only : goal.returns-clause-only
-returns-clause-only c = found_only c.args.greatest c.args.unread.now (unit_of c.first_unit.result) c.first_unit.ensures.found c.first_unit.ensures.none
+returns-clause-only c =
+    let greatest = c.args.greatest in
+    found_only greatest c.args.unread.now (unit_of c.peek.result) (c.peek.ensures.found greatest c.after-ahead.ensures) (c.peek.ensures.none greatest c.after-ahead.ensures)
