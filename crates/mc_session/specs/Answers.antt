@@ -3,6 +3,7 @@ use Rattle.std.specs.Prelude.{◌≡◌, ℕ, ◌+◌, ◌^◌, ◌<◌, ◌≤�
 use Rattle.mc_command.specs.Commands.{steps}
 use Rattle.mc_command.specs.declared.command.Command.{Command}
 use Rattle.mc_command.specs.declared.step.KeyStep.{KeyStep}
+use Rattle.mc_command.specs.declared.step.Steps.{Ghosts as Relations}
 use Rattle.mc_command.specs.declared.reply.Reply.{Reply}
 use Rattle.mc_parse.specs.Units.{ProtocolUnit, Request, Spells}
 use Rattle.mc_parse.specs.Streams.{is_last, passed_after}
@@ -25,30 +26,30 @@ gone_on (Read len passed) s = record s { unread = read s.unread len passed; take
 gone_on Close s = closed s
 
 -- the first turn of the unit that was found takes the store from before to after
-pub record AnswersFound {S : Type 0} (took : S → KeyStep → ℕ → Reply → S → Type 0) (spent : S → KeyStep → ℕ → Type 0) (now : ℕ) (found : Option (ProtocolUnit × ℕ)) (before after : S) : Type 0 where
+pub record AnswersFound {S : Type 0} (relations : Relations S) (now : ℕ) (found : Option (ProtocolUnit × ℕ)) (before after : S) : Type 0 where
   pub unit : ProtocolUnit
   pub len : ℕ
   pub text : List ℕ
   pub is_found : found ≡ Some (unit, len)
-  pub answers : Answers took spent unit 0 now before after text
+  pub answers : Answers relations unit 0 now before after text
 
 -- the first step of a command takes the store from before to after
-pub record TakesFirst {S : Type 0} (took : S → KeyStep → ℕ → Reply → S → Type 0) (now : ℕ) (command : Command) (before after : S) : Type 0 where
+pub record TakesFirst {S : Type 0} (relations : Relations S) (now : ℕ) (command : Command) (before after : S) : Type 0 where
   pub step : KeyStep
   pub reply : Reply
   pub is_step : slice_get (steps command) 0 ≡ Some step
-  pub took_it : took before step now reply after
+  pub took_it : relations.took before step now reply after
 
 -- what was found is a command, and its first step does
-pub record DecidesFound {S : Type 0} (took : S → KeyStep → ℕ → Reply → S → Type 0) (now : ℕ) (found : Option (ProtocolUnit × ℕ)) (before after : S) : Type 0 where
+pub record DecidesFound {S : Type 0} (relations : Relations S) (now : ℕ) (found : Option (ProtocolUnit × ℕ)) (before after : S) : Type 0 where
   pub command : Command
   pub len : ℕ
   pub is_found : found ≡ Some (Request command, len)
-  pub takes : TakesFirst took now command before after
+  pub takes : TakesFirst relations now command before after
 
 -- the turn is answered, its text is told, and what comes next
-pub record Tells {S : Type 0} (took : S → KeyStep → ℕ → Reply → S → Type 0) (spent : S → KeyStep → ℕ → Type 0) (now : ℕ) (found : Option (ProtocolUnit × ℕ)) (next : Next) (before after : S) (old new : List ℕ) : Type 0 where
-  pub answered : AnswersFound took spent now found before after
+pub record Tells {S : Type 0} (relations : Relations S) (now : ℕ) (found : Option (ProtocolUnit × ℕ)) (next : Next) (before after : S) (old new : List ℕ) : Type 0 where
+  pub answered : AnswersFound relations now found before after
   pub next_is : next ≡ next_of answered.unit 0 answered.len
   pub few : turn_count answered.unit < 2 ^ 64
   pub told : new ≡ old ++ answered.text

@@ -1,8 +1,7 @@
 -- What a run of a session did until now, and what its parts do.
 use Rattle.std.specs.Prelude.{◌≡◌, ◌⊎◌, ◌+◌, ◌^◌, ◌<◌, ◌≤◌, ℕ, List, [], ◌++◌, length, Option, IsFalse}
 use Rattle.std.specs.Io.KnownBytes.{Appends, Consumes, IsAtEnd}
-use Rattle.mc_command.specs.declared.step.KeyStep.{KeyStep}
-use Rattle.mc_command.specs.declared.reply.Reply.{Reply}
+use Rattle.mc_command.specs.declared.step.Steps.{Ghosts as Relations}
 use Rattle.mc_parse.specs.Units.{ProtocolUnit}
 use Rattle.mc_session.specs.Turns.{SessionState, opened, fed, NoTurnDue}
 use Rattle.mc_session.specs.Serving.{Run, ServesUntilRefused}
@@ -28,14 +27,14 @@ pub record HasEnded (session : SessionState) (reader : Option (List ℕ)) : Type
   pub written : session.out ≡ []
   pub ended : IsFalse session.is_open ⊎ (IsAtEnd reader × NoTurnDue session)
 
-module _ {S : Type 0} (took : S → KeyStep → ℕ → Reply → S → Type 0) (spent : S → KeyStep → ℕ → Type 0) (may_give : ℕ → Type 0) where
+module _ {S : Type 0} (relations : Relations S) (may_give : ℕ → Type 0) where
   -- until now this was read and that was written, and the session is where the run of its joined stream leaves it, after so many turns at most
   pub record HasServed (greatest most : ℕ) (before after : S) (reader_old reader_new writer_old writer_new : Option (List ℕ)) (session : SessionState) : Type 0 where
     pub read : List ℕ
     pub written : List ℕ
     pub taken : List (ProtocolUnit × ℕ)
     pub consumes : Consumes reader_old reader_new read
-    pub run : Run took spent may_give (fed (opened greatest) read) before taken (with_written written session) after
+    pub run : Run relations may_give (fed (opened greatest) read) before taken (with_written written session) after
     pub few : length taken ≤ most
     pub appends : Appends writer_old writer_new written
 
@@ -47,4 +46,4 @@ module _ {S : Type 0} (took : S → KeyStep → ℕ → Reply → S → Type 0) 
   -- the same where the round was refused memory
   abbrev pub IsRefused : (old : SessionState) (before after : S) (reader_old reader_new writer_old writer_new : Option (List ℕ)) → Type 0
   IsRefused old before after reader_old reader_new writer_old writer_new =
-      (greatest most : ℕ) (first : S) (reader writer : Option (List ℕ)) → HasServed greatest most first before reader reader_old writer writer_old old → most < 2 ^ 40 → ServesUntilRefused took spent may_give greatest first after reader reader_new writer writer_new
+      (greatest most : ℕ) (first : S) (reader writer : Option (List ℕ)) → HasServed greatest most first before reader reader_old writer writer_old old → most < 2 ^ 40 → ServesUntilRefused relations may_give greatest first after reader reader_new writer writer_new

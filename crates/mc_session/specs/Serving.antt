@@ -1,16 +1,15 @@
 -- A whole run of a session over a reader and a writer.
 use Rattle.std.specs.Prelude.{◌≡◌, ◌⊎◌, ◌^◌, ◌<◌, ◌≤◌, ℕ, List, [], ◌∷◌, ◌++◌, length, Option, IsFalse}
 use Rattle.std.specs.Io.KnownBytes.{Appends, Consumes, IsAtEnd}
-use Rattle.mc_command.specs.declared.step.KeyStep.{KeyStep}
-use Rattle.mc_command.specs.declared.reply.Reply.{Reply}
+use Rattle.mc_command.specs.declared.step.Steps.{Ghosts as Relations}
 use Rattle.mc_parse.specs.Units.{ProtocolUnit}
-use Rattle.mc_session.specs.Turns.{SessionState, opened, fed, TakesTurn, DecidesStep, NoTurnDue}
+use Rattle.mc_session.specs.Turns.{SessionState, opened, fed, TakesTurn, DecidesStep, HoldsSame, NoTurnDue}
 
-module _ {S : Type 0} (took : S → KeyStep → ℕ → Reply → S → Type 0) (spent : S → KeyStep → ℕ → Type 0) (may_give : ℕ → Type 0) where
+module _ {S : Type 0} (relations : Relations S) (may_give : ℕ → Type 0) where
   -- turns one after another, each at a moment that the clock may give: of which unit each is, and which of its turns
   pub data Run : SessionState → S → List (ProtocolUnit × ℕ) → SessionState → S → Type 0 where
     nothing : {session : SessionState} {store : S} → Run session store [] session store
-    turn : {first mid last : SessionState} {before between after : S} {taken : List (ProtocolUnit × ℕ)} (now : ℕ) → Run first before taken mid between → may_give now → (takes : TakesTurn took spent now mid last between after)
+    turn : {first mid last : SessionState} {before between after : S} {taken : List (ProtocolUnit × ℕ)} (now : ℕ) → Run first before taken mid between → may_give now → (takes : TakesTurn relations now mid last between after)
         → Run first before (taken ++ (takes.unit, mid.taken) ∷ []) last after
 
   -- What was read, the turns that were taken of its stream, and what was written: a beginning of their texts. It is said
@@ -44,4 +43,4 @@ module _ {S : Type 0} (took : S → KeyStep → ℕ → Reply → S → Type 0) 
     pub between : S
     pub serves : Serves greatest before between reader_old reader_new writer_old writer_new
     pub fewer : length serves.taken < 2 ^ 40
-    pub decided : (after ≡ between) ⊎ ((now : ℕ) × may_give now × DecidesStep took now serves.last between after)
+    pub decided : HoldsSame relations between after ⊎ ((now : ℕ) × may_give now × DecidesStep relations now serves.last between after)

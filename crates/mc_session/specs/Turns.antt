@@ -3,6 +3,7 @@ use Rattle.std.specs.Prelude.{◌≡◌, ◌⊎◌, ℕ, zero, suc, ◌+◌, ◌
 use Rattle.mc_command.specs.Commands.{steps}
 use Rattle.mc_command.specs.declared.command.Command.{Command}
 use Rattle.mc_command.specs.declared.step.KeyStep.{KeyStep}
+use Rattle.mc_command.specs.declared.step.Steps.{Ghosts as Relations}
 use Rattle.mc_command.specs.declared.reply.Reply.{Reply}
 use Rattle.mc_parse.specs.Units.{ProtocolUnit, Request, Fault, LongLine, Spells}
 use Rattle.mc_parse.specs.Peeks.{BeginsWithNone}
@@ -34,12 +35,12 @@ abbrev pub turns : List ProtocolUnit → List (ProtocolUnit × ℕ)
 turns [] = []
 turns (unit ∷ units) = turns_from unit 0 (turn_count unit) ++ turns units
 
-module _ {S : Type 0} (took : S → KeyStep → ℕ → Reply → S → Type 0) (spent : S → KeyStep → ℕ → Type 0) where
+module _ {S : Type 0} (relations : Relations S) where
   -- a step is answered with the text of its reply, or its unique numbers are spent
   abbrev pub AnswersStep : Command → ℕ → KeyStep → ℕ → S → S → List ℕ → Type 0
   AnswersStep command at step now before after text =
-      ((reply : Reply) × took before step now reply after × (text ≡ reply_text command at reply))
-      ⊎ (spent before step now × (after ≡ before) × (text ≡ spent_text command))
+      ((reply : Reply) × relations.took before step now reply after × (text ≡ reply_text command at reply))
+      ⊎ (relations.spent before step now × relations.same before after × (text ≡ spent_text command))
 
   -- turn `at` of a unit at a moment takes the store from before to after, and has this text
   abbrev pub Answers : ProtocolUnit → ℕ → ℕ → S → S → List ℕ → Type 0
@@ -77,8 +78,12 @@ moved s unit rest text =
     record s { unread = settled (record { greatest = s.unread.greatest; passed = passed_after unit; bytes = rest }); taken = 0; out = s.out ++ text }
     else record s { taken = s.taken + 1; out = s.out ++ text }
 
+-- the store holds what it held: no step was asked of it, or one that was not taken
+abbrev pub HoldsSame : {S : Type 0} (relations : Relations S) → (before after : S) → Type 0
+HoldsSame relations before after = (after ≡ before) ⊎ relations.same before after
+
 -- the next turn of an open session's stream was taken at a moment, with a store
-pub record TakesTurn {S : Type 0} (took : S → KeyStep → ℕ → Reply → S → Type 0) (spent : S → KeyStep → ℕ → Type 0) (now : ℕ) (old new : SessionState) (before after : S) : Type 0 where
+pub record TakesTurn {S : Type 0} (relations : Relations S) (now : ℕ) (old new : SessionState) (before after : S) : Type 0 where
   pub unit : ProtocolUnit
   pub front : List ℕ
   pub rest : List ℕ
@@ -87,12 +92,12 @@ pub record TakesTurn {S : Type 0} (took : S → KeyStep → ℕ → Reply → S 
   pub parts : drop old.unread.passed old.unread.bytes ≡ front ++ rest
   pub spelled : Spells old.unread.greatest unit front
   pub due : old.taken < turn_count unit
-  pub answers : Answers took spent unit old.taken now before after text
+  pub answers : Answers relations unit old.taken now before after text
   pub moves : new ≡ moved old unit rest text
 
 -- The next turn of the session's stream is a command's, and its step was taken at a moment, with a store; the text of the
 -- reply was not told.
-pub record DecidesStep {S : Type 0} (took : S → KeyStep → ℕ → Reply → S → Type 0) (now : ℕ) (old : SessionState) (before after : S) : Type 0 where
+pub record DecidesStep {S : Type 0} (relations : Relations S) (now : ℕ) (old : SessionState) (before after : S) : Type 0 where
   pub command : Command
   pub front : List ℕ
   pub rest : List ℕ
@@ -102,7 +107,7 @@ pub record DecidesStep {S : Type 0} (took : S → KeyStep → ℕ → Reply → 
   pub parts : drop old.unread.passed old.unread.bytes ≡ front ++ rest
   pub spelled : Spells old.unread.greatest (Request command) front
   pub is_step : slice_get (steps command) old.taken ≡ Some step
-  pub took_it : took before step now reply after
+  pub took_it : relations.took before step now reply after
 
 -- no turn is due: no front of what is unread spells anything
 abbrev pub NoTurnDue : SessionState → Type 0

@@ -5,7 +5,7 @@ ghost use Rattle.mc_parse.specs.Units.{Request, Fault, LongLine};
 ghost use Rattle.mc_parse.specs.Peeks.{unit_of};
 ghost use Rattle.mc_session.specs.Answers.{next_of, Tells, TakesFirst, DecidesFound};
 ghost use Rattle.mc_parse.specs.Streams.{is_quit};
-ghost use Rattle.mc_session.specs.Turns.{Answers, turn_count};
+ghost use Rattle.mc_session.specs.Turns.{Answers, HoldsSame, turn_count};
 ghost use Rattle.mc_reply.specs.Texts.{fault_text, long_text};
 
 use crate::next::Next;
@@ -27,11 +27,11 @@ pub fn answer<S: Steps>(
 ) -> Result<Option<Next>, TurnFault>
     requires { (command : Command) (len : ℕ) → unit_of found ≡ Some (Request command, len) → HasShortKeys command }
     ensures none { result ≡ Ok None → (unit_of found.entry ≡ None) × (out.new.items ≡ out.old.items) × (store.new ≡ store.old) }
-    ensures some { IfOk result (λ told. IfSome told (λ next. Tells S.took S.spent now (unit_of found.entry) next store.old store.new out.old.items out.new.items)) }
+    ensures some { IfOk result (λ told. IfSome told (λ next. Tells S.Steps now (unit_of found.entry) next store.old store.new out.old.items out.new.items)) }
     ensures err { OnErr result (out.new.items ≡ out.old.items) }
-    ensures undecided { IfErr result (λ fault. IsFalse fault.decided → store.new ≡ store.old) }
+    ensures undecided { IfErr result (λ fault. IsFalse fault.decided → HoldsSame S.Steps store.old store.new) }
     ensures due { OnErr result (unit_of found.entry ≡ None → ⊥) }
-    ensures decided { IfErr result (λ fault. IsTrue fault.decided → DecidesFound S.took now (unit_of found.entry) store.old store.new) }
+    ensures decided { IfErr result (λ fault. IsTrue fault.decided → DecidesFound S.Steps now (unit_of found.entry) store.old store.new) }
 {
     match found {
         Peek::More => Ok(None),
@@ -77,10 +77,10 @@ fn answer_command<S: Steps>(
     out: &mut Vec<u8>,
 ) -> Result<Next, TurnFault>
     requires { HasShortKeys command.now }
-    ensures ok { IfOk result (λ next. Tells S.took S.spent now (Some (Request command.now, len)) next store.old store.new out.old.items out.new.items) }
+    ensures ok { IfOk result (λ next. Tells S.Steps now (Some (Request command.now, len)) next store.old store.new out.old.items out.new.items) }
     ensures err { OnErr result (out.new.items ≡ out.old.items) }
-    ensures undecided { IfErr result (λ fault. IsFalse fault.decided → store.new ≡ store.old) }
-    ensures decided { IfErr result (λ fault. IsTrue fault.decided → TakesFirst S.took now command.now store.old store.new) }
+    ensures undecided { IfErr result (λ fault. IsFalse fault.decided → HoldsSame S.Steps store.old store.new) }
+    ensures decided { IfErr result (λ fault. IsTrue fault.decided → TakesFirst S.Steps now command.now store.old store.new) }
 {
     if steps_of(command) == 0 {
         write_plain(command, out)?;
@@ -133,10 +133,10 @@ fn answer_step<S: Steps>(
     requires steps { 0 < length (steps command.now) }
     requires keys { HasShortKeys command.now }
     ensures ok { OnOk result ((text : List ℕ) × (out.new.items ≡ out.old.items ++ text)
-        × Answers S.took S.spent (Request command.now) 0 now store.old store.new text) }
+        × Answers S.Steps (Request command.now) 0 now store.old store.new text) }
     ensures err { OnErr result (out.new.items ≡ out.old.items) }
-    ensures undecided { IfErr result (λ fault. IsFalse fault.decided → store.new ≡ store.old) }
-    ensures decided { IfErr result (λ fault. IsTrue fault.decided → TakesFirst S.took now command.now store.old store.new) }
+    ensures undecided { IfErr result (λ fault. IsFalse fault.decided → HoldsSame S.Steps store.old store.new) }
+    ensures decided { IfErr result (λ fault. IsTrue fault.decided → TakesFirst S.Steps now command.now store.old store.new) }
 {
     let step = step_at(command, 0);
     match store.step(alloc, &step, now) {

@@ -14,10 +14,10 @@ use mc_time::Clock;
 /// turn is due any more, or a last unit closed the session.
 pub fn a_run_takes_the_turns_of_its_stream<S: Steps, C: Clock>()
     ensures first { (clock : C) (greatest : ℕ) (read : List ℕ) (units : List ProtocolUnit) (taken : List (ProtocolUnit × ℕ)) (last : SessionState) (before after : S) →
-        AreUnits greatest 0 read units → Run S.took S.spent (C.may_give clock) (fed (opened greatest) read) before taken last after →
+        AreUnits greatest 0 read units → Run S.Steps (C.may_give clock) (fed (opened greatest) read) before taken last after →
         (later : List (ProtocolUnit × ℕ)) × (turns units ≡ taken ++ later) }
     ensures all { (clock : C) (greatest : ℕ) (read : List ℕ) (units : List ProtocolUnit) (taken : List (ProtocolUnit × ℕ)) (last : SessionState) (before after : S) →
-        AreUnits greatest 0 read units → Run S.took S.spent (C.may_give clock) (fed (opened greatest) read) before taken last after →
+        AreUnits greatest 0 read units → Run S.Steps (C.may_give clock) (fed (opened greatest) read) before taken last after →
         (IsFalse last.is_open ⊎ NoTurnDue last) → turns units ≡ taken }
 {
     no_spelling_begins_another();

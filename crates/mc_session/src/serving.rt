@@ -43,15 +43,15 @@ pub fn serve<R: Read, W: Write, S: Steps, C: Clock>(
     store: &mut S,
     clock: &C,
 ) -> Result<(), ServeFault>
-    ensures ok { OnOk result (ServesAll S.took S.spent (C.may_give clock.now) greatest store.old store.new
+    ensures ok { OnOk result (ServesAll S.Steps (C.may_give clock.now) greatest store.old store.new
         (R.remaining reader.old) (R.remaining reader.new) (W.contents writer.old) (W.contents writer.new)) }
 
     // There are at most 2^40 turns, and a failure leaves a beginning of the run.
-    ensures read { result ≡ Err ServeFault.Read → Serves S.took S.spent (C.may_give clock.now) greatest store.old store.new
+    ensures read { result ≡ Err ServeFault.Read → Serves S.Steps (C.may_give clock.now) greatest store.old store.new
         (R.remaining reader.old) (R.remaining reader.new) (W.contents writer.old) (W.contents writer.new) }
-    ensures write { result ≡ Err ServeFault.Write → Serves S.took S.spent (C.may_give clock.now) greatest store.old store.new
+    ensures write { result ≡ Err ServeFault.Write → Serves S.Steps (C.may_give clock.now) greatest store.old store.new
         (R.remaining reader.old) (R.remaining reader.new) (W.contents writer.old) (W.contents writer.new) }
-    ensures memory { result ≡ Err ServeFault.NoMemory → ServesUntilRefused S.took S.spent (C.may_give clock.now) greatest store.old store.new
+    ensures memory { result ≡ Err ServeFault.NoMemory → ServesUntilRefused S.Steps (C.may_give clock.now) greatest store.old store.new
         (R.remaining reader.old) (R.remaining reader.new) (W.contents writer.old) (W.contents writer.new) }
 {
     let mut session = Session::new(alloc, greatest);
@@ -80,14 +80,14 @@ fn round<R: Read, W: Write, S: Steps, C: Clock>(
     piece: &mut [u8],
 ) -> Result<bool, ServeFault>
     requires { 0 < length piece.old }
-    ensures ok { OnOk result (GoesOn S.took S.spent (C.may_give clock.now) session.old session.new store.old store.new
+    ensures ok { OnOk result (GoesOn S.Steps (C.may_give clock.now) session.old session.new store.old store.new
         (R.remaining reader.old) (R.remaining reader.new) (W.contents writer.old) (W.contents writer.new)) }
     ensures end { result ≡ Ok true → HasEnded session.new (R.remaining reader.new) }
-    ensures read { result ≡ Err ServeFault.Read → GoesOn S.took S.spent (C.may_give clock.now) session.old session.new store.old store.new
+    ensures read { result ≡ Err ServeFault.Read → GoesOn S.Steps (C.may_give clock.now) session.old session.new store.old store.new
         (R.remaining reader.old) (R.remaining reader.new) (W.contents writer.old) (W.contents writer.new) }
-    ensures write { result ≡ Err ServeFault.Write → GoesOn S.took S.spent (C.may_give clock.now) session.old session.new store.old store.new
+    ensures write { result ≡ Err ServeFault.Write → GoesOn S.Steps (C.may_give clock.now) session.old session.new store.old store.new
         (R.remaining reader.old) (R.remaining reader.new) (W.contents writer.old) (W.contents writer.new) }
-    ensures memory { result ≡ Err ServeFault.NoMemory → IsRefused S.took S.spent (C.may_give clock.now) session.old store.old store.new
+    ensures memory { result ≡ Err ServeFault.NoMemory → IsRefused S.Steps (C.may_give clock.now) session.old store.old store.new
         (R.remaining reader.old) (R.remaining reader.new) (W.contents writer.old) (W.contents writer.new) }
 {
     match session.turn(alloc, store, clock.now()) {

@@ -69,7 +69,7 @@ impl Model for Session {
 
 impl Session {
     ghost use Rattle.std.specs.Prelude.{◌≡◌, ◌≤◌, ◌↔◌, length, IsTrue, IsFalse, OnOk, OnErr, IfErr, Ok};
-    ghost use Rattle.mc_session.specs.Turns.{TakesTurn, DecidesStep, NoTurnDue, opened, closed, fed, sent};
+    ghost use Rattle.mc_session.specs.Turns.{TakesTurn, DecidesStep, HoldsSame, NoTurnDue, opened, closed, fed, sent};
     ghost use Rattle.mc_session.specs.Answers.{gone_on, MayGoOn};
 
     /// A session that was fed nothing, whose storage commands may charge at most `greatest` bytes. It takes no memory.
@@ -106,15 +106,15 @@ impl Session {
         store: &mut S,
         now: Moment,
     ) -> Result<Turn, TurnFault>
-        ensures did { result ≡ Ok Turn.Did → TakesTurn S.took S.spent now self.old self.new store.old store.new }
+        ensures did { result ≡ Ok Turn.Did → TakesTurn S.Steps now self.old self.new store.old store.new }
         ensures idle { result ≡ Ok Turn.Idle → NoTurnDue self.old × IsTrue self.old.is_open × (self.new ≡ self.old) × (store.new ≡ store.old) }
         ensures closed { result ≡ Ok Turn.Closed → IsFalse self.old.is_open × (self.new ≡ self.old) × (store.new ≡ store.old) }
         ensures err { OnErr result (self.new ≡ closed self.old) }
         // Memory runs out only where a turn is due.
         ensures due { OnErr result (IsTrue self.old.is_open × (NoTurnDue self.old → ⊥)) }
         // What was not decided left the store as it was; what was decided is the step of the turn, whose text alone is missing.
-        ensures undecided { IfErr result (λ fault. IsFalse fault.decided → store.new ≡ store.old) }
-        ensures decided { IfErr result (λ fault. IsTrue fault.decided → DecidesStep S.took now self.old store.old store.new) }
+        ensures undecided { IfErr result (λ fault. IsFalse fault.decided → HoldsSame S.Steps store.old store.new) }
+        ensures decided { IfErr result (λ fault. IsTrue fault.decided → DecidesStep S.Steps now self.old store.old store.new) }
     {
         if !self.is_open {
             return Ok(Turn::Closed);
