@@ -14,7 +14,7 @@ use Rattle.mc_parse.specs.Units.{ProtocolUnit, Request, Fault, LongLine}
 use Rattle.mc_parse.specs.Streams.{is_quit}
 use Rattle.mc_parse.specs.Peeks.{left_of}
 use Rattle.mc_reply.specs.Texts.{reply_text, plain_text, retrieval_text, asked_text, end_text}
-use Rattle.mc_session.specs.declared.next.Next.TheVariants.{Step, Read, Close}
+use Rattle.mc_session.specs.declared.after_turn.AfterTurn.TheVariants.{Step, Read, Close}
 use Rattle.mc_session.specs.Turns.{Answers, AnswersStep, turn_count}
 use Rattle.mc_session.specs.Answers.{next_of}
 

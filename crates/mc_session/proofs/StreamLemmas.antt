@@ -1,5 +1,5 @@
 -- The turns of a run are the turns of its stream.
-use Rattle.std.proofs.Common.{◌≡◌, ◌⊎◌, inl, inr, ℕ, zero, suc, ◌+◌, ◌-◌, ◌<◌, ◌≤◌, ◌==◌, Bool, true, false, List, [], ◌∷◌, ◌++◌, length, drop, refl, sym, ap, ◌∙◌, subst, arith, append_assoc, append-nil, if◌then◌else◌, IsTrue, IsFalse}
+use Rattle.std.proofs.Common.{◌≡◌, ◌⊎◌, ◌↔◌, inl, inr, ℕ, zero, suc, ◌+◌, ◌-◌, ◌<◌, ◌≤◌, ◌==◌, Bool, true, false, List, [], ◌∷◌, ◌++◌, length, drop, refl, sym, ap, ◌∙◌, subst, arith, append_assoc, append-nil, if◌then◌else◌, IsTrue, IsFalse}
 use Rattle.std.specs.Bool.{MatchBool}
 use Rattle.std.proofs.Math.Seq.{drop-nil}
 use Rattle.std.proofs.Math.ListN.{drop_of_length-le}
@@ -11,7 +11,7 @@ use Rattle.mc_parse.specs.Units.{ProtocolUnit, Request, Fault, LongLine}
 use Rattle.mc_parse.specs.Peeks.{BeginsWithNone}
 use Rattle.mc_parse.specs.Streams.{AreUnits, is_last, passed_after}
 use Rattle.mc_parse.specs.Feeds.{Unread, settled}
-use Rattle.mc_session.specs.Turns.{SessionState, TakesTurn, NoTurnDue, turn_count, turns_from, turns, opened, fed, closed}
+use Rattle.mc_session.specs.Turns.{SessionState, TakesTurn, NoTurnDue, HasUnits, turn_count, turns_from, turns, opened, fed, closed}
 use Rattle.mc_session.specs.Serving.{Run, nothing, turn}
 use Rattle.mc_session.proofs.TurnLemmas.{OneSpelling}
 
@@ -29,6 +29,14 @@ settled_once p bytes = passed_once p bytes (cases_lt p (length bytes))
 pub are_along : (greatest p q : ℕ) (bytes rest : List ℕ) (us : List ProtocolUnit) → drop p bytes ≡ drop q rest → AreUnits greatest p bytes us → AreUnits greatest q rest us
 are_along greatest p q bytes rest [] e h = subst (BeginsWithNone greatest) e h
 are_along greatest p q bytes rest (u ∷ us) e h = (h.0, h.1, sym e ∙ h.2, h.3, h.4)
+
+-- dropping those bytes leaves the units
+pub units_settled : (unread : Unread) (units : List ProtocolUnit) → HasUnits (settled unread) units ↔ HasUnits unread units
+units_settled unread units =
+    let same = settled_once unread.passed unread.bytes in (
+      are_along unread.greatest (unread.passed - length unread.bytes) unread.passed (drop unread.passed unread.bytes) unread.bytes units same,
+      are_along unread.greatest unread.passed (unread.passed - length unread.bytes) unread.bytes (drop unread.passed unread.bytes) units (sym same),
+    )
 
 -- of a unit's turns and more, the next and those behind it
 drop_next : (unit : ProtocolUnit) (at n t : ℕ) (more : List (ProtocolUnit × ℕ)) → t < n → drop t (turns_from unit at n ++ more) ≡ (unit, at + t) ∷ drop (suc t) (turns_from unit at n ++ more)

@@ -7,8 +7,8 @@ use Rattle.mc_parse.specs.Units.{ProtocolUnit, Request, Fault, LongLine, Spells}
 use Rattle.mc_parse.specs.Streams.{is_last, passed_after}
 use Rattle.mc_parse.specs.Peeks.{left_of, IsLeft, BeginsWithNone}
 use Rattle.mc_parse.specs.Feeds.{Unread, read}
-use Rattle.mc_session.specs.declared.next.Next.{Next}
-use Rattle.mc_session.specs.declared.next.Next.TheVariants.{Step, Read, Close}
+use Rattle.mc_session.specs.declared.after_turn.AfterTurn.{AfterTurn}
+use Rattle.mc_session.specs.declared.after_turn.AfterTurn.TheVariants.{Step, Read, Close}
 use Rattle.mc_session.specs.Turns.{SessionState, TakesTurn, DecidesStep, Answers, turn_count, moved, closed, NoTurnDue}
 use Rattle.mc_session.specs.Answers.{next_of, gone_on, MayGoOn, AnswersFound, Tells, DecidesFound, IsWithin, at_start, inside}
 use Rattle.mc_session.proofs.LeftLemmas.{next_left, all_left, answers_left, step_left}
@@ -124,7 +124,7 @@ module _ {S : Type 0} (relations : Relations S) (now : ℕ) (law : OneSpelling) 
       let whole = next_found law old.unread old.taken found (Request decides.command) decides.len peeked within decides.is_found in
       decides_of decides whole.0 whole.1
 
-  module _ (next : Next) (out : List ℕ) (tells : Tells relations now found next before after old.out out) where
+  module _ (next : AfterTurn) (out : List ℕ) (tells : Tells relations now found next before after old.out out) where
     -- what comes next, as the whole unit has it
     next_is : (whole : ProtocolUnit) → IsNext old.unread old.taken tells.answered.unit tells.answered.len whole → next ≡ next_of whole old.taken tells.answered.len
     next_is whole is = tells.next_is ∙ ap (λ unit. next_of unit 0 tells.answered.len) is.left ∙ next_left whole old.taken tells.answered.len is.due
@@ -163,17 +163,17 @@ module _ {S : Type 0} (relations : Relations S) (now : ℕ) (law : OneSpelling) 
         (λ more. more_due whole.0 whole.1 more))
 
 module _ {S : Type 0} (relations : Relations S) (now : ℕ) (found : Option (ProtocolUnit × ℕ)) (before after : S) (old new : List ℕ) where
-  abbrev pub TellsSome : Option Next → Type 0
+  abbrev pub TellsSome : Option AfterTurn → Type 0
   TellsSome told = IfSome told (λ next. Tells relations now found next before after old new)
 
   -- the output grew
-  pub told_grows : (told : Option Next) (next : Next) → told ≡ Some next → TellsSome told → length old ≤ length new
+  pub told_grows : (told : Option AfterTurn) (next : AfterTurn) → told ≡ Some next → TellsSome told → length old ≤ length new
   told_grows told next is some =
       let tells : Tells relations now found next before after old new = subst TellsSome is some in
       omega (arith, ap length tells.told, length-append old tells.answered.text)
 
   -- the same of the output without what was sent
-  pub tells_unsent : (told : Option Next) (next : Next) (sent : ℕ) → told ≡ Some next → TellsSome told → sent ≤ length old → Tells relations now found next before after (drop sent old) (drop sent new)
+  pub tells_unsent : (told : Option AfterTurn) (next : AfterTurn) (sent : ℕ) → told ≡ Some next → TellsSome told → sent ≤ length old → Tells relations now found next before after (drop sent old) (drop sent new)
   tells_unsent told next sent is some within =
       let tells : Tells relations now found next before after old new = subst TellsSome is some in
       record {

@@ -7,7 +7,7 @@ use Rattle.mc_command.specs.declared.step.Steps.{Ghosts as Relations}
 use Rattle.mc_command.specs.declared.reply.Reply.{Reply}
 use Rattle.mc_parse.specs.Units.{ProtocolUnit, Request, Fault, LongLine, Spells}
 use Rattle.mc_parse.specs.Peeks.{BeginsWithNone}
-use Rattle.mc_parse.specs.Streams.{is_last, passed_after}
+use Rattle.mc_parse.specs.Streams.{AreUnits, is_last, passed_after}
 use Rattle.mc_parse.specs.Feeds.{Unread, pushed, settled}
 use Rattle.mc_reply.specs.Texts.{reply_text, plain_text, fault_text, long_text, spent_text}
 
@@ -18,6 +18,14 @@ pub record SessionState : Type 0 where
   pub taken : ℕ
   pub out : List ℕ
   pub is_open : Bool
+
+-- what is to be read: the unread bytes without those that are to be passed over
+abbrev pub to_read : Unread → List ℕ
+to_read unread = drop unread.passed unread.bytes
+
+-- these are its units
+abbrev pub HasUnits : Unread → List ProtocolUnit → Type 0
+HasUnits unread units = AreUnits unread.greatest unread.passed unread.bytes units
 
 -- how many turns a unit has: one for each step of a command, and at least one
 abbrev pub turn_count : ProtocolUnit → ℕ
@@ -89,7 +97,7 @@ pub record TakesTurn {S : Type 0} (relations : Relations S) (now : ℕ) (old new
   pub rest : List ℕ
   pub text : List ℕ
   pub opens : IsTrue old.is_open
-  pub parts : drop old.unread.passed old.unread.bytes ≡ front ++ rest
+  pub parts : to_read old.unread ≡ front ++ rest
   pub spelled : Spells old.unread.greatest unit front
   pub due : old.taken < turn_count unit
   pub answers : Answers relations unit old.taken now before after text
@@ -104,11 +112,11 @@ pub record DecidesStep {S : Type 0} (relations : Relations S) (now : ℕ) (old :
   pub step : KeyStep
   pub reply : Reply
   pub opens : IsTrue old.is_open
-  pub parts : drop old.unread.passed old.unread.bytes ≡ front ++ rest
+  pub parts : to_read old.unread ≡ front ++ rest
   pub spelled : Spells old.unread.greatest (Request command) front
   pub is_step : slice_get (steps command) old.taken ≡ Some step
   pub took_it : relations.took before step now reply after
 
--- no turn is due: no front of what is unread spells anything
+-- no turn is due: no front of what is to be read spells anything
 abbrev pub NoTurnDue : SessionState → Type 0
-NoTurnDue s = BeginsWithNone s.unread.greatest (drop s.unread.passed s.unread.bytes)
+NoTurnDue s = BeginsWithNone s.unread.greatest (to_read s.unread)

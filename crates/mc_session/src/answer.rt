@@ -8,7 +8,7 @@ ghost use Rattle.mc_parse.specs.Streams.{is_quit};
 ghost use Rattle.mc_session.specs.Turns.{Answers, HoldsSame, turn_count};
 ghost use Rattle.mc_reply.specs.Texts.{fault_text, long_text};
 
-use crate::next::Next;
+use crate::after_turn::AfterTurn;
 use crate::session::TurnFault;
 use mc_command::{Command, LineFault, StepFault, Steps, step_at, steps_of};
 use mc_parse::Peek;
@@ -24,7 +24,7 @@ pub fn answer<S: Steps>(
     store: &mut S,
     now: Moment,
     out: &mut Vec<u8>,
-) -> Result<Option<Next>, TurnFault>
+) -> Result<Option<AfterTurn>, TurnFault>
     requires { (command : Command) (len : ℕ) → unit_of found ≡ Some (Request command, len) → HasShortKeys command }
     ensures none { result ≡ Ok None → (unit_of found.entry ≡ None) × (out.new.items ≡ out.old.items) × (store.new ≡ store.old) }
     ensures some { IfOk result (λ told. IfSome told (λ next. Tells S.Steps now (unit_of found.entry) next store.old store.new out.old.items out.new.items)) }
@@ -44,17 +44,17 @@ pub fn answer<S: Steps>(
 }
 
 /// Tells that a line is too long.
-fn answer_too_long(out: &mut Vec<u8>) -> Result<Next, TurnFault>
+fn answer_too_long(out: &mut Vec<u8>) -> Result<AfterTurn, TurnFault>
     ensures ok { IfOk result (λ next. (next ≡ next_of LongLine 0 65537) × (out.new.items ≡ out.old.items ++ long_text)) }
     ensures err { OnErr result (out.new.items ≡ out.old.items) }
     ensures undecided { IfErr result (λ fault. IsFalse fault.decided) }
 {
     write_too_long(out)?;
-    Ok(Next::Close)
+    Ok(AfterTurn::Close)
 }
 
 /// Tells a line's fault.
-fn answer_fault(fault: LineFault, len: usize, out: &mut Vec<u8>) -> Result<Next, TurnFault>
+fn answer_fault(fault: LineFault, len: usize, out: &mut Vec<u8>) -> Result<AfterTurn, TurnFault>
     ensures ok { IfOk result (λ next. (next ≡ next_of (Fault fault) 0 len) × (out.new.items ≡ out.old.items ++ fault_text fault)) }
     ensures err { OnErr result (out.new.items ≡ out.old.items) }
     ensures undecided { IfErr result (λ fault. IsFalse fault.decided) }
@@ -64,7 +64,7 @@ fn answer_fault(fault: LineFault, len: usize, out: &mut Vec<u8>) -> Result<Next,
         LineFault::TooLarge { passed } => passed,
         LineFault::Unknown | LineFault::BadFormat | LineFault::BadDelta | LineFault::BadChunk => 0,
     };
-    Ok(Next::Read { len, passed })
+    Ok(AfterTurn::Read { len, passed })
 }
 
 /// Takes the first turn of a command that is spelled by `len` bytes, and appends its text.
@@ -75,7 +75,7 @@ fn answer_command<S: Steps>(
     store: &mut S,
     now: Moment,
     out: &mut Vec<u8>,
-) -> Result<Next, TurnFault>
+) -> Result<AfterTurn, TurnFault>
     requires { HasShortKeys command.now }
     ensures ok { IfOk result (λ next. Tells S.Steps now (Some (Request command.now, len)) next store.old store.new out.old.items out.new.items) }
     ensures err { OnErr result (out.new.items ≡ out.old.items) }
@@ -91,17 +91,17 @@ fn answer_command<S: Steps>(
 }
 
 /// What comes after the first turn of a command that is spelled by `len` bytes.
-fn next_after(command: &Command<'_>, len: usize) -> Next
+fn next_after(command: &Command<'_>, len: usize) -> AfterTurn
     ensures next { result ≡ next_of (Request command.now) 0 len }
     ensures few { turn_count (Request command.now) < 2 ^ 64 }
 {
     let steps = steps_of(command);
     if is_quit(command) {
-        Next::Close
+        AfterTurn::Close
     } else if steps <= 1 {
-        Next::Read { len, passed: 0 }
+        AfterTurn::Read { len, passed: 0 }
     } else {
-        Next::Step
+        AfterTurn::Step
     }
 }
 

@@ -1,9 +1,10 @@
 //! Laws of runs, each the contract of a function that does nothing.
 
-ghost use Rattle.std.specs.Prelude.{◌≡◌, ◌⊎◌, ℕ, List, ◌++◌, IsFalse};
+ghost use Rattle.std.specs.Prelude.{◌≡◌, ◌⊎◌, ◌↔◌, ℕ, List, ◌++◌, IsFalse};
 ghost use Rattle.mc_parse.specs.Units.{ProtocolUnit};
 ghost use Rattle.mc_parse.specs.Streams.{AreUnits};
-ghost use Rattle.mc_session.specs.Turns.{SessionState, NoTurnDue, turns, opened, fed};
+ghost use Rattle.mc_parse.specs.Feeds.{Unread, settled};
+ghost use Rattle.mc_session.specs.Turns.{SessionState, NoTurnDue, to_read, HasUnits, turns, opened, fed};
 ghost use Rattle.mc_session.specs.Serving.{Run};
 
 use mc_command::Steps;
@@ -22,3 +23,10 @@ pub fn a_run_takes_the_turns_of_its_stream<S: Steps, C: Clock>()
 {
     no_spelling_begins_another();
 }
+
+/// Bytes that are to be passed over may be dropped as soon as they come: what is to be read is the same, and so are its
+/// units.
+pub fn passing_over_early_does_not_matter()
+    ensures read { (unread : Unread) → to_read (settled unread) ≡ to_read unread }
+    ensures units { (unread : Unread) (units : List ProtocolUnit) → HasUnits (settled unread) units ↔ HasUnits unread units }
+{}

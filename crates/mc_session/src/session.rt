@@ -2,8 +2,8 @@ ghost use Rattle.std.specs.Prelude.{◌≡◌, ◌↔◌, IsTrue};
 ghost use Rattle.mc_parse.specs.Peeks.{unit_of};
 ghost use Rattle.mc_session.specs.Turns.{SessionState};
 
+use crate::after_turn::AfterTurn;
 use crate::answer::answer;
-use crate::next::Next;
 use crate::output::drop_front;
 use mc_command::Steps;
 use mc_parse::{Feed, Peek, no_spelling_begins_another};
@@ -134,20 +134,20 @@ impl Session {
         }
     }
 
-    fn go_on(&mut self, next: Next)
+    fn go_on(&mut self, next: AfterTurn)
         requires { MayGoOn next self.old }
         ensures { self.new ≡ gone_on next self.old }
     {
         match next {
-            Next::Step => {
+            AfterTurn::Step => {
                 self.taken += 1;
                 self.feed.mark(self.taken);
             }
-            Next::Read { len, passed } => {
+            AfterTurn::Read { len, passed } => {
                 self.taken = 0;
                 self.feed.done_passing(len, passed);
             }
-            Next::Close => self.close(),
+            AfterTurn::Close => self.close(),
         }
     }
 
