@@ -4,9 +4,8 @@ use Rattle.mc_command.specs.declared.step.Steps.{Ghosts as Relations}
 use Rattle.mc_parse.specs.Units.{ProtocolUnit}
 use Rattle.mc_parse.specs.Streams.{is_last, passed_after}
 use Rattle.mc_parse.specs.Feeds.{Unread, pushed, settled}
-use Rattle.mc_session.specs.Turns.{SessionState, TakesTurn, DecidesStep, turn_count, closed, fed, opened}
-use Rattle.mc_session.specs.Serving.{Run, nothing, turn}
-use Rattle.mc_session.specs.Rounds.{with_written}
+use Rattle.mc_session.specs.Turns.{SessionState, TakesTurn, turn_count, closed, fed, opened}
+use Rattle.mc_session.specs.Serving.{with_written, Run, nothing, turn}
 use Rattle.mc_session.proofs.FeedLemmas.{pushed-settled, pushed-pushed, spells_bytes, front_stays}
 
 -- a session with more bytes of its stream
@@ -86,21 +85,6 @@ module _ {S : Type 0} (relations : Relations S) where
     due = taken_turn.due;
     answers = taken_turn.answers;
     moves = ap (with_written written) taken_turn.moves ∙ moved_written old taken_turn.unit taken_turn.rest taken_turn.text written (is_last taken_turn.unit) (old.taken + 1 == turn_count taken_turn.unit);
-  }
-
-  -- a step is decided the same with earlier output in front
-  pub decides_written : (now : ℕ) (old : SessionState) (before after : S) (written : List ℕ) → DecidesStep relations now old before after → DecidesStep relations now (with_written written old) before after
-  decides_written now old before after written decides = record {
-    command = decides.command;
-    front = decides.front;
-    rest = decides.rest;
-    step = decides.step;
-    reply = decides.reply;
-    opens = decides.opens;
-    parts = decides.parts;
-    spelled = decides.spelled;
-    is_step = decides.is_step;
-    took_it = decides.took_it;
   }
 
   -- a run is a run of the longer stream

@@ -8,8 +8,11 @@ mod output;
 mod serving;
 mod session;
 
-pub use laws::{a_run_takes_the_turns_of_its_stream, passing_over_early_does_not_matter};
-pub use serving::{ServeFault, serve};
+pub use laws::{
+    a_run_takes_the_turns_of_its_stream, passing_over_early_does_not_matter,
+    the_pieces_of_a_stream_do_not_matter,
+};
+pub use serving::{ServeFault, WRITE_AT, serve};
 pub use session::{Session, Turn, TurnFault};
 
 #[cfg(test)]

@@ -1,7 +1,7 @@
-ghost use Rattle.std.specs.Prelude.{◌≡◌, ◌<◌, ℕ, List, [], false, true, Ok, OnOk, OnErr, IfOk, IfErr, IsTrue, length};
-ghost use Rattle.std.specs.Io.KnownBytes.{Consumes, IsAtEnd};
+ghost use Rattle.std.specs.Prelude.{◌≡◌, ◌<◌, [], false, true, Ok, OnOk, OnErr, IfOk, IfErr, IsTrue, length};
+ghost use Rattle.std.specs.Io.KnownBytes.{IsAtEnd};
 ghost use Rattle.mc_session.specs.Serving.{Serves, ServesAll, ServesUntilRefused};
-ghost use Rattle.mc_session.specs.Rounds.{Writes, Reads, HasEnded, GoesOn, IsRefused};
+ghost use Rattle.mc_session.specs.Rounds.{Writes, Reads, LosesPiece, HasEnded, GoesOn, IsRefused};
 
 use crate::session::{Session, Turn};
 use mc_command::Steps;
@@ -13,7 +13,7 @@ use thiserror::Error;
 /// Why a run ended early.
 #[derive(Debug, Drop, Error)]
 pub enum ServeFault {
-    /// The reader failed, or 2^40 turns were made.
+    /// The reader failed, or 2^40 calls of `Session::turn` were made.
     #[error("reading failed")]
     Read,
     /// The writer failed.
@@ -24,14 +24,14 @@ pub enum ServeFault {
     NoMemory,
 }
 
-/// The most calls of `turn` in a run.
-const TURNS: u64 = 1 << 40;
+/// The most calls of `Session::turn` in a run, with those that find no turn due.
+const CALLS: u64 = 1 << 40;
 
-/// How many bytes are read at once at most.
+/// The most bytes that are read at once.
 const PIECE: usize = 16384;
 
-/// So much output is written though more turns are due.
-const FULL: usize = 65536;
+/// Write once this much output is waiting, in bytes, even while turns are due.
+pub const WRITE_AT: usize = 65536;
 
 /// Serves one session: reads pieces, takes turns at the clock's moments and writes their texts, until the input ends or
 /// the session closes. The output is written when no turn is due, at the end, and when it holds 64 KiB or more.
@@ -46,7 +46,7 @@ pub fn serve<R: Read, W: Write, S: Steps, C: Clock>(
     ensures ok { OnOk result (ServesAll S.Steps (C.may_give clock.now) greatest store.old store.new
         (R.remaining reader.old) (R.remaining reader.new) (W.contents writer.old) (W.contents writer.new)) }
 
-    // There are at most 2^40 turns, and a failure leaves a beginning of the run.
+    // There are at most 2^40 calls, and a failure leaves a beginning of the run.
     ensures read { result ≡ Err ServeFault.Read → Serves S.Steps (C.may_give clock.now) greatest store.old store.new
         (R.remaining reader.old) (R.remaining reader.new) (W.contents writer.old) (W.contents writer.new) }
     ensures write { result ≡ Err ServeFault.Write → Serves S.Steps (C.may_give clock.now) greatest store.old store.new
@@ -59,7 +59,7 @@ pub fn serve<R: Read, W: Write, S: Steps, C: Clock>(
         return Err(ServeFault::NoMemory);
     };
     let piece = buffer.as_mut_slice();
-    for _turn in 0..TURNS {
+    for _call in 0..CALLS {
         match round(alloc, reader, writer, &mut session, store, clock, piece) {
             Ok(true) => return Ok(()),
             Ok(false) => {}
@@ -79,9 +79,11 @@ fn round<R: Read, W: Write, S: Steps, C: Clock>(
     clock: &C,
     piece: &mut [u8],
 ) -> Result<bool, ServeFault>
-    requires { 0 < length piece.old }
+    requires room { 0 < length piece.old }
+    requires small { length session.old.out < WRITE_AT }
     ensures ok { OnOk result (GoesOn S.Steps (C.may_give clock.now) session.old session.new store.old store.new
         (R.remaining reader.old) (R.remaining reader.new) (W.contents writer.old) (W.contents writer.new)) }
+    ensures small { OnOk result (length session.new.out < WRITE_AT) }
     ensures end { result ≡ Ok true → HasEnded session.new (R.remaining reader.new) }
     ensures read { result ≡ Err ServeFault.Read → GoesOn S.Steps (C.may_give clock.now) session.old session.new store.old store.new
         (R.remaining reader.old) (R.remaining reader.new) (W.contents writer.old) (W.contents writer.new) }
@@ -92,7 +94,7 @@ fn round<R: Read, W: Write, S: Steps, C: Clock>(
 {
     match session.turn(alloc, store, clock.now()) {
         Ok(Turn::Did) => {
-            if session.out().len() >= FULL {
+            if session.out().len() >= WRITE_AT {
                 write_out(writer, session)?;
             }
             Ok(false)
@@ -141,9 +143,10 @@ fn read_piece<R: Read>(
 ) -> Result<bool, ServeFault>
     requires { 0 < length piece.old }
     ensures ok { OnOk result (Reads session.old session.new (R.remaining reader.old) (R.remaining reader.new)) }
+    ensures out { OnOk result (session.new.out ≡ session.old.out) }
     ensures end { result ≡ Ok true → (session.new ≡ session.old) × IsAtEnd (R.remaining reader.new) }
     ensures read { result ≡ Err ServeFault.Read → Reads session.old session.new (R.remaining reader.old) (R.remaining reader.new) }
-    ensures memory { result ≡ Err ServeFault.NoMemory → (piece : List ℕ) × Consumes (R.remaining reader.old) (R.remaining reader.new) piece }
+    ensures memory { result ≡ Err ServeFault.NoMemory → LosesPiece (R.remaining reader.old) (R.remaining reader.new) }
     ensures err { IfErr result (λ fault. fault ≡ ServeFault.Write → ⊥) }
 {
     match reader.read(piece) {
