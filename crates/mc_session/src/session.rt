@@ -50,13 +50,13 @@ pub struct Session {
     /// How many turns of the first unit were taken.
     taken: usize,
     out: Vec<u8>,
-    /// How many bytes of `out` were sent.
+    /// How many bytes of `out` were sent: never more than are left.
     sent: usize,
     is_open: bool,
 }
 
 impl Model for Session {
-    ghost use Rattle.std.specs.Prelude.{◌≤◌, drop, length};
+    ghost use Rattle.std.specs.Prelude.{◌≤◌, ◌+◌, drop, length};
     ghost use Rattle.mc_session.specs.Turns.{SessionState};
     ghost use Rattle.mc_session.specs.Answers.{IsWithin};
 
@@ -64,11 +64,11 @@ impl Model for Session {
 
     ghost view = { λ s. record { unread = s.feed; taken = s.taken; out = drop s.sent s.out.items; is_open = s.is_open } };
 
-    ghost invariant = { λ s. IsWithin s.feed s.taken × (s.sent ≤ length s.out.items) };
+    ghost invariant = { λ s. IsWithin s.feed s.taken × (s.sent + s.sent ≤ length s.out.items) };
 }
 
 impl Session {
-    ghost use Rattle.std.specs.Prelude.{◌≡◌, ◌≤◌, ◌↔◌, length, IsTrue, IsFalse, OnOk, OnErr, IfErr, Ok};
+    ghost use Rattle.std.specs.Prelude.{◌≡◌, ◌≤◌, ◌*◌, ◌↔◌, length, IsTrue, IsFalse, OnOk, OnErr, IfErr, Ok};
     ghost use Rattle.mc_session.specs.Turns.{TakesTurn, DecidesStep, HoldsSame, NoTurnDue, opened, closed, fed, sent};
     ghost use Rattle.mc_session.specs.Answers.{gone_on, MayGoOn};
 
@@ -165,7 +165,16 @@ impl Session {
         !self.is_open
     }
 
-    /// What is to be written.
+    /// Counts the bytes of output that are held in memory: those that are to be written, and of those that were sent at
+    /// most as many.
+    pub fn held(&self) -> usize
+        ensures least { length self.now.out ≤ result }
+        ensures most { result ≤ 2 * length self.now.out }
+    {
+        self.out.len()
+    }
+
+    /// Lends the output that is to be written.
     pub fn out(&self) -> &[u8]
         ensures { result.now ≡ self.now.out }
     {
