@@ -1,5 +1,5 @@
 -- The turns of a session.
-use Rattle.std.specs.Prelude.{◌≡◌, ◌⊎◌, ℕ, zero, suc, ◌+◌, ◌<◌, ◌==◌, Bool, true, false, List, [], ◌∷◌, ◌++◌, length, drop, max, if◌then◌else◌, Some, IsTrue, slice_get, MatchOption}
+use Rattle.std.specs.Prelude.{◌≡◌, ◌⊎◌, ℕ, zero, suc, ◌+◌, ◌<◌, ◌==◌, Bool, true, false, List, [], ◌∷◌, ◌++◌, length, drop, max, if◌then◌else◌, Some, IsTrue, IsFalse, slice_get, MatchOption}
 use Rattle.mc_command.specs.Commands.{steps}
 use Rattle.mc_command.specs.declared.command.Command.{Command}
 use Rattle.mc_command.specs.declared.step.KeyStep.{KeyStep}
@@ -120,3 +120,15 @@ pub record DecidesStep {S : Type 0} (relations : Relations S) (now : ℕ) (old :
 -- no turn is due: no front of what is to be read spells anything
 abbrev pub NoTurnDue : SessionState → Type 0
 NoTurnDue s = BeginsWithNone s.unread.greatest (to_read s.unread)
+
+-- a turn is due
+abbrev pub TurnIsDue : SessionState → Type 0
+TurnIsDue s = IsTrue s.is_open × (NoTurnDue s → ⊥)
+
+-- the session is open with no turn due, and nothing was done
+abbrev pub FindsNoTurn : {S : Type 0} → (old new : SessionState) → (before after : S) → Type 0
+FindsNoTurn old new before after = NoTurnDue old × IsTrue old.is_open × (new ≡ old) × (after ≡ before)
+
+-- the session is closed, and nothing was done
+abbrev pub FindsClosed : {S : Type 0} → (old new : SessionState) → (before after : S) → Type 0
+FindsClosed old new before after = IsFalse old.is_open × (new ≡ old) × (after ≡ before)

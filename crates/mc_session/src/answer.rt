@@ -16,8 +16,8 @@ use mc_reply::{write, write_fault, write_plain, write_spent, write_too_long};
 use mc_time::Moment;
 use std::alloc::Global;
 
-/// Takes the first turn of what was found, and appends its text. Where nothing was found it does nothing. Refused, the
-/// output is as it was, and the fault tells whether the step stands in the store.
+/// Takes the first turn of what was found, and appends its text. Does nothing where nothing was found. Refused, the output is
+/// as it was, and the fault tells whether the step stands in the store.
 pub fn answer<S: Steps>(
     alloc: Global,
     found: Peek<'_>,
@@ -43,7 +43,7 @@ pub fn answer<S: Steps>(
     }
 }
 
-/// Tells that a line is too long.
+/// Appends the text of a line that is too long.
 fn answer_too_long(out: &mut Vec<u8>) -> Result<AfterTurn, TurnFault>
     ensures ok { IfOk result (λ next. (next ≡ next_of LongLine 0 65537) × (out.new.items ≡ out.old.items ++ long_text)) }
     ensures err { OnErr result (out.new.items ≡ out.old.items) }
@@ -53,7 +53,7 @@ fn answer_too_long(out: &mut Vec<u8>) -> Result<AfterTurn, TurnFault>
     Ok(AfterTurn::Close)
 }
 
-/// Tells a line's fault.
+/// Appends the text of a line's fault.
 fn answer_fault(fault: LineFault, len: usize, out: &mut Vec<u8>) -> Result<AfterTurn, TurnFault>
     ensures ok { IfOk result (λ next. (next ≡ next_of (Fault fault) 0 len) × (out.new.items ≡ out.old.items ++ fault_text fault)) }
     ensures err { OnErr result (out.new.items ≡ out.old.items) }
@@ -90,7 +90,7 @@ fn answer_command<S: Steps>(
     Ok(next_after(command, len))
 }
 
-/// What comes after the first turn of a command that is spelled by `len` bytes.
+/// Returns what comes after the first turn of a command that is spelled by `len` bytes.
 fn next_after(command: &Command<'_>, len: usize) -> AfterTurn
     ensures next { result ≡ next_of (Request command.now) 0 len }
     ensures few { turn_count (Request command.now) < 2 ^ 64 }
@@ -105,6 +105,7 @@ fn next_after(command: &Command<'_>, len: usize) -> AfterTurn
     }
 }
 
+/// Says whether a command ends its stream.
 fn is_quit(command: &Command<'_>) -> bool
     ensures { result ≡ is_quit command.now }
 {

@@ -1,4 +1,4 @@
-ghost use Rattle.std.specs.Prelude.{◌≡◌, ◌<◌, [], false, true, Ok, OnOk, OnErr, IfOk, IfErr, IsTrue, length};
+ghost use Rattle.std.specs.Prelude.{◌≡◌, ◌<◌, [], false, true, Ok, OnOk, OnErr, IfOk, IfErr, IsTrue, IsFalse, length};
 ghost use Rattle.std.specs.Io.KnownBytes.{IsAtEnd};
 ghost use Rattle.mc_session.specs.Serving.{Serves, ServesAll, ServesUntilRefused};
 ghost use Rattle.mc_session.specs.Rounds.{Writes, Reads, LosesPiece, HasEnded, GoesOn, IsRefused};
@@ -34,7 +34,11 @@ const PIECE: usize = 16384;
 pub const WRITE_AT: usize = 65536;
 
 /// Serves one session: reads pieces, takes turns at the clock's moments and writes their texts, until the input ends or
-/// the session closes. The output is written when no turn is due, at the end, and when it holds 64 KiB or more.
+/// the session closes. The output is written when no turn is due, at the end, and once `WRITE_AT` bytes of it wait.
+///
+/// It fails with `Read` where the reader fails and after 2^40 calls of `Session::turn`, with `Write` where the writer fails
+/// or takes nothing, and with `NoMemory` where memory is refused for the buffer, for a piece or for a turn. A failure leaves
+/// a beginning of the run: what was read is answered by what was written and by output that is dropped.
 pub fn serve<R: Read, W: Write, S: Steps, C: Clock>(
     alloc: Global,
     reader: &mut R,
@@ -46,7 +50,6 @@ pub fn serve<R: Read, W: Write, S: Steps, C: Clock>(
     ensures ok { OnOk result (ServesAll S.Steps (C.may_give clock.now) greatest store.old store.new
         (R.remaining reader.old) (R.remaining reader.new) (W.contents writer.old) (W.contents writer.new)) }
 
-    // There are at most 2^40 calls, and a failure leaves a beginning of the run.
     ensures read { result ≡ Err ServeFault.Read → Serves S.Steps (C.may_give clock.now) greatest store.old store.new
         (R.remaining reader.old) (R.remaining reader.new) (W.contents writer.old) (W.contents writer.new) }
     ensures write { result ≡ Err ServeFault.Write → Serves S.Steps (C.may_give clock.now) greatest store.old store.new
@@ -69,7 +72,7 @@ pub fn serve<R: Read, W: Write, S: Steps, C: Clock>(
     Err(ServeFault::Read)
 }
 
-/// Takes one turn, with the writes and the read that it asks for. Answers whether the run is at its end.
+/// Takes one turn, with the writes and the read that it asks for. Returns whether the run is at its end.
 fn round<R: Read, W: Write, S: Steps, C: Clock>(
     alloc: Global,
     reader: &mut R,
@@ -94,7 +97,7 @@ fn round<R: Read, W: Write, S: Steps, C: Clock>(
 {
     match session.turn(alloc, store, clock.now()) {
         Ok(Turn::Did) => {
-            if session.out().len() >= WRITE_AT {
+            if is_full(session) {
                 write_out(writer, session)?;
             }
             Ok(false)
@@ -109,6 +112,13 @@ fn round<R: Read, W: Write, S: Steps, C: Clock>(
         }
         Err(_) => Err(ServeFault::NoMemory),
     }
+}
+
+/// Says whether so much output is waiting that it is written before the next turn.
+fn is_full(session: &Session) -> bool
+    ensures { IsFalse result → length session.now.out < WRITE_AT }
+{
+    session.out().len() >= WRITE_AT
 }
 
 /// Writes the output. At a failure what was not written is left.
@@ -134,7 +144,7 @@ fn write_out<W: Write>(writer: &mut W, session: &mut Session) -> Result<(), Serv
     Err(ServeFault::Write)
 }
 
-/// Reads the next piece and feeds it to the session. Answers whether the input is at its end. A read that was
+/// Reads the next piece and feeds it to the session. Returns whether the input is at its end. A read that was
 /// interrupted gives nothing.
 fn read_piece<R: Read>(
     reader: &mut R,

@@ -69,10 +69,11 @@ impl Model for Session {
 
 impl Session {
     ghost use Rattle.std.specs.Prelude.{◌≡◌, ◌≤◌, ◌*◌, ◌↔◌, length, IsTrue, IsFalse, OnOk, OnErr, IfErr, Ok};
-    ghost use Rattle.mc_session.specs.Turns.{TakesTurn, DecidesStep, HoldsSame, NoTurnDue, opened, closed, fed, sent};
+    ghost use Rattle.mc_session.specs.Turns.{TakesTurn, FindsNoTurn, FindsClosed, TurnIsDue, NoTurnDue};
+    ghost use Rattle.mc_session.specs.Turns.{DecidesStep, HoldsSame, opened, closed, fed, sent};
     ghost use Rattle.mc_session.specs.Answers.{gone_on, MayGoOn};
 
-    /// A session that was fed nothing, whose storage commands may charge at most `greatest` bytes. It takes no memory.
+    /// Makes a session that was fed nothing, whose storage commands may charge at most `greatest` bytes. It takes no memory.
     pub fn new(alloc: Global, greatest: u64) -> Session
         ensures { result ≡ opened greatest }
     {
@@ -86,7 +87,7 @@ impl Session {
         }
     }
 
-    /// Takes the next piece of the stream. A closed session takes none. Refused, the session is as it was.
+    /// Takes the next piece of the stream, and none of it where the session is closed. Refused, the session is as it was.
     pub fn feed(&mut self, piece: &[u8]) -> Result<(), AllocError>
         ensures ok { OnOk result (self.new ≡ fed self.old piece.now) }
         ensures err { OnErr result (self.new ≡ self.old) }
@@ -107,12 +108,13 @@ impl Session {
         now: Moment,
     ) -> Result<Turn, TurnFault>
         ensures did { result ≡ Ok Turn.Did → TakesTurn S.Steps now self.old self.new store.old store.new }
-        ensures idle { result ≡ Ok Turn.Idle → NoTurnDue self.old × IsTrue self.old.is_open × (self.new ≡ self.old) × (store.new ≡ store.old) }
-        ensures closed { result ≡ Ok Turn.Closed → IsFalse self.old.is_open × (self.new ≡ self.old) × (store.new ≡ store.old) }
+        ensures idle { result ≡ Ok Turn.Idle → FindsNoTurn self.old self.new store.old store.new }
+        ensures closed { result ≡ Ok Turn.Closed → FindsClosed self.old self.new store.old store.new }
         ensures err { OnErr result (self.new ≡ closed self.old) }
         // Memory runs out only where a turn is due.
-        ensures due { OnErr result (IsTrue self.old.is_open × (NoTurnDue self.old → ⊥)) }
-        // What was not decided left the store as it was; what was decided is the step of the turn, whose text alone is missing.
+        ensures due { OnErr result (TurnIsDue self.old) }
+        // What was not decided left the store with what it held; what was decided is the step of the turn, whose text alone
+        // is missing.
         ensures undecided { IfErr result (λ fault. IsFalse fault.decided → HoldsSame S.Steps store.old store.new) }
         ensures decided { IfErr result (λ fault. IsTrue fault.decided → DecidesStep S.Steps now self.old store.old store.new) }
     {
@@ -134,6 +136,7 @@ impl Session {
         }
     }
 
+    /// Goes on with what comes after a turn.
     fn go_on(&mut self, next: AfterTurn)
         requires { MayGoOn next self.old }
         ensures { self.new ≡ gone_on next self.old }
@@ -151,14 +154,14 @@ impl Session {
         }
     }
 
-    /// Whether it is open and no turn is due until more bytes come.
+    /// Says whether the session is open and no turn is due until more bytes come.
     pub fn is_idle(&self) -> bool
         ensures { IsTrue result ↔ (IsTrue self.now.is_open × NoTurnDue self.now) }
     {
         self.is_open && is_more(&self.feed.peek_after(self.taken))
     }
 
-    /// Whether it was closed: by a quit, a line that is too long, want of memory or `close`.
+    /// Says whether the session was closed: by a quit, a line that is too long, want of memory or `close`.
     pub fn is_closed(&self) -> bool
         ensures { IsTrue result ↔ IsFalse self.now.is_open }
     {
@@ -182,7 +185,7 @@ impl Session {
         unsent
     }
 
-    /// The first `n` bytes of the output were written. What is left is moved only where it is no longer than what was
+    /// Drops the first `n` bytes of the output, which were written. What is left is moved only where it is no longer than what was
     /// written, so that each byte that is written pays for one that is moved.
     pub fn sent(&mut self, n: usize)
         requires { n ≤ length self.old.out }
@@ -205,7 +208,7 @@ impl Session {
     }
 }
 
-/// Whether a peek found nothing.
+/// Says whether a peek found nothing.
 fn is_more(found: &Peek<'_>) -> bool
     ensures { IsTrue result ↔ (unit_of found.now ≡ None) }
 {

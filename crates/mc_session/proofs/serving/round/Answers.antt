@@ -21,8 +21,8 @@ pub returns-in_ok-write_out-in-Ok-Did-clause-ok : goal.returns-in_ok-write_out-i
 returns-in_ok-write_out-in-Ok-Did-clause-ok g c =
     turned_and_wrote g.S.Steps (g.C.Clock.may_give c.args.clock.now) (g.R.Read.remaining c.args.reader.now) c.now.ensures c.requires.small (c.in-Ok-Did.ensures.did (ap Ok c.in-Ok-Did.field-0-is)) c.write_out.ensures.writes
 
-pub returns-else-out-ge-WRITE_AT-clause-ok : goal.returns-else-out-ge-WRITE_AT-clause-ok
-returns-else-out-ge-WRITE_AT-clause-ok g c =
+pub returns-else-is_full-clause-ok : goal.returns-else-is_full-clause-ok
+returns-else-is_full-clause-ok g c =
     goes_on_turn g.S.Steps (g.C.Clock.may_give c.args.clock.now) c.now.result c.now.ensures c.args.session.now c.turn.new.self c.args.store.now c.turn.new.store (g.R.Read.remaining c.args.reader.now) (g.W.Write.contents c.args.writer.now) c.requires.small (c.in-Ok-Did.ensures.did (ap Ok c.in-Ok-Did.field-0-is))
 
 pub returns-in_ok-write_out-in-Ok-Idle-clause-ok : goal.returns-in_ok-write_out-in-Ok-Idle-clause-ok
