@@ -9,7 +9,7 @@ use Rattle.mc_session.specs.Turns.{SessionState, TakesTurn, DecidesStep, NoTurnD
 use Rattle.mc_session.specs.declared.session.Turn.{Turn}
 use Rattle.mc_session.specs.declared.session.Turn.TheVariants.{Did, Idle, Closed}
 use Rattle.mc_session.specs.declared.session.TurnFault.{TurnFault}
-use Rattle.mc_world.specs.Worlds.{if_open, put, changed, open_session}
+use Rattle.mc_world.specs.Worlds.{numbered, if_open, put, changed, open_session, IsIdle}
 use Rattle.mc_world.specs.Sessions.{IsOpenAt, TurnOf, DecidedOf, IsDue, at_session}
 
 -- the session at the place is the open one of the number
@@ -76,3 +76,17 @@ module _ {S : Type 0} (took : S → KeyStep → ℕ → Reply → S → Type 0) 
   pub result_due : (r : Result Turn TurnFault) → OnErr r (IsTrue x.is_open × (NoTurnDue x → ⊥)) → OnErr r (IsDue n old)
   result_due (Ok t) h = tt
   result_due (Err fault) h = (x, found, h.1)
+
+  there : numbered n old ≡ Some x
+  there = ap (λ (k : ℕ). numbered k old) (here_is.number ∙ add-one at) ∙ here_is.here ∙ ap (λ (s : SessionState). Some s) is_it
+
+  pub result_idle : (r : Result Turn TurnFault) → (r ≡ Ok Idle → NoTurnDue x × IsTrue x.is_open × (y ≡ x) × (after ≡ before)) → r ≡ Ok Idle → IsIdle (numbered n old) × (slice_set items at y ≡ old) × (after ≡ before)
+  result_idle r idle is =
+      let h = idle is in
+      (subst IsIdle (sym there) (h.1, h.0), view_set ∙ ap (λ (s : SessionState). slice_set old at s) (h.2 ∙ here) ∙ set-get_or old at x, h.3)
+
+  pub result_closed : (r : Result Turn TurnFault) → (r ≡ Ok Closed → IsFalse x.is_open × (y ≡ x) × (after ≡ before)) → r ≡ Ok Closed → ⊥
+  result_closed r shut is =
+      let opens : x.is_open ≡ true = ap (λ (s : SessionState). s.is_open) (sym is_it) ∙ here_is.opens in
+      let e : true ≡ false = sym opens ∙ (shut is).0 in
+      cc

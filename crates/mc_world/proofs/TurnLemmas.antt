@@ -13,8 +13,8 @@ use Rattle.mc_session.specs.Turns.{SessionState, Answers, AnswersStep, TakesTurn
 use Rattle.mc_session.specs.declared.session.Turn.{Turn}
 use Rattle.mc_session.specs.declared.session.TurnFault.{TurnFault}
 use Rattle.mc_shelf.specs.declared.store.Store.{Store}
-use Rattle.mc_world.specs.Worlds.{put, open_session, replies, is_spent}
-use Rattle.mc_world.specs.Sessions.{TurnOf, DecidedOf, IsDue, Undone, at_session}
+use Rattle.mc_world.specs.Worlds.{WorldState, put, open_session, replies, is_spent}
+use Rattle.mc_world.specs.Sessions.{TurnOf, DecidedOf, IsDue, Done, Undone, at_session}
 use Rattle.mc_world.specs.declared.event.Event.TheVariants.{Turn as TurnEvent}
 
 module _ {S T : Type 0} (took : S → KeyStep → ℕ → Reply → S → Type 0) (spent : S → KeyStep → ℕ → Type 0) (took' : T → KeyStep → ℕ → Reply → T → Type 0) (spent' : T → KeyStep → ℕ → Type 0) (f : S → T)
@@ -116,26 +116,30 @@ kept_same {K = K} b a e = (ap (λ (s : Store K). s.settings) e, ap (λ (s : Stor
 
 -- What a turn of a session with a store says of the world.
 module _ {K : Type 0} (n now : ℕ) (old new : List SessionState) (b a : Store K) where
-  pub result_done : (greatest : ℕ) (r : Result Turn TurnFault) → OnOk r (TurnOf store_took store_spent n now old new b a) → OnOk r ((greatest ≡ greatest) × (now ≡ now) × TurnOf replies is_spent n now old new b.plain a.plain)
-  result_done greatest (Ok t) h = (refl, refl, turn_seen store_took store_spent replies is_spent (λ (s : Store K). s.plain) (λ b step now reply a h. h.0) (λ b step now h. h) n now old new b a h)
-  result_done greatest (Err fault) h = tt
+  abbrev with_store : List SessionState → Store K → WorldState K
+  with_store sessions store = record { settings = store.settings; hasher = store.hasher; state = store.plain; moment = now; sessions = sessions }
+
+  pub result_done : (hash_of : K → List ℕ → ℕ) (r : Result Turn TurnFault) → OnOk r (TurnOf store_took store_spent n now old new b a) → OnOk r (Done hash_of (with_store old b) (TurnEvent n) (with_store new a))
+  result_done hash_of (Ok t) h =
+      let kept : Kept b a = turn_keeps store_took store_spent Kept (λ b step now reply a h. (h.1, h.2)) kept_same n now old new b a h in
+      (kept.0, kept.1, refl, turn_seen store_took store_spent replies is_spent (λ (s : Store K). s.plain) (λ b step now reply a h. h.0) (λ b step now h. h) n now old new b a h)
+  result_done hash_of (Err fault) h = tt
 
   decided_kept : (decided : Bool) → (IsFalse decided → a ≡ b) → (IsTrue decided → DecidedOf store_took n now old b a) → Kept b a
   decided_kept true undecided decides = decided_keeps store_took store_spent Kept (λ b step now reply a h. (h.1, h.2)) kept_same n now old b a (decides refl)
   decided_kept false undecided decides = kept_same b a (undecided refl)
 
-  pub result_kept : (r : Result Turn TurnFault) → OnOk r (TurnOf store_took store_spent n now old new b a) → IfErr r (λ fault. IsFalse fault.decided → a ≡ b) → IfErr r (λ fault. IsTrue fault.decided → DecidedOf store_took n now old b a) → Kept b a
-  result_kept (Ok t) h undecided decides = turn_keeps store_took store_spent Kept (λ b step now reply a h. (h.1, h.2)) kept_same n now old new b a h
-  result_kept (Err fault) h undecided decides = decided_kept fault.decided undecided decides
-
-  pub result_undone : (greatest : ℕ) (r : Result Turn TurnFault) → OnErr r (new ≡ at_session old n closed) → OnErr r (IsDue n old) → IfErr r (λ fault. IsFalse fault.decided → a ≡ b) → IfErr r (λ fault. IsTrue fault.decided → DecidedOf store_took n now old b a)
-      → IfErr r (λ fault. Undone fault.decided (record { greatest = greatest; state = b.plain; now = now; sessions = old }) (TurnEvent n) (record { greatest = greatest; state = a.plain; now = now; sessions = new }))
-  result_undone greatest (Ok t) shut due undecided decides = tt
-  result_undone greatest (Err fault) shut due undecided decides = record {
-    greatest = refl;
-    now = refl;
-    sessions = shut;
-    takes = due;
-    undecided = λ is. ap (λ (s : Store K). s.plain) (undecided is);
-    decides = λ is. decided_seen store_took store_spent replies is_spent (λ (s : Store K). s.plain) (λ b step now reply a h. h.0) (λ b step now h. h) n now old b a (decides is);
-  }
+  pub result_undone : (r : Result Turn TurnFault) → OnErr r (new ≡ at_session old n closed) → OnErr r (IsDue n old) → IfErr r (λ fault. IsFalse fault.decided → a ≡ b) → IfErr r (λ fault. IsTrue fault.decided → DecidedOf store_took n now old b a)
+      → IfErr r (λ fault. Undone fault.decided (with_store old b) (TurnEvent n) (with_store new a))
+  result_undone (Ok t) shut due undecided decides = tt
+  result_undone (Err fault) shut due undecided decides =
+      let kept : Kept b a = decided_kept fault.decided undecided decides in
+      record {
+        settings = kept.0;
+        hasher = kept.1;
+        moment = refl;
+        sessions = shut;
+        takes = due;
+        undecided = λ is. ap (λ (s : Store K). s.plain) (undecided is);
+        decides = λ is. decided_seen store_took store_spent replies is_spent (λ (s : Store K). s.plain) (λ b step now reply a h. h.0) (λ b step now h. h) n now old b a (decides is);
+      }

@@ -6,7 +6,9 @@ use Rattle.mc_command.specs.Commands.{steps}
 use Rattle.mc_command.specs.Plain.{plain, Outcome, Answered, Spent}
 use Rattle.mc_command.specs.declared.step.KeyStep.{KeyStep}
 use Rattle.mc_command.specs.declared.reply.Reply.{Reply}
-use Rattle.mc_parse.specs.Units.{ProtocolUnit, Request, Fault, LongLine}
+use Rattle.mc_parse.specs.Units.{ProtocolUnit, Request, Fault, LongLine, Spells}
+use Rattle.mc_parse.specs.Streams.{AreUnits}
+use Rattle.mc_parse.specs.Feeds.{Unread, pushed}
 use Rattle.mc_world.specs.Connections.{Connection, IsNext, HasNoNext}
 use Rattle.mc_world.specs.Worlds.{PlainWorld, numbered, open_connection, named, Happens}
 use Rattle.mc_world.specs.declared.event.Event.{Event}
@@ -95,3 +97,11 @@ pub record Leaves (n : ℕ) (first : Connection) (own : List Event) (answers : L
   pub has : events_of n events ≡ own
   pub runs : RunsAnswering hash shelves n old events answers new
   pub ends : numbered n new.connections ≡ Some last
+
+-- The laws of the grammar, as the proofs here use them: no spelling begins another, a stream has one list of units, and it
+-- doesn't matter where a stream is cut.
+pub record Grammar : Type 0 where
+  pub apart : (greatest : ℕ) (u v : ProtocolUnit) (a b x y : List ℕ) → Spells greatest u a → Spells greatest v b → a ++ x ≡ b ++ y → (u ≡ v) × (a ≡ b)
+  pub some : (greatest passed : ℕ) (bytes : List ℕ) → (units : List ProtocolUnit) × AreUnits greatest passed bytes units
+  pub same : (greatest passed : ℕ) (bytes : List ℕ) (units others : List ProtocolUnit) → AreUnits greatest passed bytes units → AreUnits greatest passed bytes others → units ≡ others
+  pub cut : (unread : Unread) (piece more : List ℕ) → pushed (pushed unread piece) more ≡ pushed unread (piece ++ more)

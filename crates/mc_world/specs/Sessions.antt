@@ -9,7 +9,7 @@ use Rattle.mc_command.specs.Purge.{purged}
 use Rattle.mc_world.specs.Worlds.{WorldState, put, changed, open_session, replies, is_spent, named}
 use Rattle.mc_world.specs.declared.event.Event.{Event}
 use Rattle.mc_world.specs.declared.event.Event.TheVariants.{Open, Piece, Turn, Clock, Grow, Purge, Close}
-use Rattle.mc_world.specs.declared.world.World.{World}
+use Rattle.mc_world.specs.declared.parts.Parts.{Parts}
 
 -- the open session of that number is changed, and nothing where none is
 abbrev pub at_session : List SessionState → ℕ → (SessionState → SessionState) → List SessionState
@@ -40,14 +40,21 @@ pub record IsOpenAt (sessions : List SessionState) (n at : ℕ) : Type 0 where
   pub opens : session.is_open ≡ true
 
 -- what an event makes of a world, said of its sessions
-module _ (hash : List ℕ → ℕ) (shelves : ℕ) where
-  abbrev pub Done : WorldState → Event → WorldState → Type 0
-  Done old Open new = new ≡ (if nat_lt (length old.sessions) 65535 then record old { sessions = old.sessions ++ opened old.greatest ∷ [] } else old)
+module _ {K : Type 0} (hash_of : K → List ℕ → ℕ) where
+  -- a shelf of a world is purged, if it is there
+  abbrev pub without_dead : ℕ → WorldState K → Plain
+  without_dead shelf w =
+      if nat_lt shelf w.settings.shelves then purged (λ key. hash_of w.hasher key % w.settings.shelves == shelf) w.moment w.state else w.state
+
+  abbrev pub Done : WorldState K → Event → WorldState K → Type 0
+  Done old Open new = new ≡ (if nat_lt (length old.sessions) 65535 then record old { sessions = old.sessions ++ opened old.settings.greatest ∷ [] } else old)
   Done old (Piece n piece) new = new ≡ record old { sessions = at_session old.sessions n (λ s. fed s piece) }
-  Done old (Turn n) new = (new.greatest ≡ old.greatest) × (new.now ≡ old.now) × TurnOf replies is_spent n old.now old.sessions new.sessions old.state new.state
-  Done old (Clock now) new = new ≡ record old { now = now }
+  Done old (Turn n) new =
+      (new.settings ≡ old.settings) × (new.hasher ≡ old.hasher) × (new.moment ≡ old.moment)
+      × TurnOf replies is_spent n old.moment old.sessions new.sessions old.state new.state
+  Done old (Clock now) new = new ≡ record old { moment = now }
   Done old (Grow shelf) new = new ≡ old
-  Done old (Purge shelf) new = new ≡ record old { state = if nat_lt shelf shelves then purged (λ key. hash key % shelves == shelf) old.now old.state else old.state }
+  Done old (Purge shelf) new = new ≡ record old { state = without_dead shelf old }
   Done old (Close n) new = new ≡ record old { sessions = at_session old.sessions n closed }
 
 -- the session that an event names is closed
@@ -56,17 +63,17 @@ sessions_ended None sessions = sessions
 sessions_ended (Some n) sessions = at_session sessions n closed
 
 -- the open session that an event gives a turn decides its step
-abbrev pub DecidedIn : WorldState → Event → Plain → Type 0
+abbrev pub DecidedIn : {K : Type 0} → WorldState K → Event → Plain → Type 0
 DecidedIn old Open state = ⊥
 DecidedIn old (Piece n piece) state = ⊥
-DecidedIn old (Turn n) state = DecidedOf replies n old.now old.sessions old.state state
+DecidedIn old (Turn n) state = DecidedOf replies n old.moment old.sessions old.state state
 DecidedIn old (Clock now) state = ⊥
 DecidedIn old (Grow shelf) state = ⊥
 DecidedIn old (Purge shelf) state = ⊥
 DecidedIn old (Close n) state = ⊥
 
 -- the event takes memory: it opens a session, brings a piece to one that is open, or gives one a turn that is due
-abbrev pub Takes : WorldState → Event → Type 0
+abbrev pub Takes : {K : Type 0} → WorldState K → Event → Type 0
 Takes old Open = length old.sessions < 65535
 Takes old (Piece n piece) = (session : SessionState) × (open_session n old.sessions ≡ Some session)
 Takes old (Turn n) = IsDue n old.sessions
@@ -76,14 +83,15 @@ Takes old (Purge shelf) = ⊥
 Takes old (Close n) = ⊥
 
 -- what is left where memory ran out in an event
-pub record Undone (decided : Bool) (old : WorldState) (event : Event) (new : WorldState) : Type 0 where
-  pub greatest : new.greatest ≡ old.greatest
-  pub now : new.now ≡ old.now
+pub record Undone {K : Type 0} (decided : Bool) (old : WorldState K) (event : Event) (new : WorldState K) : Type 0 where
+  pub settings : new.settings ≡ old.settings
+  pub hasher : new.hasher ≡ old.hasher
+  pub moment : new.moment ≡ old.moment
   pub sessions : new.sessions ≡ sessions_ended (named event) old.sessions
   pub takes : Takes old event
   pub undecided : IsFalse decided → new.state ≡ old.state
   pub decides : IsTrue decided → DecidedIn old event new.state
 
--- a world as contracts see it
-abbrev pub world_of : {K : Type 0} → World K → WorldState
-world_of w = record { greatest = w.greatest; state = w.store.plain; now = w.moment; sessions = w.sessions }
+-- a world's parts as contracts see it
+abbrev pub state_of : {K : Type 0} → Parts K → WorldState K
+state_of w = record { settings = w.store.settings; hasher = w.store.hasher; state = w.store.plain; moment = w.moment; sessions = w.sessions }

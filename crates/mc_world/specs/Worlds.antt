@@ -1,13 +1,17 @@
 -- The plain world: what a list of events makes of a store and its connections.
-use Rattle.std.specs.Prelude.{◌≡◌, ◌⊎◌, ℕ, zero, suc, ◌-◌, ◌%◌, ◌<◌, ◌==◌, Bool, true, false, List, [], ◌∷◌, ◌++◌, length, take, Option, Some, None, slice_get, slice_set, nat_lt, if◌then◌else◌, IsTrue, IsFalse}
+use Rattle.std.specs.Prelude.{◌≡◌, ◌⊎◌, ℕ, zero, suc, ◌-◌, ◌%◌, ◌<◌, ◌==◌, Bool, true, false, List, [], ◌∷◌, ◌++◌, length, take, Option, Some, None, slice_get, slice_set, nat_lt, if◌then◌else◌, IsTrue, IsFalse, refl}
+use Rattle.std.specs.Coded.{Coded, code_by, coded×, coded_ℕ, coded_bool, coded_list}
 use Rattle.std.specs.Option.{MatchOption}
 use Rattle.mc_command.specs.Commands.{steps}
 use Rattle.mc_command.specs.declared.command.Command.{Command}
-use Rattle.mc_command.specs.Plain.{Plain, plain, Answered, Spent}
+use Rattle.mc_command.specs.Plain.{Plain, coded_plain, plain, Answered, Spent}
 use Rattle.mc_command.specs.declared.step.KeyStep.{KeyStep}
 use Rattle.mc_command.specs.declared.reply.Reply.{Reply}
 use Rattle.mc_parse.specs.Units.{ProtocolUnit, Request}
+use Rattle.mc_parse.specs.Feeds.{Unread}
 use Rattle.mc_session.specs.Turns.{SessionState, Answers, NoTurnDue}
+use Rattle.mc_shelf.specs.Stores.{coded_settings}
+use Rattle.mc_shelf.specs.declared.store.Settings.{Settings}
 use Rattle.mc_command.specs.Purge.{purged}
 use Rattle.mc_world.specs.Connections.{Connection, IsNext, HasNoNext, Stands, fresh, with_piece, after_turn, ended}
 use Rattle.mc_world.specs.declared.event.Event.{Event}
@@ -21,12 +25,33 @@ pub record PlainWorld : Type 0 where
   pub now : ℕ
   pub connections : List Connection
 
--- what contracts see of a world: its sessions have what is left of their streams
-pub record WorldState : Type 0 where
-  pub greatest : ℕ
+-- What contracts see of a world: how its store is set up, what hashes its keys, the plain machine's state, the moment, and
+-- the sessions, which have what is left of their streams.
+pub record WorldState (K : Type 0) : Type 0 where
+  pub settings : Settings
+  pub hasher : K
   pub state : Plain
-  pub now : ℕ
+  pub moment : ℕ
   pub sessions : List SessionState
+
+abbrev pub coded_unread : Coded Unread
+coded_unread =
+    code_by (ℕ × (ℕ × List ℕ)) (coded× coded_ℕ (coded× coded_ℕ (coded_list coded_ℕ))) (λ u. (u.greatest, (u.passed, u.bytes)))
+    (λ p. record { greatest = p.0; passed = p.1.0; bytes = p.1.1 })
+    (λ _. refl)
+
+abbrev pub coded_session : Coded SessionState
+coded_session =
+    code_by (Unread × (ℕ × (List ℕ × Bool))) (coded× coded_unread (coded× coded_ℕ (coded× (coded_list coded_ℕ) coded_bool))) (λ s. (s.unread, (s.taken, (s.out, s.is_open))))
+    (λ p. record { unread = p.0; taken = p.1.0; out = p.1.1.0; is_open = p.1.1.1 })
+    (λ _. refl)
+
+abbrev pub coded_world : {K : Type 0} → Coded K → Coded (WorldState K)
+coded_world {K} coded_hasher =
+    code_by (Settings × (K × (Plain × (ℕ × List SessionState)))) (coded× coded_settings (coded× coded_hasher (coded× coded_plain (coded× coded_ℕ (coded_list coded_session)))))
+    (λ w. (w.settings, (w.hasher, (w.state, (w.moment, w.sessions)))))
+    (λ p. record { settings = p.0; hasher = p.1.0; state = p.1.1.0; moment = p.1.1.1.0; sessions = p.1.1.1.1 })
+    (λ _. refl)
 
 -- the plain machine answers a step so
 abbrev pub replies : Plain → KeyStep → ℕ → Reply → Plain → Type 0
@@ -119,23 +144,6 @@ StandAll [] (session ∷ sessions) = ⊥
 StandAll (connection ∷ connections) [] = ⊥
 StandAll (connection ∷ connections) (session ∷ sessions) = Stands connection session × StandAll connections sessions
 
--- the plain world stands so
-pub record StandsAs (plain : PlainWorld) (world : WorldState) : Type 0 where
-  pub greatest : world.greatest ≡ plain.greatest
-  pub state : world.state ≡ plain.state
-  pub now : world.now ≡ plain.now
-  pub sessions : StandAll plain.connections world.sessions
-
--- there is such a plain world
-pub record CanStand (world : WorldState) : Type 0 where
-  pub plain : PlainWorld
-  pub stands : StandsAs plain world
-
--- What the events make of a world, whatever came before: where a plain world stands as the old one, the events make of it
--- one that stands as the new one.
-pub record Told (hash : List ℕ → ℕ) (shelves : ℕ) (old : WorldState) (events : List Event) (new : WorldState) : Type 0 where
-  pub told : (first : PlainWorld) → StandsAs first old → (last : PlainWorld) × Runs hash shelves first events last × StandsAs last new
-
 -- the session that an event names
 abbrev pub named : Event → Option ℕ
 named Open = None
@@ -187,10 +195,49 @@ abbrev pub GivesUp : Bool → PlainWorld → Event → PlainWorld → Type 0
 GivesUp true old event new = (state : Plain) × Decides old event state × (new ≡ with_end (named event) (record old { state = state }))
 GivesUp false old event new = new ≡ with_end (named event) old
 
--- What the events before a refused one make of a world, and then that one, which takes memory there.
-pub record ToldUntil (hash : List ℕ → ℕ) (shelves : ℕ) (refused : Refused) (old : WorldState) (events : List Event) (new : WorldState) : Type 0 where
-  pub event : Event
-  pub here : slice_get events refused.at ≡ Some event
-  pub session : refused.session ≡ named event
-  pub told : (first : PlainWorld) → StandsAs first old
-      → (mid : PlainWorld) × (last : PlainWorld) × Runs hash shelves first (take refused.at events) mid × GivesUp refused.decided mid event last × StandsAs last new × TakesMemory mid event
+-- the plain world stands so
+pub record StandsAs {K : Type 0} (plain : PlainWorld) (world : WorldState K) : Type 0 where
+  pub greatest : world.settings.greatest ≡ plain.greatest
+  pub state : world.state ≡ plain.state
+  pub now : world.moment ≡ plain.now
+  pub sessions : StandAll plain.connections world.sessions
+
+-- there is such a plain world
+pub record CanStand {K : Type 0} (world : WorldState K) : Type 0 where
+  pub plain : PlainWorld
+  pub stands : StandsAs plain world
+
+-- The keys of a world have their hashes.
+module _ {K : Type 0} (hash_of : K → List ℕ → ℕ) where
+  -- events, one after another, over so many shelves as that world has, and with its hasher
+  abbrev pub RunsIn : WorldState K → PlainWorld → List Event → PlainWorld → Type 0
+  RunsIn world first events last = Runs (hash_of world.hasher) world.settings.shelves first events last
+
+  -- What the events make of a world, whatever came before: where a plain world stands as the old one, the events make of it
+  -- one that stands as the new one. The store is set up as it was.
+  pub record Told (old : WorldState K) (events : List Event) (new : WorldState K) : Type 0 where
+    pub settings : new.settings ≡ old.settings
+    pub hasher : new.hasher ≡ old.hasher
+    pub told : (first : PlainWorld) → StandsAs first old → (last : PlainWorld) × RunsIn old first events last × StandsAs last new
+
+  -- an event that takes memory, which runs out in it
+  abbrev pub Refuses : PlainWorld → Bool → Event → WorldState K → Type 0
+  Refuses first decided event new = (last : PlainWorld) × GivesUp decided first event last × StandsAs last new × TakesMemory first event
+
+  pub record ToldRefused (decided : Bool) (old : WorldState K) (event : Event) (new : WorldState K) : Type 0 where
+    pub settings : new.settings ≡ old.settings
+    pub hasher : new.hasher ≡ old.hasher
+    pub told : (first : PlainWorld) → StandsAs first old → Refuses first decided event new
+
+  -- events, and then one that is refused
+  abbrev pub RunsUntil : WorldState K → PlainWorld → List Event → Bool → Event → WorldState K → Type 0
+  RunsUntil old first events decided event new = (mid : PlainWorld) × RunsIn old first events mid × Refuses mid decided event new
+
+  -- What the events before a refused one make of a world, and then that one.
+  pub record ToldUntil (refused : Refused) (old : WorldState K) (events : List Event) (new : WorldState K) : Type 0 where
+    pub settings : new.settings ≡ old.settings
+    pub hasher : new.hasher ≡ old.hasher
+    pub event : Event
+    pub here : slice_get events refused.at ≡ Some event
+    pub session : refused.session ≡ named event
+    pub told : (first : PlainWorld) → StandsAs first old → RunsUntil old first (take refused.at events) refused.decided event new

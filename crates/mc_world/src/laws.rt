@@ -1,11 +1,16 @@
 //! Laws of the plain world, each the contract of a function that does nothing.
 
-ghost use Rattle.std.specs.Prelude.{◌≡◌, ℕ, List, ◌∷◌, ◌++◌, ◌↔◌, Some};
-ghost use Rattle.mc_world.specs.Connections.{Connection};
-ghost use Rattle.mc_world.specs.Worlds.{PlainWorld, Runs, numbered};
+ghost use Rattle.std.specs.Prelude.{◌≡◌, ℕ, List, ◌∷◌, ◌++◌, ◌↔◌, Some, true};
+ghost use Rattle.mc_session.specs.Turns.{SessionState, NoTurnDue};
+ghost use Rattle.mc_world.specs.Connections.{Connection, Stands, HasNoNext};
+ghost use Rattle.mc_world.specs.Worlds.{PlainWorld, WorldState, StandsAs, Runs, numbered};
 ghost use Rattle.mc_world.specs.Laws.{DecidesNoStep, IsApart, Answer, RunsAnswering, Leaves};
+ghost use Rattle.mc_world.specs.Laws.{Grammar};
 ghost use Rattle.mc_world.specs.declared.event.Event.{Event};
 ghost use Rattle.mc_world.specs.declared.event.Event.TheVariants.{Grow, Piece};
+
+use mc_hop::KeyHash;
+use mc_parse::{cutting_does_not_matter, no_spelling_begins_another, one_list_of_units};
 
 /// Growth never shows: an event of growth may be added or taken out anywhere.
 pub fn growth_never_shows()
@@ -36,4 +41,33 @@ pub fn a_session_follows_its_own_answers()
         (answers : List Answer) × (last : Connection) × RunsAnswering hash shelves n old events answers new × (numbered n new.connections ≡ Some last) }
     ensures follows { (n : ℕ) (first : Connection) (own : List Event) (answers : List Answer) (last other : Connection) →
         Leaves n first own answers last → Leaves n first own answers other → other ≡ last }
-{}
+{
+    grammar();
+}
+
+/// A plain world stands as one state only, of those with the same settings and hasher: so what is told of a world pins it.
+pub fn a_plain_world_stands_one_way<K: KeyHash>()
+    ensures { (plain : PlainWorld) (one other : WorldState K) →
+        StandsAs plain one → StandsAs plain other →
+        other.settings ≡ one.settings → other.hasher ≡ one.hasher → other ≡ one }
+{
+    grammar();
+}
+
+/// A turn of an open session is due where its connection has a next one, and only there.
+pub fn a_turn_is_due_of_both()
+    ensures { (connection : Connection) (session : SessionState) →
+        Stands connection session → connection.is_open ≡ true →
+        NoTurnDue session ↔ HasNoNext connection }
+{
+    grammar();
+}
+
+/// The laws of the grammar that the proofs here use.
+pub fn grammar()
+    ensures { Grammar }
+{
+    no_spelling_begins_another();
+    one_list_of_units();
+    cutting_does_not_matter();
+}

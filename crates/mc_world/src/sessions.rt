@@ -1,4 +1,4 @@
-ghost use Rattle.std.specs.Prelude.{◌≡◌, ◌++◌, ◌∷◌, [], ◌<◌, ◌≤◌, ◌↔◌, length, Some, None, IfSome, IfErr, OnOk, OnErr, IsTrue, IsFalse, nat_lt, slice_get, if◌then◌else◌};
+ghost use Rattle.std.specs.Prelude.{◌≡◌, ◌++◌, ◌∷◌, [], ◌<◌, ◌≤◌, ◌↔◌, length, Some, None, Ok, IfSome, IfErr, OnOk, OnErr, IsTrue, IsFalse, nat_lt, slice_get, if◌then◌else◌};
 ghost use Rattle.std.specs.Option.{option_copied};
 ghost use Rattle.mc_session.specs.Turns.{SessionState, NoTurnDue, opened, fed, closed, sent};
 ghost use Rattle.mc_world.specs.Worlds.{numbered, open_session, put, changed, output_of, IsIdle, IsClosed};
@@ -94,6 +94,12 @@ impl Sessions {
         now: Moment,
     ) -> Result<Turn, TurnFault>
         ensures ok { OnOk result (TurnOf S.took S.spent number now self.old self.new store.old store.new) }
+        ensures did { result ≡ Ok Turn.Did → IsDue number self.old }
+        ensures idle { result ≡ Ok Turn.Idle →
+            IsIdle (numbered number self.old) × (self.new ≡ self.old) × (store.new ≡ store.old) }
+        ensures closed { result ≡ Ok Turn.Closed →
+            (open_session number self.old ≡ None)
+            × (self.new ≡ self.old) × (store.new ≡ store.old) }
         ensures err { OnErr result (self.new ≡ at_session self.old number closed) }
         ensures due { OnErr result (IsDue number self.old) }
         ensures undecided { IfErr result (λ fault. IsFalse fault.decided → store.new ≡ store.old) }

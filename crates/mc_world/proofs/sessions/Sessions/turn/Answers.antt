@@ -20,3 +20,13 @@ pub returns-clause-due : goal.returns-clause-due
 returns-clause-due g c =
     lemmas.result_due g.S.Steps.took g.S.Steps.spent c.args.number c.args.now c.args.self.now c.self.inside.list.items c.deref.result.now c.in-Some.at c.index_mut.result.now c.turn.new.self c.args.store.now c.turn.new.store
     c.self.view_is c.deref.ensures.value c.in-Some.ensures.some c.index_mut.ensures.value c.turn.result c.turn.ensures.due
+
+pub returns-clause-idle : goal.returns-clause-idle
+returns-clause-idle g c =
+    lemmas.result_idle g.S.Steps.took g.S.Steps.spent c.args.number c.args.now c.args.self.now c.self.inside.list.items c.deref.result.now c.in-Some.at c.index_mut.result.now c.turn.new.self c.args.store.now c.turn.new.store
+    c.self.view_is c.deref.ensures.value c.in-Some.ensures.some c.index_mut.ensures.value c.turn.result c.turn.ensures.idle
+
+pub returns-clause-closed : goal.returns-clause-closed
+returns-clause-closed g c = λ is. absurd (
+    lemmas.result_closed g.S.Steps.took g.S.Steps.spent c.args.number c.args.now c.args.self.now c.self.inside.list.items c.deref.result.now c.in-Some.at c.index_mut.result.now c.turn.new.self c.args.store.now c.turn.new.store
+    c.self.view_is c.deref.ensures.value c.in-Some.ensures.some c.index_mut.ensures.value c.turn.result c.turn.ensures.closed is)
