@@ -25,21 +25,14 @@ passed_along n first later (inr beyond) =
 abbrev unread : ℕ → ℕ → List ℕ → Unread
 unread greatest passed bytes = record { greatest = greatest; passed = passed; bytes = bytes }
 
--- no byte is unread while some are to be passed over
-pub kept_settled : (greatest passed start : ℕ) (cursor : Option Cursor) (progress : Progress) (buffer : List ℕ) → IsKept greatest passed start cursor progress buffer → IsSettled (unread greatest passed (drop start buffer))
-kept_settled greatest passed start cursor progress buffer kept = elim kept.settled as (λ _. IsSettled (unread greatest passed (drop start buffer))) [
-  | inl none ↦ inl none
-  | inr all ↦ inr (drop_of_length-le buffer (omega arith))
-]
-
--- so no front spells anything then
-pub none_yet : (greatest passed start : ℕ) (cursor : Option Cursor) (progress : Progress) (buffer bytes : List ℕ) → IsKept greatest passed start cursor progress buffer → 0 < passed → bytes ≡ drop start buffer → BeginsWithNone greatest (drop passed bytes)
-none_yet greatest passed start cursor progress buffer bytes kept some is =
-    let read : length buffer ≤ start = elim kept.settled as (λ _. length buffer ≤ start) [
-      | inl none ↦ absurd (omega arith)
-      | inr all ↦ omega arith
+-- no front spells anything while some bytes are to be passed over
+pub none_yet : (greatest passed : ℕ) (cursor : Option Cursor) (progress : Progress) (bytes : List ℕ) → IsKept greatest passed cursor progress bytes → 0 < passed → BeginsWithNone greatest (drop passed bytes)
+none_yet greatest passed cursor progress bytes kept some =
+    let none : bytes ≡ [] = elim kept.settled as (λ _. bytes ≡ []) [
+      | inl zero ↦ absurd (omega arith)
+      | inr all ↦ all
     ] in
-    let nothing : drop passed bytes ≡ [] = ap (drop passed) (is ∙ drop_of_length-le buffer read) ∙ drop-nil passed in
+    let nothing : drop passed bytes ≡ [] = ap (drop passed) none ∙ drop-nil passed in
     subst (BeginsWithNone greatest) (sym nothing) (record { none = none_in greatest [] tt (omega arith) })
 
 -- what was found is what is left, where turns leave it whole

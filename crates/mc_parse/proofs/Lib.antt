@@ -10,3 +10,4 @@ pub mod RetrievalLemmas
 pub mod CursorLemmas
 pub mod FeedLemmas
 pub mod FoundLemmas
+pub mod QueueLemmas

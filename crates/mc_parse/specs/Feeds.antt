@@ -1,5 +1,5 @@
 -- What a feed holds.
-use Rattle.std.specs.Prelude.{◌≡◌, ◌≤◌, ℕ, ◌-◌, List, [], ◌++◌, ◌⊎◌, length, drop, Option, IfSome}
+use Rattle.std.specs.Prelude.{◌≡◌, ℕ, ◌-◌, List, [], ◌++◌, ◌⊎◌, length, drop, Option, IfSome}
 use Rattle.mc_parse.specs.declared.cursor.Cursor.{Cursor}
 use Rattle.mc_parse.specs.declared.progress.Progress.{Progress}
 use Rattle.mc_parse.specs.Cursors.{PointsInto}
@@ -27,10 +27,9 @@ read u len passed = settled (record u { passed = passed; bytes = drop len u.byte
 abbrev pub IsSettled : Unread → Type 0
 IsSettled u = (u.passed ≡ 0) ⊎ (u.bytes ≡ [])
 
--- How a feed keeps its bytes: of those in its buffer so many were read, none is unread while some are to be passed over,
--- and what it notes of the turns that were taken and of how far it has looked fits the unread bytes.
-pub record IsKept (greatest passed start : ℕ) (cursor : Option Cursor) (progress : Progress) (buffer : List ℕ) : Type 0 where
-  pub inside : start ≤ length buffer
-  pub settled : (passed ≡ 0) ⊎ (start ≡ length buffer)
-  pub points : IfSome cursor (λ c. PointsInto greatest c (drop start buffer))
-  pub looked : HasProgress greatest progress (drop start buffer)
+-- What a feed keeps beside its bytes: none is unread while some are to be passed over, and what it notes of the turns that
+-- were taken and of how far it has looked fits the unread bytes.
+pub record IsKept (greatest passed : ℕ) (cursor : Option Cursor) (progress : Progress) (bytes : List ℕ) : Type 0 where
+  pub settled : (passed ≡ 0) ⊎ (bytes ≡ [])
+  pub points : IfSome cursor (λ c. PointsInto greatest c bytes)
+  pub looked : HasProgress greatest progress bytes

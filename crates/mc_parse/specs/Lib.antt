@@ -6,3 +6,4 @@ pub mod Streams
 pub mod Feeds
 pub mod Cursors
 pub mod Progresses
+pub mod Queues

@@ -1,8 +1,7 @@
-ghost use Rattle.std.specs.Prelude.{◌≡◌, ◌≤◌, ◌-◌, [], drop, length, IsTrue};
-
 use crate::cursor::{Cursor, cursor_after};
 use crate::peek::Peek;
 use crate::progress::Progress;
+use crate::queue::Queue;
 use mc_command::LineFault;
 use std::alloc::{AllocError, Global};
 use std::marker::Model;
@@ -11,13 +10,10 @@ use std::marker::Model;
 /// passed over, and the unread bytes.
 #[derive(Drop)]
 pub struct Feed {
-    alloc: Global,
     greatest: u64,
     /// How many bytes are still to be passed over.
     passed: u64,
-    buffer: Vec<u8>,
-    /// How many bytes of the buffer were read.
-    start: usize,
+    unread: Queue,
     /// Where the retrieval stands that the unread bytes begin with, if turns of it were noted.
     cursor: Option<Cursor>,
     /// How far the unread bytes were looked at before the last piece came.
@@ -25,18 +21,17 @@ pub struct Feed {
 }
 
 impl Model for Feed {
-    ghost use Rattle.std.specs.Prelude.{drop};
     ghost use Rattle.mc_parse.specs.Feeds.{Unread, IsKept};
 
     ghost Value = { Unread };
 
-    ghost view = { λ f. record { greatest = f.greatest; passed = f.passed; bytes = drop f.start f.buffer.items } };
+    ghost view = { λ f. record { greatest = f.greatest; passed = f.passed; bytes = f.unread } };
 
-    ghost invariant = { λ f. IsKept f.greatest f.passed f.start f.cursor f.progress f.buffer.items };
+    ghost invariant = { λ f. IsKept f.greatest f.passed f.cursor f.progress f.unread };
 }
 
 impl Feed {
-    ghost use Rattle.std.specs.Prelude.{◌≡◌, ◌≤◌, ℕ, [], drop, length, IfSome, OnOk, OnErr};
+    ghost use Rattle.std.specs.Prelude.{◌≡◌, ◌≤◌, ◌<◌, ◌*◌, ℕ, [], drop, length, IfSome, OnOk, OnErr};
     ghost use Rattle.mc_command.specs.Commands.{HasShortKeys};
     ghost use Rattle.mc_command.specs.declared.command.Command.{Command};
     ghost use Rattle.mc_parse.specs.Units.{ProtocolUnit, Request};
@@ -49,11 +44,9 @@ impl Feed {
         ensures { result ≡ record { greatest = greatest; passed = 0; bytes = [] } }
     {
         Feed {
-            alloc,
             greatest,
             passed: 0,
-            buffer: Vec::new(alloc),
-            start: 0,
+            unread: Queue::new(alloc),
             cursor: None,
             progress: Progress::none(),
         }
@@ -65,10 +58,9 @@ impl Feed {
         ensures err { OnErr result (self.new ≡ self.old) }
     {
         self.note_progress();
-        self.make_room(piece.len());
         let skipped = (piece.len() as u64).min(self.passed);
         let (_, kept) = piece.split_at(skipped as usize);
-        self.buffer.extend_from_slice(kept)?;
+        self.unread.push(kept)?;
         self.passed -= skipped;
         Ok(())
     }
@@ -107,7 +99,7 @@ impl Feed {
     pub fn mark(&mut self, taken: usize)
         ensures { self.new ≡ self.old }
     {
-        let cursor = cursor_after(self.cursor, self.greatest, self.unread(), taken);
+        let cursor = cursor_after(self.cursor, self.greatest, self.unread.as_slice(), taken);
         self.cursor = cursor;
     }
 
@@ -131,53 +123,48 @@ impl Feed {
         requires none { self.old.passed ≡ 0 }
         ensures { self.new ≡ read self.old len passed }
     {
-        let left = self.held() - len;
+        let left = self.unread.len() - len;
+        let dropped = passed.min(left as u64);
         self.cursor = None;
         self.progress = Progress::none();
-        let dropped = passed.min(left as u64);
         self.passed = passed - dropped;
-        self.start += len + dropped as usize;
-        if self.start == self.buffer.len() {
-            empty(&mut self.buffer, self.alloc);
-            self.start = 0;
-        }
+        self.unread.consume(len + dropped as usize);
     }
 
     /// Drops what is unread and what is to be passed over. It takes no memory.
     pub fn clear(&mut self)
         ensures { self.new ≡ record { greatest = self.old.greatest; passed = 0; bytes = [] } }
     {
-        empty(&mut self.buffer, self.alloc);
-        self.start = 0;
+        self.unread.clear();
         self.passed = 0;
         self.cursor = None;
         self.progress = Progress::none();
     }
 
-    /// How many bytes are unread. Bytes that are passed over are never held.
-    pub fn held(&self) -> usize
+    /// Counts the unread bytes. There are none while bytes are to be passed over.
+    pub fn unread_len(&self) -> usize
         ensures unread { result ≡ length self.now.bytes }
         ensures settled { IsSettled self.now }
     {
-        self.buffer.len() - self.start
+        self.unread.len()
+    }
+
+    /// Counts the bytes that the feed holds in memory: the unread ones, and of those that were read at most as many.
+    pub fn held(&self) -> usize
+        ensures least { length self.now.bytes ≤ result }
+        ensures most { result ≤ 2 * length self.now.bytes }
+        // Bytes that are passed over are never held.
+        ensures passing { 0 < self.now.passed → result ≡ 0 }
+    {
+        self.unread.held()
     }
 
     /// Notes how far the unread bytes were looked at, so that they needn't be read again when more come.
     fn note_progress(&mut self)
         ensures { self.new ≡ self.old }
     {
-        let progress = self.progress.after(self.greatest, self.unread());
+        let progress = self.progress.after(self.greatest, self.unread.as_slice());
         self.progress = progress;
-    }
-
-    /// Drops the front that was read, where so many bytes find no room behind it.
-    fn make_room(&mut self, added: usize)
-        ensures { self.new ≡ self.old }
-    {
-        if wants_room(&self.buffer, self.start, added) {
-            drop_front(&mut self.buffer, self.start);
-            self.start = 0;
-        }
     }
 
     /// The same as `peek`. What else is said there follows from the two clauses.
@@ -188,7 +175,7 @@ impl Feed {
         if self.passed > 0 {
             return Peek::More;
         }
-        self.progress.peek(self.greatest, self.unread())
+        self.progress.peek(self.greatest, self.unread.as_slice())
     }
 
     /// The same as `peek_after`.
@@ -199,55 +186,10 @@ impl Feed {
         if taken == 0 || self.passed > 0 {
             return self.first_unit();
         }
-        let unread = self.unread();
+        let unread = self.unread.as_slice();
         match cursor_after(self.cursor, self.greatest, unread, taken) {
             Some(cursor) => cursor.peek(unread),
             None => self.first_unit(),
         }
-    }
-
-    /// The bytes that came and weren't read.
-    fn unread(&self) -> &[u8]
-        ensures { result.now ≡ self.now.bytes }
-    {
-        let (_, unread) = self.buffer.as_slice().split_at(self.start);
-        unread
-    }
-}
-
-/// The greatest buffer that is kept while it is empty.
-const KEPT: usize = 65536;
-
-/// Whether the front that was read is to be dropped before so many bytes are added: they find no room behind the unread
-/// bytes, and these are no more than what was read, so that each byte moves at most as often as one is read.
-fn wants_room(buffer: &Vec<u8>, start: usize, added: usize) -> bool
-    requires { start ≤ length buffer.now.items }
-    ensures { IsTrue result → length buffer.now.items - start ≤ start }
-{
-    let held = buffer.len();
-    held - start <= start && buffer.capacity().saturating_sub(held) < added
-}
-
-/// Drops the front of a buffer, where what is left is no longer than the front.
-fn drop_front(buffer: &mut Vec<u8>, start: usize)
-    requires inside { start ≤ length buffer.old.items }
-    requires half { length buffer.old.items - start ≤ start }
-    ensures { buffer.new.items ≡ drop start buffer.old.items }
-{
-    let left = buffer.len() - start;
-    let (front, rest) = buffer.as_mut_slice().split_at_mut(start);
-    let (onto, _) = front.split_at_mut(left);
-    onto.copy_from_slice(rest);
-    buffer.truncate(left);
-}
-
-/// Empties a buffer. One that grew large is given back.
-fn empty(buffer: &mut Vec<u8>, alloc: Global)
-    ensures { buffer.new.items ≡ [] }
-{
-    if buffer.capacity() > KEPT {
-        *buffer = Vec::new(alloc);
-    } else {
-        buffer.clear();
     }
 }

@@ -1,6 +1,6 @@
 //! Laws of the grammar, each the contract of a function that does nothing.
 
-ghost use Rattle.std.specs.Prelude.{◌≡◌, ℕ, List, ◌++◌};
+ghost use Rattle.std.specs.Prelude.{◌≡◌, ◌<◌, ℕ, List, ◌++◌, length};
 ghost use Rattle.std.specs.List.{fold, concat};
 ghost use Rattle.mc_parse.specs.Units.{Spells, ProtocolUnit};
 ghost use Rattle.mc_parse.specs.Streams.{AreUnits};
@@ -10,6 +10,11 @@ ghost use Rattle.mc_parse.specs.Feeds.{Unread, pushed, IsSettled};
 pub fn no_spelling_begins_another()
     ensures { (greatest : ℕ) (u v : ProtocolUnit) (a b x y : List ℕ) →
         Spells greatest u a → Spells greatest v b → a ++ x ≡ b ++ y → (u ≡ v) × (a ≡ b) }
+{}
+
+/// A spelling has at least one byte.
+pub fn a_spelling_has_a_byte()
+    ensures { (greatest : ℕ) (unit : ProtocolUnit) (front : List ℕ) → Spells greatest unit front → 0 < length front }
 {}
 
 /// A stream has one list of units, and no other.

@@ -55,12 +55,12 @@ fn pass_unit(feed: &mut Feed) -> Option<usize> {
 
 /// Pushes a piece. Says whether the feed was as before where that was refused, and pushes it then.
 fn push_at_last(feed: &mut Feed, piece: &[u8]) -> Result<bool, AllocError> {
-    let held = feed.held();
+    let held = feed.unread_len();
     let found = len_of(feed.peek());
     if feed.push(piece).is_ok() {
         return Ok(true);
     }
-    let is_same = feed.held() == held && len_of(feed.peek()) == found;
+    let is_same = feed.unread_len() == held && len_of(feed.peek()) == found;
     feed.push(piece)?;
     Ok(is_same)
 }
@@ -149,21 +149,21 @@ fn a_block_that_is_passed_over(rt: HostRuntime) -> Result<(), AllocError> {
         )
     );
     assert_eq!(rt; pass_unit(&mut feed), Some(15));
-    assert_eq!(rt; feed.held(), 0);
+    assert_eq!(rt; feed.unread_len(), 0);
     for _ in 0..199 {
         assert!(rt; push_at_last(&mut feed, b"x")?);
-        assert_eq!(rt; feed.held(), 0);
+        assert_eq!(rt; feed.unread_len(), 0);
         assert!(rt; matches!(feed.peek(), Peek::More));
     }
     assert!(rt; push_at_last(&mut feed, b"version\r\nqu")?);
     assert!(rt; matches!(feed.peek(), Peek::Whole(Command::Version, 9)));
     assert_eq!(rt; pass_unit(&mut feed), Some(9));
-    assert_eq!(rt; feed.held(), 2);
+    assert_eq!(rt; feed.unread_len(), 2);
     assert!(rt; matches!(feed.peek(), Peek::More));
     assert!(rt; push_at_last(&mut feed, b"it\r\n")?);
     assert!(rt; matches!(feed.peek(), Peek::Whole(Command::Quit, 6)));
     feed.clear();
-    assert_eq!(rt; feed.held(), 0);
+    assert_eq!(rt; feed.unread_len(), 0);
     Ok(())
 }
 
@@ -215,7 +215,7 @@ fn a_stream_in_pieces_of_one_byte(rt: HostRuntime) -> Result<(), AllocError> {
         let is_whole = pass_unit(&mut feed).is_some();
         assert!(rt; is_whole == lasts.contains(&place), "at {place}");
     }
-    assert_eq!(rt; feed.held(), 0);
+    assert_eq!(rt; feed.unread_len(), 0);
     Ok(())
 }
 
@@ -228,7 +228,7 @@ fn the_longest_line_in_pieces(rt: HostRuntime) -> Result<(), AllocError> {
         assert!(rt; matches!(feed.peek(), Peek::More));
         assert!(rt; push_at_last(&mut feed, &spaces)?);
     }
-    assert_eq!(rt; feed.held(), 65536);
+    assert_eq!(rt; feed.unread_len(), 65536);
     assert!(rt; matches!(feed.peek(), Peek::More));
     assert!(rt; push_at_last(&mut feed, b"\n")?);
     assert!(rt; matches!(feed.peek(), Peek::Whole(Command::Version, 65537)));

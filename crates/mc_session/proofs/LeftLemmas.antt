@@ -7,13 +7,14 @@ use Rattle.mc_command.specs.Commands.{steps, after_steps, is_quiet}
 use Rattle.mc_command.specs.declared.command.Command.{Command}
 use Rattle.mc_command.specs.declared.command.Command.TheVariants.{Store, Cas, Get, GetTouch, Touch, Delete, Count, FlushAll, Version, Quit}
 use Rattle.mc_command.specs.declared.step.KeyStep.{KeyStep}
+use Rattle.mc_command.specs.declared.step.Steps.{Ghosts as Relations}
 use Rattle.mc_command.specs.declared.step.KeyStep.TheVariants.{Read as ReadStep, ReadTouch as ReadTouchStep}
 use Rattle.mc_command.specs.declared.reply.Reply.{Reply}
 use Rattle.mc_parse.specs.Units.{ProtocolUnit, Request, Fault, LongLine}
 use Rattle.mc_parse.specs.Streams.{is_quit}
 use Rattle.mc_parse.specs.Peeks.{left_of}
 use Rattle.mc_reply.specs.Texts.{reply_text, plain_text, retrieval_text, asked_text, end_text}
-use Rattle.mc_session.specs.declared.next.Next.TheVariants.{Step, Read, Close}
+use Rattle.mc_session.specs.declared.after_turn.AfterTurn.TheVariants.{Step, Read, Close}
 use Rattle.mc_session.specs.Turns.{Answers, AnswersStep, turn_count}
 use Rattle.mc_session.specs.Answers.{next_of}
 
@@ -109,28 +110,28 @@ all_left LongLine = refl
 all_left (Fault fault) = refl
 all_left (Request command) = let count = ap length (steps_left command 0 (omega arith)) in ap (max 1) count
 
-module _ {S : Type 0} (took : S → KeyStep → ℕ → Reply → S → Type 0) (spent : S → KeyStep → ℕ → Type 0) (now : ℕ) (before after : S) (text : List ℕ) where
+module _ {S : Type 0} (relations : Relations S) (now : ℕ) (before after : S) (text : List ℕ) where
   -- a step of what is left is answered as the next step
   step_answers : (command : Command) (taken : ℕ) (step : KeyStep) → taken < max 1 (length (steps command))
-      → AnswersStep took spent (after_steps command taken) 0 step now before after text → AnswersStep took spent command taken step now before after text
+      → AnswersStep relations (after_steps command taken) 0 step now before after text → AnswersStep relations command taken step now before after text
   step_answers command taken step due (inl told) = inl (told.0, told.1, told.2 ∙ reply_left command taken told.0 due)
   step_answers command taken step due (inr told) = inr (told.0, told.1, rw (← (like_left command taken).quiet) told.2)
 
   some_answers : (command : Command) (taken : ℕ) → taken < max 1 (length (steps command)) → (step : Option KeyStep)
-      → MatchOption step ((text ≡ plain_text (after_steps command taken)) × (after ≡ before)) (λ step. AnswersStep took spent (after_steps command taken) 0 step now before after text)
-      → MatchOption step ((text ≡ plain_text command) × (after ≡ before)) (λ step. AnswersStep took spent command taken step now before after text)
+      → MatchOption step ((text ≡ plain_text (after_steps command taken)) × (after ≡ before)) (λ step. AnswersStep relations (after_steps command taken) 0 step now before after text)
+      → MatchOption step ((text ≡ plain_text command) × (after ≡ before)) (λ step. AnswersStep relations command taken step now before after text)
   some_answers command taken due None told = (told.0 ∙ (like_left command taken).plain, told.1)
   some_answers command taken due (Some step) told = step_answers command taken step due told
 
   -- the first turn of what is left answers as the next turn
-  pub answers_left : (unit : ProtocolUnit) (taken : ℕ) → taken < turn_count unit → Answers took spent (left_of unit taken) 0 now before after text → Answers took spent unit taken now before after text
+  pub answers_left : (unit : ProtocolUnit) (taken : ℕ) → taken < turn_count unit → Answers relations (left_of unit taken) 0 now before after text → Answers relations unit taken now before after text
   answers_left LongLine taken due told = told
   answers_left (Fault fault) taken due told = told
   answers_left (Request command) taken due told =
       some_answers command taken due (slice_get (steps command) taken)
-      (subst (λ step. MatchOption step ((text ≡ plain_text (after_steps command taken)) × (after ≡ before)) (λ step. AnswersStep took spent (after_steps command taken) 0 step now before after text))
+      (subst (λ step. MatchOption step ((text ≡ plain_text (after_steps command taken)) × (after ≡ before)) (λ step. AnswersStep relations (after_steps command taken) 0 step now before after text))
       (ap (λ xs. slice_get xs 0) (steps_left command taken due) ∙ first_left (steps command) taken) told)
 
   -- a command that takes no step is answered its plain text
-  pub plain_answers : (command : Command) → length (steps command) ≡ 0 → text ≡ plain_text command → after ≡ before → Answers took spent (Request command) 0 now before after text
+  pub plain_answers : (command : Command) → length (steps command) ≡ 0 → text ≡ plain_text command → after ≡ before → Answers relations (Request command) 0 now before after text
   plain_answers command none told same = rw (slice_get_past (steps command) 0 (omega arith)) (told, same)

@@ -2,5 +2,6 @@ pub mod LeftLemmas
 pub mod FeedLemmas
 pub mod TurnLemmas
 pub mod RunLemmas
+pub mod CourseLemmas
 pub mod ServeLemmas
 pub mod StreamLemmas

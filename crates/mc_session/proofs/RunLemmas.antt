@@ -1,13 +1,11 @@
 -- A run goes on the same where more bytes come, and with earlier output in front.
 use Rattle.std.proofs.Common.{◌≡◌, ◌+◌, ◌==◌, ℕ, Bool, true, false, List, [], ◌++◌, refl, sym, ap, ◌∙◌, subst, append_assoc, if◌then◌else◌, IsTrue}
-use Rattle.mc_command.specs.declared.step.KeyStep.{KeyStep}
-use Rattle.mc_command.specs.declared.reply.Reply.{Reply}
+use Rattle.mc_command.specs.declared.step.Steps.{Ghosts as Relations}
 use Rattle.mc_parse.specs.Units.{ProtocolUnit}
 use Rattle.mc_parse.specs.Streams.{is_last, passed_after}
 use Rattle.mc_parse.specs.Feeds.{Unread, pushed, settled}
-use Rattle.mc_session.specs.Turns.{SessionState, TakesTurn, DecidesStep, turn_count, closed, fed, opened}
-use Rattle.mc_session.specs.Serving.{Run, nothing, turn}
-use Rattle.mc_session.specs.Rounds.{with_written}
+use Rattle.mc_session.specs.Turns.{SessionState, TakesTurn, turn_count, closed, fed, opened}
+use Rattle.mc_session.specs.Serving.{with_written, Run, nothing, turn}
 use Rattle.mc_session.proofs.FeedLemmas.{pushed-settled, pushed-pushed, spells_bytes, front_stays}
 
 -- a session with more bytes of its stream
@@ -58,9 +56,9 @@ fed-with_written s written more =
       | false ↦ refl
     ]
 
-module _ {S : Type 0} (took : S → KeyStep → ℕ → Reply → S → Type 0) (spent : S → KeyStep → ℕ → Type 0) where
+module _ {S : Type 0} (relations : Relations S) where
   -- a turn is the turn of the longer stream
-  turn_more : (now : ℕ) (old new : SessionState) (before after : S) (more : List ℕ) → TakesTurn took spent now old new before after → TakesTurn took spent now (grown old more) (fed new more) before after
+  turn_more : (now : ℕ) (old new : SessionState) (before after : S) (more : List ℕ) → TakesTurn relations now old new before after → TakesTurn relations now (grown old more) (fed new more) before after
   turn_more now old new before after more taken_turn = record {
     unit = taken_turn.unit;
     front = taken_turn.front;
@@ -75,7 +73,7 @@ module _ {S : Type 0} (took : S → KeyStep → ℕ → Reply → S → Type 0) 
   }
 
   -- and with earlier output in front
-  unfoldable pub turn_written : (now : ℕ) (old new : SessionState) (before after : S) (written : List ℕ) → TakesTurn took spent now old new before after → TakesTurn took spent now (with_written written old) (with_written written new) before after
+  unfoldable pub turn_written : (now : ℕ) (old new : SessionState) (before after : S) (written : List ℕ) → TakesTurn relations now old new before after → TakesTurn relations now (with_written written old) (with_written written new) before after
   turn_written now old new before after written taken_turn = record {
     unit = taken_turn.unit;
     front = taken_turn.front;
@@ -89,27 +87,12 @@ module _ {S : Type 0} (took : S → KeyStep → ℕ → Reply → S → Type 0) 
     moves = ap (with_written written) taken_turn.moves ∙ moved_written old taken_turn.unit taken_turn.rest taken_turn.text written (is_last taken_turn.unit) (old.taken + 1 == turn_count taken_turn.unit);
   }
 
-  -- a step is decided the same with earlier output in front
-  pub decides_written : (now : ℕ) (old : SessionState) (before after : S) (written : List ℕ) → DecidesStep took now old before after → DecidesStep took now (with_written written old) before after
-  decides_written now old before after written decides = record {
-    command = decides.command;
-    front = decides.front;
-    rest = decides.rest;
-    step = decides.step;
-    reply = decides.reply;
-    opens = decides.opens;
-    parts = decides.parts;
-    spelled = decides.spelled;
-    is_step = decides.is_step;
-    took_it = decides.took_it;
-  }
-
   -- a run is a run of the longer stream
-  pub run_more : (may_give : ℕ → Type 0) (first last : SessionState) (before after : S) (turns : List (ProtocolUnit × ℕ)) (more : List ℕ) → Run took spent may_give first before turns last after
-      → Run took spent may_give (fed first more) before turns (fed last more) after
+  pub run_more : (may_give : ℕ → Type 0) (first last : SessionState) (before after : S) (turns : List (ProtocolUnit × ℕ)) (more : List ℕ) → Run relations may_give first before turns last after
+      → Run relations may_give (fed first more) before turns (fed last more) after
   unfolding turn_more
   run_more may_give first last before after turns more nothing = nothing
   run_more may_give first last before after turns more (turn {mid = mid} {between = between} {taken = taken} now run gives takes) =
       turn now
-      (subst (λ s. Run took spent may_give (fed first more) before taken s between) (fed_open mid more takes.opens) (run_more may_give first mid before between taken more run))
+      (subst (λ s. Run relations may_give (fed first more) before taken s between) (fed_open mid more takes.opens) (run_more may_give first mid before between taken more run))
       gives (turn_more now mid last between after more takes)

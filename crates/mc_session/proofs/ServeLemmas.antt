@@ -1,25 +1,20 @@
 -- What was served until now, and a turn, a write or a read more.
-use Rattle.std.proofs.Common.{◌≡◌, ℕ, ◌+◌, ◌^◌, ◌<◌, ◌≤◌, List, [], ◌∷◌, ◌++◌, arith, length-append, Option, Some, None, refl, sym, ap, ◌∙◌, subst, append_assoc, append-nil, IsFalse, IsTrue, Bool, true, false, Result, Ok, Err, OnOk, ◌⊎◌, inl, inr, take}
+use Rattle.std.proofs.Common.{◌≡◌, ◌⊎◌, inl, inr, ℕ, ◌+◌, ◌^◌, ◌<◌, ◌≤◌, List, [], ◌∷◌, ◌++◌, length, take, refl, sym, ap, ◌∙◌, subst, arith, append_assoc, append-nil, Option, Some, None, IsFalse, IsTrue, Bool, true, false, Result, Ok, Err, OnOk}
 use Rattle.std.specs.Io.KnownBytes.{Appends, Consumes, Keeps}
-use Rattle.std.proofs.lemmas.List.{take-append-drop}
+use Rattle.std.proofs.lemmas.List.{take-append-drop, length-append}
 use Rattle.std.proofs.KnownBytes.{Consumes-nil, Appends-nil, Consumes-trans, Appends-trans, Appends-kept}
-use Rattle.mc_command.specs.declared.step.KeyStep.{KeyStep}
-use Rattle.mc_command.specs.declared.reply.Reply.{Reply}
+use Rattle.mc_command.specs.declared.step.Steps.{Ghosts as Relations}
 use Rattle.mc_parse.specs.Units.{ProtocolUnit}
-use Rattle.mc_session.specs.Turns.{SessionState, TakesTurn, DecidesStep, fed, opened, sent}
-use Rattle.mc_session.specs.Serving.{Run, nothing, turn, Serves, ServesAll, ServesUntilRefused}
-use Rattle.mc_session.specs.Rounds.{with_written, Writes, Reads, fed_piece, read_nothing, HasEnded, HasServed, GoesOn, IsRefused}
-use Rattle.mc_session.proofs.RunLemmas.{run_more, turn_written, decides_written, fed-fed, fed-with_written}
+use Rattle.mc_session.specs.declared.serving.TheConstants.{WRITE_AT}
+use Rattle.mc_session.specs.Turns.{SessionState, TakesTurn, DecidesStep, HoldsSame, NoTurnDue, fed, opened, sent}
+use Rattle.mc_session.specs.Serving.{with_written, with_out, Course, begins, takes_turn, takes_none, piece_comes, part_goes, HasServed, Serves, ServesAll, no_buffer, no_piece, no_turn, no_text, ServesUntilRefused}
+use Rattle.mc_session.specs.Rounds.{Writes, Reads, fed_piece, read_nothing, LosesPiece, HasEnded, GoesOn, IsRefused}
 
 -- known bytes that stay lose none
 pub Consumes-kept : (old new : Option (List ℕ)) → Keeps old new → Consumes old new []
 Consumes-kept None new kept = tt
 Consumes-kept (Some xs) None kept = absurd kept
 Consumes-kept (Some xs) (Some ys) kept = sym kept
-
--- a session with another output
-abbrev with_out : List ℕ → SessionState → SessionState
-with_out out session = record session { out = out }
 
 -- one part after another
 pub Writes-more : (first mid last : SessionState) (a b c : Option (List ℕ)) → Writes first mid a b → Writes mid last b c → Writes first last a c
@@ -42,183 +37,147 @@ Writes-front s n a b appends = record { part = take n s.out; parts = sym (take-a
 pub Writes-kept : (s : SessionState) (a b : Option (List ℕ)) → Keeps a b → Writes s s a b
 Writes-kept s a b kept = record { part = []; parts = refl; same = refl; appends = Appends-kept a a b [] (Appends-nil a) kept }
 
-module _ {S : Type 0} (took : S → KeyStep → ℕ → Reply → S → Type 0) (spent : S → KeyStep → ℕ → Type 0) (may_give : ℕ → Type 0) where
+module _ {S : Type 0} (relations : Relations S) (may_give : ℕ → Type 0) where
   -- before the first round
-  pub served_nothing : (greatest : ℕ) (store : S) (reader writer : Option (List ℕ)) → HasServed took spent may_give greatest 0 store store reader reader writer writer (opened greatest)
-  served_nothing greatest store reader writer = record { read = []; written = []; taken = []; consumes = Consumes-nil reader; run = nothing; few = omega arith; appends = Appends-nil writer }
+  pub served_nothing : (greatest : ℕ) (store : S) (reader writer : Option (List ℕ)) → HasServed relations may_give greatest 0 store store reader reader writer writer (opened greatest)
+  served_nothing greatest store reader writer = record { read = []; written = []; taken = []; course = begins; consumes = Consumes-nil reader; appends = Appends-nil writer }
 
   -- a turn
-  pub goes_on_turn : (now : ℕ) → may_give now → (old new : SessionState) (before after : S) (reader writer : Option (List ℕ)) → TakesTurn took spent now old new before after → GoesOn took spent may_give old new before after reader reader writer writer
-  unfolding turn_written
-  goes_on_turn now gives old new before after reader writer takes greatest most first reader_old writer_old served = record {
+  pub goes_on_turn : (now : ℕ) → may_give now → (old new : SessionState) (before after : S) (reader writer : Option (List ℕ)) → length old.out < WRITE_AT → TakesTurn relations now old new before after
+      → GoesOn relations may_give old new before after reader reader writer writer
+  goes_on_turn now gives old new before after reader writer small takes greatest calls first reader_first writer_first served = record {
     read = served.read;
     written = served.written;
     taken = served.taken ++ (takes.unit, old.taken) ∷ [];
+    course = takes_turn now served.course small gives takes;
     consumes = served.consumes;
     appends = served.appends;
-    run = turn now served.run gives (turn_written took spent now old new before after served.written takes);
-    few = omega (arith, served.few, length-append served.taken ((takes.unit, old.taken) ∷ []));
   }
 
-  -- what was served goes on with no turn
-  abbrev KeepsOn : (old new : SessionState) (store : S) (reader_old reader_new writer_old writer_new : Option (List ℕ)) → Type 0
-  KeepsOn old new store reader_old reader_new writer_old writer_new =
-      (greatest most : ℕ) (first : S) (reader writer : Option (List ℕ)) → HasServed took spent may_give greatest most first store reader reader_old writer writer_old old → HasServed took spent may_give greatest most first store reader reader_new writer writer_new new
+  -- a call that takes none
+  goes_on_none : (session : SessionState) (store : S) (reader writer : Option (List ℕ)) → length session.out < WRITE_AT → IsFalse session.is_open ⊎ NoTurnDue session
+      → GoesOn relations may_give session session store store reader reader writer writer
+  goes_on_none session store reader writer small none greatest calls first reader_first writer_first served = record {
+    read = served.read;
+    written = served.written;
+    taken = served.taken;
+    course = takes_none served.course small none;
+    consumes = served.consumes;
+    appends = served.appends;
+  }
 
   -- a write
-  keeps_on_write : (old new : SessionState) (store : S) (reader writer_old writer_new : Option (List ℕ)) → Writes old new writer_old writer_new → KeepsOn old new store reader reader writer_old writer_new
-  keeps_on_write old new store reader writer_old writer_new writes greatest most first reader_first writer_first served =
-      let same : with_written served.written old ≡ with_written (served.written ++ writes.part) new =
-      ap (λ out. with_out out old) (ap (λ out. served.written ++ out) writes.parts ∙ sym (append_assoc served.written writes.part new.out))
-      ∙ ap (with_out ((served.written ++ writes.part) ++ new.out)) (sym writes.same) in
-      record {
-        read = served.read;
-        written = served.written ++ writes.part;
-        taken = served.taken;
-        consumes = served.consumes;
-        run = subst (λ s. Run took spent may_give (fed (opened greatest) served.read) first served.taken s store) same served.run;
-        few = served.few;
-        appends = Appends-trans writer_first writer_old writer_new served.written writes.part served.appends writes.appends;
-      }
-
-  -- the run of the longer stream
-  longer : (greatest : ℕ) (first store : S) (read written piece : List ℕ) (taken : List (ProtocolUnit × ℕ)) (session : SessionState) → Run took spent may_give (fed (opened greatest) read) first taken (with_written written session) store
-      → Run took spent may_give (fed (opened greatest) (read ++ piece)) first taken (with_written written (fed session piece)) store
-  longer greatest first store read written piece taken session run =
-      let lifted : Run took spent may_give (fed (fed (opened greatest) read) piece) first taken (fed (with_written written session) piece) store = run_more took spent may_give (fed (opened greatest) read) (with_written written session) first store taken piece run in
-      subst (λ s. Run took spent may_give (fed (opened greatest) (read ++ piece)) first taken s store) (fed-with_written session written piece)
-      (subst (λ s. Run took spent may_give s first taken (fed (with_written written session) piece) store) (fed-fed greatest read piece) lifted)
+  keeps_on_write : (old new : SessionState) (store : S) (reader writer_old writer_new : Option (List ℕ)) → Writes old new writer_old writer_new
+      → (greatest calls : ℕ) (first : S) (reader_first writer_first : Option (List ℕ)) → HasServed relations may_give greatest calls first store reader_first reader writer_first writer_old old
+      → HasServed relations may_give greatest calls first store reader_first reader writer_first writer_new new
+  keeps_on_write old new store reader writer_old writer_new writes greatest calls first reader_first writer_first served = record {
+    read = served.read;
+    written = served.written ++ writes.part;
+    taken = served.taken;
+    course = subst (λ s. Course relations may_give greatest first calls served.read (served.written ++ writes.part) served.taken s store) (sym writes.same) (part_goes writes.part new.out served.course writes.parts);
+    consumes = served.consumes;
+    appends = Appends-trans writer_first writer_old writer_new served.written writes.part served.appends writes.appends;
+  }
 
   -- a read
-  keeps_on_read : (old new : SessionState) (store : S) (reader_old reader_new writer : Option (List ℕ)) → Reads old new reader_old reader_new → KeepsOn old new store reader_old reader_new writer writer
-  keeps_on_read old new store reader_old reader_new writer (fed_piece piece consumes is) greatest most first reader_first writer_first served = record {
-    read = served.read ++ piece;
+  keeps_on_read : (old new : SessionState) (store : S) (reader_old reader_new writer : Option (List ℕ)) → IsTrue old.is_open → NoTurnDue old → Reads old new reader_old reader_new
+      → (greatest calls : ℕ) (first : S) (reader_first writer_first : Option (List ℕ)) → HasServed relations may_give greatest calls first store reader_first reader_old writer_first writer old
+      → HasServed relations may_give greatest calls first store reader_first reader_new writer_first writer new
+  keeps_on_read old new store reader_old reader_new writer is_open none (fed_piece bytes consumes is) greatest calls first reader_first writer_first served = record {
+    read = served.read ++ bytes;
     written = served.written;
     taken = served.taken;
+    course = subst (λ s. Course relations may_give greatest first calls (served.read ++ bytes) served.written served.taken s store) (sym is) (piece_comes bytes served.course is_open none);
+    consumes = Consumes-trans reader_first reader_old reader_new served.read bytes served.consumes consumes;
     appends = served.appends;
-    consumes = Consumes-trans reader_first reader_old reader_new served.read piece served.consumes consumes;
-    run = subst (λ s. Run took spent may_give (fed (opened greatest) (served.read ++ piece)) first served.taken (with_written served.written s) store) (sym is) (longer greatest first store served.read served.written piece served.taken old served.run);
-    few = served.few;
   }
-  keeps_on_read old new store reader_old reader_new writer (read_nothing consumes is) greatest most first reader_first writer_first served = record {
+  keeps_on_read old new store reader_old reader_new writer is_open none (read_nothing consumes is) greatest calls first reader_first writer_first served = record {
     read = served.read;
     written = served.written;
     taken = served.taken;
-    appends = served.appends;
+    course = subst (λ s. Course relations may_give greatest first calls served.read served.written served.taken s store) (sym is) served.course;
     consumes = subst (Consumes reader_first reader_new) (append-nil served.read) (Consumes-trans reader_first reader_old reader_new served.read [] served.consumes consumes);
-    run = subst (λ s. Run took spent may_give (fed (opened greatest) served.read) first served.taken (with_written served.written s) store) (sym is) served.run;
-    few = served.few;
-  }
-
-  -- no turn is at most one
-  goes_on_kept : (old new : SessionState) (store : S) (reader_old reader_new writer_old writer_new : Option (List ℕ)) → KeepsOn old new store reader_old reader_new writer_old writer_new → GoesOn took spent may_give old new store store reader_old reader_new writer_old writer_new
-  goes_on_kept old new store reader_old reader_new writer_old writer_new keeps greatest most first reader_first writer_first served =
-      let kept = keeps greatest most first reader_first writer_first served in
-      record {
-        read = kept.read;
-        written = kept.written;
-        taken = kept.taken;
-        consumes = kept.consumes;
-        run = kept.run;
-        few = omega (arith, kept.few);
-        appends = kept.appends;
-      }
-
-  -- a part of a run
-  pub serves : (greatest most : ℕ) (first store : S) (reader_old reader_new writer_old writer_new : Option (List ℕ)) (session : SessionState) → HasServed took spent may_give greatest most first store reader_old reader_new writer_old writer_new session → most ≤ 2 ^ 40
-      → Serves took spent may_give greatest first store reader_old reader_new writer_old writer_new
-  serves greatest most first store reader_old reader_new writer_old writer_new session served within = record {
-    read = served.read;
-    last = with_written served.written session;
-    written = served.written;
-    unwritten = session.out;
-    taken = served.taken;
-    consumes = served.consumes;
-    run = served.run;
-    few = omega (arith, served.few, within);
-    texts = refl;
     appends = served.appends;
   }
 
-  -- a whole run
-  pub serves_all : (greatest most : ℕ) (first store : S) (reader_old reader_new writer_old writer_new : Option (List ℕ)) (session : SessionState) → HasServed took spent may_give greatest most first store reader_old reader_new writer_old writer_new session → HasEnded session reader_new → most ≤ 2 ^ 40
-      → ServesAll took spent may_give greatest first store reader_old reader_new writer_old writer_new
-  serves_all greatest most first store reader_old reader_new writer_old writer_new session served ended within =
-      let all : served.written ≡ served.written ++ session.out = sym (append-nil served.written) ∙ ap (λ out. served.written ++ out) (sym ended.written) in
-      record {
-        read = served.read;
-        last = with_written served.written session;
-        taken = served.taken;
-        consumes = served.consumes;
-        run = served.run;
-        few = omega (arith, served.few, within);
-        appends = subst (Appends writer_old writer_new) all served.appends;
-        ended = ended.ended;
-      }
-
-  -- refused, and perhaps after a step was decided
-  refused : (greatest most : ℕ) (first between after : S) (reader_old reader_new writer_old writer_new : Option (List ℕ)) (session : SessionState) → (served : HasServed took spent may_give greatest most first between reader_old reader_new writer_old writer_new session) → most < 2 ^ 40
-      → (after ≡ between) ⊎ ((now : ℕ) × may_give now × DecidesStep took now (with_written served.written session) between after) → ServesUntilRefused took spent may_give greatest first after reader_old reader_new writer_old writer_new
-  unfolding serves
-  refused greatest most first between after reader_old reader_new writer_old writer_new session served within decided = record {
-    between = between;
-    serves = serves greatest most first between reader_old reader_new writer_old writer_new session served (omega (arith, within));
-    fewer = omega (arith, served.few, within);
-    decided = decided;
-  }
-
-  -- refused while a piece that was read is fed
-  pub refused_piece : (mid : SessionState) (store : S) (reader_old reader_new writer : Option (List ℕ)) (piece : List ℕ) → Consumes reader_old reader_new piece → IsRefused took spent may_give mid store store reader_old reader_new writer writer
-  refused_piece mid store reader_old reader_new writer piece consumes greatest most first reader_first writer_first served within =
-      refused greatest most first store store reader_first reader_new writer_first writer (fed mid piece)
-      (keeps_on_read mid (fed mid piece) store reader_old reader_new writer (fed_piece piece consumes refl) greatest most first reader_first writer_first served) within (inl refl)
-
-  -- refused before the first round
-  pub refused_first : (greatest : ℕ) (store : S) (reader writer : Option (List ℕ)) → ServesUntilRefused took spent may_give greatest store store reader reader writer writer
-  refused_first greatest store reader writer = refused greatest 0 store store store reader reader writer writer (opened greatest) (served_nothing greatest store reader writer) (omega arith) (inl refl)
+  -- a call that takes no turn, and a write
+  pub wrote : {old mid new : SessionState} {before after : S} {writer_old writer_new : Option (List ℕ)} (reader : Option (List ℕ)) → length old.out < WRITE_AT → IsFalse old.is_open ⊎ NoTurnDue old → mid ≡ old → after ≡ before → Writes mid new writer_old writer_new
+      → GoesOn relations may_give old new before after reader reader writer_old writer_new
+  wrote {old = old} {mid = mid} {new = new} {before = before} {after = after} {writer_old = writer_old} {writer_new = writer_new} reader small none same same_store writes =
+      subst (λ store. GoesOn relations may_give old new before store reader reader writer_old writer_new) (sym same_store)
+      (λ greatest calls first reader_first writer_first served. keeps_on_write old new before reader writer_old writer_new (subst (λ s. Writes s new writer_old writer_new) same writes) greatest (calls + 1) first reader_first writer_first
+      (goes_on_none old before reader writer_old small none greatest calls first reader_first writer_first served))
 
   -- a turn and a write
-  pub turned_and_wrote : {now : ℕ} {old mid new : SessionState} {before after : S} {writer_old writer_new : Option (List ℕ)} (reader : Option (List ℕ)) → may_give now → TakesTurn took spent now old mid before after → Writes mid new writer_old writer_new
-      → GoesOn took spent may_give old new before after reader reader writer_old writer_new
-  turned_and_wrote {now = now} {old = old} {mid = mid} {new = new} {before = before} {after = after} {writer_old = writer_old} {writer_new = writer_new} reader gives takes writes greatest most first reader_first writer_first served =
-      keeps_on_write mid new after reader writer_old writer_new writes greatest (most + 1) first reader_first writer_first
-      (goes_on_turn now gives old mid before after reader writer_old takes greatest most first reader_first writer_first served)
+  pub turned_and_wrote : {now : ℕ} {old mid new : SessionState} {before after : S} {writer_old writer_new : Option (List ℕ)} (reader : Option (List ℕ)) → may_give now → length old.out < WRITE_AT → TakesTurn relations now old mid before after → Writes mid new writer_old writer_new
+      → GoesOn relations may_give old new before after reader reader writer_old writer_new
+  turned_and_wrote {now = now} {old = old} {mid = mid} {new = new} {before = before} {after = after} {writer_old = writer_old} {writer_new = writer_new} reader gives small takes writes greatest calls first reader_first writer_first served =
+      keeps_on_write mid new after reader writer_old writer_new writes greatest (calls + 1) first reader_first writer_first
+      (goes_on_turn now gives old mid before after reader writer_old small takes greatest calls first reader_first writer_first served)
 
-  -- a write alone
-  kept_and_wrote : (old mid new : SessionState) (store : S) (reader writer_old writer_new : Option (List ℕ)) → mid ≡ old → Writes mid new writer_old writer_new → KeepsOn old new store reader reader writer_old writer_new
-  kept_and_wrote old mid new store reader writer_old writer_new same writes =
-      keeps_on_write old new store reader writer_old writer_new (subst (λ s. Writes s new writer_old writer_new) same writes)
+  -- a write leaves it open, and no turn due
+  open_still : {old mid new : SessionState} {writer_old writer_new : Option (List ℕ)} → mid ≡ old → Writes mid new writer_old writer_new → IsTrue old.is_open → IsTrue new.is_open
+  open_still {new = new} same writes is_open = subst (λ (s : SessionState). IsTrue s.is_open) (sym (writes.same ∙ ap (with_out new.out) same)) is_open
 
-  pub wrote : {old mid new : SessionState} {before after : S} {writer_old writer_new : Option (List ℕ)} (reader : Option (List ℕ)) → mid ≡ old → after ≡ before → Writes mid new writer_old writer_new
-      → GoesOn took spent may_give old new before after reader reader writer_old writer_new
-  wrote {old = old} {mid = mid} {new = new} {before = before} {after = after} {writer_old = writer_old} {writer_new = writer_new} reader same same_store writes =
-      subst (λ store. GoesOn took spent may_give old new before store reader reader writer_old writer_new) (sym same_store)
-      (goes_on_kept old new before reader reader writer_old writer_new (kept_and_wrote old mid new before reader writer_old writer_new same writes))
+  none_still : {old mid new : SessionState} {writer_old writer_new : Option (List ℕ)} → mid ≡ old → Writes mid new writer_old writer_new → NoTurnDue old → NoTurnDue new
+  none_still {new = new} same writes none = subst NoTurnDue (sym (writes.same ∙ ap (with_out new.out) same)) none
 
-  -- a write and a read
-  pub wrote_and_read : {old mid new last : SessionState} {before after : S} {reader_old reader_new writer_old writer_new : Option (List ℕ)} → mid ≡ old → after ≡ before → Writes mid new writer_old writer_new → Reads new last reader_old reader_new
-      → GoesOn took spent may_give old last before after reader_old reader_new writer_old writer_new
-  wrote_and_read {old = old} {mid = mid} {new = new} {last = last} {before = before} {after = after} {reader_old = reader_old} {reader_new = reader_new} {writer_old = writer_old} {writer_new = writer_new} same same_store writes reads =
-      subst (λ store. GoesOn took spent may_give old last before store reader_old reader_new writer_old writer_new) (sym same_store)
-      (goes_on_kept old last before reader_old reader_new writer_old writer_new
-      (λ greatest most first reader writer served. keeps_on_read new last before reader_old reader_new writer_new reads greatest most first reader writer
-      (kept_and_wrote old mid new before reader_old writer_old writer_new same writes greatest most first reader writer served)))
+  -- a call that takes no turn, a write and a read
+  pub wrote_and_read : {old mid new last : SessionState} {before after : S} {reader_old reader_new writer_old writer_new : Option (List ℕ)} → length old.out < WRITE_AT → NoTurnDue old → IsTrue old.is_open → mid ≡ old → after ≡ before
+      → Writes mid new writer_old writer_new → Reads new last reader_old reader_new → GoesOn relations may_give old last before after reader_old reader_new writer_old writer_new
+  wrote_and_read {old = old} {mid = mid} {new = new} {last = last} {before = before} {after = after} {reader_old = reader_old} {reader_new = reader_new} {writer_old = writer_old} {writer_new = writer_new} small none is_open same same_store writes reads greatest calls first reader writer served =
+      keeps_on_read new last after reader_old reader_new writer_new (open_still same writes is_open) (none_still same writes none) reads greatest (calls + 1) first reader writer
+      (wrote reader_old small (inr none) same same_store writes greatest calls first reader writer served)
 
-  -- a write, and memory ran out while a piece that was read is fed
-  pub wrote_and_refused : {old mid new : SessionState} {before after : S} {reader_old reader_new writer_old writer_new : Option (List ℕ)} → mid ≡ old → after ≡ before → Writes mid new writer_old writer_new → (piece : List ℕ) × Consumes reader_old reader_new piece
-      → IsRefused took spent may_give old before after reader_old reader_new writer_old writer_new
-  wrote_and_refused {old = old} {mid = mid} {new = new} {before = before} {after = after} {reader_old = reader_old} {reader_new = reader_new} {writer_old = writer_old} {writer_new = writer_new} same same_store writes read =
-      subst (λ store. IsRefused took spent may_give old before store reader_old reader_new writer_old writer_new) (sym same_store)
-      (λ greatest most first reader writer served within. refused_piece new before reader_old reader_new writer_new read.0 read.1 greatest most first reader writer
-      (kept_and_wrote old mid new before reader_old writer_old writer_new same writes greatest most first reader writer served) within)
+  -- a part of a run
+  pub serves : (greatest calls : ℕ) (first store : S) (reader_old reader_new writer_old writer_new : Option (List ℕ)) (session : SessionState) → HasServed relations may_give greatest calls first store reader_old reader_new writer_old writer_new session → calls ≤ 2 ^ 40
+      → Serves relations may_give greatest first store reader_old reader_new writer_old writer_new
+  serves greatest calls first store reader_old reader_new writer_old writer_new session served few = record { calls = calls; last = session; served = served; few = few }
+
+  -- a whole run
+  pub serves_all : (greatest calls : ℕ) (first store : S) (reader_old reader_new writer_old writer_new : Option (List ℕ)) (session : SessionState) → HasServed relations may_give greatest calls first store reader_old reader_new writer_old writer_new session → HasEnded session reader_new → calls ≤ 2 ^ 40
+      → ServesAll relations may_give greatest first store reader_old reader_new writer_old writer_new
+  serves_all greatest calls first store reader_old reader_new writer_old writer_new session served ended few = record {
+    serves = record { calls = calls; last = session; served = served; few = few };
+    written = ended.written;
+    ended = ended.ended;
+  }
+
+  -- refused before the first round
+  pub refused_first : (greatest : ℕ) (store : S) (reader writer : Option (List ℕ)) → ServesUntilRefused relations may_give greatest store store reader reader writer writer
+  refused_first greatest store reader writer = record {
+    calls = 0;
+    last = opened greatest;
+    between = store;
+    reader = reader;
+    lost = [];
+    served = served_nothing greatest store reader writer;
+    refused = no_buffer;
+    consumes = Consumes-nil reader;
+  }
+
+  -- a call that takes no turn, a write, and memory ran out while a piece that was read is fed
+  pub wrote_and_refused : {old mid new : SessionState} {before after : S} {reader_old reader_new writer_old writer_new : Option (List ℕ)} → length old.out < WRITE_AT → NoTurnDue old → IsTrue old.is_open → mid ≡ old → after ≡ before
+      → Writes mid new writer_old writer_new → LosesPiece reader_old reader_new → IsRefused relations may_give old before after reader_old reader_new writer_old writer_new
+  wrote_and_refused {old = old} {mid = mid} {new = new} {before = before} {after = after} {reader_old = reader_old} {reader_new = reader_new} {writer_old = writer_old} {writer_new = writer_new} small none is_open same same_store writes loses greatest calls first reader writer served few =
+      record {
+        calls = calls + 1;
+        last = new;
+        between = after;
+        reader = reader_old;
+        lost = loses.piece;
+        served = wrote reader_old small (inr none) same same_store writes greatest calls first reader writer served;
+        refused = no_piece loses.piece (omega (arith, few)) loses.some (open_still same writes is_open) (none_still same writes none);
+        consumes = loses.consumes;
+      }
 
   -- memory ran out in a turn
-  pub turn_refused : {now : ℕ} {old : SessionState} {before after : S} (decided : Bool) (reader writer : Option (List ℕ)) → may_give now → (IsFalse decided → after ≡ before) → (IsTrue decided → DecidesStep took now old before after)
-      → IsRefused took spent may_give old before after reader reader writer writer
-  turn_refused {now = now} {old = old} {before = before} {after = after} true reader writer gives undecided decides greatest most first reader_first writer_first served within =
-      refused greatest most first before after reader_first reader writer_first writer old served within (inr (now, gives, decides_written took spent now old before after served.written (decides refl)))
-  turn_refused {now = now} {old = old} {before = before} {after = after} false reader writer gives undecided decides greatest most first reader_first writer_first served within =
-      refused greatest most first before after reader_first reader writer_first writer old served within (inl (undecided refl))
+  pub turn_refused : {now : ℕ} {old : SessionState} {before after : S} (decided : Bool) (reader writer : Option (List ℕ)) → may_give now → length old.out < WRITE_AT → IsTrue old.is_open × (NoTurnDue old → ⊥)
+      → (IsFalse decided → HoldsSame relations before after) → (IsTrue decided → DecidesStep relations now old before after) → IsRefused relations may_give old before after reader reader writer writer
+  turn_refused {now = now} {old = old} {before = before} {after = after} true reader writer gives small due undecided decides greatest calls first reader_first writer_first served few =
+      record { calls = calls; last = old; between = before; reader = reader; lost = []; served = served; refused = no_text now few small gives (decides refl); consumes = Consumes-nil reader }
+  turn_refused {now = now} {old = old} {before = before} {after = after} false reader writer gives small due undecided decides greatest calls first reader_first writer_first served few =
+      record { calls = calls; last = old; between = before; reader = reader; lost = []; served = served; refused = no_turn few small due.0 due.1 (undecided refl); consumes = Consumes-nil reader }
 
 -- what follows from a fact of an outcome
 pub on_ok : {T E : Type 0} (A B : Type 0) (r : Result T E) → (A → B) → OnOk r A → OnOk r B

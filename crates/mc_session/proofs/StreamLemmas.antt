@@ -1,18 +1,17 @@
 -- The turns of a run are the turns of its stream.
-use Rattle.std.proofs.Common.{◌≡◌, ◌⊎◌, inl, inr, ℕ, zero, suc, ◌+◌, ◌-◌, ◌<◌, ◌≤◌, ◌==◌, Bool, true, false, List, [], ◌∷◌, ◌++◌, length, drop, refl, sym, ap, ◌∙◌, subst, arith, append_assoc, append-nil, if◌then◌else◌, IsTrue, IsFalse}
+use Rattle.std.proofs.Common.{◌≡◌, ◌⊎◌, ◌↔◌, inl, inr, ℕ, zero, suc, ◌+◌, ◌-◌, ◌<◌, ◌≤◌, ◌==◌, Bool, true, false, List, [], ◌∷◌, ◌++◌, length, drop, refl, sym, ap, ◌∙◌, subst, arith, append_assoc, append-nil, if◌then◌else◌, IsTrue, IsFalse}
 use Rattle.std.specs.Bool.{MatchBool}
 use Rattle.std.proofs.Math.Seq.{drop-nil}
 use Rattle.std.proofs.Math.ListN.{drop_of_length-le}
 use Rattle.std.proofs.lemmas.Bool.{cases_lt, eqb-true}
 use Rattle.std.proofs.lemmas.List.{append_cancel_left}
 use Rattle.mc_command.specs.declared.command.Command.TheVariants.{Store, Cas, Get, GetTouch, Touch, Delete, Count, FlushAll, Version, Quit}
-use Rattle.mc_command.specs.declared.step.KeyStep.{KeyStep}
-use Rattle.mc_command.specs.declared.reply.Reply.{Reply}
+use Rattle.mc_command.specs.declared.step.Steps.{Ghosts as Relations}
 use Rattle.mc_parse.specs.Units.{ProtocolUnit, Request, Fault, LongLine}
 use Rattle.mc_parse.specs.Peeks.{BeginsWithNone}
 use Rattle.mc_parse.specs.Streams.{AreUnits, is_last, passed_after}
 use Rattle.mc_parse.specs.Feeds.{Unread, settled}
-use Rattle.mc_session.specs.Turns.{SessionState, TakesTurn, NoTurnDue, turn_count, turns_from, turns, opened, fed, closed}
+use Rattle.mc_session.specs.Turns.{SessionState, TakesTurn, NoTurnDue, HasUnits, turn_count, turns_from, turns, opened, fed, closed}
 use Rattle.mc_session.specs.Serving.{Run, nothing, turn}
 use Rattle.mc_session.proofs.TurnLemmas.{OneSpelling}
 
@@ -30,6 +29,14 @@ settled_once p bytes = passed_once p bytes (cases_lt p (length bytes))
 pub are_along : (greatest p q : ℕ) (bytes rest : List ℕ) (us : List ProtocolUnit) → drop p bytes ≡ drop q rest → AreUnits greatest p bytes us → AreUnits greatest q rest us
 are_along greatest p q bytes rest [] e h = subst (BeginsWithNone greatest) e h
 are_along greatest p q bytes rest (u ∷ us) e h = (h.0, h.1, sym e ∙ h.2, h.3, h.4)
+
+-- dropping those bytes leaves the units
+pub units_settled : (unread : Unread) (units : List ProtocolUnit) → HasUnits (settled unread) units ↔ HasUnits unread units
+units_settled unread units =
+    let same = settled_once unread.passed unread.bytes in (
+      are_along unread.greatest (unread.passed - length unread.bytes) unread.passed (drop unread.passed unread.bytes) unread.bytes units same,
+      are_along unread.greatest unread.passed (unread.passed - length unread.bytes) unread.bytes (drop unread.passed unread.bytes) units (sym same),
+    )
 
 -- of a unit's turns and more, the next and those behind it
 drop_next : (unit : ProtocolUnit) (at n t : ℕ) (more : List (ProtocolUnit × ℕ)) → t < n → drop t (turns_from unit at n ++ more) ≡ (unit, at + t) ∷ drop (suc t) (turns_from unit at n ++ more)
@@ -73,8 +80,8 @@ After all taken s = MatchBool s.is_open (HasLeft all taken s.unread s.taken) (al
 before_all : (greatest : ℕ) (read : List ℕ) (units : List ProtocolUnit) → AreUnits greatest 0 read units → After (turns units) [] (fed (opened greatest) read)
 before_all greatest read units are = record { units = units; are = are_along greatest 0 (0 - length read) read (drop 0 read) units (sym (settled_once 0 read)) are; parts = refl }
 
-module _ {S : Type 0} (took : S → KeyStep → ℕ → Reply → S → Type 0) (spent : S → KeyStep → ℕ → Type 0) (law : OneSpelling) where
-  module _ (now : ℕ) (old new : SessionState) (before after : S) (takes : TakesTurn took spent now old new before after) (all taken : List (ProtocolUnit × ℕ)) where
+module _ {S : Type 0} (relations : Relations S) (law : OneSpelling) where
+  module _ (now : ℕ) (old new : SessionState) (before after : S) (takes : TakesTurn relations now old new before after) (all taken : List (ProtocolUnit × ℕ)) where
     abbrev told : List ℕ
     told = old.out ++ takes.text
 
@@ -146,7 +153,7 @@ module _ {S : Type 0} (took : S → KeyStep → ℕ → Reply → S → Type 0) 
         (subst (λ unit. MatchBool (is_last unit) (us ≡ []) (AreUnits old.unread.greatest (passed_after unit) are.1 us)) same.0 are.4))
 
   -- so does each turn of a run
-  after_run : (may_give : ℕ → Type 0) (first last : SessionState) (before after : S) (all taken : List (ProtocolUnit × ℕ)) → After all [] first → Run took spent may_give first before taken last after → After all taken last
+  after_run : (may_give : ℕ → Type 0) (first last : SessionState) (before after : S) (all taken : List (ProtocolUnit × ℕ)) → After all [] first → Run relations may_give first before taken last after → After all taken last
   after_run may_give first last before after all turns left nothing = left
   after_run may_give first last before after all turns left (turn {mid = mid} {between = between} {taken = taken} now run gives takes) =
       let had : HasLeft all taken mid.unread mid.taken = subst (λ is_open. MatchBool is_open (HasLeft all taken mid.unread mid.taken) (all ≡ taken)) takes.opens (after_run may_give first mid before between all taken left run) in
@@ -167,10 +174,10 @@ all_taken all taken unread at false left ended = left
 all_taken all taken unread at true left (inl closed) = absurd (cc)
 all_taken all taken unread at true left (inr none) = none_left all taken unread at left.units none left.are left.parts
 
-module _ {S : Type 0} (took : S → KeyStep → ℕ → Reply → S → Type 0) (spent : S → KeyStep → ℕ → Type 0) (may_give : ℕ → Type 0) (law : OneSpelling) (greatest : ℕ) (read : List ℕ) (units : List ProtocolUnit) (taken : List (ProtocolUnit × ℕ))
-    (last : SessionState) (before after : S) (are : AreUnits greatest 0 read units) (run : Run took spent may_give (fed (opened greatest) read) before taken last after) where
+module _ {S : Type 0} (relations : Relations S) (may_give : ℕ → Type 0) (law : OneSpelling) (greatest : ℕ) (read : List ℕ) (units : List ProtocolUnit) (taken : List (ProtocolUnit × ℕ))
+    (last : SessionState) (before after : S) (are : AreUnits greatest 0 read units) (run : Run relations may_give (fed (opened greatest) read) before taken last after) where
   left_after : After (turns units) taken last
-  left_after = after_run took spent law may_give (fed (opened greatest) read) last before after (turns units) taken (before_all greatest read units are) run
+  left_after = after_run relations law may_give (fed (opened greatest) read) last before after (turns units) taken (before_all greatest read units are) run
 
   pub run_takes_first : (later : List (ProtocolUnit × ℕ)) × (turns units ≡ taken ++ later)
   run_takes_first = first_taken (turns units) taken last.unread last.taken last.is_open left_after

@@ -2,14 +2,13 @@
 use Rattle.std.proofs.Common.{◌≡◌, ◌<◌, ◌≤◌, ◌+◌, ◌^◌, ◌==◌, ℕ, Bool, true, false, List, ◌++◌, length, take, drop, refl, sym, ap, ◌∙◌, subst, arith, Option, Some, None, if◌then◌else◌, IfSome, IsTrue, ◌↔◌, ⊎_elim, eq-or-lt_of_le}
 use Rattle.std.proofs.lemmas.Bool.{cases_lt, eqb-false}
 use Rattle.std.proofs.lemmas.List.{take-append-drop, drop-append-le, length-append}
-use Rattle.mc_command.specs.declared.step.KeyStep.{KeyStep}
-use Rattle.mc_command.specs.declared.reply.Reply.{Reply}
+use Rattle.mc_command.specs.declared.step.Steps.{Ghosts as Relations}
 use Rattle.mc_parse.specs.Units.{ProtocolUnit, Request, Fault, LongLine, Spells}
 use Rattle.mc_parse.specs.Streams.{is_last, passed_after}
 use Rattle.mc_parse.specs.Peeks.{left_of, IsLeft, BeginsWithNone}
 use Rattle.mc_parse.specs.Feeds.{Unread, read}
-use Rattle.mc_session.specs.declared.next.Next.{Next}
-use Rattle.mc_session.specs.declared.next.Next.TheVariants.{Step, Read, Close}
+use Rattle.mc_session.specs.declared.after_turn.AfterTurn.{AfterTurn}
+use Rattle.mc_session.specs.declared.after_turn.AfterTurn.TheVariants.{Step, Read, Close}
 use Rattle.mc_session.specs.Turns.{SessionState, TakesTurn, DecidesStep, Answers, turn_count, moved, closed, NoTurnDue}
 use Rattle.mc_session.specs.Answers.{next_of, gone_on, MayGoOn, AnswersFound, Tells, DecidesFound, IsWithin, at_start, inside}
 use Rattle.mc_session.proofs.LeftLemmas.{next_left, all_left, answers_left, step_left}
@@ -86,10 +85,10 @@ none_found u taken None peeked none = refl
 none_found u taken (Some found) peeked none =
     absurd (none.none peeked.1.unit (take found.1 u.bytes) (drop found.1 u.bytes) (whole_parts u found.1 peeked.0) peeked.1.spelled.spelled)
 
-module _ {S : Type 0} (took : S → KeyStep → ℕ → Reply → S → Type 0) (spent : S → KeyStep → ℕ → Type 0) (now : ℕ) (law : OneSpelling) (old : SessionState) (before after : S) (found : Option (ProtocolUnit × ℕ))
+module _ {S : Type 0} (relations : Relations S) (now : ℕ) (law : OneSpelling) (old : SessionState) (before after : S) (found : Option (ProtocolUnit × ℕ))
     (peeked : FoundLeft old.unread old.taken found) (within : IsWithin old.unread old.taken) (opens : IsTrue old.is_open) where
-  turn_of : (answered : AnswersFound took spent now found before after) (whole : ProtocolUnit) → IsNext old.unread old.taken answered.unit answered.len whole
-      → TakesTurn took spent now old (moved old whole (drop answered.len old.unread.bytes) answered.text) before after
+  turn_of : (answered : AnswersFound relations now found before after) (whole : ProtocolUnit) → IsNext old.unread old.taken answered.unit answered.len whole
+      → TakesTurn relations now old (moved old whole (drop answered.len old.unread.bytes) answered.text) before after
   turn_of answered whole is = record {
     unit = whole;
     front = take answered.len old.unread.bytes;
@@ -100,10 +99,10 @@ module _ {S : Type 0} (took : S → KeyStep → ℕ → Reply → S → Type 0) 
     spelled = is.spelled;
     due = is.due;
     moves = refl;
-    answers = answers_left took spent now before after answered.text whole old.taken is.due (subst (λ unit. Answers took spent unit 0 now before after answered.text) is.left answered.answers);
+    answers = answers_left relations now before after answered.text whole old.taken is.due (subst (λ unit. Answers relations unit 0 now before after answered.text) is.left answered.answers);
   }
 
-  decides_of : (decides : DecidesFound took now found before after) (whole : ProtocolUnit) → IsNext old.unread old.taken (Request decides.command) decides.len whole → DecidesStep took now old before after
+  decides_of : (decides : DecidesFound relations now found before after) (whole : ProtocolUnit) → IsNext old.unread old.taken (Request decides.command) decides.len whole → DecidesStep relations now old before after
   decides_of decides (Request command) is = record {
     command = command;
     front = take decides.len old.unread.bytes;
@@ -120,25 +119,25 @@ module _ {S : Type 0} (took : S → KeyStep → ℕ → Reply → S → Type 0) 
   decides_of decides LongLine is = let left = is.left in absurd (cc)
 
   -- the step that was decided is the session's next
-  pub decides_next : DecidesFound took now found before after → DecidesStep took now old before after
+  pub decides_next : DecidesFound relations now found before after → DecidesStep relations now old before after
   decides_next decides =
       let whole = next_found law old.unread old.taken found (Request decides.command) decides.len peeked within decides.is_found in
       decides_of decides whole.0 whole.1
 
-  module _ (next : Next) (out : List ℕ) (tells : Tells took spent now found next before after old.out out) where
+  module _ (next : AfterTurn) (out : List ℕ) (tells : Tells relations now found next before after old.out out) where
     -- what comes next, as the whole unit has it
     next_is : (whole : ProtocolUnit) → IsNext old.unread old.taken tells.answered.unit tells.answered.len whole → next ≡ next_of whole old.taken tells.answered.len
     next_is whole is = tells.next_is ∙ ap (λ unit. next_of unit 0 tells.answered.len) is.left ∙ next_left whole old.taken tells.answered.len is.due
 
     -- and it goes on
-    pub takes_told : (new : SessionState) → new ≡ gone_on next (record old { out = out }) → TakesTurn took spent now old new before after
+    pub takes_told : (new : SessionState) → new ≡ gone_on next (record old { out = out }) → TakesTurn relations now old new before after
     takes_told new is =
         let answered = tells.answered in
         let whole = next_found law old.unread old.taken found answered.unit answered.len peeked within answered.is_found in
         let moves : new ≡ moved old whole.0 (drop answered.len old.unread.bytes) answered.text =
         is ∙ ap (λ next. gone_on next (record old { out = out })) (next_is whole.0 whole.1) ∙ ap (λ out. gone_on (next_of whole.0 old.taken answered.len) (record old { out = out })) tells.told
         ∙ gone_on_moved old whole.0 answered.len answered.text (is_last whole.0) (old.taken + 1 == turn_count whole.0) in
-        subst (λ s. TakesTurn took spent now old s before after) (sym moves) (turn_of answered whole.0 whole.1)
+        subst (λ s. TakesTurn relations now old s before after) (sym moves) (turn_of answered whole.0 whole.1)
 
     -- the turns of the unit can be counted
     few_turns : (whole : ProtocolUnit) → IsNext old.unread old.taken tells.answered.unit tells.answered.len whole → turn_count whole < 2 ^ 64
@@ -163,20 +162,20 @@ module _ {S : Type 0} (took : S → KeyStep → ℕ → Reply → S → Type 0) 
         (goes_on (record old { out = out }) whole.0 answered.len (is_last whole.0) (old.taken + 1 == turn_count whole.0) whole.1.within whole.1.none refl
         (λ more. more_due whole.0 whole.1 more))
 
-module _ {S : Type 0} (took : S → KeyStep → ℕ → Reply → S → Type 0) (spent : S → KeyStep → ℕ → Type 0) (now : ℕ) (found : Option (ProtocolUnit × ℕ)) (before after : S) (old new : List ℕ) where
-  abbrev pub TellsSome : Option Next → Type 0
-  TellsSome told = IfSome told (λ next. Tells took spent now found next before after old new)
+module _ {S : Type 0} (relations : Relations S) (now : ℕ) (found : Option (ProtocolUnit × ℕ)) (before after : S) (old new : List ℕ) where
+  abbrev pub TellsSome : Option AfterTurn → Type 0
+  TellsSome told = IfSome told (λ next. Tells relations now found next before after old new)
 
   -- the output grew
-  pub told_grows : (told : Option Next) (next : Next) → told ≡ Some next → TellsSome told → length old ≤ length new
+  pub told_grows : (told : Option AfterTurn) (next : AfterTurn) → told ≡ Some next → TellsSome told → length old ≤ length new
   told_grows told next is some =
-      let tells : Tells took spent now found next before after old new = subst TellsSome is some in
+      let tells : Tells relations now found next before after old new = subst TellsSome is some in
       omega (arith, ap length tells.told, length-append old tells.answered.text)
 
   -- the same of the output without what was sent
-  pub tells_unsent : (told : Option Next) (next : Next) (sent : ℕ) → told ≡ Some next → TellsSome told → sent ≤ length old → Tells took spent now found next before after (drop sent old) (drop sent new)
+  pub tells_unsent : (told : Option AfterTurn) (next : AfterTurn) (sent : ℕ) → told ≡ Some next → TellsSome told → sent ≤ length old → Tells relations now found next before after (drop sent old) (drop sent new)
   tells_unsent told next sent is some within =
-      let tells : Tells took spent now found next before after old new = subst TellsSome is some in
+      let tells : Tells relations now found next before after old new = subst TellsSome is some in
       record {
         answered = tells.answered;
         next_is = tells.next_is;

@@ -3,52 +3,53 @@ use Rattle.std.specs.Prelude.{◌≡◌, ℕ, ◌+◌, ◌^◌, ◌<◌, ◌≤�
 use Rattle.mc_command.specs.Commands.{steps}
 use Rattle.mc_command.specs.declared.command.Command.{Command}
 use Rattle.mc_command.specs.declared.step.KeyStep.{KeyStep}
+use Rattle.mc_command.specs.declared.step.Steps.{Ghosts as Relations}
 use Rattle.mc_command.specs.declared.reply.Reply.{Reply}
 use Rattle.mc_parse.specs.Units.{ProtocolUnit, Request, Spells}
 use Rattle.mc_parse.specs.Streams.{is_last, passed_after}
 use Rattle.mc_parse.specs.Feeds.{Unread, read}
-use Rattle.mc_session.specs.declared.next.Next.{Next}
-use Rattle.mc_session.specs.declared.next.Next.TheVariants.{Step, Read, Close}
-use Rattle.mc_session.specs.Turns.{SessionState, Answers, turn_count, closed}
+use Rattle.mc_session.specs.declared.after_turn.AfterTurn.{AfterTurn}
+use Rattle.mc_session.specs.declared.after_turn.AfterTurn.TheVariants.{Step, Read, Close}
+use Rattle.mc_session.specs.Turns.{SessionState, Answers, turn_count, closed, to_read}
 
 -- what comes after turn `at` of a unit of so many bytes
-abbrev pub next_of : ProtocolUnit → (at len : ℕ) → Next
+abbrev pub next_of : ProtocolUnit → (at len : ℕ) → AfterTurn
 next_of unit at len =
     if is_last unit then Close
     else if at + 1 == turn_count unit then Read len (passed_after unit)
     else Step
 
 -- the session goes on with what comes next
-abbrev pub gone_on : Next → SessionState → SessionState
+abbrev pub gone_on : AfterTurn → SessionState → SessionState
 gone_on Step s = record s { taken = s.taken + 1 }
 gone_on (Read len passed) s = record s { unread = read s.unread len passed; taken = 0 }
 gone_on Close s = closed s
 
 -- the first turn of the unit that was found takes the store from before to after
-pub record AnswersFound {S : Type 0} (took : S → KeyStep → ℕ → Reply → S → Type 0) (spent : S → KeyStep → ℕ → Type 0) (now : ℕ) (found : Option (ProtocolUnit × ℕ)) (before after : S) : Type 0 where
+pub record AnswersFound {S : Type 0} (relations : Relations S) (now : ℕ) (found : Option (ProtocolUnit × ℕ)) (before after : S) : Type 0 where
   pub unit : ProtocolUnit
   pub len : ℕ
   pub text : List ℕ
   pub is_found : found ≡ Some (unit, len)
-  pub answers : Answers took spent unit 0 now before after text
+  pub answers : Answers relations unit 0 now before after text
 
 -- the first step of a command takes the store from before to after
-pub record TakesFirst {S : Type 0} (took : S → KeyStep → ℕ → Reply → S → Type 0) (now : ℕ) (command : Command) (before after : S) : Type 0 where
+pub record TakesFirst {S : Type 0} (relations : Relations S) (now : ℕ) (command : Command) (before after : S) : Type 0 where
   pub step : KeyStep
   pub reply : Reply
   pub is_step : slice_get (steps command) 0 ≡ Some step
-  pub took_it : took before step now reply after
+  pub took_it : relations.took before step now reply after
 
 -- what was found is a command, and its first step does
-pub record DecidesFound {S : Type 0} (took : S → KeyStep → ℕ → Reply → S → Type 0) (now : ℕ) (found : Option (ProtocolUnit × ℕ)) (before after : S) : Type 0 where
+pub record DecidesFound {S : Type 0} (relations : Relations S) (now : ℕ) (found : Option (ProtocolUnit × ℕ)) (before after : S) : Type 0 where
   pub command : Command
   pub len : ℕ
   pub is_found : found ≡ Some (Request command, len)
-  pub takes : TakesFirst took now command before after
+  pub takes : TakesFirst relations now command before after
 
 -- the turn is answered, its text is told, and what comes next
-pub record Tells {S : Type 0} (took : S → KeyStep → ℕ → Reply → S → Type 0) (spent : S → KeyStep → ℕ → Type 0) (now : ℕ) (found : Option (ProtocolUnit × ℕ)) (next : Next) (before after : S) (old new : List ℕ) : Type 0 where
-  pub answered : AnswersFound took spent now found before after
+pub record Tells {S : Type 0} (relations : Relations S) (now : ℕ) (found : Option (ProtocolUnit × ℕ)) (next : AfterTurn) (before after : S) (old new : List ℕ) : Type 0 where
+  pub answered : AnswersFound relations now found before after
   pub next_is : next ≡ next_of answered.unit 0 answered.len
   pub few : turn_count answered.unit < 2 ^ 64
   pub told : new ≡ old ++ answered.text
@@ -56,10 +57,10 @@ pub record Tells {S : Type 0} (took : S → KeyStep → ℕ → Reply → S → 
 -- so many turns of the first unit were taken, and more are due; how many they are can be counted
 pub data IsWithin : Unread → ℕ → Type 0 where
   at_start : {unread : Unread} → IsWithin unread 0
-  inside : {unread : Unread} {taken : ℕ} (unit : ProtocolUnit) (front rest : List ℕ) → drop unread.passed unread.bytes ≡ front ++ rest → Spells unread.greatest unit front → taken < turn_count unit → turn_count unit < 2 ^ 64 → IsWithin unread taken
+  inside : {unread : Unread} {taken : ℕ} (unit : ProtocolUnit) (front rest : List ℕ) → to_read unread ≡ front ++ rest → Spells unread.greatest unit front → taken < turn_count unit → turn_count unit < 2 ^ 64 → IsWithin unread taken
 
 -- the session may go on so: there are that many bytes and none is to be passed over, or more turns of its first unit are due
-abbrev pub MayGoOn : Next → SessionState → Type 0
+abbrev pub MayGoOn : AfterTurn → SessionState → Type 0
 MayGoOn Step s = IsWithin s.unread (s.taken + 1)
 MayGoOn (Read len passed) s = (len ≤ length s.unread.bytes) × (s.unread.passed ≡ 0)
 MayGoOn Close s = Unit {0}

@@ -1,12 +1,13 @@
 -- The turns of a session.
-use Rattle.std.specs.Prelude.{◌≡◌, ◌⊎◌, ℕ, zero, suc, ◌+◌, ◌<◌, ◌==◌, Bool, true, false, List, [], ◌∷◌, ◌++◌, length, drop, max, if◌then◌else◌, Some, IsTrue, slice_get, MatchOption}
+use Rattle.std.specs.Prelude.{◌≡◌, ◌⊎◌, ℕ, zero, suc, ◌+◌, ◌<◌, ◌==◌, Bool, true, false, List, [], ◌∷◌, ◌++◌, length, drop, max, if◌then◌else◌, Some, IsTrue, IsFalse, slice_get, MatchOption}
 use Rattle.mc_command.specs.Commands.{steps}
 use Rattle.mc_command.specs.declared.command.Command.{Command}
 use Rattle.mc_command.specs.declared.step.KeyStep.{KeyStep}
+use Rattle.mc_command.specs.declared.step.Steps.{Ghosts as Relations}
 use Rattle.mc_command.specs.declared.reply.Reply.{Reply}
 use Rattle.mc_parse.specs.Units.{ProtocolUnit, Request, Fault, LongLine, Spells}
 use Rattle.mc_parse.specs.Peeks.{BeginsWithNone}
-use Rattle.mc_parse.specs.Streams.{is_last, passed_after}
+use Rattle.mc_parse.specs.Streams.{AreUnits, is_last, passed_after}
 use Rattle.mc_parse.specs.Feeds.{Unread, pushed, settled}
 use Rattle.mc_reply.specs.Texts.{reply_text, plain_text, fault_text, long_text, spent_text}
 
@@ -17,6 +18,14 @@ pub record SessionState : Type 0 where
   pub taken : ℕ
   pub out : List ℕ
   pub is_open : Bool
+
+-- what is to be read: the unread bytes without those that are to be passed over
+abbrev pub to_read : Unread → List ℕ
+to_read unread = drop unread.passed unread.bytes
+
+-- these are its units
+abbrev pub HasUnits : Unread → List ProtocolUnit → Type 0
+HasUnits unread units = AreUnits unread.greatest unread.passed unread.bytes units
 
 -- how many turns a unit has: one for each step of a command, and at least one
 abbrev pub turn_count : ProtocolUnit → ℕ
@@ -34,12 +43,12 @@ abbrev pub turns : List ProtocolUnit → List (ProtocolUnit × ℕ)
 turns [] = []
 turns (unit ∷ units) = turns_from unit 0 (turn_count unit) ++ turns units
 
-module _ {S : Type 0} (took : S → KeyStep → ℕ → Reply → S → Type 0) (spent : S → KeyStep → ℕ → Type 0) where
+module _ {S : Type 0} (relations : Relations S) where
   -- a step is answered with the text of its reply, or its unique numbers are spent
   abbrev pub AnswersStep : Command → ℕ → KeyStep → ℕ → S → S → List ℕ → Type 0
   AnswersStep command at step now before after text =
-      ((reply : Reply) × took before step now reply after × (text ≡ reply_text command at reply))
-      ⊎ (spent before step now × (after ≡ before) × (text ≡ spent_text command))
+      ((reply : Reply) × relations.took before step now reply after × (text ≡ reply_text command at reply))
+      ⊎ (relations.spent before step now × relations.same before after × (text ≡ spent_text command))
 
   -- turn `at` of a unit at a moment takes the store from before to after, and has this text
   abbrev pub Answers : ProtocolUnit → ℕ → ℕ → S → S → List ℕ → Type 0
@@ -77,33 +86,49 @@ moved s unit rest text =
     record s { unread = settled (record { greatest = s.unread.greatest; passed = passed_after unit; bytes = rest }); taken = 0; out = s.out ++ text }
     else record s { taken = s.taken + 1; out = s.out ++ text }
 
+-- the store holds what it held: no step was asked of it, or one that was not taken
+abbrev pub HoldsSame : {S : Type 0} (relations : Relations S) → (before after : S) → Type 0
+HoldsSame relations before after = (after ≡ before) ⊎ relations.same before after
+
 -- the next turn of an open session's stream was taken at a moment, with a store
-pub record TakesTurn {S : Type 0} (took : S → KeyStep → ℕ → Reply → S → Type 0) (spent : S → KeyStep → ℕ → Type 0) (now : ℕ) (old new : SessionState) (before after : S) : Type 0 where
+pub record TakesTurn {S : Type 0} (relations : Relations S) (now : ℕ) (old new : SessionState) (before after : S) : Type 0 where
   pub unit : ProtocolUnit
   pub front : List ℕ
   pub rest : List ℕ
   pub text : List ℕ
   pub opens : IsTrue old.is_open
-  pub parts : drop old.unread.passed old.unread.bytes ≡ front ++ rest
+  pub parts : to_read old.unread ≡ front ++ rest
   pub spelled : Spells old.unread.greatest unit front
   pub due : old.taken < turn_count unit
-  pub answers : Answers took spent unit old.taken now before after text
+  pub answers : Answers relations unit old.taken now before after text
   pub moves : new ≡ moved old unit rest text
 
 -- The next turn of the session's stream is a command's, and its step was taken at a moment, with a store; the text of the
 -- reply was not told.
-pub record DecidesStep {S : Type 0} (took : S → KeyStep → ℕ → Reply → S → Type 0) (now : ℕ) (old : SessionState) (before after : S) : Type 0 where
+pub record DecidesStep {S : Type 0} (relations : Relations S) (now : ℕ) (old : SessionState) (before after : S) : Type 0 where
   pub command : Command
   pub front : List ℕ
   pub rest : List ℕ
   pub step : KeyStep
   pub reply : Reply
   pub opens : IsTrue old.is_open
-  pub parts : drop old.unread.passed old.unread.bytes ≡ front ++ rest
+  pub parts : to_read old.unread ≡ front ++ rest
   pub spelled : Spells old.unread.greatest (Request command) front
   pub is_step : slice_get (steps command) old.taken ≡ Some step
-  pub took_it : took before step now reply after
+  pub took_it : relations.took before step now reply after
 
--- no turn is due: no front of what is unread spells anything
+-- no turn is due: no front of what is to be read spells anything
 abbrev pub NoTurnDue : SessionState → Type 0
-NoTurnDue s = BeginsWithNone s.unread.greatest (drop s.unread.passed s.unread.bytes)
+NoTurnDue s = BeginsWithNone s.unread.greatest (to_read s.unread)
+
+-- a turn is due
+abbrev pub TurnIsDue : SessionState → Type 0
+TurnIsDue s = IsTrue s.is_open × (NoTurnDue s → ⊥)
+
+-- the session is open with no turn due, and nothing was done
+abbrev pub FindsNoTurn : {S : Type 0} → (old new : SessionState) → (before after : S) → Type 0
+FindsNoTurn old new before after = NoTurnDue old × IsTrue old.is_open × (new ≡ old) × (after ≡ before)
+
+-- the session is closed, and nothing was done
+abbrev pub FindsClosed : {S : Type 0} → (old new : SessionState) → (before after : S) → Type 0
+FindsClosed old new before after = IsFalse old.is_open × (new ≡ old) × (after ≡ before)

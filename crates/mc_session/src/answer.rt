@@ -5,10 +5,10 @@ ghost use Rattle.mc_parse.specs.Units.{Request, Fault, LongLine};
 ghost use Rattle.mc_parse.specs.Peeks.{unit_of};
 ghost use Rattle.mc_session.specs.Answers.{next_of, Tells, TakesFirst, DecidesFound};
 ghost use Rattle.mc_parse.specs.Streams.{is_quit};
-ghost use Rattle.mc_session.specs.Turns.{Answers, turn_count};
+ghost use Rattle.mc_session.specs.Turns.{Answers, HoldsSame, turn_count};
 ghost use Rattle.mc_reply.specs.Texts.{fault_text, long_text};
 
-use crate::next::Next;
+use crate::after_turn::AfterTurn;
 use crate::session::TurnFault;
 use mc_command::{Command, LineFault, StepFault, Steps, step_at, steps_of};
 use mc_parse::Peek;
@@ -16,22 +16,22 @@ use mc_reply::{write, write_fault, write_plain, write_spent, write_too_long};
 use mc_time::Moment;
 use std::alloc::Global;
 
-/// Takes the first turn of what was found, and appends its text. Where nothing was found it does nothing. Refused, the
-/// output is as it was, and the fault tells whether the step stands in the store.
+/// Takes the first turn of what was found, and appends its text. Does nothing where nothing was found. Refused, the output is
+/// as it was, and the fault tells whether the step stands in the store.
 pub fn answer<S: Steps>(
     alloc: Global,
     found: Peek<'_>,
     store: &mut S,
     now: Moment,
     out: &mut Vec<u8>,
-) -> Result<Option<Next>, TurnFault>
+) -> Result<Option<AfterTurn>, TurnFault>
     requires { (command : Command) (len : ℕ) → unit_of found ≡ Some (Request command, len) → HasShortKeys command }
     ensures none { result ≡ Ok None → (unit_of found.entry ≡ None) × (out.new.items ≡ out.old.items) × (store.new ≡ store.old) }
-    ensures some { IfOk result (λ told. IfSome told (λ next. Tells S.took S.spent now (unit_of found.entry) next store.old store.new out.old.items out.new.items)) }
+    ensures some { IfOk result (λ told. IfSome told (λ next. Tells S.Steps now (unit_of found.entry) next store.old store.new out.old.items out.new.items)) }
     ensures err { OnErr result (out.new.items ≡ out.old.items) }
-    ensures undecided { IfErr result (λ fault. IsFalse fault.decided → store.new ≡ store.old) }
+    ensures undecided { IfErr result (λ fault. IsFalse fault.decided → HoldsSame S.Steps store.old store.new) }
     ensures due { OnErr result (unit_of found.entry ≡ None → ⊥) }
-    ensures decided { IfErr result (λ fault. IsTrue fault.decided → DecidesFound S.took now (unit_of found.entry) store.old store.new) }
+    ensures decided { IfErr result (λ fault. IsTrue fault.decided → DecidesFound S.Steps now (unit_of found.entry) store.old store.new) }
 {
     match found {
         Peek::More => Ok(None),
@@ -43,18 +43,18 @@ pub fn answer<S: Steps>(
     }
 }
 
-/// Tells that a line is too long.
-fn answer_too_long(out: &mut Vec<u8>) -> Result<Next, TurnFault>
+/// Appends the text of a line that is too long.
+fn answer_too_long(out: &mut Vec<u8>) -> Result<AfterTurn, TurnFault>
     ensures ok { IfOk result (λ next. (next ≡ next_of LongLine 0 65537) × (out.new.items ≡ out.old.items ++ long_text)) }
     ensures err { OnErr result (out.new.items ≡ out.old.items) }
     ensures undecided { IfErr result (λ fault. IsFalse fault.decided) }
 {
     write_too_long(out)?;
-    Ok(Next::Close)
+    Ok(AfterTurn::Close)
 }
 
-/// Tells a line's fault.
-fn answer_fault(fault: LineFault, len: usize, out: &mut Vec<u8>) -> Result<Next, TurnFault>
+/// Appends the text of a line's fault.
+fn answer_fault(fault: LineFault, len: usize, out: &mut Vec<u8>) -> Result<AfterTurn, TurnFault>
     ensures ok { IfOk result (λ next. (next ≡ next_of (Fault fault) 0 len) × (out.new.items ≡ out.old.items ++ fault_text fault)) }
     ensures err { OnErr result (out.new.items ≡ out.old.items) }
     ensures undecided { IfErr result (λ fault. IsFalse fault.decided) }
@@ -64,7 +64,7 @@ fn answer_fault(fault: LineFault, len: usize, out: &mut Vec<u8>) -> Result<Next,
         LineFault::TooLarge { passed } => passed,
         LineFault::Unknown | LineFault::BadFormat | LineFault::BadDelta | LineFault::BadChunk => 0,
     };
-    Ok(Next::Read { len, passed })
+    Ok(AfterTurn::Read { len, passed })
 }
 
 /// Takes the first turn of a command that is spelled by `len` bytes, and appends its text.
@@ -75,12 +75,12 @@ fn answer_command<S: Steps>(
     store: &mut S,
     now: Moment,
     out: &mut Vec<u8>,
-) -> Result<Next, TurnFault>
+) -> Result<AfterTurn, TurnFault>
     requires { HasShortKeys command.now }
-    ensures ok { IfOk result (λ next. Tells S.took S.spent now (Some (Request command.now, len)) next store.old store.new out.old.items out.new.items) }
+    ensures ok { IfOk result (λ next. Tells S.Steps now (Some (Request command.now, len)) next store.old store.new out.old.items out.new.items) }
     ensures err { OnErr result (out.new.items ≡ out.old.items) }
-    ensures undecided { IfErr result (λ fault. IsFalse fault.decided → store.new ≡ store.old) }
-    ensures decided { IfErr result (λ fault. IsTrue fault.decided → TakesFirst S.took now command.now store.old store.new) }
+    ensures undecided { IfErr result (λ fault. IsFalse fault.decided → HoldsSame S.Steps store.old store.new) }
+    ensures decided { IfErr result (λ fault. IsTrue fault.decided → TakesFirst S.Steps now command.now store.old store.new) }
 {
     if steps_of(command) == 0 {
         write_plain(command, out)?;
@@ -90,21 +90,22 @@ fn answer_command<S: Steps>(
     Ok(next_after(command, len))
 }
 
-/// What comes after the first turn of a command that is spelled by `len` bytes.
-fn next_after(command: &Command<'_>, len: usize) -> Next
+/// Returns what comes after the first turn of a command that is spelled by `len` bytes.
+fn next_after(command: &Command<'_>, len: usize) -> AfterTurn
     ensures next { result ≡ next_of (Request command.now) 0 len }
     ensures few { turn_count (Request command.now) < 2 ^ 64 }
 {
     let steps = steps_of(command);
     if is_quit(command) {
-        Next::Close
+        AfterTurn::Close
     } else if steps <= 1 {
-        Next::Read { len, passed: 0 }
+        AfterTurn::Read { len, passed: 0 }
     } else {
-        Next::Step
+        AfterTurn::Step
     }
 }
 
+/// Says whether a command ends its stream.
 fn is_quit(command: &Command<'_>) -> bool
     ensures { result ≡ is_quit command.now }
 {
@@ -133,10 +134,10 @@ fn answer_step<S: Steps>(
     requires steps { 0 < length (steps command.now) }
     requires keys { HasShortKeys command.now }
     ensures ok { OnOk result ((text : List ℕ) × (out.new.items ≡ out.old.items ++ text)
-        × Answers S.took S.spent (Request command.now) 0 now store.old store.new text) }
+        × Answers S.Steps (Request command.now) 0 now store.old store.new text) }
     ensures err { OnErr result (out.new.items ≡ out.old.items) }
-    ensures undecided { IfErr result (λ fault. IsFalse fault.decided → store.new ≡ store.old) }
-    ensures decided { IfErr result (λ fault. IsTrue fault.decided → TakesFirst S.took now command.now store.old store.new) }
+    ensures undecided { IfErr result (λ fault. IsFalse fault.decided → HoldsSame S.Steps store.old store.new) }
+    ensures decided { IfErr result (λ fault. IsTrue fault.decided → TakesFirst S.Steps now command.now store.old store.new) }
 {
     let step = step_at(command, 0);
     match store.step(alloc, &step, now) {

@@ -1,15 +1,18 @@
 //! Sessions: the turns of one connection, and a whole run of one over a reader and a writer.
 #![tactic(auto)]
 
+mod after_turn;
 mod answer;
 mod laws;
-mod next;
 mod output;
 mod serving;
 mod session;
 
-pub use laws::a_run_takes_the_turns_of_its_stream;
-pub use serving::{ServeFault, serve};
+pub use laws::{
+    a_run_takes_the_turns_of_its_stream, passing_over_early_does_not_matter,
+    the_pieces_of_a_stream_do_not_matter,
+};
+pub use serving::{ServeFault, WRITE_AT, serve};
 pub use session::{Session, Turn, TurnFault};
 
 #[cfg(test)]

@@ -2,7 +2,7 @@ ghost use Rattle.std.specs.Prelude.{◌≡◌, ◌-◌, ◌≤◌, [], drop, len
 
 use std::alloc::Global;
 
-/// The greatest output that is kept while it is empty.
+/// The greatest memory that is kept while the output is empty, in bytes.
 const KEPT: usize = 131072;
 
 /// Drops the front of an output, where what is left is no longer than the front.

@@ -1,7 +1,7 @@
-ghost use Rattle.std.specs.Prelude.{◌≡◌, ◌<◌, ℕ, List, [], false, true, Ok, OnOk, OnErr, IfOk, IfErr, IsTrue, length};
-ghost use Rattle.std.specs.Io.KnownBytes.{Consumes, IsAtEnd};
+ghost use Rattle.std.specs.Prelude.{◌≡◌, ◌<◌, [], false, true, Ok, OnOk, OnErr, IfOk, IfErr, IsTrue, IsFalse, length};
+ghost use Rattle.std.specs.Io.KnownBytes.{IsAtEnd};
 ghost use Rattle.mc_session.specs.Serving.{Serves, ServesAll, ServesUntilRefused};
-ghost use Rattle.mc_session.specs.Rounds.{Writes, Reads, HasEnded, GoesOn, IsRefused};
+ghost use Rattle.mc_session.specs.Rounds.{Writes, Reads, LosesPiece, HasEnded, GoesOn, IsRefused};
 
 use crate::session::{Session, Turn};
 use mc_command::Steps;
@@ -13,7 +13,7 @@ use thiserror::Error;
 /// Why a run ended early.
 #[derive(Debug, Drop, Error)]
 pub enum ServeFault {
-    /// The reader failed, or 2^40 turns were made.
+    /// The reader failed, or 2^40 calls of `Session::turn` were made.
     #[error("reading failed")]
     Read,
     /// The writer failed.
@@ -24,17 +24,21 @@ pub enum ServeFault {
     NoMemory,
 }
 
-/// The most calls of `turn` in a run.
-const TURNS: u64 = 1 << 40;
+/// The most calls of `Session::turn` in a run, with those that find no turn due.
+const CALLS: u64 = 1 << 40;
 
-/// How many bytes are read at once at most.
+/// The most bytes that are read at once.
 const PIECE: usize = 16384;
 
-/// So much output is written though more turns are due.
-const FULL: usize = 65536;
+/// Write once this much output is waiting, in bytes, even while turns are due.
+pub const WRITE_AT: usize = 65536;
 
 /// Serves one session: reads pieces, takes turns at the clock's moments and writes their texts, until the input ends or
-/// the session closes. The output is written when no turn is due, at the end, and when it holds 64 KiB or more.
+/// the session closes. The output is written when no turn is due, at the end, and once `WRITE_AT` bytes of it wait.
+///
+/// It fails with `Read` where the reader fails and after 2^40 calls of `Session::turn`, with `Write` where the writer fails
+/// or takes nothing, and with `NoMemory` where memory is refused for the buffer, for a piece or for a turn. A failure leaves
+/// a beginning of the run: what was read is answered by what was written and by output that is dropped.
 pub fn serve<R: Read, W: Write, S: Steps, C: Clock>(
     alloc: Global,
     reader: &mut R,
@@ -43,15 +47,14 @@ pub fn serve<R: Read, W: Write, S: Steps, C: Clock>(
     store: &mut S,
     clock: &C,
 ) -> Result<(), ServeFault>
-    ensures ok { OnOk result (ServesAll S.took S.spent (C.may_give clock.now) greatest store.old store.new
+    ensures ok { OnOk result (ServesAll S.Steps (C.may_give clock.now) greatest store.old store.new
         (R.remaining reader.old) (R.remaining reader.new) (W.contents writer.old) (W.contents writer.new)) }
 
-    // There are at most 2^40 turns, and a failure leaves a beginning of the run.
-    ensures read { result ≡ Err ServeFault.Read → Serves S.took S.spent (C.may_give clock.now) greatest store.old store.new
+    ensures read { result ≡ Err ServeFault.Read → Serves S.Steps (C.may_give clock.now) greatest store.old store.new
         (R.remaining reader.old) (R.remaining reader.new) (W.contents writer.old) (W.contents writer.new) }
-    ensures write { result ≡ Err ServeFault.Write → Serves S.took S.spent (C.may_give clock.now) greatest store.old store.new
+    ensures write { result ≡ Err ServeFault.Write → Serves S.Steps (C.may_give clock.now) greatest store.old store.new
         (R.remaining reader.old) (R.remaining reader.new) (W.contents writer.old) (W.contents writer.new) }
-    ensures memory { result ≡ Err ServeFault.NoMemory → ServesUntilRefused S.took S.spent (C.may_give clock.now) greatest store.old store.new
+    ensures memory { result ≡ Err ServeFault.NoMemory → ServesUntilRefused S.Steps (C.may_give clock.now) greatest store.old store.new
         (R.remaining reader.old) (R.remaining reader.new) (W.contents writer.old) (W.contents writer.new) }
 {
     let mut session = Session::new(alloc, greatest);
@@ -59,7 +62,7 @@ pub fn serve<R: Read, W: Write, S: Steps, C: Clock>(
         return Err(ServeFault::NoMemory);
     };
     let piece = buffer.as_mut_slice();
-    for _turn in 0..TURNS {
+    for _call in 0..CALLS {
         match round(alloc, reader, writer, &mut session, store, clock, piece) {
             Ok(true) => return Ok(()),
             Ok(false) => {}
@@ -69,7 +72,7 @@ pub fn serve<R: Read, W: Write, S: Steps, C: Clock>(
     Err(ServeFault::Read)
 }
 
-/// Takes one turn, with the writes and the read that it asks for. Answers whether the run is at its end.
+/// Takes one turn, with the writes and the read that it asks for. Returns whether the run is at its end.
 fn round<R: Read, W: Write, S: Steps, C: Clock>(
     alloc: Global,
     reader: &mut R,
@@ -79,20 +82,22 @@ fn round<R: Read, W: Write, S: Steps, C: Clock>(
     clock: &C,
     piece: &mut [u8],
 ) -> Result<bool, ServeFault>
-    requires { 0 < length piece.old }
-    ensures ok { OnOk result (GoesOn S.took S.spent (C.may_give clock.now) session.old session.new store.old store.new
+    requires room { 0 < length piece.old }
+    requires small { length session.old.out < WRITE_AT }
+    ensures ok { OnOk result (GoesOn S.Steps (C.may_give clock.now) session.old session.new store.old store.new
         (R.remaining reader.old) (R.remaining reader.new) (W.contents writer.old) (W.contents writer.new)) }
+    ensures small { OnOk result (length session.new.out < WRITE_AT) }
     ensures end { result ≡ Ok true → HasEnded session.new (R.remaining reader.new) }
-    ensures read { result ≡ Err ServeFault.Read → GoesOn S.took S.spent (C.may_give clock.now) session.old session.new store.old store.new
+    ensures read { result ≡ Err ServeFault.Read → GoesOn S.Steps (C.may_give clock.now) session.old session.new store.old store.new
         (R.remaining reader.old) (R.remaining reader.new) (W.contents writer.old) (W.contents writer.new) }
-    ensures write { result ≡ Err ServeFault.Write → GoesOn S.took S.spent (C.may_give clock.now) session.old session.new store.old store.new
+    ensures write { result ≡ Err ServeFault.Write → GoesOn S.Steps (C.may_give clock.now) session.old session.new store.old store.new
         (R.remaining reader.old) (R.remaining reader.new) (W.contents writer.old) (W.contents writer.new) }
-    ensures memory { result ≡ Err ServeFault.NoMemory → IsRefused S.took S.spent (C.may_give clock.now) session.old store.old store.new
+    ensures memory { result ≡ Err ServeFault.NoMemory → IsRefused S.Steps (C.may_give clock.now) session.old store.old store.new
         (R.remaining reader.old) (R.remaining reader.new) (W.contents writer.old) (W.contents writer.new) }
 {
     match session.turn(alloc, store, clock.now()) {
         Ok(Turn::Did) => {
-            if session.out().len() >= FULL {
+            if is_full(session) {
                 write_out(writer, session)?;
             }
             Ok(false)
@@ -107,6 +112,13 @@ fn round<R: Read, W: Write, S: Steps, C: Clock>(
         }
         Err(_) => Err(ServeFault::NoMemory),
     }
+}
+
+/// Says whether so much output is waiting that it is written before the next turn.
+fn is_full(session: &Session) -> bool
+    ensures { IsFalse result → length session.now.out < WRITE_AT }
+{
+    session.out().len() >= WRITE_AT
 }
 
 /// Writes the output. At a failure what was not written is left.
@@ -132,7 +144,7 @@ fn write_out<W: Write>(writer: &mut W, session: &mut Session) -> Result<(), Serv
     Err(ServeFault::Write)
 }
 
-/// Reads the next piece and feeds it to the session. Answers whether the input is at its end. A read that was
+/// Reads the next piece and feeds it to the session. Returns whether the input is at its end. A read that was
 /// interrupted gives nothing.
 fn read_piece<R: Read>(
     reader: &mut R,
@@ -141,9 +153,10 @@ fn read_piece<R: Read>(
 ) -> Result<bool, ServeFault>
     requires { 0 < length piece.old }
     ensures ok { OnOk result (Reads session.old session.new (R.remaining reader.old) (R.remaining reader.new)) }
+    ensures out { OnOk result (session.new.out ≡ session.old.out) }
     ensures end { result ≡ Ok true → (session.new ≡ session.old) × IsAtEnd (R.remaining reader.new) }
     ensures read { result ≡ Err ServeFault.Read → Reads session.old session.new (R.remaining reader.old) (R.remaining reader.new) }
-    ensures memory { result ≡ Err ServeFault.NoMemory → (piece : List ℕ) × Consumes (R.remaining reader.old) (R.remaining reader.new) piece }
+    ensures memory { result ≡ Err ServeFault.NoMemory → LosesPiece (R.remaining reader.old) (R.remaining reader.new) }
     ensures err { IfErr result (λ fault. fault ≡ ServeFault.Write → ⊥) }
 {
     match reader.read(piece) {

@@ -2,8 +2,8 @@ ghost use Rattle.std.specs.Prelude.{◌≡◌, ◌↔◌, IsTrue};
 ghost use Rattle.mc_parse.specs.Peeks.{unit_of};
 ghost use Rattle.mc_session.specs.Turns.{SessionState};
 
+use crate::after_turn::AfterTurn;
 use crate::answer::answer;
-use crate::next::Next;
 use crate::output::drop_front;
 use mc_command::Steps;
 use mc_parse::{Feed, Peek, no_spelling_begins_another};
@@ -50,13 +50,13 @@ pub struct Session {
     /// How many turns of the first unit were taken.
     taken: usize,
     out: Vec<u8>,
-    /// How many bytes of `out` were sent.
+    /// How many bytes of `out` were sent: never more than are left.
     sent: usize,
     is_open: bool,
 }
 
 impl Model for Session {
-    ghost use Rattle.std.specs.Prelude.{◌≤◌, drop, length};
+    ghost use Rattle.std.specs.Prelude.{◌≤◌, ◌+◌, drop, length};
     ghost use Rattle.mc_session.specs.Turns.{SessionState};
     ghost use Rattle.mc_session.specs.Answers.{IsWithin};
 
@@ -64,15 +64,16 @@ impl Model for Session {
 
     ghost view = { λ s. record { unread = s.feed; taken = s.taken; out = drop s.sent s.out.items; is_open = s.is_open } };
 
-    ghost invariant = { λ s. IsWithin s.feed s.taken × (s.sent ≤ length s.out.items) };
+    ghost invariant = { λ s. IsWithin s.feed s.taken × (s.sent + s.sent ≤ length s.out.items) };
 }
 
 impl Session {
-    ghost use Rattle.std.specs.Prelude.{◌≡◌, ◌≤◌, ◌↔◌, length, IsTrue, IsFalse, OnOk, OnErr, IfErr, Ok};
-    ghost use Rattle.mc_session.specs.Turns.{TakesTurn, DecidesStep, NoTurnDue, opened, closed, fed, sent};
+    ghost use Rattle.std.specs.Prelude.{◌≡◌, ◌≤◌, ◌*◌, ◌↔◌, length, IsTrue, IsFalse, OnOk, OnErr, IfErr, Ok};
+    ghost use Rattle.mc_session.specs.Turns.{TakesTurn, FindsNoTurn, FindsClosed, TurnIsDue, NoTurnDue};
+    ghost use Rattle.mc_session.specs.Turns.{DecidesStep, HoldsSame, opened, closed, fed, sent};
     ghost use Rattle.mc_session.specs.Answers.{gone_on, MayGoOn};
 
-    /// A session that was fed nothing, whose storage commands may charge at most `greatest` bytes. It takes no memory.
+    /// Makes a session that was fed nothing, whose storage commands may charge at most `greatest` bytes. It takes no memory.
     pub fn new(alloc: Global, greatest: u64) -> Session
         ensures { result ≡ opened greatest }
     {
@@ -86,7 +87,7 @@ impl Session {
         }
     }
 
-    /// Takes the next piece of the stream. A closed session takes none. Refused, the session is as it was.
+    /// Takes the next piece of the stream, and none of it where the session is closed. Refused, the session is as it was.
     pub fn feed(&mut self, piece: &[u8]) -> Result<(), AllocError>
         ensures ok { OnOk result (self.new ≡ fed self.old piece.now) }
         ensures err { OnErr result (self.new ≡ self.old) }
@@ -106,15 +107,16 @@ impl Session {
         store: &mut S,
         now: Moment,
     ) -> Result<Turn, TurnFault>
-        ensures did { result ≡ Ok Turn.Did → TakesTurn S.took S.spent now self.old self.new store.old store.new }
-        ensures idle { result ≡ Ok Turn.Idle → NoTurnDue self.old × IsTrue self.old.is_open × (self.new ≡ self.old) × (store.new ≡ store.old) }
-        ensures closed { result ≡ Ok Turn.Closed → IsFalse self.old.is_open × (self.new ≡ self.old) × (store.new ≡ store.old) }
+        ensures did { result ≡ Ok Turn.Did → TakesTurn S.Steps now self.old self.new store.old store.new }
+        ensures idle { result ≡ Ok Turn.Idle → FindsNoTurn self.old self.new store.old store.new }
+        ensures closed { result ≡ Ok Turn.Closed → FindsClosed self.old self.new store.old store.new }
         ensures err { OnErr result (self.new ≡ closed self.old) }
         // Memory runs out only where a turn is due.
-        ensures due { OnErr result (IsTrue self.old.is_open × (NoTurnDue self.old → ⊥)) }
-        // What was not decided left the store as it was; what was decided is the step of the turn, whose text alone is missing.
-        ensures undecided { IfErr result (λ fault. IsFalse fault.decided → store.new ≡ store.old) }
-        ensures decided { IfErr result (λ fault. IsTrue fault.decided → DecidesStep S.took now self.old store.old store.new) }
+        ensures due { OnErr result (TurnIsDue self.old) }
+        // What was not decided left the store with what it held; what was decided is the step of the turn, whose text alone
+        // is missing.
+        ensures undecided { IfErr result (λ fault. IsFalse fault.decided → HoldsSame S.Steps store.old store.new) }
+        ensures decided { IfErr result (λ fault. IsTrue fault.decided → DecidesStep S.Steps now self.old store.old store.new) }
     {
         if !self.is_open {
             return Ok(Turn::Closed);
@@ -134,38 +136,48 @@ impl Session {
         }
     }
 
-    fn go_on(&mut self, next: Next)
+    /// Goes on with what comes after a turn.
+    fn go_on(&mut self, next: AfterTurn)
         requires { MayGoOn next self.old }
         ensures { self.new ≡ gone_on next self.old }
     {
         match next {
-            Next::Step => {
+            AfterTurn::Step => {
                 self.taken += 1;
                 self.feed.mark(self.taken);
             }
-            Next::Read { len, passed } => {
+            AfterTurn::Read { len, passed } => {
                 self.taken = 0;
                 self.feed.done_passing(len, passed);
             }
-            Next::Close => self.close(),
+            AfterTurn::Close => self.close(),
         }
     }
 
-    /// Whether it is open and no turn is due until more bytes come.
+    /// Says whether the session is open and no turn is due until more bytes come.
     pub fn is_idle(&self) -> bool
         ensures { IsTrue result ↔ (IsTrue self.now.is_open × NoTurnDue self.now) }
     {
         self.is_open && is_more(&self.feed.peek_after(self.taken))
     }
 
-    /// Whether it was closed: by a quit, a line that is too long, want of memory or `close`.
+    /// Says whether the session was closed: by a quit, a line that is too long, want of memory or `close`.
     pub fn is_closed(&self) -> bool
         ensures { IsTrue result ↔ IsFalse self.now.is_open }
     {
         !self.is_open
     }
 
-    /// What is to be written.
+    /// Counts the bytes of output that are held in memory: those that are to be written, and of those that were sent at
+    /// most as many.
+    pub fn held(&self) -> usize
+        ensures least { length self.now.out ≤ result }
+        ensures most { result ≤ 2 * length self.now.out }
+    {
+        self.out.len()
+    }
+
+    /// Lends the output that is to be written.
     pub fn out(&self) -> &[u8]
         ensures { result.now ≡ self.now.out }
     {
@@ -173,7 +185,7 @@ impl Session {
         unsent
     }
 
-    /// The first `n` bytes of the output were written. What is left is moved only where it is no longer than what was
+    /// Drops the first `n` bytes of the output, which were written. What is left is moved only where it is no longer than what was
     /// written, so that each byte that is written pays for one that is moved.
     pub fn sent(&mut self, n: usize)
         requires { n ≤ length self.old.out }
@@ -196,7 +208,7 @@ impl Session {
     }
 }
 
-/// Whether a peek found nothing.
+/// Says whether a peek found nothing.
 fn is_more(found: &Peek<'_>) -> bool
     ensures { IsTrue result ↔ (unit_of found.now ≡ None) }
 {

@@ -11,7 +11,7 @@ returns-then-steps_of-eq0-clause-ok g c = record {
     len = c.args.len;
     text = plain_text c.args.command.now;
     is_found = refl;
-    answers = plain_answers g.S.Steps.took g.S.Steps.spent c.args.now c.args.store.now c.args.store.now (plain_text c.args.command.now) c.args.command.now (omega arith) refl refl;
+    answers = plain_answers g.S.Steps c.args.now c.args.store.now c.args.store.now (plain_text c.args.command.now) c.args.command.now (omega arith) refl refl;
   };
   next_is = c.next_after.ensures.next;
   few = c.next_after.ensures.few;

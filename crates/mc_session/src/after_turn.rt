@@ -1,6 +1,6 @@
 /// What comes after a turn.
 #[derive(Clone, Copy, Debug, PartialEq, Eq)]
-pub enum Next {
+pub enum AfterTurn {
     /// The next turn of the same unit.
     Step,
     /// The next unit: this one had `len` bytes, and passes over `passed` bytes behind it.

@@ -1,0 +1,150 @@
+ghost use Rattle.std.specs.Prelude.{◌≡◌, ◌-◌, ◌≤◌, drop, length, vec_capacity};
+
+use std::alloc::{AllocError, Global};
+use std::marker::Model;
+
+/// Bytes that are appended behind and taken away in front. Contracts see the bytes that weren't taken yet.
+#[derive(Drop)]
+pub struct Queue {
+    alloc: Global,
+    buffer: Vec<u8>,
+    /// How many bytes of the buffer were taken: never more than are left.
+    taken: usize,
+}
+
+impl Model for Queue {
+    ghost use Rattle.std.specs.Prelude.{ℕ, List, drop, vec_capacity};
+    ghost use Rattle.mc_parse.specs.Queues.{IsHalfFull};
+
+    ghost Value = { List ℕ };
+
+    ghost view = { λ q. drop q.taken q.buffer.items };
+
+    ghost invariant = { λ q. IsHalfFull q.taken q.buffer.items (vec_capacity q.buffer) };
+}
+
+impl Queue {
+    ghost use Rattle.std.specs.Prelude.{◌≡◌, ◌↔◌, ◌*◌, ◌≤◌, [], ◌++◌, drop, length, IsTrue, OnOk, OnErr};
+    ghost use Rattle.mc_parse.specs.Queues.{OnlyAppends, HasWritten};
+
+    /// Makes a queue of no bytes. It takes no memory.
+    pub fn new(alloc: Global) -> Queue
+        ensures { result ≡ [] }
+    {
+        Queue {
+            alloc,
+            buffer: Vec::new(alloc),
+            taken: 0,
+        }
+    }
+
+    /// Lends the bytes that weren't taken yet.
+    pub fn as_slice(&self) -> &[u8]
+        ensures { result.now ≡ self.now }
+    {
+        let (_, left) = self.buffer.as_slice().split_at(self.taken);
+        left
+    }
+
+    /// Counts the bytes that weren't taken yet.
+    pub fn len(&self) -> usize
+        ensures { result ≡ length self.now }
+    {
+        self.buffer.len() - self.taken
+    }
+
+    /// Says whether every byte was taken.
+    pub fn is_empty(&self) -> bool
+        ensures { IsTrue result ↔ (self.now ≡ []) }
+    {
+        self.len() == 0
+    }
+
+    /// Counts the bytes of memory that are filled: those that weren't taken yet, and of those that were taken at most as
+    /// many.
+    pub fn held(&self) -> usize
+        ensures least { length self.now ≤ result }
+        ensures most { result ≤ 2 * length self.now }
+    {
+        self.buffer.len()
+    }
+
+    /// Counts the bytes of memory that are reserved, filled or not. An empty queue reserves at most 65536.
+    pub fn capacity(&self) -> usize
+        ensures filled { length self.now ≤ result }
+        ensures empty { self.now ≡ [] → result ≤ 65536 }
+    {
+        self.buffer.capacity()
+    }
+
+    /// Appends bytes. Refused, the queue is as it was.
+    pub fn push(&mut self, bytes: &[u8]) -> Result<(), AllocError>
+        ensures ok { OnOk result (self.new ≡ self.old ++ bytes.now) }
+        ensures err { OnErr result (self.new ≡ self.old) }
+    {
+        let result = self.buffer.extend_from_slice(bytes);
+        give_back(&mut self.buffer, self.alloc);
+        result
+    }
+
+    /// Appends what a function appends to a buffer, and returns what it returns. It finds the bytes that weren't taken yet
+    /// at the buffer's end, and may do nothing with the buffer but append to it.
+    pub fn append_with<R, W: FnOnce(&mut Vec<u8>) -> R>(&mut self, write: W) -> R
+        requires callable { W.IsAlwaysCallable write }
+        requires appends { OnlyAppends W.FnOnce write }
+        ensures { HasWritten W.FnOnce write self.old self.new result }
+    {
+        let result = write(&mut self.buffer);
+        give_back(&mut self.buffer, self.alloc);
+        result
+    }
+
+    /// Takes the first `n` bytes away. What is left is moved to the front where it is no longer than what was taken, so
+    /// that each byte that is taken pays for one that is moved.
+    pub fn consume(&mut self, n: usize)
+        requires { n ≤ length self.old }
+        ensures { self.new ≡ drop n self.old }
+    {
+        self.taken += n;
+        if self.buffer.len() - self.taken <= self.taken {
+            drop_front(&mut self.buffer, self.taken);
+            give_back(&mut self.buffer, self.alloc);
+            self.taken = 0;
+        }
+    }
+
+    /// Takes all bytes away.
+    pub fn clear(&mut self)
+        ensures { self.new ≡ [] }
+    {
+        self.buffer.clear();
+        give_back(&mut self.buffer, self.alloc);
+        self.taken = 0;
+    }
+}
+
+/// The greatest memory that is kept while the queue is empty, in bytes.
+const KEPT: usize = 65536;
+
+/// Drops the front of a buffer, where what is left is no longer than the front.
+fn drop_front(buffer: &mut Vec<u8>, front: usize)
+    requires inside { front ≤ length buffer.old.items }
+    requires half { length buffer.old.items - front ≤ front }
+    ensures { buffer.new.items ≡ drop front buffer.old.items }
+{
+    let left = buffer.len() - front;
+    let (onto, rest) = buffer.as_mut_slice().split_at_mut(front);
+    let (onto, _) = onto.split_at_mut(left);
+    onto.copy_from_slice(rest);
+    buffer.truncate(left);
+}
+
+/// Gives the memory of an empty buffer back, where it grew large.
+fn give_back(buffer: &mut Vec<u8>, alloc: Global)
+    ensures same { buffer.new.items ≡ buffer.old.items }
+    ensures small { length buffer.new.items ≡ 0 → vec_capacity buffer.new ≤ 65536 }
+{
+    if buffer.is_empty() && buffer.capacity() > KEPT {
+        *buffer = Vec::new(alloc);
+    }
+}
