@@ -12,7 +12,7 @@ use Rattle.mc_parse.specs.Units.{ProtocolUnit, Request, Fault, LongLine}
 use Rattle.mc_reply.specs.Texts.{reply_text, plain_text, fault_text, long_text, spent_text}
 use Rattle.mc_session.specs.Turns.{Answers, AnswersStep}
 use Rattle.mc_world.specs.Connections.{Connection, IsNext, HasNoNext, fresh, with_piece, after_turn, ended}
-use Rattle.mc_world.specs.Worlds.{PlainWorld, replies, is_spent, numbered, if_open, put, changed, open_connection, at_connection, Turns, Happens, Runs, named}
+use Rattle.mc_world.specs.Worlds.{PlainWorld, in_plain, numbered, if_open, put, changed, open_connection, at_connection, Turns, Happens, Runs, named}
 use Rattle.mc_world.specs.Laws.{Grammar, step_of, Answer, Replied, NumbersSpent, answer_in, answers_in, AnswersNext, AnswersOf, RunsAnswering, is_number, events_of, Leaves}
 use Rattle.mc_world.proofs.ConnectionLemmas.{one_next, no_next}
 use Rattle.mc_world.proofs.LawLemmas.{get_set, get_apart, before_suc}
@@ -152,18 +152,18 @@ abbrev at_number : ℕ → PlainWorld → Option Connection
 at_number n w = numbered n w.connections
 
 -- the text of a turn is that of its answers
-tells_step : (command : Command) (at now : ℕ) (step : KeyStep) (before after : Plain) (text : List ℕ) → AnswersStep replies is_spent command at step now before after text
+tells_step : (command : Command) (at now : ℕ) (step : KeyStep) (before after : Plain) (text : List ℕ) → AnswersStep in_plain command at step now before after text
     → (answer : Answer) × (answer_in (plain before step now) ∷ [] ≡ answer ∷ []) × (text ≡ answer_text command at answer)
 tells_step command at now step before after text (inl (reply, said, told)) = (Replied reply, ap (λ o. answer_in o ∷ []) said, told)
 tells_step command at now step before after text (inr (spent, same, told)) = (NumbersSpent, ap (λ o. answer_in o ∷ []) spent, told)
 
 tells_request_in : (old : PlainWorld) (command : Command) (at : ℕ) (after : Plain) (text : List ℕ) (o : Option KeyStep)
-    → MatchOption o ((text ≡ plain_text command) × (after ≡ old.state)) (λ step. AnswersStep replies is_spent command at step old.now old.state after text)
+    → MatchOption o ((text ≡ plain_text command) × (after ≡ old.state)) (λ step. AnswersStep in_plain command at step old.now old.state after text)
     → MatchOption o ((answers_in old o ≡ []) × (text ≡ plain_text command)) (λ step. (answer : Answer) × (answers_in old o ≡ answer ∷ []) × (text ≡ answer_text command at answer))
 tells_request_in old command at after text None h = (refl, h.0)
 tells_request_in old command at after text (Some step) h = tells_step command at old.now step old.state after text h
 
-tells_in : (old : PlainWorld) (unit : ProtocolUnit) (at : ℕ) (after : Plain) (text : List ℕ) → Answers replies is_spent unit at old.now old.state after text → Tells unit at (answers_in old (step_of unit at)) text
+tells_in : (old : PlainWorld) (unit : ProtocolUnit) (at : ℕ) (after : Plain) (text : List ℕ) → Answers in_plain unit at old.now old.state after text → Tells unit at (answers_in old (step_of unit at)) text
 tells_in old (Request command) at after text h = tells_request_in old command at after text (slice_get (steps command) at) h
 tells_in old (Fault fault) at after text h = (refl, h.0)
 tells_in old LongLine at after text h = (refl, h.0)

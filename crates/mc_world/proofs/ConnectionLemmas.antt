@@ -8,6 +8,7 @@ use Rattle.std.proofs.lemmas.Bool.{cases_lt, eqb-true, eqb-false}
 use Rattle.std.proofs.lemmas.List.{drop-append-le, append-nil, append_cancel_left}
 use Rattle.std.proofs.lemmas.Option.{slice_get_past}
 use Rattle.mc_command.specs.declared.step.KeyStep.{KeyStep}
+use Rattle.mc_command.specs.declared.step.Steps.{Ghosts as Relations}
 use Rattle.mc_command.specs.declared.reply.Reply.{Reply}
 use Rattle.mc_parse.specs.Units.{ProtocolUnit, Request, Fault, LongLine, Spells, SpellsLine}
 use Rattle.mc_parse.specs.Streams.{AreUnits, is_last, passed_after}
@@ -250,7 +251,7 @@ pub due_both : (g : Grammar) (c : Connection) (s : SessionState) → Stands c s 
 due_both g c s stands is = due_of_both g c s c.is_open is stands
 
 -- A turn of an open session is the next turn of its connection's stream.
-module _ {S : Type 0} (took : S → KeyStep → ℕ → Reply → S → Type 0) (spent : S → KeyStep → ℕ → Type 0) (now : ℕ) (c : Connection) (s new : SessionState) (before after : S) (rest : IsRest c s) (takes : TakesTurn took spent now s new before after) where
+module _ {S : Type 0} (relations : Relations S) (now : ℕ) (c : Connection) (s new : SessionState) (before after : S) (rest : IsRest c s) (takes : TakesTurn relations now s new before after) where
   pub is_next : (g : Grammar) → IsNext c takes.unit s.taken
   is_next g = next_of g c s rest takes.unit takes.front takes.rest takes.parts takes.spelled takes.due
 

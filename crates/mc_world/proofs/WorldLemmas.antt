@@ -12,7 +12,7 @@ use Rattle.mc_shelf.specs.declared.store.Settings.{Settings}
 use Rattle.mc_session.specs.Turns.{SessionState, Answers, TakesTurn, DecidesStep, NoTurnDue, opened, fed, closed, sent}
 use Rattle.mc_command.specs.Purge.{purged}
 use Rattle.mc_world.specs.Connections.{Connection, IsNext, IsRest, Stands, at_start, fresh, with_piece, after_turn, ended}
-use Rattle.mc_world.specs.Worlds.{PlainWorld, WorldState, replies, is_spent, put, changed, numbered, CanStand, open_connection, open_session, at_connection, NextTurn, NextStep, Turns, Happens, Runs, StandAll, StandsAs, RunsIn, Told, named, with_end, Decides, TakesMemory, GivesUp, ToldRefused, ToldUntil}
+use Rattle.mc_world.specs.Worlds.{PlainWorld, WorldState, replies, in_plain, put, changed, numbered, CanStand, open_connection, open_session, at_connection, NextTurn, NextStep, Turns, Happens, Runs, StandAll, StandsAs, RunsIn, Told, named, with_end, Decides, TakesMemory, GivesUp, ToldRefused, ToldUntil}
 use Rattle.mc_world.specs.Laws.{Grammar}
 use Rattle.mc_world.specs.Sessions.{at_session, Done, sessions_ended, DecidedIn, Takes, Undone}
 use Rattle.mc_world.specs.declared.event.Event.{Event}
@@ -34,19 +34,19 @@ end_stands : (cs : List Connection) (ss : List SessionState) (n : ℕ) → Stand
 end_stands cs ss n all = stand_changed cs ss n ended closed (open_connection n cs) (open_session n ss) (stand_open cs ss n all) (λ c s is opens rest stands. rest_closed c s rest) all
 
 -- the turn of a session is that of its connection's stream
-next_turn : (g : Grammar) (first : PlainWorld) (now : ℕ) (c : Connection) (s new : SessionState) (before after : Plain) → IsRest c s → now ≡ first.now → before ≡ first.state → (takes : TakesTurn replies is_spent now s new before after) → NextTurn first c after
+next_turn : (g : Grammar) (first : PlainWorld) (now : ℕ) (c : Connection) (s new : SessionState) (before after : Plain) → IsRest c s → now ≡ first.now → before ≡ first.state → (takes : TakesTurn in_plain now s new before after) → NextTurn first c after
 next_turn g first now c s new before after rest same_now same_state takes =
-    let at_now : Answers replies is_spent takes.unit s.taken first.now before after takes.text = subst (λ (m : ℕ). Answers replies is_spent takes.unit s.taken m before after takes.text) same_now takes.answers in
+    let at_now : Answers in_plain takes.unit s.taken first.now before after takes.text = subst (λ (m : ℕ). Answers in_plain takes.unit s.taken m before after takes.text) same_now takes.answers in
     record {
       unit = takes.unit;
       at = s.taken;
       text = takes.text;
-      next = is_next replies is_spent now c s new before after rest takes g;
-      answers = subst (λ (b : Plain). Answers replies is_spent takes.unit s.taken first.now b after takes.text) same_state at_now;
+      next = is_next in_plain now c s new before after rest takes g;
+      answers = subst (λ (b : Plain). Answers in_plain takes.unit s.taken first.now b after takes.text) same_state at_now;
     }
 
 -- and so is its step
-next_step : (g : Grammar) (first : PlainWorld) (now : ℕ) (c : Connection) (s : SessionState) (before after : Plain) → IsRest c s → now ≡ first.now → before ≡ first.state → DecidesStep replies now s before after → NextStep first c after
+next_step : (g : Grammar) (first : PlainWorld) (now : ℕ) (c : Connection) (s : SessionState) (before after : Plain) → IsRest c s → now ≡ first.now → before ≡ first.state → DecidesStep in_plain now s before after → NextStep first c after
 next_step g first now c s before after rest same_now same_state decides =
     let at_now : replies before decides.step first.now decides.reply after = subst (λ (m : ℕ). replies before decides.step m decides.reply after) same_now decides.took_it in
     record {
@@ -86,7 +86,7 @@ module _ {K : Type 0} (g : Grammar) (hash_of : K → List ℕ → ℕ) where
 
   -- a turn, by the connection and the session
   turn_goes : (first : PlainWorld) (old new : WorldState K) (n : ℕ) (c : Option Connection) (s : Option SessionState) → StandsAs first old → new.settings ≡ old.settings → new.moment ≡ old.moment → Opens c s
-      → MatchOption s ((new.sessions ≡ old.sessions) × (new.state ≡ old.state)) (λ session. (NoTurnDue session × (new.sessions ≡ old.sessions) × (new.state ≡ old.state)) ⊎ ((next : SessionState) × TakesTurn replies is_spent old.moment session next old.state new.state × (new.sessions ≡ put n old.sessions next)))
+      → MatchOption s ((new.sessions ≡ old.sessions) × (new.state ≡ old.state)) (λ session. (NoTurnDue session × (new.sessions ≡ old.sessions) × (new.state ≡ old.state)) ⊎ ((next : SessionState) × TakesTurn in_plain old.moment session next old.state new.state × (new.sessions ≡ put n old.sessions next)))
       → (last : PlainWorld) × MatchOption c (last ≡ first) (λ connection. Turns first n connection last) × StandsAs last new
   unfolding next_turn
   turn_goes first old new n None None stands settings now both h =
@@ -105,7 +105,7 @@ module _ {K : Type 0} (g : Grammar) (hash_of : K → List ℕ → ℕ) where
           state = refl;
           now = now ∙ stands.now;
           sessions = subst (StandAll (put n first.connections after)) (sym is)
-              (stand_put first.connections old.sessions n after next stands.sessions (stands_after replies is_spent old.moment c s next old.state new.state both.2 takes both.1));
+              (stand_put first.connections old.sessions n after next stands.sessions (stands_after in_plain old.moment c s next old.state new.state both.2 takes both.1));
         },
       )
 
@@ -186,7 +186,7 @@ module _ {K : Type 0} (g : Grammar) (hash_of : K → List ℕ → ℕ) where
       }
 
   -- the connection whose step was decided
-  decides_turn : (first : PlainWorld) (old : WorldState K) (state : Plain) (c : Option Connection) (s : SessionState) → StandsAs first old → Opens c (Some s) → DecidesStep replies old.moment s old.state state
+  decides_turn : (first : PlainWorld) (old : WorldState K) (state : Plain) (c : Option Connection) (s : SessionState) → StandsAs first old → Opens c (Some s) → DecidesStep in_plain old.moment s old.state state
       → (connection : Connection) × (c ≡ Some connection) × NextStep first connection state
   decides_turn first old state None s stands both decides = absurd both
   decides_turn first old state (Some c) s stands both decides = (c, refl, next_step g first old.moment c s old.state state both.2 stands.now stands.state decides)

@@ -3,10 +3,11 @@ use Rattle.std.specs.Prelude.{◌≡◌, ◌⊎◌, ℕ, ◌+◌, ◌<◌, ◌%�
 use Rattle.std.specs.Option.{MatchOption}
 use Rattle.mc_command.specs.Plain.{Plain}
 use Rattle.mc_command.specs.declared.step.KeyStep.{KeyStep}
+use Rattle.mc_command.specs.declared.step.Steps.{Ghosts as Relations}
 use Rattle.mc_command.specs.declared.reply.Reply.{Reply}
 use Rattle.mc_session.specs.Turns.{SessionState, TakesTurn, DecidesStep, NoTurnDue, opened, fed, closed}
 use Rattle.mc_command.specs.Purge.{purged}
-use Rattle.mc_world.specs.Worlds.{WorldState, put, changed, open_session, replies, is_spent, named}
+use Rattle.mc_world.specs.Worlds.{WorldState, put, changed, open_session, in_plain, named}
 use Rattle.mc_world.specs.declared.event.Event.{Event}
 use Rattle.mc_world.specs.declared.event.Event.TheVariants.{Open, Piece, Turn, Clock, Grow, Purge, Close}
 use Rattle.mc_world.specs.declared.parts.Parts.{Parts}
@@ -15,17 +16,17 @@ use Rattle.mc_world.specs.declared.parts.Parts.{Parts}
 abbrev pub at_session : List SessionState → ℕ → (SessionState → SessionState) → List SessionState
 at_session sessions n change = changed n sessions change (open_session n sessions)
 
-module _ {S : Type 0} (took : S → KeyStep → ℕ → Reply → S → Type 0) (spent : S → KeyStep → ℕ → Type 0) where
+module _ {S : Type 0} (relations : Relations S) where
   -- the open session of that number takes its next turn, if one is due
   abbrev pub TurnOf : ℕ → ℕ → (old new : List SessionState) → S → S → Type 0
   TurnOf n now old new before after =
       MatchOption (open_session n old) ((new ≡ old) × (after ≡ before)) (λ session.
       (NoTurnDue session × (new ≡ old) × (after ≡ before))
-      ⊎ ((next : SessionState) × TakesTurn took spent now session next before after × (new ≡ put n old next)))
+      ⊎ ((next : SessionState) × TakesTurn relations now session next before after × (new ≡ put n old next)))
 
 -- it decides the step of its next turn, whose text isn't told
-abbrev pub DecidedOf : {S : Type 0} (took : S → KeyStep → ℕ → Reply → S → Type 0) → ℕ → ℕ → List SessionState → S → S → Type 0
-DecidedOf took n now old before after = (session : SessionState) × (open_session n old ≡ Some session) × DecidesStep took now session before after
+abbrev pub DecidedOf : {S : Type 0} (relations : Relations S) → ℕ → ℕ → List SessionState → S → S → Type 0
+DecidedOf relations n now old before after = (session : SessionState) × (open_session n old ≡ Some session) × DecidesStep relations now session before after
 
 -- a turn of it is due
 abbrev pub IsDue : ℕ → List SessionState → Type 0
@@ -51,7 +52,7 @@ module _ {K : Type 0} (hash_of : K → List ℕ → ℕ) where
   Done old (Piece n piece) new = new ≡ record old { sessions = at_session old.sessions n (λ s. fed s piece) }
   Done old (Turn n) new =
       (new.settings ≡ old.settings) × (new.hasher ≡ old.hasher) × (new.moment ≡ old.moment)
-      × TurnOf replies is_spent n old.moment old.sessions new.sessions old.state new.state
+      × TurnOf in_plain n old.moment old.sessions new.sessions old.state new.state
   Done old (Clock now) new = new ≡ record old { moment = now }
   Done old (Grow shelf) new = new ≡ old
   Done old (Purge shelf) new = new ≡ record old { state = without_dead shelf old }
@@ -66,7 +67,7 @@ sessions_ended (Some n) sessions = at_session sessions n closed
 abbrev pub DecidedIn : {K : Type 0} → WorldState K → Event → Plain → Type 0
 DecidedIn old Open state = ⊥
 DecidedIn old (Piece n piece) state = ⊥
-DecidedIn old (Turn n) state = DecidedOf replies n old.moment old.sessions old.state state
+DecidedIn old (Turn n) state = DecidedOf in_plain n old.moment old.sessions old.state state
 DecidedIn old (Clock now) state = ⊥
 DecidedIn old (Grow shelf) state = ⊥
 DecidedIn old (Purge shelf) state = ⊥

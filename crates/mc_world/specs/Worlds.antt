@@ -6,6 +6,7 @@ use Rattle.mc_command.specs.Commands.{steps}
 use Rattle.mc_command.specs.declared.command.Command.{Command}
 use Rattle.mc_command.specs.Plain.{Plain, coded_plain, plain, Answered, Spent}
 use Rattle.mc_command.specs.declared.step.KeyStep.{KeyStep}
+use Rattle.mc_command.specs.declared.step.Steps.{Ghosts as Relations}
 use Rattle.mc_command.specs.declared.reply.Reply.{Reply}
 use Rattle.mc_parse.specs.Units.{ProtocolUnit, Request}
 use Rattle.mc_parse.specs.Feeds.{Unread}
@@ -61,6 +62,10 @@ replies old step now reply new = plain old step now ≡ Answered reply new
 abbrev pub is_spent : Plain → KeyStep → ℕ → Type 0
 is_spent old step now = plain old step now ≡ Spent
 
+-- what the plain machine's steps are as those of a store
+abbrev pub in_plain : Relations Plain
+in_plain = record { took = replies; spent = is_spent; same = λ old new. new ≡ old }
+
 -- what has that number, counted from 1
 abbrev pub numbered : {A : Type 0} → ℕ → List A → Option A
 numbered zero xs = None
@@ -111,7 +116,7 @@ pub record NextTurn (old : PlainWorld) (connection : Connection) (state : Plain)
   pub at : ℕ
   pub text : List ℕ
   pub next : IsNext connection unit at
-  pub answers : Answers replies is_spent unit at old.now old.state state text
+  pub answers : Answers in_plain unit at old.now old.state state text
 
 -- the next turn is taken, if there is one
 abbrev pub Turns : PlainWorld → ℕ → Connection → PlainWorld → Type 0

@@ -1,6 +1,6 @@
 ghost use Rattle.std.specs.Prelude.{◌≡◌, ◌++◌, ◌∷◌, [], ◌<◌, ◌≤◌, ◌↔◌, length, Some, None, Ok, IfSome, IfErr, OnOk, OnErr, IsTrue, IsFalse, nat_lt, slice_get, if◌then◌else◌};
 ghost use Rattle.std.specs.Option.{option_copied};
-ghost use Rattle.mc_session.specs.Turns.{SessionState, NoTurnDue, opened, fed, closed, sent};
+ghost use Rattle.mc_session.specs.Turns.{SessionState, HoldsSame, NoTurnDue, opened, fed, closed, sent};
 ghost use Rattle.mc_world.specs.Worlds.{numbered, open_session, put, changed, output_of, IsIdle, IsClosed};
 ghost use Rattle.mc_world.specs.Sessions.{at_session, IsOpenAt, TurnOf, DecidedOf, IsDue};
 
@@ -93,7 +93,7 @@ impl Sessions {
         store: &mut S,
         now: Moment,
     ) -> Result<Turn, TurnFault>
-        ensures ok { OnOk result (TurnOf S.took S.spent number now self.old self.new store.old store.new) }
+        ensures ok { OnOk result (TurnOf S.Steps number now self.old self.new store.old store.new) }
         ensures did { result ≡ Ok Turn.Did → IsDue number self.old }
         ensures idle { result ≡ Ok Turn.Idle →
             IsIdle (numbered number self.old) × (self.new ≡ self.old) × (store.new ≡ store.old) }
@@ -102,8 +102,9 @@ impl Sessions {
             × (self.new ≡ self.old) × (store.new ≡ store.old) }
         ensures err { OnErr result (self.new ≡ at_session self.old number closed) }
         ensures due { OnErr result (IsDue number self.old) }
-        ensures undecided { IfErr result (λ fault. IsFalse fault.decided → store.new ≡ store.old) }
-        ensures decided { IfErr result (λ fault. IsTrue fault.decided → DecidedOf S.took number now self.old store.old store.new) }
+        ensures undecided { IfErr result (λ fault.
+            IsFalse fault.decided → HoldsSame S.Steps store.old store.new) }
+        ensures decided { IfErr result (λ fault. IsTrue fault.decided → DecidedOf S.Steps number now self.old store.old store.new) }
     {
         let Some(at) = open_place(&self.list, number) else {
             return Ok(Turn::Closed);
