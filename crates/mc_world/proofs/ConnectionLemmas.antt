@@ -1,52 +1,23 @@
 -- What is left of a connection, over a piece, a turn and an end.
-use Rattle.std.proofs.Common.{◌≡◌, ◌⊎◌, inl, inr, ℕ, zero, suc, ◌+◌, ◌-◌, ◌<◌, ◌≤◌, ◌==◌, ◌↔◌, Bool, true, false, not, List, [], ◌∷◌, ◌++◌, length, drop, Option, Some, None, refl, sym, ap, ◌∙◌, subst, arith, length-append, length-drop, append_assoc, if◌then◌else◌}
+use Rattle.std.proofs.Common.{◌≡◌, ◌⊎◌, inl, inr, ℕ, zero, suc, ◌+◌, ◌<◌, ◌==◌, ◌↔◌, Bool, true, false, not, List, [], ◌∷◌, ◌++◌, length, drop, Option, Some, None, refl, sym, ap, ◌∙◌, subst, arith, length-append, length-drop, append_assoc, if◌then◌else◌}
 use Rattle.std.specs.List.{slice_get}
 use Rattle.std.specs.Bool.{MatchBool}
-use Rattle.std.proofs.Math.Seq.{drop-nil}
-use Rattle.std.proofs.Math.ListN.{drop_of_length-le}
-use Rattle.std.proofs.lemmas.Bool.{cases_lt, eqb-true, eqb-false}
+use Rattle.std.proofs.lemmas.Bool.{eqb-true, eqb-false}
 use Rattle.std.proofs.lemmas.List.{drop-append-le, append-nil, append_cancel_left}
 use Rattle.std.proofs.lemmas.Option.{slice_get_past}
-use Rattle.mc_command.specs.declared.step.KeyStep.{KeyStep}
 use Rattle.mc_command.specs.declared.step.Steps.{Ghosts as Relations}
-use Rattle.mc_command.specs.declared.reply.Reply.{Reply}
-use Rattle.mc_parse.specs.Units.{ProtocolUnit, Request, Fault, LongLine, Spells, SpellsLine}
+use Rattle.mc_parse.specs.Units.{ProtocolUnit, Request, Fault, LongLine, Spells}
 use Rattle.mc_parse.specs.Streams.{AreUnits, is_last, passed_after}
 use Rattle.mc_parse.specs.Feeds.{Unread, settled, pushed}
-use Rattle.mc_parse.specs.Peeks.{BeginsWithNone}
-use Rattle.mc_session.specs.Turns.{SessionState, turn_count, turns_from, turns, nothing_unread, closed, fed, TakesTurn, NoTurnDue}
+use Rattle.mc_session.specs.Turns.{SessionState, to_read, HasUnits, turn_count, turns_from, turns, nothing_unread, closed, fed, TakesTurn, NoTurnDue}
 use Rattle.mc_shelf.specs.declared.store.Settings.{Settings}
 use Rattle.mc_command.specs.Plain.{Plain}
 use Rattle.mc_world.specs.Laws.{Grammar}
 use Rattle.mc_world.specs.Worlds.{StandAll, StandsAs, PlainWorld, WorldState}
 use Rattle.mc_world.specs.Connections.{Connection, IsNext, HasNoNext, Follows, IsAmong, at_start, inside, IsRest, shut, Stands, with_piece, after_turn, ended}
 
--- what is passed over once isn't passed over again
-passed_once : (p : ℕ) (bytes : List ℕ) → (p < length bytes) ⊎ (length bytes ≤ p) → drop (p - length bytes) (drop p bytes) ≡ drop p bytes
-passed_once p bytes (inl less) = let none : p - length bytes ≡ 0 = omega arith in ap (λ n. drop n (drop p bytes)) none
-passed_once p bytes (inr most) =
-    let all : drop p bytes ≡ [] = drop_of_length-le bytes most in
-    ap (drop (p - length bytes)) all ∙ drop-nil (p - length bytes) ∙ sym all
-
-settled_once : (p : ℕ) (bytes : List ℕ) → drop (p - length bytes) (drop p bytes) ≡ drop p bytes
-settled_once p bytes = passed_once p bytes (cases_lt p (length bytes))
-
--- the units are those of what is left when the bytes are passed over
-are_along : (greatest p q : ℕ) (bytes rest : List ℕ) (us : List ProtocolUnit) → drop p bytes ≡ drop q rest → AreUnits greatest p bytes us → AreUnits greatest q rest us
-are_along greatest p q bytes rest [] e h = subst (BeginsWithNone greatest) e h
-are_along greatest p q bytes rest (u ∷ us) e h = (h.0, h.1, sym e ∙ h.2, h.3, h.4)
-
--- no spelling is empty
-line_some : (greatest : ℕ) (unit : ProtocolUnit) (front : List ℕ) → SpellsLine greatest unit front → 0 < length front
-line_some greatest unit front h =
-    let end : List ℕ = 10 ∷ [] in
-    let all : length front ≡ length (h.text ++ end) + length h.rest = ap length (h.parts ∙ ap (λ l. l ++ h.rest) h.is_line.ended) ∙ length-append (h.text ++ end) h.rest in
-    omega (arith, all, length-append h.text end)
-
-spelling_some : (greatest : ℕ) (unit : ProtocolUnit) (front : List ℕ) → Spells greatest unit front → 0 < length front
-spelling_some greatest (Request command) front h = line_some greatest (Request command) front h
-spelling_some greatest (Fault fault) front h = line_some greatest (Fault fault) front h
-spelling_some greatest LongLine front h = omega (arith, h.0)
+abbrev unread : ℕ → ℕ → List ℕ → Unread
+unread greatest passed bytes = record { greatest = greatest; passed = passed; bytes = bytes }
 
 -- a unit has so many turns
 turns_length : (unit : ProtocolUnit) (at n : ℕ) → length (turns_from unit at n) ≡ n
@@ -96,11 +67,11 @@ turn_behind read us unit t taken is less =
     ∙ ap (λ (k : ℕ). Some (unit, k)) e
 
 -- the units of a stream are those that were read and then those of what comes after them
-are_joined : (greatest passed : ℕ) (bytes : List ℕ) (read us : List ProtocolUnit) (rest : Unread) → Follows greatest passed bytes read rest → AreUnits rest.greatest rest.passed rest.bytes us → AreUnits greatest passed bytes (read ++ us)
-are_joined greatest passed bytes [] us rest f h =
-    are_along greatest (passed - length bytes) passed (drop passed bytes) bytes us (settled_once passed bytes) (subst (λ (r : Unread). AreUnits r.greatest r.passed r.bytes us) f h)
-are_joined greatest passed bytes (u ∷ read) us rest f h =
-    (f.0, f.1, f.2, f.3, subst (λ (b : Bool). MatchBool b ((read ++ us) ≡ []) (AreUnits greatest (passed_after u) f.1 (read ++ us))) (sym f.4) (are_joined greatest (passed_after u) f.1 read us rest f.5 h))
+are_joined : (g : Grammar) (greatest passed : ℕ) (bytes : List ℕ) (read us : List ProtocolUnit) (rest : Unread) → Follows greatest passed bytes read rest → AreUnits rest.greatest rest.passed rest.bytes us → AreUnits greatest passed bytes (read ++ us)
+are_joined g greatest passed bytes [] us rest f h =
+    (g.early_units (unread greatest passed bytes) us).0 (subst (λ (r : Unread). HasUnits r us) f h)
+are_joined g greatest passed bytes (u ∷ read) us rest f h =
+    (f.0, f.1, f.2, f.3, subst (λ (b : Bool). MatchBool b ((read ++ us) ≡ []) (AreUnits greatest (passed_after u) f.1 (read ++ us))) (sym f.4) (are_joined g greatest (passed_after u) f.1 read us rest f.5 h))
 
 -- what is left has the same greatest charge
 same_greatest : (greatest passed : ℕ) (bytes : List ℕ) (read : List ProtocolUnit) (rest : Unread) → Follows greatest passed bytes read rest → rest.greatest ≡ greatest
@@ -108,14 +79,11 @@ same_greatest greatest passed bytes [] rest f = ap (λ (r : Unread). r.greatest)
 same_greatest greatest passed bytes (u ∷ read) rest f = same_greatest greatest (passed_after u) f.1 read rest f.5
 
 -- a piece that comes behind a front that spells a unit leaves it there
-behind_front : (greatest passed : ℕ) (bytes piece front more : List ℕ) (unit : ProtocolUnit) → drop passed bytes ≡ front ++ more → Spells greatest unit front → drop passed (bytes ++ piece) ≡ front ++ (more ++ piece)
-behind_front greatest passed bytes piece front more unit e spelled =
-    let some = spelling_some greatest unit front spelled in
+behind_front : (g : Grammar) (greatest passed : ℕ) (bytes piece front more : List ℕ) (unit : ProtocolUnit) → drop passed bytes ≡ front ++ more → Spells greatest unit front → drop passed (bytes ++ piece) ≡ front ++ (more ++ piece)
+behind_front g greatest passed bytes piece front more unit e spelled =
+    let some = g.byte greatest unit front spelled in
     drop-append-le passed bytes piece (omega (arith, length-drop passed bytes, ap length e, length-append front more))
     ∙ ap (λ l. l ++ piece) e ∙ append_assoc front more piece
-
-abbrev unread : ℕ → ℕ → List ℕ → Unread
-unread greatest passed bytes = record { greatest = greatest; passed = passed; bytes = bytes }
 
 -- it doesn't matter whether the bytes to be passed are dropped before a piece comes
 pushed_settled : (g : Grammar) (u : Unread) (piece : List ℕ) → pushed (settled u) piece ≡ pushed u piece
@@ -125,23 +93,23 @@ pushed_settled g u piece = ap (λ b. pushed (settled (unread u.greatest u.passed
 follows_piece : (g : Grammar) (greatest passed : ℕ) (bytes piece : List ℕ) (read : List ProtocolUnit) (rest : Unread) → Follows greatest passed bytes read rest → Follows greatest passed (bytes ++ piece) read (pushed rest piece)
 follows_piece g greatest passed bytes piece [] rest f = ap (λ r. pushed r piece) f ∙ pushed_settled g (unread greatest passed bytes) piece
 follows_piece g greatest passed bytes piece (u ∷ read) rest f =
-    (f.0, f.1 ++ piece, behind_front greatest passed bytes piece f.0 f.1 u f.2 f.3, f.3, f.4, follows_piece g greatest (passed_after u) f.1 piece read rest f.5)
+    (f.0, f.1 ++ piece, behind_front g greatest passed bytes piece f.0 f.1 u f.2 f.3, f.3, f.4, follows_piece g greatest (passed_after u) f.1 piece read rest f.5)
 
 -- and the unit that stands first still does
-among_piece : {u : Unread} {t : ℕ} (piece : List ℕ) → IsAmong u t → IsAmong (pushed u piece) t
-among_piece piece at_start = at_start
-among_piece {u = u} piece (inside unit front rest e spelled less) =
-    inside unit front (rest ++ piece) (settled_once u.passed (u.bytes ++ piece) ∙ behind_front u.greatest u.passed u.bytes piece front rest unit e spelled) spelled less
+among_piece : (g : Grammar) {u : Unread} {t : ℕ} (piece : List ℕ) → IsAmong u t → IsAmong (pushed u piece) t
+among_piece g piece at_start = at_start
+among_piece g {u = u} piece (inside unit front rest e spelled less) =
+    inside unit front (rest ++ piece) (g.early (record u { bytes = u.bytes ++ piece }) ∙ behind_front g u.greatest u.passed u.bytes piece front rest unit e spelled) spelled less
 
 -- one unit more is read
-follows_more : (greatest passed : ℕ) (bytes : List ℕ) (read : List ProtocolUnit) (rest : Unread) (unit : ProtocolUnit) (front more : List ℕ) → Follows greatest passed bytes read rest → drop rest.passed rest.bytes ≡ front ++ more → Spells rest.greatest unit front → is_last unit ≡ false
+follows_more : (g : Grammar) (greatest passed : ℕ) (bytes : List ℕ) (read : List ProtocolUnit) (rest : Unread) (unit : ProtocolUnit) (front more : List ℕ) → Follows greatest passed bytes read rest → drop rest.passed rest.bytes ≡ front ++ more → Spells rest.greatest unit front → is_last unit ≡ false
     → Follows greatest passed bytes (read ++ unit ∷ []) (settled (unread rest.greatest (passed_after unit) more))
-follows_more greatest passed bytes [] rest unit front more f e spelled last =
+follows_more g greatest passed bytes [] rest unit front more f e spelled last =
     let same : rest.greatest ≡ greatest = ap (λ (r : Unread). r.greatest) f in
-    let here : drop passed bytes ≡ drop rest.passed rest.bytes = sym (settled_once passed bytes) ∙ ap (λ (r : Unread). drop r.passed r.bytes) (sym f) in
+    let here : drop passed bytes ≡ drop rest.passed rest.bytes = sym (g.early (unread greatest passed bytes)) ∙ ap to_read (sym f) in
     (front, more, here ∙ e, subst (λ (g : ℕ). Spells g unit front) same spelled, last, ap (λ g. settled (unread g (passed_after unit) more)) same)
-follows_more greatest passed bytes (u ∷ read) rest unit front more f e spelled last =
-    (f.0, f.1, f.2, f.3, f.4, follows_more greatest (passed_after u) f.1 read rest unit front more f.5 e spelled last)
+follows_more g greatest passed bytes (u ∷ read) rest unit front more f e spelled last =
+    (f.0, f.1, f.2, f.3, f.4, follows_more g greatest (passed_after u) f.1 read rest unit front more f.5 e spelled last)
 
 -- a first unit has others behind it
 first_units : (g : Grammar) (greatest passed : ℕ) (bytes : List ℕ) (unit : ProtocolUnit) (front rest : List ℕ) → drop passed bytes ≡ front ++ rest → Spells greatest unit front → (us : List ProtocolUnit) × AreUnits greatest passed bytes (unit ∷ us)
@@ -161,7 +129,7 @@ rest_fed g c s piece opens rest stands is_open =
       read = rest.read;
       follows = follows_piece g c.greatest c.passed c.stream piece rest.read s.unread rest.follows;
       taken = rest.taken;
-      among = among_piece piece rest.among;
+      among = among_piece g piece rest.among;
       out = rest.out;
     } in
     subst (λ (x : SessionState). Stands (with_piece piece c) x) (sym same)
@@ -176,10 +144,10 @@ rest_closed c s rest =
     ∙ ap (λ (o : List ℕ). record { unread = nothing_unread c.greatest; taken = 0; out = o; is_open = false }) told
 
 -- where no turn of the session is due, none of the stream is
-pub rest_idle : (c : Connection) (s : SessionState) → IsRest c s → NoTurnDue s → HasNoNext c
-rest_idle c s rest none = record {
+pub rest_idle : (g : Grammar) (c : Connection) (s : SessionState) → IsRest c s → NoTurnDue s → HasNoNext c
+rest_idle g c s rest none = record {
   units = rest.read ++ [];
-  are = are_joined c.greatest c.passed c.stream rest.read [] s.unread rest.follows none;
+  are = are_joined g c.greatest c.passed c.stream rest.read [] s.unread rest.follows none;
   none = ap (λ l. slice_get (turns l) c.taken) (append-nil rest.read) ∙ slice_get_past (turns rest.read) c.taken (omega (arith, rest.taken));
 }
 
@@ -189,7 +157,7 @@ next_of g c s rest unit front more parts spelled less =
     let us = first_units g s.unread.greatest s.unread.passed s.unread.bytes unit front more parts spelled in
     record {
       units = rest.read ++ unit ∷ us.0;
-      are = are_joined c.greatest c.passed c.stream rest.read (unit ∷ us.0) s.unread rest.follows us.1;
+      are = are_joined g c.greatest c.passed c.stream rest.read (unit ∷ us.0) s.unread rest.follows us.1;
       next = turn_behind rest.read us.0 unit s.taken c.taken rest.taken less;
     }
 
@@ -244,7 +212,7 @@ idle_of g c s (inl none) h = none
 idle_of g c s (inr next) h = absurd (no_next g c next.0 next.1 next.2 h)
 
 due_of_both : (g : Grammar) (c : Connection) (s : SessionState) (b : Bool) → b ≡ true → MatchBool b ((s.is_open ≡ true) × IsRest c s) (s ≡ shut c) → NoTurnDue s ↔ HasNoNext c
-due_of_both g c s true is h = (λ none. rest_idle c s h.1 none, λ none. idle_of g c s (due_or_not g c s h.1) none)
+due_of_both g c s true is h = (λ none. rest_idle g c s h.1 none, λ none. idle_of g c s (due_or_not g c s h.1) none)
 due_of_both g c s false is h = absurd (let e : true ≡ false = sym is in cc)
 
 pub due_both : (g : Grammar) (c : Connection) (s : SessionState) → Stands c s → c.is_open ≡ true → NoTurnDue s ↔ HasNoNext c
@@ -271,22 +239,22 @@ module _ {S : Type 0} (relations : Relations S) (now : ℕ) (c : Connection) (s 
   told_out : told ≡ c.out ++ takes.text
   told_out = ap (λ o. o ++ takes.text) rest.out
 
-  stands_by : (last whole : Bool) → s.is_open ≡ true → is_last takes.unit ≡ last → (s.taken + 1 == turn_count takes.unit) ≡ whole → Stands (after_by last) (moved_by last whole)
-  stands_by true whole opens is counted =
+  stands_by : (g : Grammar) (last whole : Bool) → s.is_open ≡ true → is_last takes.unit ≡ last → (s.taken + 1 == turn_count takes.unit) ≡ whole → Stands (after_by last) (moved_by last whole)
+  stands_by g true whole opens is counted =
       ap (λ (g : ℕ). record { unread = nothing_unread g; taken = 0; out = told; is_open = false }) (same_greatest c.greatest c.passed c.stream rest.read s.unread rest.follows)
       ∙ ap (λ (o : List ℕ). record { unread = nothing_unread c.greatest; taken = 0; out = o; is_open = false }) told_out
-  stands_by false true opens is counted =
+  stands_by g false true opens is counted =
       let all : s.taken + 1 ≡ turn_count takes.unit = eqb-true _ _ counted in (
         opens,
         record {
           read = rest.read ++ takes.unit ∷ [];
-          follows = follows_more c.greatest c.passed c.stream rest.read s.unread takes.unit takes.front takes.rest rest.follows takes.parts takes.spelled is;
+          follows = follows_more g c.greatest c.passed c.stream rest.read s.unread takes.unit takes.front takes.rest rest.follows takes.parts takes.spelled is;
           taken = omega (arith, turns_more rest.read takes.unit, rest.taken);
           among = at_start;
           out = told_out;
         },
       )
-  stands_by false false opens is counted = (
+  stands_by g false false opens is counted = (
     opens,
     record {
       read = rest.read;
@@ -297,8 +265,8 @@ module _ {S : Type 0} (relations : Relations S) (now : ℕ) (c : Connection) (s 
     },
   )
 
-  pub stands_after : s.is_open ≡ true → Stands (after_turn takes.unit takes.text c) new
-  stands_after opens = subst (λ (x : SessionState). Stands (after_turn takes.unit takes.text c) x) (sym takes.moves) (stands_by (is_last takes.unit) (s.taken + 1 == turn_count takes.unit) opens refl refl)
+  pub stands_after : (g : Grammar) → s.is_open ≡ true → Stands (after_turn takes.unit takes.text c) new
+  stands_after g opens = subst (λ (x : SessionState). Stands (after_turn takes.unit takes.text c) x) (sym takes.moves) (stands_by g (is_last takes.unit) (s.taken + 1 == turn_count takes.unit) opens refl refl)
 
 -- What is left of a connection is one thing.
 turns_first : (v : ProtocolUnit) (vs : List ProtocolUnit) → length (turns (v ∷ vs)) ≡ turn_count v + length (turns vs)
@@ -308,7 +276,7 @@ few_turns : (g : Grammar) (greatest passed : ℕ) (bytes : List ℕ) (v : Protoc
 few_turns g greatest passed bytes v front more a t f e h at_start = some_turns v
 few_turns g greatest passed bytes v front more a t f e h (inside unit front' rest' parts spelled less) =
     let same : a.greatest ≡ greatest = ap (λ (r : Unread). r.greatest) f in
-    let here : drop passed bytes ≡ drop a.passed a.bytes = sym (settled_once passed bytes) ∙ ap (λ (r : Unread). drop r.passed r.bytes) (sym f) in
+    let here : drop passed bytes ≡ drop a.passed a.bytes = sym (g.early (unread greatest passed bytes)) ∙ ap to_read (sym f) in
     let one = g.apart greatest unit v front' front rest' more (subst (λ (m : ℕ). Spells m unit front') same spelled) h (sym parts ∙ sym here ∙ e) in
     subst (λ (u : ProtocolUnit). t < turn_count u) one.0 less
 

@@ -3,9 +3,7 @@ use Rattle.std.proofs.Common.{◌≡◌, ◌⊎◌, inl, inr, ℕ, ◌-◌, Bool
 use Rattle.std.specs.Option.{MatchOption}
 use Rattle.std.proofs.lemmas.List.{set-get_or}
 use Rattle.std.proofs.lemmas.Option.{get_or_from_slice_get}
-use Rattle.mc_command.specs.declared.step.KeyStep.{KeyStep}
 use Rattle.mc_command.specs.declared.step.Steps.{Ghosts as Relations}
-use Rattle.mc_command.specs.declared.reply.Reply.{Reply}
 use Rattle.mc_session.specs.Turns.{SessionState, TakesTurn, DecidesStep, NoTurnDue, closed}
 use Rattle.mc_session.specs.declared.session.Turn.{Turn}
 use Rattle.mc_session.specs.declared.session.Turn.TheVariants.{Did, Idle, Closed}

@@ -94,7 +94,7 @@ module _ {K : Type 0} (g : Grammar) (hash_of : K → List ℕ → ℕ) where
   turn_goes first old new n None (Some s) stands settings now both h = absurd both
   turn_goes first old new n (Some c) None stands settings now both h = absurd both
   turn_goes first old new n (Some c) (Some s) stands settings now both (inl h) =
-      (first, inl (rest_idle c s both.2 h.0, refl), record { greatest = ap (λ (s : Settings). s.greatest) settings ∙ stands.greatest; state = h.2 ∙ stands.state; now = now ∙ stands.now; sessions = subst (StandAll first.connections) (sym h.1) stands.sessions })
+      (first, inl (rest_idle g c s both.2 h.0, refl), record { greatest = ap (λ (s : Settings). s.greatest) settings ∙ stands.greatest; state = h.2 ∙ stands.state; now = now ∙ stands.now; sessions = subst (StandAll first.connections) (sym h.1) stands.sessions })
   turn_goes first old new n (Some c) (Some s) stands settings now both (inr (next, takes, is)) =
       let turn : NextTurn first c new.state = next_turn g first old.moment c s next old.state new.state both.2 stands.now stands.state takes in
       let after : Connection = after_turn takes.unit takes.text c in (
@@ -105,7 +105,7 @@ module _ {K : Type 0} (g : Grammar) (hash_of : K → List ℕ → ℕ) where
           state = refl;
           now = now ∙ stands.now;
           sessions = subst (StandAll (put n first.connections after)) (sym is)
-              (stand_put first.connections old.sessions n after next stands.sessions (stands_after in_plain old.moment c s next old.state new.state both.2 takes both.1));
+              (stand_put first.connections old.sessions n after next stands.sessions (stands_after in_plain old.moment c s next old.state new.state both.2 takes g both.1));
         },
       )
 

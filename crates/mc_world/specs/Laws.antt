@@ -1,5 +1,5 @@
 -- What the laws of the plain world speak of: events that decide no step, and what a session's steps are answered.
-use Rattle.std.specs.Prelude.{◌≡◌, ◌⊎◌, ℕ, ◌==◌, Bool, false, List, [], ◌∷◌, ◌++◌, filter, Option, Some, None, IfSome, slice_get}
+use Rattle.std.specs.Prelude.{◌≡◌, ◌⊎◌, ◌↔◌, ◌<◌, ℕ, ◌==◌, Bool, false, List, [], ◌∷◌, ◌++◌, length, filter, Option, Some, None, IfSome, slice_get}
 use Rattle.std.specs.Bool.{MatchBool}
 use Rattle.std.specs.Option.{MatchOption}
 use Rattle.mc_command.specs.Commands.{steps}
@@ -8,9 +8,10 @@ use Rattle.mc_command.specs.declared.step.KeyStep.{KeyStep}
 use Rattle.mc_command.specs.declared.reply.Reply.{Reply}
 use Rattle.mc_parse.specs.Units.{ProtocolUnit, Request, Fault, LongLine, Spells}
 use Rattle.mc_parse.specs.Streams.{AreUnits}
-use Rattle.mc_parse.specs.Feeds.{Unread, pushed}
+use Rattle.mc_parse.specs.Feeds.{Unread, settled, pushed}
+use Rattle.mc_session.specs.Turns.{to_read, HasUnits}
 use Rattle.mc_world.specs.Connections.{Connection, IsNext, HasNoNext}
-use Rattle.mc_world.specs.Worlds.{PlainWorld, numbered, open_connection, named, Happens}
+use Rattle.mc_world.specs.Worlds.{PlainWorld, numbered, open_connection, named, Happens, Runs}
 use Rattle.mc_world.specs.declared.event.Event.{Event}
 use Rattle.mc_world.specs.declared.event.Event.TheVariants.{Open, Piece, Turn, Clock, Grow, Purge, Close}
 
@@ -37,6 +38,14 @@ DecidesNoStep world (Close k) n = k ≡ n
 -- the event opens no session, and isn't one of that session
 abbrev pub IsApart : Event → ℕ → Type 0
 IsApart event n = (event ≡ Open → ⊥) × (named event ≡ Some n → ⊥)
+
+-- a run of the one list is a run of the other
+abbrev pub RunAlike : List Event → List Event → Type 0
+RunAlike some others = (hash : List ℕ → ℕ) (shelves : ℕ) (old new : PlainWorld) → Runs hash shelves old some new ↔ Runs hash shelves old others new
+
+-- the event is one of that session and decides no step there, wherever the front leads to
+abbrev pub DecidesNoStepBehind : (hash : List ℕ → ℕ) (shelves : ℕ) (old : PlainWorld) → List Event → Event → ℕ → Type 0
+DecidesNoStepBehind hash shelves old front event n = (world : PlainWorld) → Runs hash shelves old front world → DecidesNoStep world event n
 
 -- what a step is answered: the plain machine's reply, or that its unique numbers are spent
 pub data Answer : Type 0 where
@@ -76,6 +85,11 @@ module _ (hash : List ℕ → ℕ) (shelves : ℕ) (n : ℕ) where
       (mid : PlainWorld) × (first : List Answer) × (others : List Answer) × Happens hash shelves old event mid × AnswersOf n old event first
       × RunsAnswering mid events others new × (answers ≡ first ++ others)
 
+-- the session is there at the end of a run, in which its steps are answered in some way
+abbrev pub HasAnswers : (hash : List ℕ → ℕ) (shelves n : ℕ) → PlainWorld → List Event → PlainWorld → Type 0
+HasAnswers hash shelves n old events new =
+    (answers : List Answer) × (last : Connection) × RunsAnswering hash shelves n old events answers new × (numbered n new.connections ≡ Some last)
+
 -- whether this is that number
 abbrev pub is_number : ℕ → Option ℕ → Bool
 is_number n None = false
@@ -98,10 +112,13 @@ pub record Leaves (n : ℕ) (first : Connection) (own : List Event) (answers : L
   pub runs : RunsAnswering hash shelves n old events answers new
   pub ends : numbered n new.connections ≡ Some last
 
--- The laws of the grammar, as the proofs here use them: no spelling begins another, a stream has one list of units, and it
--- doesn't matter where a stream is cut.
+-- The laws of the grammar and of sessions that the proofs here use: no spelling begins another, and each has a byte; a
+-- stream has one list of units; and it matters neither where a stream is cut nor how early bytes are passed over.
 pub record Grammar : Type 0 where
   pub apart : (greatest : ℕ) (u v : ProtocolUnit) (a b x y : List ℕ) → Spells greatest u a → Spells greatest v b → a ++ x ≡ b ++ y → (u ≡ v) × (a ≡ b)
+  pub byte : (greatest : ℕ) (unit : ProtocolUnit) (front : List ℕ) → Spells greatest unit front → 0 < length front
   pub some : (greatest passed : ℕ) (bytes : List ℕ) → (units : List ProtocolUnit) × AreUnits greatest passed bytes units
   pub same : (greatest passed : ℕ) (bytes : List ℕ) (units others : List ProtocolUnit) → AreUnits greatest passed bytes units → AreUnits greatest passed bytes others → units ≡ others
   pub cut : (unread : Unread) (piece more : List ℕ) → pushed (pushed unread piece) more ≡ pushed unread (piece ++ more)
+  pub early : (unread : Unread) → to_read (settled unread) ≡ to_read unread
+  pub early_units : (unread : Unread) (units : List ProtocolUnit) → HasUnits (settled unread) units ↔ HasUnits unread units

@@ -2,9 +2,7 @@
 use Rattle.std.specs.Prelude.{◌≡◌, ◌⊎◌, ℕ, ◌+◌, ◌<◌, ◌%◌, ◌==◌, Bool, true, List, [], ◌∷◌, ◌++◌, length, Option, Some, None, slice_get, nat_lt, if◌then◌else◌, IsTrue, IsFalse}
 use Rattle.std.specs.Option.{MatchOption}
 use Rattle.mc_command.specs.Plain.{Plain}
-use Rattle.mc_command.specs.declared.step.KeyStep.{KeyStep}
 use Rattle.mc_command.specs.declared.step.Steps.{Ghosts as Relations}
-use Rattle.mc_command.specs.declared.reply.Reply.{Reply}
 use Rattle.mc_session.specs.Turns.{SessionState, TakesTurn, DecidesStep, NoTurnDue, opened, fed, closed}
 use Rattle.mc_command.specs.Purge.{purged}
 use Rattle.mc_world.specs.Worlds.{WorldState, put, changed, open_session, in_plain, named}
@@ -15,6 +13,14 @@ use Rattle.mc_world.specs.declared.parts.Parts.{Parts}
 -- the open session of that number is changed, and nothing where none is
 abbrev pub at_session : List SessionState → ℕ → (SessionState → SessionState) → List SessionState
 at_session sessions n change = changed n sessions change (open_session n sessions)
+
+-- one session more, if fewer than 65535 were opened
+abbrev pub with_opened : (greatest : ℕ) → List SessionState → List SessionState
+with_opened greatest sessions = if nat_lt (length sessions) 65535 then sessions ++ opened greatest ∷ [] else sessions
+
+-- the session of that number is open
+abbrev pub IsOpened : ℕ → List SessionState → Type 0
+IsOpened n sessions = (session : SessionState) × (open_session n sessions ≡ Some session)
 
 module _ {S : Type 0} (relations : Relations S) where
   -- the open session of that number takes its next turn, if one is due
@@ -76,7 +82,7 @@ DecidedIn old (Close n) state = ⊥
 -- the event takes memory: it opens a session, brings a piece to one that is open, or gives one a turn that is due
 abbrev pub Takes : {K : Type 0} → WorldState K → Event → Type 0
 Takes old Open = length old.sessions < 65535
-Takes old (Piece n piece) = (session : SessionState) × (open_session n old.sessions ≡ Some session)
+Takes old (Piece n piece) = IsOpened n old.sessions
 Takes old (Turn n) = IsDue n old.sessions
 Takes old (Clock now) = ⊥
 Takes old (Grow shelf) = ⊥

@@ -1,4 +1,5 @@
-//! Many sessions over one store: a list of events makes of a world what the protocol's plain machine makes of it.
+//! Many sessions over one store: a list of events makes of a world what the protocol's plain
+//! machine makes of it.
 #![tactic(auto)]
 
 mod event;

@@ -24,7 +24,8 @@ pub struct Parts<K: KeyHash + Drop> {
 impl<K: KeyHash + Drop> Parts<K> {
     /// Takes one event. Refused, the session that it names is closed.
     pub fn happen(&mut self, alloc: Global, event: &Event<'_>) -> Result<(), TurnFault>
-        ensures ok { OnOk result (Done K.hash_of (state_of self.old) event.now (state_of self.new)) }
+        ensures ok { OnOk result
+            (Done K.hash_of (state_of self.old) event.now (state_of self.new)) }
         ensures err { IfErr result (λ fault.
             Undone fault.decided (state_of self.old) event.now (state_of self.new)) }
     {

@@ -8,7 +8,8 @@ ghost use Rattle.mc_world.specs.declared.event.Event.TheVariants.{Close};
 ghost use Rattle.mc_world.specs.Serving.{with_front, scene, waiting, most_waiting, most_turns};
 ghost use Rattle.mc_world.specs.Serving.{Served, ServedAll, RanShort};
 ghost use Rattle.mc_world.specs.Rounds.{Begins, Writes, Reads, ReadsRefused, HasEnded};
-ghost use Rattle.mc_world.specs.Rounds.{GivesTurn, GivesRefused, GoesOn, FailsOn, GoesFar, RunsShort};
+ghost use Rattle.mc_world.specs.Rounds.{GivesTurn, GivesRefused};
+ghost use Rattle.mc_world.specs.Rounds.{GoesOn, FailsOn, GoesFar, RunsShort};
 
 use crate::event::Event;
 use crate::laws::grammar;
@@ -29,14 +30,16 @@ const PIECE: usize = 16384;
 /// Where so many bytes of output wait, they are written before the next turn.
 const FULL: usize = 65536;
 
-/// Serves one session of a world, which it opens and closes: reads pieces, takes turns at the clock's moments, each with
-/// some growth of a shelf, and writes their texts, until the input ends or the session closes. The output is written when
-/// no turn is due, at the end, and before a turn when 64 KiB or more of it wait. Fewer than 65535 sessions were opened
-/// before.
+/// Serves one session of a world, which it opens and closes: reads pieces, takes turns at the
+/// clock's moments, each with some growth of a shelf, and writes their texts, until the input ends
+/// or the session closes. The output is written when no turn is due, at the end, and before a turn
+/// when 65536 bytes or more of it wait. Fewer than 65535 sessions were opened before.
 ///
-/// It fails with `Read` where the reader fails and after 2^40 turns, with `Write` where the writer fails or takes nothing,
-/// and with `NoMemory` where a growth is refused. A failure leaves a beginning of the run: the session is closed, what was
-/// not written stays in its output, and the world may serve another.
+/// It fails with `Read` where the reader fails and after 2^40 turns, with `Write` where the writer
+/// fails or takes nothing, and with `NoMemory` where memory runs out: before the session is opened,
+/// in a turn that was due, or in a piece that was read. A failure leaves a beginning of the run:
+/// the session is closed, what was not written stays in its output, and the world may serve
+/// another.
 pub fn serve_one<R: Read, W: Write, K: KeyHash + Drop, C: Clock>(
     alloc: Global,
     reader: &mut R,
@@ -71,8 +74,8 @@ pub fn serve_one<R: Read, W: Write, K: KeyHash + Drop, C: Clock>(
     }
 }
 
-/// What stands in front of a session's output never shows in what comes: with it in front or without, events do the same.
-/// So what was written of a session makes no difference.
+/// What stands in front of a session's output never shows in what comes: with it in front or
+/// without, events do the same. So what was written of a session makes no difference.
 pub fn written_output_never_shows()
     ensures { (hash : List ℕ → ℕ) (shelves n : ℕ) (bytes : List ℕ) (old new : PlainWorld)
         (events : List Event) → 1 ≤ n → n ≤ length old.connections →
@@ -127,7 +130,8 @@ fn rounds<R: Read, W: Write, K: KeyHash + Drop, C: Clock>(
     Err(ServeFault::Read)
 }
 
-/// Takes one turn, with the writes and the read that it asks for. Answers whether nothing more is to come.
+/// Takes one turn, with the writes and the read that it asks for. Answers whether nothing more is
+/// to come.
 fn round<R: Read, W: Write, K: KeyHash + Drop, C: Clock>(
     alloc: Global,
     reader: &mut R,
@@ -164,7 +168,8 @@ fn round<R: Read, W: Write, K: KeyHash + Drop, C: Clock>(
     }
 }
 
-/// Gives the session a turn at the clock's moment, and then grows the shelf whose time it is. Answers what the turn did.
+/// Gives the session a turn at the clock's moment, and then grows the shelf whose time it is.
+/// Answers what the turn did.
 fn take_turn<K: KeyHash + Drop, C: Clock>(
     alloc: Global,
     world: &mut World<K>,
@@ -197,7 +202,8 @@ fn write_much<W: Write, K: KeyHash + Drop>(
     world: &mut World<K>,
     session: u32,
 ) -> Result<(), ServeFault>
-    ensures writes { Writes session world.old world.new (W.contents writer.old) (W.contents writer.new) }
+    ensures writes { Writes session world.old world.new
+        (W.contents writer.old) (W.contents writer.new) }
     ensures ok { OnOk result (waiting session world.new < most_waiting) }
     ensures err { IfErr result (λ fault. fault ≡ ServeFault.Write) }
 {
@@ -213,7 +219,8 @@ fn write_out<W: Write, K: KeyHash + Drop>(
     world: &mut World<K>,
     session: u32,
 ) -> Result<(), ServeFault>
-    ensures writes { Writes session world.old world.new (W.contents writer.old) (W.contents writer.new) }
+    ensures writes { Writes session world.old world.new
+        (W.contents writer.old) (W.contents writer.new) }
     ensures ok { OnOk result (output_of (numbered session world.new.sessions) ≡ []) }
     ensures err { IfErr result (λ fault. fault ≡ ServeFault.Write) }
 {
@@ -234,8 +241,8 @@ fn write_out<W: Write, K: KeyHash + Drop>(
     Err(ServeFault::Write)
 }
 
-/// Reads the next piece and brings it to the session. Answers whether the input is at its end. A read that was
-/// interrupted brings nothing.
+/// Reads the next piece and brings it to the session. Answers whether the input is at its end. A
+/// read that was interrupted brings nothing.
 fn read_piece<R: Read, K: KeyHash + Drop>(
     alloc: Global,
     reader: &mut R,

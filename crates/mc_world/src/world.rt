@@ -1,7 +1,9 @@
-ghost use Rattle.std.specs.Prelude.{◌≡◌, ◌≤◌, ◌↔◌, ◌∷◌, [], length, IsTrue, IfOk, IfErr, OnOk, Ok, None};
+ghost use Rattle.std.specs.Prelude.{◌≡◌, ◌≤◌, ◌↔◌, ◌∷◌, [], length};
+ghost use Rattle.std.specs.Prelude.{IsTrue, IfOk, IfErr, OnOk, Ok, None};
 ghost use Rattle.mc_command.specs.Plain.{opening};
 ghost use Rattle.mc_session.specs.Turns.{sent};
-ghost use Rattle.mc_world.specs.Worlds.{CanStand, Told, ToldRefused, ToldUntil, numbered, open_session, changed};
+ghost use Rattle.mc_world.specs.Worlds.{CanStand, Told, ToldRefused, ToldUntil};
+ghost use Rattle.mc_world.specs.Worlds.{numbered, open_session, changed};
 ghost use Rattle.mc_world.specs.Worlds.{output_of, IsIdle, IsClosed};
 ghost use Rattle.mc_world.specs.Sessions.{IsDue};
 
@@ -16,8 +18,9 @@ use mc_time::Moment;
 use std::alloc::{AllocError, Global};
 use std::marker::Model;
 
-/// A store, a moment, and the sessions that use the store in turn. Contracts see how the store is set up, its hasher,
-/// the plain machine's state, the moment and the sessions; and a plain world stands so.
+/// A store, a moment, and the sessions that use the store in turn. Contracts see how the store is
+/// set up, its hasher, the plain machine's state, the moment and the sessions; and a plain world
+/// stands so.
 #[derive(Drop)]
 pub struct World<K: KeyHash + Drop> {
     parts: Parts<K>,
@@ -37,7 +40,8 @@ impl<K: KeyHash + Drop> Model for World<K> {
 }
 
 impl<K: KeyHash + Drop> World<K> {
-    /// Makes a world with a store of no items and no sessions. The one error is a refused allocation.
+    /// Makes a world with a store of no items, and no sessions. The one error is a refused
+    /// allocation.
     pub fn new(
         alloc: Global,
         settings: Settings,
@@ -64,8 +68,8 @@ impl<K: KeyHash + Drop> World<K> {
         })
     }
 
-    /// Takes the events in order. Where memory runs out in one, the events before it are done, the session that it
-    /// names is closed, and no later one is run.
+    /// Takes the events in order. Where memory runs out in one, the events before it are done, the
+    /// session that it names is closed, and no later one is run.
     ///
     /// What is told is told of every plain world that stands as the world did, and there is one.
     pub fn run(&mut self, alloc: Global, events: &[Event<'_>]) -> Result<(), Refused>
@@ -85,9 +89,9 @@ impl<K: KeyHash + Drop> World<K> {
         Ok(())
     }
 
-    /// Takes a session's next turn, if one is due, as `run` of that one event does, and answers what it did: `Did` where
-    /// a turn was due, `Idle` where the session is open and none was, and `Closed` where it isn't open. Refused, the
-    /// session is closed.
+    /// Takes a session's next turn, if one is due, as `run` of that one event does. It answers
+    /// `Did` where a turn was due, `Idle` where the session is open and none was, and `Closed`
+    /// where it isn't open. Refused, the session is closed. The session's next unit is parsed once.
     pub fn turn(&mut self, alloc: Global, session: u32) -> Result<Turn, Refused>
         ensures ok { OnOk result (Told K.hash_of self.old (Event.Turn session ∷ []) self.new) }
         ensures did { result ≡ Ok Turn.Did → IsDue session self.old.sessions }
@@ -115,8 +119,8 @@ impl<K: KeyHash + Drop> World<K> {
         self.parts.moment = now;
     }
 
-    /// Moves up to 8 entries of a shelf in its table, which no session sees. Of a shelf that isn't there it moves none.
-    /// It takes no memory.
+    /// Moves up to 8 entries of a shelf in its table, which no session sees, and none of a shelf
+    /// that isn't there. It takes no memory.
     pub fn grow(&mut self, shelf: u32)
         ensures { self.new ≡ self.old }
     {
@@ -156,7 +160,8 @@ impl<K: KeyHash + Drop> World<K> {
         self.parts.sessions.sent(session, n);
     }
 
-    /// Tells whether a session is open and no turn is due until more bytes come. It parses the session's next unit.
+    /// Tells whether a session is open and no turn is due until more bytes come. It parses the
+    /// session's next unit.
     pub fn is_idle(&self, session: u32) -> bool
         ensures { IsTrue result ↔ IsIdle (numbered session self.now.sessions) }
     {
