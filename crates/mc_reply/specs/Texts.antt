@@ -1,5 +1,7 @@
 -- The texts that turns are answered with.
-use Rattle.std.specs.Prelude.{ℕ, ◌+◌, ◌==◌, Bool, true, false, List, [], ◌++◌, length, codes, decimal, if◌then◌else◌, Option, Some, None, slice_get}
+use Rattle.std.specs.Prelude.{ℕ, ◌+◌, ◌<◌, ◌==◌, Bool, true, false, List, [], ◌++◌, length, vec_capacity, codes, decimal, if◌then◌else◌, Option, Some, None, slice_get}
+use Rattle.std.specs.declared.vec.Vec.{Vec}
+use Rattle.std.specs.declared.alloc.Global.{Global}
 use Rattle.mc_command.specs.Commands.{is_quiet}
 use Rattle.mc_command.specs.declared.command.Command.{Command}
 use Rattle.mc_command.specs.declared.command.Command.TheVariants.{Store, Cas, Get, GetTouch, Touch, Delete, Count, FlushAll, Version, Quit}
@@ -7,6 +9,10 @@ use Rattle.mc_command.specs.declared.reply.Reply.{Reply}
 use Rattle.mc_command.specs.declared.reply.Reply.TheVariants.{Stored, NotStored, Exists, NotFound, Miss, Hit, Touched, Deleted, Number, NotNumeric, TooLarge, NoChunk, Flushed}
 use Rattle.mc_command.specs.declared.fault.LineFault.{LineFault}
 use Rattle.mc_command.specs.declared.fault.LineFault.TheVariants.{Unknown, BadFormat, BadDelta, TooLarge as TooLargeLine, BadChunk}
+
+-- a vector has no room for these bytes behind those that it holds
+abbrev pub HasNoRoom : Vec ℕ Global → List ℕ → Type 0
+HasNoRoom vector bytes = vec_capacity vector < length vector.items + length bytes
 
 -- what is said of a reply that isn't a retrieval's
 abbrev pub said : Reply → List ℕ
@@ -32,8 +38,14 @@ unique_text false unique = []
 -- VALUE <key> <flags> <bytes> [<cas unique>], and the block
 abbrev pub hit_text : List ℕ → Bool → (flags unique : ℕ) → List ℕ → List ℕ
 hit_text key with_unique flags unique block =
-    codes "VALUE " ++ key ++ codes " " ++ decimal flags ++ codes " " ++ decimal (length block) ++ unique_text with_unique unique ++ codes "\r\n"
+    codes "VALUE " ++ key ++ codes " " ++ decimal flags ++ codes " " ++ decimal (length block)
+    ++ unique_text with_unique unique ++ codes "\r\n"
     ++ block ++ codes "\r\n"
+
+-- the parts of a hit: its key, the end of its first line, its block, and what comes behind it
+abbrev pub hit_parts : (key numbers block rest : List ℕ) → List ℕ
+hit_parts key numbers block rest =
+    codes "VALUE " ++ key ++ numbers ++ block ++ codes "\r\n" ++ rest
 
 -- what a retrieval tells of a key: nothing of one that isn't found
 abbrev pub key_text : List ℕ → Bool → Reply → List ℕ
@@ -62,7 +74,8 @@ end_text count at = if at + 1 == count then codes "END\r\n" else []
 
 -- the text of the reply to step `at` of a retrieval of these keys
 abbrev pub retrieval_text : List (List ℕ) → Bool → ℕ → Reply → List ℕ
-retrieval_text keys with_unique at reply = asked_text (slice_get keys at) with_unique reply ++ end_text (length keys) at
+retrieval_text keys with_unique at reply = asked_text (slice_get keys at) with_unique reply
+    ++ end_text (length keys) at
 
 -- a quiet command is answered nothing
 abbrev pub unless_quiet : Bool → List ℕ → List ℕ
@@ -109,4 +122,5 @@ long_text = codes "CLIENT_ERROR line too long\r\n"
 
 -- the text of a step whose unique numbers are spent
 abbrev pub spent_text : Command → List ℕ
-spent_text command = unless_quiet (is_quiet command) (codes "SERVER_ERROR out of unique numbers\r\n")
+spent_text command = unless_quiet (is_quiet command)
+    (codes "SERVER_ERROR out of unique numbers\r\n")

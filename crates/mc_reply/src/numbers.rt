@@ -3,7 +3,8 @@ use std::marker::Model;
 /// The longest text: three numbers of up to 20 digits with a space before each, and CR LF.
 const LONGEST: usize = 65;
 
-/// The end of a line, written from its last byte to its first: numbers, and then CR LF. Contracts see the text.
+/// The end of a line, written from its last byte to its first: numbers, and then CR LF. Contracts
+/// see the text.
 #[derive(Drop)]
 pub struct Numbers {
     bytes: [u8; LONGEST],

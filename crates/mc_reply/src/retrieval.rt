@@ -1,12 +1,12 @@
-ghost use Rattle.std.specs.Prelude.{◌≡◌, ◌++◌, ◌<◌, ◌+◌, take, length, codes, vec_capacity, OnOk, OnErr};
-ghost use Rattle.mc_reply.specs.Texts.{retrieval_text, end_text};
+ghost use Rattle.std.specs.Prelude.{◌≡◌, ◌++◌, ◌<◌, ◌+◌, take, length, OnOk, OnErr};
+ghost use Rattle.mc_reply.specs.Texts.{retrieval_text, hit_parts, end_text, HasNoRoom};
 
 use crate::numbers::Numbers;
 use mc_command::{Keys, Reply};
 use std::alloc::AllocError;
 
-/// Appends what a retrieval tells of key `at`, and `END` after the last. Only a hit reads the key. It is refused as
-/// `write` is.
+/// Appends what a retrieval tells of key `at`, and `END` after the last. Only a hit reads the key.
+/// It is refused as `write` is.
 pub(crate) fn write_retrieval(
     keys: &Keys<'_>,
     with_unique: bool,
@@ -15,9 +15,11 @@ pub(crate) fn write_retrieval(
     out: &mut Vec<u8>,
 ) -> Result<(), AllocError>
     requires { at < length keys.now }
-    ensures ok { OnOk result (out.new.items ≡ out.old.items ++ retrieval_text keys.now with_unique at reply.now) }
+    ensures ok { OnOk result (out.new.items ≡ out.old.items
+        ++ retrieval_text keys.now with_unique at reply.now) }
     ensures err { OnErr result (out.new.items ≡ out.old.items) }
-    ensures full { OnErr result (vec_capacity out.old < length out.old.items + length (retrieval_text keys.now with_unique at reply.now)) }
+    ensures full { OnErr result (HasNoRoom out.old
+        (retrieval_text keys.now with_unique at reply.now)) }
 {
     let end = end_of(keys.len(), at);
     let Reply::Hit {
@@ -46,7 +48,7 @@ pub(crate) fn write_retrieval(
     result
 }
 
-/// `END` where `at` is the last of `count`.
+/// Returns `END` where `at` is the last of `count`.
 fn end_of(count: usize, at: usize) -> &'static [u8]
     requires { at < count }
     ensures { result.now ≡ end_text count at }
@@ -54,8 +56,8 @@ fn end_of(count: usize, at: usize) -> &'static [u8]
     if at + 1 == count { b"END\r\n" } else { b"" }
 }
 
-/// Appends the parts of a hit, with room for all of them made once. What a refusal leaves behind the old text is the
-/// caller's to drop.
+/// Appends the parts of a hit, with room for all of them made once. What a refusal leaves behind
+/// the old text is the caller's to drop.
 fn append_hit(
     key: &[u8],
     numbers: &[u8],
@@ -63,9 +65,11 @@ fn append_hit(
     end: &[u8],
     out: &mut Vec<u8>,
 ) -> Result<(), AllocError>
-    ensures ok { OnOk result (out.new.items ≡ out.old.items ++ codes "VALUE " ++ key.now ++ numbers.now ++ block.now ++ codes "\r\n" ++ end.now) }
+    ensures ok { OnOk result (out.new.items ≡ out.old.items
+        ++ hit_parts key.now numbers.now block.now end.now) }
     ensures err { OnErr result (take (length out.old.items) out.new.items ≡ out.old.items) }
-    ensures full { OnErr result (vec_capacity out.old < length out.old.items + length (codes "VALUE " ++ key.now ++ numbers.now ++ block.now ++ codes "\r\n" ++ end.now)) }
+    ensures full { OnErr result (HasNoRoom out.old
+        (hit_parts key.now numbers.now block.now end.now)) }
 {
     let room = key
         .len()

@@ -1,15 +1,17 @@
-ghost use Rattle.std.specs.Prelude.{◌≡◌, ◌++◌, ◌<◌, ◌+◌, length, codes, decimal, vec_capacity, OnOk, OnErr};
+ghost use Rattle.std.specs.Prelude.{◌≡◌, ◌++◌, ◌<◌, ◌+◌, length, codes, decimal, OnOk, OnErr};
 ghost use Rattle.mc_command.specs.Commands.{steps};
-ghost use Rattle.mc_reply.specs.Texts.{reply_text, fault_text, plain_text, long_text, spent_text, said};
+ghost use Rattle.mc_reply.specs.Texts.{reply_text, fault_text, plain_text, long_text};
+ghost use Rattle.mc_reply.specs.Texts.{spent_text, said, HasNoRoom};
 
 use crate::numbers::Numbers;
 use crate::retrieval::write_retrieval;
 use mc_command::{Command, LineFault, Reply, is_quiet};
 use std::alloc::AllocError;
 
-/// Appends the text of the reply to step `at`, with `END` after the last key of a retrieval, and nothing where the
-/// command is quiet. It is refused only where the vector has no room for the text, and leaves the vector unchanged then.
-/// A hit costs what finding its key costs, and the copying of the key and the block.
+/// Appends the text of the reply to step `at`, with `END` after the last key of a retrieval, and
+/// nothing where the command is quiet. It is refused only where the vector has no room for the
+/// text, and leaves the vector unchanged then. A hit costs what finding its key costs, and the
+/// copying of the key and the block.
 pub fn write(
     command: &Command<'_>,
     at: usize,
@@ -17,9 +19,10 @@ pub fn write(
     out: &mut Vec<u8>,
 ) -> Result<(), AllocError>
     requires { at < length (steps command.now) }
-    ensures ok { OnOk result (out.new.items ≡ out.old.items ++ reply_text command.now at reply.now) }
+    ensures ok { OnOk result (out.new.items ≡ out.old.items
+        ++ reply_text command.now at reply.now) }
     ensures err { OnErr result (out.new.items ≡ out.old.items) }
-    ensures full { OnErr result (vec_capacity out.old < length out.old.items + length (reply_text command.now at reply.now)) }
+    ensures full { OnErr result (HasNoRoom out.old (reply_text command.now at reply.now)) }
 {
     match command {
         Command::Get { keys, with_unique }
@@ -37,7 +40,7 @@ pub fn write(
 fn write_said(reply: &Reply, out: &mut Vec<u8>) -> Result<(), AllocError>
     ensures ok { OnOk result (out.new.items ≡ out.old.items ++ said reply.now) }
     ensures err { OnErr result (out.new.items ≡ out.old.items) }
-    ensures full { OnErr result (vec_capacity out.old < length out.old.items + length (said reply.now)) }
+    ensures full { OnErr result (HasNoRoom out.old (said reply.now)) }
 {
     let text: &[u8] = match reply {
         Reply::Number(number) => return write_number(*number, out),
@@ -60,7 +63,7 @@ fn write_said(reply: &Reply, out: &mut Vec<u8>) -> Result<(), AllocError>
 fn write_number(number: u64, out: &mut Vec<u8>) -> Result<(), AllocError>
     ensures ok { OnOk result (out.new.items ≡ out.old.items ++ decimal number ++ codes "\r\n") }
     ensures err { OnErr result (out.new.items ≡ out.old.items) }
-    ensures full { OnErr result (vec_capacity out.old < length out.old.items + length (decimal number ++ codes "\r\n")) }
+    ensures full { OnErr result (HasNoRoom out.old (decimal number ++ codes "\r\n")) }
 {
     let mut numbers = Numbers::new();
     numbers.put_number(number);
@@ -71,11 +74,12 @@ fn write_number(number: u64, out: &mut Vec<u8>) -> Result<(), AllocError>
 pub fn write_fault(fault: &LineFault, out: &mut Vec<u8>) -> Result<(), AllocError>
     ensures ok { OnOk result (out.new.items ≡ out.old.items ++ fault_text fault.now) }
     ensures err { OnErr result (out.new.items ≡ out.old.items) }
-    ensures full { OnErr result (vec_capacity out.old < length out.old.items + length (fault_text fault.now)) }
+    ensures full { OnErr result (HasNoRoom out.old (fault_text fault.now)) }
 {
     out.extend_from_slice(fault_bytes(fault))
 }
 
+/// Returns the text of a line's fault.
 fn fault_bytes(fault: &LineFault) -> &'static [u8]
     ensures { result.now ≡ fault_text fault.now }
 {
@@ -88,11 +92,12 @@ fn fault_bytes(fault: &LineFault) -> &'static [u8]
     }
 }
 
-/// Appends the text of version or quit, and nothing for a command with steps. It is refused as `write` is.
+/// Appends the text of version or quit, and nothing for a command with steps. It is refused as
+/// `write` is.
 pub fn write_plain(command: &Command<'_>, out: &mut Vec<u8>) -> Result<(), AllocError>
     ensures ok { OnOk result (out.new.items ≡ out.old.items ++ plain_text command.now) }
     ensures err { OnErr result (out.new.items ≡ out.old.items) }
-    ensures full { OnErr result (vec_capacity out.old < length out.old.items + length (plain_text command.now)) }
+    ensures full { OnErr result (HasNoRoom out.old (plain_text command.now)) }
 {
     match command {
         Command::Version => out.extend_from_slice(b"VERSION 1.6.0\r\n"),
@@ -104,17 +109,17 @@ pub fn write_plain(command: &Command<'_>, out: &mut Vec<u8>) -> Result<(), Alloc
 pub fn write_too_long(out: &mut Vec<u8>) -> Result<(), AllocError>
     ensures ok { OnOk result (out.new.items ≡ out.old.items ++ long_text) }
     ensures err { OnErr result (out.new.items ≡ out.old.items) }
-    ensures full { OnErr result (vec_capacity out.old < length out.old.items + length long_text) }
+    ensures full { OnErr result (HasNoRoom out.old long_text) }
 {
     out.extend_from_slice(b"CLIENT_ERROR line too long\r\n")
 }
 
-/// Appends the text of a step whose unique numbers are spent, and nothing where the command is quiet. It is refused
-/// as `write` is.
+/// Appends the text of a step whose unique numbers are spent, and nothing where the command is
+/// quiet. It is refused as `write` is.
 pub fn write_spent(command: &Command<'_>, out: &mut Vec<u8>) -> Result<(), AllocError>
     ensures ok { OnOk result (out.new.items ≡ out.old.items ++ spent_text command.now) }
     ensures err { OnErr result (out.new.items ≡ out.old.items) }
-    ensures full { OnErr result (vec_capacity out.old < length out.old.items + length (spent_text command.now)) }
+    ensures full { OnErr result (HasNoRoom out.old (spent_text command.now)) }
 {
     if is_quiet(command) {
         return Ok(());

@@ -26,7 +26,8 @@ gone_on (Read len passed) s = record s { unread = read s.unread len passed; take
 gone_on Close s = closed s
 
 -- the first turn of the unit that was found takes the store from before to after
-pub record AnswersFound {S : Type 0} (relations : Relations S) (now : ℕ) (found : Option (ProtocolUnit × ℕ)) (before after : S) : Type 0 where
+pub record AnswersFound {S : Type 0} (relations : Relations S) (now : ℕ)
+    (found : Option (ProtocolUnit × ℕ)) (before after : S) : Type 0 where
   pub unit : ProtocolUnit
   pub len : ℕ
   pub text : List ℕ
@@ -34,21 +35,25 @@ pub record AnswersFound {S : Type 0} (relations : Relations S) (now : ℕ) (foun
   pub answers : Answers relations unit 0 now before after text
 
 -- the first step of a command takes the store from before to after
-pub record TakesFirst {S : Type 0} (relations : Relations S) (now : ℕ) (command : Command) (before after : S) : Type 0 where
+pub record TakesFirst {S : Type 0} (relations : Relations S) (now : ℕ) (command : Command)
+    (before after : S) : Type 0 where
   pub step : KeyStep
   pub reply : Reply
   pub is_step : slice_get (steps command) 0 ≡ Some step
   pub took_it : relations.took before step now reply after
 
 -- what was found is a command, and its first step does
-pub record DecidesFound {S : Type 0} (relations : Relations S) (now : ℕ) (found : Option (ProtocolUnit × ℕ)) (before after : S) : Type 0 where
+pub record DecidesFound {S : Type 0} (relations : Relations S) (now : ℕ)
+    (found : Option (ProtocolUnit × ℕ)) (before after : S) : Type 0 where
   pub command : Command
   pub len : ℕ
   pub is_found : found ≡ Some (Request command, len)
   pub takes : TakesFirst relations now command before after
 
 -- the turn is answered, its text is told, and what comes next
-pub record Tells {S : Type 0} (relations : Relations S) (now : ℕ) (found : Option (ProtocolUnit × ℕ)) (next : AfterTurn) (before after : S) (old new : List ℕ) : Type 0 where
+pub record Tells {S : Type 0} (relations : Relations S) (now : ℕ)
+    (found : Option (ProtocolUnit × ℕ)) (next : AfterTurn) (before after : S)
+    (old new : List ℕ) : Type 0 where
   pub answered : AnswersFound relations now found before after
   pub next_is : next ≡ next_of answered.unit 0 answered.len
   pub few : turn_count answered.unit < 2 ^ 64
@@ -57,9 +62,12 @@ pub record Tells {S : Type 0} (relations : Relations S) (now : ℕ) (found : Opt
 -- so many turns of the first unit were taken, and more are due; how many they are can be counted
 pub data IsWithin : Unread → ℕ → Type 0 where
   at_start : {unread : Unread} → IsWithin unread 0
-  inside : {unread : Unread} {taken : ℕ} (unit : ProtocolUnit) (front rest : List ℕ) → to_read unread ≡ front ++ rest → Spells unread.greatest unit front → taken < turn_count unit → turn_count unit < 2 ^ 64 → IsWithin unread taken
+  inside : {unread : Unread} {taken : ℕ} (unit : ProtocolUnit) (front rest : List ℕ)
+      → to_read unread ≡ front ++ rest → Spells unread.greatest unit front → taken < turn_count unit
+      → turn_count unit < 2 ^ 64 → IsWithin unread taken
 
--- the session may go on so: there are that many bytes and none is to be passed over, or more turns of its first unit are due
+-- the session may go on so: there are that many bytes and none is to be passed over, or more turns
+-- of its first unit are due
 abbrev pub MayGoOn : AfterTurn → SessionState → Type 0
 MayGoOn Step s = IsWithin s.unread (s.taken + 1)
 MayGoOn (Read len passed) s = (len ≤ length s.unread.bytes) × (s.unread.passed ≡ 0)

@@ -15,39 +15,54 @@ abbrev pub with_out : List ℕ → SessionState → SessionState
 with_out out session = record session { out = out }
 
 module _ {S : Type 0} (relations : Relations S) (may_give : ℕ → Type 0) where
-  -- turns one after another, each at a moment that the clock may give: of which unit each is, and which of its turns
+  -- turns one after another, each at a moment that the clock may give: of which unit each is, and
+  -- which of its turns
   pub data Run : SessionState → S → List (ProtocolUnit × ℕ) → SessionState → S → Type 0 where
     nothing : {session : SessionState} {store : S} → Run session store [] session store
-    turn : {first mid last : SessionState} {before between after : S} {taken : List (ProtocolUnit × ℕ)} (now : ℕ)
-        → Run first before taken mid between → may_give now → (takes : TakesTurn relations now mid last between after)
+    turn : {first mid last : SessionState} {before between after : S}
+        {taken : List (ProtocolUnit × ℕ)} (now : ℕ)
+        → Run first before taken mid between → may_give now
+        → (takes : TakesTurn relations now mid last between after)
         → Run first before (taken ++ (takes.unit, mid.taken) ∷ []) last after
 
-  -- What was done with a session since it was opened: how many calls of its turn were made, what was read and written, and
-  -- the turns that were taken. Each call was made while less than 64 KiB of output were waiting, and pieces came only while
-  -- no turn was due.
-  pub data Course (greatest : ℕ) (before : S) : (calls : ℕ) → (read written : List ℕ) → List (ProtocolUnit × ℕ) → SessionState → S → Type 0 where
+  -- What was done with a session since it was opened: how many calls of its turn were made, what
+  -- was read and written, and the turns that were taken. Each call was made while less than 64 KiB
+  -- of output were waiting, and pieces came only while no turn was due.
+  pub data Course (greatest : ℕ) (before : S) : (calls : ℕ) → (read written : List ℕ)
+      → List (ProtocolUnit × ℕ) → SessionState → S → Type 0 where
     begins : Course greatest before 0 [] [] [] (opened greatest) before
     -- a call that took a turn
-    takes_turn : {calls : ℕ} {read written : List ℕ} {taken : List (ProtocolUnit × ℕ)} {session next : SessionState} {store after : S} (now : ℕ)
-        → Course greatest before calls read written taken session store → length session.out < WRITE_AT → may_give now
+    takes_turn : {calls : ℕ} {read written : List ℕ} {taken : List (ProtocolUnit × ℕ)}
+        {session next : SessionState} {store after : S} (now : ℕ)
+        → Course greatest before calls read written taken session store
+        → length session.out < WRITE_AT → may_give now
         → (takes : TakesTurn relations now session next store after)
-        → Course greatest before (calls + 1) read written (taken ++ (takes.unit, session.taken) ∷ []) next after
+        → Course greatest before (calls + 1) read written
+        (taken ++ (takes.unit, session.taken) ∷ []) next after
     -- a call that took none, since none was due or the session was closed
-    takes_none : {calls : ℕ} {read written : List ℕ} {taken : List (ProtocolUnit × ℕ)} {session : SessionState} {store : S}
-        → Course greatest before calls read written taken session store → length session.out < WRITE_AT
+    takes_none : {calls : ℕ} {read written : List ℕ} {taken : List (ProtocolUnit × ℕ)}
+        {session : SessionState} {store : S}
+        → Course greatest before calls read written taken session store
+        → length session.out < WRITE_AT
         → IsFalse session.is_open ⊎ NoTurnDue session
         → Course greatest before (calls + 1) read written taken session store
     -- a piece that came
-    piece_comes : {calls : ℕ} {read written : List ℕ} {taken : List (ProtocolUnit × ℕ)} {session : SessionState} {store : S} (bytes : List ℕ)
-        → Course greatest before calls read written taken session store → IsTrue session.is_open → NoTurnDue session
+    piece_comes : {calls : ℕ} {read written : List ℕ} {taken : List (ProtocolUnit × ℕ)}
+        {session : SessionState} {store : S} (bytes : List ℕ)
+        → Course greatest before calls read written taken session store → IsTrue session.is_open
+        → NoTurnDue session
         → Course greatest before calls (read ++ bytes) written taken (fed session bytes) store
     -- a part of the output that was written
-    part_goes : {calls : ℕ} {read written : List ℕ} {taken : List (ProtocolUnit × ℕ)} {session : SessionState} {store : S} (part rest : List ℕ)
+    part_goes : {calls : ℕ} {read written : List ℕ} {taken : List (ProtocolUnit × ℕ)}
+        {session : SessionState} {store : S} (part rest : List ℕ)
         → Course greatest before calls read written taken session store → session.out ≡ part ++ rest
         → Course greatest before calls read (written ++ part) taken (with_out rest session) store
 
-  -- After so many calls this was done: what was read came of the reader, and what was written went to the writer.
-  pub record HasServed (greatest calls : ℕ) (before after : S) (reader_old reader_new writer_old writer_new : Option (List ℕ)) (last : SessionState) : Type 0 where
+  -- After so many calls this was done: what was read came of the reader, and what was written went
+  -- to the writer.
+  pub record HasServed (greatest calls : ℕ) (before after : S)
+      (reader_old reader_new writer_old writer_new : Option (List ℕ))
+      (last : SessionState) : Type 0 where
     pub read : List ℕ
     pub written : List ℕ
     pub taken : List (ProtocolUnit × ℕ)
@@ -56,40 +71,50 @@ module _ {S : Type 0} (relations : Relations S) (may_give : ℕ → Type 0) wher
     pub appends : Appends writer_old writer_new written
 
   -- a beginning of a run: at most 2^40 calls were made
-  pub record Serves (greatest : ℕ) (before after : S) (reader_old reader_new writer_old writer_new : Option (List ℕ)) : Type 0 where
+  pub record Serves (greatest : ℕ) (before after : S)
+      (reader_old reader_new writer_old writer_new : Option (List ℕ)) : Type 0 where
     pub calls : ℕ
     pub last : SessionState
-    pub served : HasServed greatest calls before after reader_old reader_new writer_old writer_new last
+    pub served :
+        HasServed greatest calls before after reader_old reader_new writer_old writer_new last
     pub few : calls ≤ 2 ^ 40
 
-  -- all of it: every text was written, no turn is due, and the reader is at its end or the session closed
-  pub record ServesAll (greatest : ℕ) (before after : S) (reader_old reader_new writer_old writer_new : Option (List ℕ)) : Type 0 where
+  -- all of it: every text was written, and the session closed or its stream is at its end
+  pub record ServesAll (greatest : ℕ) (before after : S)
+      (reader_old reader_new writer_old writer_new : Option (List ℕ)) : Type 0 where
     pub serves : Serves greatest before after reader_old reader_new writer_old writer_new
     pub written : serves.last.out ≡ []
     pub ended : IsFalse serves.last.is_open ⊎ (IsAtEnd reader_new × NoTurnDue serves.last)
 
-  -- What memory was refused for, after so many calls, and what was read and is lost by it; no more than 2^40 calls are
-  -- made with the one that was refused.
-  pub data Refused : (calls : ℕ) → SessionState → (lost : List ℕ) → (before after : S) → Type 0 where
+  -- What memory was refused for, after so many calls, and what was read and is lost by it; no more
+  -- than 2^40 calls are made with the one that was refused.
+  pub data Refused : (calls : ℕ) → SessionState → List ℕ → (before after : S) → Type 0 where
     -- the buffer for pieces, at the start
     no_buffer : {session : SessionState} {store : S} → Refused 0 session [] store store
     -- a piece that was read
-    no_piece : {calls : ℕ} {session : SessionState} {store : S} (bytes : List ℕ) → calls ≤ 2 ^ 40 → 0 < length bytes
+    no_piece : {calls : ℕ} {session : SessionState} {store : S} (bytes : List ℕ) → calls ≤ 2 ^ 40
+        → 0 < length bytes
         → IsTrue session.is_open → NoTurnDue session → Refused calls session bytes store store
     -- a turn that was due, whose step was not taken
-    no_turn : {calls : ℕ} {session : SessionState} {before after : S} → calls < 2 ^ 40 → length session.out < WRITE_AT
-        → IsTrue session.is_open → (NoTurnDue session → ⊥) → HoldsSame relations before after → Refused calls session [] before after
+    no_turn : {calls : ℕ} {session : SessionState} {before after : S} → calls < 2 ^ 40
+        → length session.out < WRITE_AT
+        → IsTrue session.is_open → (NoTurnDue session → ⊥) → HoldsSame relations before after
+        → Refused calls session [] before after
     -- the text of a turn, whose step was taken
-    no_text : {calls : ℕ} {session : SessionState} {before after : S} (now : ℕ) → calls < 2 ^ 40 → length session.out < WRITE_AT
-        → may_give now → DecidesStep relations now session before after → Refused calls session [] before after
+    no_text : {calls : ℕ} {session : SessionState} {before after : S} (now : ℕ) → calls < 2 ^ 40
+        → length session.out < WRITE_AT
+        → may_give now → DecidesStep relations now session before after
+        → Refused calls session [] before after
 
   -- memory ran out: a beginning of a run, and then what memory was refused for
-  pub record ServesUntilRefused (greatest : ℕ) (before after : S) (reader_old reader_new writer_old writer_new : Option (List ℕ)) : Type 0 where
+  pub record ServesUntilRefused (greatest : ℕ) (before after : S)
+      (reader_old reader_new writer_old writer_new : Option (List ℕ)) : Type 0 where
     pub calls : ℕ
     pub last : SessionState
     pub between : S
     pub reader : Option (List ℕ)
     pub lost : List ℕ
-    pub served : HasServed greatest calls before between reader_old reader writer_old writer_new last
+    pub served :
+        HasServed greatest calls before between reader_old reader writer_old writer_new last
     pub refused : Refused calls last lost between after
     pub consumes : Consumes reader reader_new lost

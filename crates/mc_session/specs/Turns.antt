@@ -11,8 +11,8 @@ use Rattle.mc_parse.specs.Streams.{AreUnits, is_last, passed_after}
 use Rattle.mc_parse.specs.Feeds.{Unread, pushed, settled}
 use Rattle.mc_reply.specs.Texts.{reply_text, plain_text, fault_text, long_text, spent_text}
 
--- what contracts see of a session: the unread part of its stream, how many turns of its first unit were taken, its
--- output, and whether it is open
+-- what contracts see of a session: the unread part of its stream, how many turns of its first unit
+-- were taken, its output, and whether it is open
 pub record SessionState : Type 0 where
   pub unread : Unread
   pub taken : ℕ
@@ -47,13 +47,16 @@ module _ {S : Type 0} (relations : Relations S) where
   -- a step is answered with the text of its reply, or its unique numbers are spent
   abbrev pub AnswersStep : Command → ℕ → KeyStep → ℕ → S → S → List ℕ → Type 0
   AnswersStep command at step now before after text =
-      ((reply : Reply) × relations.took before step now reply after × (text ≡ reply_text command at reply))
-      ⊎ (relations.spent before step now × relations.same before after × (text ≡ spent_text command))
+      ((reply : Reply) × relations.took before step now reply after
+      × (text ≡ reply_text command at reply))
+      ⊎ (relations.spent before step now × relations.same before after
+      × (text ≡ spent_text command))
 
   -- turn `at` of a unit at a moment takes the store from before to after, and has this text
   abbrev pub Answers : ProtocolUnit → ℕ → ℕ → S → S → List ℕ → Type 0
   Answers (Request command) at now before after text =
-      MatchOption (slice_get (steps command) at) ((text ≡ plain_text command) × (after ≡ before)) (λ step. AnswersStep command at step now before after text)
+      MatchOption (slice_get (steps command) at) ((text ≡ plain_text command) × (after ≡ before))
+      (λ step. AnswersStep command at step now before after text)
   Answers (Fault fault) at now before after text = (text ≡ fault_text fault) × (after ≡ before)
   Answers LongLine at now before after text = (text ≡ long_text) × (after ≡ before)
 
@@ -67,7 +70,7 @@ opened greatest = record { unread = nothing_unread greatest; taken = 0; out = []
 
 -- a session that is closed keeps its output alone
 abbrev pub closed : SessionState → SessionState
-closed s = record { unread = nothing_unread s.unread.greatest; taken = 0; out = s.out; is_open = false }
+closed s = record (opened s.unread.greatest) { out = s.out; is_open = false }
 
 -- a session that is open takes a piece of its stream
 abbrev pub fed : SessionState → List ℕ → SessionState
@@ -77,13 +80,19 @@ fed s piece = if s.is_open then record s { unread = pushed s.unread piece } else
 abbrev pub sent : SessionState → ℕ → SessionState
 sent s n = record s { out = drop n s.out }
 
--- The session after a turn of a unit: its text is told. With the last turn of the unit the unit is read, and the bytes
--- that it passes over are dropped as they come; with the last unit of the stream the session is closed.
+-- what is unread behind a unit, with these bytes
+abbrev pub unread_behind : (greatest : ℕ) → ProtocolUnit → (rest : List ℕ) → Unread
+unread_behind greatest unit rest =
+    settled (record { greatest = greatest; passed = passed_after unit; bytes = rest })
+
+-- The session after a turn of a unit: its text is told. With the last turn of the unit the unit is
+-- read, and the bytes that it passes over are dropped as they come; with the last unit of the
+-- stream the session is closed.
 abbrev pub moved : SessionState → ProtocolUnit → List ℕ → List ℕ → SessionState
 moved s unit rest text =
     if is_last unit then closed (record s { out = s.out ++ text })
     else if s.taken + 1 == turn_count unit then
-    record s { unread = settled (record { greatest = s.unread.greatest; passed = passed_after unit; bytes = rest }); taken = 0; out = s.out ++ text }
+    record s { unread = unread_behind s.unread.greatest unit rest; taken = 0; out = s.out ++ text }
     else record s { taken = s.taken + 1; out = s.out ++ text }
 
 -- the store holds what it held: no step was asked of it, or one that was not taken
@@ -91,7 +100,8 @@ abbrev pub HoldsSame : {S : Type 0} (relations : Relations S) → (before after 
 HoldsSame relations before after = (after ≡ before) ⊎ relations.same before after
 
 -- the next turn of an open session's stream was taken at a moment, with a store
-pub record TakesTurn {S : Type 0} (relations : Relations S) (now : ℕ) (old new : SessionState) (before after : S) : Type 0 where
+pub record TakesTurn {S : Type 0} (relations : Relations S) (now : ℕ) (old new : SessionState)
+    (before after : S) : Type 0 where
   pub unit : ProtocolUnit
   pub front : List ℕ
   pub rest : List ℕ
@@ -103,9 +113,10 @@ pub record TakesTurn {S : Type 0} (relations : Relations S) (now : ℕ) (old new
   pub answers : Answers relations unit old.taken now before after text
   pub moves : new ≡ moved old unit rest text
 
--- The next turn of the session's stream is a command's, and its step was taken at a moment, with a store; the text of the
--- reply was not told.
-pub record DecidesStep {S : Type 0} (relations : Relations S) (now : ℕ) (old : SessionState) (before after : S) : Type 0 where
+-- The next turn of the session's stream is a command's, and its step was taken at a moment, with a
+-- store; the text of the reply was not told.
+pub record DecidesStep {S : Type 0} (relations : Relations S) (now : ℕ) (old : SessionState)
+    (before after : S) : Type 0 where
   pub command : Command
   pub front : List ℕ
   pub rest : List ℕ
@@ -127,7 +138,8 @@ TurnIsDue s = IsTrue s.is_open × (NoTurnDue s → ⊥)
 
 -- the session is open with no turn due, and nothing was done
 abbrev pub FindsNoTurn : {S : Type 0} → (old new : SessionState) → (before after : S) → Type 0
-FindsNoTurn old new before after = NoTurnDue old × IsTrue old.is_open × (new ≡ old) × (after ≡ before)
+FindsNoTurn old new before after = NoTurnDue old × IsTrue old.is_open × (new ≡ old)
+    × (after ≡ before)
 
 -- the session is closed, and nothing was done
 abbrev pub FindsClosed : {S : Type 0} → (old new : SessionState) → (before after : S) → Type 0

@@ -16,8 +16,9 @@ use mc_reply::{write, write_fault, write_plain, write_spent, write_too_long};
 use mc_time::Moment;
 use std::alloc::Global;
 
-/// Takes the first turn of what was found, and appends its text. Does nothing where nothing was found. Refused, the output is
-/// as it was, and the fault tells whether the step stands in the store.
+/// Takes the first turn of what was found, and appends its text. Does nothing where nothing was
+/// found. Refused, the output is as it was, and the fault tells whether the step stands in the
+/// store.
 pub fn answer<S: Steps>(
     alloc: Global,
     found: Peek<'_>,
@@ -25,13 +26,19 @@ pub fn answer<S: Steps>(
     now: Moment,
     out: &mut Vec<u8>,
 ) -> Result<Option<AfterTurn>, TurnFault>
-    requires { (command : Command) (len : ℕ) → unit_of found ≡ Some (Request command, len) → HasShortKeys command }
-    ensures none { result ≡ Ok None → (unit_of found.entry ≡ None) × (out.new.items ≡ out.old.items) × (store.new ≡ store.old) }
-    ensures some { IfOk result (λ told. IfSome told (λ next. Tells S.Steps now (unit_of found.entry) next store.old store.new out.old.items out.new.items)) }
+    requires { (command : Command) (len : ℕ) → unit_of found ≡ Some (Request command, len) →
+        HasShortKeys command }
+    ensures none { result ≡ Ok None → (unit_of found.entry ≡ None) × (out.new.items ≡ out.old.items)
+        × (store.new ≡ store.old) }
+    ensures some { IfOk result (λ told. IfSome told
+        (λ next. Tells S.Steps now (unit_of found.entry) next store.old store.new out.old.items
+        out.new.items)) }
     ensures err { OnErr result (out.new.items ≡ out.old.items) }
-    ensures undecided { IfErr result (λ fault. IsFalse fault.decided → HoldsSame S.Steps store.old store.new) }
+    ensures undecided { IfErr result (λ fault. IsFalse fault.decided →
+        HoldsSame S.Steps store.old store.new) }
     ensures due { OnErr result (unit_of found.entry ≡ None → ⊥) }
-    ensures decided { IfErr result (λ fault. IsTrue fault.decided → DecidesFound S.Steps now (unit_of found.entry) store.old store.new) }
+    ensures decided { IfErr result (λ fault. IsTrue fault.decided →
+        DecidesFound S.Steps now (unit_of found.entry) store.old store.new) }
 {
     match found {
         Peek::More => Ok(None),
@@ -45,7 +52,8 @@ pub fn answer<S: Steps>(
 
 /// Appends the text of a line that is too long.
 fn answer_too_long(out: &mut Vec<u8>) -> Result<AfterTurn, TurnFault>
-    ensures ok { IfOk result (λ next. (next ≡ next_of LongLine 0 65537) × (out.new.items ≡ out.old.items ++ long_text)) }
+    ensures ok { IfOk result (λ next. (next ≡ next_of LongLine 0 65537)
+        × (out.new.items ≡ out.old.items ++ long_text)) }
     ensures err { OnErr result (out.new.items ≡ out.old.items) }
     ensures undecided { IfErr result (λ fault. IsFalse fault.decided) }
 {
@@ -55,7 +63,8 @@ fn answer_too_long(out: &mut Vec<u8>) -> Result<AfterTurn, TurnFault>
 
 /// Appends the text of a line's fault.
 fn answer_fault(fault: LineFault, len: usize, out: &mut Vec<u8>) -> Result<AfterTurn, TurnFault>
-    ensures ok { IfOk result (λ next. (next ≡ next_of (Fault fault) 0 len) × (out.new.items ≡ out.old.items ++ fault_text fault)) }
+    ensures ok { IfOk result (λ next. (next ≡ next_of (Fault fault) 0 len)
+        × (out.new.items ≡ out.old.items ++ fault_text fault)) }
     ensures err { OnErr result (out.new.items ≡ out.old.items) }
     ensures undecided { IfErr result (λ fault. IsFalse fault.decided) }
 {
@@ -77,10 +86,13 @@ fn answer_command<S: Steps>(
     out: &mut Vec<u8>,
 ) -> Result<AfterTurn, TurnFault>
     requires { HasShortKeys command.now }
-    ensures ok { IfOk result (λ next. Tells S.Steps now (Some (Request command.now, len)) next store.old store.new out.old.items out.new.items) }
+    ensures ok { IfOk result (λ next. Tells S.Steps now (Some (Request command.now, len)) next
+        store.old store.new out.old.items out.new.items) }
     ensures err { OnErr result (out.new.items ≡ out.old.items) }
-    ensures undecided { IfErr result (λ fault. IsFalse fault.decided → HoldsSame S.Steps store.old store.new) }
-    ensures decided { IfErr result (λ fault. IsTrue fault.decided → TakesFirst S.Steps now command.now store.old store.new) }
+    ensures undecided { IfErr result (λ fault. IsFalse fault.decided →
+        HoldsSame S.Steps store.old store.new) }
+    ensures decided { IfErr result (λ fault. IsTrue fault.decided →
+        TakesFirst S.Steps now command.now store.old store.new) }
 {
     if steps_of(command) == 0 {
         write_plain(command, out)?;
@@ -136,8 +148,10 @@ fn answer_step<S: Steps>(
     ensures ok { OnOk result ((text : List ℕ) × (out.new.items ≡ out.old.items ++ text)
         × Answers S.Steps (Request command.now) 0 now store.old store.new text) }
     ensures err { OnErr result (out.new.items ≡ out.old.items) }
-    ensures undecided { IfErr result (λ fault. IsFalse fault.decided → HoldsSame S.Steps store.old store.new) }
-    ensures decided { IfErr result (λ fault. IsTrue fault.decided → TakesFirst S.Steps now command.now store.old store.new) }
+    ensures undecided { IfErr result (λ fault. IsFalse fault.decided →
+        HoldsSame S.Steps store.old store.new) }
+    ensures decided { IfErr result (λ fault. IsTrue fault.decided →
+        TakesFirst S.Steps now command.now store.old store.new) }
 {
     let step = step_at(command, 0);
     match store.step(alloc, &step, now) {

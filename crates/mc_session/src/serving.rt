@@ -33,12 +33,14 @@ const PIECE: usize = 16384;
 /// Write once this much output is waiting, in bytes, even while turns are due.
 pub const WRITE_AT: usize = 65536;
 
-/// Serves one session: reads pieces, takes turns at the clock's moments and writes their texts, until the input ends or
-/// the session closes. The output is written when no turn is due, at the end, and once `WRITE_AT` bytes of it wait.
+/// Serves one session: reads pieces, takes turns at the clock's moments and writes their texts,
+/// until the input ends or the session closes. The output is written when no turn is due, at the
+/// end, and once `WRITE_AT` bytes of it wait.
 ///
-/// It fails with `Read` where the reader fails and after 2^40 calls of `Session::turn`, with `Write` where the writer fails
-/// or takes nothing, and with `NoMemory` where memory is refused for the buffer, for a piece or for a turn. A failure leaves
-/// a beginning of the run: what was read is answered by what was written and by output that is dropped.
+/// It fails with `Read` where the reader fails and after 2^40 calls of `Session::turn`, with
+/// `Write` where the writer fails or takes nothing, and with `NoMemory` where memory is refused for
+/// the buffer, for a piece or for a turn. A failure leaves a beginning of the run: what was read is
+/// answered by what was written and by output that is dropped.
 pub fn serve<R: Read, W: Write, S: Steps, C: Clock>(
     alloc: Global,
     reader: &mut R,
@@ -48,14 +50,21 @@ pub fn serve<R: Read, W: Write, S: Steps, C: Clock>(
     clock: &C,
 ) -> Result<(), ServeFault>
     ensures ok { OnOk result (ServesAll S.Steps (C.may_give clock.now) greatest store.old store.new
-        (R.remaining reader.old) (R.remaining reader.new) (W.contents writer.old) (W.contents writer.new)) }
+        (R.remaining reader.old) (R.remaining reader.new)
+        (W.contents writer.old) (W.contents writer.new)) }
 
-    ensures read { result ≡ Err ServeFault.Read → Serves S.Steps (C.may_give clock.now) greatest store.old store.new
-        (R.remaining reader.old) (R.remaining reader.new) (W.contents writer.old) (W.contents writer.new) }
-    ensures write { result ≡ Err ServeFault.Write → Serves S.Steps (C.may_give clock.now) greatest store.old store.new
-        (R.remaining reader.old) (R.remaining reader.new) (W.contents writer.old) (W.contents writer.new) }
-    ensures memory { result ≡ Err ServeFault.NoMemory → ServesUntilRefused S.Steps (C.may_give clock.now) greatest store.old store.new
-        (R.remaining reader.old) (R.remaining reader.new) (W.contents writer.old) (W.contents writer.new) }
+    ensures read { result ≡ Err ServeFault.Read →
+        Serves S.Steps (C.may_give clock.now) greatest store.old store.new
+        (R.remaining reader.old) (R.remaining reader.new)
+        (W.contents writer.old) (W.contents writer.new) }
+    ensures write { result ≡ Err ServeFault.Write →
+        Serves S.Steps (C.may_give clock.now) greatest store.old store.new
+        (R.remaining reader.old) (R.remaining reader.new)
+        (W.contents writer.old) (W.contents writer.new) }
+    ensures memory { result ≡ Err ServeFault.NoMemory →
+        ServesUntilRefused S.Steps (C.may_give clock.now) greatest store.old store.new
+        (R.remaining reader.old) (R.remaining reader.new)
+        (W.contents writer.old) (W.contents writer.new) }
 {
     let mut session = Session::new(alloc, greatest);
     let Ok(mut buffer) = vec![in alloc; 0; PIECE] else {
@@ -72,7 +81,8 @@ pub fn serve<R: Read, W: Write, S: Steps, C: Clock>(
     Err(ServeFault::Read)
 }
 
-/// Takes one turn, with the writes and the read that it asks for. Returns whether the run is at its end.
+/// Takes one turn, with the writes and the read that it asks for. Returns whether the run is at its
+/// end.
 fn round<R: Read, W: Write, S: Steps, C: Clock>(
     alloc: Global,
     reader: &mut R,
@@ -84,16 +94,24 @@ fn round<R: Read, W: Write, S: Steps, C: Clock>(
 ) -> Result<bool, ServeFault>
     requires room { 0 < length piece.old }
     requires small { length session.old.out < WRITE_AT }
-    ensures ok { OnOk result (GoesOn S.Steps (C.may_give clock.now) session.old session.new store.old store.new
-        (R.remaining reader.old) (R.remaining reader.new) (W.contents writer.old) (W.contents writer.new)) }
+    ensures ok { OnOk result (GoesOn S.Steps (C.may_give clock.now)
+        session.old session.new store.old store.new
+        (R.remaining reader.old) (R.remaining reader.new)
+        (W.contents writer.old) (W.contents writer.new)) }
     ensures small { OnOk result (length session.new.out < WRITE_AT) }
     ensures end { result ≡ Ok true → HasEnded session.new (R.remaining reader.new) }
-    ensures read { result ≡ Err ServeFault.Read → GoesOn S.Steps (C.may_give clock.now) session.old session.new store.old store.new
-        (R.remaining reader.old) (R.remaining reader.new) (W.contents writer.old) (W.contents writer.new) }
-    ensures write { result ≡ Err ServeFault.Write → GoesOn S.Steps (C.may_give clock.now) session.old session.new store.old store.new
-        (R.remaining reader.old) (R.remaining reader.new) (W.contents writer.old) (W.contents writer.new) }
-    ensures memory { result ≡ Err ServeFault.NoMemory → IsRefused S.Steps (C.may_give clock.now) session.old store.old store.new
-        (R.remaining reader.old) (R.remaining reader.new) (W.contents writer.old) (W.contents writer.new) }
+    ensures read { result ≡ Err ServeFault.Read →
+        GoesOn S.Steps (C.may_give clock.now) session.old session.new store.old store.new
+        (R.remaining reader.old) (R.remaining reader.new)
+        (W.contents writer.old) (W.contents writer.new) }
+    ensures write { result ≡ Err ServeFault.Write →
+        GoesOn S.Steps (C.may_give clock.now) session.old session.new store.old store.new
+        (R.remaining reader.old) (R.remaining reader.new)
+        (W.contents writer.old) (W.contents writer.new) }
+    ensures memory { result ≡ Err ServeFault.NoMemory →
+        IsRefused S.Steps (C.may_give clock.now) session.old store.old store.new
+        (R.remaining reader.old) (R.remaining reader.new)
+        (W.contents writer.old) (W.contents writer.new) }
 {
     match session.turn(alloc, store, clock.now()) {
         Ok(Turn::Did) => {
@@ -123,7 +141,8 @@ fn is_full(session: &Session) -> bool
 
 /// Writes the output. At a failure what was not written is left.
 fn write_out<W: Write>(writer: &mut W, session: &mut Session) -> Result<(), ServeFault>
-    ensures writes { Writes session.old session.new (W.contents writer.old) (W.contents writer.new) }
+    ensures writes { Writes session.old session.new
+        (W.contents writer.old) (W.contents writer.new) }
     ensures ok { OnOk result (session.new.out ≡ []) }
     ensures err { IfErr result (λ fault. fault ≡ ServeFault.Write) }
 {
@@ -144,19 +163,23 @@ fn write_out<W: Write>(writer: &mut W, session: &mut Session) -> Result<(), Serv
     Err(ServeFault::Write)
 }
 
-/// Reads the next piece and feeds it to the session. Returns whether the input is at its end. A read that was
-/// interrupted gives nothing.
+/// Reads the next piece and feeds it to the session. Returns whether the input is at its end. A
+/// read that was interrupted gives nothing.
 fn read_piece<R: Read>(
     reader: &mut R,
     session: &mut Session,
     piece: &mut [u8],
 ) -> Result<bool, ServeFault>
     requires { 0 < length piece.old }
-    ensures ok { OnOk result (Reads session.old session.new (R.remaining reader.old) (R.remaining reader.new)) }
+    ensures ok { OnOk result (Reads session.old session.new
+        (R.remaining reader.old) (R.remaining reader.new)) }
     ensures out { OnOk result (session.new.out ≡ session.old.out) }
-    ensures end { result ≡ Ok true → (session.new ≡ session.old) × IsAtEnd (R.remaining reader.new) }
-    ensures read { result ≡ Err ServeFault.Read → Reads session.old session.new (R.remaining reader.old) (R.remaining reader.new) }
-    ensures memory { result ≡ Err ServeFault.NoMemory → LosesPiece (R.remaining reader.old) (R.remaining reader.new) }
+    ensures end { result ≡ Ok true → (session.new ≡ session.old)
+        × IsAtEnd (R.remaining reader.new) }
+    ensures read { result ≡ Err ServeFault.Read →
+        Reads session.old session.new (R.remaining reader.old) (R.remaining reader.new) }
+    ensures memory { result ≡ Err ServeFault.NoMemory →
+        LosesPiece (R.remaining reader.old) (R.remaining reader.new) }
     ensures err { IfErr result (λ fault. fault ≡ ServeFault.Write → ⊥) }
 {
     match reader.read(piece) {

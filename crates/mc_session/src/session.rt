@@ -41,8 +41,8 @@ impl From<AllocError> for TurnFault {
     }
 }
 
-/// The turns of one connection. Contracts see the unread part of its stream, how many turns of its first unit were
-/// taken, the output that is to be written, and whether it is open.
+/// The turns of one connection. Contracts see the unread part of its stream, how many turns of its
+/// first unit were taken, the output that is to be written, and whether it is open.
 #[derive(Drop)]
 pub struct Session {
     alloc: Global,
@@ -62,7 +62,12 @@ impl Model for Session {
 
     ghost Value = { SessionState };
 
-    ghost view = { λ s. record { unread = s.feed; taken = s.taken; out = drop s.sent s.out.items; is_open = s.is_open } };
+    ghost view = { λ s. record {
+      unread = s.feed;
+      taken = s.taken;
+      out = drop s.sent s.out.items;
+      is_open = s.is_open;
+    } };
 
     ghost invariant = { λ s. IsWithin s.feed s.taken × (s.sent + s.sent ≤ length s.out.items) };
 }
@@ -73,7 +78,8 @@ impl Session {
     ghost use Rattle.mc_session.specs.Turns.{DecidesStep, HoldsSame, opened, closed, fed, sent};
     ghost use Rattle.mc_session.specs.Answers.{gone_on, MayGoOn};
 
-    /// Makes a session that was fed nothing, whose storage commands may charge at most `greatest` bytes. It takes no memory.
+    /// Makes a session that was fed nothing, whose storage commands may charge at most `greatest`
+    /// bytes. It takes no memory.
     pub fn new(alloc: Global, greatest: u64) -> Session
         ensures { result ≡ opened greatest }
     {
@@ -87,7 +93,8 @@ impl Session {
         }
     }
 
-    /// Takes the next piece of the stream, and none of it where the session is closed. Refused, the session is as it was.
+    /// Takes the next piece of the stream, and none of it where the session is closed. Refused, the
+    /// session is as it was.
     pub fn feed(&mut self, piece: &[u8]) -> Result<(), AllocError>
         ensures ok { OnOk result (self.new ≡ fed self.old piece.now) }
         ensures err { OnErr result (self.new ≡ self.old) }
@@ -99,24 +106,29 @@ impl Session {
         }
     }
 
-    /// Takes the next turn of the session's stream, if one is due: at most one step of the store, at `now`. Its text is
-    /// appended to the output. Want of memory closes the session; the output stays.
+    /// Takes the next turn of the session's stream, if one is due: at most one step of the store,
+    /// at `now`. Its text is appended to the output. Want of memory closes the session; the output
+    /// stays.
     pub fn turn<S: Steps>(
         &mut self,
         alloc: Global,
         store: &mut S,
         now: Moment,
     ) -> Result<Turn, TurnFault>
-        ensures did { result ≡ Ok Turn.Did → TakesTurn S.Steps now self.old self.new store.old store.new }
+        ensures did { result ≡ Ok Turn.Did →
+            TakesTurn S.Steps now self.old self.new store.old store.new }
         ensures idle { result ≡ Ok Turn.Idle → FindsNoTurn self.old self.new store.old store.new }
-        ensures closed { result ≡ Ok Turn.Closed → FindsClosed self.old self.new store.old store.new }
+        ensures closed { result ≡ Ok Turn.Closed →
+            FindsClosed self.old self.new store.old store.new }
         ensures err { OnErr result (self.new ≡ closed self.old) }
         // Memory runs out only where a turn is due.
         ensures due { OnErr result (TurnIsDue self.old) }
-        // What was not decided left the store with what it held; what was decided is the step of the turn, whose text alone
-        // is missing.
-        ensures undecided { IfErr result (λ fault. IsFalse fault.decided → HoldsSame S.Steps store.old store.new) }
-        ensures decided { IfErr result (λ fault. IsTrue fault.decided → DecidesStep S.Steps now self.old store.old store.new) }
+        // What was not decided left the store with what it held; what was decided is the step of
+        // the turn, whose text alone is missing.
+        ensures undecided { IfErr result (λ fault. IsFalse fault.decided →
+            HoldsSame S.Steps store.old store.new) }
+        ensures decided { IfErr result (λ fault. IsTrue fault.decided →
+            DecidesStep S.Steps now self.old store.old store.new) }
     {
         if !self.is_open {
             return Ok(Turn::Closed);
@@ -161,15 +173,16 @@ impl Session {
         self.is_open && is_more(&self.feed.peek_after(self.taken))
     }
 
-    /// Says whether the session was closed: by a quit, a line that is too long, want of memory or `close`.
+    /// Says whether the session was closed: by a quit, a line that is too long, want of memory or
+    /// `close`.
     pub fn is_closed(&self) -> bool
         ensures { IsTrue result ↔ IsFalse self.now.is_open }
     {
         !self.is_open
     }
 
-    /// Counts the bytes of output that are held in memory: those that are to be written, and of those that were sent at
-    /// most as many.
+    /// Counts the bytes of output that are held in memory: those that are to be written, and of
+    /// those that were sent at most as many.
     pub fn held(&self) -> usize
         ensures least { length self.now.out ≤ result }
         ensures most { result ≤ 2 * length self.now.out }
@@ -185,8 +198,9 @@ impl Session {
         unsent
     }
 
-    /// Drops the first `n` bytes of the output, which were written. What is left is moved only where it is no longer than what was
-    /// written, so that each byte that is written pays for one that is moved.
+    /// Drops the first `n` bytes of the output, which were written. What is left is moved only
+    /// where it is no longer than what was written, so that each byte that is written pays for one
+    /// that is moved.
     pub fn sent(&mut self, n: usize)
         requires { n ≤ length self.old.out }
         ensures { self.new ≡ sent self.old n }

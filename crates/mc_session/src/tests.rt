@@ -149,7 +149,8 @@ fn run_once(
     run(alloc, input, reads, writes)
 }
 
-/// What a run that is well writes. Where a growth was refused, what was written is a beginning of that.
+/// What a run that is well writes. Where a growth was refused, what was written is a beginning of
+/// that.
 fn written(rt: &impl Abort, alloc: Global, input: &[u8]) -> Result<Vec<u8>, Fail> {
     let (ended, part) = run_once(alloc, input, NEVER, NEVER)?;
     if ended.is_ok() {
@@ -304,8 +305,9 @@ fn asks(
     Ok(())
 }
 
-/// Takes a step behind another turn. Where its turn is refused the session closes with the text of the other, and the
-/// step stands exactly where the fault says so. An error is a growth that was refused elsewhere.
+/// Takes a step behind another turn. Where its turn is refused the session closes with the text of
+/// the other, and the step stands exactly where the fault says so. An error is a growth that was
+/// refused elsewhere.
 fn step_is_taken(
     rt: &impl Abort,
     alloc: Global,
