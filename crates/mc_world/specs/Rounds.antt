@@ -8,14 +8,16 @@ use Rattle.mc_world.specs.declared.event.Event.TheVariants.{Open, Piece, Turn}
 use Rattle.mc_world.specs.declared.event.Refused.{Refused}
 
 -- a part of the output of session n was written
-pub record Writes {K : Type 0} (n : ℕ) (old new : WorldState K) (writer_old writer_new : Option (List ℕ)) : Type 0 where
+pub record Writes {K : Type 0} (n : ℕ) (old new : WorldState K)
+    (writer_old writer_new : Option (List ℕ)) : Type 0 where
   pub part : List ℕ
   pub parts : old ≡ with_written n part new
   pub appends : Appends writer_old writer_new part
 
 -- nothing more is to come: the session isn't open, or it is idle and the reader is at its end
 abbrev pub HasEnded : {K : Type 0} → ℕ → WorldState K → Option (List ℕ) → Type 0
-HasEnded n world reader = (open_session n world.sessions ≡ None) ⊎ (IsIdle (numbered n world.sessions) × IsAtEnd reader)
+HasEnded n world reader = (open_session n world.sessions ≡ None)
+    ⊎ (IsIdle (numbered n world.sessions) × IsAtEnd reader)
 
 module _ {K : Type 0} (hash_of : K → List ℕ → ℕ) where
   -- the session was opened, in a world that had room for it
@@ -26,12 +28,16 @@ module _ {K : Type 0} (hash_of : K → List ℕ → ℕ) where
     pub told : Told hash_of old (Open ∷ []) new
 
   -- a piece of session n was read, or nothing was
-  pub data Reads (n : ℕ) (old new : WorldState K) (reader_old reader_new : Option (List ℕ)) : Type 0 where
-    fed_piece : (piece : List ℕ) → Consumes reader_old reader_new piece → Told hash_of old (Piece n piece ∷ []) new → Reads n old new reader_old reader_new
-    read_nothing : Consumes reader_old reader_new [] → new ≡ old → Reads n old new reader_old reader_new
+  pub data Reads (n : ℕ) (old new : WorldState K)
+      (reader_old reader_new : Option (List ℕ)) : Type 0 where
+    fed_piece : (piece : List ℕ) → Consumes reader_old reader_new piece
+        → Told hash_of old (Piece n piece ∷ []) new → Reads n old new reader_old reader_new
+    read_nothing : Consumes reader_old reader_new [] → new ≡ old
+        → Reads n old new reader_old reader_new
 
   -- a piece of session n was read, and refused memory
-  pub record ReadsRefused (n : ℕ) (old new : WorldState K) (reader_old reader_new : Option (List ℕ)) : Type 0 where
+  pub record ReadsRefused (n : ℕ) (old new : WorldState K)
+      (reader_old reader_new : Option (List ℕ)) : Type 0 where
     pub piece : List ℕ
     pub consumes : Consumes reader_old reader_new piece
     pub refused : Refused

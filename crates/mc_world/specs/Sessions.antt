@@ -16,7 +16,8 @@ at_session sessions n change = changed n sessions change (open_session n session
 
 -- one session more, if fewer than 65535 were opened
 abbrev pub with_opened : (greatest : ℕ) → List SessionState → List SessionState
-with_opened greatest sessions = if nat_lt (length sessions) 65535 then sessions ++ opened greatest ∷ [] else sessions
+with_opened greatest sessions = if nat_lt (length sessions) 65535 then sessions ++ opened greatest
+    ∷ [] else sessions
 
 -- the session of that number is open
 abbrev pub IsOpened : ℕ → List SessionState → Type 0
@@ -28,15 +29,19 @@ module _ {S : Type 0} (relations : Relations S) where
   TurnOf n now old new before after =
       MatchOption (open_session n old) ((new ≡ old) × (after ≡ before)) (λ session.
       (NoTurnDue session × (new ≡ old) × (after ≡ before))
-      ⊎ ((next : SessionState) × TakesTurn relations now session next before after × (new ≡ put n old next)))
+      ⊎ ((next : SessionState) × TakesTurn relations now session next before after
+      × (new ≡ put n old next)))
 
 -- it decides the step of its next turn, whose text isn't told
-abbrev pub DecidedOf : {S : Type 0} (relations : Relations S) → ℕ → ℕ → List SessionState → S → S → Type 0
-DecidedOf relations n now old before after = (session : SessionState) × (open_session n old ≡ Some session) × DecidesStep relations now session before after
+abbrev pub DecidedOf : {S : Type 0} (relations : Relations S) → ℕ → ℕ → List SessionState → S → S
+    → Type 0
+DecidedOf relations n now old before after = (session : SessionState)
+    × (open_session n old ≡ Some session) × DecidesStep relations now session before after
 
 -- a turn of it is due
 abbrev pub IsDue : ℕ → List SessionState → Type 0
-IsDue n sessions = (session : SessionState) × (open_session n sessions ≡ Some session) × (NoTurnDue session → ⊥)
+IsDue n sessions = (session : SessionState) × (open_session n sessions ≡ Some session)
+    × (NoTurnDue session → ⊥)
 
 -- the session of that number stands at this place, and is open
 pub record IsOpenAt (sessions : List SessionState) (n at : ℕ) : Type 0 where
@@ -51,11 +56,16 @@ module _ {K : Type 0} (hash_of : K → List ℕ → ℕ) where
   -- a shelf of a world is purged, if it is there
   abbrev pub without_dead : ℕ → WorldState K → Plain
   without_dead shelf w =
-      if nat_lt shelf w.settings.shelves then purged (λ key. hash_of w.hasher key % w.settings.shelves == shelf) w.moment w.state else w.state
+      if nat_lt shelf w.settings.shelves then purged
+      (λ key. hash_of w.hasher key % w.settings.shelves == shelf) w.moment w.state else w.state
 
   abbrev pub Done : WorldState K → Event → WorldState K → Type 0
-  Done old Open new = new ≡ (if nat_lt (length old.sessions) 65535 then record old { sessions = old.sessions ++ opened old.settings.greatest ∷ [] } else old)
-  Done old (Piece n piece) new = new ≡ record old { sessions = at_session old.sessions n (λ s. fed s piece) }
+  Done old Open new =
+      new
+      ≡ (if nat_lt (length old.sessions) 65535
+      then record old { sessions = old.sessions ++ opened old.settings.greatest ∷ [] } else old)
+  Done old (Piece n piece) new =
+      new ≡ record old { sessions = at_session old.sessions n (λ s. fed s piece) }
   Done old (Turn n) new =
       (new.settings ≡ old.settings) × (new.hasher ≡ old.hasher) × (new.moment ≡ old.moment)
       × TurnOf in_plain n old.moment old.sessions new.sessions old.state new.state
@@ -79,7 +89,8 @@ DecidedIn old (Grow shelf) state = ⊥
 DecidedIn old (Purge shelf) state = ⊥
 DecidedIn old (Close n) state = ⊥
 
--- the event takes memory: it opens a session, brings a piece to one that is open, or gives one a turn that is due
+-- the event takes memory: it opens a session, brings a piece to one that is open, or gives one a
+-- turn that is due
 abbrev pub Takes : {K : Type 0} → WorldState K → Event → Type 0
 Takes old Open = length old.sessions < 65535
 Takes old (Piece n piece) = IsOpened n old.sessions
@@ -90,7 +101,8 @@ Takes old (Purge shelf) = ⊥
 Takes old (Close n) = ⊥
 
 -- what is left where memory ran out in an event
-pub record Undone {K : Type 0} (decided : Bool) (old : WorldState K) (event : Event) (new : WorldState K) : Type 0 where
+pub record Undone {K : Type 0} (decided : Bool) (old : WorldState K) (event : Event)
+    (new : WorldState K) : Type 0 where
   pub settings : new.settings ≡ old.settings
   pub hasher : new.hasher ≡ old.hasher
   pub moment : new.moment ≡ old.moment
@@ -101,4 +113,11 @@ pub record Undone {K : Type 0} (decided : Bool) (old : WorldState K) (event : Ev
 
 -- a world's parts as contracts see it
 abbrev pub state_of : {K : Type 0} → Parts K → WorldState K
-state_of w = record { settings = w.store.settings; hasher = w.store.hasher; state = w.store.plain; moment = w.moment; sessions = w.sessions }
+state_of w =
+    record {
+      settings = w.store.settings;
+      hasher = w.store.hasher;
+      state = w.store.plain;
+      moment = w.moment;
+      sessions = w.sessions;
+    }
