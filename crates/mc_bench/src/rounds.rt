@@ -1,7 +1,6 @@
 //! Rounds of turns.
 ghost use Rattle.std.specs.Prelude.{[], ◌∷◌, OnOk};
 ghost use Rattle.mc_world.specs.Worlds.{Told};
-ghost use Rattle.mc_world.specs.Sessions.{world_of};
 
 use mc_command::Bytes;
 use mc_hop::{Fnv, KeyHash};
@@ -69,7 +68,7 @@ fn run<K: KeyHash + Drop>(
     alloc: Global,
     event: Event<'_>,
 ) -> Result<(), AllocError>
-    ensures { OnOk result (Told (K.hash_of world.old.store.hasher) world.old.store.settings.shelves (world_of world.old) (event.entry ∷ []) (world_of world.new)) }
+    ensures { OnOk result (Told K.hash_of world.old (event.entry ∷ []) world.new) }
 {
     match world.run(alloc, &[event]) {
         Ok(()) => Ok(()),

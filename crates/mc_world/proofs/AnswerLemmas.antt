@@ -9,32 +9,15 @@ use Rattle.mc_command.specs.Plain.{Plain, plain}
 use Rattle.mc_command.specs.declared.command.Command.{Command}
 use Rattle.mc_command.specs.declared.step.KeyStep.{KeyStep}
 use Rattle.mc_parse.specs.Units.{ProtocolUnit, Request, Fault, LongLine}
-use Rattle.mc_parse.proofs.StreamLemmas.{same_units}
 use Rattle.mc_reply.specs.Texts.{reply_text, plain_text, fault_text, long_text, spent_text}
-use Rattle.mc_session.specs.Turns.{Answers, AnswersStep, turns}
+use Rattle.mc_session.specs.Turns.{Answers, AnswersStep}
 use Rattle.mc_world.specs.Connections.{Connection, IsNext, HasNoNext, fresh, with_piece, after_turn, ended}
-use Rattle.mc_world.specs.Worlds.{PlainWorld, replies, is_spent, numbered, if_open, put, changed, open_connection, at_connection, Turns, Happens, Runs, named}
-use Rattle.mc_world.specs.Laws.{step_of, Answer, Replied, NumbersSpent, answer_in, answers_in, AnswersNext, AnswersOf, RunsAnswering, is_number, events_of, Leaves}
+use Rattle.mc_world.specs.Worlds.{PlainWorld, in_plain, numbered, if_open, put, changed, open_connection, at_connection, Turns, Happens, Runs, named}
+use Rattle.mc_world.specs.Laws.{Grammar, step_of, Answer, Replied, NumbersSpent, answer_in, answers_in, AnswersNext, AnswersOf, RunsAnswering, is_number, events_of, Leaves}
+use Rattle.mc_world.proofs.ConnectionLemmas.{one_next, no_next}
 use Rattle.mc_world.proofs.LawLemmas.{get_set, get_apart, before_suc}
 use Rattle.mc_world.specs.declared.event.Event.{Event}
 use Rattle.mc_world.specs.declared.event.Event.TheVariants.{Open, Piece, Turn, Clock, Grow, Purge, Close}
-
--- a connection has one next turn
-one_next : (c : Connection) (u v : ProtocolUnit) (at to : ℕ) → IsNext c u at → IsNext c v to → let one : ProtocolUnit × ℕ = (u, at) in let other : ProtocolUnit × ℕ = (v, to) in one ≡ other
-one_next c u v at to g h =
-    let same = same_units c.greatest c.passed c.stream g.units h.units g.are h.are in
-    let one : Option (ProtocolUnit × ℕ) = Some (u, at) in
-    let other : Option (ProtocolUnit × ℕ) = Some (v, to) in
-    let both : one ≡ other = sym g.next ∙ ap (λ us. slice_get (turns us) c.taken) same ∙ h.next in
-    cc
-
--- or none
-no_next : (c : Connection) (u : ProtocolUnit) (at : ℕ) → IsNext c u at → HasNoNext c → ⊥
-no_next c u at g h =
-    let same = same_units c.greatest c.passed c.stream g.units h.units g.are h.are in
-    let one : Option (ProtocolUnit × ℕ) = Some (u, at) in
-    let both : one ≡ None = sym g.next ∙ ap (λ us. slice_get (turns us) c.taken) same ∙ h.none in
-    cc
 
 -- the text of an answer
 abbrev answer_text : Command → ℕ → Answer → List ℕ
@@ -93,36 +76,36 @@ Same d d' others others' = (d' ≡ d) × (others ≡ others')
 none_both : (c d d' e : Connection) (some others some' others' : List Answer) → some ++ others ≡ some' ++ others' → (some ≡ []) × (d ≡ e) → (some' ≡ []) × (d' ≡ e) → Same d d' others others'
 none_both c d d' e some others some' others' is g h = (h.1 ∙ sym g.1, ap (λ l. l ++ others) (sym g.0) ∙ is ∙ ap (λ l. l ++ others') h.0)
 
-turn_one : (c d d' : Connection) (some others some' others' : List Answer) → some ++ others ≡ some' ++ others' → OwnTurn c some d → OwnTurn c some' d' → Same d d' others others'
-turn_one c d d' some others some' others' is (inl g) (inl h) = none_both c d d' c some others some' others' is (g.1, g.2) (h.1, h.2)
-turn_one c d d' some others some' others' is (inl g) (inr (v, to, told, next, tells, now)) = absurd (no_next c v to next g.0)
-turn_one c d d' some others some' others' is (inr (u, at, text, next, tells, now)) (inl h) = absurd (no_next c u at next h.0)
-turn_one c d d' some others some' others' is (inr (u, at, text, next, tells, now)) (inr (v, to, text', next', tells', now')) =
-    let both = one_next c u v at to next next' in
+turn_one : (grammar : Grammar) (c d d' : Connection) (some others some' others' : List Answer) → some ++ others ≡ some' ++ others' → OwnTurn c some d → OwnTurn c some' d' → Same d d' others others'
+turn_one grammar c d d' some others some' others' is (inl g) (inl h) = none_both c d d' c some others some' others' is (g.1, g.2) (h.1, h.2)
+turn_one grammar c d d' some others some' others' is (inl g) (inr (v, to, told, next, tells, now)) = absurd (no_next grammar c v to next g.0)
+turn_one grammar c d d' some others some' others' is (inr (u, at, text, next, tells, now)) (inl h) = absurd (no_next grammar c u at next h.0)
+turn_one grammar c d d' some others some' others' is (inr (u, at, text, next, tells, now)) (inr (v, to, text', next', tells', now')) =
+    let both = one_next grammar c u v at to next next' in
     let here : Tells u at some' text' = subst (λ (p : ProtocolUnit × ℕ). Tells p.0 p.1 some' text') (sym both) tells' in
     let same = tells_one u at some others some' others' text text' is tells here in (
       now' ∙ ap (λ (p : ProtocolUnit × ℕ). after_turn p.0 text' c) (sym both) ∙ ap (λ t. after_turn u t c) (sym same.0) ∙ sym now,
       same.1,
     )
 
-own_one : (c d d' : Connection) (event : Event) (some others some' others' : List Answer) → some ++ others ≡ some' ++ others' → Own c event some d → Own c event some' d' → Same d d' others others'
-own_one c d d' Open some others some' others' is g h = absurd g
-own_one c d d' (Piece k piece) some others some' others' is g h = none_both c d d' (where_open (with_piece piece) c) some others some' others' is g h
-own_one c d d' (Turn k) some others some' others' is g h =
+own_one : (grammar : Grammar) (c d d' : Connection) (event : Event) (some others some' others' : List Answer) → some ++ others ≡ some' ++ others' → Own c event some d → Own c event some' d' → Same d d' others others'
+own_one grammar c d d' Open some others some' others' is g h = absurd g
+own_one grammar c d d' (Piece k piece) some others some' others' is g h = none_both c d d' (where_open (with_piece piece) c) some others some' others' is g h
+own_one grammar c d d' (Turn k) some others some' others' is g h =
     elim c.is_open as (λ b. MatchBool b (OwnTurn c some d) ((some ≡ []) × (d ≡ c)) → MatchBool b (OwnTurn c some' d') ((some' ≡ []) × (d' ≡ c)) → Same d d' others others') [
-      | true ↦ λ m n. turn_one c d d' some others some' others' is m n
+      | true ↦ λ m n. turn_one grammar c d d' some others some' others' is m n
       | false ↦ λ m n. none_both c d d' c some others some' others' is m n
     ] g h
-own_one c d d' (Clock now) some others some' others' is g h = absurd g
-own_one c d d' (Grow shelf) some others some' others' is g h = absurd g
-own_one c d d' (Purge shelf) some others some' others' is g h = absurd g
-own_one c d d' (Close k) some others some' others' is g h = none_both c d d' (where_open ended c) some others some' others' is g h
+own_one grammar c d d' (Clock now) some others some' others' is g h = absurd g
+own_one grammar c d d' (Grow shelf) some others some' others' is g h = absurd g
+own_one grammar c d d' (Purge shelf) some others some' others' is g h = absurd g
+own_one grammar c d d' (Close k) some others some' others' is g h = none_both c d d' (where_open ended c) some others some' others' is g h
 
-own_all_one : (c d d' : Connection) (events : List Event) (answers answers' : List Answer) → answers ≡ answers' → OwnAll c events answers d → OwnAll c events answers' d' → d' ≡ d
-own_all_one c d d' [] answers answers' is g h = h.1 ∙ sym g.1
-own_all_one c d d' (event ∷ events) answers answers' is (mid, some, others, own, rest, parts) (mid', some', others', own', rest', parts') =
-    let same = own_one c mid mid' event some others some' others' (sym parts ∙ is ∙ parts') own own' in
-    own_all_one mid d d' events others others' same.1 rest (subst (λ (m : Connection). OwnAll m events others' d') same.0 rest')
+own_all_one : (grammar : Grammar) (c d d' : Connection) (events : List Event) (answers answers' : List Answer) → answers ≡ answers' → OwnAll c events answers d → OwnAll c events answers' d' → d' ≡ d
+own_all_one grammar c d d' [] answers answers' is g h = h.1 ∙ sym g.1
+own_all_one grammar c d d' (event ∷ events) answers answers' is (mid, some, others, own, rest, parts) (mid', some', others', own', rest', parts') =
+    let same = own_one grammar c mid mid' event some others some' others' (sym parts ∙ is ∙ parts') own own' in
+    own_all_one grammar mid d d' events others others' same.1 rest (subst (λ (m : Connection). OwnAll m events others' d') same.0 rest')
 
 -- the connection of a number, open or not, and after a change of it or of another's
 open_at : (cs : List Connection) (n : ℕ) (c : Connection) → numbered n cs ≡ Some c → open_connection n cs ≡ (if c.is_open then Some c else None)
@@ -169,33 +152,33 @@ abbrev at_number : ℕ → PlainWorld → Option Connection
 at_number n w = numbered n w.connections
 
 -- the text of a turn is that of its answers
-tells_step : (command : Command) (at now : ℕ) (step : KeyStep) (before after : Plain) (text : List ℕ) → AnswersStep replies is_spent command at step now before after text
+tells_step : (command : Command) (at now : ℕ) (step : KeyStep) (before after : Plain) (text : List ℕ) → AnswersStep in_plain command at step now before after text
     → (answer : Answer) × (answer_in (plain before step now) ∷ [] ≡ answer ∷ []) × (text ≡ answer_text command at answer)
 tells_step command at now step before after text (inl (reply, said, told)) = (Replied reply, ap (λ o. answer_in o ∷ []) said, told)
 tells_step command at now step before after text (inr (spent, same, told)) = (NumbersSpent, ap (λ o. answer_in o ∷ []) spent, told)
 
 tells_request_in : (old : PlainWorld) (command : Command) (at : ℕ) (after : Plain) (text : List ℕ) (o : Option KeyStep)
-    → MatchOption o ((text ≡ plain_text command) × (after ≡ old.state)) (λ step. AnswersStep replies is_spent command at step old.now old.state after text)
+    → MatchOption o ((text ≡ plain_text command) × (after ≡ old.state)) (λ step. AnswersStep in_plain command at step old.now old.state after text)
     → MatchOption o ((answers_in old o ≡ []) × (text ≡ plain_text command)) (λ step. (answer : Answer) × (answers_in old o ≡ answer ∷ []) × (text ≡ answer_text command at answer))
 tells_request_in old command at after text None h = (refl, h.0)
 tells_request_in old command at after text (Some step) h = tells_step command at old.now step old.state after text h
 
-tells_in : (old : PlainWorld) (unit : ProtocolUnit) (at : ℕ) (after : Plain) (text : List ℕ) → Answers replies is_spent unit at old.now old.state after text → Tells unit at (answers_in old (step_of unit at)) text
+tells_in : (old : PlainWorld) (unit : ProtocolUnit) (at : ℕ) (after : Plain) (text : List ℕ) → Answers in_plain unit at old.now old.state after text → Tells unit at (answers_in old (step_of unit at)) text
 tells_in old (Request command) at after text h = tells_request_in old command at after text (slice_get (steps command) at) h
 tells_in old (Fault fault) at after text h = (refl, h.0)
 tells_in old LongLine at after text h = (refl, h.0)
 
 -- A turn of an open connection.
-module _ (old new : PlainWorld) (n : ℕ) (c : Connection) (here : numbered n old.connections ≡ Some c) where
+module _ (grammar : Grammar) (old new : PlainWorld) (n : ℕ) (c : Connection) (here : numbered n old.connections ≡ Some c) where
   abbrev Owned : Event → List Answer → Type 0
   Owned event answers = (d : Connection) × (at_number n new ≡ Some d) × Own c event answers d
 
   turn_owned : (answers : List Answer) → Turns old n c new → AnswersNext old c answers → (d : Connection) × (at_number n new ≡ Some d) × OwnTurn c answers d
   turn_owned answers (inl h) (inl a) = (c, ap (at_number n) h.1 ∙ here, inl (h.0, a.1, refl))
-  turn_owned answers (inl h) (inr (unit, at, next, is)) = absurd (no_next c unit at next h.0)
-  turn_owned answers (inr (state, turn, is)) (inl a) = absurd (no_next c turn.unit turn.at turn.next a.0)
+  turn_owned answers (inl h) (inr (unit, at, next, is)) = absurd (no_next grammar c unit at next h.0)
+  turn_owned answers (inr (state, turn, is)) (inl a) = absurd (no_next grammar c turn.unit turn.at turn.next a.0)
   turn_owned answers (inr (state, turn, is)) (inr (unit, at, next, told)) =
-      let both = one_next c unit turn.unit at turn.at next turn.next in
+      let both = one_next grammar c unit turn.unit at turn.at next turn.next in
       let tells : Tells turn.unit turn.at answers turn.text =
       subst (λ (l : List Answer). Tells turn.unit turn.at l turn.text) (sym (told ∙ ap (λ (p : ProtocolUnit × ℕ). answers_in old (step_of p.0 p.1)) both)) (tells_in old turn.unit turn.at state turn.text turn.answers) in
       let d : Connection = after_turn turn.unit turn.text c in
@@ -293,15 +276,15 @@ module _ (old new : PlainWorld) (n : ℕ) (c : Connection) (here : numbered n ol
         ] refl
 
 -- A run.
-module _ (hash : List ℕ → ℕ) (shelves n : ℕ) where
+module _ (grammar : Grammar) (hash : List ℕ → ℕ) (shelves n : ℕ) where
   abbrev Lives : Connection → List Event → List Answer → PlainWorld → Type 0
   Lives c events answers new = (d : Connection) × (at_number n new ≡ Some d) × OwnAll c (events_of n events) answers d
 
   -- what an event makes of the connection, and then the others
-  lives_more : (c : Connection) (old mid new : PlainWorld) (event : Event) (events : List Event) (some others : List Answer) (here : at_number n old ≡ Some c) → Kept old mid n c here hash shelves (is_number n (named event)) event some
+  lives_more : (c : Connection) (old mid new : PlainWorld) (event : Event) (events : List Event) (some others : List Answer) (here : at_number n old ≡ Some c) → Kept grammar old mid n c here hash shelves (is_number n (named event)) event some
       → ((x : Connection) → at_number n mid ≡ Some x → Lives x events others new) → Lives c (event ∷ events) (some ++ others) new
   lives_more c old mid new event events some others here was goes =
-      elim (is_number n (named event)) as (λ b. Kept old mid n c here hash shelves b event some
+      elim (is_number n (named event)) as (λ b. Kept grammar old mid n c here hash shelves b event some
       → (d : Connection) × (at_number n new ≡ Some d) × OwnAll c (if b then event ∷ events_of n events else events_of n events) (some ++ others) d) [
         | true ↦ λ (x, there, own). let rest = goes x there in (rest.0, rest.1, (x, some, others, own, rest.2, refl))
         | false ↦ λ (there, none). let rest = goes c there in (rest.0, rest.1, subst (λ (l : List Answer). OwnAll c (events_of n events) (l ++ others) rest.0) (sym none) rest.2)
@@ -311,12 +294,12 @@ module _ (hash : List ℕ → ℕ) (shelves n : ℕ) where
   lives c old new [] answers here (same, none) = (c, ap (at_number n) same ∙ here, (none, refl))
   lives c old new (event ∷ events) answers here (mid, some, others, happens, told, runs, parts) =
       subst (λ (l : List Answer). Lives c (event ∷ events) l new) (sym parts)
-      (lives_more c old mid new event events some others here (kept old mid n c here hash shelves event some happens told) (λ x there. lives x mid new events others there runs))
+      (lives_more c old mid new event events some others here (kept grammar old mid n c here hash shelves event some happens told) (λ x there. lives x mid new events others there runs))
 
   abbrev RunsSo : PlainWorld → List Event → PlainWorld → Type 0
   RunsSo old events new = (answers : List Answer) × (last : Connection) × RunsAnswering hash shelves n old events answers new × (at_number n new ≡ Some last)
 
-  kept_at : (c : Connection) (old mid : PlainWorld) (event : Event) (some : List Answer) (here : at_number n old ≡ Some c) (b : Bool) → Kept old mid n c here hash shelves b event some → (x : Connection) × (at_number n mid ≡ Some x)
+  kept_at : (c : Connection) (old mid : PlainWorld) (event : Event) (some : List Answer) (here : at_number n old ≡ Some c) (b : Bool) → Kept grammar old mid n c here hash shelves b event some → (x : Connection) × (at_number n mid ≡ Some x)
   kept_at c old mid event some here true was = (was.0, was.1)
   kept_at c old mid event some here false was = (c, was.0)
 
@@ -324,17 +307,18 @@ module _ (hash : List ℕ → ℕ) (shelves n : ℕ) where
   pub runs_answering : (c : Connection) (old new : PlainWorld) (events : List Event) → at_number n old ≡ Some c → Runs hash shelves old events new → RunsSo old events new
   runs_answering c old new [] here same = ([], c, (same, refl), ap (at_number n) same ∙ here)
   runs_answering c old new (event ∷ events) here (mid, happens, runs) =
-      let told = answered old mid n c here hash shelves event happens in
-      let there = kept_at c old mid event told.0 here (is_number n (named event)) (kept old mid n c here hash shelves event told.0 happens told.1) in
+      let told = answered grammar old mid n c here hash shelves event happens in
+      let there = kept_at c old mid event told.0 here (is_number n (named event)) (kept grammar old mid n c here hash shelves event told.0 happens told.1) in
       let rest = runs_answering there.0 mid new events there.1 runs in
       (told.0 ++ rest.0, rest.1, (mid, told.0, rest.0, happens, told.1, rest.2, refl), rest.3)
 
-leaves_own : (n : ℕ) (first : Connection) (own : List Event) (answers : List Answer) (last : Connection) → Leaves n first own answers last → OwnAll first own answers last
-leaves_own n first own answers last l =
-    let found = lives l.hash l.shelves n first l.old l.new l.events answers l.begins l.runs in
+leaves_own : (grammar : Grammar) (n : ℕ) (first : Connection) (own : List Event) (answers : List Answer) (last : Connection) → Leaves n first own answers last → OwnAll first own answers last
+leaves_own grammar n first own answers last l =
+    let found = lives grammar l.hash l.shelves n first l.old l.new l.events answers l.begins l.runs in
     let both : Some found.0 ≡ Some last = sym found.1 ∙ l.ends in
     let same : found.0 ≡ last = cc in
     subst (λ (es : List Event). OwnAll first es answers last) l.has (subst (OwnAll first (events_of n l.events) answers) same found.2)
 
-pub leaves_one : (n : ℕ) (first : Connection) (own : List Event) (answers : List Answer) (last other : Connection) → Leaves n first own answers last → Leaves n first own answers other → other ≡ last
-leaves_one n first own answers last other one two = own_all_one first last other own answers answers refl (leaves_own n first own answers last one) (leaves_own n first own answers other two)
+pub leaves_one : (grammar : Grammar) (n : ℕ) (first : Connection) (own : List Event) (answers : List Answer) (last other : Connection) → Leaves n first own answers last → Leaves n first own answers other → other ≡ last
+leaves_one grammar n first own answers last other one two =
+    own_all_one grammar first last other own answers answers refl (leaves_own grammar n first own answers last one) (leaves_own grammar n first own answers other two)

@@ -1,21 +1,23 @@
 -- What is left of a connection, over a piece, a turn and an end.
-use Rattle.std.proofs.Common.{◌≡◌, ℕ, zero, suc, ◌+◌, ◌-◌, ◌<◌, ◌==◌, Bool, true, false, not, List, [], ◌∷◌, ◌++◌, length, drop, Some, refl, sym, ap, ◌∙◌, subst, arith, length-append, length-drop, append_assoc, if◌then◌else◌}
+use Rattle.std.proofs.Common.{◌≡◌, ◌⊎◌, inl, inr, ℕ, zero, suc, ◌+◌, ◌<◌, ◌==◌, ◌↔◌, Bool, true, false, not, List, [], ◌∷◌, ◌++◌, length, drop, Option, Some, None, refl, sym, ap, ◌∙◌, subst, arith, length-append, length-drop, append_assoc, if◌then◌else◌}
 use Rattle.std.specs.List.{slice_get}
 use Rattle.std.specs.Bool.{MatchBool}
 use Rattle.std.proofs.lemmas.Bool.{eqb-true, eqb-false}
-use Rattle.std.proofs.lemmas.List.{drop-append-le, append-nil}
+use Rattle.std.proofs.lemmas.List.{drop-append-le, append-nil, append_cancel_left}
 use Rattle.std.proofs.lemmas.Option.{slice_get_past}
-use Rattle.mc_command.specs.declared.step.KeyStep.{KeyStep}
-use Rattle.mc_command.specs.declared.reply.Reply.{Reply}
+use Rattle.mc_command.specs.declared.step.Steps.{Ghosts as Relations}
 use Rattle.mc_parse.specs.Units.{ProtocolUnit, Request, Fault, LongLine, Spells}
 use Rattle.mc_parse.specs.Streams.{AreUnits, is_last, passed_after}
 use Rattle.mc_parse.specs.Feeds.{Unread, settled, pushed}
-use Rattle.mc_parse.proofs.UnitLemmas.{same_spelling}
-use Rattle.mc_parse.proofs.StreamLemmas.{some_units, spelling_some}
-use Rattle.mc_parse.proofs.FeedLemmas.{pushed_twice}
-use Rattle.mc_session.specs.Turns.{SessionState, turn_count, turns_from, turns, nothing_unread, closed, fed, TakesTurn, NoTurnDue}
-use Rattle.mc_session.proofs.StreamLemmas.{settled_once, are_along}
+use Rattle.mc_session.specs.Turns.{SessionState, to_read, HasUnits, turn_count, turns_from, turns, nothing_unread, closed, fed, TakesTurn, NoTurnDue}
+use Rattle.mc_shelf.specs.declared.store.Settings.{Settings}
+use Rattle.mc_command.specs.Plain.{Plain}
+use Rattle.mc_world.specs.Laws.{Grammar}
+use Rattle.mc_world.specs.Worlds.{StandAll, StandsAs, PlainWorld, WorldState}
 use Rattle.mc_world.specs.Connections.{Connection, IsNext, HasNoNext, Follows, IsAmong, at_start, inside, IsRest, shut, Stands, with_piece, after_turn, ended}
+
+abbrev unread : ℕ → ℕ → List ℕ → Unread
+unread greatest passed bytes = record { greatest = greatest; passed = passed; bytes = bytes }
 
 -- a unit has so many turns
 turns_length : (unit : ProtocolUnit) (at n : ℕ) → length (turns_from unit at n) ≡ n
@@ -65,11 +67,11 @@ turn_behind read us unit t taken is less =
     ∙ ap (λ (k : ℕ). Some (unit, k)) e
 
 -- the units of a stream are those that were read and then those of what comes after them
-are_joined : (greatest passed : ℕ) (bytes : List ℕ) (read us : List ProtocolUnit) (rest : Unread) → Follows greatest passed bytes read rest → AreUnits rest.greatest rest.passed rest.bytes us → AreUnits greatest passed bytes (read ++ us)
-are_joined greatest passed bytes [] us rest f h =
-    are_along greatest (passed - length bytes) passed (drop passed bytes) bytes us (settled_once passed bytes) (subst (λ (r : Unread). AreUnits r.greatest r.passed r.bytes us) f h)
-are_joined greatest passed bytes (u ∷ read) us rest f h =
-    (f.0, f.1, f.2, f.3, subst (λ (b : Bool). MatchBool b ((read ++ us) ≡ []) (AreUnits greatest (passed_after u) f.1 (read ++ us))) (sym f.4) (are_joined greatest (passed_after u) f.1 read us rest f.5 h))
+are_joined : (g : Grammar) (greatest passed : ℕ) (bytes : List ℕ) (read us : List ProtocolUnit) (rest : Unread) → Follows greatest passed bytes read rest → AreUnits rest.greatest rest.passed rest.bytes us → AreUnits greatest passed bytes (read ++ us)
+are_joined g greatest passed bytes [] us rest f h =
+    (g.early_units (unread greatest passed bytes) us).0 (subst (λ (r : Unread). HasUnits r us) f h)
+are_joined g greatest passed bytes (u ∷ read) us rest f h =
+    (f.0, f.1, f.2, f.3, subst (λ (b : Bool). MatchBool b ((read ++ us) ≡ []) (AreUnits greatest (passed_after u) f.1 (read ++ us))) (sym f.4) (are_joined g greatest (passed_after u) f.1 read us rest f.5 h))
 
 -- what is left has the same greatest charge
 same_greatest : (greatest passed : ℕ) (bytes : List ℕ) (read : List ProtocolUnit) (rest : Unread) → Follows greatest passed bytes read rest → rest.greatest ≡ greatest
@@ -77,60 +79,57 @@ same_greatest greatest passed bytes [] rest f = ap (λ (r : Unread). r.greatest)
 same_greatest greatest passed bytes (u ∷ read) rest f = same_greatest greatest (passed_after u) f.1 read rest f.5
 
 -- a piece that comes behind a front that spells a unit leaves it there
-behind_front : (greatest passed : ℕ) (bytes piece front more : List ℕ) (unit : ProtocolUnit) → drop passed bytes ≡ front ++ more → Spells greatest unit front → drop passed (bytes ++ piece) ≡ front ++ (more ++ piece)
-behind_front greatest passed bytes piece front more unit e spelled =
-    let some = spelling_some greatest unit front spelled in
+behind_front : (g : Grammar) (greatest passed : ℕ) (bytes piece front more : List ℕ) (unit : ProtocolUnit) → drop passed bytes ≡ front ++ more → Spells greatest unit front → drop passed (bytes ++ piece) ≡ front ++ (more ++ piece)
+behind_front g greatest passed bytes piece front more unit e spelled =
+    let some = g.byte greatest unit front spelled in
     drop-append-le passed bytes piece (omega (arith, length-drop passed bytes, ap length e, length-append front more))
     ∙ ap (λ l. l ++ piece) e ∙ append_assoc front more piece
 
-abbrev unread : ℕ → ℕ → List ℕ → Unread
-unread greatest passed bytes = record { greatest = greatest; passed = passed; bytes = bytes }
-
 -- it doesn't matter whether the bytes to be passed are dropped before a piece comes
-pushed_settled : (u : Unread) (piece : List ℕ) → pushed (settled u) piece ≡ pushed u piece
-pushed_settled u piece = ap (λ b. pushed (settled (unread u.greatest u.passed b)) piece) (sym (append-nil u.bytes)) ∙ pushed_twice u [] piece
+pushed_settled : (g : Grammar) (u : Unread) (piece : List ℕ) → pushed (settled u) piece ≡ pushed u piece
+pushed_settled g u piece = ap (λ b. pushed (settled (unread u.greatest u.passed b)) piece) (sym (append-nil u.bytes)) ∙ g.cut u [] piece
 
 -- a piece comes to what is left
-follows_piece : (greatest passed : ℕ) (bytes piece : List ℕ) (read : List ProtocolUnit) (rest : Unread) → Follows greatest passed bytes read rest → Follows greatest passed (bytes ++ piece) read (pushed rest piece)
-follows_piece greatest passed bytes piece [] rest f = ap (λ r. pushed r piece) f ∙ pushed_settled (unread greatest passed bytes) piece
-follows_piece greatest passed bytes piece (u ∷ read) rest f =
-    (f.0, f.1 ++ piece, behind_front greatest passed bytes piece f.0 f.1 u f.2 f.3, f.3, f.4, follows_piece greatest (passed_after u) f.1 piece read rest f.5)
+follows_piece : (g : Grammar) (greatest passed : ℕ) (bytes piece : List ℕ) (read : List ProtocolUnit) (rest : Unread) → Follows greatest passed bytes read rest → Follows greatest passed (bytes ++ piece) read (pushed rest piece)
+follows_piece g greatest passed bytes piece [] rest f = ap (λ r. pushed r piece) f ∙ pushed_settled g (unread greatest passed bytes) piece
+follows_piece g greatest passed bytes piece (u ∷ read) rest f =
+    (f.0, f.1 ++ piece, behind_front g greatest passed bytes piece f.0 f.1 u f.2 f.3, f.3, f.4, follows_piece g greatest (passed_after u) f.1 piece read rest f.5)
 
 -- and the unit that stands first still does
-among_piece : {u : Unread} {t : ℕ} (piece : List ℕ) → IsAmong u t → IsAmong (pushed u piece) t
-among_piece piece at_start = at_start
-among_piece {u = u} piece (inside unit front rest e spelled less) =
-    inside unit front (rest ++ piece) (settled_once u.passed (u.bytes ++ piece) ∙ behind_front u.greatest u.passed u.bytes piece front rest unit e spelled) spelled less
+among_piece : (g : Grammar) {u : Unread} {t : ℕ} (piece : List ℕ) → IsAmong u t → IsAmong (pushed u piece) t
+among_piece g piece at_start = at_start
+among_piece g {u = u} piece (inside unit front rest e spelled less) =
+    inside unit front (rest ++ piece) (g.early (record u { bytes = u.bytes ++ piece }) ∙ behind_front g u.greatest u.passed u.bytes piece front rest unit e spelled) spelled less
 
 -- one unit more is read
-follows_more : (greatest passed : ℕ) (bytes : List ℕ) (read : List ProtocolUnit) (rest : Unread) (unit : ProtocolUnit) (front more : List ℕ) → Follows greatest passed bytes read rest → drop rest.passed rest.bytes ≡ front ++ more → Spells rest.greatest unit front → is_last unit ≡ false
+follows_more : (g : Grammar) (greatest passed : ℕ) (bytes : List ℕ) (read : List ProtocolUnit) (rest : Unread) (unit : ProtocolUnit) (front more : List ℕ) → Follows greatest passed bytes read rest → drop rest.passed rest.bytes ≡ front ++ more → Spells rest.greatest unit front → is_last unit ≡ false
     → Follows greatest passed bytes (read ++ unit ∷ []) (settled (unread rest.greatest (passed_after unit) more))
-follows_more greatest passed bytes [] rest unit front more f e spelled last =
+follows_more g greatest passed bytes [] rest unit front more f e spelled last =
     let same : rest.greatest ≡ greatest = ap (λ (r : Unread). r.greatest) f in
-    let here : drop passed bytes ≡ drop rest.passed rest.bytes = sym (settled_once passed bytes) ∙ ap (λ (r : Unread). drop r.passed r.bytes) (sym f) in
+    let here : drop passed bytes ≡ drop rest.passed rest.bytes = sym (g.early (unread greatest passed bytes)) ∙ ap to_read (sym f) in
     (front, more, here ∙ e, subst (λ (g : ℕ). Spells g unit front) same spelled, last, ap (λ g. settled (unread g (passed_after unit) more)) same)
-follows_more greatest passed bytes (u ∷ read) rest unit front more f e spelled last =
-    (f.0, f.1, f.2, f.3, f.4, follows_more greatest (passed_after u) f.1 read rest unit front more f.5 e spelled last)
+follows_more g greatest passed bytes (u ∷ read) rest unit front more f e spelled last =
+    (f.0, f.1, f.2, f.3, f.4, follows_more g greatest (passed_after u) f.1 read rest unit front more f.5 e spelled last)
 
 -- a first unit has others behind it
-first_units : (greatest passed : ℕ) (bytes : List ℕ) (unit : ProtocolUnit) (front rest : List ℕ) → drop passed bytes ≡ front ++ rest → Spells greatest unit front → (us : List ProtocolUnit) × AreUnits greatest passed bytes (unit ∷ us)
-first_units greatest passed bytes unit front rest e spelled =
-    let others = some_units greatest (passed_after unit) rest in
+first_units : (g : Grammar) (greatest passed : ℕ) (bytes : List ℕ) (unit : ProtocolUnit) (front rest : List ℕ) → drop passed bytes ≡ front ++ rest → Spells greatest unit front → (us : List ProtocolUnit) × AreUnits greatest passed bytes (unit ∷ us)
+first_units g greatest passed bytes unit front rest e spelled =
+    let others = g.some greatest (passed_after unit) rest in
     elim (is_last unit) as (λ last. ((us : List ProtocolUnit) → MatchBool last (us ≡ []) (AreUnits greatest (passed_after unit) rest us) → AreUnits greatest passed bytes (unit ∷ us)) → (us : List ProtocolUnit) × AreUnits greatest passed bytes (unit ∷ us)) [
       | true ↦ λ first. ([], first [] refl)
       | false ↦ λ first. (others.0, first others.0 others.1)
     ] (λ us m. (front, rest, e, spelled, m))
 
 -- a piece comes to an open session
-pub rest_fed : (c : Connection) (s : SessionState) (piece : List ℕ) → s.is_open ≡ true → IsRest c s → Stands c s → c.is_open ≡ true → Stands (with_piece piece c) (fed s piece)
-rest_fed c s piece opens rest stands is_open =
+pub rest_fed : (g : Grammar) (c : Connection) (s : SessionState) (piece : List ℕ) → s.is_open ≡ true → IsRest c s → Stands c s → c.is_open ≡ true → Stands (with_piece piece c) (fed s piece)
+rest_fed g c s piece opens rest stands is_open =
     let grown : SessionState = record s { unread = pushed s.unread piece } in
     let same : fed s piece ≡ grown = ap (λ (b : Bool). if b then grown else s) opens in
     let left : IsRest (with_piece piece c) grown = record {
       read = rest.read;
-      follows = follows_piece c.greatest c.passed c.stream piece rest.read s.unread rest.follows;
+      follows = follows_piece g c.greatest c.passed c.stream piece rest.read s.unread rest.follows;
       taken = rest.taken;
-      among = among_piece piece rest.among;
+      among = among_piece g piece rest.among;
       out = rest.out;
     } in
     subst (λ (x : SessionState). Stands (with_piece piece c) x) (sym same)
@@ -145,20 +144,20 @@ rest_closed c s rest =
     ∙ ap (λ (o : List ℕ). record { unread = nothing_unread c.greatest; taken = 0; out = o; is_open = false }) told
 
 -- where no turn of the session is due, none of the stream is
-pub rest_idle : (c : Connection) (s : SessionState) → IsRest c s → NoTurnDue s → HasNoNext c
-rest_idle c s rest none = record {
+pub rest_idle : (g : Grammar) (c : Connection) (s : SessionState) → IsRest c s → NoTurnDue s → HasNoNext c
+rest_idle g c s rest none = record {
   units = rest.read ++ [];
-  are = are_joined c.greatest c.passed c.stream rest.read [] s.unread rest.follows none;
+  are = are_joined g c.greatest c.passed c.stream rest.read [] s.unread rest.follows none;
   none = ap (λ l. slice_get (turns l) c.taken) (append-nil rest.read) ∙ slice_get_past (turns rest.read) c.taken (omega (arith, rest.taken));
 }
 
 -- the unit that stands first in what is left of a connection has its next turn, where one of its turns is left
-pub next_of : (c : Connection) (s : SessionState) → IsRest c s → (unit : ProtocolUnit) (front more : List ℕ) → drop s.unread.passed s.unread.bytes ≡ front ++ more → Spells s.unread.greatest unit front → s.taken < turn_count unit → IsNext c unit s.taken
-next_of c s rest unit front more parts spelled less =
-    let us = first_units s.unread.greatest s.unread.passed s.unread.bytes unit front more parts spelled in
+pub next_of : (g : Grammar) (c : Connection) (s : SessionState) → IsRest c s → (unit : ProtocolUnit) (front more : List ℕ) → drop s.unread.passed s.unread.bytes ≡ front ++ more → Spells s.unread.greatest unit front → s.taken < turn_count unit → IsNext c unit s.taken
+next_of g c s rest unit front more parts spelled less =
+    let us = first_units g s.unread.greatest s.unread.passed s.unread.bytes unit front more parts spelled in
     record {
       units = rest.read ++ unit ∷ us.0;
-      are = are_joined c.greatest c.passed c.stream rest.read (unit ∷ us.0) s.unread rest.follows us.1;
+      are = are_joined g c.greatest c.passed c.stream rest.read (unit ∷ us.0) s.unread rest.follows us.1;
       next = turn_behind rest.read us.0 unit s.taken c.taken rest.taken less;
     }
 
@@ -168,25 +167,61 @@ some_turns (Fault fault) = omega arith
 some_turns LongLine = omega arith
 
 -- one of its turns is left
-some_left : {u : Unread} {t : ℕ} (unit : ProtocolUnit) (front more : List ℕ) → IsAmong u t → drop u.passed u.bytes ≡ front ++ more → Spells u.greatest unit front → t < turn_count unit
-some_left unit front more at_start parts spelled = some_turns unit
-some_left {u = u} {t = t} unit front more (inside other begin end e spells less) parts spelled =
-    subst (λ (v : ProtocolUnit). t < turn_count v) (same_spelling u.greatest other unit begin front end more spells spelled (sym e ∙ parts)).0 less
+some_left : (g : Grammar) {u : Unread} {t : ℕ} (unit : ProtocolUnit) (front more : List ℕ) → IsAmong u t → drop u.passed u.bytes ≡ front ++ more → Spells u.greatest unit front → t < turn_count unit
+some_left g unit front more at_start parts spelled = some_turns unit
+some_left g {u = u} {t = t} unit front more (inside other begin end e spells less) parts spelled =
+    subst (λ (v : ProtocolUnit). t < turn_count v) (g.apart u.greatest other unit begin front end more spells spelled (sym e ∙ parts)).0 less
 
--- where a turn of the session is due, one of the stream is
-due_of : (c : Connection) (s : SessionState) → IsRest c s → (NoTurnDue s → ⊥) → (units : List ProtocolUnit) → AreUnits s.unread.greatest s.unread.passed s.unread.bytes units → (unit : ProtocolUnit) × (at : ℕ) × IsNext c unit at
-due_of c s rest due [] h = absurd (due h)
-due_of c s rest due (unit ∷ units) h = (unit, s.taken, next_of c s rest unit h.0 h.1 h.2 h.3 (some_left unit h.0 h.1 rest.among h.2 h.3))
+-- where no turn of the session is due, none of the stream is, and else one is
+abbrev DueOrNot : Connection → SessionState → Type 0
+DueOrNot c s = NoTurnDue s ⊎ ((unit : ProtocolUnit) × (at : ℕ) × IsNext c unit at)
 
-pub rest_due : (c : Connection) (s : SessionState) → IsRest c s → (NoTurnDue s → ⊥) → (unit : ProtocolUnit) × (at : ℕ) × IsNext c unit at
-rest_due c s rest due =
-    let units = some_units s.unread.greatest s.unread.passed s.unread.bytes in
-    due_of c s rest due units.0 units.1
+due_by : (g : Grammar) (c : Connection) (s : SessionState) → IsRest c s → (units : List ProtocolUnit) → AreUnits s.unread.greatest s.unread.passed s.unread.bytes units → DueOrNot c s
+due_by g c s rest [] h = inl h
+due_by g c s rest (unit ∷ units) h = inr (unit, s.taken, next_of g c s rest unit h.0 h.1 h.2 h.3 (some_left g unit h.0 h.1 rest.among h.2 h.3))
+
+due_or_not : (g : Grammar) (c : Connection) (s : SessionState) → IsRest c s → DueOrNot c s
+due_or_not g c s rest = let units = g.some s.unread.greatest s.unread.passed s.unread.bytes in due_by g c s rest units.0 units.1
+
+due_of : (c : Connection) (s : SessionState) → DueOrNot c s → (NoTurnDue s → ⊥) → (unit : ProtocolUnit) × (at : ℕ) × IsNext c unit at
+due_of c s (inl none) due = absurd (due none)
+due_of c s (inr next) due = next
+
+pub rest_due : (g : Grammar) (c : Connection) (s : SessionState) → IsRest c s → (NoTurnDue s → ⊥) → (unit : ProtocolUnit) × (at : ℕ) × IsNext c unit at
+rest_due g c s rest due = due_of c s (due_or_not g c s rest) due
+
+-- a connection has one next turn
+pub one_next : (g : Grammar) (c : Connection) (u v : ProtocolUnit) (at to : ℕ) → IsNext c u at → IsNext c v to → let one : ProtocolUnit × ℕ = (u, at) in let other : ProtocolUnit × ℕ = (v, to) in one ≡ other
+one_next g c u v at to x y =
+    let same = g.same c.greatest c.passed c.stream x.units y.units x.are y.are in
+    let one : Option (ProtocolUnit × ℕ) = Some (u, at) in
+    let other : Option (ProtocolUnit × ℕ) = Some (v, to) in
+    let both : one ≡ other = sym x.next ∙ ap (λ us. slice_get (turns us) c.taken) same ∙ y.next in
+    cc
+
+-- or none
+pub no_next : (g : Grammar) (c : Connection) (u : ProtocolUnit) (at : ℕ) → IsNext c u at → HasNoNext c → ⊥
+no_next g c u at x y =
+    let same = g.same c.greatest c.passed c.stream x.units y.units x.are y.are in
+    let one : Option (ProtocolUnit × ℕ) = Some (u, at) in
+    let both : one ≡ None = sym x.next ∙ ap (λ us. slice_get (turns us) c.taken) same ∙ y.none in
+    cc
+
+idle_of : (g : Grammar) (c : Connection) (s : SessionState) → DueOrNot c s → HasNoNext c → NoTurnDue s
+idle_of g c s (inl none) h = none
+idle_of g c s (inr next) h = absurd (no_next g c next.0 next.1 next.2 h)
+
+due_of_both : (g : Grammar) (c : Connection) (s : SessionState) (b : Bool) → b ≡ true → MatchBool b ((s.is_open ≡ true) × IsRest c s) (s ≡ shut c) → NoTurnDue s ↔ HasNoNext c
+due_of_both g c s true is h = (λ none. rest_idle g c s h.1 none, λ none. idle_of g c s (due_or_not g c s h.1) none)
+due_of_both g c s false is h = absurd (let e : true ≡ false = sym is in cc)
+
+pub due_both : (g : Grammar) (c : Connection) (s : SessionState) → Stands c s → c.is_open ≡ true → NoTurnDue s ↔ HasNoNext c
+due_both g c s stands is = due_of_both g c s c.is_open is stands
 
 -- A turn of an open session is the next turn of its connection's stream.
-module _ {S : Type 0} (took : S → KeyStep → ℕ → Reply → S → Type 0) (spent : S → KeyStep → ℕ → Type 0) (now : ℕ) (c : Connection) (s new : SessionState) (before after : S) (rest : IsRest c s) (takes : TakesTurn took spent now s new before after) where
-  pub is_next : IsNext c takes.unit s.taken
-  is_next = next_of c s rest takes.unit takes.front takes.rest takes.parts takes.spelled takes.due
+module _ {S : Type 0} (relations : Relations S) (now : ℕ) (c : Connection) (s new : SessionState) (before after : S) (rest : IsRest c s) (takes : TakesTurn relations now s new before after) where
+  pub is_next : (g : Grammar) → IsNext c takes.unit s.taken
+  is_next g = next_of g c s rest takes.unit takes.front takes.rest takes.parts takes.spelled takes.due
 
   abbrev told : List ℕ
   told = s.out ++ takes.text
@@ -204,22 +239,22 @@ module _ {S : Type 0} (took : S → KeyStep → ℕ → Reply → S → Type 0) 
   told_out : told ≡ c.out ++ takes.text
   told_out = ap (λ o. o ++ takes.text) rest.out
 
-  stands_by : (last whole : Bool) → s.is_open ≡ true → is_last takes.unit ≡ last → (s.taken + 1 == turn_count takes.unit) ≡ whole → Stands (after_by last) (moved_by last whole)
-  stands_by true whole opens is counted =
+  stands_by : (g : Grammar) (last whole : Bool) → s.is_open ≡ true → is_last takes.unit ≡ last → (s.taken + 1 == turn_count takes.unit) ≡ whole → Stands (after_by last) (moved_by last whole)
+  stands_by g true whole opens is counted =
       ap (λ (g : ℕ). record { unread = nothing_unread g; taken = 0; out = told; is_open = false }) (same_greatest c.greatest c.passed c.stream rest.read s.unread rest.follows)
       ∙ ap (λ (o : List ℕ). record { unread = nothing_unread c.greatest; taken = 0; out = o; is_open = false }) told_out
-  stands_by false true opens is counted =
+  stands_by g false true opens is counted =
       let all : s.taken + 1 ≡ turn_count takes.unit = eqb-true _ _ counted in (
         opens,
         record {
           read = rest.read ++ takes.unit ∷ [];
-          follows = follows_more c.greatest c.passed c.stream rest.read s.unread takes.unit takes.front takes.rest rest.follows takes.parts takes.spelled is;
+          follows = follows_more g c.greatest c.passed c.stream rest.read s.unread takes.unit takes.front takes.rest rest.follows takes.parts takes.spelled is;
           taken = omega (arith, turns_more rest.read takes.unit, rest.taken);
           among = at_start;
           out = told_out;
         },
       )
-  stands_by false false opens is counted = (
+  stands_by g false false opens is counted = (
     opens,
     record {
       read = rest.read;
@@ -230,5 +265,61 @@ module _ {S : Type 0} (took : S → KeyStep → ℕ → Reply → S → Type 0) 
     },
   )
 
-  pub stands_after : s.is_open ≡ true → Stands (after_turn takes.unit takes.text c) new
-  stands_after opens = subst (λ (x : SessionState). Stands (after_turn takes.unit takes.text c) x) (sym takes.moves) (stands_by (is_last takes.unit) (s.taken + 1 == turn_count takes.unit) opens refl refl)
+  pub stands_after : (g : Grammar) → s.is_open ≡ true → Stands (after_turn takes.unit takes.text c) new
+  stands_after g opens = subst (λ (x : SessionState). Stands (after_turn takes.unit takes.text c) x) (sym takes.moves) (stands_by g (is_last takes.unit) (s.taken + 1 == turn_count takes.unit) opens refl refl)
+
+-- What is left of a connection is one thing.
+turns_first : (v : ProtocolUnit) (vs : List ProtocolUnit) → length (turns (v ∷ vs)) ≡ turn_count v + length (turns vs)
+turns_first v vs = length-append (turns_from v 0 (turn_count v)) (turns vs) ∙ ap (λ n. n + length (turns vs)) (turns_length v 0 (turn_count v))
+
+few_turns : (g : Grammar) (greatest passed : ℕ) (bytes : List ℕ) (v : ProtocolUnit) (front more : List ℕ) (a : Unread) (t : ℕ) → a ≡ settled (unread greatest passed bytes) → drop passed bytes ≡ front ++ more → Spells greatest v front → IsAmong a t → t < turn_count v
+few_turns g greatest passed bytes v front more a t f e h at_start = some_turns v
+few_turns g greatest passed bytes v front more a t f e h (inside unit front' rest' parts spelled less) =
+    let same : a.greatest ≡ greatest = ap (λ (r : Unread). r.greatest) f in
+    let here : drop passed bytes ≡ drop a.passed a.bytes = sym (g.early (unread greatest passed bytes)) ∙ ap to_read (sym f) in
+    let one = g.apart greatest unit v front' front rest' more (subst (λ (m : ℕ). Spells m unit front') same spelled) h (sym parts ∙ sym here ∙ e) in
+    subst (λ (u : ProtocolUnit). t < turn_count u) one.0 less
+
+follow_one : (g : Grammar) (greatest passed : ℕ) (bytes : List ℕ) (us vs : List ProtocolUnit) (a b : Unread) (t k : ℕ) → Follows greatest passed bytes us a → Follows greatest passed bytes vs b → IsAmong a t → IsAmong b k → length (turns us) + t ≡ length (turns vs) + k → (a ≡ b) × (t ≡ k)
+follow_one g greatest passed bytes [] [] a b t k f h x y e = (f ∙ sym h, omega (arith, e))
+follow_one g greatest passed bytes [] (v ∷ vs) a b t k f h x y e =
+    absurd (let l = few_turns g greatest passed bytes v h.0 h.1 a t f h.2 h.3 x in let n = turns_first v vs in omega (arith, l, n, e))
+follow_one g greatest passed bytes (u ∷ us) [] a b t k f h x y e =
+    absurd (let l = few_turns g greatest passed bytes u f.0 f.1 b k h f.2 f.3 y in let n = turns_first u us in omega (arith, l, n, e))
+follow_one g greatest passed bytes (u ∷ us) (v ∷ vs) a b t k f h x y e =
+    let one = g.apart greatest u v f.0 h.0 f.1 h.1 f.3 h.3 (sym f.2 ∙ h.2) in
+    let more : f.1 ≡ h.1 = append_cancel_left h.0 f.1 h.1 (ap (λ l. l ++ f.1) (sym one.1) ∙ sym f.2 ∙ h.2) in
+    let h5 : Follows greatest (passed_after u) f.1 vs b = subst (λ (w : ProtocolUnit). Follows greatest (passed_after w) f.1 vs b) (sym one.0) (subst (λ (l : List ℕ). Follows greatest (passed_after v) l vs b) (sym more) h.5) in
+    let c : turn_count u ≡ turn_count v = ap turn_count one.0 in
+    let n = turns_first u us in let m = turns_first v vs in
+    follow_one g greatest (passed_after u) f.1 us vs a b t k f.5 h5 x y (omega (arith, n, m, c, e))
+
+rest_one : (g : Grammar) (c : Connection) (s r : SessionState) → s.is_open ≡ true → r.is_open ≡ true → IsRest c s → IsRest c r → s ≡ r
+rest_one g c s r so ro x y =
+    let one = follow_one g c.greatest c.passed c.stream x.read y.read s.unread r.unread s.taken r.taken x.follows y.follows x.among y.among (sym x.taken ∙ y.taken) in
+    ap (λ (u : Unread). record { unread = u; taken = s.taken; out = s.out; is_open = s.is_open }) one.0
+    ∙ ap (λ (n : ℕ). record { unread = r.unread; taken = n; out = s.out; is_open = s.is_open }) one.1
+    ∙ ap (λ (l : List ℕ). record { unread = r.unread; taken = r.taken; out = l; is_open = s.is_open }) (x.out ∙ sym y.out)
+    ∙ ap (λ (b : Bool). record { unread = r.unread; taken = r.taken; out = r.out; is_open = b }) (so ∙ sym ro)
+
+stand_one_at : (g : Grammar) (c : Connection) (s r : SessionState) (b : Bool) → MatchBool b ((s.is_open ≡ true) × IsRest c s) (s ≡ shut c) → MatchBool b ((r.is_open ≡ true) × IsRest c r) (r ≡ shut c) → s ≡ r
+stand_one_at g c s r true x y = rest_one g c s r x.0 y.0 x.1 y.1
+stand_one_at g c s r false x y = x ∙ sym y
+
+all_one : (g : Grammar) (cs : List Connection) (ss rs : List SessionState) → StandAll cs ss → StandAll cs rs → ss ≡ rs
+all_one g [] [] [] x y = refl
+all_one g [] [] (r ∷ rs) x y = absurd y
+all_one g [] (s ∷ ss) rs x y = absurd x
+all_one g (c ∷ cs) [] rs x y = absurd x
+all_one g (c ∷ cs) (s ∷ ss) [] x y = absurd y
+all_one g (c ∷ cs) (s ∷ ss) (r ∷ rs) x y = ap (λ (z : SessionState). z ∷ ss) (stand_one_at g c s r c.is_open x.0 y.0) ∙ ap (λ l. r ∷ l) (all_one g cs ss rs x.1 y.1)
+
+-- a plain world stands as one state only
+pub stands_one : {K : Type 0} (g : Grammar) (p : PlainWorld) (a b : WorldState K) → StandsAs p a → StandsAs p b → b.settings ≡ a.settings → b.hasher ≡ a.hasher → b ≡ a
+stands_one {K = K} g p a b x y settings hasher =
+    let set : WorldState K → Settings → K → Plain → ℕ → List SessionState → WorldState K = λ w s h p n ss. record { settings = s; hasher = h; state = p; moment = n; sessions = ss } in
+    ap (λ s. set a s b.hasher b.state b.moment b.sessions) settings
+    ∙ ap (λ h. set a a.settings h b.state b.moment b.sessions) hasher
+    ∙ ap (λ p. set a a.settings a.hasher p b.moment b.sessions) (y.state ∙ sym x.state)
+    ∙ ap (λ n. set a a.settings a.hasher a.state n b.sessions) (y.now ∙ sym x.now)
+    ∙ ap (λ ss. set a a.settings a.hasher a.state a.moment ss) (all_one g p.connections b.sessions a.sessions y.sessions x.sessions)

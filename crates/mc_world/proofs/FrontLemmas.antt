@@ -5,7 +5,7 @@ use Rattle.std.specs.Option.{MatchOption}
 use Rattle.mc_command.specs.Plain.{Plain}
 use Rattle.mc_parse.specs.Units.{ProtocolUnit, Request}
 use Rattle.mc_world.specs.Connections.{Connection, IsNext, HasNoNext, fresh, with_piece, after_turn, ended}
-use Rattle.mc_world.specs.Worlds.{PlainWorld, numbered, if_open, put, changed, open_connection, at_connection, NextTurn, NextStep, Turns, Happens, Runs, named, with_end, Decides, GivesUp}
+use Rattle.mc_world.specs.Worlds.{PlainWorld, numbered, if_open, put, changed, open_connection, at_connection, NextTurn, NextStep, Turns, Happens, Runs, named, with_end, Decides, TakesMemory, GivesUp}
 use Rattle.mc_world.specs.Serving.{in_front, with_front}
 use Rattle.mc_world.specs.declared.event.Event.{Event}
 use Rattle.mc_world.specs.declared.event.Event.TheVariants.{Open, Piece, Turn, Clock, Grow, Purge, Close}
@@ -230,3 +230,26 @@ module _ (hash : List ℕ → ℕ) (shelves n : ℕ) (bytes : List ℕ) where
   pub gives_up_fronted : (decided : Bool) (mid last : PlainWorld) (event : Event) → GivesUp decided mid event last → GivesUp decided (Fronted mid) event (Fronted last)
   gives_up_fronted true mid last event (state, decides, is) = (state, decides_too mid event state decides, ap Fronted is ∙ end_fronted (named event) (record mid { state = state }))
   gives_up_fronted false mid last event is = ap Fronted is ∙ end_fronted (named event) mid
+
+  -- and takes memory
+  opens_alike : (o p : Option Connection) → Alike o p → (connection : Connection) × (o ≡ Some connection) → (connection : Connection) × (p ≡ Some connection)
+  opens_alike None p like (c, is) = cc
+  opens_alike (Some d) None like h = absurd like
+  opens_alike (Some d) (Some e) like h = (e, refl)
+
+  due_alike : (o p : Option Connection) → Alike o p → (connection : Connection) × (o ≡ Some connection) × (unit : ProtocolUnit) × (at : ℕ) × IsNext connection unit at
+      → (connection : Connection) × (p ≡ Some connection) × (unit : ProtocolUnit) × (at : ℕ) × IsNext connection unit at
+  due_alike None p like (c, is, unit, at, next) = cc
+  due_alike (Some d) None like h = absurd like
+  due_alike (Some d) (Some e) (out, same) (c, is, unit, at, next) =
+      let it : d ≡ c = cc in
+      (e, refl, unit, at, next_alike d e out unit at same (subst (λ (x : Connection). IsNext x unit at) (sym it) next))
+
+  pub takes_fronted : (w : PlainWorld) (event : Event) → TakesMemory w event → TakesMemory (Fronted w) event
+  takes_fronted w Open h = let same : length (Fronted w).connections ≡ length w.connections = changed_length n w.connections (in_front bytes) (numbered n w.connections) in omega (arith, h, same)
+  takes_fronted w (Piece k piece) h = opens_alike (open_connection k w.connections) (open_connection k (fronted n bytes w.connections)) (alike w.connections n k bytes) h
+  takes_fronted w (Turn k) h = due_alike (open_connection k w.connections) (open_connection k (fronted n bytes w.connections)) (alike w.connections n k bytes) h
+  takes_fronted w (Clock now) h = h
+  takes_fronted w (Grow shelf) h = h
+  takes_fronted w (Purge shelf) h = h
+  takes_fronted w (Close k) h = h

@@ -9,7 +9,7 @@ use Rattle.mc_parse.specs.Units.{ProtocolUnit, Request, Fault, LongLine}
 use Rattle.mc_reply.specs.Texts.{plain_text}
 use Rattle.mc_session.specs.Turns.{Answers, AnswersStep}
 use Rattle.mc_world.specs.Connections.{Connection, with_piece, after_turn, ended}
-use Rattle.mc_world.specs.Worlds.{PlainWorld, replies, is_spent, numbered, if_open, put, changed, open_connection, at_connection, Turns, Happens, Runs}
+use Rattle.mc_world.specs.Worlds.{PlainWorld, in_plain, numbered, if_open, put, changed, open_connection, at_connection, Turns, Happens, Runs}
 use Rattle.mc_world.specs.Laws.{step_of, NextHasNoStep, DecidesNoStep, IsApart}
 use Rattle.mc_world.specs.declared.event.Event.{Event}
 use Rattle.mc_world.specs.declared.event.Event.TheVariants.{Open, Piece, Turn, Clock, Grow, Purge, Close}
@@ -175,12 +175,12 @@ StillBy n o old new =
     (f : Connection → Connection) × (new ≡ with_at old n o f)
     × ((w : PlainWorld) → open_connection n w.connections ≡ o → MatchOption o (with_at w n o f ≡ w) (λ c. Turns w n c (with_at w n o f)))
 
-still_unit : (unit : ProtocolUnit) (at now m : ℕ) (before after other : Plain) (text : List ℕ) → step_of unit at ≡ None → Answers replies is_spent unit at now before after text → (after ≡ before) × Answers replies is_spent unit at m other other text
+still_unit : (unit : ProtocolUnit) (at now m : ℕ) (before after other : Plain) (text : List ℕ) → step_of unit at ≡ None → Answers in_plain unit at now before after text → (after ≡ before) × Answers in_plain unit at m other other text
 still_unit (Request command) at now m before after other text none h =
-    let told : MatchOption (let no : Option KeyStep = None in no) ((text ≡ plain_text command) × (after ≡ before)) (λ step. AnswersStep replies is_spent command at step now before after text) =
-    subst (λ (o : Option KeyStep). MatchOption o ((text ≡ plain_text command) × (after ≡ before)) (λ step. AnswersStep replies is_spent command at step now before after text)) none h in (
+    let told : MatchOption (let no : Option KeyStep = None in no) ((text ≡ plain_text command) × (after ≡ before)) (λ step. AnswersStep in_plain command at step now before after text) =
+    subst (λ (o : Option KeyStep). MatchOption o ((text ≡ plain_text command) × (after ≡ before)) (λ step. AnswersStep in_plain command at step now before after text)) none h in (
       told.1,
-      subst (λ (o : Option KeyStep). MatchOption o ((text ≡ plain_text command) × (other ≡ other)) (λ step. AnswersStep replies is_spent command at step m other other text)) (sym none) (told.0, refl),
+      subst (λ (o : Option KeyStep). MatchOption o ((text ≡ plain_text command) × (other ≡ other)) (λ step. AnswersStep in_plain command at step m other other text)) (sym none) (told.0, refl),
     )
 still_unit (Fault fault) at now m before after other text none h = (h.1, (h.0, refl))
 still_unit LongLine at now m before after other text none h = (h.1, (h.0, refl))

@@ -3,13 +3,12 @@ use Rattle.std.proofs.Common.{◌≡◌, ◌⊎◌, inl, inr, ℕ, ◌-◌, Bool
 use Rattle.std.specs.Option.{MatchOption}
 use Rattle.std.proofs.lemmas.List.{set-get_or}
 use Rattle.std.proofs.lemmas.Option.{get_or_from_slice_get}
-use Rattle.mc_command.specs.declared.step.KeyStep.{KeyStep}
-use Rattle.mc_command.specs.declared.reply.Reply.{Reply}
+use Rattle.mc_command.specs.declared.step.Steps.{Ghosts as Relations}
 use Rattle.mc_session.specs.Turns.{SessionState, TakesTurn, DecidesStep, NoTurnDue, closed}
 use Rattle.mc_session.specs.declared.session.Turn.{Turn}
 use Rattle.mc_session.specs.declared.session.Turn.TheVariants.{Did, Idle, Closed}
 use Rattle.mc_session.specs.declared.session.TurnFault.{TurnFault}
-use Rattle.mc_world.specs.Worlds.{if_open, put, changed, open_session}
+use Rattle.mc_world.specs.Worlds.{numbered, if_open, put, changed, open_session, IsIdle}
 use Rattle.mc_world.specs.Sessions.{IsOpenAt, TurnOf, DecidedOf, IsDue, at_session}
 
 -- the session at the place is the open one of the number
@@ -19,7 +18,7 @@ opens_at sessions n at is =
     ∙ ap (if_open (λ s. s.is_open)) is.here
     ∙ ap (λ (b : Bool). if b then Some is.session else None) is.opens
 
-module _ {S : Type 0} (took : S → KeyStep → ℕ → Reply → S → Type 0) (spent : S → KeyStep → ℕ → Type 0) (n now : ℕ) (old items list : List SessionState) (at : ℕ) (x y : SessionState) (before after : S)
+module _ {S : Type 0} (relations : Relations S) (n now : ℕ) (old items list : List SessionState) (at : ℕ) (x y : SessionState) (before after : S)
     (view : items ≡ old) (same : list ≡ items) (is_at : IsOpenAt list n at) (in_place : x ≡ get_or items at x) where
   here : x ≡ get_or old at x
   here = in_place ∙ ap (λ (l : List SessionState). get_or l at x) view
@@ -34,20 +33,20 @@ module _ {S : Type 0} (took : S → KeyStep → ℕ → Reply → S → Type 0) 
   found = opens_at old n at here_is ∙ ap (λ (s : SessionState). Some s) is_it
 
   -- its turn was decided
-  decided_of : DecidesStep took now x before after → DecidedOf took n now old before after
+  decided_of : DecidesStep relations now x before after → DecidedOf relations n now old before after
   decided_of decides = (x, found, decides)
 
-  of_some : (new : List SessionState) → (NoTurnDue x × (new ≡ old) × (after ≡ before)) ⊎ ((next : SessionState) × TakesTurn took spent now x next before after × (new ≡ put n old next)) → TurnOf took spent n now old new before after
+  of_some : (new : List SessionState) → (NoTurnDue x × (new ≡ old) × (after ≡ before)) ⊎ ((next : SessionState) × TakesTurn relations now x next before after × (new ≡ put n old next)) → TurnOf relations n now old new before after
   of_some new h = subst (λ (o : Option SessionState). MatchOption o ((new ≡ old) × (after ≡ before)) (λ session.
       (NoTurnDue session × (new ≡ old) × (after ≡ before))
-      ⊎ ((next : SessionState) × TakesTurn took spent now session next before after × (new ≡ put n old next)))) (sym found) h
+      ⊎ ((next : SessionState) × TakesTurn relations now session next before after × (new ≡ put n old next)))) (sym found) h
 
   put_is : slice_set old at y ≡ put n old y
   put_is = let e : at ≡ n - 1 = omega (arith, here_is.number) in ap (λ (k : ℕ). slice_set old k y) e
 
   -- what the session's turn answered
-  turn_of : (t : Turn) → (t ≡ Did → TakesTurn took spent now x y before after) → (t ≡ Idle → NoTurnDue x × IsTrue x.is_open × (y ≡ x) × (after ≡ before)) → (t ≡ Closed → IsFalse x.is_open × (y ≡ x) × (after ≡ before))
-      → TurnOf took spent n now old (slice_set old at y) before after
+  turn_of : (t : Turn) → (t ≡ Did → TakesTurn relations now x y before after) → (t ≡ Idle → NoTurnDue x × IsTrue x.is_open × (y ≡ x) × (after ≡ before)) → (t ≡ Closed → IsFalse x.is_open × (y ≡ x) × (after ≡ before))
+      → TurnOf relations n now old (slice_set old at y) before after
   turn_of Did did idle shut = of_some (slice_set old at y) (inr (y, did refl, put_is))
   turn_of Idle did idle shut =
       let h = idle refl in
@@ -59,20 +58,34 @@ module _ {S : Type 0} (took : S → KeyStep → ℕ → Reply → S → Type 0) 
   view_set : slice_set items at y ≡ slice_set old at y
   view_set = ap (λ (l : List SessionState). slice_set l at y) view
 
-  pub result_ok : (r : Result Turn TurnFault) → (r ≡ Ok Did → TakesTurn took spent now x y before after) → (r ≡ Ok Idle → NoTurnDue x × IsTrue x.is_open × (y ≡ x) × (after ≡ before)) → (r ≡ Ok Closed → IsFalse x.is_open × (y ≡ x) × (after ≡ before))
-      → OnOk r (TurnOf took spent n now old (slice_set items at y) before after)
+  pub result_ok : (r : Result Turn TurnFault) → (r ≡ Ok Did → TakesTurn relations now x y before after) → (r ≡ Ok Idle → NoTurnDue x × IsTrue x.is_open × (y ≡ x) × (after ≡ before)) → (r ≡ Ok Closed → IsFalse x.is_open × (y ≡ x) × (after ≡ before))
+      → OnOk r (TurnOf relations n now old (slice_set items at y) before after)
   result_ok (Ok t) did idle shut =
-      subst (λ l. TurnOf took spent n now old l before after) (sym view_set) (turn_of t (λ e. did (ap (λ k. Ok k) e)) (λ e. idle (ap (λ k. Ok k) e)) (λ e. shut (ap (λ k. Ok k) e)))
+      subst (λ l. TurnOf relations n now old l before after) (sym view_set) (turn_of t (λ e. did (ap (λ k. Ok k) e)) (λ e. idle (ap (λ k. Ok k) e)) (λ e. shut (ap (λ k. Ok k) e)))
   result_ok (Err fault) did idle shut = tt
 
   pub result_err : (r : Result Turn TurnFault) → OnErr r (y ≡ closed x) → OnErr r (slice_set items at y ≡ at_session old n closed)
   result_err (Ok t) h = tt
   result_err (Err fault) h = view_set ∙ put_is ∙ ap (put n old) h ∙ ap (changed n old closed) (sym found)
 
-  pub result_decided : (r : Result Turn TurnFault) → IfErr r (λ fault. IsTrue fault.decided → DecidesStep took now x before after) → IfErr r (λ fault. IsTrue fault.decided → DecidedOf took n now old before after)
+  pub result_decided : (r : Result Turn TurnFault) → IfErr r (λ fault. IsTrue fault.decided → DecidesStep relations now x before after) → IfErr r (λ fault. IsTrue fault.decided → DecidedOf relations n now old before after)
   result_decided (Ok t) h = tt
   result_decided (Err fault) h = λ is. decided_of (h is)
 
   pub result_due : (r : Result Turn TurnFault) → OnErr r (IsTrue x.is_open × (NoTurnDue x → ⊥)) → OnErr r (IsDue n old)
   result_due (Ok t) h = tt
   result_due (Err fault) h = (x, found, h.1)
+
+  there : numbered n old ≡ Some x
+  there = ap (λ (k : ℕ). numbered k old) (here_is.number ∙ add-one at) ∙ here_is.here ∙ ap (λ (s : SessionState). Some s) is_it
+
+  pub result_idle : (r : Result Turn TurnFault) → (r ≡ Ok Idle → NoTurnDue x × IsTrue x.is_open × (y ≡ x) × (after ≡ before)) → r ≡ Ok Idle → IsIdle (numbered n old) × (slice_set items at y ≡ old) × (after ≡ before)
+  result_idle r idle is =
+      let h = idle is in
+      (subst IsIdle (sym there) (h.1, h.0), view_set ∙ ap (λ (s : SessionState). slice_set old at s) (h.2 ∙ here) ∙ set-get_or old at x, h.3)
+
+  pub result_closed : (r : Result Turn TurnFault) → (r ≡ Ok Closed → IsFalse x.is_open × (y ≡ x) × (after ≡ before)) → r ≡ Ok Closed → ⊥
+  result_closed r shut is =
+      let opens : x.is_open ≡ true = ap (λ (s : SessionState). s.is_open) (sym is_it) ∙ here_is.opens in
+      let e : true ≡ false = sym opens ∙ (shut is).0 in
+      cc

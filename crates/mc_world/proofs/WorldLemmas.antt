@@ -1,5 +1,5 @@
 -- What one event makes of the sessions is what it makes of the connections.
-use Rattle.std.proofs.Common.{◌≡◌, ◌⊎◌, inl, inr, ℕ, ◌+◌, ◌%◌, ◌==◌, ◌<◌, Bool, true, false, List, [], ◌∷◌, ◌++◌, length, take, get_or, Option, Some, None, nat_lt, refl, sym, ap, ◌∙◌, subst, arith, if◌then◌else◌}
+use Rattle.std.proofs.Common.{◌≡◌, ◌⊎◌, inl, inr, ℕ, ◌+◌, ◌%◌, ◌==◌, ◌<◌, Bool, true, false, List, [], ◌∷◌, ◌++◌, length, take, get_or, Option, Some, None, Result, Ok, Err, OnOk, IfErr, nat_lt, refl, sym, ap, ◌∙◌, subst, arith, if◌then◌else◌}
 use Rattle.std.specs.List.{slice_get}
 use Rattle.std.specs.Option.{MatchOption}
 use Rattle.std.proofs.lemmas.List.{take_more}
@@ -7,10 +7,13 @@ use Rattle.std.proofs.lemmas.Option.{slice_get_within}
 use Rattle.mc_command.specs.Commands.{steps}
 use Rattle.mc_command.specs.Plain.{Plain}
 use Rattle.mc_parse.specs.Units.{ProtocolUnit, Request}
+use Rattle.mc_session.specs.declared.session.TurnFault.{TurnFault}
+use Rattle.mc_shelf.specs.declared.store.Settings.{Settings}
 use Rattle.mc_session.specs.Turns.{SessionState, Answers, TakesTurn, DecidesStep, NoTurnDue, opened, fed, closed, sent}
 use Rattle.mc_command.specs.Purge.{purged}
 use Rattle.mc_world.specs.Connections.{Connection, IsNext, IsRest, Stands, at_start, fresh, with_piece, after_turn, ended}
-use Rattle.mc_world.specs.Worlds.{PlainWorld, WorldState, replies, is_spent, put, changed, numbered, CanStand, open_connection, open_session, at_connection, NextTurn, NextStep, Turns, Happens, Runs, StandAll, StandsAs, Told, named, with_end, Decides, TakesMemory, GivesUp, ToldUntil}
+use Rattle.mc_world.specs.Worlds.{PlainWorld, WorldState, replies, in_plain, put, changed, numbered, CanStand, open_connection, open_session, at_connection, NextTurn, NextStep, Turns, Happens, Runs, StandAll, StandsAs, RunsIn, Told, named, with_end, Decides, TakesMemory, GivesUp, ToldRefused, ToldUntil}
+use Rattle.mc_world.specs.Laws.{Grammar}
 use Rattle.mc_world.specs.Sessions.{at_session, Done, sessions_ended, DecidedIn, Takes, Undone}
 use Rattle.mc_world.specs.declared.event.Event.{Event}
 use Rattle.mc_world.specs.declared.event.Event.TheVariants.{Open, Piece, Turn, Clock, Grow, Purge, Close}
@@ -23,101 +26,110 @@ fresh_stands : (greatest : ℕ) → Stands (fresh greatest) (opened greatest)
 fresh_stands greatest = (refl, record { read = []; follows = refl; taken = refl; among = at_start; out = refl })
 
 -- a piece comes to what stands
-piece_stands : (cs : List Connection) (ss : List SessionState) (n : ℕ) (piece : List ℕ) → StandAll cs ss → StandAll (changed n cs (with_piece piece) (open_connection n cs)) (at_session ss n (λ s. fed s piece))
-piece_stands cs ss n piece all = stand_changed cs ss n (with_piece piece) (λ s. fed s piece) (open_connection n cs) (open_session n ss) (stand_open cs ss n all) (λ c s is opens rest stands. rest_fed c s piece opens rest stands is) all
+piece_stands : (g : Grammar) (cs : List Connection) (ss : List SessionState) (n : ℕ) (piece : List ℕ) → StandAll cs ss → StandAll (changed n cs (with_piece piece) (open_connection n cs)) (at_session ss n (λ s. fed s piece))
+piece_stands g cs ss n piece all = stand_changed cs ss n (with_piece piece) (λ s. fed s piece) (open_connection n cs) (open_session n ss) (stand_open cs ss n all) (λ c s is opens rest stands. rest_fed g c s piece opens rest stands is) all
 
 -- one that stands closes
 end_stands : (cs : List Connection) (ss : List SessionState) (n : ℕ) → StandAll cs ss → StandAll (changed n cs ended (open_connection n cs)) (at_session ss n closed)
 end_stands cs ss n all = stand_changed cs ss n ended closed (open_connection n cs) (open_session n ss) (stand_open cs ss n all) (λ c s is opens rest stands. rest_closed c s rest) all
 
 -- the turn of a session is that of its connection's stream
-next_turn : (first : PlainWorld) (now : ℕ) (c : Connection) (s new : SessionState) (before after : Plain) → IsRest c s → now ≡ first.now → before ≡ first.state → (takes : TakesTurn replies is_spent now s new before after) → NextTurn first c after
-next_turn first now c s new before after rest same_now same_state takes =
-    let at_now : Answers replies is_spent takes.unit s.taken first.now before after takes.text = subst (λ (m : ℕ). Answers replies is_spent takes.unit s.taken m before after takes.text) same_now takes.answers in
+next_turn : (g : Grammar) (first : PlainWorld) (now : ℕ) (c : Connection) (s new : SessionState) (before after : Plain) → IsRest c s → now ≡ first.now → before ≡ first.state → (takes : TakesTurn in_plain now s new before after) → NextTurn first c after
+next_turn g first now c s new before after rest same_now same_state takes =
+    let at_now : Answers in_plain takes.unit s.taken first.now before after takes.text = subst (λ (m : ℕ). Answers in_plain takes.unit s.taken m before after takes.text) same_now takes.answers in
     record {
       unit = takes.unit;
       at = s.taken;
       text = takes.text;
-      next = is_next replies is_spent now c s new before after rest takes;
-      answers = subst (λ (b : Plain). Answers replies is_spent takes.unit s.taken first.now b after takes.text) same_state at_now;
+      next = is_next in_plain now c s new before after rest takes g;
+      answers = subst (λ (b : Plain). Answers in_plain takes.unit s.taken first.now b after takes.text) same_state at_now;
     }
 
 -- and so is its step
-next_step : (first : PlainWorld) (now : ℕ) (c : Connection) (s : SessionState) (before after : Plain) → IsRest c s → now ≡ first.now → before ≡ first.state → DecidesStep replies now s before after → NextStep first c after
-next_step first now c s before after rest same_now same_state decides =
+next_step : (g : Grammar) (first : PlainWorld) (now : ℕ) (c : Connection) (s : SessionState) (before after : Plain) → IsRest c s → now ≡ first.now → before ≡ first.state → DecidesStep in_plain now s before after → NextStep first c after
+next_step g first now c s before after rest same_now same_state decides =
     let at_now : replies before decides.step first.now decides.reply after = subst (λ (m : ℕ). replies before decides.step m decides.reply after) same_now decides.took_it in
     record {
       command = decides.command;
       at = s.taken;
       step = decides.step;
       reply = decides.reply;
-      next = next_of c s rest (Request decides.command) decides.front decides.rest decides.parts decides.spelled
+      next = next_of g c s rest (Request decides.command) decides.front decides.rest decides.parts decides.spelled
           (omega (arith, slice_get_within (steps decides.command) s.taken decides.step decides.is_step));
       is_step = decides.is_step;
       replied = subst (λ (b : Plain). replies b decides.step first.now decides.reply after) same_state at_now;
     }
 
-module _ (hash : List ℕ → ℕ) (shelves : ℕ) where
-  abbrev Goes : PlainWorld → Event → WorldState → Type 0
-  Goes first event new = (last : PlainWorld) × Happens hash shelves first event last × StandsAs last new
+-- what a world is set up with stays
+same_set_up : {K : Type 0} (old new told : WorldState K) → new ≡ told → (told.settings ≡ old.settings) → told.hasher ≡ old.hasher → (new.settings ≡ old.settings) × (new.hasher ≡ old.hasher)
+same_set_up {K = K} old new told is settings hasher = (ap (λ (w : WorldState K). w.settings) is ∙ settings, ap (λ (w : WorldState K). w.hasher) is ∙ hasher)
+
+opened_set_up : {K : Type 0} (old new : WorldState K) (b : Bool) → new ≡ (if b then record old { sessions = old.sessions ++ opened old.settings.greatest ∷ [] } else old) → (new.settings ≡ old.settings) × (new.hasher ≡ old.hasher)
+opened_set_up old new true is = same_set_up old new _ is refl refl
+opened_set_up old new false is = same_set_up old new _ is refl refl
+
+module _ {K : Type 0} (g : Grammar) (hash_of : K → List ℕ → ℕ) where
+  abbrev Goes : WorldState K → PlainWorld → Event → WorldState K → Type 0
+  Goes old first event new = (last : PlainWorld) × Happens (hash_of old.hasher) old.settings.shelves first event last × StandsAs last new
 
   -- by whether the session can still be opened
-  open_goes : (first : PlainWorld) (old : WorldState) (b : Bool) → StandsAs first old
-      → StandsAs (if b then record first { connections = first.connections ++ fresh first.greatest ∷ [] } else first) (if b then record old { sessions = old.sessions ++ opened old.greatest ∷ [] } else old)
+  open_goes : (first : PlainWorld) (old : WorldState K) (b : Bool) → StandsAs first old
+      → StandsAs (if b then record first { connections = first.connections ++ fresh first.greatest ∷ [] } else first) (if b then record old { sessions = old.sessions ++ opened old.settings.greatest ∷ [] } else old)
   open_goes first old true stands = record {
     greatest = stands.greatest;
     state = stands.state;
     now = stands.now;
-    sessions = stand_more first.connections old.sessions (fresh first.greatest) (opened old.greatest) stands.sessions
+    sessions = stand_more first.connections old.sessions (fresh first.greatest) (opened old.settings.greatest) stands.sessions
         (subst (λ (g : ℕ). Stands (fresh first.greatest) (opened g)) (sym stands.greatest) (fresh_stands first.greatest));
   }
   open_goes first old false stands = stands
 
   -- a turn, by the connection and the session
-  turn_goes : (first : PlainWorld) (old new : WorldState) (n : ℕ) (c : Option Connection) (s : Option SessionState) → StandsAs first old → new.greatest ≡ old.greatest → new.now ≡ old.now → Opens c s
-      → MatchOption s ((new.sessions ≡ old.sessions) × (new.state ≡ old.state)) (λ session. (NoTurnDue session × (new.sessions ≡ old.sessions) × (new.state ≡ old.state)) ⊎ ((next : SessionState) × TakesTurn replies is_spent old.now session next old.state new.state × (new.sessions ≡ put n old.sessions next)))
+  turn_goes : (first : PlainWorld) (old new : WorldState K) (n : ℕ) (c : Option Connection) (s : Option SessionState) → StandsAs first old → new.settings ≡ old.settings → new.moment ≡ old.moment → Opens c s
+      → MatchOption s ((new.sessions ≡ old.sessions) × (new.state ≡ old.state)) (λ session. (NoTurnDue session × (new.sessions ≡ old.sessions) × (new.state ≡ old.state)) ⊎ ((next : SessionState) × TakesTurn in_plain old.moment session next old.state new.state × (new.sessions ≡ put n old.sessions next)))
       → (last : PlainWorld) × MatchOption c (last ≡ first) (λ connection. Turns first n connection last) × StandsAs last new
   unfolding next_turn
-  turn_goes first old new n None None stands greatest now both h =
-      (first, refl, record { greatest = greatest ∙ stands.greatest; state = h.1 ∙ stands.state; now = now ∙ stands.now; sessions = subst (StandAll first.connections) (sym h.0) stands.sessions })
-  turn_goes first old new n None (Some s) stands greatest now both h = absurd both
-  turn_goes first old new n (Some c) None stands greatest now both h = absurd both
-  turn_goes first old new n (Some c) (Some s) stands greatest now both (inl h) =
-      (first, inl (rest_idle c s both.2 h.0, refl), record { greatest = greatest ∙ stands.greatest; state = h.2 ∙ stands.state; now = now ∙ stands.now; sessions = subst (StandAll first.connections) (sym h.1) stands.sessions })
-  turn_goes first old new n (Some c) (Some s) stands greatest now both (inr (next, takes, is)) =
-      let turn : NextTurn first c new.state = next_turn first old.now c s next old.state new.state both.2 stands.now stands.state takes in
+  turn_goes first old new n None None stands settings now both h =
+      (first, refl, record { greatest = ap (λ (s : Settings). s.greatest) settings ∙ stands.greatest; state = h.1 ∙ stands.state; now = now ∙ stands.now; sessions = subst (StandAll first.connections) (sym h.0) stands.sessions })
+  turn_goes first old new n None (Some s) stands settings now both h = absurd both
+  turn_goes first old new n (Some c) None stands settings now both h = absurd both
+  turn_goes first old new n (Some c) (Some s) stands settings now both (inl h) =
+      (first, inl (rest_idle g c s both.2 h.0, refl), record { greatest = ap (λ (s : Settings). s.greatest) settings ∙ stands.greatest; state = h.2 ∙ stands.state; now = now ∙ stands.now; sessions = subst (StandAll first.connections) (sym h.1) stands.sessions })
+  turn_goes first old new n (Some c) (Some s) stands settings now both (inr (next, takes, is)) =
+      let turn : NextTurn first c new.state = next_turn g first old.moment c s next old.state new.state both.2 stands.now stands.state takes in
       let after : Connection = after_turn takes.unit takes.text c in (
         record first { state = new.state; connections = put n first.connections after },
         inr (new.state, turn, refl),
         record {
-          greatest = greatest ∙ stands.greatest;
+          greatest = ap (λ (s : Settings). s.greatest) settings ∙ stands.greatest;
           state = refl;
           now = now ∙ stands.now;
           sessions = subst (StandAll (put n first.connections after)) (sym is)
-              (stand_put first.connections old.sessions n after next stands.sessions (stands_after replies is_spent old.now c s next old.state new.state both.2 takes both.1));
+              (stand_put first.connections old.sessions n after next stands.sessions (stands_after in_plain old.moment c s next old.state new.state both.2 takes g both.1));
         },
       )
 
-  along : (last : PlainWorld) (new told : WorldState) → new ≡ told → StandsAs last told → StandsAs last new
+  along : (last : PlainWorld) (new told : WorldState K) → new ≡ told → StandsAs last told → StandsAs last new
   along last new told e h = subst (StandsAs last) (sym e) h
 
   -- one event
-  pub goes : (first : PlainWorld) (old new : WorldState) (event : Event) → StandsAs first old → Done hash shelves old event new → Goes first event new
+  pub goes : (first : PlainWorld) (old new : WorldState K) (event : Event) → StandsAs first old → Done hash_of old event new → Goes old first event new
   goes first old new Open stands done =
       let same : nat_lt (length old.sessions) 65535 ≡ nat_lt (length first.connections) 65535 = ap (λ k. nat_lt k 65535) (stand_length first.connections old.sessions stands.sessions) in
       let b = nat_lt (length first.connections) 65535 in (
         if b then record first { connections = first.connections ++ fresh first.greatest ∷ [] } else first,
         refl,
-        along _ new _ (done ∙ ap (λ (k : Bool). if k then record old { sessions = old.sessions ++ opened old.greatest ∷ [] } else old) same) (open_goes first old b stands),
+        along _ new _ (done ∙ ap (λ (k : Bool). if k then record old { sessions = old.sessions ++ opened old.settings.greatest ∷ [] } else old) same) (open_goes first old b stands),
       )
   goes first old new (Piece n piece) stands done =
-      (at_connection first n (with_piece piece), refl, along _ new _ done (record { greatest = stands.greatest; state = stands.state; now = stands.now; sessions = piece_stands first.connections old.sessions n piece stands.sessions }))
+      (at_connection first n (with_piece piece), refl, along _ new _ done (record { greatest = stands.greatest; state = stands.state; now = stands.now; sessions = piece_stands g first.connections old.sessions n piece stands.sessions }))
   goes first old new (Turn n) stands done =
-      turn_goes first old new n (open_connection n first.connections) (open_session n old.sessions) stands done.0 done.1 (stand_open first.connections old.sessions n stands.sessions) done.2
+      turn_goes first old new n (open_connection n first.connections) (open_session n old.sessions) stands done.0 done.2 (stand_open first.connections old.sessions n stands.sessions) done.3
   goes first old new (Clock now) stands done = (record first { now = now }, refl, along _ new _ done (record { greatest = stands.greatest; state = stands.state; now = refl; sessions = stands.sessions }))
   goes first old new (Grow shelf) stands done = (first, refl, along _ new _ done stands)
   goes first old new (Purge shelf) stands done =
-      let after : ℕ → Plain → Plain = λ now state. if nat_lt shelf shelves then purged (λ key. hash key % shelves == shelf) now state else state in (
+      let after : ℕ → Plain → Plain =
+      λ now state. if nat_lt shelf old.settings.shelves then purged (λ key. hash_of old.hasher key % old.settings.shelves == shelf) now state else state in (
         record first { state = after first.now first.state },
         refl,
         along _ new _ done (record {
@@ -130,23 +142,20 @@ module _ (hash : List ℕ → ℕ) (shelves : ℕ) where
   goes first old new (Close n) stands done =
       (at_connection first n ended, refl, along _ new _ done (record { greatest = stands.greatest; state = stands.state; now = stands.now; sessions = end_stands first.connections old.sessions n stands.sessions }))
 
-  -- one event more
-  runs_more : (first : PlainWorld) (events : List Event) (mid : PlainWorld) (event : Event) (last : PlainWorld) → Runs hash shelves first events mid → Happens hash shelves mid event last → Runs hash shelves first (events ++ event ∷ []) last
-  runs_more first [] mid event last runs happens = (last, subst (λ (w : PlainWorld). Happens hash shelves w event last) runs happens, refl)
-  runs_more first (e ∷ events) mid event last runs happens = (runs.0, runs.1, runs_more runs.0 events mid event last runs.2 happens)
+  done_set_up : (old new : WorldState K) (event : Event) → Done hash_of old event new → (new.settings ≡ old.settings) × (new.hasher ≡ old.hasher)
+  done_set_up old new Open done = opened_set_up old new (nat_lt (length old.sessions) 65535) done
+  done_set_up old new (Piece n piece) done = same_set_up old new _ done refl refl
+  done_set_up old new (Turn n) done = (done.0, done.1)
+  done_set_up old new (Clock now) done = same_set_up old new _ done refl refl
+  done_set_up old new (Grow shelf) done = same_set_up old new _ done refl refl
+  done_set_up old new (Purge shelf) done = same_set_up old new _ done refl refl
+  done_set_up old new (Close n) done = same_set_up old new _ done refl refl
 
-  -- no event
-  pub told_none : (world : WorldState) → Told hash shelves world [] world
-  told_none world = record { told = λ first stands. (first, refl, stands) }
-
-  -- what is told of some events and of one more
-  pub told_more : (old mid new : WorldState) (events : List Event) (event : Event) → Told hash shelves old events mid → Done hash shelves mid event new → Told hash shelves old (events ++ event ∷ []) new
-  told_more old mid new events event told done = record {
-    told = λ first stands.
-        let so_far = told.told first stands in
-        let next = goes so_far.0 mid new event so_far.2 done in
-        (next.0, runs_more first events so_far.0 event next.0 so_far.1 next.1, next.2);
-  }
+  -- what is done is told
+  pub told_one : (old new : WorldState K) (event : Event) → Done hash_of old event new → Told hash_of old (event ∷ []) new
+  told_one old new event done =
+      let set_up = done_set_up old new event done in
+      record { settings = set_up.0; hasher = set_up.1; told = λ first stands. let next = goes first old new event stands done in (next.0, (next.0, next.1, refl), next.2) }
 
   -- the session of a refused event closes
   ended_stands : (first : PlainWorld) (sessions : List SessionState) (n : Option ℕ) → StandAll first.connections sessions → StandAll (with_end n first).connections (sessions_ended n sessions)
@@ -166,27 +175,27 @@ module _ (hash : List ℕ → ℕ) (shelves : ℕ) where
   ended_now first (Some n) = refl
 
   -- a refused event leaves what stands so, with this state
-  refused_stands : (first : PlainWorld) (old new : WorldState) (event : Event) (decided : Bool) → StandsAs first old → Undone decided old event new → StandsAs (with_end (named event) (record first { state = new.state })) new
+  refused_stands : (first : PlainWorld) (old new : WorldState K) (event : Event) (decided : Bool) → StandsAs first old → Undone decided old event new → StandsAs (with_end (named event) (record first { state = new.state })) new
   refused_stands first old new event decided stands undone =
       let w : PlainWorld = record first { state = new.state } in
       record {
-        greatest = undone.greatest ∙ stands.greatest ∙ sym (ended_greatest w (named event));
+        greatest = ap (λ (s : Settings). s.greatest) undone.settings ∙ stands.greatest ∙ sym (ended_greatest w (named event));
         state = sym (ended_state w (named event));
-        now = undone.now ∙ stands.now ∙ sym (ended_now w (named event));
+        now = undone.moment ∙ stands.now ∙ sym (ended_now w (named event));
         sessions = subst (StandAll (with_end (named event) w).connections) (sym undone.sessions) (ended_stands w old.sessions (named event) stands.sessions);
       }
 
   -- the connection whose step was decided
-  decides_turn : (first : PlainWorld) (old : WorldState) (state : Plain) (c : Option Connection) (s : SessionState) → StandsAs first old → Opens c (Some s) → DecidesStep replies old.now s old.state state
+  decides_turn : (first : PlainWorld) (old : WorldState K) (state : Plain) (c : Option Connection) (s : SessionState) → StandsAs first old → Opens c (Some s) → DecidesStep in_plain old.moment s old.state state
       → (connection : Connection) × (c ≡ Some connection) × NextStep first connection state
   decides_turn first old state None s stands both decides = absurd both
-  decides_turn first old state (Some c) s stands both decides = (c, refl, next_step first old.now c s old.state state both.2 stands.now stands.state decides)
+  decides_turn first old state (Some c) s stands both decides = (c, refl, next_step g first old.moment c s old.state state both.2 stands.now stands.state decides)
 
   -- a session and its connection are open together
-  opens_both : (first : PlainWorld) (old : WorldState) (n : ℕ) (s : SessionState) → StandsAs first old → open_session n old.sessions ≡ Some s → Opens (open_connection n first.connections) (Some s)
+  opens_both : (first : PlainWorld) (old : WorldState K) (n : ℕ) (s : SessionState) → StandsAs first old → open_session n old.sessions ≡ Some s → Opens (open_connection n first.connections) (Some s)
   opens_both first old n s stands is = subst (Opens (open_connection n first.connections)) is (stand_open first.connections old.sessions n stands.sessions)
 
-  decides_in : (first : PlainWorld) (old : WorldState) (state : Plain) (event : Event) → StandsAs first old → DecidedIn old event state → Decides first event state
+  decides_in : (first : PlainWorld) (old : WorldState K) (state : Plain) (event : Event) → StandsAs first old → DecidedIn old event state → Decides first event state
   decides_in first old state Open stands h = h
   decides_in first old state (Piece n piece) stands h = h
   decides_in first old state (Turn n) stands h =
@@ -203,9 +212,9 @@ module _ (hash : List ℕ → ℕ) (shelves : ℕ) where
 
   due_some : (c : Option Connection) (s : SessionState) → Opens c (Some s) → (NoTurnDue s → ⊥) → (connection : Connection) × (c ≡ Some connection) × (unit : ProtocolUnit) × (at : ℕ) × IsNext connection unit at
   due_some None s both due = absurd both
-  due_some (Some c) s both due = let next = rest_due c s both.2 due in (c, refl, next.0, next.1, next.2)
+  due_some (Some c) s both due = let next = rest_due g c s both.2 due in (c, refl, next.0, next.1, next.2)
 
-  takes_memory : (first : PlainWorld) (old : WorldState) (event : Event) → StandsAs first old → Takes old event → TakesMemory first event
+  takes_memory : (first : PlainWorld) (old : WorldState K) (event : Event) → StandsAs first old → Takes old event → TakesMemory first event
   takes_memory first old Open stands h = omega (arith, stand_length first.connections old.sessions stands.sessions)
   takes_memory first old (Piece n piece) stands h = opens_some (open_connection n first.connections) h.0 (opens_both first old n h.0 stands h.1)
   takes_memory first old (Turn n) stands h = due_some (open_connection n first.connections) h.0 (opens_both first old n h.0 stands h.1) h.2
@@ -214,51 +223,108 @@ module _ (hash : List ℕ → ℕ) (shelves : ℕ) where
   takes_memory first old (Purge shelf) stands h = h
   takes_memory first old (Close n) stands h = h
 
-  gives_up : (first : PlainWorld) (old new : WorldState) (event : Event) (decided : Bool) → StandsAs first old → Undone decided old event new → (last : PlainWorld) × GivesUp decided first event last × StandsAs last new
+  gives_up : (first : PlainWorld) (old new : WorldState K) (event : Event) (decided : Bool) → StandsAs first old → Undone decided old event new → (last : PlainWorld) × GivesUp decided first event last × StandsAs last new
   gives_up first old new event true stands undone =
       (with_end (named event) (record first { state = new.state }), (new.state, decides_in first old new.state event stands (undone.decides refl), refl), refused_stands first old new event true stands undone)
   gives_up first old new event false stands undone =
       let same : new.state ≡ first.state = undone.undecided refl ∙ stands.state in
       (with_end (named event) first, refl, subst (λ (p : Plain). StandsAs (with_end (named event) (record first { state = p })) new) same (refused_stands first old new event false stands undone))
 
-  -- what is told of the events before a refused one, and of it
-  pub told_until : (old mid new : WorldState) (events : List Event) (event : Event) (refused : Refused) → Told hash shelves old (take refused.at events) mid → slice_get events refused.at ≡ Some event → refused.session ≡ named event → Undone refused.decided mid event new → ToldUntil hash shelves refused old events new
-  told_until old mid new events event refused told here session undone = record {
-    event = event;
-    here = here;
-    session = session;
-    told = λ first stands.
-        let so_far = told.told first stands in
-        let up = gives_up so_far.0 mid new event refused.decided so_far.2 undone in
-        (so_far.0, up.0, so_far.1, up.1, up.2, takes_memory so_far.0 mid event so_far.2 undone.takes);
+  pub refused_one : (decided : Bool) (old new : WorldState K) (event : Event) → Undone decided old event new → ToldRefused hash_of decided old event new
+  refused_one decided old new event undone = record {
+    settings = undone.settings;
+    hasher = undone.hasher;
+    told = λ first stands. let up = gives_up first old new event decided stands undone in (up.0, up.1, up.2, takes_memory first old event stands undone.takes);
   }
 
--- one event more of a list is told, with the hashes and shelves that the world still has
-pub told_on : (hash still : List ℕ → ℕ) (shelves as_many : ℕ) → still ≡ hash → as_many ≡ shelves → (old mid new : WorldState) (events : List Event) (at : ℕ) (event : Event) → event ≡ get_or events at event → at < length events
-    → Told hash shelves old (take at events) mid → Done still as_many mid event new → Told hash shelves old (take (at + 1) events) new
-told_on hash still shelves as_many same_hash same_shelves old mid new events at event here inside told done =
-    let by_hash : Done hash as_many mid event new = subst (λ (f : List ℕ → ℕ). Done f as_many mid event new) same_hash done in
-    let by_both : Done hash shelves mid event new = subst (λ (n : ℕ). Done hash n mid event new) same_shelves by_hash in
-    let more : take at events ++ event ∷ [] ≡ take (at + 1) events = ap (λ (e : Event). take at events ++ e ∷ []) here ∙ sym (take_more events at event inside) in
-    subst (λ (es : List Event). Told hash shelves old es new) more (told_more hash shelves old mid new (take at events) event told by_both)
+  -- a plain world still stands
+  pub done_stands : (old new : WorldState K) (event : Event) → CanStand old → Done hash_of old event new → CanStand new
+  done_stands old new event can done = let last = goes can.plain old new event can.stands done in record { plain = last.0; stands = last.2 }
 
--- where a plain world stood before the events, one stands after them
-pub told_stands : (hash : List ℕ → ℕ) (shelves : ℕ) (old new : WorldState) (events : List Event) → Told hash shelves old events new → CanStand old → CanStand new
-told_stands hash shelves old new events told can = let last = told.told can.plain can.stands in record { plain = last.0; stands = last.2 }
+  pub undone_stands : (decided : Bool) (old new : WorldState K) (event : Event) → CanStand old → Undone decided old event new → CanStand new
+  undone_stands decided old new event can undone = let last = gives_up can.plain old new event decided can.stands undone in record { plain = last.0; stands = last.2 }
 
-pub until_stands : (hash : List ℕ → ℕ) (shelves : ℕ) (refused : Refused) (old new : WorldState) (events : List Event) → ToldUntil hash shelves refused old events new → CanStand old → CanStand new
-until_stands hash shelves refused old new events told can = let last = told.told can.plain can.stands in record { plain = last.1; stands = last.4 }
+  pub result_stands : {T : Type 0} (old new : WorldState K) (event : Event) (r : Result T TurnFault) → CanStand old → OnOk r (Done hash_of old event new) → IfErr r (λ fault. Undone fault.decided old event new) → CanStand new
+  result_stands old new event (Ok x) can done undone = done_stands old new event can done
+  result_stands old new event (Err fault) can done undone = undone_stands fault.decided old new event can undone
+
+  pub result_told : {T : Type 0} (old new : WorldState K) (event : Event) (r : Result T TurnFault) → OnOk r (Done hash_of old event new) → OnOk r (Told hash_of old (event ∷ []) new)
+  result_told old new event (Ok x) done = told_one old new event done
+  result_told old new event (Err fault) done = tt
+
+  pub result_refused : {T : Type 0} (old new : WorldState K) (event : Event) (r : Result T TurnFault) → IfErr r (λ fault. Undone fault.decided old event new) → IfErr r (λ fault. ToldRefused hash_of fault.decided old event new)
+  result_refused old new event (Ok x) undone = tt
+  result_refused old new event (Err fault) undone = refused_one fault.decided old new event undone
 
 -- and after bytes were sent
-pub sent_stands : (old : WorldState) (number n : ℕ) → CanStand old → CanStand (record old { sessions = changed number old.sessions (λ s. sent s n) (numbered number old.sessions) })
+pub sent_stands : {K : Type 0} (old : WorldState K) (number n : ℕ) → CanStand old → CanStand (record old { sessions = changed number old.sessions (λ s. sent s n) (numbered number old.sessions) })
 sent_stands old number n can = record {
   plain = record can.plain { connections = changed number can.plain.connections (less n) (numbered number can.plain.connections) };
   stands = record { greatest = can.stands.greatest; state = can.stands.state; now = can.stands.now; sessions = stand_sent can.plain.connections old.sessions number n can.stands.sessions };
 }
 
+-- at another moment
+pub moment_stands : {K : Type 0} (old : WorldState K) (now : ℕ) → CanStand old → CanStand (record old { moment = now })
+moment_stands old now can = record {
+  plain = record can.plain { now = now };
+  stands = record { greatest = can.stands.greatest; state = can.stands.state; now = refl; sessions = can.stands.sessions };
+}
+
 -- a world of no sessions stands
-pub new_stands : (greatest now : ℕ) (state : Plain) (sessions : List SessionState) → sessions ≡ [] → CanStand (record { greatest = greatest; state = state; now = now; sessions = sessions })
-new_stands greatest now state sessions none = record {
-  plain = record { greatest = greatest; state = state; now = now; connections = [] };
+pub new_stands : {K : Type 0} (world : WorldState K) → world.sessions ≡ [] → CanStand world
+new_stands world none = record {
+  plain = record { greatest = world.settings.greatest; state = world.state; now = world.moment; connections = [] };
   stands = record { greatest = refl; state = refl; now = refl; sessions = subst (StandAll []) (sym none) tt };
 }
+
+-- What is told of some events and then of others, and of one that is refused behind some.
+module _ {K : Type 0} (hash_of : K → List ℕ → ℕ) where
+  pub runs_join : (hash : List ℕ → ℕ) (shelves : ℕ) (events more : List Event) (first mid last : PlainWorld) → Runs hash shelves first events mid → Runs hash shelves mid more last → Runs hash shelves first (events ++ more) last
+  runs_join hash shelves [] more first mid last runs after = subst (λ (w : PlainWorld). Runs hash shelves w more last) runs after
+  runs_join hash shelves (e ∷ events) more first mid last runs after = (runs.0, runs.1, runs_join hash shelves events more runs.0 mid last runs.2 after)
+
+  -- with the hasher and settings that a world still has
+  pub runs_still : (old mid : WorldState K) → mid.settings ≡ old.settings → mid.hasher ≡ old.hasher → (first : PlainWorld) (events : List Event) (last : PlainWorld) → RunsIn hash_of mid first events last → RunsIn hash_of old first events last
+  runs_still old mid settings hasher first events last runs =
+      subst (λ (s : Settings). Runs (hash_of old.hasher) s.shelves first events last) settings
+      (subst (λ (h : K). Runs (hash_of h) mid.settings.shelves first events last) hasher runs)
+
+  -- no event
+  pub told_none : (world : WorldState K) → Told hash_of world [] world
+  told_none world = record { settings = refl; hasher = refl; told = λ first stands. (first, refl, stands) }
+
+  pub told_join : (old mid new : WorldState K) (events more : List Event) → Told hash_of old events mid → Told hash_of mid more new → Told hash_of old (events ++ more) new
+  told_join old mid new events more told after = record {
+    settings = after.settings ∙ told.settings;
+    hasher = after.hasher ∙ told.hasher;
+    told = λ first stands.
+        let so_far = told.told first stands in
+        let next = after.told so_far.0 so_far.2 in (
+          next.0,
+          runs_join (hash_of old.hasher) old.settings.shelves events more first so_far.0 next.0 so_far.1 (runs_still old mid told.settings told.hasher so_far.0 more next.0 next.1),
+          next.2,
+        );
+  }
+
+  -- one event more of a list
+  pub told_on : (old mid new : WorldState K) (events : List Event) (at : ℕ) (event : Event) → event ≡ get_or events at event → at < length events → Told hash_of old (take at events) mid → Told hash_of mid (event ∷ []) new → Told hash_of old (take (at + 1) events) new
+  told_on old mid new events at event here inside told after =
+      let more : take at events ++ event ∷ [] ≡ take (at + 1) events = ap (λ (e : Event). take at events ++ e ∷ []) here ∙ sym (take_more events at event inside) in
+      subst (λ (es : List Event). Told hash_of old es new) more (told_join old mid new (take at events) (event ∷ []) told after)
+
+  -- what is told of the events before a refused one, and of it
+  pub told_until : (old mid new : WorldState K) (events : List Event) (event : Event) (refused : Refused) → Told hash_of old (take refused.at events) mid → slice_get events refused.at ≡ Some event → refused.session ≡ named event
+      → ToldRefused hash_of refused.decided mid event new → ToldUntil hash_of refused old events new
+  told_until old mid new events event refused told here session after = record {
+    settings = after.settings ∙ told.settings;
+    hasher = after.hasher ∙ told.hasher;
+    event = event;
+    here = here;
+    session = session;
+    told = λ first stands. let so_far = told.told first stands in (so_far.0, so_far.1, after.told so_far.0 so_far.2);
+  }
+
+  -- the one event is refused
+  pub told_refused : (old new : WorldState K) (event : Event) (refused : Refused) → refused.at ≡ 0 → refused.session ≡ named event → ToldRefused hash_of refused.decided old event new → ToldUntil hash_of refused old (event ∷ []) new
+  told_refused old new event refused first session after =
+      told_until old old new (event ∷ []) event refused (subst (λ (k : ℕ). Told hash_of old (take k (event ∷ [])) old) (sym first) (told_none old)) (ap (slice_get (event ∷ [])) first) session after

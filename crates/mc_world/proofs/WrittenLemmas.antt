@@ -1,5 +1,5 @@
 -- What was written of a session, in front of its output and of its connection's.
-use Rattle.std.proofs.Common.{◌≡◌, inl, inr, ℕ, zero, suc, Bool, true, false, List, [], ◌∷◌, ◌++◌, length, take, drop, Option, Some, None, refl, sym, ap, ◌∙◌, subst, append_assoc}
+use Rattle.std.proofs.Common.{◌≡◌, ℕ, zero, suc, ◌<◌, ◌≤◌, Bool, true, false, List, [], ◌∷◌, ◌++◌, length, take, drop, Option, Some, None, refl, sym, ap, ◌∙◌, subst, arith, append_assoc, if◌then◌else◌}
 use Rattle.std.specs.Bool.{MatchBool}
 use Rattle.std.specs.List.{slice_get}
 use Rattle.std.specs.Io.KnownBytes.{Appends, Keeps}
@@ -8,11 +8,9 @@ use Rattle.std.proofs.Math.Seq.{drop-append_seam}
 use Rattle.std.proofs.lemmas.List.{take-append-drop}
 use Rattle.mc_session.specs.Turns.{SessionState, sent}
 use Rattle.mc_world.specs.Connections.{Connection, IsRest, shut, Stands}
-use Rattle.mc_world.specs.Worlds.{PlainWorld, WorldState, numbered, changed, output_of, IsIdle, IsClosed, StandAll, StandsAs, CanStand}
+use Rattle.mc_world.specs.Worlds.{PlainWorld, WorldState, numbered, if_open, changed, output_of, open_session, IsIdle, IsClosed, StandAll, StandsAs}
 use Rattle.mc_world.specs.Serving.{with_written, in_front, with_front}
-use Rattle.mc_world.specs.Rounds.{Writes, HasEnded, Keeps as KeepsStore}
-use Rattle.mc_world.specs.declared.world.World.{World}
-use Rattle.mc_world.specs.Sessions.{world_of}
+use Rattle.mc_world.specs.Rounds.{Writes}
 use Rattle.mc_world.proofs.StandLemmas.{stand_numbered, changed_both, less, stand_sent}
 use Rattle.mc_world.proofs.UpdateLemmas.{update, at_number, mapped, changed_is, number_twice, number_nothing, number_get, changed_length}
 
@@ -21,7 +19,7 @@ abbrev pub before : List ℕ → SessionState → SessionState
 before bytes s = record s { out = bytes ++ s.out }
 
 -- a world with other sessions
-abbrev with_sessions : WorldState → List SessionState → WorldState
+abbrev with_sessions : {K : Type 0} → WorldState K → List SessionState → WorldState K
 with_sessions w sessions = record w { sessions = sessions }
 
 -- they stand so too
@@ -29,7 +27,7 @@ front_by : (bytes : List ℕ) (c : Connection) (s : SessionState) (b : Bool) →
 front_by bytes c s true (opens, rest) = (opens, record { read = rest.read; follows = rest.follows; taken = rest.taken; among = rest.among; out = ap (λ o. bytes ++ o) rest.out })
 front_by bytes c s false same = ap (λ (x : SessionState). before bytes x) same
 
-pub put_on : (n : ℕ) (bytes : List ℕ) (p : PlainWorld) (w : WorldState) → StandsAs p w → StandsAs (with_front n bytes p) (with_written n bytes w)
+pub put_on : {K : Type 0} (n : ℕ) (bytes : List ℕ) (p : PlainWorld) (w : WorldState K) → StandsAs p w → StandsAs (with_front n bytes p) (with_written n bytes w)
 put_on n bytes p w stands = record {
   greatest = stands.greatest;
   state = stands.state;
@@ -49,7 +47,7 @@ taken_off n bytes ss =
 abbrev without : ℕ → List ℕ → PlainWorld → PlainWorld
 without n bytes p = record p { connections = changed n p.connections (less (length bytes)) (numbered n p.connections) }
 
-take_off : (n : ℕ) (bytes : List ℕ) (p : PlainWorld) (w : WorldState) → StandsAs p (with_written n bytes w) → StandsAs (without n bytes p) w
+take_off : {K : Type 0} (n : ℕ) (bytes : List ℕ) (p : PlainWorld) (w : WorldState K) → StandsAs p (with_written n bytes w) → StandsAs (without n bytes p) w
 take_off n bytes p w stands = record {
   greatest = stands.greatest;
   state = stands.state;
@@ -78,7 +76,7 @@ restored_number : (bytes : List ℕ) (cs : List Connection) (ss : List SessionSt
 restored_number bytes cs ss zero all = refl
 restored_number bytes cs ss (suc m) all = restored_at bytes cs ss m all
 
-restored : (n : ℕ) (bytes : List ℕ) (p : PlainWorld) (w : WorldState) → StandsAs p (with_written n bytes w) → with_front n bytes (without n bytes p) ≡ p
+restored : {K : Type 0} (n : ℕ) (bytes : List ℕ) (p : PlainWorld) (w : WorldState K) → StandsAs p (with_written n bytes w) → with_front n bytes (without n bytes p) ≡ p
 restored n bytes p w stands =
     ap (λ (cs : List Connection). let v : PlainWorld = record p { connections = cs } in v)
     (changed_is n (without n bytes p).connections (in_front bytes)
@@ -86,13 +84,13 @@ restored n bytes p w stands =
     ∙ restored_number bytes p.connections w.sessions n (subst (StandAll p.connections) (changed_is n w.sessions (before bytes)) stands.sessions))
 
 -- A plain world that stands with bytes in front is one that stands without, with the bytes in front.
-pub record Fronts (n : ℕ) (bytes : List ℕ) (p : PlainWorld) (w : WorldState) : Type 0 where
+pub record Fronts {K : Type 0} (n : ℕ) (bytes : List ℕ) (p : PlainWorld) (w : WorldState K) : Type 0 where
   pub plain : PlainWorld
   pub is : with_front n bytes plain ≡ p
   pub stands : StandsAs plain w
   pub as_many : length plain.connections ≡ length p.connections
 
-pub fronts : (n : ℕ) (bytes : List ℕ) (p : PlainWorld) (w : WorldState) → StandsAs p (with_written n bytes w) → Fronts n bytes p w
+pub fronts : {K : Type 0} (n : ℕ) (bytes : List ℕ) (p : PlainWorld) (w : WorldState K) → StandsAs p (with_written n bytes w) → Fronts n bytes p w
 fronts n bytes p w stands = record {
   plain = without n bytes p;
   is = restored n bytes p w stands;
@@ -101,11 +99,11 @@ fronts n bytes p w stands = record {
 }
 
 -- no bytes
-pub written_nothing : (n : ℕ) (w : WorldState) → with_written n [] w ≡ w
+pub written_nothing : {K : Type 0} (n : ℕ) (w : WorldState K) → with_written n [] w ≡ w
 written_nothing n w = ap (with_sessions w) (changed_is n w.sessions (before []) ∙ number_nothing w.sessions n (before []) (λ s. refl))
 
 -- bytes in front of bytes
-pub written_twice : (n : ℕ) (a b : List ℕ) (w : WorldState) → with_written n a (with_written n b w) ≡ with_written n (a ++ b) w
+pub written_twice : {K : Type 0} (n : ℕ) (a b : List ℕ) (w : WorldState K) → with_written n a (with_written n b w) ≡ with_written n (a ++ b) w
 written_twice n a b w =
     ap (with_sessions w)
     (changed_is n (with_written n b w).sessions (before a)
@@ -123,7 +121,7 @@ sent_number : (k : ℕ) (ss : List SessionState) (n : ℕ) → at_number (at_num
 sent_number k ss zero = refl
 sent_number k ss (suc m) = sent_at k ss m
 
-written_sent : (n k : ℕ) (w : WorldState) → w ≡ with_written n (take k (output_of (numbered n w.sessions))) (record w { sessions = changed n w.sessions (λ s. sent s k) (numbered n w.sessions) })
+written_sent : {K : Type 0} (n k : ℕ) (w : WorldState K) → w ≡ with_written n (take k (output_of (numbered n w.sessions))) (record w { sessions = changed n w.sessions (λ s. sent s k) (numbered n w.sessions) })
 written_sent n k w =
     let part = take k (output_of (numbered n w.sessions)) in
     let rest = changed n w.sessions (λ s. sent s k) (numbered n w.sessions) in
@@ -133,7 +131,7 @@ written_sent n k w =
     ∙ sym (changed_is n rest (before part)))
 
 -- one part after another
-pub writes_more : (n : ℕ) (first mid last : WorldState) (a b c : Option (List ℕ)) → Writes n first mid a b → Writes n mid last b c → Writes n first last a c
+pub writes_more : {K : Type 0} (n : ℕ) (first mid last : WorldState K) (a b c : Option (List ℕ)) → Writes n first mid a b → Writes n mid last b c → Writes n first last a c
 writes_more n first mid last a b c one two = record {
   part = one.part ++ two.part;
   parts = one.parts ∙ ap (with_written n one.part) two.parts ∙ written_twice n one.part two.part last;
@@ -141,15 +139,15 @@ writes_more n first mid last a b c one two = record {
 }
 
 -- no part
-pub writes_nothing : (n : ℕ) (w : WorldState) (a : Option (List ℕ)) → Writes n w w a a
+pub writes_nothing : {K : Type 0} (n : ℕ) (w : WorldState K) (a : Option (List ℕ)) → Writes n w w a a
 writes_nothing n w a = record { part = []; parts = sym (written_nothing n w); appends = Appends-nil a }
 
 -- a front of the output
-pub writes_front : (n k : ℕ) (w : WorldState) (a b : Option (List ℕ)) → Appends a b (take k (output_of (numbered n w.sessions))) → Writes n w (record w { sessions = changed n w.sessions (λ s. sent s k) (numbered n w.sessions) }) a b
+pub writes_front : {K : Type 0} (n k : ℕ) (w : WorldState K) (a b : Option (List ℕ)) → Appends a b (take k (output_of (numbered n w.sessions))) → Writes n w (record w { sessions = changed n w.sessions (λ s. sent s k) (numbered n w.sessions) }) a b
 writes_front n k w a b appends = record { part = take k (output_of (numbered n w.sessions)); parts = written_sent n k w; appends = appends }
 
 -- a write that failed
-pub writes_kept : (n : ℕ) (w : WorldState) (a b : Option (List ℕ)) → Keeps a b → Writes n w w a b
+pub writes_kept : {K : Type 0} (n : ℕ) (w : WorldState K) (a b : Option (List ℕ)) → Keeps a b → Writes n w w a b
 writes_kept n w a b kept = record { part = []; parts = sym (written_nothing n w); appends = Appends-kept a a b [] (Appends-nil a) kept }
 
 -- they make a session no less idle or closed
@@ -165,35 +163,40 @@ closed_before : (bytes : List ℕ) (o : Option SessionState) → IsClosed o → 
 closed_before bytes None is = is
 closed_before bytes (Some s) is = is
 
-numbered_written : (n : ℕ) (bytes : List ℕ) (w : WorldState) → numbered n (with_written n bytes w).sessions ≡ mapped (before bytes) (numbered n w.sessions)
+numbered_written : {K : Type 0} (n : ℕ) (bytes : List ℕ) (w : WorldState K) → numbered n (with_written n bytes w).sessions ≡ mapped (before bytes) (numbered n w.sessions)
 numbered_written n bytes w = ap (numbered n) (changed_is n w.sessions (before bytes)) ∙ number_get w.sessions n (before bytes)
 
-pub ended_written : (n : ℕ) (bytes : List ℕ) (w : WorldState) (reader : Option (List ℕ)) → HasEnded n w reader → HasEnded n (with_written n bytes w) reader
-ended_written n bytes w reader (inl is) = inl (subst IsClosed (sym (numbered_written n bytes w)) (closed_before bytes (numbered n w.sessions) is))
-ended_written n bytes w reader (inr (idle, end)) = inr (subst IsIdle (sym (numbered_written n bytes w)) (idle_before bytes (numbered n w.sessions) idle), end)
+pub idle_written : {K : Type 0} (n : ℕ) (bytes : List ℕ) (w : WorldState K) → IsIdle (numbered n w.sessions) → IsIdle (numbered n (with_written n bytes w).sessions)
+idle_written n bytes w idle = subst IsIdle (sym (numbered_written n bytes w)) (idle_before bytes (numbered n w.sessions) idle)
+
+-- a session that was opened and isn't open is closed
+shut_by : (s : SessionState) (b : Bool) → s.is_open ≡ b → (if b then Some s else None) ≡ None → IsClosed (Some s)
+shut_by s true is h = cc
+shut_by s false is h = is
+
+shut_at : (ss : List SessionState) (m : ℕ) → m < length ss → if_open (λ s. s.is_open) (slice_get ss m) ≡ None → IsClosed (slice_get ss m)
+shut_at [] m inside h = absurd (omega arith)
+shut_at (s ∷ ss) zero inside h = shut_by s s.is_open refl h
+shut_at (s ∷ ss) (suc m) inside h = shut_at ss m (omega arith) h
+
+shut_number : (ss : List SessionState) (n : ℕ) → 1 ≤ n → n ≤ length ss → open_session n ss ≡ None → IsClosed (numbered n ss)
+shut_number ss zero some inside h = absurd (omega arith)
+shut_number ss (suc m) some inside h = shut_at ss m (omega arith) h
+
+pub closed_written : {K : Type 0} (n : ℕ) (bytes : List ℕ) (w : WorldState K) → 1 ≤ n → n ≤ length w.sessions → open_session n w.sessions ≡ None → IsClosed (numbered n (with_written n bytes w).sessions)
+closed_written n bytes w some inside h = subst IsClosed (sym (numbered_written n bytes w)) (closed_before bytes (numbered n w.sessions) (shut_number w.sessions n some inside h))
 
 -- a session stays idle while its output is written
-pub idle_wrote : (n : ℕ) (old new : WorldState) (a b : Option (List ℕ)) → Writes n old new a b → IsIdle (numbered n old.sessions) → IsIdle (numbered n new.sessions)
-idle_wrote n old new a b writes idle =
+pub idle_wrote : {K : Type 0} (n : ℕ) (old new : WorldState K) (a b : Option (List ℕ)) → Writes n old new a b → IsIdle (numbered n old.sessions) → IsIdle (numbered n new.sessions)
+idle_wrote {K = K} n old new a b writes idle =
     idle_behind writes.part (numbered n new.sessions)
-    (subst IsIdle (numbered_written n writes.part new) (subst (λ (w : WorldState). IsIdle (numbered n w.sessions)) writes.parts idle))
-
--- what is kept twice is kept
-pub kept_on : {K : Type 0} (a b c : World K) → KeepsStore a b → KeepsStore b c → KeepsStore a c
-kept_on a b c one two = (two.0 ∙ one.0, two.1 ∙ one.1, λ can. two.2 (one.2 can))
-
-pub kept_same : {K : Type 0} (a b : World K) → b ≡ a → KeepsStore a b
-kept_same {K = K} a b same = (ap (λ (w : World K). w.store.settings) same, ap (λ (w : World K). w.store.hasher) same, λ can. subst (λ (w : World K). CanStand (world_of w)) (sym same) can)
+    (subst IsIdle (numbered_written n writes.part new) (subst (λ (w : WorldState K). IsIdle (numbered n w.sessions)) writes.parts idle))
 
 -- the world after a write of so many bytes, and after one that failed
-pub wrote_front : {K : Type 0} (n k : ℕ) (old new last : World K) (out : List ℕ) (a b : Option (List ℕ)) → last ≡ new → new ≡ record old { sessions = changed n old.sessions (λ s. sent s k) (numbered n old.sessions) }
-    → out ≡ output_of (numbered n old.sessions) → Appends a b (take k out) → Writes n (world_of old) (world_of last) a b
+pub wrote_front : {K : Type 0} (n k : ℕ) (old new last : WorldState K) (out : List ℕ) (a b : Option (List ℕ)) → last ≡ new → new ≡ record old { sessions = changed n old.sessions (λ s. sent s k) (numbered n old.sessions) }
+    → out ≡ output_of (numbered n old.sessions) → Appends a b (take k out) → Writes n old last a b
 wrote_front {K = K} n k old new last out a b same is there appends =
-    subst (λ (w : World K). Writes n (world_of old) (world_of w) a b) (sym (same ∙ is)) (writes_front n k (world_of old) a b (subst (λ (o : List ℕ). Appends a b (take k o)) there appends))
+    subst (λ (w : WorldState K). Writes n old w a b) (sym (same ∙ is)) (writes_front n k old a b (subst (λ (o : List ℕ). Appends a b (take k o)) there appends))
 
-pub wrote_none : {K : Type 0} (n : ℕ) (old last : World K) (a b : Option (List ℕ)) → last ≡ old → Keeps a b → Writes n (world_of old) (world_of last) a b
-wrote_none {K = K} n old last a b same kept = subst (λ (w : World K). Writes n (world_of old) (world_of w) a b) (sym same) (writes_kept n (world_of old) a b kept)
-
-pub kept_sent : {K : Type 0} (n k : ℕ) (old new last : World K) → last ≡ new → new ≡ record old { sessions = changed n old.sessions (λ s. sent s k) (numbered n old.sessions) } → (CanStand (world_of old) → CanStand (world_of new)) → KeepsStore old last
-kept_sent {K = K} n k old new last same is stands =
-    subst (λ (w : World K). KeepsStore old w) (sym same) (ap (λ (w : World K). w.store.settings) is, ap (λ (w : World K). w.store.hasher) is, stands)
+pub wrote_none : {K : Type 0} (n : ℕ) (old last : WorldState K) (a b : Option (List ℕ)) → last ≡ old → Keeps a b → Writes n old last a b
+wrote_none {K = K} n old last a b same kept = subst (λ (w : WorldState K). Writes n old w a b) (sym same) (writes_kept n old a b kept)

@@ -6,8 +6,9 @@ use Rattle.mc_parse.specs.Streams.{AreUnits, is_last, passed_after}
 use Rattle.mc_parse.specs.Feeds.{Unread, settled}
 use Rattle.mc_session.specs.Turns.{SessionState, turn_count, turns, nothing_unread}
 
--- What has come of a session: its stream so far, of whose front so many bytes are passed over; how many of the stream's
--- turns were taken; what they were answered that isn't sent yet; and whether it is open.
+-- What has come of a session: its stream so far, of whose front so many bytes are passed over; how
+-- many of the stream's turns were taken; what they were answered that isn't sent yet; and whether
+-- it is open.
 pub record Connection : Type 0 where
   pub greatest : ℕ
   pub passed : ℕ
@@ -30,18 +31,22 @@ pub record HasNoNext (connection : Connection) : Type 0 where
 
 -- these units, none of which ends the stream, stand at its front, and this is what comes after them
 abbrev pub Follows : (greatest passed : ℕ) → List ℕ → List ProtocolUnit → Unread → Type 0
-Follows greatest passed bytes [] rest = rest ≡ settled (record { greatest = greatest; passed = passed; bytes = bytes })
+Follows greatest passed bytes [] rest =
+    rest ≡ settled (record { greatest = greatest; passed = passed; bytes = bytes })
 Follows greatest passed bytes (unit ∷ units) rest =
-    (front : List ℕ) × (more : List ℕ) × (drop passed bytes ≡ front ++ more) × Spells greatest unit front × (is_last unit ≡ false)
+    (front : List ℕ) × (more : List ℕ) × (drop passed bytes ≡ front ++ more)
+    × Spells greatest unit front × (is_last unit ≡ false)
     × Follows greatest (passed_after unit) more units rest
 
 -- no turn of the first unit was taken, or some and not all
 pub data IsAmong : Unread → ℕ → Type 0 where
   at_start : {unread : Unread} → IsAmong unread 0
-  inside : {unread : Unread} {taken : ℕ} (unit : ProtocolUnit) (front rest : List ℕ) → drop unread.passed unread.bytes ≡ front ++ rest → Spells unread.greatest unit front → taken < turn_count unit → IsAmong unread taken
+  inside : {unread : Unread} {taken : ℕ} (unit : ProtocolUnit) (front rest : List ℕ)
+      → drop unread.passed unread.bytes ≡ front ++ rest → Spells unread.greatest unit front
+      → taken < turn_count unit → IsAmong unread taken
 
--- what is left of an open connection: what comes after the units whose turns are all taken, and how many turns were taken
--- of the unit that then stands first
+-- what is left of an open connection: what comes after the units whose turns are all taken, and how
+-- many turns were taken of the unit that then stands first
 pub record IsRest (connection : Connection) (session : SessionState) : Type 0 where
   pub read : List ProtocolUnit
   pub follows : Follows connection.greatest connection.passed connection.stream read session.unread
@@ -51,15 +56,23 @@ pub record IsRest (connection : Connection) (session : SessionState) : Type 0 wh
 
 -- a closed connection has its output alone
 abbrev pub shut : Connection → SessionState
-shut connection = record { unread = nothing_unread connection.greatest; taken = 0; out = connection.out; is_open = false }
+shut connection =
+    record {
+      unread = nothing_unread connection.greatest;
+      taken = 0;
+      out = connection.out;
+      is_open = false;
+    }
 
 -- so the connection stands: what is left of it where it is open, and else its output alone
 abbrev pub Stands : Connection → SessionState → Type 0
-Stands connection session = MatchBool connection.is_open ((session.is_open ≡ true) × IsRest connection session) (session ≡ shut connection)
+Stands connection session = MatchBool connection.is_open
+    ((session.is_open ≡ true) × IsRest connection session) (session ≡ shut connection)
 
 -- a connection that nothing came of
 abbrev pub fresh : ℕ → Connection
-fresh greatest = record { greatest = greatest; passed = 0; stream = []; taken = 0; out = []; is_open = true }
+fresh greatest =
+    record { greatest = greatest; passed = 0; stream = []; taken = 0; out = []; is_open = true }
 
 -- a piece of the stream comes
 abbrev pub with_piece : List ℕ → Connection → Connection
@@ -67,7 +80,8 @@ with_piece piece c = record c { stream = c.stream ++ piece }
 
 -- one turn more was taken, with this text; that of a last unit closes the connection
 abbrev pub after_turn : ProtocolUnit → List ℕ → Connection → Connection
-after_turn unit text c = record c { taken = c.taken + 1; out = c.out ++ text; is_open = not (is_last unit) }
+after_turn unit text c =
+    record c { taken = c.taken + 1; out = c.out ++ text; is_open = not (is_last unit) }
 
 -- the connection closes
 abbrev pub ended : Connection → Connection

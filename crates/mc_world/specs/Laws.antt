@@ -1,18 +1,23 @@
--- What the laws of the plain world speak of: events that decide no step, and what a session's steps are answered.
-use Rattle.std.specs.Prelude.{◌≡◌, ◌⊎◌, ℕ, ◌==◌, Bool, false, List, [], ◌∷◌, ◌++◌, filter, Option, Some, None, IfSome, slice_get}
+-- What the laws of the plain world speak of: events that decide no step, and what a session's steps
+-- are answered.
+use Rattle.std.specs.Prelude.{◌≡◌, ◌⊎◌, ◌↔◌, ◌<◌, ℕ, ◌==◌, Bool, false, List, [], ◌∷◌, ◌++◌, length, filter, Option, Some, None, IfSome, slice_get}
 use Rattle.std.specs.Bool.{MatchBool}
 use Rattle.std.specs.Option.{MatchOption}
 use Rattle.mc_command.specs.Commands.{steps}
 use Rattle.mc_command.specs.Plain.{plain, Outcome, Answered, Spent}
 use Rattle.mc_command.specs.declared.step.KeyStep.{KeyStep}
 use Rattle.mc_command.specs.declared.reply.Reply.{Reply}
-use Rattle.mc_parse.specs.Units.{ProtocolUnit, Request, Fault, LongLine}
+use Rattle.mc_parse.specs.Units.{ProtocolUnit, Request, Fault, LongLine, Spells}
+use Rattle.mc_parse.specs.Streams.{AreUnits}
+use Rattle.mc_parse.specs.Feeds.{Unread, settled, pushed}
+use Rattle.mc_session.specs.Turns.{to_read, HasUnits}
 use Rattle.mc_world.specs.Connections.{Connection, IsNext, HasNoNext}
-use Rattle.mc_world.specs.Worlds.{PlainWorld, numbered, open_connection, named, Happens}
+use Rattle.mc_world.specs.Worlds.{PlainWorld, numbered, open_connection, named, Happens, Runs}
 use Rattle.mc_world.specs.declared.event.Event.{Event}
 use Rattle.mc_world.specs.declared.event.Event.TheVariants.{Open, Piece, Turn, Clock, Grow, Purge, Close}
 
--- the step of a unit's turn: that of a fault has none, nor has that of a line that is too long, of version or of quit
+-- the step of a unit's turn: that of a fault has none, nor has that of a line that is too long, of
+-- version or of quit
 abbrev pub step_of : ProtocolUnit → (at : ℕ) → Option KeyStep
 step_of (Request command) at = slice_get (steps command) at
 step_of (Fault fault) at = None
@@ -20,13 +25,16 @@ step_of LongLine at = None
 
 -- the connection's next turn has no step, if there is a next turn
 abbrev pub NextHasNoStep : Connection → Type 0
-NextHasNoStep connection = (unit : ProtocolUnit) (at : ℕ) → IsNext connection unit at → step_of unit at ≡ None
+NextHasNoStep connection = (unit : ProtocolUnit) (at : ℕ) → IsNext connection unit at
+    → step_of unit at ≡ None
 
--- the event is one of that session and decides no step there: a piece, a close, or a turn that isn't due or has no step
+-- the event is one of that session and decides no step there: a piece, a close, or a turn that
+-- isn't due or has no step
 abbrev pub DecidesNoStep : PlainWorld → Event → ℕ → Type 0
 DecidesNoStep world Open n = ⊥
 DecidesNoStep world (Piece k piece) n = k ≡ n
-DecidesNoStep world (Turn k) n = (k ≡ n) × IfSome (open_connection n world.connections) NextHasNoStep
+DecidesNoStep world (Turn k) n = (k ≡ n)
+    × IfSome (open_connection n world.connections) NextHasNoStep
 DecidesNoStep world (Clock now) n = ⊥
 DecidesNoStep world (Grow shelf) n = ⊥
 DecidesNoStep world (Purge shelf) n = ⊥
@@ -35,6 +43,17 @@ DecidesNoStep world (Close k) n = k ≡ n
 -- the event opens no session, and isn't one of that session
 abbrev pub IsApart : Event → ℕ → Type 0
 IsApart event n = (event ≡ Open → ⊥) × (named event ≡ Some n → ⊥)
+
+-- a run of the one list is a run of the other
+abbrev pub RunAlike : List Event → List Event → Type 0
+RunAlike some others = (hash : List ℕ → ℕ) (shelves : ℕ) (old new : PlainWorld)
+    → Runs hash shelves old some new ↔ Runs hash shelves old others new
+
+-- the event is one of that session and decides no step there, wherever the front leads to
+abbrev pub DecidesNoStepBehind : (hash : List ℕ → ℕ) (shelves : ℕ) (old : PlainWorld) → List Event
+    → Event → ℕ → Type 0
+DecidesNoStepBehind hash shelves old front event n = (world : PlainWorld)
+    → Runs hash shelves old front world → DecidesNoStep world event n
 
 -- what a step is answered: the plain machine's reply, or that its unique numbers are spent
 pub data Answer : Type 0 where
@@ -54,13 +73,17 @@ answers_in world (Some step) = answer_in (plain world.state step world.now) ∷ 
 abbrev pub AnswersNext : PlainWorld → Connection → List Answer → Type 0
 AnswersNext world connection answers =
     (HasNoNext connection × (answers ≡ []))
-    ⊎ ((unit : ProtocolUnit) × (at : ℕ) × IsNext connection unit at × (answers ≡ answers_in world (step_of unit at)))
+    ⊎ ((unit : ProtocolUnit) × (at : ℕ) × IsNext connection unit at
+    × (answers ≡ answers_in world (step_of unit at)))
 
 -- what the event is answered, if it is a turn of that session
 abbrev pub AnswersOf : ℕ → PlainWorld → Event → List Answer → Type 0
 AnswersOf n world Open answers = answers ≡ []
 AnswersOf n world (Piece k piece) answers = answers ≡ []
-AnswersOf n world (Turn k) answers = MatchBool (k == n) (MatchOption (open_connection n world.connections) (answers ≡ []) (λ connection. AnswersNext world connection answers)) (answers ≡ [])
+AnswersOf n world (Turn k) answers =
+    MatchBool (k == n)
+    (MatchOption (open_connection n world.connections) (answers ≡ [])
+    (λ connection. AnswersNext world connection answers)) (answers ≡ [])
 AnswersOf n world (Clock now) answers = answers ≡ []
 AnswersOf n world (Grow shelf) answers = answers ≡ []
 AnswersOf n world (Purge shelf) answers = answers ≡ []
@@ -71,8 +94,17 @@ module _ (hash : List ℕ → ℕ) (shelves : ℕ) (n : ℕ) where
   abbrev pub RunsAnswering : PlainWorld → List Event → List Answer → PlainWorld → Type 0
   RunsAnswering old [] answers new = (new ≡ old) × (answers ≡ [])
   RunsAnswering old (event ∷ events) answers new =
-      (mid : PlainWorld) × (first : List Answer) × (others : List Answer) × Happens hash shelves old event mid × AnswersOf n old event first
+      (mid : PlainWorld) × (first : List Answer) × (others : List Answer)
+      × Happens hash shelves old event mid × AnswersOf n old event first
       × RunsAnswering mid events others new × (answers ≡ first ++ others)
+
+-- the session is there at the end of a run, in which its steps are answered in some way
+abbrev pub HasAnswers : (hash : List ℕ → ℕ) (shelves n : ℕ) → PlainWorld → List Event → PlainWorld
+    → Type 0
+HasAnswers hash shelves n old events new =
+    (answers : List Answer) × (last : Connection)
+    × RunsAnswering hash shelves n old events answers new
+    × (numbered n new.connections ≡ Some last)
 
 -- whether this is that number
 abbrev pub is_number : ℕ → Option ℕ → Bool
@@ -83,9 +115,10 @@ is_number n (Some k) = k == n
 abbrev pub events_of : ℕ → List Event → List Event
 events_of n events = filter (λ event. is_number n (named event)) events
 
--- A run of some world leaves the session with this last connection, where it has this first one, where these are its own
--- events, and where its steps are answered so.
-pub record Leaves (n : ℕ) (first : Connection) (own : List Event) (answers : List Answer) (last : Connection) : Type 0 where
+-- A run of some world leaves the session with this last connection, where it has this first one,
+-- where these are its own events, and where its steps are answered so.
+pub record Leaves (n : ℕ) (first : Connection) (own : List Event) (answers : List Answer)
+    (last : Connection) : Type 0 where
   pub hash : List ℕ → ℕ
   pub shelves : ℕ
   pub old : PlainWorld
@@ -95,3 +128,22 @@ pub record Leaves (n : ℕ) (first : Connection) (own : List Event) (answers : L
   pub has : events_of n events ≡ own
   pub runs : RunsAnswering hash shelves n old events answers new
   pub ends : numbered n new.connections ≡ Some last
+
+-- The laws of the grammar and of sessions that the proofs here use: no spelling begins another, and
+-- each has a byte; a stream has one list of units; and it matters neither where a stream is cut nor
+-- how early bytes are passed over.
+pub record Grammar : Type 0 where
+  pub apart : (greatest : ℕ) (u v : ProtocolUnit) (a b x y : List ℕ) → Spells greatest u a
+      → Spells greatest v b → a ++ x ≡ b ++ y → (u ≡ v) × (a ≡ b)
+  pub byte : (greatest : ℕ) (unit : ProtocolUnit) (front : List ℕ) → Spells greatest unit front
+      → 0 < length front
+  pub some : (greatest passed : ℕ) (bytes : List ℕ) → (units : List ProtocolUnit)
+      × AreUnits greatest passed bytes units
+  pub same : (greatest passed : ℕ) (bytes : List ℕ) (units others : List ProtocolUnit)
+      → AreUnits greatest passed bytes units → AreUnits greatest passed bytes others
+      → units ≡ others
+  pub cut : (unread : Unread) (piece more : List ℕ)
+      → pushed (pushed unread piece) more ≡ pushed unread (piece ++ more)
+  pub early : (unread : Unread) → to_read (settled unread) ≡ to_read unread
+  pub early_units : (unread : Unread) (units : List ProtocolUnit) → HasUnits (settled unread) units
+      ↔ HasUnits unread units

@@ -2,34 +2,46 @@
 use Rattle.std.specs.Prelude.{◌≡◌, ◌⊎◌, ℕ, ◌+◌, ◌<◌, ◌%◌, ◌==◌, Bool, true, List, [], ◌∷◌, ◌++◌, length, Option, Some, None, slice_get, nat_lt, if◌then◌else◌, IsTrue, IsFalse}
 use Rattle.std.specs.Option.{MatchOption}
 use Rattle.mc_command.specs.Plain.{Plain}
-use Rattle.mc_command.specs.declared.step.KeyStep.{KeyStep}
-use Rattle.mc_command.specs.declared.reply.Reply.{Reply}
+use Rattle.mc_command.specs.declared.step.Steps.{Ghosts as Relations}
 use Rattle.mc_session.specs.Turns.{SessionState, TakesTurn, DecidesStep, NoTurnDue, opened, fed, closed}
 use Rattle.mc_command.specs.Purge.{purged}
-use Rattle.mc_world.specs.Worlds.{WorldState, put, changed, open_session, replies, is_spent, named}
+use Rattle.mc_world.specs.Worlds.{WorldState, put, changed, open_session, in_plain, named}
 use Rattle.mc_world.specs.declared.event.Event.{Event}
 use Rattle.mc_world.specs.declared.event.Event.TheVariants.{Open, Piece, Turn, Clock, Grow, Purge, Close}
-use Rattle.mc_world.specs.declared.world.World.{World}
+use Rattle.mc_world.specs.declared.parts.Parts.{Parts}
 
 -- the open session of that number is changed, and nothing where none is
 abbrev pub at_session : List SessionState → ℕ → (SessionState → SessionState) → List SessionState
 at_session sessions n change = changed n sessions change (open_session n sessions)
 
-module _ {S : Type 0} (took : S → KeyStep → ℕ → Reply → S → Type 0) (spent : S → KeyStep → ℕ → Type 0) where
+-- one session more, if fewer than 65535 were opened
+abbrev pub with_opened : (greatest : ℕ) → List SessionState → List SessionState
+with_opened greatest sessions = if nat_lt (length sessions) 65535 then sessions ++ opened greatest
+    ∷ [] else sessions
+
+-- the session of that number is open
+abbrev pub IsOpened : ℕ → List SessionState → Type 0
+IsOpened n sessions = (session : SessionState) × (open_session n sessions ≡ Some session)
+
+module _ {S : Type 0} (relations : Relations S) where
   -- the open session of that number takes its next turn, if one is due
   abbrev pub TurnOf : ℕ → ℕ → (old new : List SessionState) → S → S → Type 0
   TurnOf n now old new before after =
       MatchOption (open_session n old) ((new ≡ old) × (after ≡ before)) (λ session.
       (NoTurnDue session × (new ≡ old) × (after ≡ before))
-      ⊎ ((next : SessionState) × TakesTurn took spent now session next before after × (new ≡ put n old next)))
+      ⊎ ((next : SessionState) × TakesTurn relations now session next before after
+      × (new ≡ put n old next)))
 
 -- it decides the step of its next turn, whose text isn't told
-abbrev pub DecidedOf : {S : Type 0} (took : S → KeyStep → ℕ → Reply → S → Type 0) → ℕ → ℕ → List SessionState → S → S → Type 0
-DecidedOf took n now old before after = (session : SessionState) × (open_session n old ≡ Some session) × DecidesStep took now session before after
+abbrev pub DecidedOf : {S : Type 0} (relations : Relations S) → ℕ → ℕ → List SessionState → S → S
+    → Type 0
+DecidedOf relations n now old before after = (session : SessionState)
+    × (open_session n old ≡ Some session) × DecidesStep relations now session before after
 
 -- a turn of it is due
 abbrev pub IsDue : ℕ → List SessionState → Type 0
-IsDue n sessions = (session : SessionState) × (open_session n sessions ≡ Some session) × (NoTurnDue session → ⊥)
+IsDue n sessions = (session : SessionState) × (open_session n sessions ≡ Some session)
+    × (NoTurnDue session → ⊥)
 
 -- the session of that number stands at this place, and is open
 pub record IsOpenAt (sessions : List SessionState) (n at : ℕ) : Type 0 where
@@ -40,14 +52,26 @@ pub record IsOpenAt (sessions : List SessionState) (n at : ℕ) : Type 0 where
   pub opens : session.is_open ≡ true
 
 -- what an event makes of a world, said of its sessions
-module _ (hash : List ℕ → ℕ) (shelves : ℕ) where
-  abbrev pub Done : WorldState → Event → WorldState → Type 0
-  Done old Open new = new ≡ (if nat_lt (length old.sessions) 65535 then record old { sessions = old.sessions ++ opened old.greatest ∷ [] } else old)
-  Done old (Piece n piece) new = new ≡ record old { sessions = at_session old.sessions n (λ s. fed s piece) }
-  Done old (Turn n) new = (new.greatest ≡ old.greatest) × (new.now ≡ old.now) × TurnOf replies is_spent n old.now old.sessions new.sessions old.state new.state
-  Done old (Clock now) new = new ≡ record old { now = now }
+module _ {K : Type 0} (hash_of : K → List ℕ → ℕ) where
+  -- a shelf of a world is purged, if it is there
+  abbrev pub without_dead : ℕ → WorldState K → Plain
+  without_dead shelf w =
+      if nat_lt shelf w.settings.shelves then purged
+      (λ key. hash_of w.hasher key % w.settings.shelves == shelf) w.moment w.state else w.state
+
+  abbrev pub Done : WorldState K → Event → WorldState K → Type 0
+  Done old Open new =
+      new
+      ≡ (if nat_lt (length old.sessions) 65535
+      then record old { sessions = old.sessions ++ opened old.settings.greatest ∷ [] } else old)
+  Done old (Piece n piece) new =
+      new ≡ record old { sessions = at_session old.sessions n (λ s. fed s piece) }
+  Done old (Turn n) new =
+      (new.settings ≡ old.settings) × (new.hasher ≡ old.hasher) × (new.moment ≡ old.moment)
+      × TurnOf in_plain n old.moment old.sessions new.sessions old.state new.state
+  Done old (Clock now) new = new ≡ record old { moment = now }
   Done old (Grow shelf) new = new ≡ old
-  Done old (Purge shelf) new = new ≡ record old { state = if nat_lt shelf shelves then purged (λ key. hash key % shelves == shelf) old.now old.state else old.state }
+  Done old (Purge shelf) new = new ≡ record old { state = without_dead shelf old }
   Done old (Close n) new = new ≡ record old { sessions = at_session old.sessions n closed }
 
 -- the session that an event names is closed
@@ -56,19 +80,20 @@ sessions_ended None sessions = sessions
 sessions_ended (Some n) sessions = at_session sessions n closed
 
 -- the open session that an event gives a turn decides its step
-abbrev pub DecidedIn : WorldState → Event → Plain → Type 0
+abbrev pub DecidedIn : {K : Type 0} → WorldState K → Event → Plain → Type 0
 DecidedIn old Open state = ⊥
 DecidedIn old (Piece n piece) state = ⊥
-DecidedIn old (Turn n) state = DecidedOf replies n old.now old.sessions old.state state
+DecidedIn old (Turn n) state = DecidedOf in_plain n old.moment old.sessions old.state state
 DecidedIn old (Clock now) state = ⊥
 DecidedIn old (Grow shelf) state = ⊥
 DecidedIn old (Purge shelf) state = ⊥
 DecidedIn old (Close n) state = ⊥
 
--- the event takes memory: it opens a session, brings a piece to one that is open, or gives one a turn that is due
-abbrev pub Takes : WorldState → Event → Type 0
+-- the event takes memory: it opens a session, brings a piece to one that is open, or gives one a
+-- turn that is due
+abbrev pub Takes : {K : Type 0} → WorldState K → Event → Type 0
 Takes old Open = length old.sessions < 65535
-Takes old (Piece n piece) = (session : SessionState) × (open_session n old.sessions ≡ Some session)
+Takes old (Piece n piece) = IsOpened n old.sessions
 Takes old (Turn n) = IsDue n old.sessions
 Takes old (Clock now) = ⊥
 Takes old (Grow shelf) = ⊥
@@ -76,14 +101,23 @@ Takes old (Purge shelf) = ⊥
 Takes old (Close n) = ⊥
 
 -- what is left where memory ran out in an event
-pub record Undone (decided : Bool) (old : WorldState) (event : Event) (new : WorldState) : Type 0 where
-  pub greatest : new.greatest ≡ old.greatest
-  pub now : new.now ≡ old.now
+pub record Undone {K : Type 0} (decided : Bool) (old : WorldState K) (event : Event)
+    (new : WorldState K) : Type 0 where
+  pub settings : new.settings ≡ old.settings
+  pub hasher : new.hasher ≡ old.hasher
+  pub moment : new.moment ≡ old.moment
   pub sessions : new.sessions ≡ sessions_ended (named event) old.sessions
   pub takes : Takes old event
   pub undecided : IsFalse decided → new.state ≡ old.state
   pub decides : IsTrue decided → DecidedIn old event new.state
 
--- a world as contracts see it
-abbrev pub world_of : {K : Type 0} → World K → WorldState
-world_of w = record { greatest = w.greatest; state = w.store.plain; now = w.moment; sessions = w.sessions }
+-- a world's parts as contracts see it
+abbrev pub state_of : {K : Type 0} → Parts K → WorldState K
+state_of w =
+    record {
+      settings = w.store.settings;
+      hasher = w.store.hasher;
+      state = w.store.plain;
+      moment = w.moment;
+      sessions = w.sessions;
+    }

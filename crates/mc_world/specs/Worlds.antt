@@ -1,32 +1,70 @@
 -- The plain world: what a list of events makes of a store and its connections.
-use Rattle.std.specs.Prelude.{◌≡◌, ◌⊎◌, ℕ, zero, suc, ◌-◌, ◌%◌, ◌<◌, ◌==◌, Bool, true, false, List, [], ◌∷◌, ◌++◌, length, take, Option, Some, None, slice_get, slice_set, nat_lt, if◌then◌else◌, IsTrue, IsFalse}
+use Rattle.std.specs.Prelude.{◌≡◌, ◌⊎◌, ℕ, zero, suc, ◌-◌, ◌%◌, ◌<◌, ◌==◌, Bool, true, false, List, [], ◌∷◌, ◌++◌, length, take, Option, Some, None, slice_get, slice_set, nat_lt, if◌then◌else◌, IsTrue, IsFalse, refl}
+use Rattle.std.specs.Coded.{Coded, code_by, coded×, coded_ℕ, coded_bool, coded_list}
 use Rattle.std.specs.Option.{MatchOption}
 use Rattle.mc_command.specs.Commands.{steps}
 use Rattle.mc_command.specs.declared.command.Command.{Command}
-use Rattle.mc_command.specs.Plain.{Plain, plain, Answered, Spent}
+use Rattle.mc_command.specs.Plain.{Plain, coded_plain, plain, Answered, Spent}
 use Rattle.mc_command.specs.declared.step.KeyStep.{KeyStep}
+use Rattle.mc_command.specs.declared.step.Steps.{Ghosts as Relations}
 use Rattle.mc_command.specs.declared.reply.Reply.{Reply}
 use Rattle.mc_parse.specs.Units.{ProtocolUnit, Request}
+use Rattle.mc_parse.specs.Feeds.{Unread}
 use Rattle.mc_session.specs.Turns.{SessionState, Answers, NoTurnDue}
+use Rattle.mc_shelf.specs.Stores.{coded_settings}
+use Rattle.mc_shelf.specs.declared.store.Settings.{Settings}
 use Rattle.mc_command.specs.Purge.{purged}
 use Rattle.mc_world.specs.Connections.{Connection, IsNext, HasNoNext, Stands, fresh, with_piece, after_turn, ended}
 use Rattle.mc_world.specs.declared.event.Event.{Event}
 use Rattle.mc_world.specs.declared.event.Event.TheVariants.{Open, Piece, Turn, Clock, Grow, Purge, Close}
 use Rattle.mc_world.specs.declared.event.Refused.{Refused}
 
--- the store's state, the moment, and the connections, the first of which is session 1; and the greatest charge of an item
+-- the store's state, the moment, and the connections, the first of which is session 1; and the
+-- greatest charge of an item
 pub record PlainWorld : Type 0 where
   pub greatest : ℕ
   pub state : Plain
   pub now : ℕ
   pub connections : List Connection
 
--- what contracts see of a world: its sessions have what is left of their streams
-pub record WorldState : Type 0 where
-  pub greatest : ℕ
+-- What contracts see of a world: how its store is set up, what hashes its keys, the plain machine's
+-- state, the moment, and the sessions, which have what is left of their streams.
+pub record WorldState (K : Type 0) : Type 0 where
+  pub settings : Settings
+  pub hasher : K
   pub state : Plain
-  pub now : ℕ
+  pub moment : ℕ
   pub sessions : List SessionState
+
+abbrev pub coded_unread : Coded Unread
+coded_unread =
+    code_by (ℕ × (ℕ × List ℕ)) (coded× coded_ℕ (coded× coded_ℕ (coded_list coded_ℕ)))
+    (λ u. (u.greatest, (u.passed, u.bytes)))
+    (λ p. record { greatest = p.0; passed = p.1.0; bytes = p.1.1 })
+    (λ _. refl)
+
+abbrev pub coded_session : Coded SessionState
+coded_session =
+    code_by (Unread × (ℕ × (List ℕ × Bool)))
+    (coded× coded_unread (coded× coded_ℕ (coded× (coded_list coded_ℕ) coded_bool)))
+    (λ s. (s.unread, (s.taken, (s.out, s.is_open))))
+    (λ p. record { unread = p.0; taken = p.1.0; out = p.1.1.0; is_open = p.1.1.1 })
+    (λ _. refl)
+
+abbrev pub coded_world : {K : Type 0} → Coded K → Coded (WorldState K)
+coded_world {K} coded_hasher =
+    code_by (Settings × (K × (Plain × (ℕ × List SessionState))))
+    (coded× coded_settings
+    (coded× coded_hasher (coded× coded_plain (coded× coded_ℕ (coded_list coded_session)))))
+    (λ w. (w.settings, (w.hasher, (w.state, (w.moment, w.sessions)))))
+    (λ p. record {
+      settings = p.0;
+      hasher = p.1.0;
+      state = p.1.1.0;
+      moment = p.1.1.1.0;
+      sessions = p.1.1.1.1;
+    })
+    (λ _. refl)
 
 -- the plain machine answers a step so
 abbrev pub replies : Plain → KeyStep → ℕ → Reply → Plain → Type 0
@@ -35,6 +73,10 @@ replies old step now reply new = plain old step now ≡ Answered reply new
 -- its unique numbers are spent
 abbrev pub is_spent : Plain → KeyStep → ℕ → Type 0
 is_spent old step now = plain old step now ≡ Spent
+
+-- what the plain machine's steps are as those of a store
+abbrev pub in_plain : Relations Plain
+in_plain = record { took = replies; spent = is_spent; same = λ old new. new ≡ old }
 
 -- what has that number, counted from 1
 abbrev pub numbered : {A : Type 0} → ℕ → List A → Option A
@@ -78,7 +120,8 @@ IsClosed None = ⊥
 IsClosed (Some s) = IsFalse s.is_open
 
 abbrev pub at_connection : PlainWorld → ℕ → (Connection → Connection) → PlainWorld
-at_connection w n change = record w { connections = changed n w.connections change (open_connection n w.connections) }
+at_connection w n change =
+    record w { connections = changed n w.connections change (open_connection n w.connections) }
 
 -- The connection's next turn, at the world's moment: it takes the store's state to this one.
 pub record NextTurn (old : PlainWorld) (connection : Connection) (state : Plain) : Type 0 where
@@ -86,25 +129,36 @@ pub record NextTurn (old : PlainWorld) (connection : Connection) (state : Plain)
   pub at : ℕ
   pub text : List ℕ
   pub next : IsNext connection unit at
-  pub answers : Answers replies is_spent unit at old.now old.state state text
+  pub answers : Answers in_plain unit at old.now old.state state text
 
 -- the next turn is taken, if there is one
 abbrev pub Turns : PlainWorld → ℕ → Connection → PlainWorld → Type 0
 Turns old n connection new =
     (HasNoNext connection × (new ≡ old))
     ⊎ ((state : Plain) × (turn : NextTurn old connection state)
-    × (new ≡ record old { state = state; connections = put n old.connections (after_turn turn.unit turn.text connection) }))
+    × (new ≡ record old {
+      state = state;
+      connections = put n old.connections (after_turn turn.unit turn.text connection);
+    }))
 
 -- Keys have their hashes, and there are so many shelves.
 module _ (hash : List ℕ → ℕ) (shelves : ℕ) where
   -- one event
   abbrev pub Happens : PlainWorld → Event → PlainWorld → Type 0
-  Happens old Open new = new ≡ (if nat_lt (length old.connections) 65535 then record old { connections = old.connections ++ fresh old.greatest ∷ [] } else old)
+  Happens old Open new =
+      new
+      ≡ (if nat_lt (length old.connections) 65535
+      then record old { connections = old.connections ++ fresh old.greatest ∷ [] } else old)
   Happens old (Piece n piece) new = new ≡ at_connection old n (with_piece piece)
-  Happens old (Turn n) new = MatchOption (open_connection n old.connections) (new ≡ old) (λ connection. Turns old n connection new)
+  Happens old (Turn n) new = MatchOption (open_connection n old.connections) (new ≡ old)
+      (λ connection. Turns old n connection new)
   Happens old (Clock now) new = new ≡ record old { now = now }
   Happens old (Grow shelf) new = new ≡ old
-  Happens old (Purge shelf) new = new ≡ record old { state = if nat_lt shelf shelves then purged (λ key. hash key % shelves == shelf) old.now old.state else old.state }
+  Happens old (Purge shelf) new =
+      new ≡ record old {
+        state = if nat_lt shelf shelves then purged
+            (λ key. hash key % shelves == shelf) old.now old.state else old.state;
+      }
   Happens old (Close n) new = new ≡ at_connection old n ended
 
   -- events, one after another
@@ -117,24 +171,8 @@ abbrev pub StandAll : List Connection → List SessionState → Type 0
 StandAll [] [] = Unit {0}
 StandAll [] (session ∷ sessions) = ⊥
 StandAll (connection ∷ connections) [] = ⊥
-StandAll (connection ∷ connections) (session ∷ sessions) = Stands connection session × StandAll connections sessions
-
--- the plain world stands so
-pub record StandsAs (plain : PlainWorld) (world : WorldState) : Type 0 where
-  pub greatest : world.greatest ≡ plain.greatest
-  pub state : world.state ≡ plain.state
-  pub now : world.now ≡ plain.now
-  pub sessions : StandAll plain.connections world.sessions
-
--- there is such a plain world
-pub record CanStand (world : WorldState) : Type 0 where
-  pub plain : PlainWorld
-  pub stands : StandsAs plain world
-
--- What the events make of a world, whatever came before: where a plain world stands as the old one, the events make of it
--- one that stands as the new one.
-pub record Told (hash : List ℕ → ℕ) (shelves : ℕ) (old : WorldState) (events : List Event) (new : WorldState) : Type 0 where
-  pub told : (first : PlainWorld) → StandsAs first old → (last : PlainWorld) × Runs hash shelves first events last × StandsAs last new
+StandAll (connection ∷ connections) (session ∷ sessions) = Stands connection session
+    × StandAll connections sessions
 
 -- the session that an event names
 abbrev pub named : Event → Option ℕ
@@ -151,8 +189,8 @@ abbrev pub with_end : Option ℕ → PlainWorld → PlainWorld
 with_end None w = w
 with_end (Some n) w = at_connection w n ended
 
--- The connection's next turn is a command's, and the plain machine answers its step at the world's moment: it takes the
--- store's state to this one.
+-- The connection's next turn is a command's, and the plain machine answers its step at the world's
+-- moment: it takes the store's state to this one.
 pub record NextStep (old : PlainWorld) (connection : Connection) (state : Plain) : Type 0 where
   pub command : Command
   pub at : ℕ
@@ -166,31 +204,85 @@ pub record NextStep (old : PlainWorld) (connection : Connection) (state : Plain)
 abbrev pub Decides : PlainWorld → Event → Plain → Type 0
 Decides old Open state = ⊥
 Decides old (Piece n piece) state = ⊥
-Decides old (Turn n) state = (connection : Connection) × (open_connection n old.connections ≡ Some connection) × NextStep old connection state
+Decides old (Turn n) state = (connection : Connection)
+    × (open_connection n old.connections ≡ Some connection) × NextStep old connection state
 Decides old (Clock now) state = ⊥
 Decides old (Grow shelf) state = ⊥
 Decides old (Purge shelf) state = ⊥
 Decides old (Close n) state = ⊥
 
--- the event takes memory: it opens a session, brings a piece to one that is open, or gives one a turn that is due
+-- the event takes memory: it opens a session, brings a piece to one that is open, or gives one a
+-- turn that is due
 abbrev pub TakesMemory : PlainWorld → Event → Type 0
 TakesMemory old Open = length old.connections < 65535
-TakesMemory old (Piece n piece) = (connection : Connection) × (open_connection n old.connections ≡ Some connection)
-TakesMemory old (Turn n) = (connection : Connection) × (open_connection n old.connections ≡ Some connection) × (unit : ProtocolUnit) × (at : ℕ) × IsNext connection unit at
+TakesMemory old (Piece n piece) = (connection : Connection)
+    × (open_connection n old.connections ≡ Some connection)
+TakesMemory old (Turn n) = (connection : Connection)
+    × (open_connection n old.connections ≡ Some connection) × (unit : ProtocolUnit) × (at : ℕ)
+    × IsNext connection unit at
 TakesMemory old (Clock now) = ⊥
 TakesMemory old (Grow shelf) = ⊥
 TakesMemory old (Purge shelf) = ⊥
 TakesMemory old (Close n) = ⊥
 
--- Memory ran out in an event: its turn's step was decided and isn't told, or nothing was done; and its session is closed.
+-- Memory ran out in an event: its turn's step was decided and isn't told, or nothing was done; and
+-- its session is closed.
 abbrev pub GivesUp : Bool → PlainWorld → Event → PlainWorld → Type 0
-GivesUp true old event new = (state : Plain) × Decides old event state × (new ≡ with_end (named event) (record old { state = state }))
+GivesUp true old event new = (state : Plain) × Decides old event state
+    × (new ≡ with_end (named event) (record old { state = state }))
 GivesUp false old event new = new ≡ with_end (named event) old
 
--- What the events before a refused one make of a world, and then that one, which takes memory there.
-pub record ToldUntil (hash : List ℕ → ℕ) (shelves : ℕ) (refused : Refused) (old : WorldState) (events : List Event) (new : WorldState) : Type 0 where
-  pub event : Event
-  pub here : slice_get events refused.at ≡ Some event
-  pub session : refused.session ≡ named event
-  pub told : (first : PlainWorld) → StandsAs first old
-      → (mid : PlainWorld) × (last : PlainWorld) × Runs hash shelves first (take refused.at events) mid × GivesUp refused.decided mid event last × StandsAs last new × TakesMemory mid event
+-- the plain world stands so
+pub record StandsAs {K : Type 0} (plain : PlainWorld) (world : WorldState K) : Type 0 where
+  pub greatest : world.settings.greatest ≡ plain.greatest
+  pub state : world.state ≡ plain.state
+  pub now : world.moment ≡ plain.now
+  pub sessions : StandAll plain.connections world.sessions
+
+-- there is such a plain world
+pub record CanStand {K : Type 0} (world : WorldState K) : Type 0 where
+  pub plain : PlainWorld
+  pub stands : StandsAs plain world
+
+-- The keys of a world have their hashes.
+module _ {K : Type 0} (hash_of : K → List ℕ → ℕ) where
+  -- events, one after another, over so many shelves as that world has, and with its hasher
+  abbrev pub RunsIn : WorldState K → PlainWorld → List Event → PlainWorld → Type 0
+  RunsIn world first events last =
+      Runs (hash_of world.hasher) world.settings.shelves first events last
+
+  -- What the events make of a world, whatever came before: where a plain world stands as the old
+  -- one, the events make of it one that stands as the new one. The store is set up as it was.
+  pub record Told (old : WorldState K) (events : List Event) (new : WorldState K) : Type 0 where
+    pub settings : new.settings ≡ old.settings
+    pub hasher : new.hasher ≡ old.hasher
+    pub told : (first : PlainWorld) → StandsAs first old → (last : PlainWorld)
+        × RunsIn old first events last × StandsAs last new
+
+  -- an event that takes memory, which runs out in it
+  abbrev pub Refuses : PlainWorld → Bool → Event → WorldState K → Type 0
+  Refuses first decided event new = (last : PlainWorld) × GivesUp decided first event last
+      × StandsAs last new × TakesMemory first event
+
+  pub record ToldRefused (decided : Bool) (old : WorldState K) (event : Event)
+      (new : WorldState K) : Type 0 where
+    pub settings : new.settings ≡ old.settings
+    pub hasher : new.hasher ≡ old.hasher
+    pub told : (first : PlainWorld) → StandsAs first old → Refuses first decided event new
+
+  -- events, and then one that is refused
+  abbrev pub RunsUntil : WorldState K → PlainWorld → List Event → Bool → Event → WorldState K
+      → Type 0
+  RunsUntil old first events decided event new = (mid : PlainWorld) × RunsIn old first events mid
+      × Refuses mid decided event new
+
+  -- What the events before a refused one make of a world, and then that one.
+  pub record ToldUntil (refused : Refused) (old : WorldState K) (events : List Event)
+      (new : WorldState K) : Type 0 where
+    pub settings : new.settings ≡ old.settings
+    pub hasher : new.hasher ≡ old.hasher
+    pub event : Event
+    pub here : slice_get events refused.at ≡ Some event
+    pub session : refused.session ≡ named event
+    pub told : (first : PlainWorld) → StandsAs first old
+        → RunsUntil old first (take refused.at events) refused.decided event new

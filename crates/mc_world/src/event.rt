@@ -20,8 +20,8 @@ pub enum Event<'a> {
     Close(u32),
 }
 
-/// Memory ran out in an event. The events before it are done, its session is closed, and no later one is run.
-/// Only an opening, a piece of an open session and a turn that is due are ever refused.
+/// Memory ran out in an event. The events before it are done, its session is closed, and no later
+/// one is run. Only an opening, a piece of an open session and a turn that is due are ever refused.
 #[derive(Debug, Drop, PartialEq, Eq)]
 pub struct Refused {
     /// Which event.
@@ -36,7 +36,7 @@ impl<'a> Event<'a> {
     ghost use Rattle.std.specs.Prelude.{◌≡◌};
     ghost use Rattle.mc_world.specs.Worlds.{named};
 
-    /// The session that it names, if it names one.
+    /// Names the session that the event is of, if it is of one.
     pub fn session(&self) -> Option<u32>
         ensures { result ≡ named self.now }
     {

@@ -1,39 +1,86 @@
 //! Laws of the plain world, each the contract of a function that does nothing.
 
-ghost use Rattle.std.specs.Prelude.{◌≡◌, ℕ, List, ◌∷◌, ◌++◌, ◌↔◌, Some};
-ghost use Rattle.mc_world.specs.Connections.{Connection};
-ghost use Rattle.mc_world.specs.Worlds.{PlainWorld, Runs, numbered};
-ghost use Rattle.mc_world.specs.Laws.{DecidesNoStep, IsApart, Answer, RunsAnswering, Leaves};
+ghost use Rattle.std.specs.Prelude.{◌≡◌, ℕ, List, ◌∷◌, ◌++◌, ◌↔◌, Some, true};
+ghost use Rattle.mc_session.specs.Turns.{SessionState, NoTurnDue};
+ghost use Rattle.mc_world.specs.Connections.{Connection, Stands, HasNoNext};
+ghost use Rattle.mc_world.specs.Worlds.{PlainWorld, WorldState, StandsAs, Runs, numbered};
+ghost use Rattle.mc_world.specs.Laws.{RunAlike, DecidesNoStepBehind, IsApart};
+ghost use Rattle.mc_world.specs.Laws.{Answer, HasAnswers, Leaves};
+ghost use Rattle.mc_world.specs.Laws.{Grammar};
 ghost use Rattle.mc_world.specs.declared.event.Event.{Event};
 ghost use Rattle.mc_world.specs.declared.event.Event.TheVariants.{Grow, Piece};
 
+use mc_hop::KeyHash;
+use mc_parse::{
+    a_spelling_has_a_byte, cutting_does_not_matter, no_spelling_begins_another, one_list_of_units,
+};
+use mc_session::passing_over_early_does_not_matter;
+
 /// Growth never shows: an event of growth may be added or taken out anywhere.
 pub fn growth_never_shows()
-    ensures { (hash : List ℕ → ℕ) (shelves shelf : ℕ) (old new : PlainWorld) (front rest : List Event) →
-        Runs hash shelves old (front ++ Grow shelf ∷ rest) new ↔ Runs hash shelves old (front ++ rest) new }
+    ensures { (shelf : ℕ) (front rest : List Event) →
+        RunAlike (front ++ Grow shelf ∷ rest) (front ++ rest) }
 {}
 
 /// A piece may be cut in two anywhere.
 pub fn a_piece_may_be_cut()
-    ensures { (hash : List ℕ → ℕ) (shelves session : ℕ) (piece more : List ℕ) (old new : PlainWorld) (front rest : List Event) →
-        Runs hash shelves old (front ++ Piece session piece ∷ Piece session more ∷ rest) new
-        ↔ Runs hash shelves old (front ++ Piece session (piece ++ more) ∷ rest) new }
+    ensures { (session : ℕ) (piece more : List ℕ) (front rest : List Event) → RunAlike
+        (front ++ Piece session piece ∷ Piece session more ∷ rest)
+        (front ++ Piece session (piece ++ more) ∷ rest) }
 {}
 
-/// An event of a session that decides no step where it comes may change places with a neighbour that is none of that
-/// session's and opens none: with any event of another session, with a clock and with a purge.
+/// An event of a session that decides no step where it comes may change places with a neighbour
+/// that is none of that session's and opens none: with any event of another session, with a clock
+/// and with a purge.
 pub fn sessions_may_change_places()
-    ensures { (hash : List ℕ → ℕ) (shelves n : ℕ) (still other : Event) (old new : PlainWorld) (front rest : List Event) →
-        ((world : PlainWorld) → Runs hash shelves old front world → DecidesNoStep world still n) → IsApart other n →
-        Runs hash shelves old (front ++ still ∷ other ∷ rest) new ↔ Runs hash shelves old (front ++ other ∷ still ∷ rest) new }
+    ensures { (hash : List ℕ → ℕ) (shelves n : ℕ) (still other : Event) (old new : PlainWorld)
+        (front rest : List Event) →
+        DecidesNoStepBehind hash shelves old front still n → IsApart other n →
+        Runs hash shelves old (front ++ still ∷ other ∷ rest) new
+        ↔ Runs hash shelves old (front ++ other ∷ still ∷ rest) new }
 {}
 
-/// What a session has had and what is to be written of it follow from its own events and from what its own steps were
-/// answered. The rest of a run shows in those answers or not at all: other sessions, the clock, growth and purges.
+/// What a session has had and what is to be written of it follow from its own events and from what
+/// its own steps were answered. The rest of a run shows in those answers or not at all: other
+/// sessions, the clock, growth and purges.
 pub fn a_session_follows_its_own_answers()
-    ensures answered { (hash : List ℕ → ℕ) (shelves n : ℕ) (old new : PlainWorld) (events : List Event) (first : Connection) →
+    ensures answered { (hash : List ℕ → ℕ) (shelves n : ℕ) (old new : PlainWorld)
+        (events : List Event) (first : Connection) →
         numbered n old.connections ≡ Some first → Runs hash shelves old events new →
-        (answers : List Answer) × (last : Connection) × RunsAnswering hash shelves n old events answers new × (numbered n new.connections ≡ Some last) }
-    ensures follows { (n : ℕ) (first : Connection) (own : List Event) (answers : List Answer) (last other : Connection) →
+        HasAnswers hash shelves n old events new }
+    ensures follows { (n : ℕ) (first : Connection) (own : List Event) (answers : List Answer)
+        (last other : Connection) →
         Leaves n first own answers last → Leaves n first own answers other → other ≡ last }
-{}
+{
+    grammar();
+}
+
+/// A plain world stands as one state only, of those with the same settings and hasher: so what is
+/// told of a world pins it.
+pub fn a_plain_world_stands_one_way<K: KeyHash>()
+    ensures { (plain : PlainWorld) (one other : WorldState K) →
+        StandsAs plain one → StandsAs plain other →
+        other.settings ≡ one.settings → other.hasher ≡ one.hasher → other ≡ one }
+{
+    grammar();
+}
+
+/// A turn of an open session is due where its connection has a next one, and only there.
+pub fn a_turn_is_due_of_both()
+    ensures { (connection : Connection) (session : SessionState) →
+        Stands connection session → connection.is_open ≡ true →
+        NoTurnDue session ↔ HasNoNext connection }
+{
+    grammar();
+}
+
+/// The laws of the grammar and of sessions that the proofs here use.
+pub fn grammar()
+    ensures { Grammar }
+{
+    no_spelling_begins_another();
+    a_spelling_has_a_byte();
+    one_list_of_units();
+    cutting_does_not_matter();
+    passing_over_early_does_not_matter();
+}

@@ -1,8 +1,10 @@
-//! Many sessions over one store: a list of events makes of a world what the protocol's plain machine makes of it.
+//! Many sessions over one store: a list of events makes of a world what the protocol's plain
+//! machine makes of it.
 #![tactic(auto)]
 
 mod event;
 mod laws;
+mod parts;
 mod serving;
 #[cfg(test)]
 mod serving_tests;
@@ -13,8 +15,8 @@ mod world;
 
 pub use event::{Event, Refused};
 pub use laws::{
-    a_piece_may_be_cut, a_session_follows_its_own_answers, growth_never_shows,
-    sessions_may_change_places,
+    a_piece_may_be_cut, a_plain_world_stands_one_way, a_session_follows_its_own_answers,
+    a_turn_is_due_of_both, growth_never_shows, sessions_may_change_places,
 };
 pub use serving::{serve_one, written_output_never_shows};
 pub use world::World;

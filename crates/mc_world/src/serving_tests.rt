@@ -118,8 +118,8 @@ fn run(
     Ok((ended, writer.taken))
 }
 
-/// What a run of a new world that is well writes. Where a growth was refused, what was written is a beginning, the session
-/// is closed, and the world serves the next one.
+/// What a run of a new world that is well writes. Where a growth was refused, what was written is a
+/// beginning, the session is closed, and the world serves the next one.
 fn written(rt: &impl Abort, alloc: Global, input: &[u8]) -> Result<Vec<u8>, Fail> {
     if let Ok(mut first) = world(alloc) {
         if let Ok((ended, part)) = run(alloc, &mut first, input, NEVER, NEVER) {

@@ -1,8 +1,11 @@
-ghost use Rattle.std.specs.Prelude.{◌≡◌, ◌++◌, ◌∷◌, [], ◌<◌, ◌≤◌, ◌↔◌, length, Some, None, IfSome, IfErr, OnOk, OnErr, IsTrue, IsFalse, nat_lt, slice_get, if◌then◌else◌};
+ghost use Rattle.std.specs.Prelude.{◌≡◌, [], ◌<◌, ◌≤◌, ◌↔◌, length, Some, None, Ok};
+ghost use Rattle.std.specs.Prelude.{IfSome, IfErr, OnOk, OnErr, IsTrue, IsFalse};
 ghost use Rattle.std.specs.Option.{option_copied};
-ghost use Rattle.mc_session.specs.Turns.{SessionState, NoTurnDue, opened, fed, closed, sent};
-ghost use Rattle.mc_world.specs.Worlds.{numbered, open_session, put, changed, output_of, IsIdle, IsClosed};
-ghost use Rattle.mc_world.specs.Sessions.{at_session, IsOpenAt, TurnOf, DecidedOf, IsDue};
+ghost use Rattle.mc_session.specs.Turns.{HoldsSame, fed, closed, sent};
+ghost use Rattle.mc_world.specs.Worlds.{numbered, open_session, changed};
+ghost use Rattle.mc_world.specs.Worlds.{output_of, IsIdle, IsClosed};
+ghost use Rattle.mc_world.specs.Sessions.{with_opened, at_session, IsOpened, IsOpenAt};
+ghost use Rattle.mc_world.specs.Sessions.{TurnOf, DecidedOf, IsDue};
 
 use mc_command::Steps;
 use mc_session::{Session, Turn, TurnFault};
@@ -45,7 +48,7 @@ fn open_place(sessions: &[Session], number: u32) -> Option<usize>
 }
 
 impl Sessions {
-    /// No sessions.
+    /// Makes an empty list of sessions. It takes no memory.
     pub fn new(alloc: Global) -> Sessions
         ensures { result ≡ [] }
     {
@@ -54,16 +57,16 @@ impl Sessions {
         }
     }
 
-    /// How many were opened.
+    /// Counts the sessions that were opened.
     pub fn count(&self) -> usize
         ensures { result ≡ length self.now }
     {
         self.list.len()
     }
 
-    /// Opens a session more, if fewer than 65535 were opened. Refused, the sessions are as they were.
+    /// Opens a session more, if fewer than 65535 were opened. Refused, the sessions stay.
     pub fn open(&mut self, alloc: Global, greatest: u64) -> Result<(), AllocError>
-        ensures ok { OnOk result (self.new ≡ (if nat_lt (length self.old) 65535 then self.old ++ opened greatest ∷ [] else self.old)) }
+        ensures ok { OnOk result (self.new ≡ with_opened greatest self.old) }
         ensures err { OnErr result (self.new ≡ self.old) }
         ensures few { OnErr result (length self.old < 65535) }
     {
@@ -73,11 +76,11 @@ impl Sessions {
         Ok(())
     }
 
-    /// The next piece of a session's stream. Refused, the session is closed.
+    /// Brings the next piece of a session's stream. Refused, the session is closed.
     pub fn feed(&mut self, number: u32, piece: &[u8]) -> Result<(), AllocError>
         ensures ok { OnOk result (self.new ≡ at_session self.old number (λ s. fed s piece.now)) }
         ensures err { OnErr result (self.new ≡ at_session self.old number closed) }
-        ensures opens { OnErr result ((session : SessionState) × (open_session number self.old ≡ Some session)) }
+        ensures opens { OnErr result (IsOpened number self.old) }
     {
         let Some(at) = open_place(&self.list, number) else {
             return Ok(());
@@ -85,7 +88,8 @@ impl Sessions {
         feed_or_close(&mut self.list[at], piece)
     }
 
-    /// A session's next turn, if one is due, with a store at a moment. Want of memory closes the session.
+    /// Takes a session's next turn, if one is due, with a store at a moment. Want of memory closes
+    /// the session.
     pub fn turn<S: Steps>(
         &mut self,
         alloc: Global,
@@ -93,11 +97,20 @@ impl Sessions {
         store: &mut S,
         now: Moment,
     ) -> Result<Turn, TurnFault>
-        ensures ok { OnOk result (TurnOf S.took S.spent number now self.old self.new store.old store.new) }
+        ensures ok { OnOk result
+            (TurnOf S.Steps number now self.old self.new store.old store.new) }
+        ensures did { result ≡ Ok Turn.Did → IsDue number self.old }
+        ensures idle { result ≡ Ok Turn.Idle →
+            IsIdle (numbered number self.old) × (self.new ≡ self.old) × (store.new ≡ store.old) }
+        ensures closed { result ≡ Ok Turn.Closed →
+            (open_session number self.old ≡ None)
+            × (self.new ≡ self.old) × (store.new ≡ store.old) }
         ensures err { OnErr result (self.new ≡ at_session self.old number closed) }
         ensures due { OnErr result (IsDue number self.old) }
-        ensures undecided { IfErr result (λ fault. IsFalse fault.decided → store.new ≡ store.old) }
-        ensures decided { IfErr result (λ fault. IsTrue fault.decided → DecidedOf S.took number now self.old store.old store.new) }
+        ensures undecided { IfErr result (λ fault.
+            IsFalse fault.decided → HoldsSame S.Steps store.old store.new) }
+        ensures decided { IfErr result (λ fault. IsTrue fault.decided →
+            DecidedOf S.Steps number now self.old store.old store.new) }
     {
         let Some(at) = open_place(&self.list, number) else {
             return Ok(Turn::Closed);
@@ -105,7 +118,7 @@ impl Sessions {
         self.list[at].turn(alloc, store, now)
     }
 
-    /// The session of a number, open or closed.
+    /// Finds the session of a number, open or closed.
     fn numbered(&self, number: u32) -> Option<&Session>
         ensures { option_copied result ≡ numbered number self.now }
     {
@@ -115,7 +128,7 @@ impl Sessions {
         self.list.get((number - 1) as usize)
     }
 
-    /// What is to be written of a session. Of one that was never opened it is empty.
+    /// Lends what is to be written of a session. Of one that was never opened it is empty.
     pub fn out(&self, number: u32) -> &[u8]
         ensures { result.now ≡ output_of (numbered number self.now) }
     {
@@ -125,7 +138,7 @@ impl Sessions {
         }
     }
 
-    /// The first `n` bytes of a session's output were written.
+    /// Drops the first `n` bytes of a session's output, which were written.
     pub fn sent(&mut self, number: u32, n: usize)
         requires { n ≤ length (output_of (numbered number self.old)) }
         ensures { self.new ≡ changed number self.old (λ s. sent s n) (numbered number self.old) }
@@ -138,7 +151,7 @@ impl Sessions {
         }
     }
 
-    /// Whether a session is open and no turn is due until more bytes come.
+    /// Tells whether a session is open and no turn is due until more bytes come.
     pub fn is_idle(&self, number: u32) -> bool
         ensures { IsTrue result ↔ IsIdle (numbered number self.now) }
     {
@@ -148,7 +161,7 @@ impl Sessions {
         }
     }
 
-    /// Whether a session was opened and then closed.
+    /// Tells whether a session was opened and then closed.
     pub fn is_closed(&self, number: u32) -> bool
         ensures { IsTrue result ↔ IsClosed (numbered number self.now) }
     {

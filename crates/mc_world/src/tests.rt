@@ -1,4 +1,5 @@
-//! Lists of events, and what they make of the sessions' outputs. Where memory is refused a test ends early.
+//! Lists of events, and what they make of the sessions' outputs. Where memory is refused a test
+//! ends early.
 
 ghost use Rattle.std.specs.Prelude.{◌≤◌};
 
@@ -268,7 +269,8 @@ fn large_set(alloc: Global, key: char, exptime: u32) -> Result<Vec<u8>, AllocErr
     Ok(text)
 }
 
-/// A world of one page at 1000. An item that is dead at 1001 has the page, and so another key finds no room then.
+/// A world of one page at 1000. An item that is dead at 1001 has the page, and so another key finds
+/// no room then.
 fn full_world(rt: &impl Abort, alloc: Global) -> Result<World<Fnv>, Fail> {
     let mut world = world_of(alloc, Fnv, 1)?;
     run(&mut world, alloc, &[Event::Open])?;

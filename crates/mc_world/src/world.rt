@@ -1,31 +1,47 @@
-ghost use Rattle.std.specs.Prelude.{◌≡◌, ◌≤◌, [], ◌↔◌, length, IsTrue, IfOk, IfErr, OnOk};
+ghost use Rattle.std.specs.Prelude.{◌≡◌, ◌≤◌, ◌↔◌, ◌∷◌, [], length};
+ghost use Rattle.std.specs.Prelude.{IsTrue, IfOk, IfErr, OnOk, Ok, None};
 ghost use Rattle.mc_command.specs.Plain.{opening};
-ghost use Rattle.mc_world.specs.Worlds.{Told, ToldUntil, CanStand, numbered, changed, output_of, IsIdle, IsClosed};
 ghost use Rattle.mc_session.specs.Turns.{sent};
-ghost use Rattle.mc_world.specs.Sessions.{Done, Undone, world_of};
+ghost use Rattle.mc_world.specs.Worlds.{CanStand, Told, ToldRefused, ToldUntil};
+ghost use Rattle.mc_world.specs.Worlds.{numbered, open_session, changed};
+ghost use Rattle.mc_world.specs.Worlds.{output_of, IsIdle, IsClosed};
+ghost use Rattle.mc_world.specs.Sessions.{IsDue};
 
 use crate::event::{Event, Refused};
+use crate::laws::grammar;
+use crate::parts::Parts;
 use crate::sessions::Sessions;
 use mc_hop::KeyHash;
 use mc_session::{Turn, TurnFault};
 use mc_shelf::{Settings, Store};
 use mc_time::Moment;
 use std::alloc::{AllocError, Global};
+use std::marker::Model;
 
-/// How many entries of a shelf one event of growth moves at most.
-const MOVED: usize = 8;
-
-/// A store, a moment, and the sessions that use the store in turn.
+/// A store, a moment, and the sessions that use the store in turn. Contracts see how the store is
+/// set up, its hasher, the plain machine's state, the moment and the sessions; and a plain world
+/// stands so.
 #[derive(Drop)]
 pub struct World<K: KeyHash + Drop> {
-    greatest: u64,
-    store: Store<K>,
-    moment: Moment,
-    sessions: Sessions,
+    parts: Parts<K>,
+}
+
+impl<K: KeyHash + Drop> Model for World<K> {
+    ghost use Rattle.mc_world.specs.Worlds.{WorldState, coded_world, CanStand};
+    ghost use Rattle.mc_world.specs.Sessions.{state_of};
+
+    ghost Value = { WorldState K };
+
+    ghost coded = { coded_world K.code };
+
+    ghost view = { λ w. state_of w.parts };
+
+    ghost invariant = { λ w. CanStand (state_of w.parts) };
 }
 
 impl<K: KeyHash + Drop> World<K> {
-    /// A world with a store of no items and no sessions.
+    /// Makes a world with a store of no items, and no sessions. The one error is a refused
+    /// allocation.
     pub fn new(
         alloc: Global,
         settings: Settings,
@@ -35,35 +51,31 @@ impl<K: KeyHash + Drop> World<K> {
         requires pages { 1 ≤ settings.pages × settings.pages ≤ 65536 }
         requires greatest { settings.greatest ≡ 1048576 }
         requires shelves { settings.shelves ≡ 64 }
-        ensures world { IfOk result (λ world. world_of world ≡ record {
-          greatest = settings.greatest;
+        ensures { IfOk result (λ world. world ≡ record {
+          settings = settings;
+          hasher = hasher;
           state = opening settings.pages settings.greatest;
-          now = now;
+          moment = now;
           sessions = [];
         }) }
-        ensures settings { IfOk result (λ world. world.store.settings ≡ settings) }
-        ensures hasher { IfOk result (λ world. world.store.hasher ≡ hasher) }
-        ensures stands { IfOk result (λ world. CanStand (world_of world)) }
     {
         Ok(World {
-            greatest: settings.greatest,
-            store: Store::new(alloc, settings, hasher)?,
-            moment: now,
-            sessions: Sessions::new(alloc),
+            parts: Parts {
+                store: Store::new(alloc, settings, hasher)?,
+                moment: now,
+                sessions: Sessions::new(alloc),
+            },
         })
     }
 
-    /// Takes the events in order. Where memory runs out in one, the events before it are done, the session that it names
-    /// is closed, and no later one is run.
+    /// Takes the events in order. Where memory runs out in one, the events before it are done, the
+    /// session that it names is closed, and no later one is run.
     ///
-    /// What is told is told of every plain world that stands as the world did. There is one: a new world has one, and
-    /// it stays so.
+    /// What is told is told of every plain world that stands as the world did, and there is one.
     pub fn run(&mut self, alloc: Global, events: &[Event<'_>]) -> Result<(), Refused>
-        ensures ok { OnOk result (Told (K.hash_of self.old.store.hasher) self.old.store.settings.shelves (world_of self.old) events.now (world_of self.new)) }
-        ensures err { IfErr result (λ refused. ToldUntil (K.hash_of self.old.store.hasher) self.old.store.settings.shelves refused (world_of self.old) events.now (world_of self.new)) }
-        ensures settings { self.new.store.settings ≡ self.old.store.settings }
-        ensures hasher { self.new.store.hasher ≡ self.old.store.hasher }
-        ensures stands { CanStand (world_of self.old) → CanStand (world_of self.new) }
+        ensures ok { OnOk result (Told K.hash_of self.old events.now self.new) }
+        ensures err { IfErr result (λ refused.
+            ToldUntil K.hash_of refused self.old events.now self.new) }
     {
         for (at, event) in events.iter().enumerate() {
             if let Err(fault) = self.happen(alloc, event) {
@@ -77,81 +89,121 @@ impl<K: KeyHash + Drop> World<K> {
         Ok(())
     }
 
-    /// How many sessions were opened. The last one has this number.
+    /// Takes a session's next turn, if one is due, as `run` of that one event does. It answers
+    /// `Did` where a turn was due, `Idle` where the session is open and none was, and `Closed`
+    /// where it isn't open. Refused, the session is closed. The session's next unit is parsed once.
+    pub fn turn(&mut self, alloc: Global, session: u32) -> Result<Turn, Refused>
+        ensures ok { OnOk result (Told K.hash_of self.old (Event.Turn session ∷ []) self.new) }
+        ensures did { result ≡ Ok Turn.Did → IsDue session self.old.sessions }
+        ensures idle { result ≡ Ok Turn.Idle →
+            IsIdle (numbered session self.old.sessions) × (self.new ≡ self.old) }
+        ensures closed { result ≡ Ok Turn.Closed →
+            (open_session session self.old.sessions ≡ None) × (self.new ≡ self.old) }
+        ensures err { IfErr result (λ refused.
+            ToldUntil K.hash_of refused self.old (Event.Turn session ∷ []) self.new) }
+    {
+        match self.give_turn(alloc, session) {
+            Ok(turn) => Ok(turn),
+            Err(fault) => Err(Refused {
+                at: 0,
+                session: Some(session),
+                decided: fault.decided,
+            }),
+        }
+    }
+
+    /// Sets the moment from now on.
+    pub fn set_moment(&mut self, now: Moment)
+        ensures { self.new ≡ record self.old { moment = now } }
+    {
+        self.parts.moment = now;
+    }
+
+    /// Moves up to 8 entries of a shelf in its table, which no session sees, and none of a shelf
+    /// that isn't there. It takes no memory.
+    pub fn grow(&mut self, shelf: u32)
+        ensures { self.new ≡ self.old }
+    {
+        self.parts.grow(shelf);
+    }
+
+    /// Counts the sessions that were opened. The last one has this number.
     pub fn opened(&self) -> usize
-        ensures { result ≡ length (world_of self.now).sessions }
+        ensures { result ≡ length self.now.sessions }
     {
-        self.sessions.count()
+        self.parts.sessions.count()
     }
 
-    /// How many shelves the store has.
+    /// Counts the shelves of the store.
     pub fn shelves(&self) -> u32
-        ensures { result ≡ self.now.store.settings.shelves }
+        ensures { result ≡ self.now.settings.shelves }
     {
-        self.store.settings().shelves
+        self.parts.store.settings().shelves
     }
 
-    /// What is to be written of a session. Of one that was never opened it is empty.
+    /// Lends what is to be written of a session. Of one that was never opened it is empty.
     pub fn out(&self, session: u32) -> &[u8]
-        ensures { result.now ≡ output_of (numbered session (world_of self.now).sessions) }
+        ensures { result.now ≡ output_of (numbered session self.now.sessions) }
     {
-        self.sessions.out(session)
+        self.parts.sessions.out(session)
     }
 
-    /// The first `n` bytes of a session's output were written.
+    /// Drops the first `n` bytes of a session's output, which were written.
     pub fn sent(&mut self, session: u32, n: usize)
-        requires { n ≤ length (output_of (numbered session (world_of self.old).sessions)) }
-        ensures stands { CanStand (world_of self.old) → CanStand (world_of self.new) }
-        ensures world { self.new ≡ record self.old { sessions = changed session (world_of self.old).sessions (λ s. sent s n) (numbered session (world_of self.old).sessions) } }
+        requires { n ≤ length (output_of (numbered session self.old.sessions)) }
+        ensures { self.new ≡ record self.old {
+          sessions =
+              changed session self.old.sessions (λ s. sent s n)
+              (numbered session self.old.sessions);
+        } }
     {
-        self.sessions.sent(session, n);
+        self.parts.sessions.sent(session, n);
     }
 
-    /// Whether a session is open and no turn is due until more bytes come.
+    /// Tells whether a session is open and no turn is due until more bytes come. It parses the
+    /// session's next unit.
     pub fn is_idle(&self, session: u32) -> bool
-        ensures { IsTrue result ↔ IsIdle (numbered session (world_of self.now).sessions) }
+        ensures { IsTrue result ↔ IsIdle (numbered session self.now.sessions) }
     {
-        self.sessions.is_idle(session)
+        self.parts.sessions.is_idle(session)
     }
 
-    /// Whether a session was opened and then closed.
+    /// Tells whether a session was opened and then closed.
     pub fn is_closed(&self, session: u32) -> bool
-        ensures { IsTrue result ↔ IsClosed (numbered session (world_of self.now).sessions) }
+        ensures { IsTrue result ↔ IsClosed (numbered session self.now.sessions) }
     {
-        self.sessions.is_closed(session)
+        self.parts.sessions.is_closed(session)
+    }
+
+    /// Says that a plain world stands as this one does. It does nothing.
+    pub fn stands(&self)
+        ensures { CanStand self.now }
+    {
+        let _ = &self.parts;
     }
 
     /// Takes one event. Refused, the session that it names is closed.
     fn happen(&mut self, alloc: Global, event: &Event<'_>) -> Result<(), TurnFault>
-        ensures ok { OnOk result (Done (K.hash_of self.old.store.hasher) self.old.store.settings.shelves (world_of self.old) event.now (world_of self.new)) }
-        ensures err { IfErr result (λ fault. Undone fault.decided (world_of self.old) event.now (world_of self.new)) }
-        ensures settings { self.new.store.settings ≡ self.old.store.settings }
-        ensures hasher { self.new.store.hasher ≡ self.old.store.hasher }
+        ensures ok { OnOk result (Told K.hash_of self.old (event.now ∷ []) self.new) }
+        ensures err { IfErr result (λ fault.
+            ToldRefused K.hash_of fault.decided self.old event.now self.new) }
     {
-        match event {
-            Event::Open => self.sessions.open(alloc, self.greatest)?,
-            Event::Piece(number, piece) => self.sessions.feed(*number, piece.as_slice())?,
-            Event::Turn(number) => {
-                let _ = self.turn(alloc, *number)?;
-            }
-            Event::Clock(moment) => self.moment = *moment,
-            Event::Grow(shelf) => {
-                let _ = self.store.grow(*shelf, MOVED);
-            }
-            Event::Purge(shelf) => self.store.purge(*shelf, self.moment),
-            Event::Close(number) => self.sessions.close(*number),
-        }
-        Ok(())
+        grammar();
+        self.parts.happen(alloc, event)
     }
 
-    /// A session's next turn, if one is due. Refused, the session is closed.
-    fn turn(&mut self, alloc: Global, number: u32) -> Result<Turn, TurnFault>
-        ensures ok { OnOk result (Done (K.hash_of self.old.store.hasher) self.old.store.settings.shelves (world_of self.old) (Event.Turn number) (world_of self.new)) }
-        ensures err { IfErr result (λ fault. Undone fault.decided (world_of self.old) (Event.Turn number) (world_of self.new)) }
-        ensures settings { self.new.store.settings ≡ self.old.store.settings }
-        ensures hasher { self.new.store.hasher ≡ self.old.store.hasher }
+    /// Takes a session's next turn, if one is due. Refused, the session is closed.
+    fn give_turn(&mut self, alloc: Global, session: u32) -> Result<Turn, TurnFault>
+        ensures ok { OnOk result (Told K.hash_of self.old (Event.Turn session ∷ []) self.new) }
+        ensures did { result ≡ Ok Turn.Did → IsDue session self.old.sessions }
+        ensures idle { result ≡ Ok Turn.Idle →
+            IsIdle (numbered session self.old.sessions) × (self.new ≡ self.old) }
+        ensures closed { result ≡ Ok Turn.Closed →
+            (open_session session self.old.sessions ≡ None) × (self.new ≡ self.old) }
+        ensures err { IfErr result (λ fault.
+            ToldRefused K.hash_of fault.decided self.old (Event.Turn session) self.new) }
     {
-        self.sessions
-            .turn(alloc, number, &mut self.store, self.moment)
+        grammar();
+        self.parts.turn(alloc, session)
     }
 }

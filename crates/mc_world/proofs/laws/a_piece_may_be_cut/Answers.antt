@@ -2,4 +2,4 @@ use Rattle.mc_world.proofs.LawLemmas.{piece_cut}
 use Rattle.mc_world.proofs.laws.a_piece_may_be_cut.Goals as goal
 
 pub returns : goal.returns
-returns c = λ hash shelves session piece more old new front rest. piece_cut hash shelves session piece more rest old new front
+returns c = λ session piece more front rest hash shelves old new. piece_cut hash shelves session piece more rest old new front

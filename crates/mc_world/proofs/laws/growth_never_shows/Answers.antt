@@ -2,4 +2,4 @@ use Rattle.mc_world.proofs.LawLemmas.{growth_shows}
 use Rattle.mc_world.proofs.laws.growth_never_shows.Goals as goal
 
 pub returns : goal.returns
-returns c = λ hash shelves shelf old new front rest. growth_shows hash shelves shelf old new front rest
+returns c = λ shelf front rest hash shelves old new. growth_shows hash shelves shelf old new front rest

@@ -1,98 +1,55 @@
-use Rattle.std.proofs.Common.{◌≤◌, ◌^◌, ◌+◌, inr, ap, sym, subst, arith}
-use Rattle.mc_shelf.specs.declared.store.Settings.{Settings}
-use Rattle.mc_world.specs.Sessions.{world_of}
-use Rattle.mc_world.specs.Rounds.{HasEnded, GoesOn, Reads, ReadsRefused}
-use Rattle.mc_world.specs.declared.world.World.{World}
-use Rattle.mc_world.proofs.WrittenLemmas.{kept_on, idle_wrote}
-use Rattle.mc_world.proofs.ServeLemmas.{goes_on_turn, turned_and_wrote, turned_wrote_and_read}
-use Rattle.mc_world.proofs.RefusedLemmas.{refused_turn, refused_read, with_same, on_ok}
+use Rattle.std.proofs.Common.{◌≤◌, ◌+◌, Ok, inr, sym, ap, subst, arith}
+use Rattle.mc_session.specs.declared.session.Turn.{Turn}
+use Rattle.mc_world.specs.Worlds.{numbered, IsIdle}
+use Rattle.mc_world.specs.Serving.{most_turns}
+use Rattle.mc_world.proofs.WrittenLemmas.{idle_wrote}
+use Rattle.mc_world.proofs.ServeLemmas.{goes_on, goes_on_turn, goes_on_write, goes_on_read}
+use Rattle.mc_world.proofs.RefusedLemmas.{short_turn, short_read, short_on, ok_follows}
 use Rattle.mc_world.proofs.serving.round.Goals as goal
 
+pub returns-in_err-write_much-clause-fails : goal.returns-in_err-write_much-clause-fails
+returns-in_err-write_much-clause-fails g c = λ _. record { more = c.args.turn; few = omega arith; on = goes_on_write c.write_much.ensures.writes }
+
 pub returns-in_err-take_turn-clause-memory : goal.returns-in_err-take_turn-clause-memory
-returns-in_err-take_turn-clause-memory g c = λ _.
-    refused_turn (g.K.KeyHash.hash_of c.args.world.now.store.hasher) c.args.world.now.store.settings.shelves (g.C.Clock.may_give c.args.clock.now) c.args.session c.args.turn
-    (world_of c.args.world.now) (world_of c.take_turn.new.world) (g.R.Read.remaining c.args.reader.now) (g.W.Write.contents c.args.writer.now) c.requires.few c.in_err-take_turn.ensures.err.1
+returns-in_err-take_turn-clause-memory g c = λ _. short_on (goes_on_write c.write_much.ensures.writes) (short_turn c.requires.few c.in_err-take_turn.ensures.err.1)
 
-pub returns-then-is_closed-clause-ok : goal.returns-then-is_closed-clause-ok
-returns-then-is_closed-clause-ok g c =
-    goes_on_turn (g.K.KeyHash.hash_of c.args.world.now.store.hasher) c.args.world.now.store.settings.shelves (g.C.Clock.may_give c.args.clock.now) c.args.session c.args.turn
-    (world_of c.args.world.now) (world_of c.take_turn.new.world) (g.R.Read.remaining c.args.reader.now) (g.W.Write.contents c.args.writer.now) c.in_ok-take_turn.ensures.ok
+pub returns-in_err-write_out-in-Idle-clause-fails : goal.returns-in_err-write_out-in-Idle-clause-fails
+returns-in_err-write_out-in-Idle-clause-fails g c = λ _. record {
+  more = c.args.turn + 1;
+  few = omega arith;
+  on = goes_on (goes_on (goes_on_write c.write_much.ensures.writes) (goes_on_turn c.in_ok-take_turn.ensures.ok)) (goes_on_write c.write_out.ensures.writes);
+}
 
-pub returns-else-out-ge-FULL-clause-ok : goal.returns-else-out-ge-FULL-clause-ok
-returns-else-out-ge-FULL-clause-ok g c =
-    goes_on_turn (g.K.KeyHash.hash_of c.args.world.now.store.hasher) c.args.world.now.store.settings.shelves (g.C.Clock.may_give c.args.clock.now) c.args.session c.args.turn
-    (world_of c.args.world.now) (world_of c.take_turn.new.world) (g.R.Read.remaining c.args.reader.now) (g.W.Write.contents c.args.writer.now) c.in_ok-take_turn.ensures.ok
+pub returns-in-Did-clause-ok : goal.returns-in-Did-clause-ok
+returns-in-Did-clause-ok g c = goes_on (goes_on_write c.write_much.ensures.writes) (goes_on_turn c.in_ok-take_turn.ensures.ok)
 
-pub returns-in_err-write_out-clause-write : goal.returns-in_err-write_out-clause-write
-returns-in_err-write_out-clause-write g c = λ _.
-    turned_and_wrote (g.K.KeyHash.hash_of c.args.world.now.store.hasher) c.args.world.now.store.settings.shelves (g.C.Clock.may_give c.args.clock.now) c.args.session c.args.turn
-    (world_of c.args.world.now) (world_of c.take_turn.new.world) (world_of c.write_out.new.world) (g.R.Read.remaining c.args.reader.now) (g.W.Write.contents c.args.writer.now) (g.W.Write.contents c.write_out.new.writer)
-    c.in_ok-take_turn.ensures.ok c.write_out.ensures.writes
+pub returns-in-Closed-clause-ok : goal.returns-in-Closed-clause-ok
+returns-in-Closed-clause-ok g c = goes_on (goes_on_write c.write_much.ensures.writes) (goes_on_turn c.in_ok-take_turn.ensures.ok)
 
-pub returns-in_err-write_out-clause-keeps : goal.returns-in_err-write_out-clause-keeps
-returns-in_err-write_out-clause-keeps g c = kept_on c.args.world.now c.take_turn.new.world c.write_out.new.world c.take_turn.ensures.keeps c.write_out.ensures.keeps
+pub returns-in_ok-write_out-in-Idle-clause-ok : goal.returns-in_ok-write_out-in-Idle-clause-ok
+returns-in_ok-write_out-in-Idle-clause-ok g c =
+    ok_follows c.read_piece.result c.read_piece.ensures.reads
+    (λ reads. goes_on (goes_on (goes_on (goes_on_write c.write_much.ensures.writes) (goes_on_turn c.in_ok-take_turn.ensures.ok)) (goes_on_write c.write_out.ensures.writes)) (goes_on_read reads))
 
-pub returns-in_err-write_out-2-clause-write : goal.returns-in_err-write_out-2-clause-write
-returns-in_err-write_out-2-clause-write g c = λ _.
-    turned_and_wrote (g.K.KeyHash.hash_of c.args.world.now.store.hasher) c.args.world.now.store.settings.shelves (g.C.Clock.may_give c.args.clock.now) c.args.session c.args.turn
-    (world_of c.args.world.now) (world_of c.take_turn.new.world) (world_of c.write_out-then-out-ge-FULL.new.world) (g.R.Read.remaining c.args.reader.now) (g.W.Write.contents c.args.writer.now) (g.W.Write.contents c.write_out-then-out-ge-FULL.new.writer)
-    c.in_ok-take_turn.ensures.ok c.write_out-then-out-ge-FULL.ensures.writes
+pub returns-in_ok-write_out-in-Idle-clause-fails : goal.returns-in_ok-write_out-in-Idle-clause-fails
+returns-in_ok-write_out-in-Idle-clause-fails g c = λ other. record {
+  more = c.args.turn + 1;
+  few = omega arith;
+  on = goes_on (goes_on (goes_on (goes_on_write c.write_much.ensures.writes) (goes_on_turn c.in_ok-take_turn.ensures.ok)) (goes_on_write c.write_out.ensures.writes)) (goes_on_read (c.read_piece.ensures.reads other));
+}
 
-pub returns-in_err-write_out-2-clause-keeps : goal.returns-in_err-write_out-2-clause-keeps
-returns-in_err-write_out-2-clause-keeps g c = kept_on c.args.world.now c.take_turn.new.world c.write_out-then-out-ge-FULL.new.world c.take_turn.ensures.keeps c.write_out-then-out-ge-FULL.ensures.keeps
+pub returns-in_ok-write_out-in-Idle-clause-end : goal.returns-in_ok-write_out-in-Idle-clause-end
+returns-in_ok-write_out-in-Idle-clause-end g c = λ is.
+    let (same, end) = c.read_piece.ensures.end is in
+    inr (subst (λ w. IsIdle (numbered c.args.session w.sessions)) (sym same) (idle_wrote c.args.session _ _ _ _ c.write_out.ensures.writes (c.in_ok-take_turn.ensures.idle (ap (λ (t : Turn). Ok t) c.in-Idle.is))), end)
 
-pub returns-in_ok-write_out-2-clause-ok : goal.returns-in_ok-write_out-2-clause-ok
-returns-in_ok-write_out-2-clause-ok g c =
-    turned_and_wrote (g.K.KeyHash.hash_of c.args.world.now.store.hasher) c.args.world.now.store.settings.shelves (g.C.Clock.may_give c.args.clock.now) c.args.session c.args.turn
-    (world_of c.args.world.now) (world_of c.take_turn.new.world) (world_of c.write_out-then-out-ge-FULL.new.world) (g.R.Read.remaining c.args.reader.now) (g.W.Write.contents c.args.writer.now) (g.W.Write.contents c.write_out-then-out-ge-FULL.new.writer)
-    c.in_ok-take_turn.ensures.ok c.write_out-then-out-ge-FULL.ensures.writes
+pub returns-in_ok-write_out-in-Idle-clause-memory : goal.returns-in_ok-write_out-in-Idle-clause-memory
+returns-in_ok-write_out-in-Idle-clause-memory g c = λ is.
+    let few : c.args.turn + 1 ≤ most_turns = omega (arith, c.requires.few) in
+    short_on (goes_on (goes_on (goes_on_write c.write_much.ensures.writes) (goes_on_turn c.in_ok-take_turn.ensures.ok)) (goes_on_write c.write_out.ensures.writes)) (short_read few (c.read_piece.ensures.memory is))
 
-pub returns-in_ok-write_out-2-clause-keeps : goal.returns-in_ok-write_out-2-clause-keeps
-returns-in_ok-write_out-2-clause-keeps g c = kept_on c.args.world.now c.take_turn.new.world c.write_out-then-out-ge-FULL.new.world c.take_turn.ensures.keeps c.write_out-then-out-ge-FULL.ensures.keeps
+pub returns-in-Did-clause-fails : goal.returns-in-Did-clause-fails
+returns-in-Did-clause-fails g c = λ _. record { more = c.args.turn + 1; few = omega arith; on = goes_on (goes_on_write c.write_much.ensures.writes) (goes_on_turn c.in_ok-take_turn.ensures.ok) }
 
-pub returns-then-is_idle-clause-keeps : goal.returns-then-is_idle-clause-keeps
-returns-then-is_idle-clause-keeps g c =
-    kept_on c.args.world.now c.write_out.new.world c.read_piece.new.world (kept_on c.args.world.now c.take_turn.new.world c.write_out.new.world c.take_turn.ensures.keeps c.write_out.ensures.keeps) c.read_piece.ensures.keeps
-
-pub returns-then-is_idle-clause-end : goal.returns-then-is_idle-clause-end
-returns-then-is_idle-clause-end g c = λ is.
-    let end = c.read_piece.ensures.end is in
-    subst (λ (x : World g.row.K.Denot). HasEnded c.args.session (world_of x) (g.R.Read.remaining c.read_piece.new.reader)) (sym end.0)
-    (inr (idle_wrote c.args.session (world_of c.take_turn.new.world) (world_of c.write_out.new.world) (g.W.Write.contents c.args.writer.now) (g.W.Write.contents c.write_out.new.writer) c.write_out.ensures.writes (c.is_idle.ensures.0 c.if-is_idle.true), end.1))
-
-pub returns-then-is_idle-clause-read : goal.returns-then-is_idle-clause-read
-returns-then-is_idle-clause-read g c = λ is.
-    let keeps = kept_on c.args.world.now c.take_turn.new.world c.write_out.new.world c.take_turn.ensures.keeps c.write_out.ensures.keeps in
-    turned_wrote_and_read (g.K.KeyHash.hash_of c.args.world.now.store.hasher) c.args.world.now.store.settings.shelves (g.C.Clock.may_give c.args.clock.now) c.args.session c.args.turn
-    (world_of c.args.world.now) (world_of c.take_turn.new.world) (world_of c.write_out.new.world) (world_of c.read_piece.new.world) (g.R.Read.remaining c.args.reader.now) (g.R.Read.remaining c.read_piece.new.reader) (g.W.Write.contents c.args.writer.now) (g.W.Write.contents c.write_out.new.writer)
-    c.in_ok-take_turn.ensures.ok c.write_out.ensures.writes
-    (with_same (λ h s. Reads h s c.args.session (world_of c.write_out.new.world) (world_of c.read_piece.new.world) (g.R.Read.remaining c.args.reader.now) (g.R.Read.remaining c.read_piece.new.reader))
-    (ap g.K.KeyHash.hash_of keeps.1) (ap (λ (s : Settings). s.shelves) keeps.0) (c.read_piece.ensures.read is))
-
-pub returns-then-is_idle-clause-ok : goal.returns-then-is_idle-clause-ok
-returns-then-is_idle-clause-ok g c =
-    let keeps = kept_on c.args.world.now c.take_turn.new.world c.write_out.new.world c.take_turn.ensures.keeps c.write_out.ensures.keeps in
-    on_ok (Reads (g.K.KeyHash.hash_of c.write_out.new.world.store.hasher) c.write_out.new.world.store.settings.shelves c.args.session (world_of c.write_out.new.world) (world_of c.read_piece.new.world) (g.R.Read.remaining c.args.reader.now) (g.R.Read.remaining c.read_piece.new.reader))
-    (GoesOn (g.K.KeyHash.hash_of c.args.world.now.store.hasher) c.args.world.now.store.settings.shelves (g.C.Clock.may_give c.args.clock.now) c.args.session c.args.turn (c.args.turn + 1)
-    (world_of c.args.world.now) (world_of c.read_piece.new.world) (g.R.Read.remaining c.args.reader.now) (g.R.Read.remaining c.read_piece.new.reader) (g.W.Write.contents c.args.writer.now) (g.W.Write.contents c.write_out.new.writer))
-    c.read_piece.result
-    (λ reads.
-    turned_wrote_and_read (g.K.KeyHash.hash_of c.args.world.now.store.hasher) c.args.world.now.store.settings.shelves (g.C.Clock.may_give c.args.clock.now) c.args.session c.args.turn
-    (world_of c.args.world.now) (world_of c.take_turn.new.world) (world_of c.write_out.new.world) (world_of c.read_piece.new.world) (g.R.Read.remaining c.args.reader.now) (g.R.Read.remaining c.read_piece.new.reader) (g.W.Write.contents c.args.writer.now) (g.W.Write.contents c.write_out.new.writer)
-    c.in_ok-take_turn.ensures.ok c.write_out.ensures.writes
-    (with_same (λ h s. Reads h s c.args.session (world_of c.write_out.new.world) (world_of c.read_piece.new.world) (g.R.Read.remaining c.args.reader.now) (g.R.Read.remaining c.read_piece.new.reader))
-    (ap g.K.KeyHash.hash_of keeps.1) (ap (λ (s : Settings). s.shelves) keeps.0) reads))
-    c.read_piece.ensures.ok
-
-pub returns-then-is_idle-clause-memory : goal.returns-then-is_idle-clause-memory
-returns-then-is_idle-clause-memory g c = λ is first reader writer served.
-    let keeps = kept_on c.args.world.now c.take_turn.new.world c.write_out.new.world c.take_turn.ensures.keeps c.write_out.ensures.keeps in
-    let few : c.args.turn + 1 ≤ 2 ^ 40 = omega (arith, c.requires.few) in
-    refused_read (g.K.KeyHash.hash_of c.args.world.now.store.hasher) c.args.world.now.store.settings.shelves (g.C.Clock.may_give c.args.clock.now) c.args.session (c.args.turn + 1)
-    (world_of c.write_out.new.world) (world_of c.read_piece.new.world) (g.R.Read.remaining c.args.reader.now) (g.R.Read.remaining c.read_piece.new.reader) (g.W.Write.contents c.write_out.new.writer) few
-    (with_same (λ h s. ReadsRefused h s c.args.session (world_of c.write_out.new.world) (world_of c.read_piece.new.world) (g.R.Read.remaining c.args.reader.now) (g.R.Read.remaining c.read_piece.new.reader))
-    (ap g.K.KeyHash.hash_of keeps.1) (ap (λ (s : Settings). s.shelves) keeps.0) (c.read_piece.ensures.memory is))
-    first reader writer
-    (turned_and_wrote (g.K.KeyHash.hash_of c.args.world.now.store.hasher) c.args.world.now.store.settings.shelves (g.C.Clock.may_give c.args.clock.now) c.args.session c.args.turn
-    (world_of c.args.world.now) (world_of c.take_turn.new.world) (world_of c.write_out.new.world) (g.R.Read.remaining c.args.reader.now) (g.W.Write.contents c.args.writer.now) (g.W.Write.contents c.write_out.new.writer)
-    c.in_ok-take_turn.ensures.ok c.write_out.ensures.writes first reader writer served)
+pub returns-in-Closed-clause-fails : goal.returns-in-Closed-clause-fails
+returns-in-Closed-clause-fails g c = λ _. record { more = c.args.turn + 1; few = omega arith; on = goes_on (goes_on_write c.write_much.ensures.writes) (goes_on_turn c.in_ok-take_turn.ensures.ok) }

@@ -1,8 +1,7 @@
-use Rattle.mc_world.proofs.TurnLemmas as lemmas
+use Rattle.std.proofs.Common.{refl}
+use Rattle.mc_world.specs.declared.event.Event.TheVariants.{Turn}
+use Rattle.mc_world.proofs.WorldLemmas.{told_refused}
 use Rattle.mc_world.proofs.world.World.turn.Goals as goal
 
-pub returns-clause-ok : goal.returns-clause-ok
-returns-clause-ok g c = lemmas.result_done c.args.number c.args.self.now.moment c.args.self.now.sessions c.turn.new.self c.args.self.now.store c.turn.new.store c.args.self.now.greatest c.turn.result c.turn.ensures.ok
-
-pub returns-clause-err : goal.returns-clause-err
-returns-clause-err g c = lemmas.result_undone c.args.number c.args.self.now.moment c.args.self.now.sessions c.turn.new.self c.args.self.now.store c.turn.new.store c.args.self.now.greatest c.turn.result c.turn.ensures.err c.turn.ensures.due c.turn.ensures.undecided c.turn.ensures.decided
+pub returns-in-Err-clause-err : goal.returns-in-Err-clause-err
+returns-in-Err-clause-err g c = told_refused g.K.KeyHash.hash_of c.args.self.now c.give_turn.new.self (Turn c.args.session) _ refl refl c.in-Err.ensures.err

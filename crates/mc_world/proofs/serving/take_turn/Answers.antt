@@ -1,0 +1,12 @@
+use Rattle.mc_world.specs.Serving.{shelf_of}
+use Rattle.mc_world.proofs.ServeLemmas.{turn_told}
+use Rattle.mc_world.proofs.serving.take_turn.Goals as goal
+
+pub returns-in-Ok-clause-ok : goal.returns-in-Ok-clause-ok
+returns-in-Ok-clause-ok g c = record {
+  now = c.now.result;
+  gives = c.now.ensures;
+  room = c.requires;
+  told = turn_told g.K.KeyHash.hash_of c.args.session (shelf_of c.args.turn c.args.world.now.settings.shelves) c.now.result c.args.world.now c.set_moment.new.self c.turn.new.self c.grow.new.self
+      c.set_moment.ensures c.in-Ok.ensures.ok c.grow.ensures;
+}

@@ -1,0 +1,72 @@
+ghost use Rattle.std.specs.Prelude.{◌≡◌, IfErr, OnOk, Ok, None};
+ghost use Rattle.mc_world.specs.Worlds.{numbered, open_session, IsIdle};
+ghost use Rattle.mc_world.specs.Sessions.{Done, Undone, IsDue, state_of};
+
+use crate::event::Event;
+use crate::sessions::Sessions;
+use mc_hop::KeyHash;
+use mc_session::{Turn, TurnFault};
+use mc_shelf::Store;
+use mc_time::Moment;
+use std::alloc::Global;
+
+/// How many entries of a shelf one event of growth moves at most.
+const MOVED: usize = 8;
+
+/// What a world has: a store, a moment, and the sessions that use the store in turn.
+#[derive(Drop)]
+pub struct Parts<K: KeyHash + Drop> {
+    pub store: Store<K>,
+    pub moment: Moment,
+    pub sessions: Sessions,
+}
+
+impl<K: KeyHash + Drop> Parts<K> {
+    /// Takes one event. Refused, the session that it names is closed.
+    pub fn happen(&mut self, alloc: Global, event: &Event<'_>) -> Result<(), TurnFault>
+        ensures ok { OnOk result
+            (Done K.hash_of (state_of self.old) event.now (state_of self.new)) }
+        ensures err { IfErr result (λ fault.
+            Undone fault.decided (state_of self.old) event.now (state_of self.new)) }
+    {
+        match event {
+            Event::Open => {
+                let greatest = self.store.settings().greatest;
+                self.sessions.open(alloc, greatest)?;
+            }
+            Event::Piece(number, piece) => self.sessions.feed(*number, piece.as_slice())?,
+            Event::Turn(number) => {
+                let _ = self.turn(alloc, *number)?;
+            }
+            Event::Clock(moment) => self.moment = *moment,
+            Event::Grow(shelf) => self.grow(*shelf),
+            Event::Purge(shelf) => self.store.purge(*shelf, self.moment),
+            Event::Close(number) => self.sessions.close(*number),
+        }
+        Ok(())
+    }
+
+    /// Takes a session's next turn, if one is due. Refused, the session is closed.
+    pub fn turn(&mut self, alloc: Global, number: u32) -> Result<Turn, TurnFault>
+        ensures ok { OnOk result
+            (Done K.hash_of (state_of self.old) (Event.Turn number) (state_of self.new)) }
+        ensures did { result ≡ Ok Turn.Did → IsDue number self.old.sessions }
+        ensures idle { result ≡ Ok Turn.Idle →
+            IsIdle (numbered number self.old.sessions) × (state_of self.new ≡ state_of self.old) }
+        ensures closed { result ≡ Ok Turn.Closed →
+            (open_session number self.old.sessions ≡ None)
+            × (state_of self.new ≡ state_of self.old) }
+        ensures err { IfErr result (λ fault.
+            Undone fault.decided (state_of self.old) (Event.Turn number) (state_of self.new)) }
+    {
+        self.sessions
+            .turn(alloc, number, &mut self.store, self.moment)
+    }
+
+    /// Moves up to 8 entries of a shelf in its table.
+    pub fn grow(&mut self, shelf: u32)
+        ensures { state_of self.new ≡ state_of self.old }
+    {
+        let _ = self.store.grow(shelf, MOVED);
+    }
+}
