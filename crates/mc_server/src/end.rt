@@ -35,17 +35,6 @@ impl From<AllocError> for End {
     }
 }
 
-/// What the shell is told, and lines for standard error, each empty where there is none.
-#[derive(Clone, Copy)]
-pub struct Ending {
-    /// The exit status.
-    pub status: u8,
-    /// What is wrong.
-    pub text: &'static str,
-    /// What may be done about it.
-    pub hint: &'static str,
-}
-
 impl End {
     ghost use Rattle.std.specs.Prelude.{◌≡◌, ◌≢◌, ◌⊎◌, IsOk, IsErr};
     ghost use Rattle.std.specs.IoError.{error_kind};
@@ -117,6 +106,17 @@ impl End {
             ),
         }
     }
+}
+
+/// What the shell is told, and lines for standard error, each empty where there is none.
+#[derive(Clone, Copy)]
+pub struct Ending {
+    /// The exit status.
+    pub status: u8,
+    /// What is wrong.
+    pub text: &'static str,
+    /// What may be done about it.
+    pub hint: &'static str,
 }
 
 impl Ending {

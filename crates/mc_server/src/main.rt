@@ -8,6 +8,8 @@ ghost use Rattle.mc_server.specs.Ends.{status_of};
 mod end;
 mod options;
 mod serving;
+#[cfg(test)]
+mod tests;
 
 use clap::error::ErrorKind;
 use end::{End, Ending};

@@ -1,0 +1,92 @@
+//! What is served of a command line, over streams that a test holds.
+
+use crate::end::End;
+use crate::options::Options;
+use crate::serving::serve;
+use mc_session::ServeFault;
+use mc_testing::{Drip, Sip};
+use mc_time::{Fixed, Moment};
+use std::alloc::Global;
+use std::io::ErrorKind;
+use std::test::Fail;
+
+/// What is read, and what must be written. The item expires at second 3000000.
+const INPUT: &str = "set a 5 3000000 3\r\nabc\r\nget a\r\n";
+
+const ALIVE: &str = "STORED\r\nVALUE a 5 3\r\nabc\r\nEND\r\n";
+
+const DEAD: &str = "STORED\r\nEND\r\n";
+
+/// The clock that is the system's in these tests.
+const SYSTEM: u64 = 2_999_999;
+
+/// How a session is served with the clock that is asked for.
+fn served(alloc: Global, now: Option<u64>, reader: &mut Drip<'_>, writer: &mut Sip) -> End {
+    let system = Fixed(Moment::from_seconds_at_most(SYSTEM));
+    serve(
+        alloc,
+        Options::new(true, now, Some(1)),
+        reader,
+        writer,
+        &system,
+    )
+}
+
+#[test]
+fn keeps_the_clock_that_is_asked_for(rt: HostRuntime) -> Result<(), Fail> {
+    let alloc = rt.alloc();
+    for (now, wanted) in [
+        (None, ALIVE),
+        (Some(0), ALIVE),
+        (Some(SYSTEM + 1), DEAD),
+        (Some(u64::MAX), DEAD),
+    ] {
+        let mut reader = Drip::new(INPUT.as_bytes(), 7);
+        let mut writer = Sip::new(alloc, 5);
+        let end = served(alloc, now, &mut reader, &mut writer);
+        assert!(rt; matches!(end, End::Served(Ok(()))));
+        assert!(rt; writer.taken() == wanted.as_bytes());
+    }
+    Ok(())
+}
+
+#[test]
+fn tells_each_read_that_fails(rt: HostRuntime) -> Result<(), Fail> {
+    let alloc = rt.alloc();
+    for calls in 0..INPUT.len() {
+        let mut reader = Drip::failing(INPUT.as_bytes(), calls, ErrorKind::WouldBlock);
+        let mut writer = Sip::new(alloc, 5);
+        let end = served(alloc, None, &mut reader, &mut writer);
+        assert!(rt; matches!(end, End::Served(Err(ServeFault::Read))));
+        assert!(rt; ALIVE.as_bytes().starts_with(writer.taken()));
+        assert!(rt; end.ending().status == 1);
+    }
+    Ok(())
+}
+
+#[test]
+fn tells_each_write_that_fails(rt: HostRuntime) -> Result<(), Fail> {
+    let alloc = rt.alloc();
+    for calls in 0..ALIVE.len() {
+        let mut reader = Drip::new(INPUT.as_bytes(), 100);
+        let mut writer = Sip::failing(alloc, calls, ErrorKind::BrokenPipe);
+        let end = served(alloc, None, &mut reader, &mut writer);
+        assert!(rt; matches!(end, End::Served(Err(ServeFault::Write))));
+        assert!(rt; writer.taken().len() == calls);
+        assert!(rt; ALIVE.as_bytes().starts_with(writer.taken()));
+    }
+    Ok(())
+}
+
+#[test]
+fn reads_nothing_where_it_is_to_listen(rt: HostRuntime) -> Result<(), Fail> {
+    let alloc = rt.alloc();
+    let mut reader = Drip::new(INPUT.as_bytes(), 100);
+    let mut writer = Sip::new(alloc, 100);
+    let system = Fixed(Moment::from_seconds_at_most(SYSTEM));
+    let options = Options::new(false, None, None);
+    let end = serve(alloc, options, &mut reader, &mut writer, &system);
+    assert!(rt; matches!(end, End::CannotListen));
+    assert!(rt; reader.rest() == INPUT.as_bytes() && writer.taken().is_empty());
+    Ok(())
+}
