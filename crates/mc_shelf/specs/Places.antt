@@ -1,24 +1,28 @@
 -- Where keys stand in an index.
-use Rattle.std.specs.Prelude.{◌≡◌, ℕ, ◌<◌, ◌≤◌, List, Some, slice_get, slice_index_or}
-use Rattle.std.specs.Ordering.{nat_cmp}
-use Rattle.std.specs.Cmp.Lexicographic.{slice_cmp}
-use Rattle.std.specs.FinMap.{entries, len}
-use Rattle.std.specs.declared.cmp.Ordering.TheVariants.{Less, Greater}
-use Rattle.mc_command.specs.Plain.{Items, Entry}
+use Rattle.std.specs.Prelude.{◌≡◌, ℕ, List, map, Option, Some, None, slice_get}
+use Rattle.std.specs.FinMap.{from_entries, get}
+use Rattle.mc_command.specs.Plain.{Items}
+use Rattle.mc_shelf.specs.States.{EntryState, IndexState, Hashes, row, hash_row}
 use Rattle.mc_shelf.specs.declared.index.Place.{Place}
-use Rattle.mc_shelf.specs.declared.index.Place.TheVariants.{Found, Gap}
 
--- the item of the key stands at the place
-pub record StandsAt (items : Items) (key : List ℕ) (item : Entry) (at : ℕ) : Type 0 where
-  pub here : slice_get (entries items) at ≡ Some (key, item)
+-- the items of entries under their keys
+abbrev pub items_of : List EntryState → Items
+items_of entries = from_entries (map row entries)
 
--- the key would stand at the place: lesser keys before it, and greater ones from it on
-pub record IsGap (items : Items) (key : List ℕ) (at : ℕ) : Type 0 where
-  pub within : at ≤ len items
-  pub before : (k : ℕ) (d : List ℕ × Entry) → k < at → slice_cmp nat_cmp (slice_index_or (entries items) k d).0 key ≡ Less
-  pub behind : (k : ℕ) (d : List ℕ × Entry) → at ≤ k → k < len items → slice_cmp nat_cmp (slice_index_or (entries items) k d).0 key ≡ Greater
+-- their hashes under their keys
+abbrev pub hashes_of : List EntryState → Hashes
+hashes_of entries = from_entries (map hash_row entries)
 
--- the place is that of the key
-abbrev pub IsPlace : Items → List ℕ → Place → Type 0
-IsPlace items key (Found at) = (item : Entry) × StandsAt items key item at
-IsPlace items key (Gap at) = IsGap items key at
+-- the entry at a place
+abbrev pub entry_at : IndexState → Place → Option EntryState
+entry_at index place = slice_get index.entries place.number
+
+-- an entry of the key stands at the place
+pub record IsPlaceOf (index : IndexState) (key : List ℕ) (place : Place) : Type 0 where
+  pub entry : EntryState
+  pub there : entry_at index place ≡ Some entry
+  pub same_key : entry.key ≡ key
+
+-- the hash that entries have with a key, if they have the key, is this one
+abbrev pub HasHash : List EntryState → (key : List ℕ) → (hash : ℕ) → Type 0
+HasHash entries key hash = (stored : ℕ) → get (hashes_of entries) key ≡ Some stored → stored ≡ hash
