@@ -2,5 +2,6 @@ pub mod States
 pub mod Places
 pub mod Plans
 pub mod Sweeps
+pub mod Parts
 pub mod Unions
 pub mod Stores

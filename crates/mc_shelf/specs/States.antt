@@ -1,11 +1,14 @@
 -- What contracts see of an entry, an index, a shelf and a desk.
-use Rattle.std.specs.Prelude.{◌≡◌, ℕ, List, Option, refl}
+use Rattle.std.specs.Prelude.{◌≡◌, ℕ, List, ◌++◌, Option, Some, None, decimal, refl}
 use Rattle.std.specs.Coded.{Coded, code_by, coded×, coded_ℕ, coded_list, coded_option}
-use Rattle.std.specs.FinMap.{get, code}
+use Rattle.std.specs.Ordering.{nat_cmp}
+use Rattle.std.specs.Cmp.Lexicographic.{slice_cmp}
+use Rattle.std.specs.FinMap.{FinMap, get, empty, code}
 use Rattle.mc_slab.specs.Slabs.{SlabState, coded_slab, out_of}
-use Rattle.mc_slab.specs.Classes.{IsClass}
-use Rattle.mc_command.specs.Plain.{Items, Entry, coded_entry, Plain, count_of}
+use Rattle.mc_slab.specs.Classes.{IsClass, class_holding}
+use Rattle.mc_command.specs.Plain.{Items, Entry, coded_entry, Plain, charge, item_class, count_of}
 use Rattle.mc_item.specs.Items.{ItemState}
+use Rattle.mc_item.specs.declared.item.Parts.{Parts}
 
 -- an entry: a hash that came with the key, the key, and the item under it
 pub record EntryState : Type 0 where
@@ -23,32 +26,96 @@ coded_entry_state =
 abbrev pub entry_of : ItemState → Entry
 entry_of item = record { flags = item.flags; expiry = item.expiry; block = item.block; unique = item.unique; updated = item.updated }
 
+-- the block of parts, and their charge
+abbrev pub block_in : Parts → List ℕ
+block_in parts = parts.first.now ++ parts.second.now
+
+abbrev pub charge_in : Parts → ℕ
+charge_in parts = charge parts.key.now (block_in parts)
+
+-- the entry of parts
+abbrev pub entry_in : (hash : ℕ) → Parts → EntryState
+entry_in hash parts = record {
+  hash = hash;
+  key = parts.key.now;
+  item = record {
+    flags = parts.flags;
+    expiry = parts.expiry;
+    block = block_in parts;
+    unique = parts.unique;
+    updated = parts.updated;
+  };
+}
+
+-- the item with the decimal digits of a number as its block
+abbrev pub renumbered : Entry → (number unique updated : ℕ) → Entry
+renumbered item number unique updated = record item { block = decimal number; unique = unique; updated = updated }
+
+-- the number's digits ask for the class of the chunk that the item lies in
+abbrev pub StaysInClass : (key : List ℕ) → Entry → (number : ℕ) → Type 0
+StaysInClass key item number = item_class key item ≡ class_holding (charge key (decimal number))
+
 -- an entry as a finite map has it
 abbrev pub row : EntryState → List ℕ × Entry
 row e = (e.key, e.item)
 
--- an index: the items under their keys, and for how many more there is room
+-- its hash under its key
+abbrev pub hash_row : EntryState → List ℕ × ℕ
+hash_row e = (e.key, e.hash)
+
+-- hashes under keys
+abbrev pub Hashes : Type 0
+Hashes = FinMap (slice_cmp nat_cmp) ℕ
+
+-- An index: its entries in the order of their places, for how many more there is room, and how many entries of an old table
+-- are left to move.
 pub record IndexState : Type 0 where
-  pub items : Items
+  pub entries : List EntryState
   pub room : ℕ
+  pub left : ℕ
 
 abbrev pub coded_index : Coded IndexState
 coded_index =
-    code_by (Items × ℕ) (coded× (code (coded_list coded_ℕ) coded_entry) coded_ℕ) (λ s. (s.items, s.room))
-    (λ p. record { items = p.0; room = p.1 })
+    code_by (List EntryState × (ℕ × ℕ)) (coded× (coded_list coded_entry_state) (coded× coded_ℕ coded_ℕ)) (λ s. (s.entries, (s.room, s.left)))
+    (λ p. record { entries = p.0; room = p.1.0; left = p.1.1 })
     (λ _. refl)
 
--- a shelf: the greatest charge of an item, the items under their keys, and the flush that is waiting or has come
-pub record ShelfState : Type 0 where
+-- what a shelf holds: the greatest charge of an item, the items and the hashes under their keys, and the flush that is
+-- waiting or has come
+pub record ShelfContent : Type 0 where
   pub greatest : ℕ
   pub items : Items
+  pub hashes : Hashes
   pub cut : Option ℕ
+
+abbrev pub coded_content : Coded ShelfContent
+coded_content =
+    code_by (ℕ × (Items × (Hashes × Option ℕ)))
+    (coded× coded_ℕ (coded× (code (coded_list coded_ℕ) coded_entry) (coded× (code (coded_list coded_ℕ) coded_ℕ) (coded_option coded_ℕ))))
+    (λ s. (s.greatest, (s.items, (s.hashes, s.cut))))
+    (λ p. record { greatest = p.0; items = p.1.0; hashes = p.1.1.0; cut = p.1.1.1 })
+    (λ _. refl)
+
+-- A shelf: what it holds, and what moves beside it: for how many more entries there is room, and how many of an old table's
+-- are left to move.
+pub record ShelfState : Type 0 where
+  pub content : ShelfContent
+  pub room : ℕ
+  pub left : ℕ
 
 abbrev pub coded_shelf : Coded ShelfState
 coded_shelf =
-    code_by (ℕ × (Items × Option ℕ)) (coded× coded_ℕ (coded× (code (coded_list coded_ℕ) coded_entry) (coded_option coded_ℕ))) (λ s. (s.greatest, (s.items, s.cut)))
-    (λ p. record { greatest = p.0; items = p.1.0; cut = p.1.1 })
+    code_by (ShelfContent × (ℕ × ℕ)) (coded× coded_content (coded× coded_ℕ coded_ℕ)) (λ s. (s.content, (s.room, s.left)))
+    (λ p. record { content = p.0; room = p.1.0; left = p.1.1 })
     (λ _. refl)
+
+-- a shelf that holds nothing
+abbrev pub nothing_held : ℕ → ShelfContent
+nothing_held greatest = record { greatest = greatest; items = empty; hashes = empty; cut = None }
+
+-- the hash that a shelf has with a key, if it has the key, is this one
+abbrev pub IsHash : ShelfContent → (key : List ℕ) → (hash : ℕ) → Type 0
+IsHash shelf key hash = (stored : ℕ) → get shelf.hashes key ≡ Some stored → stored ≡ hash
 
 -- a desk: the slab, and the number that the next write draws
 pub record DeskState : Type 0 where
@@ -62,7 +129,7 @@ coded_desk =
     (λ _. refl)
 
 -- a plain state whose item at the key is this shelf's, and whose pages, counts and numbers this desk keeps
-pub record IsAt (key : List ℕ) (shelf : ShelfState) (desk : DeskState) (s : Plain) : Type 0 where
+pub record IsAt (key : List ℕ) (shelf : ShelfContent) (desk : DeskState) (s : Plain) : Type 0 where
   pub greatest : s.greatest ≡ shelf.greatest
   pub cut : s.cut ≡ shelf.cut
   pub item : get s.items key ≡ get shelf.items key
@@ -72,6 +139,6 @@ pub record IsAt (key : List ℕ) (shelf : ShelfState) (desk : DeskState) (s : Pl
   pub out : (class : ℕ) → IsClass class → out_of desk.slab class ≡ count_of s.items class
 
 -- there is such a state
-pub record CanStand (key : List ℕ) (shelf : ShelfState) (desk : DeskState) : Type 0 where
+pub record CanStand (key : List ℕ) (shelf : ShelfContent) (desk : DeskState) : Type 0 where
   pub plain : Plain
   pub stands : IsAt key shelf desk plain

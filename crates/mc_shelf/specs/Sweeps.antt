@@ -1,13 +1,13 @@
 -- What a purge and a flush make of a shelf.
-use Rattle.std.specs.Prelude.{◌≡◌, ℕ, ◌+◌, ◌≤◌, List, Some, slice_get}
-use Rattle.std.specs.FinMap.{entries}
+use Rattle.std.specs.Prelude.{◌≡◌, ℕ, ◌+◌, ◌≤◌, List, Option, Some, None, is_some, if◌then◌else◌}
+use Rattle.std.specs.FinMap.{get}
 use Rattle.mc_slab.specs.Classes.{IsClass}
 use Rattle.mc_slab.specs.Slabs.{out_of}
-use Rattle.mc_command.specs.Plain.{Items, Entry, alive, count_of, living}
-use Rattle.mc_shelf.specs.States.{ShelfState, DeskState}
+use Rattle.mc_command.specs.Plain.{Items, Entry, count_of, living}
+use Rattle.mc_shelf.specs.States.{ShelfContent, DeskState}
 
 -- the shelf's items lie in chunks that are out
-abbrev pub AreOut : ShelfState → DeskState → Type 0
+abbrev pub AreOut : ShelfContent → DeskState → Type 0
 AreOut shelf desk = (class : ℕ) → IsClass class → count_of shelf.items class ≤ out_of desk.slab class
 
 -- of each class as many chunks go back as items of it are dropped, and nothing else of the desk changes
@@ -17,17 +17,13 @@ pub record GivesFor (old new : Items) (desk desk' : DeskState) : Type 0 where
   pub limit : desk'.slab.limit ≡ desk.slab.limit
   pub next_unique : desk'.next_unique ≡ desk.next_unique
 
--- items may have been dropped of a shelf, and their chunks went back; those that are alive at the moment stand as before
-pub record DropsDead (now : ℕ) (old new : ShelfState) (desk desk' : DeskState) : Type 0 where
+-- the dead items of a moment are gone, and nothing else; the items that are left keep their hashes
+pub record IsPurged (now : ℕ) (old new : ShelfContent) : Type 0 where
   pub greatest : new.greatest ≡ old.greatest
   pub cut : new.cut ≡ old.cut
-  pub living : living new.items new.cut now ≡ living old.items old.cut now
-  pub gives : GivesFor old.items new.items desk desk'
-
--- all items from that place on are alive at the moment
-abbrev pub AreAliveFrom : (at now : ℕ) → ShelfState → Type 0
-AreAliveFrom at now shelf = (place : ℕ) (key : List ℕ) (item : Entry) → at ≤ place → slice_get (entries shelf.items) place ≡ Some (key, item) → alive shelf.cut now (Some item) ≡ Some item
+  pub items : new.items ≡ living old.items old.cut now
+  pub hashes : (key : List ℕ) → get new.hashes key ≡ (if is_some (get new.items key) then get old.hashes key else None)
 
 -- the chunks of the desk that are out are those of the shelf's items
-abbrev pub IsAlone : ShelfState → DeskState → Type 0
+abbrev pub IsAlone : ShelfContent → DeskState → Type 0
 IsAlone shelf desk = (class : ℕ) → IsClass class → out_of desk.slab class ≡ count_of shelf.items class

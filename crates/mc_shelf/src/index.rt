@@ -1,31 +1,44 @@
-//! Entries in the order of their keys.
+//! Entries, found by their hashes and keys.
 
-ghost use Rattle.std.specs.Prelude.{◌≡◌, ℕ, ◌<◌, ◌≤◌, List, Some, None, IfOk, OnOk, OnErr, IfSome, slice_get, decimal};
-ghost use Rattle.std.specs.FinMap.{empty, entries, get, insert, remove, len};
-ghost use Rattle.mc_slab.specs.Classes.{class_holding, size_of};
-ghost use Rattle.mc_command.specs.Plain.{Entry as Item, charge, item_class};
-ghost use Rattle.mc_shelf.specs.States.{row};
-ghost use Rattle.mc_shelf.specs.Plans.{item_in, has_class};
-ghost use Rattle.mc_shelf.specs.Places.{IsPlace, StandsAt, IsGap};
+ghost use Rattle.std.specs.Prelude.{◌≡◌, ℕ, ◌+◌, ◌-◌, ◌≤◌, List, [], min, nat_lt};
+ghost use Rattle.std.specs.Prelude.{Some, None, IfOk, OnOk, OnErr, option_copied};
+ghost use Rattle.std.specs.FinMap.{get, len};
+ghost use Rattle.mc_shelf.specs.States.{StaysInClass, renumbered};
+ghost use Rattle.mc_shelf.specs.Places.{
+  items_of,
+  entry_at,
+  IsPlaceOf,
+  IsFilled,
+  IsFound,
+  IsGap,
+  IsSearched,
+  HasHash,
+  HoldsSame,
+  IsInserted,
+  IsRemoved,
+  IsChanged,
+  numbered,
+  IsNext,
+  KeepsLower,
+};
 
 use crate::entry::Entry;
-use mc_slab::Class;
+use mc_hop::Keyed;
 use mc_time::{Expiry, Moment};
 use std::alloc::{AllocError, Global};
 use std::marker::Model;
 use std::mem;
 
-/// Where a key stands in an index, or would stand.
+/// Where an entry stands in an index, until an entry comes or goes. Only the index knows what the number means.
 #[derive(Clone, Copy)]
-pub(crate) enum Place {
-    /// Its entry is the one at that place of the list.
-    Found(usize),
-    /// No entry has it: its own would come before the one at that place, or last.
-    Gap(usize),
+pub(crate) struct Place {
+    number: usize,
 }
 
-/// Entries by their keys: a list in the order of the keys. Contracts see a finite map from keys to items, and for how many
-/// more there is room.
+/// Entries by their hashes and keys: today a list in the order of the keys, which has no old table.
+///
+/// Contracts see the entries in the order of their places, for how many more there is room, and how many entries of an old
+/// table are left to move.
 #[derive(Drop)]
 pub(crate) struct Index {
     list: Vec<Entry>,
@@ -35,141 +48,195 @@ impl Model for Index {
     ghost use Rattle.std.specs.Prelude.{◌-◌, T, map, vec_len, vec_capacity};
     ghost use Rattle.std.specs.Ordering.{nat_cmp};
     ghost use Rattle.std.specs.Cmp.Lexicographic.{slice_cmp};
-    ghost use Rattle.std.specs.FinMap.{from_sorted, is_sorted};
+    ghost use Rattle.std.specs.FinMap.{is_sorted};
     ghost use Rattle.mc_shelf.specs.States.{IndexState, coded_index, row};
 
     ghost Value = { IndexState };
 
     ghost coded = { coded_index };
 
-    ghost view = { λ i. record { items = from_sorted (map row i.list.items); room = vec_capacity i.list - vec_len i.list } };
+    ghost view = { λ i. record {
+      entries = i.list.items;
+      room = vec_capacity i.list - vec_len i.list;
+      left = 0;
+    } };
 
     ghost invariant = { λ i. T (is_sorted (slice_cmp nat_cmp) (map row i.list.items)) };
 }
 
 impl Index {
-    /// An index of no entries.
-    pub(crate) fn new(alloc: Global) -> Index
-        ensures { result.items ≡ empty }
+    /// Makes an index of no entries. The one error is a refused allocation.
+    pub(crate) fn new(alloc: Global) -> Result<Index, AllocError>
+        ensures entries { IfOk result (λ index. index.entries ≡ []) }
+        ensures left { IfOk result (λ index. index.left ≡ 0) }
     {
-        Index {
+        Ok(Index {
             list: Vec::new(alloc),
+        })
+    }
+
+    /// Finds the place of a key. `hash` is the hash that the index has with the key, where it has the key. It compares the
+    /// key with as many as the binary logarithm of the number of entries.
+    pub(crate) fn find(&self, _hash: u64, key: &[u8]) -> Option<Place>
+        requires { HasHash self.now.entries key.now _hash }
+        ensures { IsFound self.now key.now result }
+    {
+        match self.search(key) {
+            Ok(number) => Some(Place { number }),
+            Err(_) => None,
         }
     }
 
-    /// The place of the key. It compares the key with as many as the binary logarithm of the number of entries.
-    pub(crate) fn find(&self, key: &[u8]) -> Place
-        ensures { IsPlace self.now.items key.now result }
+    /// Finds where the entry of a key stands in the list, and where none has the key, where it would come.
+    fn search(&self, key: &[u8]) -> Result<usize, usize>
+        ensures { IsSearched self.now key.now result }
     {
-        match self.list.binary_search_by(|entry| entry.order_to(key)) {
-            Ok(at) => Place::Found(at),
-            Err(at) => Place::Gap(at),
+        self.list.binary_search_by(|entry| entry.order_to(key))
+    }
+
+    /// Finds the place of a key, as `find` does, whatever the place is that it is given: it looks there first, which is all
+    /// the cost where the key was found there and no entry has come or gone since.
+    pub(crate) fn find_again(&self, place: Place, hash: u64, key: &[u8]) -> Option<Place>
+        requires { HasHash self.now.entries key.now hash }
+        ensures { IsFound self.now key.now result }
+    {
+        match self.list.get(place.number) {
+            Some(entry) if entry.hash() == hash && entry.key() == key => Some(place),
+            _ => self.find(hash, key),
         }
     }
 
-    /// The entry at a place.
-    pub(crate) fn at(&self, at: usize) -> &Entry
-        requires { at < len self.now.items }
-        ensures { slice_get (entries self.now.items) at ≡ Some (row result.now) }
+    /// Lends the entry at a place, where one stands there.
+    pub(crate) fn get(&self, place: Place) -> Option<&Entry>
+        ensures { option_copied result ≡ entry_at self.now place }
     {
-        &self.list[at]
+        self.list.get(place.number)
     }
 
-    /// The entry at the place of a key, where one stands.
-    pub(crate) fn entry(&self, place: Place) -> Option<&Entry>
-        requires { (key : List ℕ) × IsPlace self.now.items key place }
-        ensures { (key : List ℕ) → IsPlace self.now.items key place → item_in result ≡ get self.now.items key }
-    {
-        match place {
-            Place::Found(at) => Some(self.at(at)),
-            Place::Gap(_) => None,
-        }
-    }
-
-    /// Whether the entry at a key's place has a chunk of the class.
-    pub(crate) fn has_class(&self, place: Place, class: Class) -> bool
-        requires { (key : List ℕ) × IsPlace self.now.items key place }
-        ensures { (key : List ℕ) → IsPlace self.now.items key place → result ≡ has_class key (get self.now.items key) class }
-    {
-        match place {
-            Place::Found(at) => self.at(at).class().number() == class.number(),
-            Place::Gap(_) => false,
-        }
-    }
-
-    /// How many entries there are.
+    /// Answers how many entries there are.
     pub(crate) fn len(&self) -> usize
-        ensures { result ≡ len self.now.items }
+        ensures { result ≡ len (items_of self.now.entries) }
     {
         self.list.len()
     }
 
-    /// Makes room for one more.
+    /// Answers how many entries of an old table are left to move: a list has no old table.
+    fn left(&self) -> usize
+        ensures none { self.now.left ≡ 0 }
+        ensures value { result ≡ self.now.left }
+    {
+        let _list = &self.list;
+        0
+    }
+
+    /// Answers whether entries of an old table are left to move.
+    pub(crate) fn is_growing(&self) -> bool
+        ensures { result ≡ nat_lt 0 self.now.left }
+    {
+        self.left() > 0
+    }
+
+    /// Makes room for one entry more. The entries are as before; refused, all is.
     pub(crate) fn reserve(&mut self) -> Result<(), AllocError>
-        ensures items { self.new.items ≡ self.old.items }
-        ensures room { OnOk result (0 < self.new.room) }
+        ensures same { HoldsSame self.old self.new }
+        ensures not_lowered { self.old.room ≤ self.new.room }
+        ensures room { OnOk result (1 ≤ self.new.room) }
+        ensures refused { OnErr result (self.new ≡ self.old) }
     {
         self.list.reserve(1)
     }
 
-    /// Makes room for an entry at a place: one more where that is a gap.
-    pub(crate) fn reserve_for(&mut self, place: Place) -> Result<(), AllocError>
-        ensures items { self.new.items ≡ self.old.items }
-        ensures room { OnOk result ((at : ℕ) → place ≡ Place.Gap at → 0 < self.new.room) }
-        ensures none { OnErr result ((key : List ℕ) → IsPlace self.old.items key place → get self.old.items key ≡ None) }
+    /// Finds where the entry of a new key would come in the list.
+    fn gap(&self, key: &[u8]) -> usize
+        requires { get (items_of self.now.entries) key.now ≡ None }
+        ensures { IsGap self.now.entries key.now result }
     {
-        match place {
-            Place::Gap(_) => self.reserve(),
-            Place::Found(_) => Ok(()),
+        match self.search(key) {
+            Ok(number) | Err(number) => number,
         }
     }
 
-    /// Puts an entry of a new key into its gap. It takes no memory. The cost grows with the number of entries.
-    pub(crate) fn insert(&mut self, at: usize, entry: Entry)
-        requires gap { IsGap self.old.items entry.key at }
-        requires room { 0 < self.old.room }
-        ensures { self.new.items ≡ insert self.old.items entry.key entry.item }
+    /// Puts in an entry of a new key, for which there is room, and answers its place. It takes no memory. The cost grows
+    /// with the number of entries.
+    pub(crate) fn insert_reserved(&mut self, entry: Entry) -> Place
+        requires absent { get (items_of self.old.entries) entry.key ≡ None }
+        requires room { 1 ≤ self.old.room }
+        ensures inserted { IsInserted self.old self.new entry }
+        ensures place { IsPlaceOf self.new entry.key result }
+        ensures room { self.old.room ≤ self.new.room + 1 }
+        ensures left { self.new.left ≤ self.old.left }
     {
-        match self.list.insert(at, entry) {
-            Ok(()) => {}
+        let number = self.gap(entry.key());
+        match self.list.insert(number, entry) {
+            Ok(()) => Place { number },
             Err(_) => unreachable!(),
         }
     }
 
-    /// Puts an entry in the place of the one of the same key, and gives that back.
-    pub(crate) fn replace(&mut self, at: usize, entry: Entry) -> Entry
-        requires { (item : Item) × StandsAt self.old.items entry.key item at }
-        ensures here { StandsAt self.old.items result.key result.item at }
-        ensures same_key { result.key ≡ entry.key }
-        ensures replaced { self.new.items ≡ insert self.old.items entry.key entry.item }
-        ensures room { self.new.room ≡ self.old.room }
+    /// Puts an entry in the place of the one of the same key and hash, and gives that back. It takes no memory.
+    pub(crate) fn replace(&mut self, place: Place, entry: Entry) -> Entry
+        requires key { IsPlaceOf self.old entry.key place }
+        requires hash { HasHash self.old.entries entry.key entry.hash }
+        ensures old { entry_at self.old place ≡ Some result }
+        ensures new { entry_at self.new place ≡ Some entry }
+        ensures changed { IsChanged self.old self.new entry.key entry.item }
     {
-        mem::replace(&mut self.list[at], entry)
+        mem::replace(&mut self.list[place.number], entry)
     }
 
-    /// Takes the entry at a place out. The cost grows with the number of entries.
-    pub(crate) fn remove(&mut self, at: usize) -> Entry
-        requires { at < len self.old.items }
-        ensures room { 0 < self.new.room }
-        ensures here { StandsAt self.old.items result.key result.item at }
-        ensures removed { self.new.items ≡ remove self.old.items result.key }
+    /// Sets the expiry of the item at a place. All else stays.
+    pub(crate) fn set_expiry(&mut self, place: Place, expiry: Expiry)
+        requires { IsFilled self.old place }
+        ensures { (key : List ℕ) (at : IsPlaceOf self.old key place) →
+            IsChanged self.old self.new key (record at.entry.item { expiry = expiry }) }
     {
-        self.list.remove(at)
+        self.list[place.number].set_expiry(expiry);
     }
 
-    /// The item at a place expires then.
-    pub(crate) fn set_expiry(&mut self, at: usize, expiry: Expiry)
-        requires { at < len self.old.items }
-        ensures { (key : List ℕ) (item : Item) → StandsAt self.old.items key item at → self.new.items ≡ insert self.old.items key (record item { expiry = expiry }) }
+    /// Makes the number's decimal digits the block of the item at a place, which stays in its chunk, as that class has
+    /// room for them; with them come the unique number and the moment of the write.
+    pub(crate) fn rewrite_number(&mut self, place: Place, number: u64, unique: u64, updated: Moment)
+        requires filled { IsFilled self.old place }
+        requires stays { (key : List ℕ) (at : IsPlaceOf self.old key place) →
+            StaysInClass key at.entry.item number }
+        ensures { (key : List ℕ) (at : IsPlaceOf self.old key place) →
+            IsChanged self.old self.new key (renumbered at.entry.item number unique updated) }
     {
-        self.list[at].set_expiry(expiry);
+        self.list[place.number].rewrite_number(number, unique, updated);
     }
 
-    /// The block of the item at a place becomes the number's decimal digits, for which its chunk has room.
-    pub(crate) fn rewrite_number(&mut self, at: usize, number: u64, unique: u64, updated: Moment)
-        requires { (key : List ℕ) × (item : Item) × StandsAt self.old.items key item at × (item_class key item ≡ class_holding (charge key (decimal number))) × (charge key (decimal number) ≤ size_of (class_holding (charge key (decimal number)))) }
-        ensures { (key : List ℕ) (item : Item) → StandsAt self.old.items key item at → self.new.items ≡ insert self.old.items key (record item { block = decimal number; unique = unique; updated = updated }) }
+    /// Takes the entry at a place out. The cost grows with the number of the entries behind it.
+    pub(crate) fn remove(&mut self, place: Place) -> Entry
+        requires { IsFilled self.old place }
+        ensures there { entry_at self.old place ≡ Some result }
+        ensures removed { IsRemoved self.old self.new result.key }
+        ensures numbers { (number : ℕ) → numbered self.old number ≡ Some result →
+            KeepsLower self.old self.new number }
+        ensures room { self.old.room ≤ self.new.room }
+        ensures left { self.new.left ≤ self.old.left }
     {
-        self.list[at].rewrite_number(number, unique, updated);
+        self.list.remove(place.number)
+    }
+
+    /// Finds the first entry whose number is at or above `at`, for a sweep over all entries: each has one number, and a
+    /// removal changes no lower one. Answers the number and the place. A sweep goes on at the number after it, and where it
+    /// removed the entry, at the number itself.
+    pub(crate) fn filled_from(&self, at: usize) -> Option<(usize, Place)>
+        ensures { IsNext self.now at result }
+    {
+        // A list numbers its entries from its end, so that few move when a sweep removes one.
+        let number = self.list.len().checked_sub(at)?.checked_sub(1)?;
+        Some((at, Place { number }))
+    }
+
+    /// Moves up to `n` entries of an old table, and answers how many it moved: as many as are left, where they are fewer.
+    /// The entries stay, and no memory is taken. The cost grows with `n`.
+    pub(crate) fn move_some(&mut self, n: usize) -> usize
+        ensures moved { result ≡ min n self.old.left }
+        ensures left { self.new.left ≡ self.old.left - result }
+        ensures same { HoldsSame self.old self.new }
+        ensures room { self.old.room ≤ self.new.room }
+    {
+        n.min(self.left())
     }
 }
