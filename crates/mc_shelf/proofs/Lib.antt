@@ -1,7 +1,8 @@
 pub mod RowLemmas
+pub mod EntryLemmas
 pub mod IndexLemmas
-pub mod StandLemmas
 pub mod PlaceLemmas
+pub mod StandLemmas
 pub mod PlanLemmas
 pub mod ApplyLemmas
 pub mod RefusalLemmas

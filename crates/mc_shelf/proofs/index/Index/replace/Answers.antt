@@ -1,37 +1,28 @@
-use Rattle.std.proofs.Common.{◌≡◌, set, length, vec_len, sym, ap, subst, ◌∙◌, arith}
-use Rattle.std.specs.FinMap as maps
+use Rattle.std.proofs.Common.{Some, refl, sym, ap, ◌∙◌}
 use Rattle.mc_shelf.specs.States.{EntryState, IndexState}
-use Rattle.mc_shelf.specs.Places.{StandsAt}
-use Rattle.mc_shelf.proofs.IndexLemmas.{InOrder, items_of, set_there, stands_within, stands_there}
+use Rattle.mc_shelf.specs.Places.{entry_at}
+use Rattle.mc_shelf.proofs.IndexLemmas.{entry_read, replaced_order, replaced, set_there}
 use Rattle.mc_shelf.proofs.index.Index.replace.Goals as goal
-
-pub index_mut-requires : goal.index_mut-requires
-index_mut-requires c =
-    let long : vec_len c.self.inside.list ≡ length c.self.inside.list.items = c.self.inside.list.ok.0 in
-    let stands = subst (λ (s : IndexState). StandsAt s.items c.args.entry.key c.requires.0 c.args.at) (sym c.self.view_is) c.requires.1 in
-    omega (arith, stands_within c.self.inside.list.items c.self.invariant c.args.at c.args.entry.key c.requires.0 stands)
 
 pub invariant_of-self : goal.invariant_of-self
 invariant_of-self c =
-    let stands = subst (λ (s : IndexState). StandsAt s.items c.args.entry.key c.requires.0 c.args.at) (sym c.self.view_is) c.requires.1 in
-    subst (λ (e : EntryState). InOrder (set c.self.inside.list.items c.args.at e)) (sym c.replace.ensures.after) (set_there c.self.inside.list.items c.self.invariant c.args.at c.args.entry c.requires.0 stands).0
+    replaced_order _ _ c.self.view_is c.self.invariant c.args.entry.key c.args.place c.requires.key c.replace.new.dest (ap (λ (e : EntryState). e.key) c.replace.ensures.after)
 
-pub returns-clause-here : goal.returns-clause-here
-returns-clause-here c =
-    let stands = subst (λ (s : IndexState). StandsAt s.items c.args.entry.key c.requires.0 c.args.at) (sym c.self.view_is) c.requires.1 in
-    let there = stands_there c.self.inside.list.items c.self.invariant c.args.at c.args.entry.key c.requires.0 c.index_mut.result.now stands c.index_mut.ensures.value in
-    subst (λ (s : IndexState). StandsAt s.items c.replace.result.key c.replace.result.item c.args.at) c.self.view_is
-    (subst (λ (e : EntryState). StandsAt (items_of c.self.inside.list.items) e.key e.item c.args.at) (sym c.replace.ensures.value) there.2)
+pub returns-clause-old : goal.returns-clause-old
+returns-clause-old c =
+    entry_read _ _ c.self.view_is c.args.entry.key c.args.place c.requires.key c.index_mut.result.now c.index_mut.ensures.value ∙ ap Some (sym c.replace.ensures.value)
 
-pub returns-clause-same_key : goal.returns-clause-same_key
-returns-clause-same_key c =
-    let stands = subst (λ (s : IndexState). StandsAt s.items c.args.entry.key c.requires.0 c.args.at) (sym c.self.view_is) c.requires.1 in
-    let there = stands_there c.self.inside.list.items c.self.invariant c.args.at c.args.entry.key c.requires.0 c.index_mut.result.now stands c.index_mut.ensures.value in
-    ap (λ (e : EntryState). e.key) c.replace.ensures.value ∙ there.0
+pub returns-clause-new : goal.returns-clause-new
+returns-clause-new c =
+    set_there c.self.inside.list.items c.args.place.number c.requires.key.entry c.replace.new.dest (ap (λ (s : IndexState). entry_at s c.args.place) c.self.view_is ∙ c.requires.key.there)
+    ∙ ap Some c.replace.ensures.after
 
-pub returns-clause-replaced : goal.returns-clause-replaced
-returns-clause-replaced c =
-    let stands = subst (λ (s : IndexState). StandsAt s.items c.args.entry.key c.requires.0 c.args.at) (sym c.self.view_is) c.requires.1 in
-    ap (λ (e : EntryState). items_of (set c.self.inside.list.items c.args.at e)) c.replace.ensures.after
-    ∙ (set_there c.self.inside.list.items c.self.invariant c.args.at c.args.entry c.requires.0 stands).1
-    ∙ ap (λ (s : IndexState). maps.insert s.items c.args.entry.key c.args.entry.item) c.self.view_is
+pub returns-clause-changed : goal.returns-clause-changed
+returns-clause-changed c =
+    let after = c.replace.ensures.after in
+    let at = c.requires.key in
+    replaced _ _ c.self.view_is c.self.invariant _ c.args.entry.key c.args.place at c.replace.new.dest c.args.entry.item
+    (ap (λ (e : EntryState). e.key) after)
+    (ap (λ (e : EntryState). e.hash) after ∙ sym (c.requires.hash at.entry.hash at.hash))
+    (ap (λ (e : EntryState). e.item) after)
+    refl refl refl
