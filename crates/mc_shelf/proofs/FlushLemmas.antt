@@ -1,5 +1,5 @@
 -- What a purge of one shelf, and a flush of all, make of the state that they are parts of.
-use Rattle.std.proofs.Common.{◌≡◌, ◌≢◌, ℕ, zero, suc, ◌+◌, ◌<◌, ◌≤◌, Bool, true, false, cond, not, ◌||◌, eqb, eqb-true, eq-eqb, ne_eqb, ltb, lt-ltb, le-ltb, ltb-true, ltb-false, true≢false, List, length, length-set, Option, Some, None, is_some, slice_get, slice_set, refl, sym, ap, subst, ◌∙◌, arith, ◌⊎◌, inl, inr, ⊎_elim}
+use Rattle.std.proofs.Common.{◌≡◌, ◌≢◌, ℕ, zero, suc, ◌+◌, ◌<◌, ◌≤◌, Bool, true, false, cond, not, ◌||◌, eqb, eqb-true, eq-eqb, ne_eqb, ltb, lt-ltb, le-ltb, ltb-true, ltb-false, true≢false, List, ◌++◌, length, length-set, take, drop, Option, Some, None, is_some, slice_get, slice_set, refl, sym, ap, subst, ◌∙◌, arith, ◌⊎◌, inl, inr, ⊎_elim}
 use Rattle.std.proofs.lemmas.Option.{slice_get_within}
 use Rattle.std.specs.FinMap as maps
 use Rattle.std.specs.FinMap.{get, get-empty, retain_keys}
@@ -12,17 +12,17 @@ use Rattle.mc_shelf.specs.States.{ShelfContent, ShelfState, DeskState}
 use Rattle.mc_shelf.specs.Sweeps.{AreOut, GivesFor, IsPurged}
 use Rattle.mc_shelf.specs.Parts.{shelf_of, IsShelfOf, IsDeskOf, ArePartsOf, GoesTo}
 use Rattle.mc_shelf.specs.Unions.{IsFlushed, left_of_flush}
-use Rattle.std.proofs.Common.{◌++◌, take, drop}
 use Rattle.std.proofs.Math.Seq.{take-append_seam}
 use Rattle.mc_shelf.specs.Stores.{IsSetUp}
 use Rattle.mc_shelf.specs.declared.store.Settings.{Settings}
-use Rattle.mc_shelf.proofs.PartLemmas.{PartsLaw, order, same_items, get_kept, parted, own_items, shelf_kept, put_cases}
+use Rattle.mc_shelf.proofs.IndexLemmas.{order}
+use Rattle.mc_shelf.proofs.PartLemmas.{PartsLaw, same_items, get_kept, parted, own_items, shelf_kept, put_cases}
 
 hash_kept : (kept : Bool) (o : Option ℕ) (stored : ℕ) → cond kept o None ≡ Some stored → o ≡ Some stored
 hash_kept true o stored found = found
 hash_kept false o stored found = cc
 
-module _ (hash_of : List ℕ → ℕ) (count at : ℕ) (law : PartsLaw) (state : Plain) (shelf : ShelfContent) (desk : DeskState) (fits : IsShelfOf hash_of count state at shelf) (account : IsDeskOf state desk) where
+module _ {hash_of : List ℕ → ℕ} {count at : ℕ} {state : Plain} {shelf : ShelfContent} {desk : DeskState} (law : PartsLaw) (fits : IsShelfOf hash_of count state at shelf) (account : IsDeskOf state desk) where
   abbrev mine : List ℕ → Bool
   mine q = eqb (shelf_of hash_of count q) at
 
@@ -30,12 +30,12 @@ module _ (hash_of : List ℕ → ℕ) (count at : ℕ) (law : PartsLaw) (state :
   rest = retain_keys state.items (λ q. not (mine q))
 
   split : (class : ℕ) → count_of state.items class ≡ count_of shelf.items class + count_of rest class
-  split = parted law state.items shelf.items rest mine (own_items hash_of count at state shelf fits) (get_kept state.items (λ q. not (mine q)))
+  split = parted law state.items shelf.items rest mine (own_items fits) (get_kept state.items (λ q. not (mine q)))
 
   pub part_out : AreOut shelf desk
   part_out class is = omega (arith, split class, account.out class is)
 
-  module _ (now : ℕ) (shelf' : ShelfContent) (desk' : DeskState) (drops : IsPurged now shelf shelf') (gives : GivesFor shelf.items shelf'.items desk desk') where
+  module _ {now : ℕ} {shelf' : ShelfContent} {desk' : DeskState} (drops : IsPurged now shelf shelf') (gives : GivesFor shelf.items shelf'.items desk desk') where
     abbrev new : Plain
     new = purged mine now state
 
@@ -50,10 +50,10 @@ module _ (hash_of : List ℕ → ℕ) (count at : ℕ) (law : PartsLaw) (state :
 
     own : IsShelfOf hash_of count new at shelf'
     own =
-        shelf_kept hash_of count at state new shelf shelf' fits (λ o. cond (is_some (alive state.cut now o)) o None) refl (drops.greatest ∙ fits.greatest) (drops.cut ∙ fits.cut)
+        shelf_kept fits (λ o. cond (is_some (alive state.cut now o)) o None) refl (drops.greatest ∙ fits.greatest) (drops.cut ∙ fits.cut)
         (λ q.
-            ap (λ (m : Items). get m q) drops.items ∙ get_kept shelf.items (λ q. is_some (alive shelf.cut now (get shelf.items q))) q
-            ∙ ap (λ c. cond (is_some (alive c now (get shelf.items q))) (get shelf.items q) None) fits.cut)
+        ap (λ (m : Items). get m q) drops.items ∙ get_kept shelf.items (λ q. is_some (alive shelf.cut now (get shelf.items q))) q
+        ∙ ap (λ c. cond (is_some (alive c now (get shelf.items q))) (get shelf.items q) None) fits.cut)
         (λ q is. get_new q ∙ ap (λ b. at_key b q) (eq-eqb (shelf_of hash_of count q) at is))
         (λ q stored found. hash_kept (is_some (get shelf'.items q)) (get shelf.hashes q) stored (sym (drops.hashes q) ∙ found))
 
@@ -75,7 +75,7 @@ module _ (hash_of : List ℕ → ℕ) (count at : ℕ) (law : PartsLaw) (state :
         limit = gives.limit ∙ account.limit;
         pages = gives.pages ∙ account.pages;
         out = λ class is.
-            let after = parted law new.items shelf'.items rest mine (own_items hash_of count at new shelf' own) rest_new class in
+            let after = parted law new.items shelf'.items rest mine (own_items own) rest_new class in
             omega (arith, split class, after, account.out class is, gives.out class is);
       };
       others = λ k still other part. record {
@@ -148,9 +148,9 @@ module _ (o : Option Entry) where
   is_below false false next e apart = ap (λ b. cond b o None) (sym e)
 
 -- a shelf that was cleared or purged, and then cut
-pub is_flushed : (delay now : ℕ) (old swept new : ShelfContent) (cut : Option ℕ) → cut ≡ cond (eqb delay 0) None (Some (moment_named delay now)) → new ≡ record swept { cut = cut }
+pub is_flushed : {delay now : ℕ} {old swept new : ShelfContent} {cut : Option ℕ} → cut ≡ cond (eqb delay 0) None (Some (moment_named delay now)) → new ≡ record swept { cut = cut }
     → ((delay ≡ 0) × (swept ≡ record old { items = maps.empty; hashes = maps.empty })) ⊎ ((delay ≢ 0) × IsPurged now old swept) → IsFlushed delay now old new
-is_flushed delay now old swept new cut cut_is new_is (inl h) = record {
+is_flushed {delay} {now} {old} {swept} {new} {cut} cut_is new_is (inl h) = record {
   greatest = ap (λ (s : ShelfContent). s.greatest) new_is ∙ ap (λ (s : ShelfContent). s.greatest) h.1;
   cut = ap (λ (s : ShelfContent). s.cut) new_is ∙ cut_is;
   items = λ q.
@@ -161,7 +161,7 @@ is_flushed delay now old swept new cut cut_is new_is (inl h) = record {
       let there : get swept.hashes q ≡ Some stored = sym (ap (λ (s : ShelfContent). get s.hashes q) new_is) ∙ found in
       cc;
 }
-is_flushed delay now old swept new cut cut_is new_is (inr h) = record {
+is_flushed {delay} {now} {old} {swept} {new} {cut} cut_is new_is (inr h) = record {
   greatest = ap (λ (s : ShelfContent). s.greatest) new_is ∙ h.1.greatest;
   cut = ap (λ (s : ShelfContent). s.cut) new_is ∙ cut_is;
   items = λ q.
@@ -198,8 +198,8 @@ module _ (hash_of : List ℕ → ℕ) (count delay now : ℕ) (state : Plain) wh
   all_below : (at : ℕ) → 0 < count → count ≤ at → (items : Items) → below place at items ≡ items
   all_below at some past items = same_items (below place at items) items (λ q. get_kept items (λ q. ltb (place q) at) q ∙ ap (λ b. cond b (get items q) None) (lt-ltb (place q) at (omega (arith, some, past))))
 
-  pub flushed_none : (list : List ShelfState) (desk : DeskState) → ArePartsOf hash_of state list count desk → AreFlushedTo hash_of count delay now state 0 list desk
-  flushed_none list desk parts = record {
+  pub flushed_none : {list : List ShelfState} {desk : DeskState} → ArePartsOf hash_of state list count desk → AreFlushedTo hash_of count delay now state 0 list desk
+  flushed_none parts = record {
     number = parts.number;
     some_shelf = parts.some_shelf;
     each = λ k shelf there. subst (λ b. IsShelfOf hash_of count (cond b after state) k shelf.content) (sym (le-ltb k 0 (omega arith))) (parts.each k shelf there);
@@ -211,30 +211,30 @@ module _ (hash_of : List ℕ → ℕ) (count delay now : ℕ) (state : Plain) wh
   }
 
   -- one shelf more is flushed
-  module _ (law : PartsLaw) (at : ℕ) (list : List ShelfState) (desk : DeskState) (swept : AreFlushedTo hash_of count delay now state at list desk) (shelf : ShelfState) (here : slice_get list at ≡ Some shelf) where
+  module _ {at : ℕ} {list : List ShelfState} {desk : DeskState} {shelf : ShelfState} (law : PartsLaw) (swept : AreFlushedTo hash_of count delay now state at list desk) (here : slice_get list at ≡ Some shelf) where
     fits : IsShelfOf hash_of count state at shelf.content
     fits = subst (λ b. IsShelfOf hash_of count (cond b after state) at shelf.content) (le-ltb at at (omega arith)) (swept.each at shelf here)
 
-    more_below : (s : Plain) (part : ShelfContent) → IsShelfOf hash_of count s at part → (class : ℕ) → count_of (below place (at + 1) s.items) class ≡ count_of part.items class + count_of (below place at s.items) class
-    more_below s part is =
+    more_below : {s : Plain} {part : ShelfContent} → IsShelfOf hash_of count s at part → (class : ℕ) → count_of (below place (at + 1) s.items) class ≡ count_of part.items class + count_of (below place at s.items) class
+    more_below {s} {part} is =
         parted law (below place (at + 1) s.items) part.items (below place at s.items) (λ q. eqb (place q) at)
         (λ q.
-            own_items hash_of count at s part is q ∙ is_own (get s.items q) (eqb (place q) at) (ltb (place q) at) (ltb (place q) (at + 1)) (below_next (place q) at)
-            ∙ ap (λ o. cond (eqb (place q) at) o None) (sym (get_kept s.items (λ q. ltb (place q) (at + 1)) q)))
+        own_items is q ∙ is_own (get s.items q) (eqb (place q) at) (ltb (place q) at) (ltb (place q) (at + 1)) (below_next (place q) at)
+        ∙ ap (λ o. cond (eqb (place q) at) o None) (sym (get_kept s.items (λ q. ltb (place q) (at + 1)) q)))
         (λ q.
-            get_kept s.items (λ q. ltb (place q) at) q
-            ∙ is_below (get s.items q) (eqb (place q) at) (ltb (place q) at) (ltb (place q) (at + 1)) (below_next (place q) at) (below_not_here (place q) at)
-            ∙ ap (λ o. cond (not (eqb (place q) at)) o None) (sym (get_kept s.items (λ q. ltb (place q) (at + 1)) q)))
+        get_kept s.items (λ q. ltb (place q) at) q
+        ∙ is_below (get s.items q) (eqb (place q) at) (ltb (place q) at) (ltb (place q) (at + 1)) (below_next (place q) at) (below_not_here (place q) at)
+        ∙ ap (λ o. cond (not (eqb (place q) at)) o None) (sym (get_kept s.items (λ q. ltb (place q) (at + 1)) q)))
 
     pub out_before : AreOut shelf.content desk
     out_before class is =
         let all = law state.items (λ q. ltb (place q) (at + 1)) class in
-        omega (arith, all, more_below state shelf.content fits class, swept.out class is)
+        omega (arith, all, more_below fits class, swept.out class is)
 
-    module _ (shelf' : ShelfState) (desk' : DeskState) (flushes : IsFlushed delay now shelf.content shelf'.content) (gives : GivesFor shelf.content.items shelf'.content.items desk desk') where
+    module _ {desk' : DeskState} (shelf' : ShelfState) (flushes : IsFlushed delay now shelf.content shelf'.content) (gives : GivesFor shelf.content.items shelf'.content.items desk desk') where
       fits_after : IsShelfOf hash_of count after at shelf'.content
       fits_after =
-          shelf_kept hash_of count at state after shelf.content shelf'.content fits (left_of_flush delay now state.cut) (none_left delay now state.cut)
+          shelf_kept fits (left_of_flush delay now state.cut) (none_left delay now state.cut)
           (flushes.greatest ∙ fits.greatest ∙ ap (λ (s : Plain). s.greatest) (sym (is_after delay now state))) (flushes.cut ∙ ap (λ (s : Plain). s.cut) (sym (is_after delay now state)))
           (λ q. flushes.items q ∙ ap (λ c. left_of_flush delay now c (get shelf.content.items q)) fits.cut)
           (λ q is. get_flushed delay now state q)
@@ -252,11 +252,11 @@ module _ (hash_of : List ℕ → ℕ) (count delay now : ℕ) (state : Plain) wh
         next_unique = gives.next_unique ∙ swept.next_unique;
         limit = gives.limit ∙ swept.limit;
         pages = gives.pages ∙ swept.pages;
-        out = λ class is. omega (arith, more_below state shelf.content fits class, more_below after shelf'.content fits_after class, swept.out class is, gives.out class is);
+        out = λ class is. omega (arith, more_below fits class, more_below fits_after class, swept.out class is, gives.out class is);
       }
 
-  pub flushed_all : (at : ℕ) → count ≤ at → (list : List ShelfState) (desk : DeskState) → AreFlushedTo hash_of count delay now state at list desk → ArePartsOf hash_of after list count desk
-  flushed_all at past list desk swept = record {
+  pub flushed_all : {at : ℕ} {list : List ShelfState} {desk : DeskState} → count ≤ at → AreFlushedTo hash_of count delay now state at list desk → ArePartsOf hash_of after list count desk
+  flushed_all {at} {list} past swept = record {
     number = swept.number;
     some_shelf = swept.some_shelf;
     each = λ k shelf there. subst (λ b. IsShelfOf hash_of count (cond b after state) k shelf.content) (lt-ltb k at (omega (arith, past, swept.number, slice_get_within list k shelf there))) (swept.each k shelf there);
@@ -272,13 +272,13 @@ module _ (hash_of : List ℕ → ℕ) (count delay now : ℕ) (state : Plain) wh
   }
 
 -- the shelves of a flush are written back, where they stood
-pub flushed_back : (hash_of : List ℕ → ℕ) (state : Plain) (new old : List ShelfState) (count len : ℕ) (desk : DeskState) → len ≡ count → ArePartsOf hash_of state new count desk → ArePartsOf hash_of state (take len (new ++ drop (length new) old)) count desk
-flushed_back hash_of state new old count len desk all parts =
+pub flushed_back : {hash_of : List ℕ → ℕ} {state : Plain} {new : List ShelfState} {count len : ℕ} {desk : DeskState} (old : List ShelfState) → len ≡ count → ArePartsOf hash_of state new count desk → ArePartsOf hash_of state (take len (new ++ drop (length new) old)) count desk
+flushed_back {hash_of} {state} {new} {count} {len} {desk} old all parts =
     subst (λ (l : List ShelfState). ArePartsOf hash_of state l count desk)
     (sym (ap (λ n. take n (new ++ drop (length new) old)) (all ∙ sym parts.number) ∙ take-append_seam new (drop (length new) old))) parts
 
-pub still_set_up : (settings : Settings) (delay now : ℕ) (state : Plain) → IsSetUp settings state → IsSetUp settings (flushed delay state now)
-still_set_up settings delay now state set_up = record {
+pub still_set_up : {settings : Settings} {state : Plain} (delay now : ℕ) → IsSetUp settings state → IsSetUp settings (flushed delay state now)
+still_set_up {settings} {state} delay now set_up = record {
   greatest = ap (λ (s : Plain). s.greatest) (is_after delay now state) ∙ set_up.greatest;
   limit = ap (λ (s : Plain). s.limit) (is_after delay now state) ∙ set_up.limit;
 }

@@ -1,34 +1,29 @@
 -- Parts of a state: what they are together, and what a change of one of them makes of the state.
-use Rattle.std.proofs.Common.{◌≡◌, ◌≢◌, ℕ, zero, suc, ◌+◌, ◌<◌, ◌≤◌, ◌%◌, Bool, true, false, cond, not, ◌||◌, eqb, eqb-true, eq-eqb, ne_eqb, true≢false, List, [], ◌∷◌, ◌++◌, length, length-set, Option, Some, None, is_some, slice_get, slice_set, slice_index_or, refl, sym, ap, subst, ◌∙◌, arith, ◌⊎◌, inl, inr, ⊎_elim}
-use Rattle.std.proofs.lemmas.Option.{same_Some, slice_get_within, slice_get-get_or}
+use Rattle.std.proofs.Common.{◌≡◌, ◌≢◌, ℕ, zero, suc, ◌+◌, ◌<◌, Bool, true, false, cond, not, eqb, eqb-true, eq-eqb, true≢false, List, [], ◌∷◌, ◌++◌, length, length-set, Option, Some, None, slice_get, slice_set, refl, sym, ap, subst, ◌∙◌, arith, ◌⊎◌, inl, inr, ⊎_elim}
+use Rattle.std.proofs.lemmas.Option.{same_Some}
 use Rattle.std.specs.Option.{option_or}
-use Rattle.std.specs.Cmp.{eq_by_cmp_equiv, IsEquivalence}
-use Rattle.std.specs.Cmp.Lexicographic.{slice_cmp, nat_list_cmp_total}
-use Rattle.std.specs.Ordering.{eq_by_cmp, nat_cmp, is_eq}
-use Rattle.std.specs.declared.cmp.Ordering.{Ordering}
+use Rattle.std.specs.Cmp.{tied_itself}
+use Rattle.std.specs.Cmp.Lexicographic.{nat_list_cmp_total}
+use Rattle.std.specs.Ordering.{eq_by_cmp}
 use Rattle.std.specs.declared.cmp.Ordering.TheVariants.{Less, Equal, Greater}
-use Rattle.std.specs.FinMap.{IsAntisymmetric, nat_cmp-IsAntisymmetric, slice_cmp-IsAntisymmetric, entries, get, find, get-entries, get-from_entries, get-retain_keys, retain_keys, same_map}
-use Rattle.mc_slab.specs.Classes.{IsClass}
-use Rattle.mc_slab.specs.Slabs.{out_of}
+use Rattle.std.specs.FinMap.{entries, get, find, get-entries, get-from_entries, get-retain_keys, retain_keys, same_map}
 use Rattle.mc_command.specs.declared.step.KeyStep.{KeyStep}
 use Rattle.mc_command.specs.declared.reply.Reply.{Reply}
 use Rattle.mc_command.specs.Commands.{key_of}
 use Rattle.mc_command.specs.Laws.{IsOnKey}
-use Rattle.mc_command.specs.Plain.{Answered, Entry, Items, Plain, alive, count_of, plain}
-use Rattle.mc_command.specs.Purge.{purged}
+use Rattle.mc_command.specs.Plain.{Answered, Entry, Items, Plain, count_of, plain}
 use Rattle.mc_shelf.specs.States.{ShelfContent, ShelfState, DeskState, IsAt, IsHash}
 use Rattle.mc_shelf.specs.Plans.{IsTaken}
-use Rattle.mc_shelf.specs.Sweeps.{AreOut, GivesFor, IsPurged}
 use Rattle.mc_shelf.specs.Parts.{shelf_of, IsShelfOf, IsDeskOf, ArePartsOf, GoesTo, GoesByStep}
 use Rattle.mc_shelf.specs.Unions.{all_entries, all_items, cut_of, plain_of}
 use Rattle.mc_shelf.specs.Stores.{IsSetUp}
 use Rattle.mc_shelf.specs.declared.store.Settings.{Settings}
+use Rattle.mc_shelf.proofs.IndexLemmas.{order, same_key}
 
--- the plain machine's step on a key leaves the other keys, as `other_keys_stay` says
+-- the plain machine's step on a key leaves the other keys, as `other_keys_stay` says, and the limit of pages, as `pages_stay`
 abbrev pub OthersLaw : Type 0
 OthersLaw = (old new : Plain) (step : KeyStep) (now : ℕ) (reply : Reply) (other : List ℕ) → IsOnKey step → plain old step now ≡ Answered reply new → other ≢ key_of step → get new.items other ≡ get old.items other
 
--- a step leaves the limit of pages, as `pages_stay` says
 abbrev pub LimitLaw : Type 0
 LimitLaw = (old new : Plain) (step : KeyStep) (now : ℕ) (reply : Reply) → plain old step now ≡ Answered reply new → new.limit ≡ old.limit
 
@@ -36,29 +31,19 @@ LimitLaw = (old new : Plain) (step : KeyStep) (now : ℕ) (reply : Reply) → pl
 abbrev pub PartsLaw : Type 0
 PartsLaw = (items : Items) (meant : List ℕ → Bool) (class : ℕ) → count_of items class ≡ count_of (retain_keys items meant) class + count_of (retain_keys items (λ key. not (meant key))) class
 
-abbrev pub order : List ℕ → List ℕ → Ordering
-order = slice_cmp nat_cmp
-
-exact : IsAntisymmetric order
-exact = slice_cmp-IsAntisymmetric nat_cmp-IsAntisymmetric
-
 -- items that answer alike are the same
 pub same_items : (a b : Items) → ((key : List ℕ) → get a key ≡ get b key) → a ≡ b
-same_items a b alike = same_map nat_list_cmp_total exact a b alike
+same_items a b alike = same_map nat_list_cmp_total same_key a b alike
 
 -- what is kept under a key
 pub get_kept : (items : Items) (keep : List ℕ → Bool) (key : List ℕ) → get (retain_keys items keep) key ≡ cond (keep key) (get items key) None
-get_kept items keep key = get-retain_keys items keep key (λ x same. ap keep (sym (exact key x same)))
-
-is_equal : (o : Ordering) → is_eq o ≡ true → o ≡ Equal
-is_equal Less h = cc
-is_equal Equal h = refl
-is_equal Greater h = cc
+get_kept items keep key = get-retain_keys items keep key (λ x same. ap keep (sym (same_key key x same)))
 
 key_or_not : (q key : List ℕ) → (q ≡ key) ⊎ (q ≢ key)
-key_or_not q key = elim (eq_by_cmp order q key) as (λ b. eq_by_cmp order q key ≡ b → (q ≡ key) ⊎ (q ≢ key)) [
-  | true ↦ λ h. inl (exact q key (is_equal _ h))
-  | false ↦ λ h. inr (λ same. true≢false (sym ((eq_by_cmp_equiv nat_list_cmp_total).refl q) ∙ ap (eq_by_cmp order q) same ∙ h))
+key_or_not q key = elim (order q key) as (λ r. order q key ≡ r → (q ≡ key) ⊎ (q ≢ key)) [
+  | Less ↦ λ e. inr (λ same. let tied = ap (λ k. order k key) same ∙ tied_itself nat_list_cmp_total key in cc)
+  | Equal ↦ λ e. inl (same_key q key e)
+  | Greater ↦ λ e. inr (λ same. let tied = ap (λ k. order k key) same ∙ tied_itself nat_list_cmp_total key in cc)
 ] refl
 
 -- ---- what parts are together
@@ -77,23 +62,20 @@ module _ (q : List ℕ) where
   first_of [] = None
   first_of (shelf ∷ shelves) = option_or (get shelf.content.items q) (first_of shelves)
 
-  get_first : (shelves : List ShelfState) → get (all_items shelves) q ≡ first_of shelves
-  get_first shelves = get-from_entries nat_list_cmp_total (all_entries shelves) q ∙ found shelves
-    where
-      found : (shelves : List ShelfState) → find order q (all_entries shelves) ≡ first_of shelves
-      found [] = refl
-      found (shelf ∷ shelves) =
-          find_beside (entries shelf.content.items) (all_entries shelves)
-          ∙ (λ i. option_or (sym (get-entries shelf.content.items q) i) (found shelves i))
-
-  or_none : (o : Option Entry) → option_or o None ≡ o
-  or_none None = refl
-  or_none (Some item) = refl
+  find_first : (shelves : List ShelfState) → find order q (all_entries shelves) ≡ first_of shelves
+  find_first [] = refl
+  find_first (shelf ∷ shelves) =
+      find_beside (entries shelf.content.items) (all_entries shelves)
+      ∙ (λ i. option_or (sym (get-entries shelf.content.items q) i) (find_first shelves i))
 
   -- no shelf has an item of the key
   first_none : (shelves : List ShelfState) → ((at : ℕ) (shelf : ShelfState) → slice_get shelves at ≡ Some shelf → get shelf.content.items q ≡ None) → first_of shelves ≡ None
   first_none [] none = refl
   first_none (shelf ∷ shelves) none = λ i. option_or (none 0 shelf refl i) (first_none shelves (λ at s. none (suc at) s) i)
+
+  or_none : (o : Option Entry) → option_or o None ≡ o
+  or_none None = refl
+  or_none (Some item) = refl
 
   -- only this one has
   first_own : (shelves : List ShelfState) (at : ℕ) (shelf : ShelfState) → slice_get shelves at ≡ Some shelf
@@ -111,20 +93,22 @@ some_there [] at inside = absurd (omega arith)
 some_there (shelf ∷ shelves) zero inside = (shelf, refl)
 some_there (shelf ∷ shelves) (suc at) inside = some_there shelves at (omega arith)
 
-first_cut : (hash_of : List ℕ → ℕ) (state : Plain) (list : List ShelfState) (count : ℕ) (desk : DeskState) → ArePartsOf hash_of state list count desk → cut_of list ≡ state.cut
-first_cut hash_of state [] count desk parts = absurd (omega (arith, parts.number, parts.some_shelf))
-first_cut hash_of state (shelf ∷ list) count desk parts = (parts.each 0 shelf refl).cut
-
-module _ (hash_of : List ℕ → ℕ) (settings : Settings) (state : Plain) (list : List ShelfState) (count : ℕ) (desk : DeskState) (set_up : IsSetUp settings state) (parts : ArePartsOf hash_of state list count desk) where
-  abbrev here : List ℕ → ℕ
-  here = shelf_of hash_of count
-
+module _ {hash_of : List ℕ → ℕ} {state : Plain} {list : List ShelfState} {count : ℕ} {desk : DeskState} (settings : Settings) (set_up : IsSetUp settings state) (parts : ArePartsOf hash_of state list count desk) where
   same_all : all_items list ≡ state.items
   same_all = same_items (all_items list) state.items (λ q.
-      let own = some_there list (here q) (omega (arith, parts.number, parts.some_shelf)) in
-      get_first q list
-      ∙ first_own q list (here q) own.0 own.1 (λ k t there other. (parts.each k t there).apart q (λ same. other (sym same)))
-      ∙ (parts.each (here q) own.0 own.1).items q refl)
+      let own = some_there list (shelf_of hash_of count q) (omega (arith, parts.number, parts.some_shelf)) in
+      get-from_entries nat_list_cmp_total (all_entries list) q ∙ find_first q list
+      ∙ first_own q list (shelf_of hash_of count q) own.0 own.1 (λ k t there other. (parts.each k t there).apart q (λ same. other (sym same)))
+      ∙ (parts.each (shelf_of hash_of count q) own.0 own.1).items q refl)
+
+  same_cut : cut_of list ≡ state.cut
+  same_cut =
+      let first = some_there list 0 (omega (arith, parts.number, parts.some_shelf)) in
+      cut_first list first.0 first.1 ∙ (parts.each 0 first.0 first.1).cut
+    where
+      cut_first : (list : List ShelfState) (shelf : ShelfState) → slice_get list 0 ≡ Some shelf → cut_of list ≡ shelf.content.cut
+      cut_first [] shelf there = cc
+      cut_first (first ∷ list) shelf there = ap (λ (s : ShelfState). s.content.cut) (same_Some first shelf there)
 
   -- the state is the one that they are together
   pub plain_is : plain_of settings list desk ≡ state
@@ -132,7 +116,7 @@ module _ (hash_of : List ℕ → ℕ) (settings : Settings) (state : Plain) (lis
     greatest = sym set_up.greatest i;
     limit = sym set_up.limit i;
     items = same_all i;
-    cut = first_cut hash_of state list count desk parts i;
+    cut = same_cut i;
     next_unique = parts.account.next_unique i;
     pages = parts.account.pages i;
   }
@@ -149,23 +133,22 @@ put_cases (first ∷ shelves) zero new (suc k) s there = inr ((λ e. omega arith
 put_cases (first ∷ shelves) (suc at) new zero s there = inr ((λ e. omega arith), there)
 put_cases (first ∷ shelves) (suc at) new (suc k) s there = ⊎_elim (λ h. inl (ap suc h.0, h.1)) (λ h. inr ((λ e. h.0 (omega arith)), h.1)) (put_cases shelves at new k s there)
 
-module _ (hash_of : List ℕ → ℕ) (count at : ℕ) (old new : Plain) where
-  -- it changes all parts so
-  pub parts_go : (list : List ShelfState) (desk : DeskState) → ArePartsOf hash_of old list count desk → (shelf : ShelfState) (desk' : DeskState) → GoesTo hash_of count at old new shelf.content desk' → ArePartsOf hash_of new (slice_set list at shelf) count desk'
-  parts_go list desk parts shelf desk' goes = record {
-    number = length-set list at shelf ∙ parts.number;
-    some_shelf = parts.some_shelf;
-    each = λ k s there.
-        ⊎_elim
-        (λ h. subst (λ (p : ℕ × ShelfState). IsShelfOf hash_of count new p.0 p.1.content) (λ i. (sym h.0 i, sym h.1 i)) goes.own)
-        (λ h. goes.others k s.content h.0 (parts.each k s h.1))
-        (put_cases list at shelf k s there);
-    account = goes.account;
-  }
+-- it changes all parts so
+pub parts_go : {hash_of : List ℕ → ℕ} {count at : ℕ} {old new : Plain} {list : List ShelfState} {desk desk' : DeskState} (shelf : ShelfState)
+    → ArePartsOf hash_of old list count desk → GoesTo hash_of count at old new shelf.content desk' → ArePartsOf hash_of new (slice_set list at shelf) count desk'
+parts_go {hash_of} {count} {at} {old} {new} {list} shelf parts goes = record {
+  number = length-set list at shelf ∙ parts.number;
+  some_shelf = parts.some_shelf;
+  each = λ k s there.
+      ⊎_elim
+      (λ h. subst (λ (p : ℕ × ShelfState). IsShelfOf hash_of count new p.0 p.1.content) (λ i. (sym h.0 i, sym h.1 i)) goes.own)
+      (λ h. goes.others k s.content h.0 (parts.each k s h.1))
+      (put_cases list at shelf k s there);
+  account = goes.account;
+}
 
 -- a step on one of the shelf's keys
-module _ (hash_of : List ℕ → ℕ) (count at now : ℕ) (step : KeyStep) (state : Plain) (on : IsOnKey step) (mine : shelf_of hash_of count (key_of step) ≡ at) (shelf : ShelfContent) (desk : DeskState)
-    (fits : IsShelfOf hash_of count state at shelf) (account : IsDeskOf state desk) where
+module _ {hash_of : List ℕ → ℕ} {count at : ℕ} {state : Plain} {shelf : ShelfContent} {desk : DeskState} (step : KeyStep) (mine : shelf_of hash_of count (key_of step) ≡ at) (fits : IsShelfOf hash_of count state at shelf) (account : IsDeskOf state desk) where
   pub is_at : IsAt (key_of step) shelf desk state
   is_at = record {
     greatest = sym fits.greatest;
@@ -177,7 +160,7 @@ module _ (hash_of : List ℕ → ℕ) (count at now : ℕ) (step : KeyStep) (sta
     out = account.out;
   }
 
-  module _ (others : OthersLaw) (limit : LimitLaw) (reply : Reply) (shelf' : ShelfContent) (desk' : DeskState) (taken : IsTaken step now (hash_of (key_of step)) shelf desk reply shelf' desk') where
+  module _ {now : ℕ} {reply : Reply} {shelf' : ShelfContent} {desk' : DeskState} (on : IsOnKey step) (others : OthersLaw) (limit : LimitLaw) (taken : IsTaken step now (hash_of (key_of step)) shelf desk reply shelf' desk') where
     abbrev new : Plain
     new = (taken.takes state is_at).0
 
@@ -190,25 +173,28 @@ module _ (hash_of : List ℕ → ℕ) (count at now : ℕ) (step : KeyStep) (sta
     same_greatest : state.greatest ≡ new.greatest
     same_greatest = sym fits.greatest ∙ sym taken.others.greatest ∙ sym stands.greatest
 
-    same_cut : state.cut ≡ new.cut
-    same_cut = sym fits.cut ∙ sym taken.others.cut ∙ sym stands.cut
-
     same_item : (q : List ℕ) → q ≢ key_of step → get state.items q ≡ get new.items q
     same_item q other = sym (others state new step now reply q on answered other)
 
-    own_item : (q : List ℕ) → shelf_of hash_of count q ≡ at → get shelf'.items q ≡ get new.items q
-    own_item q own =
-        ⊎_elim
-        (λ same. subst (λ (k : List ℕ). get shelf'.items k ≡ get new.items k) (sym same) (sym stands.item))
-        (λ other. taken.others.items q other ∙ fits.items q own ∙ same_item q other)
-        (key_or_not q (key_of step))
+    elsewhere : (q : List ℕ) → shelf_of hash_of count q ≢ at → q ≢ key_of step
+    elsewhere q other same = other (ap (shelf_of hash_of count) same ∙ mine)
 
-    own_hash : (q : List ℕ) → IsHash shelf' q (hash_of q)
-    own_hash q =
-        ⊎_elim
-        (λ same. subst (λ (k : List ℕ). IsHash shelf' k (hash_of k)) (sym same) taken.hashed)
-        (λ other stored found. fits.hashes q stored (sym (taken.others.hashes q other) ∙ found))
-        (key_or_not q (key_of step))
+    own : IsShelfOf hash_of count new at shelf'
+    own = record {
+      greatest = sym stands.greatest;
+      cut = sym stands.cut;
+      items = λ q is.
+          ⊎_elim
+          (λ same. subst (λ (k : List ℕ). get shelf'.items k ≡ get new.items k) (sym same) (sym stands.item))
+          (λ other. taken.others.items q other ∙ fits.items q is ∙ same_item q other)
+          (key_or_not q (key_of step));
+      apart = λ q other. taken.others.items q (elsewhere q other) ∙ fits.apart q other;
+      hashes = λ q.
+          ⊎_elim
+          (λ same. subst (λ (k : List ℕ). IsHash shelf' k (hash_of k)) (sym same) taken.hashed)
+          (λ other stored found. fits.hashes q stored (sym (taken.others.hashes q other) ∙ found))
+          (key_or_not q (key_of step));
+    }
 
     pub goes_by_step : GoesByStep hash_of count at step now state reply shelf' desk'
     goes_by_step = record {
@@ -217,13 +203,7 @@ module _ (hash_of : List ℕ → ℕ) (count at now : ℕ) (step : KeyStep) (sta
       goes = record {
         greatest = sym same_greatest;
         limit = limit state new step now reply answered;
-        own = record {
-          greatest = sym stands.greatest;
-          cut = sym stands.cut;
-          items = own_item;
-          apart = λ q other. taken.others.items q (λ same. other (ap (shelf_of hash_of count) same ∙ mine)) ∙ fits.apart q other;
-          hashes = own_hash;
-        };
+        own = own;
         account = record {
           next_unique = sym stands.next_unique;
           limit = sym stands.limit;
@@ -232,8 +212,8 @@ module _ (hash_of : List ℕ → ℕ) (count at now : ℕ) (step : KeyStep) (sta
         };
         others = λ k still other part. record {
           greatest = part.greatest ∙ same_greatest;
-          cut = part.cut ∙ same_cut;
-          items = λ q own. part.items q own ∙ same_item q (λ same. other (sym own ∙ ap (shelf_of hash_of count) same ∙ mine));
+          cut = part.cut ∙ sym fits.cut ∙ sym taken.others.cut ∙ sym stands.cut;
+          items = λ q is. part.items q is ∙ same_item q (elsewhere q (λ same. other (sym is ∙ same)));
           apart = part.apart;
           hashes = part.hashes;
         };
@@ -249,27 +229,22 @@ parted law whole part rest meant own others class =
     let rest_is = same_items (retain_keys whole (λ q. not (meant q))) rest (λ q. get_kept whole (λ q. not (meant q)) q ∙ sym (others q)) in
     law whole meant class ∙ (λ i. count_of (part_is i) class + count_of (rest_is i) class)
 
-module _ (hash_of : List ℕ → ℕ) (count at : ℕ) where
-  abbrev mine : List ℕ → Bool
-  mine q = eqb (shelf_of hash_of count q) at
-
+module _ {hash_of : List ℕ → ℕ} {count at : ℕ} {state : Plain} {shelf : ShelfContent} (fits : IsShelfOf hash_of count state at shelf) where
   -- of the state's items the shelf has those of its keys
-  pub own_items : (state : Plain) (shelf : ShelfContent) → IsShelfOf hash_of count state at shelf → (q : List ℕ) → get shelf.items q ≡ cond (mine q) (get state.items q) None
-  own_items state shelf fits q = elim (mine q) as (λ b. mine q ≡ b → get shelf.items q ≡ cond b (get state.items q) None) [
+  pub own_items : (q : List ℕ) → get shelf.items q ≡ cond (eqb (shelf_of hash_of count q) at) (get state.items q) None
+  own_items q = elim (eqb (shelf_of hash_of count q) at) as (λ b. eqb (shelf_of hash_of count q) at ≡ b → get shelf.items q ≡ cond b (get state.items q) None) [
     | true ↦ λ h. fits.items q (eqb-true (shelf_of hash_of count q) at h)
     | false ↦ λ h. fits.apart q (λ same. true≢false (sym (eq-eqb (shelf_of hash_of count q) at same) ∙ h))
   ] refl
 
-  -- of the shelf's items those are kept that pass a test, and so of the state's
-  module _ (state new : Plain) (shelf shelf' : ShelfContent) (fits : IsShelfOf hash_of count state at shelf) (kept : Option Entry → Option Entry) (none : kept None ≡ None)
-      (same_greatest : shelf'.greatest ≡ new.greatest) (same_cut : shelf'.cut ≡ new.cut)
-      (items : (q : List ℕ) → get shelf'.items q ≡ kept (get shelf.items q)) (own : (q : List ℕ) → shelf_of hash_of count q ≡ at → get new.items q ≡ kept (get state.items q))
-      (hashes : (q : List ℕ) (stored : ℕ) → get shelf'.hashes q ≡ Some stored → get shelf.hashes q ≡ Some stored) where
-    pub shelf_kept : IsShelfOf hash_of count new at shelf'
-    shelf_kept = record {
-      greatest = same_greatest;
-      cut = same_cut;
-      items = λ q is. items q ∙ ap kept (fits.items q is) ∙ sym (own q is);
-      apart = λ q other. items q ∙ ap kept (fits.apart q other) ∙ none;
-      hashes = λ q stored found. fits.hashes q stored (hashes q stored found);
-    }
+  -- items are kept of the shelf, and so of the state
+  pub shelf_kept : {new : Plain} {shelf' : ShelfContent} (kept : Option Entry → Option Entry) → kept None ≡ None → shelf'.greatest ≡ new.greatest → shelf'.cut ≡ new.cut
+      → ((q : List ℕ) → get shelf'.items q ≡ kept (get shelf.items q)) → ((q : List ℕ) → shelf_of hash_of count q ≡ at → get new.items q ≡ kept (get state.items q))
+      → ((q : List ℕ) (stored : ℕ) → get shelf'.hashes q ≡ Some stored → get shelf.hashes q ≡ Some stored) → IsShelfOf hash_of count new at shelf'
+  shelf_kept kept none greatest cut items own hashes = record {
+    greatest = greatest;
+    cut = cut;
+    items = λ q is. items q ∙ ap kept (fits.items q is) ∙ sym (own q is);
+    apart = λ q other. items q ∙ ap kept (fits.apart q other) ∙ none;
+    hashes = λ q stored found. fits.hashes q stored (hashes q stored found);
+  }

@@ -21,7 +21,8 @@ use Rattle.mc_shelf.specs.Parts.{shelf_of, IsShelfOf, IsDeskOf, ArePartsOf, Goes
 use Rattle.mc_shelf.specs.Unions.{lefts, plain_of}
 use Rattle.mc_shelf.specs.Stores.{IsSetUp}
 use Rattle.mc_shelf.specs.declared.store.Settings.{Settings}
-use Rattle.mc_shelf.proofs.PartLemmas.{order, parts_go, plain_is, are_kept, is_at}
+use Rattle.mc_shelf.proofs.IndexLemmas.{order}
+use Rattle.mc_shelf.proofs.PartLemmas.{parts_go, plain_is, are_kept}
 
 -- ---- a new store
 
@@ -30,14 +31,14 @@ of_replicate zero k x y there = cc
 of_replicate (suc n) zero x y there = sym (same_Some x y there)
 of_replicate (suc n) (suc k) x y there = of_replicate n k x y there
 
-pub new_parts : (hash_of : List ℕ → ℕ) (count pages greatest : ℕ) (list : List ShelfState) (desk : DeskState) → 0 < count → ((class : ℕ) → count_of empty class ≡ 0)
+pub new_parts : {hash_of : List ℕ → ℕ} {count pages greatest : ℕ} {list : List ShelfState} {desk : DeskState} → 0 < count → ((class : ℕ) → count_of empty class ≡ 0)
     → map (λ shelf. shelf.content) list ≡ replicate count (nothing_held greatest) → desk ≡ record { slab = untouched pages; next_unique = 1 } → ArePartsOf hash_of (opening pages greatest) list count desk
-new_parts hash_of count pages greatest list desk some none contents new_desk = record {
+new_parts {hash_of} {count} {pages} {greatest} {list} some none contents new_desk = record {
   number = sym (length-map list (λ (s : ShelfState). s.content)) ∙ ap length contents ∙ length-replicate count (nothing_held greatest);
   some_shelf = some;
   each = λ at shelf here.
       let content_is : shelf.content ≡ nothing_held greatest =
-          of_replicate count at (nothing_held greatest) shelf.content (sym (ap (λ (l : List ShelfContent). slice_get l at) contents) ∙ slice_get-map (λ (s : ShelfState). s.content) list at ∙ ap (option_map (λ (s : ShelfState). s.content)) here) in
+      of_replicate count at (nothing_held greatest) shelf.content (sym (ap (λ (l : List ShelfContent). slice_get l at) contents) ∙ slice_get-map (λ (s : ShelfState). s.content) list at ∙ ap (option_map (λ (s : ShelfState). s.content)) here) in
       subst (IsShelfOf hash_of count (opening pages greatest) at) (sym content_is) (record {
         greatest = refl;
         cut = refl;
@@ -97,23 +98,23 @@ left_numbers : (item : Option Entry) (key : List ℕ) (s : Plain) → ((without_
 left_numbers None key s = (refl, refl)
 left_numbers (Some item) key s = (refl, refl)
 
-pub spent_there : (step : KeyStep) (now : ℕ) (shelf : ShelfContent) (desk : DeskState) (a : Plain) → IsOnKey step → IsAt (key_of step) shelf desk a → plain a step now ≡ Spent → IsSpent step now shelf desk
-spent_there step now shelf desk a on at_a is b at_b =
+pub spent_there : (step : KeyStep) (now : ℕ) {shelf : ShelfContent} {desk : DeskState} {a : Plain} → IsOnKey step → IsAt (key_of step) shelf desk a → plain a step now ≡ Spent → IsSpent step now shelf desk
+spent_there step now {shelf} {desk} {a} on at_a is b at_b =
     let key = key_of step in
     let item = alive a.cut now (get a.items key) in
     let same : item ≡ alive b.cut now (get b.items key) = λ i. alive ((at_a.cut ∙ sym at_b.cut) i) now ((at_a.item ∙ sym at_b.item) i) in
     on_key step b now on
     ∙ subst (λ o. changed (row_of step now o) step o (without_dead o key b) now ≡ Spent) same
-      (changed_spent (row_of step now item) step item (without_dead item key a) (without_dead item key b) now
-      ((left_numbers item key a).0 ∙ at_a.greatest ∙ sym at_b.greatest ∙ sym (left_numbers item key b).0)
-      ((left_numbers item key a).1 ∙ at_a.next_unique ∙ sym at_b.next_unique ∙ sym (left_numbers item key b).1)
-      (sym (on_key step a now on) ∙ is))
+    (changed_spent (row_of step now item) step item (without_dead item key a) (without_dead item key b) now
+    ((left_numbers item key a).0 ∙ at_a.greatest ∙ sym at_b.greatest ∙ sym (left_numbers item key b).0)
+    ((left_numbers item key a).1 ∙ at_a.next_unique ∙ sym at_b.next_unique ∙ sym (left_numbers item key b).1)
+    (sym (on_key step a now on) ∙ is))
 
 -- ---- a store's parts after a change
 
 -- a shelf has fewer entries left to move
-pub left_after : (list : List ShelfState) (at : ℕ) (shelf : ShelfState) → slice_get list at ≡ Some shelf → (shelf' : ShelfState) (moved : ℕ) → shelf'.left ≡ shelf.left - moved → lefts (slice_set list at shelf') ≡ slice_set (lefts list) at (slice_index (lefts list) at - moved)
-left_after list at shelf here shelf' moved less =
+pub left_after : (list : List ShelfState) (at : ℕ) {shelf : ShelfState} (shelf' : ShelfState) (moved : ℕ) → slice_get list at ≡ Some shelf → shelf'.left ≡ shelf.left - moved → lefts (slice_set list at shelf') ≡ slice_set (lefts list) at (slice_index (lefts list) at - moved)
+left_after list at {shelf} shelf' moved here less =
     let left_of = λ (s : ShelfState). s.left in
     let was : slice_index (lefts list) at ≡ shelf.left = get_or_from_slice_get (lefts list) at shelf.left 0 (slice_get-map left_of list at ∙ ap (option_map left_of) here) in
     map-set left_of list at shelf' ∙ ap (slice_set (lefts list) at) (less ∙ ap (λ n. n - moved) (sym was))
@@ -133,27 +134,24 @@ pub if_err : {P Q : Type 0} (result : Result Reply StepFault) → OnErr result P
 if_err (Ok reply) p f = p
 if_err (Err fault) p f = f p
 
-module _ (hash_of : List ℕ → ℕ) (settings : Settings) (list : List ShelfState) (desk : DeskState) (parts : ArePartsOf hash_of (plain_of settings list desk) list settings.shelves desk) where
+module _ {hash_of : List ℕ → ℕ} {list : List ShelfState} {desk : DeskState} (settings : Settings) (parts : ArePartsOf hash_of (plain_of settings list desk) list settings.shelves desk) where
   abbrev state : Plain
   state = plain_of settings list desk
 
-  pub shelf_here : (at : ℕ) (shelf : ShelfState) → at < settings.shelves → shelf ≡ slice_index_or list at shelf → slice_get list at ≡ Some shelf
-  shelf_here at shelf inside read = slice_get_read list settings.shelves at shelf (sym parts.number) inside read
+  pub shelf_here : {at : ℕ} {shelf : ShelfState} → at < settings.shelves → shelf ≡ slice_index_or list at shelf → slice_get list at ≡ Some shelf
+  shelf_here {at} {shelf} inside read = slice_get_read list settings.shelves at shelf (sym parts.number) inside read
 
   -- one shelf and the desk have changed
-  module _ (at : ℕ) (new : Plain) (shelf' : ShelfState) (desk' : DeskState) (goes : GoesTo hash_of settings.shelves at state new shelf'.content desk') where
-    after : ArePartsOf hash_of new (slice_set list at shelf') settings.shelves desk'
-    after = parts_go hash_of settings.shelves at state new list desk parts shelf' desk' goes
-
+  module _ {at : ℕ} {new : Plain} {desk' : DeskState} (shelf' : ShelfState) (goes : GoesTo hash_of settings.shelves at state new shelf'.content desk') where
     pub kept_after : ArePartsOf hash_of (plain_of settings (slice_set list at shelf') desk') (slice_set list at shelf') settings.shelves desk'
-    kept_after = are_kept hash_of settings new (slice_set list at shelf') settings.shelves desk' (record { greatest = goes.greatest; limit = goes.limit }) after
+    kept_after = are_kept settings (record { greatest = goes.greatest; limit = goes.limit }) (parts_go shelf' parts goes)
 
     pub plain_after : plain_of settings (slice_set list at shelf') desk' ≡ new
-    plain_after = plain_is hash_of settings new (slice_set list at shelf') settings.shelves desk' (record { greatest = goes.greatest; limit = goes.limit }) after
+    plain_after = plain_is settings (record { greatest = goes.greatest; limit = goes.limit }) (parts_go shelf' parts goes)
 
-  module _ (at : ℕ) (shelf : ShelfState) (here : slice_get list at ≡ Some shelf) (shelf' : ShelfState) (desk' : DeskState) where
+  module _ {at : ℕ} {shelf : ShelfState} (here : slice_get list at ≡ Some shelf) where
     -- they hold what they held
-    pub goes_nowhere : shelf'.content ≡ shelf.content → desk' ≡ desk → GoesTo hash_of settings.shelves at state state shelf'.content desk'
+    pub goes_nowhere : {content : ShelfContent} {desk' : DeskState} → content ≡ shelf.content → desk' ≡ desk → GoesTo hash_of settings.shelves at state state content desk'
     goes_nowhere same same_desk = record {
       greatest = refl;
       limit = refl;
@@ -163,22 +161,21 @@ module _ (hash_of : List ℕ → ℕ) (settings : Settings) (list : List ShelfSt
     }
 
     -- a step was taken on one of the shelf's keys, or not
-    module _ (step : KeyStep) (now hash : ℕ) (on : IsOnKey step) (hashed : hash ≡ hash_of (key_of step)) (mine : shelf_of hash_of settings.shelves (key_of step) ≡ at) (law : StepLaw) (result : Result Reply StepFault)
-        (taken : IfOk result (λ reply. IsTaken step now hash shelf.content desk reply shelf'.content desk')) (same : OnErr result ((shelf'.content ≡ shelf.content) × (desk' ≡ desk))) where
-      goes : (reply : Reply) → IsTaken step now hash shelf.content desk reply shelf'.content desk' → GoesByStep hash_of settings.shelves at step now state reply shelf'.content desk'
+    module _ {hash : ℕ} (step : KeyStep) (now : ℕ) (shelf' : ShelfState) (desk' : DeskState) (mine : shelf_of hash_of settings.shelves (key_of step) ≡ at) (hashed : hash ≡ hash_of (key_of step)) (on : IsOnKey step) (law : StepLaw) where
+      abbrev IsTakenHere : Reply → Type 0
+      IsTakenHere reply = IsTaken step now hash shelf.content desk reply shelf'.content desk'
+
+      abbrev IsAsBefore : Type 0
+      IsAsBefore = (shelf'.content ≡ shelf.content) × (desk' ≡ desk)
+
+      goes : (reply : Reply) → IsTakenHere reply → GoesByStep hash_of settings.shelves at step now state reply shelf'.content desk'
       goes reply took =
           law hash_of settings.shelves at state step now reply shelf.content shelf'.content desk desk' on mine (parts.each at shelf here) parts.account
           (subst (λ (h : ℕ). IsTaken step now h shelf.content desk reply shelf'.content desk') hashed took)
 
-      pub parts_stepped : ArePartsOf hash_of (plain_of settings (slice_set list at shelf') desk') (slice_set list at shelf') settings.shelves desk'
-      parts_stepped = by_result result taken same
-        where
-          by_result : (result : Result Reply StepFault) → IfOk result (λ reply. IsTaken step now hash shelf.content desk reply shelf'.content desk') → OnErr result ((shelf'.content ≡ shelf.content) × (desk' ≡ desk)) → ArePartsOf hash_of (plain_of settings (slice_set list at shelf') desk') (slice_set list at shelf') settings.shelves desk'
-          by_result (Ok reply) took same = kept_after at (goes reply took).new shelf' desk' (goes reply took).goes
-          by_result (Err fault) took same = kept_after at state shelf' desk' (goes_nowhere same.0 same.1)
+      pub parts_stepped : (result : Result Reply StepFault) → IfOk result IsTakenHere → OnErr result IsAsBefore → ArePartsOf hash_of (plain_of settings (slice_set list at shelf') desk') (slice_set list at shelf') settings.shelves desk'
+      parts_stepped (Ok reply) took same = kept_after shelf' (goes reply took).goes
+      parts_stepped (Err fault) took same = kept_after shelf' (goes_nowhere same.0 same.1)
 
-      pub took_step : IfOk result (λ reply. plain state step now ≡ Answered reply (plain_of settings (slice_set list at shelf') desk'))
-      took_step = if_ok result taken (λ reply took. (goes reply took).answered ∙ ap (Answered reply) (sym (plain_after at (goes reply took).new shelf' desk' (goes reply took).goes)))
-
-      pub kept_plain : OnErr result (plain_of settings (slice_set list at shelf') desk' ≡ state)
-      kept_plain = if_err result same (λ h. plain_after at state shelf' desk' (goes_nowhere h.0 h.1))
+      pub took_step : {reply : Reply} → IsTakenHere reply → plain state step now ≡ Answered reply (plain_of settings (slice_set list at shelf') desk')
+      took_step {reply} took = (goes reply took).answered ∙ ap (Answered reply) (sym (plain_after shelf' (goes reply took).goes))

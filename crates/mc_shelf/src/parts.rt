@@ -50,8 +50,8 @@ impl Shelf {
         ensures { (hash_of : List ℕ → ℕ) (shelves at : ℕ) (state : Plain) →
             IsShelfOf hash_of shelves state at self.old.content → IsDeskOf state desk.old →
             GoesTo hash_of shelves at state
-                (purged (λ key. shelf_of hash_of shelves key == at) now state)
-                self.new.content desk.new }
+            (purged (λ key. shelf_of hash_of shelves key == at) now state)
+            self.new.content desk.new }
     {
         counts_follow();
         self.purge(now, desk);

@@ -102,7 +102,7 @@ impl<K: KeyHash + Drop> Store<K> {
         ensures hasher { result.hasher ≡ parts.hasher }
         ensures plain { (state : Plain) → IsSetUp parts.settings state →
             ArePartsOf (K.hash_of parts.hasher)
-                state parts.shelves.items parts.settings.shelves parts.desk →
+            state parts.shelves.items parts.settings.shelves parts.desk →
             result.plain ≡ state }
         ensures left { result.left ≡ lefts parts.shelves.items }
     {
@@ -147,7 +147,8 @@ impl<K: KeyHash + Drop> Store<K> {
     pub fn grow(&mut self, shelf: u32, n: usize) -> usize
         ensures moved { result ≡ min n (slice_index self.old.left shelf) }
         ensures left { self.new ≡ record self.old {
-            left = slice_set self.old.left shelf (slice_index self.old.left shelf - result) } }
+          left = slice_set self.old.left shelf (slice_index self.old.left shelf - result);
+        } }
     {
         if shelf < self.parts.settings.shelves {
             let shelf = &mut self.parts.shelves[shelf as usize];
