@@ -1,74 +1,99 @@
--- The steps of a command.
-use Rattle.std.specs.Prelude.{ℕ, Bool, false, List, [], ◌∷◌, map, length, drop, ◌≤◌, All}
+-- The shape of a command, and its steps.
+use Rattle.std.specs.Prelude.{ℕ, ℤ, Bool, true, false, IsTrue, List, [], ◌∷◌, map, length, drop, Option, Some, None, ◌≤◌, All}
 use Rattle.mc_command.specs.declared.command.Command.{Command}
 use Rattle.mc_command.specs.declared.command.Command.TheVariants.{Store, Cas, Get, GetTouch, Touch, Delete, Count, FlushAll, Version, Quit}
 use Rattle.mc_command.specs.declared.step.KeyStep.{KeyStep}
 use Rattle.mc_command.specs.declared.step.KeyStep.TheVariants.{Store as StoreStep, Cas as CasStep, Read as ReadStep, ReadTouch as ReadTouchStep, Touch as TouchStep, Delete as DeleteStep, Count as CountStep, Flush as FlushStep}
 
+-- the step that a retrieval takes of a key: where it has an exptime it sets the item's expiry too
+abbrev pub read_step : Option ℤ → (key : List ℕ) → KeyStep
+read_step None key = ReadStep key
+read_step (Some exptime) key = ReadTouchStep key exptime
+
+-- the retrieval of these keys
+abbrev pub retrieval : Option ℤ → (keys : List (List ℕ)) → (with_unique : Bool) → Command
+retrieval None keys with_unique = Get keys with_unique
+retrieval (Some exptime) keys with_unique = GetTouch exptime keys with_unique
+
+-- What a command asks for: one step, with a block behind its line or without, of which a quiet one's
+-- reply isn't told; a step of each key of a retrieval; an answer without a step; or the end of the
+-- session.
+pub data Shape : Type 0 where
+  Single : KeyStep → (has_block quiet : Bool) → Shape
+  Retrieval : (exptime : Option ℤ) → (keys : List (List ℕ)) → (with_unique : Bool) → Shape
+  Stepless : Shape
+  Parting : Shape
+
+-- a command's shape
+abbrev pub shape : Command → Shape
+shape (Store verb key flags exptime block quiet) =
+    Single (StoreStep verb key flags exptime block) true quiet
+shape (Cas key flags exptime block unique quiet) =
+    Single (CasStep key flags exptime block unique) true quiet
+shape (Get keys with_unique) = Retrieval None keys with_unique
+shape (GetTouch exptime keys with_unique) = Retrieval (Some exptime) keys with_unique
+shape (Touch key exptime quiet) = Single (TouchStep key exptime) false quiet
+shape (Delete key quiet) = Single (DeleteStep key) false quiet
+shape (Count key up by quiet) = Single (CountStep key up by) false quiet
+shape (FlushAll delay quiet) = Single (FlushStep delay) false quiet
+shape Version = Stepless
+shape Quit = Parting
+
+-- what a command of a shape asks of keys, in order
+abbrev pub steps_by : Shape → List KeyStep
+steps_by (Single step has_block quiet) = step ∷ []
+steps_by (Retrieval exptime keys with_unique) = map (λ key. read_step exptime key) keys
+steps_by Stepless = []
+steps_by Parting = []
+
 -- what a command asks of keys, in order
 abbrev pub steps : Command → List KeyStep
-steps (Store verb key flags exptime block quiet) = StoreStep verb key flags exptime block ∷ []
-steps (Cas key flags exptime block unique quiet) = CasStep key flags exptime block unique ∷ []
-steps (Get keys with_unique) = map ReadStep keys
-steps (GetTouch exptime keys with_unique) = map (λ key. ReadTouchStep key exptime) keys
-steps (Touch key exptime quiet) = TouchStep key exptime ∷ []
-steps (Delete key quiet) = DeleteStep key ∷ []
-steps (Count key up by quiet) = CountStep key up by ∷ []
-steps (FlushAll delay quiet) = FlushStep delay ∷ []
-steps Version = []
-steps Quit = []
+steps command = steps_by (shape command)
+
+-- a command of a shape asks one step
+abbrev pub IsSingleBy : Shape → Type 0
+IsSingleBy (Single step has_block quiet) = Unit {0}
+IsSingleBy (Retrieval exptime keys with_unique) = ⊥
+IsSingleBy Stepless = ⊥
+IsSingleBy Parting = ⊥
 
 -- a command that asks one step of one key, or of all
 abbrev pub IsSingle : Command → Type 0
-IsSingle (Store verb key flags exptime block quiet) = Unit {0}
-IsSingle (Cas key flags exptime block unique quiet) = Unit {0}
-IsSingle (Get keys with_unique) = ⊥
-IsSingle (GetTouch exptime keys with_unique) = ⊥
-IsSingle (Touch key exptime quiet) = Unit {0}
-IsSingle (Delete key quiet) = Unit {0}
-IsSingle (Count key up by quiet) = Unit {0}
-IsSingle (FlushAll delay quiet) = Unit {0}
-IsSingle Version = ⊥
-IsSingle Quit = ⊥
+IsSingle command = IsSingleBy (shape command)
+
+-- a block comes after the line of a command of a shape
+abbrev pub HasBlockBy : Shape → Type 0
+HasBlockBy (Single step has_block quiet) = IsTrue has_block
+HasBlockBy (Retrieval exptime keys with_unique) = ⊥
+HasBlockBy Stepless = ⊥
+HasBlockBy Parting = ⊥
 
 -- a block comes after its line
 abbrev pub HasBlock : Command → Type 0
-HasBlock (Store verb key flags exptime block quiet) = Unit {0}
-HasBlock (Cas key flags exptime block unique quiet) = Unit {0}
-HasBlock (Get keys with_unique) = ⊥
-HasBlock (GetTouch exptime keys with_unique) = ⊥
-HasBlock (Touch key exptime quiet) = ⊥
-HasBlock (Delete key quiet) = ⊥
-HasBlock (Count key up by quiet) = ⊥
-HasBlock (FlushAll delay quiet) = ⊥
-HasBlock Version = ⊥
-HasBlock Quit = ⊥
+HasBlock command = HasBlockBy (shape command)
+
+-- a command of a shape ended in noreply
+abbrev pub is_quiet_by : Shape → Bool
+is_quiet_by (Single step has_block quiet) = quiet
+is_quiet_by (Retrieval exptime keys with_unique) = false
+is_quiet_by Stepless = false
+is_quiet_by Parting = false
 
 -- it ended in noreply
 abbrev pub is_quiet : Command → Bool
-is_quiet (Store verb key flags exptime block quiet) = quiet
-is_quiet (Cas key flags exptime block unique quiet) = quiet
-is_quiet (Get keys with_unique) = false
-is_quiet (GetTouch exptime keys with_unique) = false
-is_quiet (Touch key exptime quiet) = quiet
-is_quiet (Delete key quiet) = quiet
-is_quiet (Count key up by quiet) = quiet
-is_quiet (FlushAll delay quiet) = quiet
-is_quiet Version = false
-is_quiet Quit = false
+is_quiet command = is_quiet_by (shape command)
 
--- what is left of a command after so many of its steps: a retrieval of the keys that are left
+-- what is left of a command of a shape: a retrieval of the keys that are left
+abbrev pub after_by : Shape → Command → ℕ → Command
+after_by (Single step has_block quiet) command taken = command
+after_by (Retrieval exptime keys with_unique) command taken =
+    retrieval exptime (drop taken keys) with_unique
+after_by Stepless command taken = command
+after_by Parting command taken = command
+
+-- what is left of a command after so many of its steps
 abbrev pub after_steps : Command → ℕ → Command
-after_steps (Get keys with_unique) taken = Get (drop taken keys) with_unique
-after_steps (GetTouch exptime keys with_unique) taken = GetTouch exptime (drop taken keys) with_unique
-after_steps (Store verb key flags exptime block quiet) taken = Store verb key flags exptime block quiet
-after_steps (Cas key flags exptime block unique quiet) taken = Cas key flags exptime block unique quiet
-after_steps (Touch key exptime quiet) taken = Touch key exptime quiet
-after_steps (Delete key quiet) taken = Delete key quiet
-after_steps (Count key up by quiet) taken = Count key up by quiet
-after_steps (FlushAll delay quiet) taken = FlushAll delay quiet
-after_steps Version taken = Version
-after_steps Quit taken = Quit
+after_steps command taken = after_by (shape command) command taken
 
 -- the key of a step; a flush has none, said as the empty list
 abbrev pub key_of : KeyStep → List ℕ
@@ -81,6 +106,10 @@ key_of (DeleteStep key) = key
 key_of (CountStep key up by) = key
 key_of (FlushStep delay) = []
 
--- no key of the command's steps is longer than 250 bytes
+-- how many bytes a key has at most
+abbrev pub longest_key : ℕ
+longest_key = 250
+
+-- no key of the command's steps is longer than that
 abbrev pub HasShortKeys : Command → Type 0
-HasShortKeys command = All (λ step. length (key_of step) ≤ 250) (steps command)
+HasShortKeys command = All (λ step. length (key_of step) ≤ longest_key) (steps command)

@@ -26,9 +26,11 @@ found_by step now old = without_dead (standing old (key_of step) now) (key_of st
 
 -- two states that have room for the same classes, as a step finds them
 abbrev pub HaveSameRoom : KeyStep → ℕ → Plain → Plain → Type 0
-HaveSameRoom step now a b = (class : ℕ) → has_room (found_by step now a) class ≡ has_room (found_by step now b) class
+HaveSameRoom step now a b =
+    (class : ℕ) → has_room (found_by step now a) class ≡ has_room (found_by step now b) class
 
--- two states that have the same item at a key, and the same of all that isn't a key's and isn't of the pages
+-- two states that have the same item at a key, and the same of all that isn't a key's and isn't of
+-- the pages
 pub record AgreeAt (key : List ℕ) (a b : Plain) : Type 0 where
   pub item : get a.items key ≡ get b.items key
   pub cut : a.cut ≡ b.cut
@@ -60,7 +62,9 @@ chunk_of step now old =
 -- what is written is neither too large nor short of a unique number, and there is no chunk for it
 abbrev pub LacksChunk : Plain → Option ℕ → Type 0
 LacksChunk old None = ⊥
-LacksChunk old (Some charge) = (charge ≤ old.greatest) × (old.next_unique ≢ 2 ^ 64 - 1) × (has_room old (class_holding charge) ≡ false)
+LacksChunk old (Some charge) =
+    (charge ≤ old.greatest) × (old.next_unique ≢ 2 ^ 64 - 1)
+    × (has_room old (class_holding charge) ≡ false)
 
 -- 1 where an item is of the class, and else 0
 abbrev pub of_class : List ℕ → Option Entry → ℕ → ℕ

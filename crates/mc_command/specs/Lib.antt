@@ -6,4 +6,5 @@ pub mod Rows
 pub mod Accounts
 pub mod Items
 pub mod Laws
+pub mod Steps
 pub mod Purge

@@ -10,4 +10,6 @@ is_numeral word = is_nonempty word && all_ascii_digits word
 
 -- the number that the digits write, where it is at most the limit
 abbrev pub number_up_to : ℕ → List ℕ → Option ℕ
-number_up_to limit word = if is_numeral word && nat_le (digits_value 10 word) limit then Some (digits_value 10 word) else None
+number_up_to limit word =
+    let value = digits_value 10 word in
+    if is_numeral word && nat_le value limit then Some value else None

@@ -38,8 +38,9 @@ pub record Entry : Type 0 where
 abbrev pub Items : Type 0
 Items = FinMap (slice_cmp nat_cmp) Entry
 
--- The state: the items, the flush that is waiting or has come, the number that the next write draws, and how many pages
--- each slab class has, class 1 first. Beside them, what no step changes: the greatest charge and the limit of pages.
+-- The state: the items, the flush that is waiting or has come, the number that the next write
+-- draws, and how many pages each slab class has, class 1 first. Beside them, what no step changes:
+-- the greatest charge and the limit of pages.
 pub record Plain : Type 0 where
   pub greatest : ℕ
   pub limit : ℕ
@@ -48,24 +49,44 @@ pub record Plain : Type 0 where
   pub next_unique : ℕ
   pub pages : List ℕ
 
+-- how many slab classes there are
+abbrev pub class_count : ℕ
+class_count = 40
+
 -- a store of no items that never drew a number, and no class of which has a page
 abbrev pub opening : ℕ → ℕ → Plain
-opening limit greatest = record { greatest = greatest; limit = limit; items = empty; cut = None; next_unique = 1; pages = replicate 40 0 }
+opening limit greatest = record {
+  greatest = greatest;
+  limit = limit;
+  items = empty;
+  cut = None;
+  next_unique = 1;
+  pages = replicate class_count 0;
+}
 
--- a step is answered, and leaves a state; or it would draw the last unique number, and changes nothing
+-- a step is answered, and leaves a state; or it would draw the last unique number, and changes
+-- nothing
 pub data Outcome : Type 0 where
   Answered : Reply → Plain → Outcome
   Spent : Outcome
 
--- a chunk holds 48 bytes beside the key and the block
+-- what a chunk holds beside the key and the block, in bytes
+abbrev pub chunk_head : ℕ
+chunk_head = 48
+
+-- how many bytes of a chunk an item takes
 abbrev pub charge : List ℕ → List ℕ → ℕ
-charge key block = 48 + length key + length block
+charge key block = chunk_head + length key + length block
+
+-- the class of that charge
+abbrev pub block_class : List ℕ → List ℕ → ℕ
+block_class key block = class_holding (charge key block)
 
 -- an item's class: that of its charge
 abbrev pub item_class : List ℕ → Entry → ℕ
-item_class key item = class_holding (charge key item.block)
+item_class key item = block_class key item.block
 
--- how many items of a class stand in the map, the dead ones too that aren't dropped yet
+-- how many items of a class are in the map, the dead ones too that aren't dropped yet
 abbrev pub count_of : Items → ℕ → ℕ
 count_of items class = count_by (λ e. item_class e.0 e.1 == class) (entries items)
 
@@ -77,19 +98,26 @@ pages_of old class = slice_index old.pages (class - 1)
 abbrev pub chunks_of : Plain → ℕ → ℕ
 chunks_of old class = pages_of old class * chunks_a_page class
 
--- a chunk of the class can be had: fewer items of it stand than its pages have chunks, or a page is left
+-- a chunk of the class can be had: its items are fewer than its pages' chunks, or a page is left
 abbrev pub has_room : Plain → ℕ → Bool
-has_room old class = nat_lt (count_of old.items class) (chunks_of old class) || nat_lt (sum old.pages) old.limit
+has_room old class =
+    nat_lt (count_of old.items class) (chunks_of old class) || nat_lt (sum old.pages) old.limit
 
 -- a page more for the class, where all its chunks are in use
 abbrev pub with_chunk : Plain → ℕ → Plain
-with_chunk old class = if count_of old.items class == chunks_of old class then record old { pages = slice_set old.pages (class - 1) (pages_of old class + 1) } else old
+with_chunk old class =
+    if count_of old.items class == chunks_of old class
+    then record old { pages = slice_set old.pages (class - 1) (pages_of old class + 1) }
+    else old
 
--- the number that a block is: 1 to 20 digits of a value below 2 ^ 64, followed by any number of spaces and nothing else
+-- the number that a block is: 1 to 20 digits of a value below 2 ^ 64, followed by any number of
+-- spaces and nothing else
 abbrev pub number_of : List ℕ → Option ℕ
 number_of block =
     let digits = take_while is_ascii_digit block in
-    if nat_le (length digits) 20 && list_all is_space (drop (length digits) block) then number_up_to (2 ^ 64 - 1) digits else None
+    if nat_le (length digits) 20 && list_all is_space (drop (length digits) block)
+    then number_up_to (2 ^ 64 - 1) digits
+    else None
 
 -- the number counted up, which wraps at 2 ^ 64, or down, which stops at 0
 abbrev pub counted : Bool → ℕ → ℕ → ℕ
@@ -119,7 +147,8 @@ store_row Prepend flags expiry (Some old) = joined old Prepended
 -- cas
 abbrev pub cas_row : (flags : ℕ) → Expiry → (unique : ℕ) → Option Entry → Row
 cas_row flags expiry unique None = Refuses refusal.NotFound
-cas_row flags expiry unique (Some old) = if old.unique == unique then given flags expiry else Refuses refusal.Exists
+cas_row flags expiry unique (Some old) =
+    if old.unique == unique then given flags expiry else Refuses refusal.Exists
 
 -- get, gets, and with an expiry gat, gats
 abbrev pub read_row : Option Expiry → Option Entry → Row
@@ -146,11 +175,13 @@ abbrev pub count_row : Bool → ℕ → Option Entry → Row
 count_row up by None = Refuses refusal.NotFound
 count_row up by (Some old) = number_row old up by (number_of old.block)
 
--- The protocol's table: the row of a step on a key, by the item that stands under it. A flush is on no key, which is said
--- as one under which nothing stands.
+-- The protocol's table: the row of a step on a key, by the item that stands under it. A flush is on
+-- no key, which is said as one under which nothing stands.
 abbrev pub row_of : KeyStep → ℕ → Option Entry → Row
-row_of (Store verb key flags exptime block) now item = store_row verb flags (expiry_of exptime now) item
-row_of (Cas key flags exptime block unique) now item = cas_row flags (expiry_of exptime now) unique item
+row_of (Store verb key flags exptime block) now item =
+    store_row verb flags (expiry_of exptime now) item
+row_of (Cas key flags exptime block unique) now item =
+    cas_row flags (expiry_of exptime now) unique item
 row_of (Read key) now item = read_row None item
 row_of (ReadTouch key exptime) now item = read_row (Some (expiry_of exptime now)) item
 row_of (Touch key exptime) now item = touch_row (expiry_of exptime now) item
@@ -189,7 +220,8 @@ block_of (Delete key) = []
 block_of (Count key up by) = []
 block_of (Flush delay) = []
 
--- the block that a write puts under the key, by the one that the step brings and the item that stands
+-- the block that a write puts under the key, by the one that the step brings and the item that
+-- stands
 abbrev pub written_block : Body → List ℕ → Option Entry → List ℕ
 written_block Given block item = block
 written_block Appended block None = block
@@ -204,7 +236,8 @@ keeps_chunk Given key item = false
 keeps_chunk Appended key item = false
 keeps_chunk Prepended key item = false
 keeps_chunk (Counted number) key None = false
-keeps_chunk (Counted number) key (Some old) = item_class key old == class_holding (charge key (decimal number))
+keeps_chunk (Counted number) key (Some old) =
+    item_class key old == block_class key (decimal number)
 
 -- an item that isn't dead
 abbrev pub alive : Option ℕ → ℕ → Option Entry → Option Entry
@@ -227,24 +260,35 @@ without_dead (Some item) key old = old
 -- the state with this item under the key, under the next unique number
 abbrev pub written : Plain → List ℕ → (flags : ℕ) → Expiry → (block : List ℕ) → ℕ → Plain
 written old key flags expiry block now = record old {
-  items = insert old.items key (record { flags = flags; expiry = expiry; block = block; unique = old.next_unique; updated = now });
+  items = insert old.items key (record {
+    flags = flags;
+    expiry = expiry;
+    block = block;
+    unique = old.next_unique;
+    updated = now;
+  });
   next_unique = old.next_unique + 1;
 }
 
--- A write, of an item that stays in the old one's chunk or takes one of its class. It is asked first whether the charge is at
--- most the greatest, then whether a unique number is left, and then, of one that takes a chunk, whether one can be had.
-abbrev pub wrote : (stays : Bool) → Reply → List ℕ → (flags : ℕ) → Expiry → (block : List ℕ) → Plain → ℕ → Outcome
+-- A write, of an item that stays in the old one's chunk or takes one of its class. It is asked
+-- first whether the charge is at most the greatest, then whether a unique number is left, and then,
+-- of one that takes a chunk, whether one can be had.
+abbrev pub wrote
+    : (stays : Bool) → Reply → List ℕ → (flags : ℕ) → Expiry → (block : List ℕ) → Plain → ℕ
+    → Outcome
 wrote stays reply key flags expiry block old now =
     if nat_lt old.greatest (charge key block) then Answered TooLarge old
     else if old.next_unique == 2 ^ 64 - 1 then Spent
     else if stays then Answered reply (written old key flags expiry block now)
-    else if has_room old (class_holding (charge key block)) then Answered reply (written (with_chunk old (class_holding (charge key block))) key flags expiry block now)
+    else if has_room old (block_class key block) then
+    Answered reply (written (with_chunk old (block_class key block)) key flags expiry block now)
     else Answered NoChunk old
 
 -- the key's item with another expiry, if there is one
 abbrev pub expiring : Option Entry → List ℕ → Expiry → Plain → Plain
 expiring None key expiry old = old
-expiring (Some item) key expiry old = record old { items = insert old.items key (record item { expiry = expiry }) }
+expiring (Some item) key expiry old =
+    record old { items = insert old.items key (record item { expiry = expiry }) }
 
 -- the same where an expiry is given
 abbrev pub perhaps_expiring : Option Entry → List ℕ → Option Expiry → Plain → Plain
@@ -254,20 +298,27 @@ perhaps_expiring item key (Some expiry) old = expiring item key expiry old
 -- what a row does at a step's key, where this item stands and a dead one is dropped
 abbrev pub changed : Row → KeyStep → Option Entry → Plain → ℕ → Outcome
 changed (Refuses refusal) step item old now = Answered (refusal_reply refusal) old
-changed (Reads expiry) step item old now = Answered (hit_of item) (perhaps_expiring item (key_of step) expiry old)
-changed (Touches expiry) step item old now = Answered Touched (expiring item (key_of step) expiry old)
-changed Deletes step item old now = Answered Deleted (record old { items = remove old.items (key_of step) })
+changed (Reads expiry) step item old now =
+    Answered (hit_of item) (perhaps_expiring item (key_of step) expiry old)
+changed (Touches expiry) step item old now =
+    Answered Touched (expiring item (key_of step) expiry old)
+changed Deletes step item old now =
+    Answered Deleted (record old { items = remove old.items (key_of step) })
 changed (Writes draft) step item old now =
-    wrote (keeps_chunk draft.body (key_of step) item) (write_reply draft.body) (key_of step) draft.flags draft.expiry (written_block draft.body (block_of step) item) old now
+    let key = key_of step in
+    wrote (keeps_chunk draft.body key item) (write_reply draft.body) key draft.flags draft.expiry
+    (written_block draft.body (block_of step) item) old now
 
--- a step at its key: the key's dead item is dropped, and then the step's row applies to the item that stands
+-- a step at its key: the key's dead item is dropped, and then the step's row applies to the item
+-- that stands
 abbrev pub stepped : Plain → KeyStep → ℕ → Outcome
 stepped old step now =
     let item = standing old (key_of step) now in
     changed (row_of step now item) step item (without_dead item (key_of step) old) now
 
--- A flush at once leaves no item and no flush that waits. One with a delay drops what is dead, and from its moment on what
--- was updated before that is dead too; it takes the place of a flush that waits.
+-- A flush at once leaves no item and no flush that waits. One with a delay drops what is dead, and
+-- from its moment on what was updated before that is dead too; it takes the place of a flush that
+-- waits.
 abbrev pub flushed : ℕ → Plain → ℕ → Plain
 flushed delay old now =
     if delay == 0 then record old { items = empty; cut = None }
@@ -275,8 +326,10 @@ flushed delay old now =
 
 -- one step at a moment
 abbrev pub plain : Plain → KeyStep → ℕ → Outcome
-plain old (Store verb key flags exptime block) now = stepped old (Store verb key flags exptime block) now
-plain old (Cas key flags exptime block unique) now = stepped old (Cas key flags exptime block unique) now
+plain old (Store verb key flags exptime block) now =
+    stepped old (Store verb key flags exptime block) now
+plain old (Cas key flags exptime block unique) now =
+    stepped old (Cas key flags exptime block unique) now
 plain old (Read key) now = stepped old (Read key) now
 plain old (ReadTouch key exptime) now = stepped old (ReadTouch key exptime) now
 plain old (Touch key exptime) now = stepped old (Touch key exptime) now
@@ -319,18 +372,36 @@ moment_expiry-expiry_moment Never = refl
 moment_expiry-expiry_moment (At moment) = refl
 
 abbrev pub coded_expiry : Coded Expiry
-coded_expiry = code_by (Option ℕ) (coded_option coded_ℕ) expiry_moment moment_expiry moment_expiry-expiry_moment
+coded_expiry =
+    code_by (Option ℕ) (coded_option coded_ℕ) expiry_moment moment_expiry
+    moment_expiry-expiry_moment
 
 abbrev pub coded_entry : Coded Entry
 coded_entry =
-    code_by (ℕ × (Expiry × (List ℕ × (ℕ × ℕ)))) (coded× coded_ℕ (coded× coded_expiry (coded× (coded_list coded_ℕ) (coded× coded_ℕ coded_ℕ))))
+    code_by (ℕ × (Expiry × (List ℕ × (ℕ × ℕ))))
+    (coded× coded_ℕ (coded× coded_expiry (coded× (coded_list coded_ℕ) (coded× coded_ℕ coded_ℕ))))
     (λ e. (e.flags, (e.expiry, (e.block, (e.unique, e.updated)))))
-    (λ p. record { flags = p.0; expiry = p.1.0; block = p.1.1.0; unique = p.1.1.1.0; updated = p.1.1.1.1 })
+    (λ p. record {
+      flags = p.0;
+      expiry = p.1.0;
+      block = p.1.1.0;
+      unique = p.1.1.1.0;
+      updated = p.1.1.1.1;
+    })
     (λ _. refl)
 
 abbrev pub coded_plain : Coded Plain
 coded_plain =
-    code_by (ℕ × (ℕ × (Items × (Option ℕ × (ℕ × List ℕ))))) (coded× coded_ℕ (coded× coded_ℕ (coded× (code (coded_list coded_ℕ) coded_entry) (coded× (coded_option coded_ℕ) (coded× coded_ℕ (coded_list coded_ℕ))))))
+    code_by (ℕ × (ℕ × (Items × (Option ℕ × (ℕ × List ℕ)))))
+    (coded× coded_ℕ (coded× coded_ℕ (coded× (code (coded_list coded_ℕ) coded_entry)
+    (coded× (coded_option coded_ℕ) (coded× coded_ℕ (coded_list coded_ℕ))))))
     (λ s. (s.greatest, (s.limit, (s.items, (s.cut, (s.next_unique, s.pages))))))
-    (λ p. record { greatest = p.0; limit = p.1.0; items = p.1.1.0; cut = p.1.1.1.0; next_unique = p.1.1.1.1.0; pages = p.1.1.1.1.1 })
+    (λ p. record {
+      greatest = p.0;
+      limit = p.1.0;
+      items = p.1.1.0;
+      cut = p.1.1.1.0;
+      next_unique = p.1.1.1.1.0;
+      pages = p.1.1.1.1.1;
+    })
     (λ _. refl)

@@ -5,4 +5,7 @@ use Rattle.mc_command.specs.Plain.{Plain, alive}
 
 -- the state without the items that are dead at the moment and whose keys are meant
 abbrev pub purged : (List ℕ → Bool) → ℕ → Plain → Plain
-purged meant now old = record old { items = retain_keys old.items (λ key. not (meant key) || is_some (alive old.cut now (get old.items key))) }
+purged meant now old = record old {
+  items = retain_keys old.items
+      (λ key. not (meant key) || is_some (alive old.cut now (get old.items key)));
+}

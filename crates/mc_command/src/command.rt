@@ -64,7 +64,8 @@ pub enum Command<'a> {
     Quit,
 }
 
-/// How many steps the command has: one a key for a retrieval, none for version and quit, one for every other.
+/// Counts the steps of a command: one a key for a retrieval, none for version and quit, one for
+/// every other.
 pub fn steps_of(command: &Command<'_>) -> usize
     ensures { result ≡ length (steps command.now) }
 {
@@ -75,7 +76,7 @@ pub fn steps_of(command: &Command<'_>) -> usize
     }
 }
 
-/// Whether the command ended in `noreply`.
+/// Tells whether a command ended in `noreply`.
 pub fn is_quiet(command: &Command<'_>) -> bool
     ensures { result ≡ is_quiet command.now }
 {
@@ -90,7 +91,7 @@ pub fn is_quiet(command: &Command<'_>) -> bool
     }
 }
 
-/// Step `at` of the command, counted from 0.
+/// Lends step `at` of a command, counted from 0.
 pub fn step_at<'a>(command: &Command<'a>, at: usize) -> KeyStep<'a>
     requires { at < length (steps command.now) }
     ensures { slice_get (steps command.now) at ≡ Some result }
@@ -117,7 +118,7 @@ fn key_at<'a>(keys: &Keys<'a>, at: usize) -> Bytes<'a>
     }
 }
 
-/// The step of a command that has just one.
+/// Lends the step of a command that has just one.
 fn only_step<'a>(command: &Command<'a>) -> KeyStep<'a>
     requires { IsSingle command.now }
     ensures { steps command.now ≡ result ∷ [] }
@@ -142,7 +143,7 @@ fn only_step<'a>(command: &Command<'a>) -> KeyStep<'a>
     }
 }
 
-/// The step of a command that a block comes after.
+/// Lends the step of a command that a block comes after.
 fn block_step<'a>(command: &Command<'a>) -> KeyStep<'a>
     requires { HasBlock command.now }
     ensures { steps command.now ≡ result ∷ [] }

@@ -1,4 +1,5 @@
-/// What is wrong with a line, or with the block behind it. Where several are, the first of these is told.
+/// What is wrong with a line, or with the block behind it. Where several are, the first of these is
+/// told.
 #[derive(Clone, Copy, Debug, PartialEq, Eq)]
 pub enum LineFault {
     /// The line has no word, an unknown name, or another number of words than its command.

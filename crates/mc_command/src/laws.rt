@@ -10,65 +10,80 @@ ghost use Rattle.mc_command.specs.Commands.{key_of};
 ghost use Rattle.mc_command.specs.Plain.{Plain, Items, Entry, plain, alive, standing, count_of, pages_of, Answered};
 ghost use Rattle.mc_command.specs.Laws.{IsOnKey, AgreeAt, AgreeAfter, HaveSameRoom, found_by, chunk_of, LacksChunk, of_class};
 
-/// A step on one key leaves the items under other keys as they are.
+/// States that a step on one key leaves the items under other keys as they are.
 pub fn other_keys_stay()
     ensures { (old new : Plain) (step : KeyStep) (now : ℕ) (reply : Reply) (other : List ℕ) →
-        IsOnKey step → plain old step now ≡ Answered reply new → other ≢ key_of step → get new.items other ≡ get old.items other }
+        IsOnKey step → plain old step now ≡ Answered reply new → other ≢ key_of step →
+        get new.items other ≡ get old.items other }
 {}
 
-/// A step on one key depends on that key's item, the cut, the next unique number, the greatest charge, and for which
-/// classes there is room: states that agree there give one answer, and agree at the key and in those numbers after it.
+/// States that a step on one key depends on that key's item, the cut, the next unique number, the
+/// greatest charge, and for which classes there is room: states that agree there give one answer,
+/// and agree at the key and in those numbers after it.
 pub fn one_key_decides()
     ensures { (a b : Plain) (step : KeyStep) (now : ℕ) →
-        IsOnKey step → AgreeAt (key_of step) a b → HaveSameRoom step now a b → AgreeAfter (key_of step) (plain a step now) (plain b step now) }
+        IsOnKey step → AgreeAt (key_of step) a b → HaveSameRoom step now a b →
+        AgreeAfter (key_of step) (plain a step now) (plain b step now) }
 {}
 
-/// A step is refused for want of a chunk exactly where what it writes takes one, is not too large, can draw a unique
-/// number, and finds no room. Nothing changes then, but that a dead item of the key is dropped.
+/// States that a step is refused for want of a chunk exactly where what it writes takes one, is not
+/// too large, can draw a unique number, and finds no room. Nothing changes then, but that a dead
+/// item of the key is dropped.
 pub fn refused_without_room()
     ensures exactly { (old : Plain) (step : KeyStep) (now : ℕ) →
-        IsOnKey step → (plain old step now ≡ Answered Reply.NoChunk (found_by step now old)) ↔ LacksChunk (found_by step now old) (chunk_of step now old) }
+        IsOnKey step → (plain old step now ≡ Answered Reply.NoChunk (found_by step now old))
+        ↔ LacksChunk (found_by step now old) (chunk_of step now old) }
     ensures unchanged { (old new : Plain) (step : KeyStep) (now : ℕ) →
         plain old step now ≡ Answered Reply.NoChunk new → new ≡ found_by step now old }
 {}
 
-/// No step takes a page from a class, changes the limit, or has more pages than the limit.
+/// States that no step takes a page from a class, changes the limit, or has more pages than the
+/// limit.
 pub fn pages_stay()
     ensures never_fall { (old new : Plain) (step : KeyStep) (now : ℕ) (reply : Reply) (class : ℕ) →
         plain old step now ≡ Answered reply new → pages_of old class ≤ pages_of new class }
     ensures limit { (old new : Plain) (step : KeyStep) (now : ℕ) (reply : Reply) →
         plain old step now ≡ Answered reply new → new.limit ≡ old.limit }
     ensures within { (old new : Plain) (step : KeyStep) (now : ℕ) (reply : Reply) →
-        plain old step now ≡ Answered reply new → sum old.pages ≤ old.limit → sum new.pages ≤ new.limit }
+        plain old step now ≡ Answered reply new →
+        sum old.pages ≤ old.limit → sum new.pages ≤ new.limit }
 {}
 
-/// How many items of a class stand, after each change of the items: an item that is put takes the place of the key's old
-/// one, and one that is taken out counts no more.
+/// States how many items of a class there are after each change of the items: an item that is put
+/// takes the place of the key's old one, and one that is taken out counts no more.
 pub fn counts_follow()
     ensures empty { (class : ℕ) → count_of empty class ≡ 0 }
     ensures insert { (items : Items) (key : List ℕ) (item : Entry) (class : ℕ) →
-        count_of (insert items key item) class + of_class key (get items key) class ≡ count_of items class + of_class key (Some item) class }
+        count_of (insert items key item) class + of_class key (get items key) class
+        ≡ count_of items class + of_class key (Some item) class }
     ensures remove { (items : Items) (key : List ℕ) (class : ℕ) →
-        count_of (remove items key) class + of_class key (get items key) class ≡ count_of items class }
+        count_of (remove items key) class + of_class key (get items key) class
+        ≡ count_of items class }
     ensures retain { (items : Items) (keep : List ℕ → Bool) (class : ℕ) →
         count_of (retain_keys items keep) class ≤ count_of items class }
     ensures parted { (items : Items) (meant : List ℕ → Bool) (class : ℕ) →
-        count_of items class ≡ count_of (retain_keys items meant) class + count_of (retain_keys items (λ key. not (meant key))) class }
+        count_of items class
+        ≡ count_of (retain_keys items meant) class
+        + count_of (retain_keys items (λ key. not (meant key))) class }
 {}
 
-/// An item that is dead stays so, while nothing changes it and no flush comes.
+/// States that an item that is dead stays so, while nothing changes it and no flush comes.
 pub fn the_dead_stay_dead()
     ensures { (expiry : Expiry) (updated : ℕ) (cut : Option ℕ) (now later : ℕ) →
-        now ≤ later → is_dead expiry updated cut now ≡ true → is_dead expiry updated cut later ≡ true }
+        now ≤ later → is_dead expiry updated cut now ≡ true →
+        is_dead expiry updated cut later ≡ true }
 {}
 
-/// A flush at once leaves no item. One with a delay leaves those that are alive, and none of them stands at its moment
-/// or later while it was updated before that.
+/// States that a flush at once leaves no item. One with a delay leaves those that are alive, and
+/// none of them stands at its moment or later while it was updated before that.
 pub fn flushes_empty()
     ensures once { (old new : Plain) (now : ℕ) (reply : Reply) (key : List ℕ) →
         plain old (KeyStep.Flush 0) now ≡ Answered reply new → get new.items key ≡ None }
     ensures kept { (old new : Plain) (delay now : ℕ) (reply : Reply) (key : List ℕ) →
-        0 < delay → plain old (KeyStep.Flush delay) now ≡ Answered reply new → get new.items key ≡ alive old.cut now (get old.items key) }
+        0 < delay → plain old (KeyStep.Flush delay) now ≡ Answered reply new →
+        get new.items key ≡ alive old.cut now (get old.items key) }
     ensures later { (old new : Plain) (delay now later : ℕ) (reply : Reply) (item : Entry) →
-        0 < delay → plain old (KeyStep.Flush delay) now ≡ Answered reply new → moment_named delay now ≤ later → item.updated < moment_named delay now → alive new.cut later (Some item) ≡ None }
+        0 < delay → plain old (KeyStep.Flush delay) now ≡ Answered reply new →
+        moment_named delay now ≤ later → item.updated < moment_named delay now →
+        alive new.cut later (Some item) ≡ None }
 {}

@@ -5,7 +5,8 @@ ghost use Rattle.mc_command.specs.Words.{is_space};
 ghost use Rattle.mc_command.specs.Numbers.{number_up_to};
 ghost use Rattle.mc_command.specs.Plain.{number_of, counted};
 
-/// The number that one or more decimal digits write, where it is at most `limit`. Leading zeros are allowed.
+/// Reads the number that one or more decimal digits write; none where another byte is there, or
+/// where the number is above `limit`. Leading zeros are allowed. The cost grows with the length.
 pub fn number_up_to(limit: u64, word: &[u8]) -> Option<u64>
     ensures { result ≡ number_up_to limit word.now }
 {
@@ -24,8 +25,8 @@ pub fn number_up_to(limit: u64, word: &[u8]) -> Option<u64>
     if number <= limit { Some(number) } else { None }
 }
 
-/// The number that a block is: 1 to 20 digits of a value below 2^64, and then any number of spaces and nothing else. The cost
-/// grows with its length.
+/// Reads the number that a block is: 1 to 20 digits of a value below 2^64, and then any number of
+/// spaces and nothing else; none of any other block. The cost grows with its length.
 pub fn number_of(block: &[u8]) -> Option<u64>
     ensures { result ≡ number_of block.now }
 {
@@ -37,21 +38,22 @@ pub fn number_of(block: &[u8]) -> Option<u64>
     }
 }
 
-/// How many digits a text begins with.
+/// Counts the digits that a text begins with.
 fn digits_len(text: &[u8]) -> usize
     ensures { result ≡ length (take_while is_ascii_digit text.now) }
 {
     text.iter().take_while(|byte| byte.is_ascii_digit()).count()
 }
 
-/// Whether a text has nothing but spaces.
+/// Tells whether a text has nothing but spaces.
 fn is_blank(text: &[u8]) -> bool
     ensures { result ≡ list_all is_space text.now }
 {
     text.iter().all(|byte| *byte == b' ')
 }
 
-/// What a number becomes by incr, which wraps at 2^64, or by decr, which stops at 0 (protocol.txt, "Increment/Decrement").
+/// Counts a number up by incr, which wraps at 2^64, or down by decr, which stops at 0
+/// (protocol.txt, "Increment/Decrement").
 pub fn counted(up: bool, by: u64, old: u64) -> u64
     ensures { result ≡ counted up by old }
 {

@@ -113,9 +113,9 @@ pub trait Standing {
         ensures { result.now ≡ (entry_of self.now).block };
 }
 
-/// Finds the row of a step by the item that stands under its key. A flush is on no key, which is
-/// answered as one under which nothing stands. The cost is that of a few comparisons, and of reading
-/// the digits of a number that is to be counted.
+/// Finds the row of a step by the item that stands under its key, at a moment. A flush is on no
+/// key, which is answered as one under which nothing stands. It takes no memory; the cost is that
+/// of a few comparisons, and of reading the digits of a number that is to be counted.
 pub fn row_of<T: Standing>(step: &KeyStep<'_>, item: Option<&T>, now: Moment) -> Row
     ensures { result ≡ machine.row_of step.now now (standing_in T.entry_of item.entry) }
 {

@@ -130,18 +130,19 @@ pub trait Steps {
     ghost use Rattle.std.specs.Prelude.{◌≡◌, ◌≤◌, ℕ, length, IfOk, OnErr, Err};
     ghost use Rattle.mc_command.specs.declared.step.KeyStep.{KeyStep};
     ghost use Rattle.mc_command.specs.declared.reply.Reply.{Reply};
-    ghost use Rattle.mc_command.specs.Commands.{key_of};
+    ghost use Rattle.mc_command.specs.Commands.{key_of, longest_key};
 
     /// The step may be taken at that moment with that reply, from one state to the other.
     ghost took: { Self → KeyStep → ℕ → Reply → Self → Type 0 };
     /// The unique numbers that the step needs at that moment are spent.
     ghost spent: { Self → KeyStep → ℕ → Type 0 };
-    /// No step is answered differently by the one than by the other: what they hold is the same, though how may differ.
+    /// No step is answered differently by the one than by the other: what they hold is the same,
+    /// though how may differ.
     ghost same: { Self → Self → Type 0 };
 
     /// Takes one step on one key. Where it isn't taken, what the store holds is the same.
     fn step(&mut self, alloc: Global, step: &KeyStep<'_>, now: Moment) -> Result<Reply, StepFault>
-        requires { length (key_of step.now) ≤ 250 }
+        requires { length (key_of step.now) ≤ longest_key }
         ensures took { IfOk result (λ reply. took self.old step.now now reply self.new) }
         ensures spent { result ≡ Err StepFault.NumbersSpent → spent self.old step.now now }
         ensures err { OnErr result (same self.old self.new) };

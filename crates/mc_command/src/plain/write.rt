@@ -1,0 +1,150 @@
+//! How the plain store writes: it finds out first whether the write can be made, and copies the
+//! block only then.
+
+ghost use Rattle.std.specs.Prelude.{◌≡◌, ◌≢◌, ◌-◌, ◌^◌, ◌==◌, nat_lt, true, if◌then◌else◌, Some, None, IsTrue, OnOk, OnErr};
+ghost use Rattle.std.specs.FinMap.{get};
+ghost use Rattle.mc_slab.specs.Classes.{IsClass};
+ghost use Rattle.mc_command.specs.Laws.{of_class};
+ghost use Rattle.mc_command.specs.Plain.{charge, block_class, has_room, CopiesBlock};
+ghost use Rattle.mc_command.specs.Steps.{Ends, Prepares, IsReady, StaysIn};
+ghost use Rattle.mc_command.specs.Steps.{found, writing, rewritten, placed, done};
+
+use crate::plain::PlainStore;
+use crate::plain::item::{Item, LentWrite, Written};
+use crate::reply::Reply;
+use crate::step::StepFault;
+use mc_slab::Class;
+use mc_time::Moment;
+use std::alloc::{AllocError, Global};
+
+/// What comes of a write, once it is known whether it can be made.
+#[derive(Drop)]
+pub(crate) enum Next {
+    /// Nothing is written, and this is answered.
+    Answer(Reply),
+    /// It goes into the chunk of the item that stands, and this is answered.
+    Rewrite(Reply, Written),
+    /// It takes a chunk of that class, and this is answered.
+    Place(Reply, Class, Written),
+}
+
+impl PlainStore {
+    /// Finds the class that holds a write; none where its charge is above the greatest.
+    fn class_for(&self, key: &[u8], write: &LentWrite<'_>) -> Option<Class>
+        ensures { result ≡ (if nat_lt self.now.greatest (charge key.now write.now.block) then None
+            else Some (block_class key.now write.now.block)) }
+    {
+        if self.greatest < write.charge(key) {
+            return None;
+        }
+        write.class(key)
+    }
+
+    /// Tells whether no unique number is left.
+    fn is_spent(&self) -> bool
+        ensures { result ≡ (self.now.next_unique == 2 ^ 64 - 1) }
+    {
+        self.next_unique == u64::MAX
+    }
+
+    /// Finds out what comes of a write, and makes its block where it can be made: its charge is not
+    /// too large, a unique number is left, and it has a chunk. A write that `stays` goes into the
+    /// chunk of the item that stands.
+    pub(super) fn prepared(
+        &self,
+        alloc: Global,
+        key: &[u8],
+        write: &LentWrite<'_>,
+        stays: bool,
+        reply: Reply,
+        now: Moment,
+    ) -> Result<Next, StepFault>
+        requires reply { CopiesBlock reply }
+        requires stays { stays ≡ true → StaysIn self.now key.now write.now now }
+        ensures { Prepares (writing stays reply write.now key.now self.now now)
+            result key.now self.now now }
+    {
+        let Some(class) = self.class_for(key, write) else {
+            return Ok(Next::Answer(Reply::TooLarge));
+        };
+        if self.is_spent() {
+            return Err(StepFault::NumbersSpent);
+        }
+        if stays {
+            return Ok(Next::Rewrite(reply, write.made(alloc)?));
+        }
+        if !self.has_room(key, class, now) {
+            return Ok(Next::Answer(Reply::NoChunk));
+        }
+        Ok(Next::Place(reply, class, write.made(alloc)?))
+    }
+
+    /// Does what comes of a write. Where nothing is written, the key's dead item is dropped.
+    pub(super) fn finish(
+        &mut self,
+        alloc: Global,
+        key: &[u8],
+        next: Next,
+        now: Moment,
+    ) -> Result<Reply, StepFault>
+        requires { IsReady next key.now self.old now }
+        ensures { Ends (done next key.now self.old now) result self.old self.new }
+    {
+        match next {
+            Next::Answer(reply) => {
+                self.drop_dead(key, now);
+                Ok(reply)
+            }
+            Next::Rewrite(reply, written) => {
+                self.put_in_place(key, written, now);
+                Ok(reply)
+            }
+            Next::Place(reply, class, written) => {
+                self.put(alloc, key, class, written, now)?;
+                Ok(reply)
+            }
+        }
+    }
+
+    /// Writes in a chunk of the class, in place of the key's old item, dead or not. Refused, it
+    /// changes nothing.
+    fn put(
+        &mut self,
+        alloc: Global,
+        key: &[u8],
+        class: Class,
+        written: Written,
+        now: Moment,
+    ) -> Result<(), AllocError>
+        requires class { class ≡ block_class key.now written.block }
+        requires is_class { IsClass class }
+        requires room { IsTrue (has_room (found key.now self.old now) class) }
+        requires number { self.old.next_unique ≢ 2 ^ 64 - 1 }
+        ensures placed { OnOk result (self.new ≡ placed written key.now self.old now) }
+        ensures err { OnErr result (self.new ≡ self.old) }
+    {
+        let dead = self.dead_class(key, now);
+        let replaced = self.standing_class(key, now);
+        let bytes = Vec::from_slice(alloc, key)?;
+        let item = Item::of(written, self.next_unique, now);
+        let _ = self.items.insert(bytes, item)?;
+        self.accounts.give(dead);
+        self.accounts.take(class);
+        self.accounts.give(replaced);
+        self.next_unique += 1;
+        Ok(())
+    }
+
+    /// Writes in the chunk of the item that stands under the key, whose class stays. It takes no
+    /// memory.
+    fn put_in_place(&mut self, key: &[u8], written: Written, now: Moment)
+        requires class { of_class key.now (get self.old.items key.now)
+            (block_class key.now written.block) ≡ 1 }
+        requires number { self.old.next_unique ≢ 2 ^ 64 - 1 }
+        ensures { self.new ≡ rewritten written key.now self.old now }
+    {
+        let item = self.items.get_mut(key).unwrap();
+        *item = Item::of(written, self.next_unique, now);
+        self.next_unique += 1;
+    }
+}
