@@ -9,5 +9,6 @@ pub mod RefusalLemmas
 pub mod AnswerLemmas
 pub mod SweepLemmas
 pub mod AloneLemmas
-pub mod UnionLemmas
+pub mod PartLemmas
+pub mod FlushLemmas
 pub mod StoreLemmas

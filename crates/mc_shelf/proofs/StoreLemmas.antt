@@ -1,212 +1,181 @@
--- What sweeps of one shelf after another, and a flush, make of the plain machine's state.
-use Rattle.std.proofs.Common.{◌≡◌, ◌≢◌, ℕ, zero, suc, ◌+◌, ◌-◌, ◌<◌, ◌≤◌, Bool, true, false, ◌||◌, not, cond, List, [], ◌∷◌, ◌++◌, length, map, replicate, Option, Some, None, is_some, eqb, ltb, refl, sym, ap, subst, ◌∙◌, arith, eqb-true, eq-eqb, lt-ltb, le-ltb, ltb-true, ltb-false, true≢false}
-use Rattle.std.specs.Prelude.{slice_get}
+-- A store: what a change of one of its shelves, or of all, makes of the state that its parts keep.
+use Rattle.std.proofs.Common.{◌≡◌, ℕ, zero, suc, ◌-◌, ◌^◌, ◌<◌, Bool, true, false, cond, eqb, ltb, List, [], ◌∷◌, length, map, replicate, Option, Some, None, slice_get, slice_index, slice_index_or, slice_set, refl, sym, ap, subst, ◌∙◌, arith, Result, Ok, Err, IfOk, OnErr}
 use Rattle.std.specs.Option.{option_map}
-use Rattle.std.proofs.lemmas.List.{get_or-replicate, length-map, length-replicate}
-use Rattle.std.proofs.lemmas.Option.{get_or_from_slice_get, slice_get-map, slice_get_within, same_Some}
-use Rattle.std.specs.Ordering.{nat_cmp}
-use Rattle.std.specs.Cmp.Lexicographic.{slice_cmp, nat_list_cmp_total}
-use Rattle.std.specs.FinMap.{entries, empty, from_entries, len-empty, len-entries, get, retain_keys, get-retain_keys, get-empty, same_map, slice_cmp-IsAntisymmetric, nat_cmp-IsAntisymmetric, IsAntisymmetric}
+use Rattle.std.proofs.lemmas.List.{get_or-replicate, length-map, length-replicate, map-set}
+use Rattle.std.proofs.lemmas.Option.{get_or_from_slice_get, slice_get-map, slice_get_read, same_Some}
+use Rattle.std.specs.FinMap.{get, get-empty, empty}
 use Rattle.mc_slab.specs.Slabs.{untouched, out_of}
-use Rattle.mc_command.specs.Plain.{Plain, Items, Entry, alive, count_of, opening}
-use Rattle.mc_command.specs.Purge.{purged}
-use Rattle.mc_shelf.specs.States.{ShelfState, DeskState}
-use Rattle.mc_shelf.specs.Unions.{all_entries, all_items, plain_of, AreShelves, without}
-use Rattle.mc_shelf.specs.declared.shelves.Shelves.{Shelves}
+use Rattle.mc_command.specs.declared.row.Row.{Row}
+use Rattle.mc_command.specs.declared.row.Row.TheVariants.{Refuses, Reads, Touches, Deletes, Writes}
+use Rattle.mc_command.specs.declared.step.KeyStep.{KeyStep}
+use Rattle.mc_command.specs.declared.step.KeyStep.TheVariants.{Store, Cas, Read, ReadTouch, Touch, Delete, Count, Flush}
+use Rattle.mc_command.specs.declared.step.StepFault.{StepFault}
+use Rattle.mc_command.specs.declared.reply.Reply.{Reply}
+use Rattle.mc_command.specs.Commands.{key_of}
+use Rattle.mc_command.specs.Laws.{IsOnKey}
+use Rattle.mc_slab.specs.Classes.{class_holding}
+use Rattle.mc_command.specs.Plain.{Answered, Spent, Entry, Outcome, Plain, alive, block_of, changed, charge, count_of, has_room, keeps_chunk, opening, plain, row_of, stepped, without_dead, written_block}
+use Rattle.mc_shelf.specs.States.{ShelfContent, ShelfState, DeskState, IsAt, nothing_held}
+use Rattle.mc_shelf.specs.Plans.{IsTaken, IsSpent}
+use Rattle.mc_shelf.specs.Parts.{shelf_of, IsShelfOf, IsDeskOf, ArePartsOf, GoesTo, GoesByStep}
+use Rattle.mc_shelf.specs.Unions.{lefts, plain_of}
+use Rattle.mc_shelf.specs.Stores.{IsSetUp}
+use Rattle.mc_shelf.specs.declared.store.Settings.{Settings}
+use Rattle.mc_shelf.proofs.IndexLemmas.{order}
+use Rattle.mc_shelf.proofs.PartLemmas.{parts_go, plain_is, are_kept}
 
-exact : IsAntisymmetric (slice_cmp nat_cmp)
-exact = slice_cmp-IsAntisymmetric nat_cmp-IsAntisymmetric
+-- ---- a new store
 
--- items that answer alike are the same
-same_items : (a b : Items) → ((key : List ℕ) → get a key ≡ get b key) → a ≡ b
-same_items a b alike = same_map nat_list_cmp_total exact a b alike
+of_replicate : {A : Type 0} (n k : ℕ) (x y : A) → slice_get (replicate n x) k ≡ Some y → y ≡ x
+of_replicate zero k x y there = cc
+of_replicate (suc n) zero x y there = sym (same_Some x y there)
+of_replicate (suc n) (suc k) x y there = of_replicate n k x y there
 
--- what is kept under a key
-get_kept : (items : Items) (keep : List ℕ → Bool) (key : List ℕ) → get (retain_keys items keep) key ≡ cond (keep key) (get items key) None
-get_kept items keep key = get-retain_keys items keep key (λ x same. ap keep (sym (exact key x same)))
+pub new_parts : {hash_of : List ℕ → ℕ} {count pages greatest : ℕ} {list : List ShelfState} {desk : DeskState} → 0 < count → ((class : ℕ) → count_of empty class ≡ 0)
+    → map (λ shelf. shelf.content) list ≡ replicate count (nothing_held greatest) → desk ≡ record { slab = untouched pages; next_unique = 1 } → ArePartsOf hash_of (opening pages greatest) list count desk
+new_parts {hash_of} {count} {pages} {greatest} {list} some none contents new_desk = record {
+  number = sym (length-map list (λ (s : ShelfState). s.content)) ∙ ap length contents ∙ length-replicate count (nothing_held greatest);
+  some_shelf = some;
+  each = λ at shelf here.
+      let content_is : shelf.content ≡ nothing_held greatest =
+      of_replicate count at (nothing_held greatest) shelf.content (sym (ap (λ (l : List ShelfContent). slice_get l at) contents) ∙ slice_get-map (λ (s : ShelfState). s.content) list at ∙ ap (option_map (λ (s : ShelfState). s.content)) here) in
+      subst (IsShelfOf hash_of count (opening pages greatest) at) (sym content_is) (record {
+        greatest = refl;
+        cut = refl;
+        items = λ key own. refl;
+        apart = λ key other. get-empty order key;
+        hashes = λ key stored found.
+            let gone = get-empty {X = ℕ} order key in
+            cc;
+      });
+  account = record {
+    next_unique = ap (λ (d : DeskState). d.next_unique) new_desk;
+    limit = ap (λ (d : DeskState). d.slab.limit) new_desk;
+    pages = ap (λ (d : DeskState). d.slab.pages) new_desk;
+    out = λ class is. ap (λ (d : DeskState). out_of d.slab class) new_desk ∙ get_or-replicate 40 (class - 1) 0 0 (omega (arith, is.0, is.1)) ∙ sym (none class);
+  };
+}
 
-abbrev with_items : Plain → Items → Plain
-with_items s items = record s { items = items }
+-- ---- the numbers are spent, of any state that has the key's item, the cut, the greatest charge and the next number
 
--- the shelves below a place and the one at it are those below the next
-one_more : (n at : ℕ) → ltb n (at + 1) ≡ ltb n at || eqb n at
-one_more n at =
-    elim (ltb n at) as (λ b. ltb n at ≡ b → ltb n (at + 1) ≡ b || eqb n at) [
-      | true ↦ λ below. lt-ltb n (at + 1) (omega (arith, ltb-true n at below))
-      | false ↦ λ above. here (ltb-false n at above)
-    ] refl
-  where
-    here : at ≤ n → ltb n (at + 1) ≡ eqb n at
-    here above = elim (eqb n at) as (λ b. eqb n at ≡ b → ltb n (at + 1) ≡ b) [
-      | true ↦ λ same. lt-ltb n (at + 1) (omega (arith, eqb-true n at same))
-      | false ↦ λ other.
-          let apart : n ≢ at = λ same. true≢false (sym (eq-eqb n at same) ∙ other) in
-          le-ltb n (at + 1) (omega arith)
-    ] refl
+on_key : (step : KeyStep) (old : Plain) (now : ℕ) → IsOnKey step → plain old step now ≡ stepped old step now
+on_key (Store verb key flags exptime block) old now on = refl
+on_key (Cas key flags exptime block unique) old now on = refl
+on_key (Read key) old now on = refl
+on_key (ReadTouch key exptime) old now on = refl
+on_key (Touch key exptime) old now on = refl
+on_key (Delete key) old now on = refl
+on_key (Count key up by) old now on = refl
+on_key (Flush delay) old now on = absurd on
 
-none_below : (n : ℕ) → ltb n 0 ≡ false
-none_below n = le-ltb n 0 (omega arith)
+-- a write is out of numbers where it is not too large and none is left, and there alone
+write_spent : (large spent stays room : Bool) (p q r t : Reply) (w x y z : Plain) → cond large (Answered p w) (cond spent Spent (cond stays (Answered q x) (cond room (Answered r y) (Answered t z)))) ≡ Spent → (large ≡ false) × (spent ≡ true)
+write_spent true spent stays room p q r t w x y z is = cc
+write_spent false true stays room p q r t w x y z is = (refl, refl)
+write_spent false false true room p q r t w x y z is = cc
+write_spent false false false true p q r t w x y z is = cc
+write_spent false false false false p q r t w x y z is = cc
 
--- An item that was kept is kept again.
-module _ (cut : Option ℕ) (now : ℕ) where
-  kept_again : (meant lives : Bool) (item : Option Entry) → lives ≡ is_some (alive cut now item) → cond (not meant || is_some (alive cut now (cond lives item None))) (cond lives item None) None ≡ cond lives item None
-  kept_again true true item is = ap (λ b. cond b item None) (sym is)
-  kept_again true false item is = refl
-  kept_again false lives item is = refl
+not_written : (large spent : Bool) (x y : Outcome) → large ≡ false → spent ≡ true → cond large x (cond spent Spent y) ≡ Spent
+not_written true spent x y fits none = cc
+not_written false true x y fits none = refl
+not_written false false x y fits none = cc
 
-  kept_twice : (before here : Bool) (item : Option Entry)
-      → cond (not here || is_some (alive cut now (cond (not before || is_some (alive cut now item)) item None))) (cond (not before || is_some (alive cut now item)) item None) None
-      ≡ cond (not (before || here) || is_some (alive cut now item)) item None
-  kept_twice true here item = kept_again here (is_some (alive cut now item)) item refl
-  kept_twice false here item = refl
+changed_spent : (row : Row) (step : KeyStep) (item : Option Entry) (a b : Plain) (now : ℕ) → a.greatest ≡ b.greatest → a.next_unique ≡ b.next_unique → changed row step item a now ≡ Spent → changed row step item b now ≡ Spent
+changed_spent (Refuses refusal) step item a b now greatest number is = cc
+changed_spent (Reads expiry) step item a b now greatest number is = cc
+changed_spent (Touches expiry) step item a b now greatest number is = cc
+changed_spent Deletes step item a b now greatest number is = cc
+changed_spent (Writes draft) step item a b now greatest number is =
+    let size = charge (key_of step) (written_block draft.body (block_of step) item) in
+    let so = write_spent (ltb a.greatest size) (eqb a.next_unique (2 ^ 64 - 1)) (keeps_chunk draft.body (key_of step) item) (has_room a (class_holding size)) _ _ _ _ _ _ _ _ is in
+    let fits : ltb b.greatest size ≡ false = ap (λ n. ltb n size) (sym greatest) ∙ so.0 in
+    let none : eqb b.next_unique (2 ^ 64 - 1) ≡ true = ap (λ n. eqb n (2 ^ 64 - 1)) (sym number) ∙ so.1 in
+    not_written (ltb b.greatest size) (eqb b.next_unique (2 ^ 64 - 1)) _ _ fits none
 
--- a sweep of no shelf
-pub swept_none : (shelf_of : List ℕ → ℕ) (now : ℕ) (s : Plain) → s ≡ purged (λ key. ltb (shelf_of key) 0) now s
-swept_none shelf_of now s =
-    ap (with_items s) (same_items s.items _ (λ key.
-    ap (λ b. cond (not b || is_some (alive s.cut now (get s.items key))) (get s.items key) None) (sym (none_below (shelf_of key)))
-    ∙ sym (get_kept s.items (λ key. not (ltb (shelf_of key) 0) || is_some (alive s.cut now (get s.items key))) key)))
+-- the key's dead item goes, and neither number
+left_numbers : (item : Option Entry) (key : List ℕ) (s : Plain) → ((without_dead item key s).greatest ≡ s.greatest) × ((without_dead item key s).next_unique ≡ s.next_unique)
+left_numbers None key s = (refl, refl)
+left_numbers (Some item) key s = (refl, refl)
 
--- a sweep of one shelf more
-pub swept_more : (shelf_of : List ℕ → ℕ) (at now : ℕ) (s : Plain) → purged (λ key. eqb (shelf_of key) at) now (purged (λ key. ltb (shelf_of key) at) now s) ≡ purged (λ key. ltb (shelf_of key) (at + 1)) now s
-swept_more shelf_of at now s =
-    let before = λ (key : List ℕ). not (ltb (shelf_of key) at) || is_some (alive s.cut now (get s.items key)) in
-    let first : Items = retain_keys s.items before in
-    let here = λ (key : List ℕ). not (eqb (shelf_of key) at) || is_some (alive s.cut now (get first key)) in
-    let both = λ (key : List ℕ). not (ltb (shelf_of key) (at + 1)) || is_some (alive s.cut now (get s.items key)) in
-    ap (with_items s) (same_items (retain_keys first here) (retain_keys s.items both) (λ key.
-    get_kept first here key
-    ∙ ap (λ (o : Option Entry). cond (not (eqb (shelf_of key) at) || is_some (alive s.cut now o)) o None) (get_kept s.items before key)
-    ∙ kept_twice s.cut now (ltb (shelf_of key) at) (eqb (shelf_of key) at) (get s.items key)
-    ∙ ap (λ b. cond (not b || is_some (alive s.cut now (get s.items key))) (get s.items key) None) (sym (one_more (shelf_of key) at))
-    ∙ sym (get_kept s.items both key)))
+pub spent_there : (step : KeyStep) (now : ℕ) {shelf : ShelfContent} {desk : DeskState} {a : Plain} → IsOnKey step → IsAt (key_of step) shelf desk a → plain a step now ≡ Spent → IsSpent step now shelf desk
+spent_there step now {shelf} {desk} {a} on at_a is b at_b =
+    let key = key_of step in
+    let item = alive a.cut now (get a.items key) in
+    let same : item ≡ alive b.cut now (get b.items key) = λ i. alive ((at_a.cut ∙ sym at_b.cut) i) now ((at_a.item ∙ sym at_b.item) i) in
+    on_key step b now on
+    ∙ subst (λ o. changed (row_of step now o) step o (without_dead o key b) now ≡ Spent) same
+    (changed_spent (row_of step now item) step item (without_dead item key a) (without_dead item key b) now
+    ((left_numbers item key a).0 ∙ at_a.greatest ∙ sym at_b.greatest ∙ sym (left_numbers item key b).0)
+    ((left_numbers item key a).1 ∙ at_a.next_unique ∙ sym at_b.next_unique ∙ sym (left_numbers item key b).1)
+    (sym (on_key step a now on) ∙ is))
 
--- a sweep of all shelves
-pub swept_all : (shelf_of : List ℕ → ℕ) (count now : ℕ) (s : Plain) → ((key : List ℕ) → shelf_of key < count) → purged (λ key. ltb (shelf_of key) count) now s ≡ purged (λ _. true) now s
-swept_all shelf_of count now s inside = λ i. purged (λ key. lt-ltb (shelf_of key) count (inside key) i) now s
+-- ---- a store's parts after a change
 
--- the same of shelves that are cleared
-cleared_twice : (before here : Bool) (item : Option Entry) → cond (not here) (cond (not before) item None) None ≡ cond (not (before || here)) item None
-cleared_twice true true item = refl
-cleared_twice true false item = refl
-cleared_twice false here item = refl
+-- a shelf has fewer entries left to move
+pub left_after : (list : List ShelfState) (at : ℕ) {shelf : ShelfState} (shelf' : ShelfState) (moved : ℕ) → slice_get list at ≡ Some shelf → shelf'.left ≡ shelf.left - moved → lefts (slice_set list at shelf') ≡ slice_set (lefts list) at (slice_index (lefts list) at - moved)
+left_after list at {shelf} shelf' moved here less =
+    let left_of = λ (s : ShelfState). s.left in
+    let was : slice_index (lefts list) at ≡ shelf.left = get_or_from_slice_get (lefts list) at shelf.left 0 (slice_get-map left_of list at ∙ ap (option_map left_of) here) in
+    map-set left_of list at shelf' ∙ ap (slice_set (lefts list) at) (less ∙ ap (λ n. n - moved) (sym was))
 
-pub cleared_none : (shelf_of : List ℕ → ℕ) (s : Plain) → s ≡ without (λ key. ltb (shelf_of key) 0) s
-cleared_none shelf_of s =
-    ap (with_items s) (same_items s.items _ (λ key.
-    ap (λ b. cond (not b) (get s.items key) None) (sym (none_below (shelf_of key)))
-    ∙ sym (get_kept s.items (λ key. not (ltb (shelf_of key) 0)) key)))
+-- a step that a shelf and the desk take, as `steps_change_one_shelf` says
+abbrev pub StepLaw : Type 0
+StepLaw = (hash_of : List ℕ → ℕ) (shelves at : ℕ) (state : Plain) (step : KeyStep) (now : ℕ) (reply : Reply) (old new : ShelfContent) (desk desk' : DeskState)
+    → IsOnKey step → shelf_of hash_of shelves (key_of step) ≡ at → IsShelfOf hash_of shelves state at old → IsDeskOf state desk
+    → IsTaken step now (hash_of (key_of step)) old desk reply new desk' → GoesByStep hash_of shelves at step now state reply new desk'
 
-pub cleared_more : (shelf_of : List ℕ → ℕ) (at : ℕ) (s : Plain) → without (λ key. eqb (shelf_of key) at) (without (λ key. ltb (shelf_of key) at) s) ≡ without (λ key. ltb (shelf_of key) (at + 1)) s
-cleared_more shelf_of at s =
-    let before = λ (key : List ℕ). not (ltb (shelf_of key) at) in
-    let first : Items = retain_keys s.items before in
-    let here = λ (key : List ℕ). not (eqb (shelf_of key) at) in
-    let both = λ (key : List ℕ). not (ltb (shelf_of key) (at + 1)) in
-    ap (with_items s) (same_items (retain_keys first here) (retain_keys s.items both) (λ key.
-    get_kept first here key
-    ∙ ap (λ (o : Option Entry). cond (not (eqb (shelf_of key) at)) o None) (get_kept s.items before key)
-    ∙ cleared_twice (ltb (shelf_of key) at) (eqb (shelf_of key) at) (get s.items key)
-    ∙ ap (λ b. cond (not b) (get s.items key) None) (sym (one_more (shelf_of key) at))
-    ∙ sym (get_kept s.items both key)))
+-- what follows of a step that was taken, and of one that was not
+pub if_ok : {P Q : Reply → Type 0} (result : Result Reply StepFault) → IfOk result P → ((reply : Reply) → P reply → Q reply) → IfOk result Q
+if_ok (Ok reply) p f = f reply p
+if_ok (Err fault) p f = p
 
-pub cleared_all : (shelf_of : List ℕ → ℕ) (count : ℕ) (s : Plain) → ((key : List ℕ) → shelf_of key < count) → without (λ key. ltb (shelf_of key) count) s ≡ record s { items = empty }
-cleared_all shelf_of count s inside =
-    ap (with_items s) (same_items _ empty (λ key.
-    get_kept s.items (λ key. not (ltb (shelf_of key) count)) key
-    ∙ ap (λ b. cond (not b) (get s.items key) None) (lt-ltb (shelf_of key) count (inside key))
-    ∙ sym (get-empty (slice_cmp nat_cmp) key)))
+pub if_err : {P Q : Type 0} (result : Result Reply StepFault) → OnErr result P → (P → Q) → OnErr result Q
+if_err (Ok reply) p f = p
+if_err (Err fault) p f = f p
 
--- a cut of all shelves leaves their items
-abbrev pub cut_as : Option ℕ → ShelfState → ShelfState
-cut_as cut shelf = record shelf { cut = cut }
+module _ {hash_of : List ℕ → ℕ} {list : List ShelfState} {desk : DeskState} (settings : Settings) (parts : ArePartsOf hash_of (plain_of settings list desk) list settings.shelves desk) where
+  abbrev state : Plain
+  state = plain_of settings list desk
 
-pub entries_cut : (cut : Option ℕ) (list : List ShelfState) → all_entries (map (cut_as cut) list) ≡ all_entries list
-entries_cut cut [] = refl
-entries_cut cut (shelf ∷ list) = ap (λ (es : List (List ℕ × Entry)). entries shelf.items ++ es) (entries_cut cut list)
+  pub shelf_here : {at : ℕ} {shelf : ShelfState} → at < settings.shelves → shelf ≡ slice_index_or list at shelf → slice_get list at ≡ Some shelf
+  shelf_here {at} {shelf} inside read = slice_get_read list settings.shelves at shelf (sym parts.number) inside read
 
--- a shelf of those that were cut is one of those before
-cut_from : (cut : Option ℕ) (o : Option ShelfState) (shelf : ShelfState) → option_map (cut_as cut) o ≡ Some shelf → (old : ShelfState) × (o ≡ Some old) × (shelf ≡ cut_as cut old)
-cut_from cut None shelf e = cc
-cut_from cut (Some old) shelf e = (old, refl, sym (same_Some _ _ e))
+  -- one shelf and the desk have changed
+  module _ {at : ℕ} {new : Plain} {desk' : DeskState} (shelf' : ShelfState) (goes : GoesTo hash_of settings.shelves at state new shelf'.content desk') where
+    pub kept_after : ArePartsOf hash_of (plain_of settings (slice_set list at shelf') desk') (slice_set list at shelf') settings.shelves desk'
+    kept_after = are_kept settings (record { greatest = goes.greatest; limit = goes.limit }) (parts_go shelf' parts goes)
 
--- the shelves are those before, cut at that moment
-pub record AreCut (moment : Option ℕ) (s t : Shelves) : Type 0 where
-  pub greatest : t.greatest ≡ s.greatest
-  pub cut : t.cut ≡ moment
-  pub list : t.list.items ≡ map (cut_as moment) s.list.items
-  pub desk : t.desk ≡ s.desk
+    pub plain_after : plain_of settings (slice_set list at shelf') desk' ≡ new
+    plain_after = plain_is settings (record { greatest = goes.greatest; limit = goes.limit }) (parts_go shelf' parts goes)
 
-module _ (cut : Option ℕ) (s t : Shelves) (is : AreCut cut s t) where
-  same_entries : all_entries t.list.items ≡ all_entries s.list.items
-  same_entries = ap all_entries is.list ∙ entries_cut cut s.list.items
+  module _ {at : ℕ} {shelf : ShelfState} (here : slice_get list at ≡ Some shelf) where
+    -- they hold what they held
+    pub goes_nowhere : {content : ShelfContent} {desk' : DeskState} → content ≡ shelf.content → desk' ≡ desk → GoesTo hash_of settings.shelves at state state content desk'
+    goes_nowhere same same_desk = record {
+      greatest = refl;
+      limit = refl;
+      own = subst (IsShelfOf hash_of settings.shelves state at) (sym same) (parts.each at shelf here);
+      account = subst (IsDeskOf state) (sym same_desk) parts.account;
+      others = λ k still other part. part;
+    }
 
-  pub plain_cut : plain_of t ≡ record (plain_of s) { cut = cut }
-  plain_cut = λ i. record { greatest = is.greatest i; limit = (is.desk i).slab.limit; items = from_entries (same_entries i); cut = is.cut i; next_unique = (is.desk i).next_unique; pages = (is.desk i).slab.pages }
+    -- a step was taken on one of the shelf's keys, or not
+    module _ {hash : ℕ} (step : KeyStep) (now : ℕ) (shelf' : ShelfState) (desk' : DeskState) (mine : shelf_of hash_of settings.shelves (key_of step) ≡ at) (hashed : hash ≡ hash_of (key_of step)) (on : IsOnKey step) (law : StepLaw) where
+      abbrev IsTakenHere : Reply → Type 0
+      IsTakenHere reply = IsTaken step now hash shelf.content desk reply shelf'.content desk'
 
-  before_cut : (at : ℕ) (shelf : ShelfState) → slice_get t.list.items at ≡ Some shelf → (old : ShelfState) × (slice_get s.list.items at ≡ Some old) × (shelf ≡ cut_as cut old)
-  before_cut at shelf here = cut_from cut (slice_get s.list.items at) shelf (sym (slice_get-map (cut_as cut) s.list.items at) ∙ sym (ap (λ (list : List ShelfState). slice_get list at) is.list) ∙ here)
+      abbrev IsAsBefore : Type 0
+      IsAsBefore = (shelf'.content ≡ shelf.content) × (desk' ≡ desk)
 
-  pub shelves_cut : (shelf_of : List ℕ → ℕ) → AreShelves shelf_of s → AreShelves shelf_of t
-  shelves_cut shelf_of are = record {
-    inside = λ key. subst (λ n. shelf_of key < n) (sym (ap length is.list ∙ length-map s.list.items (cut_as cut))) (are.inside key);
-    charges = λ at shelf here.
-        let old = before_cut at shelf here in
-        ap (λ (shelf : ShelfState). shelf.greatest) old.2 ∙ are.charges at old.0 old.1 ∙ sym is.greatest;
-    cuts = λ at shelf here. ap (λ (shelf : ShelfState). shelf.cut) (before_cut at shelf here).2 ∙ sym is.cut;
-    apart = λ at shelf key here other.
-        let old = before_cut at shelf here in
-        ap (λ (shelf : ShelfState). get shelf.items key) old.2 ∙ are.apart at old.0 key old.1 other;
-    out = λ class is_class.
-        ap (λ (d : DeskState). out_of d.slab class) is.desk ∙ are.out class is_class
-        ∙ ap (λ (es : List (List ℕ × Entry)). count_of (from_entries es) class) (sym same_entries);
-  }
+      goes : (reply : Reply) → IsTakenHere reply → GoesByStep hash_of settings.shelves at step now state reply shelf'.content desk'
+      goes reply took =
+          law hash_of settings.shelves at state step now reply shelf.content shelf'.content desk desk' on mine (parts.each at shelf here) parts.account
+          (subst (λ (h : ℕ). IsTaken step now h shelf.content desk reply shelf'.content desk') hashed took)
 
--- a shelf of no items
-abbrev pub bare : ℕ → ShelfState
-bare greatest = record { greatest = greatest; items = empty; cut = None }
+      pub parts_stepped : (result : Result Reply StepFault) → IfOk result IsTakenHere → OnErr result IsAsBefore → ArePartsOf hash_of (plain_of settings (slice_set list at shelf') desk') (slice_set list at shelf') settings.shelves desk'
+      parts_stepped (Ok reply) took same = kept_after shelf' (goes reply took).goes
+      parts_stepped (Err fault) took same = kept_after shelf' (goes_nowhere same.0 same.1)
 
-no_entries : entries (bare 0).items ≡ []
-no_entries = none (entries (bare 0).items) (sym (len-entries (bare 0).items) ∙ len-empty (slice_cmp nat_cmp) Entry)
-  where
-    none : (es : List (List ℕ × Entry)) → length es ≡ 0 → es ≡ []
-    none [] e = refl
-    none (x ∷ es) e = absurd (omega arith)
-
-bare_entries : (greatest count : ℕ) → all_entries (replicate count (bare greatest)) ≡ []
-bare_entries greatest zero = refl
-bare_entries greatest (suc count) = ap (λ (es : List (List ℕ × Entry)). es ++ all_entries (replicate count (bare greatest))) no_entries ∙ bare_entries greatest count
-
--- shelves of no items, and a desk of that many pages
-pub record AreNew (count pages most : ℕ) (s : Shelves) : Type 0 where
-  pub greatest : s.greatest ≡ most
-  pub cut : s.cut ≡ None
-  pub list : s.list.items ≡ replicate count (bare most)
-  pub desk : s.desk ≡ record { slab = untouched pages; next_unique = 1 }
-
-module _ (count pages greatest : ℕ) (s : Shelves) (new : AreNew count pages greatest s) where
-  new_items : all_items s.list.items ≡ empty
-  new_items = ap from_entries (ap all_entries new.list ∙ bare_entries greatest count)
-
-  pub plain_new : plain_of s ≡ opening pages greatest
-  plain_new = λ i. record { greatest = new.greatest i; limit = (new.desk i).slab.limit; items = new_items i; cut = new.cut i; next_unique = (new.desk i).next_unique; pages = (new.desk i).slab.pages }
-
-  pub count_new : length s.list.items ≡ count
-  count_new = ap length new.list ∙ length-replicate count (bare greatest)
-
-  is_bare : (at : ℕ) (shelf : ShelfState) → slice_get s.list.items at ≡ Some shelf → shelf ≡ bare greatest
-  is_bare at shelf here =
-      let there : slice_get (replicate count (bare greatest)) at ≡ Some shelf = sym (ap (λ (list : List ShelfState). slice_get list at) new.list) ∙ here in
-      let within : at < count = omega (arith, slice_get_within (replicate count (bare greatest)) at shelf there, length-replicate count (bare greatest)) in
-      sym (get_or_from_slice_get (replicate count (bare greatest)) at shelf shelf there) ∙ get_or-replicate count at (bare greatest) shelf within
-
-  pub shelves_new : ((class : ℕ) → count_of empty class ≡ 0) → (shelf_of : List ℕ → ℕ) → ((key : List ℕ) → shelf_of key < count) → AreShelves shelf_of s
-  shelves_new none shelf_of inside = record {
-    inside = λ key. subst (λ n. shelf_of key < n) (sym count_new) (inside key);
-    charges = λ at shelf here. ap (λ (shelf : ShelfState). shelf.greatest) (is_bare at shelf here) ∙ sym new.greatest;
-    cuts = λ at shelf here. ap (λ (shelf : ShelfState). shelf.cut) (is_bare at shelf here) ∙ sym new.cut;
-    apart = λ at shelf key here other. ap (λ (shelf : ShelfState). get shelf.items key) (is_bare at shelf here) ∙ get-empty (slice_cmp nat_cmp) key;
-    out = λ class is_class.
-        ap (λ (d : DeskState). out_of d.slab class) new.desk ∙ get_or-replicate 40 (class - 1) 0 0 (omega (arith, is_class.0, is_class.1))
-        ∙ sym (ap (λ (items : Items). count_of items class) new_items ∙ none class);
-  }
+      pub took_step : {reply : Reply} → IsTakenHere reply → plain state step now ≡ Answered reply (plain_of settings (slice_set list at shelf') desk')
+      took_step {reply} took = (goes reply took).answered ∙ ap (Answered reply) (sym (plain_after shelf' (goes reply took).goes))

@@ -1,9 +1,11 @@
 -- What the parts of a store keep of the plain machine's state.
-use Rattle.std.specs.Prelude.{◌≡◌, ◌≢◌, ℕ, ◌%◌, List, map, Some, None, slice_get}
+use Rattle.std.specs.Prelude.{◌≡◌, ◌≢◌, ℕ, ◌<◌, ◌%◌, List, length, Some, None, slice_get}
 use Rattle.std.specs.FinMap.{get}
 use Rattle.mc_slab.specs.Classes.{IsClass}
 use Rattle.mc_slab.specs.Slabs.{out_of}
-use Rattle.mc_command.specs.Plain.{Plain, count_of}
+use Rattle.mc_command.specs.Plain.{Plain, count_of, plain, Answered}
+use Rattle.mc_command.specs.declared.step.KeyStep.{KeyStep}
+use Rattle.mc_command.specs.declared.reply.Reply.{Reply}
 use Rattle.mc_shelf.specs.States.{ShelfContent, ShelfState, DeskState, IsHash}
 
 -- the shelf of a key: its hash modulo the number of shelves
@@ -26,7 +28,25 @@ pub record IsDeskOf (state : Plain) (desk : DeskState) : Type 0 where
   pub pages : desk.slab.pages ≡ state.pages
   pub out : (class : ℕ) → IsClass class → out_of desk.slab class ≡ count_of state.items class
 
--- shelves in their order and the desk that they share keep the state together
+-- So many shelves in their order, of which there is one at least, and the desk that they share keep the state together.
 pub record ArePartsOf (hash_of : List ℕ → ℕ) (state : Plain) (shelves : List ShelfState) (count : ℕ) (desk : DeskState) : Type 0 where
+  pub number : length shelves ≡ count
+  pub some_shelf : 0 < count
   pub each : (at : ℕ) (shelf : ShelfState) → slice_get shelves at ≡ Some shelf → IsShelfOf hash_of count state at shelf.content
   pub account : IsDeskOf state desk
+
+-- The state goes from one to another by the shelf at a place and the desk alone: they are parts of the new one as they stand
+-- now, and each other shelf that is a part of the old one is a part of the new one as it was. The greatest charge and the
+-- limit of pages stay.
+pub record GoesTo (hash_of : List ℕ → ℕ) (shelves at : ℕ) (old new : Plain) (shelf : ShelfContent) (desk : DeskState) : Type 0 where
+  pub greatest : new.greatest ≡ old.greatest
+  pub limit : new.limit ≡ old.limit
+  pub own : IsShelfOf hash_of shelves new at shelf
+  pub account : IsDeskOf new desk
+  pub others : (other : ℕ) (still : ShelfContent) → other ≢ at → IsShelfOf hash_of shelves old other still → IsShelfOf hash_of shelves new other still
+
+-- it does so as the plain machine does in a step, with that reply
+pub record GoesByStep (hash_of : List ℕ → ℕ) (shelves at : ℕ) (step : KeyStep) (now : ℕ) (old : Plain) (reply : Reply) (shelf : ShelfContent) (desk : DeskState) : Type 0 where
+  pub new : Plain
+  pub answered : plain old step now ≡ Answered reply new
+  pub goes : GoesTo hash_of shelves at old new shelf desk

@@ -7,9 +7,9 @@ mod compare_tests;
 mod desk;
 mod entry;
 mod index;
+mod parts;
 mod plan;
 mod shelf;
-mod shelves;
 mod store;
 mod sweep;
 #[cfg(test)]
@@ -18,6 +18,7 @@ mod write;
 
 pub use desk::Desk;
 pub use entry::Entry;
+pub use parts::{flush_parts, steps_change_one_shelf};
 pub use plan::Plan;
 pub use shelf::Shelf;
-pub use store::{Settings, Store};
+pub use store::{Settings, Store, StoreParts};

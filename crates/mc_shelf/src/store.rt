@@ -1,18 +1,17 @@
 //! The store of one thread, as callers see it: how it is set up, its hasher, and the plain machine's state.
 
-#[cfg(test)]
-mod tests;
-
-ghost use Rattle.std.specs.Prelude.{◌≡◌, ◌==◌, ◌%◌, ◌<◌, ◌≤◌, length, Some, IfOk, OnErr, IsErr, IsOk, Err, nat_lt, if◌then◌else◌};
-ghost use Rattle.std.specs.FinMap.{get};
+ghost use Rattle.std.specs.Prelude.{◌≡◌, ◌↔◌, ◌-◌, ◌≤◌, min, length, replicate, slice_index, slice_set, IfOk, OnErr, Err};
 ghost use Rattle.mc_command.specs.Commands.{key_of};
-ghost use Rattle.mc_command.specs.Plain.{Entry as Item, Plain, opening, plain, Answered, Spent, MayFail};
-ghost use Rattle.mc_command.specs.Purge.{purged};
+ghost use Rattle.mc_command.specs.Plain.{Plain, opening, plain, Answered, Spent, MayFail};
 ghost use Rattle.mc_command.specs.Laws.{IsOnKey};
+ghost use Rattle.mc_shelf.specs.Parts.{ArePartsOf};
+ghost use Rattle.mc_shelf.specs.Stores.{IsSetUp, AreAlike, HoldSame, TookStep, shelf_purged};
+ghost use Rattle.mc_shelf.specs.Unions.{lefts};
 
-use crate::plan;
-use crate::shelves::Shelves;
-use mc_command::{KeyStep, Reply, StepFault, Steps};
+use crate::desk::Desk;
+use crate::parts;
+use crate::shelf::Shelf;
+use mc_command::{KeyStep, Reply, StepFault, Steps, counts_follow};
 use mc_hop::KeyHash;
 use mc_time::Moment;
 use std::alloc::{AllocError, Global};
@@ -29,79 +28,137 @@ pub struct Settings {
     pub shelves: u32,
 }
 
-/// A store of one thread: shelves of items, and the desk that they share. A key is on the shelf that its hash names. Contracts
-/// see how it was set up, its hasher, and the plain machine's state.
+/// What a store is made of. A key is on the shelf that its hash names, modulo their number.
+#[derive(Drop)]
+pub struct StoreParts<K: KeyHash + Drop> {
+    /// How it is set up.
+    pub settings: Settings,
+    /// What hashes its keys.
+    pub hasher: K,
+    /// Its shelves, in their order.
+    pub shelves: Vec<Shelf>,
+    /// The desk that they share.
+    pub desk: Desk,
+}
+
+/// A store of one thread: shelves of items, and the desk that they share. Contracts see how it was set up, its hasher, and
+/// the plain machine's state; and beside these, of each shelf how many entries of an old table are left to move.
 #[derive(Drop)]
 pub struct Store<K: KeyHash + Drop> {
-    settings: Settings,
-    hasher: K,
-    shelves: Shelves,
+    parts: StoreParts<K>,
 }
 
 impl<K: KeyHash + Drop> Model for Store<K> {
-    ghost use Rattle.std.specs.Prelude.{◌≡◌, ◌<◌, ◌%◌, length};
-    ghost use Rattle.mc_shelf.specs.Unions.{plain_of, AreShelves};
+    ghost use Rattle.mc_shelf.specs.Parts.{ArePartsOf};
+    ghost use Rattle.mc_shelf.specs.Unions.{plain_of, lefts};
     ghost use Rattle.mc_shelf.specs.Stores.{StoreState, coded_store};
 
     ghost Value = { StoreState K };
 
     ghost coded = { coded_store K.code };
 
-    ghost view = { λ s. record { settings = s.settings; hasher = s.hasher; plain = plain_of s.shelves } };
+    ghost view = { λ s. record {
+      settings = s.parts.settings;
+      hasher = s.parts.hasher;
+      plain = plain_of s.parts.settings s.parts.shelves.items s.parts.desk;
+      left = lefts s.parts.shelves.items;
+    } };
 
-    ghost invariant = { λ s. AreShelves (λ key. K.hash_of s.hasher key % s.settings.shelves) s.shelves × (length s.shelves.list.items ≡ s.settings.shelves) × (0 < s.settings.shelves) };
+    ghost invariant = { λ s. ArePartsOf (K.hash_of s.parts.hasher)
+        (plain_of s.parts.settings s.parts.shelves.items s.parts.desk)
+        s.parts.shelves.items s.parts.settings.shelves s.parts.desk };
 }
 
 impl<K: KeyHash + Drop> Store<K> {
-    /// A store of no items, no class of which has a page. The one error is a refused allocation.
+    /// Makes a store of no items, no class of which has a page. The one error is a refused allocation.
     pub fn new(alloc: Global, settings: Settings, hasher: K) -> Result<Store<K>, AllocError>
         requires pages { 1 ≤ settings.pages × settings.pages ≤ 65536 }
         requires greatest { settings.greatest ≡ 1048576 }
         requires shelves { settings.shelves ≡ 64 }
-        ensures plain { IfOk result (λ store. store.plain ≡ opening settings.pages settings.greatest) }
+        ensures plain { IfOk result (λ store.
+            store.plain ≡ opening settings.pages settings.greatest) }
         ensures settings { IfOk result (λ store. store.settings ≡ settings) }
         ensures hasher { IfOk result (λ store. store.hasher ≡ hasher) }
+        ensures left { IfOk result (λ store. store.left ≡ replicate settings.shelves 0) }
     {
-        let shelves = Shelves::new(alloc, settings.shelves, settings.pages, settings.greatest)?;
+        counts_follow();
+        let shelves = parts::empty_shelves(alloc, settings.shelves, settings.greatest)?;
+        let desk = Desk::new(alloc, settings.pages)?;
         Ok(Store {
-            settings,
-            hasher,
-            shelves,
+            parts: StoreParts {
+                settings,
+                hasher,
+                shelves,
+                desk,
+            },
         })
     }
 
-    /// How it was set up.
-    pub fn settings(&self) -> Settings
-        ensures { result ≡ self.now.settings }
+    /// Makes a store of parts that keep a state. It takes no memory.
+    pub fn from_parts(parts: StoreParts<K>) -> Store<K>
+        requires { (state : Plain) × IsSetUp parts.settings state × ArePartsOf (K.hash_of parts.hasher)
+            state parts.shelves.items parts.settings.shelves parts.desk }
+        ensures settings { result.settings ≡ parts.settings }
+        ensures hasher { result.hasher ≡ parts.hasher }
+        ensures plain { (state : Plain) → IsSetUp parts.settings state →
+            ArePartsOf (K.hash_of parts.hasher)
+            state parts.shelves.items parts.settings.shelves parts.desk →
+            result.plain ≡ state }
+        ensures left { result.left ≡ lefts parts.shelves.items }
     {
-        self.settings
+        Store { parts }
+    }
+
+    /// Gives the parts, which keep the store's state. It takes no memory.
+    pub fn into_parts(self) -> StoreParts<K>
+        ensures settings { result.settings ≡ self.settings }
+        ensures hasher { result.hasher ≡ self.hasher }
+        ensures set_up { IsSetUp self.settings self.plain }
+        ensures parts { ArePartsOf (K.hash_of self.hasher)
+            self.plain result.shelves.items self.settings.shelves result.desk }
+        ensures left { self.left ≡ lefts result.shelves.items }
+    {
+        self.parts
+    }
+
+    /// Tells how it was set up.
+    pub fn settings(&self) -> Settings
+        ensures value { result ≡ self.now.settings }
+        ensures set_up { IsSetUp self.now.settings self.now.plain }
+    {
+        self.parts.settings
     }
 
     /// Drops the dead items of a shelf, and no other. Of a shelf that isn't there it drops none. It takes no memory; the
     /// cost grows with the number of the shelf's items.
     pub fn purge(&mut self, shelf: u32, now: Moment)
-        ensures { self.new ≡ record self.old { plain = if nat_lt shelf self.old.settings.shelves then purged (λ key. K.hash_of self.old.hasher key % self.old.settings.shelves == shelf) now self.old.plain else self.old.plain } }
+        ensures plain { self.new.plain ≡ shelf_purged (K.hash_of self.old.hasher)
+            self.old.settings.shelves shelf now self.old.plain }
+        ensures set_up { AreAlike self.old self.new }
     {
-        if shelf < self.settings.shelves {
-            self.shelves.purge(shelf as usize, now);
+        if shelf < self.parts.settings.shelves {
+            let shelf = &mut self.parts.shelves[shelf as usize];
+            shelf.purge_part(now, &mut self.parts.desk);
         }
     }
 
-    /// Up to `n` entries of a shelf may move in its index; answers how many did, and 0 for a shelf that isn't there. The
-    /// store is as it was, and no memory is taken. The cost grows with `n`.
+    /// Moves up to `n` entries of a shelf's old table, and answers how many it moved: as many as are left, where they are
+    /// fewer, and 0 of a shelf that isn't there. All else is as it was, and no memory is taken. The cost grows with `n`.
     pub fn grow(&mut self, shelf: u32, n: usize) -> usize
-        ensures unchanged { self.new ≡ self.old }
-        ensures moved { result ≤ n }
-        ensures none { result ≡ 0 }
+        ensures moved { result ≡ min n (slice_index self.old.left shelf) }
+        ensures left { self.new ≡ record self.old {
+          left = slice_set self.old.left shelf (slice_index self.old.left shelf - result);
+        } }
     {
-        if shelf < self.settings.shelves {
-            self.shelves.grow(shelf as usize, n)
+        if shelf < self.parts.settings.shelves {
+            let shelf = &mut self.parts.shelves[shelf as usize];
+            shelf.grow(n)
         } else {
             0
         }
     }
 
-    /// A step on one key, on the key's shelf. Where it isn't taken the store is as it was.
+    /// Takes a step on one key, on the key's shelf. Where it isn't taken the store holds what it held.
     fn step_on_key(
         &mut self,
         alloc: Global,
@@ -110,47 +167,44 @@ impl<K: KeyHash + Drop> Store<K> {
     ) -> Result<Reply, StepFault>
         requires on_key { IsOnKey step.now }
         requires key { length (key_of step.now) ≤ 250 }
-        ensures took { IfOk result (λ reply. plain self.old.plain step.now now ≡ Answered reply self.new.plain) }
-        ensures set_up { (self.new.settings ≡ self.old.settings) × (self.new.hasher ≡ self.old.hasher) }
-        ensures spent { result ≡ Err StepFault.NumbersSpent → plain self.old.plain step.now now ≡ Spent }
-        ensures told { (item : Item) → get self.old.plain.items (key_of step.now) ≡ Some item → plain self.old.plain step.now now ≡ Spent → result ≡ Err StepFault.NumbersSpent }
-        ensures large { (new : Plain) → plain self.old.plain step.now now ≡ Answered Reply.TooLarge new → IsOk result }
-        ensures full { (item : Item) (new : Plain) → get self.old.plain.items (key_of step.now) ≡ Some item → plain self.old.plain step.now now ≡ Answered Reply.NoChunk new → IsOk result }
-        ensures err { OnErr result (self.new ≡ self.old) }
-        ensures refused { OnErr result (MayFail (plain self.old.plain step.now now)) }
+        ensures took { IfOk result (λ reply. TookStep self.old step.now now reply self.new) }
+        ensures spent { result ≡ Err StepFault.NumbersSpent
+            ↔ (plain self.old.plain step.now now ≡ Spent) }
+        ensures err { OnErr result (HoldSame self.old self.new) }
+        ensures refused { result ≡ Err StepFault.NoMemory
+            → MayFail (plain self.old.plain step.now now) }
     {
-        let hash = self.hasher.hash(plan::key_of(step));
-        let at = hash % u64::from(self.settings.shelves);
-        self.shelves.step(alloc, at as usize, step, hash, now)
+        parts::steps_change_one_shelf();
+        let hash = self.parts.hasher.hash(step.key());
+        let at = hash % u64::from(self.parts.settings.shelves);
+        let shelf = &mut self.parts.shelves[at as usize];
+        shelf.step(alloc, step, hash, now, &mut self.parts.desk)
     }
 
-    /// A flush of all shelves. It takes no memory.
+    /// Flushes all shelves. It takes no memory.
     fn flush(&mut self, delay: u64, now: Moment) -> Reply
-        ensures took { plain self.old.plain (KeyStep.Flush delay) now ≡ Answered result self.new.plain }
-        ensures set_up { (self.new.settings ≡ self.old.settings) × (self.new.hasher ≡ self.old.hasher) }
+        ensures { TookStep self.old (KeyStep.Flush delay) now result self.new }
     {
-        self.shelves.flush(delay, now);
+        parts::flush_parts(&mut self.parts.shelves, &mut self.parts.desk, delay, now);
         Reply::Flushed
     }
 }
 
 impl<K: KeyHash + Drop> Steps for Store<K> {
-    ghost took = { λ old step now reply new. (plain old.plain step now ≡ Answered reply new.plain) × (new.settings ≡ old.settings) × (new.hasher ≡ old.hasher) };
+    ghost took = { λ old step now reply new. TookStep old step now reply new };
 
     ghost spent = { λ old step now. plain old.plain step now ≡ Spent };
 
-    ghost same = { λ old new. (new.plain ≡ old.plain) × (new.settings ≡ old.settings) × (new.hasher ≡ old.hasher) };
+    ghost same = { λ old new. HoldSame old new };
 
     fn step(&mut self, alloc: Global, step: &KeyStep<'_>, now: Moment) -> Result<Reply, StepFault>
         requires { length (key_of step.now) ≤ 250 }
-        ensures took { IfOk result (λ reply. (plain self.old.plain step.now now ≡ Answered reply self.new.plain) × (self.new.settings ≡ self.old.settings) × (self.new.hasher ≡ self.old.hasher)) }
-        ensures spent { result ≡ Err StepFault.NumbersSpent → plain self.old.plain step.now now ≡ Spent }
-        ensures told { (item : Item) → get self.old.plain.items (key_of step.now) ≡ Some item → plain self.old.plain step.now now ≡ Spent → result ≡ Err StepFault.NumbersSpent }
-        ensures large { (new : Plain) → plain self.old.plain step.now now ≡ Answered Reply.TooLarge new → IsOk result }
-        ensures full { (item : Item) (new : Plain) → get self.old.plain.items (key_of step.now) ≡ Some item → plain self.old.plain step.now now ≡ Answered Reply.NoChunk new → IsOk result }
-        ensures err { OnErr result (self.new ≡ self.old) }
-        ensures numbers { plain self.old.plain step.now now ≡ Spent → IsErr result }
-        ensures refused { OnErr result (MayFail (plain self.old.plain step.now now)) }
+        ensures took { IfOk result (λ reply. TookStep self.old step.now now reply self.new) }
+        ensures spent { result ≡ Err StepFault.NumbersSpent
+            ↔ (plain self.old.plain step.now now ≡ Spent) }
+        ensures err { OnErr result (HoldSame self.old self.new) }
+        ensures refused { result ≡ Err StepFault.NoMemory
+            → MayFail (plain self.old.plain step.now now) }
     {
         match step {
             KeyStep::Flush { delay } => Ok(self.flush(*delay, now)),

@@ -1,0 +1,284 @@
+-- What a purge of one shelf, and a flush of all, make of the state that they are parts of.
+use Rattle.std.proofs.Common.{◌≡◌, ◌≢◌, ℕ, zero, suc, ◌+◌, ◌<◌, ◌≤◌, Bool, true, false, cond, not, ◌||◌, eqb, eqb-true, eq-eqb, ne_eqb, ltb, lt-ltb, le-ltb, ltb-true, ltb-false, true≢false, List, ◌++◌, length, length-set, take, drop, Option, Some, None, is_some, slice_get, slice_set, refl, sym, ap, subst, ◌∙◌, arith, ◌⊎◌, inl, inr, ⊎_elim}
+use Rattle.std.proofs.lemmas.Option.{slice_get_within}
+use Rattle.std.specs.FinMap as maps
+use Rattle.std.specs.FinMap.{get, get-empty, retain_keys}
+use Rattle.mc_time.specs.Death.{is_dead, moment_named}
+use Rattle.mc_slab.specs.Classes.{IsClass}
+use Rattle.mc_slab.specs.Slabs.{out_of}
+use Rattle.mc_command.specs.Plain.{Entry, Items, Plain, alive, count_of, flushed, living}
+use Rattle.mc_command.specs.Purge.{purged}
+use Rattle.mc_shelf.specs.States.{ShelfContent, ShelfState, DeskState}
+use Rattle.mc_shelf.specs.Sweeps.{AreOut, GivesFor, IsPurged}
+use Rattle.mc_shelf.specs.Parts.{shelf_of, IsShelfOf, IsDeskOf, ArePartsOf, GoesTo}
+use Rattle.mc_shelf.specs.Unions.{IsFlushed, left_of_flush}
+use Rattle.std.proofs.Math.Seq.{take-append_seam}
+use Rattle.mc_shelf.specs.Stores.{IsSetUp}
+use Rattle.mc_shelf.specs.declared.store.Settings.{Settings}
+use Rattle.mc_shelf.proofs.IndexLemmas.{order}
+use Rattle.mc_shelf.proofs.PartLemmas.{PartsLaw, same_items, get_kept, parted, own_items, shelf_kept, put_cases}
+
+hash_kept : (kept : Bool) (o : Option ℕ) (stored : ℕ) → cond kept o None ≡ Some stored → o ≡ Some stored
+hash_kept true o stored found = found
+hash_kept false o stored found = cc
+
+module _ {hash_of : List ℕ → ℕ} {count at : ℕ} {state : Plain} {shelf : ShelfContent} {desk : DeskState} (law : PartsLaw) (fits : IsShelfOf hash_of count state at shelf) (account : IsDeskOf state desk) where
+  abbrev mine : List ℕ → Bool
+  mine q = eqb (shelf_of hash_of count q) at
+
+  abbrev rest : Items
+  rest = retain_keys state.items (λ q. not (mine q))
+
+  split : (class : ℕ) → count_of state.items class ≡ count_of shelf.items class + count_of rest class
+  split = parted law state.items shelf.items rest mine (own_items fits) (get_kept state.items (λ q. not (mine q)))
+
+  pub part_out : AreOut shelf desk
+  part_out class is = omega (arith, split class, account.out class is)
+
+  module _ {now : ℕ} {shelf' : ShelfContent} {desk' : DeskState} (drops : IsPurged now shelf shelf') (gives : GivesFor shelf.items shelf'.items desk desk') where
+    abbrev new : Plain
+    new = purged mine now state
+
+    abbrev at_key : Bool → List ℕ → Option Entry
+    at_key here q = cond (not here || is_some (alive state.cut now (get state.items q))) (get state.items q) None
+
+    get_new : (q : List ℕ) → get new.items q ≡ at_key (mine q) q
+    get_new q = get_kept state.items (λ q. not (mine q) || is_some (alive state.cut now (get state.items q))) q
+
+    other_new : (q : List ℕ) → shelf_of hash_of count q ≢ at → get new.items q ≡ get state.items q
+    other_new q other = get_new q ∙ ap (λ b. at_key b q) (ne_eqb (shelf_of hash_of count q) at other)
+
+    own : IsShelfOf hash_of count new at shelf'
+    own =
+        shelf_kept fits (λ o. cond (is_some (alive state.cut now o)) o None) refl (drops.greatest ∙ fits.greatest) (drops.cut ∙ fits.cut)
+        (λ q.
+        ap (λ (m : Items). get m q) drops.items ∙ get_kept shelf.items (λ q. is_some (alive shelf.cut now (get shelf.items q))) q
+        ∙ ap (λ c. cond (is_some (alive c now (get shelf.items q))) (get shelf.items q) None) fits.cut)
+        (λ q is. get_new q ∙ ap (λ b. at_key b q) (eq-eqb (shelf_of hash_of count q) at is))
+        (λ q stored found. hash_kept (is_some (get shelf'.items q)) (get shelf.hashes q) stored (sym (drops.hashes q) ∙ found))
+
+    rest_new : (q : List ℕ) → get rest q ≡ cond (not (mine q)) (get new.items q) None
+    rest_new q =
+        get_kept state.items (λ q. not (mine q)) q
+        ∙ elim (mine q) as (λ b. mine q ≡ b → cond (not b) (get state.items q) None ≡ cond (not b) (get new.items q) None) [
+          | true ↦ λ h. refl
+          | false ↦ λ h. sym (other_new q (λ same. true≢false (sym (eq-eqb (shelf_of hash_of count q) at same) ∙ h)))
+        ] refl
+
+    pub goes_purged : GoesTo hash_of count at state new shelf' desk'
+    goes_purged = record {
+      greatest = refl;
+      limit = refl;
+      own = own;
+      account = record {
+        next_unique = gives.next_unique ∙ account.next_unique;
+        limit = gives.limit ∙ account.limit;
+        pages = gives.pages ∙ account.pages;
+        out = λ class is.
+            let after = parted law new.items shelf'.items rest mine (own_items own) rest_new class in
+            omega (arith, split class, after, account.out class is, gives.out class is);
+      };
+      others = λ k still other part. record {
+        greatest = part.greatest;
+        cut = part.cut;
+        items = λ q is. part.items q is ∙ sym (other_new q (λ same. other (sym is ∙ same)));
+        apart = part.apart;
+        hashes = part.hashes;
+      };
+    }
+
+-- ---- a flush
+
+kept_alive : (cut : Option ℕ) (now : ℕ) (o : Option Entry) → cond (is_some (alive cut now o)) o None ≡ alive cut now o
+kept_alive cut now None = refl
+kept_alive cut now (Some item) =
+    elim (is_dead item.expiry item.updated cut now) as (λ b. cond (is_some (cond b None (Some item))) (Some item) None ≡ cond b None (Some item)) [ true ↦ refl | false ↦ refl ]
+
+-- what stands after it under a key
+get_flushed : (delay now : ℕ) (state : Plain) (q : List ℕ) → get (flushed delay state now).items q ≡ left_of_flush delay now state.cut (get state.items q)
+get_flushed delay now state q =
+    elim (eqb delay 0) as (λ b. get (cond b (record state { items = maps.empty; cut = None }) (record state { items = living state.items state.cut now; cut = Some (moment_named delay now) })).items q ≡ cond b None (alive state.cut now (get state.items q))) [
+      | true ↦ get-empty order q
+      | false ↦ get_kept state.items (λ q. is_some (alive state.cut now (get state.items q))) q ∙ kept_alive state.cut now (get state.items q)
+    ]
+
+none_left : (delay now : ℕ) (cut : Option ℕ) → left_of_flush delay now cut None ≡ None
+none_left delay now cut = elim (eqb delay 0) as (λ b. cond b None (alive cut now None) ≡ None) [ true ↦ refl | false ↦ refl ]
+
+-- it changes the items and the cut alone
+is_after : (delay now : ℕ) (state : Plain) → flushed delay state now ≡ record state { items = (flushed delay state now).items; cut = cond (eqb delay 0) None (Some (moment_named delay now)) }
+is_after delay now state =
+    let once : Plain = record state { items = maps.empty; cut = None } in
+    let later : Plain = record state { items = living state.items state.cut now; cut = Some (moment_named delay now) } in
+    elim (eqb delay 0) as (λ b. cond b once later ≡ record state { items = (cond b once later).items; cut = cond b None (Some (moment_named delay now)) }) [ true ↦ refl | false ↦ refl ]
+
+-- the shelves below a place and the one at it are those below the next
+below_next : (n at : ℕ) → ltb n (at + 1) ≡ ltb n at || eqb n at
+below_next n at =
+    elim (ltb n at) as (λ b. ltb n at ≡ b → ltb n (at + 1) ≡ b || eqb n at) [
+      | true ↦ λ below. lt-ltb n (at + 1) (omega (arith, ltb-true n at below))
+      | false ↦ λ above. here (ltb-false n at above)
+    ] refl
+  where
+    here : at ≤ n → ltb n (at + 1) ≡ eqb n at
+    here above = elim (eqb n at) as (λ b. eqb n at ≡ b → ltb n (at + 1) ≡ b) [
+      | true ↦ λ same. lt-ltb n (at + 1) (omega (arith, eqb-true n at same))
+      | false ↦ λ other.
+          let apart : n ≢ at = λ same. true≢false (sym (eq-eqb n at same) ∙ other) in
+          le-ltb n (at + 1) (omega arith)
+    ] refl
+
+or_false : (b : Bool) → b || false ≡ b
+or_false true = refl
+or_false false = refl
+
+below_not_here : (n at : ℕ) → eqb n at ≡ true → ltb n at ≡ false
+below_not_here n at same = le-ltb n at (omega (arith, eqb-true n at same))
+
+-- an item of the shelf at a place, and one of a shelf below it, are items of the shelves below the next place
+module _ (o : Option Entry) where
+  is_own : (own below next : Bool) → next ≡ below || own → cond own o None ≡ cond own (cond next o None) None
+  is_own true true next e = ap (λ b. cond b o None) (sym e)
+  is_own true false next e = ap (λ b. cond b o None) (sym e)
+  is_own false below next e = refl
+
+  is_below : (own below next : Bool) → next ≡ below || own → (own ≡ true → below ≡ false) → cond below o None ≡ cond (not own) (cond next o None) None
+  is_below true below next e apart = ap (λ b. cond b o None) (apart refl)
+  is_below false true next e apart = ap (λ b. cond b o None) (sym e)
+  is_below false false next e apart = ap (λ b. cond b o None) (sym e)
+
+-- a shelf that was cleared or purged, and then cut
+pub is_flushed : {delay now : ℕ} {old swept new : ShelfContent} {cut : Option ℕ} → cut ≡ cond (eqb delay 0) None (Some (moment_named delay now)) → new ≡ record swept { cut = cut }
+    → ((delay ≡ 0) × (swept ≡ record old { items = maps.empty; hashes = maps.empty })) ⊎ ((delay ≢ 0) × IsPurged now old swept) → IsFlushed delay now old new
+is_flushed {delay} {now} {old} {swept} {new} {cut} cut_is new_is (inl h) = record {
+  greatest = ap (λ (s : ShelfContent). s.greatest) new_is ∙ ap (λ (s : ShelfContent). s.greatest) h.1;
+  cut = ap (λ (s : ShelfContent). s.cut) new_is ∙ cut_is;
+  items = λ q.
+      ap (λ (s : ShelfContent). get s.items q) new_is ∙ ap (λ (s : ShelfContent). get s.items q) h.1 ∙ get-empty order q
+      ∙ ap (λ b. cond b None (alive old.cut now (get old.items q))) (sym (eq-eqb delay 0 h.0));
+  hashes = λ q stored found.
+      let gone : get swept.hashes q ≡ None = ap (λ (s : ShelfContent). get s.hashes q) h.1 ∙ get-empty order q in
+      let there : get swept.hashes q ≡ Some stored = sym (ap (λ (s : ShelfContent). get s.hashes q) new_is) ∙ found in
+      cc;
+}
+is_flushed {delay} {now} {old} {swept} {new} {cut} cut_is new_is (inr h) = record {
+  greatest = ap (λ (s : ShelfContent). s.greatest) new_is ∙ h.1.greatest;
+  cut = ap (λ (s : ShelfContent). s.cut) new_is ∙ cut_is;
+  items = λ q.
+      ap (λ (s : ShelfContent). get s.items q) new_is ∙ ap (λ (m : Items). get m q) h.1.items
+      ∙ get_kept old.items (λ q. is_some (alive old.cut now (get old.items q))) q ∙ kept_alive old.cut now (get old.items q)
+      ∙ ap (λ b. cond b None (alive old.cut now (get old.items q))) (sym (ne_eqb delay 0 h.0));
+  hashes = λ q stored found. hash_kept (is_some (get swept.items q)) (get old.hashes q) stored (sym (h.1.hashes q) ∙ sym (ap (λ (s : ShelfContent). get s.hashes q) new_is) ∙ found);
+}
+
+-- the items of the shelves below a place
+abbrev pub below : (List ℕ → ℕ) → ℕ → Items → Items
+below place at items = retain_keys items (λ q. ltb (place q) at)
+
+-- The shelves below a place are flushed, and the others are not yet.
+pub record AreFlushedTo (hash_of : List ℕ → ℕ) (count delay now : ℕ) (state : Plain) (at : ℕ) (list : List ShelfState) (desk : DeskState) : Type 0 where
+  pub number : length list ≡ count
+  pub some_shelf : 0 < count
+  pub each : (k : ℕ) (shelf : ShelfState) → slice_get list k ≡ Some shelf → IsShelfOf hash_of count (cond (ltb k at) (flushed delay state now) state) k shelf.content
+  pub next_unique : desk.next_unique ≡ state.next_unique
+  pub limit : desk.slab.limit ≡ state.limit
+  pub pages : desk.slab.pages ≡ state.pages
+  pub out : (class : ℕ) → IsClass class → out_of desk.slab class + count_of (below (shelf_of hash_of count) at state.items) class ≡ count_of state.items class + count_of (below (shelf_of hash_of count) at (flushed delay state now).items) class
+
+module _ (hash_of : List ℕ → ℕ) (count delay now : ℕ) (state : Plain) where
+  abbrev place : List ℕ → ℕ
+  place = shelf_of hash_of count
+
+  abbrev after : Plain
+  after = flushed delay state now
+
+  none_below : (items : Items) → below place 0 items ≡ maps.empty
+  none_below items = same_items (below place 0 items) maps.empty (λ q. get_kept items (λ q. ltb (place q) 0) q ∙ ap (λ b. cond b (get items q) None) (le-ltb (place q) 0 (omega arith)) ∙ sym (get-empty order q))
+
+  all_below : (at : ℕ) → 0 < count → count ≤ at → (items : Items) → below place at items ≡ items
+  all_below at some past items = same_items (below place at items) items (λ q. get_kept items (λ q. ltb (place q) at) q ∙ ap (λ b. cond b (get items q) None) (lt-ltb (place q) at (omega (arith, some, past))))
+
+  pub flushed_none : {list : List ShelfState} {desk : DeskState} → ArePartsOf hash_of state list count desk → AreFlushedTo hash_of count delay now state 0 list desk
+  flushed_none parts = record {
+    number = parts.number;
+    some_shelf = parts.some_shelf;
+    each = λ k shelf there. subst (λ b. IsShelfOf hash_of count (cond b after state) k shelf.content) (sym (le-ltb k 0 (omega arith))) (parts.each k shelf there);
+    next_unique = parts.account.next_unique;
+    limit = parts.account.limit;
+    pages = parts.account.pages;
+    out = λ class is.
+        (λ i. parts.account.out class is i + count_of (none_below state.items i) class) ∙ (λ i. count_of state.items class + count_of (sym (none_below after.items) i) class);
+  }
+
+  -- one shelf more is flushed
+  module _ {at : ℕ} {list : List ShelfState} {desk : DeskState} {shelf : ShelfState} (law : PartsLaw) (swept : AreFlushedTo hash_of count delay now state at list desk) (here : slice_get list at ≡ Some shelf) where
+    fits : IsShelfOf hash_of count state at shelf.content
+    fits = subst (λ b. IsShelfOf hash_of count (cond b after state) at shelf.content) (le-ltb at at (omega arith)) (swept.each at shelf here)
+
+    more_below : {s : Plain} {part : ShelfContent} → IsShelfOf hash_of count s at part → (class : ℕ) → count_of (below place (at + 1) s.items) class ≡ count_of part.items class + count_of (below place at s.items) class
+    more_below {s} {part} is =
+        parted law (below place (at + 1) s.items) part.items (below place at s.items) (λ q. eqb (place q) at)
+        (λ q.
+        own_items is q ∙ is_own (get s.items q) (eqb (place q) at) (ltb (place q) at) (ltb (place q) (at + 1)) (below_next (place q) at)
+        ∙ ap (λ o. cond (eqb (place q) at) o None) (sym (get_kept s.items (λ q. ltb (place q) (at + 1)) q)))
+        (λ q.
+        get_kept s.items (λ q. ltb (place q) at) q
+        ∙ is_below (get s.items q) (eqb (place q) at) (ltb (place q) at) (ltb (place q) (at + 1)) (below_next (place q) at) (below_not_here (place q) at)
+        ∙ ap (λ o. cond (not (eqb (place q) at)) o None) (sym (get_kept s.items (λ q. ltb (place q) (at + 1)) q)))
+
+    pub out_before : AreOut shelf.content desk
+    out_before class is =
+        let all = law state.items (λ q. ltb (place q) (at + 1)) class in
+        omega (arith, all, more_below fits class, swept.out class is)
+
+    module _ {desk' : DeskState} (shelf' : ShelfState) (flushes : IsFlushed delay now shelf.content shelf'.content) (gives : GivesFor shelf.content.items shelf'.content.items desk desk') where
+      fits_after : IsShelfOf hash_of count after at shelf'.content
+      fits_after =
+          shelf_kept fits (left_of_flush delay now state.cut) (none_left delay now state.cut)
+          (flushes.greatest ∙ fits.greatest ∙ ap (λ (s : Plain). s.greatest) (sym (is_after delay now state))) (flushes.cut ∙ ap (λ (s : Plain). s.cut) (sym (is_after delay now state)))
+          (λ q. flushes.items q ∙ ap (λ c. left_of_flush delay now c (get shelf.content.items q)) fits.cut)
+          (λ q is. get_flushed delay now state q)
+          flushes.hashes
+
+      pub flushed_more : AreFlushedTo hash_of count delay now state (at + 1) (slice_set list at shelf') desk'
+      flushed_more = record {
+        number = length-set list at shelf' ∙ swept.number;
+        some_shelf = swept.some_shelf;
+        each = λ k s there.
+            ⊎_elim
+            (λ h. subst (λ (p : ℕ × ShelfState). IsShelfOf hash_of count (cond (ltb p.0 (at + 1)) after state) p.0 p.1.content) (λ i. (sym h.0 i, sym h.1 i)) (subst (λ b. IsShelfOf hash_of count (cond b after state) at shelf'.content) (sym (lt-ltb at (at + 1) (omega arith))) fits_after))
+            (λ h. subst (λ b. IsShelfOf hash_of count (cond b after state) k s.content) (sym (below_next k at ∙ ap (λ b. ltb k at || b) (ne_eqb k at h.0) ∙ or_false (ltb k at))) (swept.each k s h.1))
+            (put_cases list at shelf' k s there);
+        next_unique = gives.next_unique ∙ swept.next_unique;
+        limit = gives.limit ∙ swept.limit;
+        pages = gives.pages ∙ swept.pages;
+        out = λ class is. omega (arith, more_below fits class, more_below fits_after class, swept.out class is, gives.out class is);
+      }
+
+  pub flushed_all : {at : ℕ} {list : List ShelfState} {desk : DeskState} → count ≤ at → AreFlushedTo hash_of count delay now state at list desk → ArePartsOf hash_of after list count desk
+  flushed_all {at} {list} past swept = record {
+    number = swept.number;
+    some_shelf = swept.some_shelf;
+    each = λ k shelf there. subst (λ b. IsShelfOf hash_of count (cond b after state) k shelf.content) (lt-ltb k at (omega (arith, past, swept.number, slice_get_within list k shelf there))) (swept.each k shelf there);
+    account = record {
+      next_unique = swept.next_unique ∙ ap (λ (s : Plain). s.next_unique) (sym (is_after delay now state));
+      limit = swept.limit ∙ ap (λ (s : Plain). s.limit) (sym (is_after delay now state));
+      pages = swept.pages ∙ ap (λ (s : Plain). s.pages) (sym (is_after delay now state));
+      out = λ class is.
+          let before : count_of (below place at state.items) class ≡ count_of state.items class = ap (λ (m : Items). count_of m class) (all_below at swept.some_shelf past state.items) in
+          let now_all : count_of (below place at after.items) class ≡ count_of after.items class = ap (λ (m : Items). count_of m class) (all_below at swept.some_shelf past after.items) in
+          omega (arith, before, now_all, swept.out class is);
+    };
+  }
+
+-- the shelves of a flush are written back, where they stood
+pub flushed_back : {hash_of : List ℕ → ℕ} {state : Plain} {new : List ShelfState} {count len : ℕ} {desk : DeskState} (old : List ShelfState) → len ≡ count → ArePartsOf hash_of state new count desk → ArePartsOf hash_of state (take len (new ++ drop (length new) old)) count desk
+flushed_back {hash_of} {state} {new} {count} {len} {desk} old all parts =
+    subst (λ (l : List ShelfState). ArePartsOf hash_of state l count desk)
+    (sym (ap (λ n. take n (new ++ drop (length new) old)) (all ∙ sym parts.number) ∙ take-append_seam new (drop (length new) old))) parts
+
+pub still_set_up : {settings : Settings} {state : Plain} (delay now : ℕ) → IsSetUp settings state → IsSetUp settings (flushed delay state now)
+still_set_up {settings} {state} delay now set_up = record {
+  greatest = ap (λ (s : Plain). s.greatest) (is_after delay now state) ∙ set_up.greatest;
+  limit = ap (λ (s : Plain). s.limit) (is_after delay now state) ∙ set_up.limit;
+}

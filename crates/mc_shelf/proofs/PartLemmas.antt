@@ -1,0 +1,250 @@
+-- Parts of a state: what they are together, and what a change of one of them makes of the state.
+use Rattle.std.proofs.Common.{◌≡◌, ◌≢◌, ℕ, zero, suc, ◌+◌, ◌<◌, Bool, true, false, cond, not, eqb, eqb-true, eq-eqb, true≢false, List, [], ◌∷◌, ◌++◌, length, length-set, Option, Some, None, slice_get, slice_set, refl, sym, ap, subst, ◌∙◌, arith, ◌⊎◌, inl, inr, ⊎_elim}
+use Rattle.std.proofs.lemmas.Option.{same_Some}
+use Rattle.std.specs.Option.{option_or}
+use Rattle.std.specs.Cmp.{tied_itself}
+use Rattle.std.specs.Cmp.Lexicographic.{nat_list_cmp_total}
+use Rattle.std.specs.Ordering.{eq_by_cmp}
+use Rattle.std.specs.declared.cmp.Ordering.TheVariants.{Less, Equal, Greater}
+use Rattle.std.specs.FinMap.{entries, get, find, get-entries, get-from_entries, get-retain_keys, retain_keys, same_map}
+use Rattle.mc_command.specs.declared.step.KeyStep.{KeyStep}
+use Rattle.mc_command.specs.declared.reply.Reply.{Reply}
+use Rattle.mc_command.specs.Commands.{key_of}
+use Rattle.mc_command.specs.Laws.{IsOnKey}
+use Rattle.mc_command.specs.Plain.{Answered, Entry, Items, Plain, count_of, plain}
+use Rattle.mc_shelf.specs.States.{ShelfContent, ShelfState, DeskState, IsAt, IsHash}
+use Rattle.mc_shelf.specs.Plans.{IsTaken}
+use Rattle.mc_shelf.specs.Parts.{shelf_of, IsShelfOf, IsDeskOf, ArePartsOf, GoesTo, GoesByStep}
+use Rattle.mc_shelf.specs.Unions.{all_entries, all_items, cut_of, plain_of}
+use Rattle.mc_shelf.specs.Stores.{IsSetUp}
+use Rattle.mc_shelf.specs.declared.store.Settings.{Settings}
+use Rattle.mc_shelf.proofs.IndexLemmas.{order, same_key}
+
+-- the plain machine's step on a key leaves the other keys, as `other_keys_stay` says, and the limit of pages, as `pages_stay`
+abbrev pub OthersLaw : Type 0
+OthersLaw = (old new : Plain) (step : KeyStep) (now : ℕ) (reply : Reply) (other : List ℕ) → IsOnKey step → plain old step now ≡ Answered reply new → other ≢ key_of step → get new.items other ≡ get old.items other
+
+abbrev pub LimitLaw : Type 0
+LimitLaw = (old new : Plain) (step : KeyStep) (now : ℕ) (reply : Reply) → plain old step now ≡ Answered reply new → new.limit ≡ old.limit
+
+-- the items whose keys pass a test and the others are all of them, as `counts_follow` says
+abbrev pub PartsLaw : Type 0
+PartsLaw = (items : Items) (meant : List ℕ → Bool) (class : ℕ) → count_of items class ≡ count_of (retain_keys items meant) class + count_of (retain_keys items (λ key. not (meant key))) class
+
+-- items that answer alike are the same
+pub same_items : (a b : Items) → ((key : List ℕ) → get a key ≡ get b key) → a ≡ b
+same_items a b alike = same_map nat_list_cmp_total same_key a b alike
+
+-- what is kept under a key
+pub get_kept : (items : Items) (keep : List ℕ → Bool) (key : List ℕ) → get (retain_keys items keep) key ≡ cond (keep key) (get items key) None
+get_kept items keep key = get-retain_keys items keep key (λ x same. ap keep (sym (same_key key x same)))
+
+key_or_not : (q key : List ℕ) → (q ≡ key) ⊎ (q ≢ key)
+key_or_not q key = elim (order q key) as (λ r. order q key ≡ r → (q ≡ key) ⊎ (q ≢ key)) [
+  | Less ↦ λ e. inr (λ same. let tied = ap (λ k. order k key) same ∙ tied_itself nat_list_cmp_total key in cc)
+  | Equal ↦ λ e. inl (same_key q key e)
+  | Greater ↦ λ e. inr (λ same. let tied = ap (λ k. order k key) same ∙ tied_itself nat_list_cmp_total key in cc)
+] refl
+
+-- ---- what parts are together
+
+module _ (q : List ℕ) where
+  find_beside : (xs ys : List (List ℕ × Entry)) → find order q (xs ++ ys) ≡ option_or (find order q xs) (find order q ys)
+  find_beside [] ys = refl
+  find_beside (x ∷ xs) ys =
+      elim (eq_by_cmp order q x.0) as (λ b. cond b (Some x.1) (find order q (xs ++ ys)) ≡ option_or (cond b (Some x.1) (find order q xs)) (find order q ys)) [
+        | true ↦ refl
+        | false ↦ find_beside xs ys
+      ]
+
+  -- the item of the key on the first shelf that has one
+  abbrev first_of : List ShelfState → Option Entry
+  first_of [] = None
+  first_of (shelf ∷ shelves) = option_or (get shelf.content.items q) (first_of shelves)
+
+  find_first : (shelves : List ShelfState) → find order q (all_entries shelves) ≡ first_of shelves
+  find_first [] = refl
+  find_first (shelf ∷ shelves) =
+      find_beside (entries shelf.content.items) (all_entries shelves)
+      ∙ (λ i. option_or (sym (get-entries shelf.content.items q) i) (find_first shelves i))
+
+  -- no shelf has an item of the key
+  first_none : (shelves : List ShelfState) → ((at : ℕ) (shelf : ShelfState) → slice_get shelves at ≡ Some shelf → get shelf.content.items q ≡ None) → first_of shelves ≡ None
+  first_none [] none = refl
+  first_none (shelf ∷ shelves) none = λ i. option_or (none 0 shelf refl i) (first_none shelves (λ at s. none (suc at) s) i)
+
+  or_none : (o : Option Entry) → option_or o None ≡ o
+  or_none None = refl
+  or_none (Some item) = refl
+
+  -- only this one has
+  first_own : (shelves : List ShelfState) (at : ℕ) (shelf : ShelfState) → slice_get shelves at ≡ Some shelf
+      → ((k : ℕ) (s : ShelfState) → slice_get shelves k ≡ Some s → k ≢ at → get s.content.items q ≡ None) → first_of shelves ≡ get shelf.content.items q
+  first_own [] at shelf here apart = cc
+  first_own (first ∷ shelves) zero shelf here apart =
+      ap (option_or (get first.content.items q)) (first_none shelves (λ k s there. apart (suc k) s there (λ e. omega arith)))
+      ∙ or_none (get first.content.items q) ∙ ap (λ (s : ShelfState). get s.content.items q) (same_Some first shelf here)
+  first_own (first ∷ shelves) (suc at) shelf here apart =
+      λ i. option_or (apart 0 first refl (λ e. omega arith) i) (first_own shelves at shelf here (λ k s there other. apart (suc k) s there (λ e. other (omega arith))) i)
+
+-- a shelf stands at each place
+some_there : (shelves : List ShelfState) (at : ℕ) → at < length shelves → (shelf : ShelfState) × (slice_get shelves at ≡ Some shelf)
+some_there [] at inside = absurd (omega arith)
+some_there (shelf ∷ shelves) zero inside = (shelf, refl)
+some_there (shelf ∷ shelves) (suc at) inside = some_there shelves at (omega arith)
+
+module _ {hash_of : List ℕ → ℕ} {state : Plain} {list : List ShelfState} {count : ℕ} {desk : DeskState} (settings : Settings) (set_up : IsSetUp settings state) (parts : ArePartsOf hash_of state list count desk) where
+  same_all : all_items list ≡ state.items
+  same_all = same_items (all_items list) state.items (λ q.
+      let own = some_there list (shelf_of hash_of count q) (omega (arith, parts.number, parts.some_shelf)) in
+      get-from_entries nat_list_cmp_total (all_entries list) q ∙ find_first q list
+      ∙ first_own q list (shelf_of hash_of count q) own.0 own.1 (λ k t there other. (parts.each k t there).apart q (λ same. other (sym same)))
+      ∙ (parts.each (shelf_of hash_of count q) own.0 own.1).items q refl)
+
+  same_cut : cut_of list ≡ state.cut
+  same_cut =
+      let first = some_there list 0 (omega (arith, parts.number, parts.some_shelf)) in
+      cut_first list first.0 first.1 ∙ (parts.each 0 first.0 first.1).cut
+    where
+      cut_first : (list : List ShelfState) (shelf : ShelfState) → slice_get list 0 ≡ Some shelf → cut_of list ≡ shelf.content.cut
+      cut_first [] shelf there = cc
+      cut_first (first ∷ list) shelf there = ap (λ (s : ShelfState). s.content.cut) (same_Some first shelf there)
+
+  -- the state is the one that they are together
+  pub plain_is : plain_of settings list desk ≡ state
+  plain_is = λ i. record {
+    greatest = sym set_up.greatest i;
+    limit = sym set_up.limit i;
+    items = same_all i;
+    cut = same_cut i;
+    next_unique = parts.account.next_unique i;
+    pages = parts.account.pages i;
+  }
+
+  pub are_kept : ArePartsOf hash_of (plain_of settings list desk) list count desk
+  are_kept = subst (λ (s : Plain). ArePartsOf hash_of s list count desk) (sym plain_is) parts
+
+-- ---- a change of one shelf and the desk
+
+pub put_cases : (shelves : List ShelfState) (at : ℕ) (new : ShelfState) (k : ℕ) (s : ShelfState) → slice_get (slice_set shelves at new) k ≡ Some s → ((k ≡ at) × (s ≡ new)) ⊎ ((k ≢ at) × (slice_get shelves k ≡ Some s))
+put_cases [] at new k s there = cc
+put_cases (first ∷ shelves) zero new zero s there = inl (refl, sym (same_Some new s there))
+put_cases (first ∷ shelves) zero new (suc k) s there = inr ((λ e. omega arith), there)
+put_cases (first ∷ shelves) (suc at) new zero s there = inr ((λ e. omega arith), there)
+put_cases (first ∷ shelves) (suc at) new (suc k) s there = ⊎_elim (λ h. inl (ap suc h.0, h.1)) (λ h. inr ((λ e. h.0 (omega arith)), h.1)) (put_cases shelves at new k s there)
+
+-- it changes all parts so
+pub parts_go : {hash_of : List ℕ → ℕ} {count at : ℕ} {old new : Plain} {list : List ShelfState} {desk desk' : DeskState} (shelf : ShelfState)
+    → ArePartsOf hash_of old list count desk → GoesTo hash_of count at old new shelf.content desk' → ArePartsOf hash_of new (slice_set list at shelf) count desk'
+parts_go {hash_of} {count} {at} {old} {new} {list} shelf parts goes = record {
+  number = length-set list at shelf ∙ parts.number;
+  some_shelf = parts.some_shelf;
+  each = λ k s there.
+      ⊎_elim
+      (λ h. subst (λ (p : ℕ × ShelfState). IsShelfOf hash_of count new p.0 p.1.content) (λ i. (sym h.0 i, sym h.1 i)) goes.own)
+      (λ h. goes.others k s.content h.0 (parts.each k s h.1))
+      (put_cases list at shelf k s there);
+  account = goes.account;
+}
+
+-- a step on one of the shelf's keys
+module _ {hash_of : List ℕ → ℕ} {count at : ℕ} {state : Plain} {shelf : ShelfContent} {desk : DeskState} (step : KeyStep) (mine : shelf_of hash_of count (key_of step) ≡ at) (fits : IsShelfOf hash_of count state at shelf) (account : IsDeskOf state desk) where
+  pub is_at : IsAt (key_of step) shelf desk state
+  is_at = record {
+    greatest = sym fits.greatest;
+    cut = sym fits.cut;
+    item = sym (fits.items (key_of step) mine);
+    next_unique = sym account.next_unique;
+    limit = sym account.limit;
+    pages = sym account.pages;
+    out = account.out;
+  }
+
+  module _ {now : ℕ} {reply : Reply} {shelf' : ShelfContent} {desk' : DeskState} (on : IsOnKey step) (others : OthersLaw) (limit : LimitLaw) (taken : IsTaken step now (hash_of (key_of step)) shelf desk reply shelf' desk') where
+    abbrev new : Plain
+    new = (taken.takes state is_at).0
+
+    answered : plain state step now ≡ Answered reply new
+    answered = (taken.takes state is_at).1
+
+    stands : IsAt (key_of step) shelf' desk' new
+    stands = (taken.takes state is_at).2
+
+    same_greatest : state.greatest ≡ new.greatest
+    same_greatest = sym fits.greatest ∙ sym taken.others.greatest ∙ sym stands.greatest
+
+    same_item : (q : List ℕ) → q ≢ key_of step → get state.items q ≡ get new.items q
+    same_item q other = sym (others state new step now reply q on answered other)
+
+    elsewhere : (q : List ℕ) → shelf_of hash_of count q ≢ at → q ≢ key_of step
+    elsewhere q other same = other (ap (shelf_of hash_of count) same ∙ mine)
+
+    own : IsShelfOf hash_of count new at shelf'
+    own = record {
+      greatest = sym stands.greatest;
+      cut = sym stands.cut;
+      items = λ q is.
+          ⊎_elim
+          (λ same. subst (λ (k : List ℕ). get shelf'.items k ≡ get new.items k) (sym same) (sym stands.item))
+          (λ other. taken.others.items q other ∙ fits.items q is ∙ same_item q other)
+          (key_or_not q (key_of step));
+      apart = λ q other. taken.others.items q (elsewhere q other) ∙ fits.apart q other;
+      hashes = λ q.
+          ⊎_elim
+          (λ same. subst (λ (k : List ℕ). IsHash shelf' k (hash_of k)) (sym same) taken.hashed)
+          (λ other stored found. fits.hashes q stored (sym (taken.others.hashes q other) ∙ found))
+          (key_or_not q (key_of step));
+    }
+
+    pub goes_by_step : GoesByStep hash_of count at step now state reply shelf' desk'
+    goes_by_step = record {
+      new = new;
+      answered = answered;
+      goes = record {
+        greatest = sym same_greatest;
+        limit = limit state new step now reply answered;
+        own = own;
+        account = record {
+          next_unique = sym stands.next_unique;
+          limit = sym stands.limit;
+          pages = sym stands.pages;
+          out = stands.out;
+        };
+        others = λ k still other part. record {
+          greatest = part.greatest ∙ same_greatest;
+          cut = part.cut ∙ sym fits.cut ∙ sym taken.others.cut ∙ sym stands.cut;
+          items = λ q is. part.items q is ∙ same_item q (elsewhere q (λ same. other (sym is ∙ same)));
+          apart = part.apart;
+          hashes = part.hashes;
+        };
+      };
+    }
+
+-- ---- items that are dropped
+
+-- two maps part a third by a test on keys
+pub parted : PartsLaw → (whole part rest : Items) (meant : List ℕ → Bool) → ((q : List ℕ) → get part q ≡ cond (meant q) (get whole q) None) → ((q : List ℕ) → get rest q ≡ cond (not (meant q)) (get whole q) None) → (class : ℕ) → count_of whole class ≡ count_of part class + count_of rest class
+parted law whole part rest meant own others class =
+    let part_is = same_items (retain_keys whole meant) part (λ q. get_kept whole meant q ∙ sym (own q)) in
+    let rest_is = same_items (retain_keys whole (λ q. not (meant q))) rest (λ q. get_kept whole (λ q. not (meant q)) q ∙ sym (others q)) in
+    law whole meant class ∙ (λ i. count_of (part_is i) class + count_of (rest_is i) class)
+
+module _ {hash_of : List ℕ → ℕ} {count at : ℕ} {state : Plain} {shelf : ShelfContent} (fits : IsShelfOf hash_of count state at shelf) where
+  -- of the state's items the shelf has those of its keys
+  pub own_items : (q : List ℕ) → get shelf.items q ≡ cond (eqb (shelf_of hash_of count q) at) (get state.items q) None
+  own_items q = elim (eqb (shelf_of hash_of count q) at) as (λ b. eqb (shelf_of hash_of count q) at ≡ b → get shelf.items q ≡ cond b (get state.items q) None) [
+    | true ↦ λ h. fits.items q (eqb-true (shelf_of hash_of count q) at h)
+    | false ↦ λ h. fits.apart q (λ same. true≢false (sym (eq-eqb (shelf_of hash_of count q) at same) ∙ h))
+  ] refl
+
+  -- items are kept of the shelf, and so of the state
+  pub shelf_kept : {new : Plain} {shelf' : ShelfContent} (kept : Option Entry → Option Entry) → kept None ≡ None → shelf'.greatest ≡ new.greatest → shelf'.cut ≡ new.cut
+      → ((q : List ℕ) → get shelf'.items q ≡ kept (get shelf.items q)) → ((q : List ℕ) → shelf_of hash_of count q ≡ at → get new.items q ≡ kept (get state.items q))
+      → ((q : List ℕ) (stored : ℕ) → get shelf'.hashes q ≡ Some stored → get shelf.hashes q ≡ Some stored) → IsShelfOf hash_of count new at shelf'
+  shelf_kept kept none greatest cut items own hashes = record {
+    greatest = greatest;
+    cut = cut;
+    items = λ q is. items q ∙ ap kept (fits.items q is) ∙ sym (own q is);
+    apart = λ q other. items q ∙ ap kept (fits.apart q other) ∙ none;
+    hashes = λ q stored found. fits.hashes q stored (hashes q stored found);
+  }

@@ -1,0 +1,26 @@
+use Rattle.std.proofs.Common.{cond, sym, ap, ◌∙◌, lt-ltb}
+use Rattle.mc_shelf.specs.Stores.{shelf_purged}
+use Rattle.mc_shelf.specs.Unions.{plain_of}
+use Rattle.mc_shelf.proofs.StoreLemmas.{shelf_here, kept_after, plain_after}
+use Rattle.mc_shelf.proofs.store.Store.purge.Goals as goal
+
+pub purge_part-requires : goal.purge_part-requires
+purge_part-requires g c =
+    let parts = c.self.invariant in
+    let fits = parts.each c.args.shelf c.index_mut-shelf.result.now (shelf_here c.self.inside.parts.settings parts c.if-shelf-self.true c.index_mut-shelf.ensures.value) in
+    (_, _, c.args.shelf, _, fits, parts.account)
+
+pub invariant_of-self : goal.invariant_of-self
+invariant_of-self g c =
+    let parts = c.self.invariant in
+    let settings = c.self.inside.parts.settings in
+    let fits = parts.each c.args.shelf c.index_mut-shelf.result.now (shelf_here settings parts c.if-shelf-self.true c.index_mut-shelf.ensures.value) in
+    kept_after settings parts c.purge_part.new.self (c.purge_part.ensures _ _ c.args.shelf _ fits parts.account)
+
+pub returns-then-shelf-self-clause-plain : goal.returns-then-shelf-self-clause-plain
+returns-then-shelf-self-clause-plain g c =
+    let parts = c.self.invariant in
+    let settings = c.self.inside.parts.settings in
+    let fits = parts.each c.args.shelf c.index_mut-shelf.result.now (shelf_here settings parts c.if-shelf-self.true c.index_mut-shelf.ensures.value) in
+    rw (← c.self.view_is, lt-ltb c.args.shelf settings.shelves c.if-shelf-self.true)
+    (plain_after settings parts c.purge_part.new.self (c.purge_part.ensures _ _ c.args.shelf _ fits parts.account))

@@ -1,0 +1,48 @@
+use Rattle.std.proofs.Common.{◌≡◌, ◌<◌, ◌%◌, refl, sym, ap, ◌∙◌, arith}
+use Rattle.mc_command.specs.Commands.{key_of}
+use Rattle.mc_shelf.specs.Parts.{shelf_of}
+use Rattle.mc_shelf.specs.Unions.{plain_of}
+use Rattle.mc_shelf.proofs.PartLemmas.{is_at}
+use Rattle.mc_shelf.proofs.StoreLemmas.{shelf_here, goes_nowhere, plain_after, parts_stepped, took_step, spent_there, if_ok, if_err}
+use Rattle.mc_shelf.proofs.store.Store.step_on_key.Goals as goal
+
+pub step-requires-clause-stands : goal.step-requires-clause-stands
+step-requires-clause-stands g c =
+    let parts = c.self.invariant in
+    let s = c.self.inside.parts in
+    let at = c.hash-hash.result % c.from.result in
+    let hashed = c.hash-hash.ensures ∙ ap (g.K.KeyHash.hash_of s.hasher) c.key.ensures in
+    let inside : at < s.settings.shelves = omega (arith, c.from.ensures, parts.some_shelf) in
+    let fits = parts.each at c.index_mut-shelf.result.now (shelf_here s.settings parts inside c.index_mut-shelf.ensures.value) in
+    record { plain = plain_of s.settings s.shelves.items s.desk; stands = is_at c.args.step.now (λ i. sym hashed i % sym c.from.ensures i) fits parts.account }
+
+pub invariant_of-self : goal.invariant_of-self
+invariant_of-self g c =
+    let parts = c.self.invariant in
+    let s = c.self.inside.parts in
+    let at = c.hash-hash.result % c.from.result in
+    let hashed = c.hash-hash.ensures ∙ ap (g.K.KeyHash.hash_of s.hasher) c.key.ensures in
+    let inside : at < s.settings.shelves = omega (arith, c.from.ensures, parts.some_shelf) in
+    let here = shelf_here s.settings parts inside c.index_mut-shelf.ensures.value in
+    parts_stepped s.settings parts here c.args.step.now c.args.now c.step.new.self c.step.new.desk (λ i. sym hashed i % sym c.from.ensures i) hashed c.requires.on_key c.steps_change_one_shelf.ensures
+    c.step.result c.step.ensures.took c.step.ensures.err
+
+pub returns : goal.returns
+returns g c =
+    let parts = c.self.invariant in
+    let s = c.self.inside.parts in
+    let step = c.args.step.now in
+    let at = c.hash-hash.result % c.from.result in
+    let hashed = c.hash-hash.ensures ∙ ap (g.K.KeyHash.hash_of s.hasher) c.key.ensures in
+    let inside : at < s.settings.shelves = omega (arith, c.from.ensures, parts.some_shelf) in
+    let here = shelf_here s.settings parts inside c.index_mut-shelf.ensures.value in
+    let mine : shelf_of (g.K.KeyHash.hash_of s.hasher) s.settings.shelves (key_of step) ≡ at = λ i. sym hashed i % sym c.from.ensures i in
+    let state = plain_of s.settings s.shelves.items s.desk in
+    let stands = is_at step mine (parts.each at c.index_mut-shelf.result.now here) parts.account in
+    rw (← c.self.view_is)
+    (record {
+      took = if_ok c.step.result c.step.ensures.took (λ reply took. (took_step s.settings parts here step c.args.now c.step.new.self c.step.new.desk mine hashed c.requires.on_key c.steps_change_one_shelf.ensures took, (refl, refl)));
+      spent = (λ e. c.step.ensures.spent.0 e state stands, λ e. c.step.ensures.spent.1 (spent_there step c.args.now c.requires.on_key stands e));
+      err = if_err c.step.result c.step.ensures.err (λ same. record { plain = plain_after s.settings parts c.step.new.self (goes_nowhere s.settings parts here same.0 same.1); settings = refl; hasher = refl });
+      refused = λ e. c.step.ensures.refused e state stands;
+    })

@@ -1,0 +1,107 @@
+//! The parts of a store: its shelves, and the desk that they share.
+
+ghost use Rattle.std.specs.Prelude.{◌≡◌, ◌==◌, ◌≤◌, ℕ, List, map, replicate, IfOk};
+ghost use Rattle.mc_command.specs.declared.step.KeyStep.{KeyStep};
+ghost use Rattle.mc_command.specs.declared.reply.Reply.{Reply};
+ghost use Rattle.mc_command.specs.Commands.{key_of};
+ghost use Rattle.mc_command.specs.Plain.{Plain, flushed};
+ghost use Rattle.mc_command.specs.Purge.{purged};
+ghost use Rattle.mc_command.specs.Laws.{IsOnKey};
+ghost use Rattle.mc_shelf.specs.States.{ShelfContent, DeskState, nothing_held};
+ghost use Rattle.mc_shelf.specs.Plans.{IsTaken};
+ghost use Rattle.mc_shelf.specs.Sweeps.{AreOut, GivesFor};
+ghost use Rattle.mc_shelf.specs.Unions.{IsFlushed, lefts};
+ghost use Rattle.mc_shelf.specs.Parts.{
+  shelf_of,
+  IsShelfOf,
+  IsDeskOf,
+  ArePartsOf,
+  GoesTo,
+  GoesByStep,
+};
+
+use crate::desk::Desk;
+use crate::shelf::Shelf;
+use mc_command::{counts_follow, other_keys_stay, pages_stay};
+use mc_time::{Moment, cut_after};
+use std::alloc::{AllocError, Global};
+
+/// A step that is taken by a key's shelf and by the desk, as parts of a state, takes the state to the plain machine's next:
+/// both are parts of that, and each other shelf stays one.
+pub fn steps_change_one_shelf()
+    ensures { (hash_of : List ℕ → ℕ) (shelves at : ℕ) (state : Plain) (step : KeyStep) (now : ℕ)
+        (reply : Reply) (old new : ShelfContent) (desk desk' : DeskState) →
+        IsOnKey step → shelf_of hash_of shelves (key_of step) ≡ at →
+        IsShelfOf hash_of shelves state at old → IsDeskOf state desk →
+        IsTaken step now (hash_of (key_of step)) old desk reply new desk' →
+        GoesByStep hash_of shelves at step now state reply new desk' }
+{
+    other_keys_stay();
+    pages_stay();
+}
+
+impl Shelf {
+    /// Drops the items that are dead at a moment, of a shelf that is with this desk a part of a state, and gives their chunks
+    /// back: the state goes to the one purged of that shelf's dead. It takes no memory. The cost is that of one pass over
+    /// the items.
+    pub fn purge_part(&mut self, now: Moment, desk: &mut Desk)
+        requires { (hash_of : List ℕ → ℕ) × (shelves : ℕ) × (at : ℕ) × (state : Plain)
+            × IsShelfOf hash_of shelves state at self.old.content × IsDeskOf state desk.old }
+        ensures { (hash_of : List ℕ → ℕ) (shelves at : ℕ) (state : Plain) →
+            IsShelfOf hash_of shelves state at self.old.content → IsDeskOf state desk.old →
+            GoesTo hash_of shelves at state
+            (purged (λ key. shelf_of hash_of shelves key == at) now state)
+            self.new.content desk.new }
+    {
+        counts_follow();
+        self.purge(now, desk);
+    }
+
+    /// Flushes the shelf: all items go at once, or the dead go and the others are flushed after a delay.
+    fn flush(&mut self, delay: u64, now: Moment, desk: &mut Desk)
+        requires { AreOut self.old.content desk.old }
+        ensures shelf { IsFlushed delay now self.old.content self.new.content }
+        ensures desk { GivesFor self.old.content.items self.new.content.items desk.old desk.new }
+    {
+        if delay == 0 {
+            self.clear(desk);
+        } else {
+            self.purge(now, desk);
+        }
+        self.set_cut(cut_after(delay, now));
+    }
+}
+
+/// Flushes a state by its parts, all its shelves in their order and the desk: all items go at once, or the dead go and the
+/// others are flushed after a delay, in seconds or as a moment, as an exptime is read. It takes no memory. The cost is that
+/// of one pass over all items.
+pub fn flush_parts(shelves: &mut [Shelf], desk: &mut Desk, delay: u64, now: Moment)
+    requires { (hash_of : List ℕ → ℕ) × (state : Plain) × (count : ℕ)
+        × ArePartsOf hash_of state shelves.old count desk.old }
+    ensures { (hash_of : List ℕ → ℕ) (state : Plain) (count : ℕ) →
+        ArePartsOf hash_of state shelves.old count desk.old →
+        ArePartsOf hash_of (flushed delay state now) shelves.new count desk.new }
+{
+    counts_follow();
+    for shelf in shelves.iter_mut() {
+        shelf.flush(delay, now, desk);
+    }
+}
+
+/// So many shelves of no items.
+pub(crate) fn empty_shelves(
+    alloc: Global,
+    count: u32,
+    greatest: u64,
+) -> Result<Vec<Shelf>, AllocError>
+    requires { greatest ≤ 1048576 }
+    ensures content { IfOk result (λ list.
+        map (λ shelf. shelf.content) list.items ≡ replicate count (nothing_held greatest)) }
+    ensures left { IfOk result (λ list. lefts list.items ≡ replicate count 0) }
+{
+    let mut list = Vec::with_capacity(alloc, count as usize)?;
+    for _ in 0..count {
+        list.push(Shelf::new(alloc, greatest)?)?;
+    }
+    Ok(list)
+}
