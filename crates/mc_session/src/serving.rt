@@ -52,7 +52,6 @@ pub fn serve<R: Read, W: Write, S: Steps, C: Clock>(
     ensures ok { OnOk result (ServesAll S.Steps (C.may_give clock.now) greatest store.old store.new
         (R.remaining reader.old) (R.remaining reader.new)
         (W.contents writer.old) (W.contents writer.new)) }
-
     ensures read { result ≡ Err ServeFault.Read →
         Serves S.Steps (C.may_give clock.now) greatest store.old store.new
         (R.remaining reader.old) (R.remaining reader.new)

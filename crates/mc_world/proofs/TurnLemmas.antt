@@ -14,6 +14,7 @@ use Rattle.mc_session.specs.Turns.{SessionState, Answers, AnswersStep, TakesTurn
 use Rattle.mc_session.specs.declared.session.Turn.{Turn}
 use Rattle.mc_session.specs.declared.session.TurnFault.{TurnFault}
 use Rattle.mc_shelf.specs.declared.store.Store.{Store}
+use Rattle.mc_shelf.specs.Stores.{HoldSame, TookStep}
 use Rattle.mc_world.specs.Worlds.{WorldState, put, open_session, in_plain}
 use Rattle.mc_world.specs.Sessions.{TurnOf, DecidedOf, IsDue, Done, Undone, at_session}
 use Rattle.mc_world.specs.declared.event.Event.TheVariants.{Turn as TurnEvent}
@@ -102,13 +103,13 @@ module _ {S : Type 0} (relations : Relations S) (Keeps : S → S → Type 0) (ea
 
 -- a store's steps, as what they say of the plain state
 abbrev store_took : {K : Type 0} → Store K → KeyStep → ℕ → Reply → Store K → Type 0
-store_took old step now reply new = (plain old.plain step now ≡ Answered reply new.plain) × (new.settings ≡ old.settings) × (new.hasher ≡ old.hasher)
+store_took old step now reply new = TookStep old step now reply new
 
 abbrev store_spent : {K : Type 0} → Store K → KeyStep → ℕ → Type 0
 store_spent old step now = plain old.plain step now ≡ Spent
 
 abbrev store_same : {K : Type 0} → Store K → Store K → Type 0
-store_same old new = (new.plain ≡ old.plain) × (new.settings ≡ old.settings) × (new.hasher ≡ old.hasher)
+store_same old new = HoldSame old new
 
 abbrev in_store : {K : Type 0} → Relations (Store K)
 in_store = record { took = store_took; spent = store_spent; same = store_same }
@@ -118,7 +119,7 @@ Kept b a = (a.settings ≡ b.settings) × (a.hasher ≡ b.hasher)
 
 -- what stays where no step was taken
 held : {K : Type 0} (b a : Store K) → HoldsSame in_store b a → store_same b a
-held {K = K} b a (inl e) = (ap (λ (s : Store K). s.plain) e, ap (λ (s : Store K). s.settings) e, ap (λ (s : Store K). s.hasher) e)
+held {K = K} b a (inl e) = record { plain = ap (λ (s : Store K). s.plain) e; settings = ap (λ (s : Store K). s.settings) e; hasher = ap (λ (s : Store K). s.hasher) e }
 held b a (inr same) = same
 
 -- What a turn of a session with a store says of the world.
@@ -128,13 +129,13 @@ module _ {K : Type 0} (n now : ℕ) (old new : List SessionState) (b a : Store K
 
   pub result_done : (hash_of : K → List ℕ → ℕ) (r : Result Turn TurnFault) → OnOk r (TurnOf in_store n now old new b a) → OnOk r (Done hash_of (with_store old b) (TurnEvent n) (with_store new a))
   result_done hash_of (Ok t) h =
-      let kept : Kept b a = turn_keeps in_store Kept (λ b step now reply a took. (took.1, took.2)) (λ b a same. (same.1, same.2)) (λ b a e. let same = held b a (inl e) in (same.1, same.2)) n now old new b a h in
-      (kept.0, kept.1, refl, turn_seen in_store in_plain (λ (s : Store K). s.plain) (λ b step now reply a took. took.0) (λ b step now spent. spent) (λ b a same. same.0) n now old new b a h)
+      let kept : Kept b a = turn_keeps in_store Kept (λ b step now reply a took. took.1) (λ b a same. (same.settings, same.hasher)) (λ b a e. let same = held b a (inl e) in (same.settings, same.hasher)) n now old new b a h in
+      (kept.0, kept.1, refl, turn_seen in_store in_plain (λ (s : Store K). s.plain) (λ b step now reply a took. took.0) (λ b step now spent. spent) (λ b a same. same.plain) n now old new b a h)
   result_done hash_of (Err fault) h = tt
 
   decided_kept : (decided : Bool) → (IsFalse decided → HoldsSame in_store b a) → (IsTrue decided → DecidedOf in_store n now old b a) → Kept b a
-  decided_kept true undecided decides = let took = (decides refl).2.took_it in (took.1, took.2)
-  decided_kept false undecided decides = let same = held b a (undecided refl) in (same.1, same.2)
+  decided_kept true undecided decides = (decides refl).2.took_it.1
+  decided_kept false undecided decides = let same = held b a (undecided refl) in (same.settings, same.hasher)
 
   pub result_undone : (r : Result Turn TurnFault) → OnErr r (new ≡ at_session old n closed) → OnErr r (IsDue n old) → IfErr r (λ fault. IsFalse fault.decided → HoldsSame in_store b a) → IfErr r (λ fault. IsTrue fault.decided → DecidedOf in_store n now old b a)
       → IfErr r (λ fault. Undone fault.decided (with_store old b) (TurnEvent n) (with_store new a))
@@ -147,6 +148,6 @@ module _ {K : Type 0} (n now : ℕ) (old new : List SessionState) (b a : Store K
         moment = refl;
         sessions = shut;
         takes = due;
-        undecided = λ is. (held b a (undecided is)).0;
-        decides = λ is. decided_seen in_store in_plain (λ (s : Store K). s.plain) (λ b step now reply a took. took.0) (λ b step now spent. spent) (λ b a same. same.0) n now old b a (decides is);
+        undecided = λ is. (held b a (undecided is)).plain;
+        decides = λ is. decided_seen in_store in_plain (λ (s : Store K). s.plain) (λ b step now reply a took. took.0) (λ b step now spent. spent) (λ b a same. same.plain) n now old b a (decides is);
       }
