@@ -30,5 +30,6 @@ text_of end.NoMemory = codes "mcserver: out of memory"
 
 -- what may be done about it
 abbrev pub hint_of : End → List ℕ
-hint_of end.CannotListen = codes "mcserver: there are no sockets yet; --stdin serves one session over standard input and output"
+hint_of end.CannotListen =
+    codes "mcserver: there are no sockets yet; --stdin serves one session over standard input and output"
 hint_of _ = codes ""

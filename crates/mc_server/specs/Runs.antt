@@ -11,7 +11,8 @@ use Rattle.mc_server.specs.declared.end.End.TheVariants as end
 
 -- a world of no items and no sessions, whose store may have so many pages
 abbrev pub new_world : (pages now : ℕ) → WorldState
-new_world pages now = record { greatest = 1048576; state = opening pages 1048576; now = now; sessions = [] }
+new_world pages now =
+    record { greatest = 1048576; state = opening pages 1048576; now = now; sessions = [] }
 
 -- the moments of the clock that is asked for: one that stands, or the system's
 abbrev pub moments : Option ℕ → (ℕ → Type 0) → ℕ → Type 0
@@ -19,23 +20,28 @@ moments (Some moment) system now = now ≡ moment
 moments None system now = system now
 
 -- The world was new at a moment of the clock, and was served so.
-pub record InNewWorld (pages : ℕ) (may_give : ℕ → Type 0) (How : (old new : WorldState) → Type 0) : Type 0 where
+pub record InNewWorld (pages : ℕ) (may_give : ℕ → Type 0)
+    (How : (old new : WorldState) → Type 0) : Type 0 where
   pub moment : ℕ
   pub given : may_give moment
   pub stands : CanStand (new_world pages moment)
   pub last : WorldState
   pub how : How (new_world pages moment) last
 
--- So many pages are to be used and the clock may give these moments; what the reader had left, and what the writer held.
-module _ (pages : ℕ) (may_give : ℕ → Type 0) (reader_old reader_new writer_old writer_new : Option (List ℕ)) where
-  -- one session of a new world was served, by how it ended: keys are hashed by FNV-1a, and there are 64 shelves
+-- So many pages are to be used and the clock may give these moments; what the reader had left, and
+-- what the writer held. Keys are hashed by FNV-1a, and there are 64 shelves.
+module _ (pages : ℕ) (may_give : ℕ → Type 0) (r r' w w' : Option (List ℕ)) where
+  -- one session of a new world was served, by how it ended
   abbrev pub Serves : Result (Unit {0}) ServeFault → Type 0
-  Serves (Ok _) = InNewWorld pages may_give (λ old new. ServedAll fnv 64 may_give old new reader_old reader_new writer_old writer_new)
-  Serves (Err fault.Read) = InNewWorld pages may_give (λ old new. Served fnv 64 may_give old new reader_old reader_new writer_old writer_new)
-  Serves (Err fault.Write) = InNewWorld pages may_give (λ old new. Served fnv 64 may_give old new reader_old reader_new writer_old writer_new)
+  Serves (Ok _) =
+      InNewWorld pages may_give (λ old new. ServedAll fnv 64 may_give old new r r' w w')
+  Serves (Err fault.Read) =
+      InNewWorld pages may_give (λ old new. Served fnv 64 may_give old new r r' w w')
+  Serves (Err fault.Write) =
+      InNewWorld pages may_give (λ old new. Served fnv 64 may_give old new r r' w w')
   Serves (Err fault.NoMemory) = InNewWorld pages may_give (λ old new.
-      ServedNone fnv 64 may_give old new reader_old reader_new writer_old writer_new
-      ⊎ ServedUntilRefused fnv 64 may_give old new reader_old reader_new writer_old writer_new)
+      ServedNone fnv 64 may_give old new r r' w w'
+      ⊎ ServedUntilRefused fnv 64 may_give old new r r' w w')
 
   -- the program ended with a session that was served so
   abbrev pub EndsServed : End → Type 0

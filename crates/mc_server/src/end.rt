@@ -43,7 +43,8 @@ impl End {
     ghost use Rattle.clap.specs.declared.error.kind.ErrorKind.TheVariants as kind;
     ghost use Rattle.mc_server.specs.Ends.{status_of, text_of, hint_of};
 
-    /// The end where the words of the command line could not be read: memory ran out, or one isn't text.
+    /// Gives the end where the words of the command line could not be read: memory ran out, or one
+    /// isn't text.
     pub fn of_words(error: io::Error) -> End
         ensures memory { error_kind error ≡ io_kind.OutOfMemory → result ≡ End.NoMemory }
         ensures text { error_kind error ≢ io_kind.OutOfMemory → result ≡ End.NotText }
@@ -55,15 +56,16 @@ impl End {
         }
     }
 
-    /// The end where `clap` gives no options, by what it says and by whether that was printed.
+    /// Gives the end where `clap` has no options, by what it says and by whether that was printed.
     pub fn of_options(error: &clap::Error, printed: &io::Result<()>) -> End
         ensures memory { kind_of error.now ≡ kind.OutOfMemory → result ≡ End.NoMemory }
-        ensures shown { (kind_of error.now ≡ kind.DisplayHelp) ⊎ (kind_of error.now ≡ kind.DisplayVersion)
-            → IsOk printed.now → result ≡ End.Shown }
-        ensures not_shown { (kind_of error.now ≡ kind.DisplayHelp) ⊎ (kind_of error.now ≡ kind.DisplayVersion)
-            → IsErr printed.now → result ≡ End.NotShown }
-        ensures mistake { kind_of error.now ≢ kind.OutOfMemory → kind_of error.now ≢ kind.DisplayHelp
-            → kind_of error.now ≢ kind.DisplayVersion → result ≡ End.BadCommandLine }
+        ensures shown { (kind_of error.now ≡ kind.DisplayHelp)
+            ⊎ (kind_of error.now ≡ kind.DisplayVersion) → IsOk printed.now → result ≡ End.Shown }
+        ensures not_shown { (kind_of error.now ≡ kind.DisplayHelp)
+            ⊎ (kind_of error.now ≡ kind.DisplayVersion) → IsErr printed.now → result ≡ End.NotShown }
+        ensures mistake { kind_of error.now ≢ kind.OutOfMemory
+            → kind_of error.now ≢ kind.DisplayHelp → kind_of error.now ≢ kind.DisplayVersion
+            → result ≡ End.BadCommandLine }
     {
         if error.kind() == ErrorKind::OutOfMemory {
             return End::NoMemory;
@@ -77,7 +79,7 @@ impl End {
         }
     }
 
-    /// What the shell is told, and what is said on standard error. It takes no memory.
+    /// Gives what the shell is told, and what is said on standard error. It takes no memory.
     pub fn ending(&self) -> Ending
         ensures status { result.status ≡ status_of self.now }
         ensures text { result.text.now ≡ text_of self.now }
@@ -124,7 +126,8 @@ impl Ending {
 
     /// An ending with no hint.
     fn said(status: u8, text: &'static str) -> Ending
-        ensures { (result.status ≡ status) × (result.text ≡ text.entry) × (result.hint.now ≡ codes "") }
+        ensures { (result.status ≡ status) × (result.text ≡ text.entry)
+            × (result.hint.now ≡ codes "") }
     {
         Ending {
             status,

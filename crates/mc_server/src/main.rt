@@ -38,14 +38,15 @@ fn run(rt: &HostRuntime) -> End {
     }
 }
 
-/// The words of the command line, the program's own name first; or how the program ends without them.
+/// The words of the command line, the program's own name first; or how the program ends without
+/// them.
 fn words(rt: &HostRuntime) -> Result<Vec<String>, End> {
     let words = env::args(rt).map_err(End::of_words)?;
     Ok(words.collect(rt.alloc())?)
 }
 
-/// Prints what `clap` says of the command line: help on standard output, a mistake on standard error. Of want of memory
-/// it says nothing.
+/// Prints what `clap` says of the command line: help on standard output, a mistake on standard
+/// error. Of want of memory it says nothing.
 fn printed(rt: &HostRuntime, error: &clap::Error) -> io::Result<()> {
     if error.kind() == ErrorKind::OutOfMemory {
         return Ok(());

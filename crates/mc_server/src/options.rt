@@ -33,8 +33,9 @@ pub struct Options {
 }
 
 impl Options {
-    /// The options by what `clap` found: whether `--stdin` is there, the seconds of `--now`, and the pages of `-m`. The
-    /// store has 64 pages where none are asked for. What is out of range, which `clap` refuses, is brought into it.
+    /// Makes options of what `clap` found: whether `--stdin` is there, the seconds of `--now`, and the
+    /// pages of `-m`. The store has 64 pages where none are asked for. What is out of range, which
+    /// `clap` refuses, is brought into it.
     pub fn new(stdin: bool, now: Option<u64>, pages: Option<u32>) -> Options
         ensures stdin { result.stdin ≡ stdin }
         ensures now { result.now ≡ option_map (min (2 ^ 62)) now }

@@ -18,9 +18,10 @@ const SHELVES: u32 = 64;
 /// The greatest charge of an item, in bytes: one page.
 const GREATEST: u64 = 1_048_576;
 
-/// Serves what the command line asks for: one session over the reader and the writer, to its end, in a new world whose
-/// store may have the pages that were asked for. Its clock stands where that was asked for, and is the system's otherwise.
-/// Where listening is asked for, nothing is read or written.
+/// Serves what the command line asks for: one session over the reader and the writer, to its end, in
+/// a new world whose store may have the pages that were asked for. Its clock stands where that was
+/// asked for, and is the system's otherwise. Where listening is asked for, nothing is read or
+/// written.
 pub fn serve<R: Read, W: Write, C: Clock>(
     alloc: Global,
     options: Options,
@@ -29,9 +30,12 @@ pub fn serve<R: Read, W: Write, C: Clock>(
     system: &C,
 ) -> End
     requires { 1 ≤ options.pages × options.pages ≤ 65536 }
-    ensures session { IsTrue options.stdin → EndsServed options.pages (moments options.now (C.may_give system.now))
-        (R.remaining reader.old) (R.remaining reader.new) (W.contents writer.old) (W.contents writer.new) result }
-    ensures listen { IsFalse options.stdin → (result ≡ End.CannotListen) × (reader.new ≡ reader.old) × (writer.new ≡ writer.old) }
+    ensures session { IsTrue options.stdin
+        → EndsServed options.pages (moments options.now (C.may_give system.now))
+        (R.remaining reader.old) (R.remaining reader.new)
+        (W.contents writer.old) (W.contents writer.new) result }
+    ensures listen { IsFalse options.stdin → (result ≡ End.CannotListen)
+        × (reader.new ≡ reader.old) × (writer.new ≡ writer.old) }
 {
     if !options.stdin {
         return End::CannotListen;
@@ -52,7 +56,9 @@ fn session<R: Read, W: Write, C: Clock>(
     clock: &C,
 ) -> Result<(), ServeFault>
     requires { 1 ≤ pages × pages ≤ 65536 }
-    ensures { Serves pages (C.may_give clock.now) (R.remaining reader.old) (R.remaining reader.new) (W.contents writer.old) (W.contents writer.new) result }
+    ensures { Serves pages (C.may_give clock.now)
+        (R.remaining reader.old) (R.remaining reader.new)
+        (W.contents writer.old) (W.contents writer.new) result }
 {
     let settings = Settings {
         pages,

@@ -13,8 +13,8 @@ pub struct Drip<'a> {
 }
 
 impl<'a> Drip<'a> {
-    /// Makes a reader of these bytes that gives at most `piece` of them a call, and never fails: it makes more calls than
-    /// any test.
+    /// Makes a reader of these bytes that gives at most `piece` of them a call, and fails only after
+    /// more calls than any test makes.
     pub fn new(bytes: &'a [u8], piece: usize) -> Drip<'a> {
         Drip {
             rest: bytes,
@@ -24,7 +24,8 @@ impl<'a> Drip<'a> {
         }
     }
 
-    /// Makes a reader of these bytes that gives one of them a call, and fails so once it was asked that often.
+    /// Makes a reader of these bytes that gives one of them a call, and fails so once it was asked
+    /// that often.
     pub fn failing(bytes: &'a [u8], calls: usize, fault: ErrorKind) -> Drip<'a> {
         Drip {
             rest: bytes,

@@ -4,6 +4,9 @@ use Rattle.mc_server.proofs.serving.serve.Goals as goal
 
 pub returns-in-Some-clause-session : goal.returns-in-Some-clause-session
 returns-in-Some-clause-session g c = λ _.
-    subst (λ (now : Option ℕ). Serves c.args.options.pages (moments now (g.C.Clock.may_give c.args.system.now))
-        (g.R.Read.remaining c.args.reader.now) (g.R.Read.remaining c.session.new.reader) (g.W.Write.contents c.args.writer.now) (g.W.Write.contents c.session.new.writer) c.session.result)
+    subst (λ (now : Option ℕ). Serves c.args.options.pages
+    (moments now (g.C.Clock.may_give c.args.system.now))
+    (g.R.Read.remaining c.args.reader.now) (g.R.Read.remaining c.session.new.reader)
+    (g.W.Write.contents c.args.writer.now) (g.W.Write.contents c.session.new.writer)
+    c.session.result)
     (sym c.in-Some.is) c.session.ensures

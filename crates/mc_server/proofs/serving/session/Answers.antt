@@ -11,7 +11,10 @@ returns-in_default g c =
 pub returns : goal.returns
 returns g c =
     serves c.args.pages c.now.result (g.C.Clock.may_give c.args.clock.now) c.now.ensures
-    (g.R.Read.remaining c.args.reader.now) (g.R.Read.remaining c.serve_one.new.reader) (g.W.Write.contents c.args.writer.now) (g.W.Write.contents c.serve_one.new.writer)
-    c.in-Ok.world.store.settings.shelves (world_of c.in-Ok.world) (world_of c.serve_one.new.world) c.serve_one.result
+    (g.R.Read.remaining c.args.reader.now) (g.R.Read.remaining c.serve_one.new.reader)
+    (g.W.Write.contents c.args.writer.now) (g.W.Write.contents c.serve_one.new.writer)
+    c.in-Ok.world.store.settings.shelves (world_of c.in-Ok.world)
+    (world_of c.serve_one.new.world) c.serve_one.result
     (ap (λ s. s.shelves) c.in-Ok.ensures.settings) c.in-Ok.ensures.world
-    c.serve_one.ensures.ok c.serve_one.ensures.read c.serve_one.ensures.write c.serve_one.ensures.memory
+    c.serve_one.ensures.ok c.serve_one.ensures.read
+    c.serve_one.ensures.write c.serve_one.ensures.memory
