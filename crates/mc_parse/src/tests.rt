@@ -70,7 +70,12 @@ fn append_text(queue: &mut Queue, text: &[u8]) -> Result<(), AllocError>
     ensures ok { OnOk result (queue.new ≡ queue.old ++ text.now) }
     ensures err { OnErr result (queue.new ≡ queue.old) }
 {
-    queue.append_with(|out| out.extend_from_slice(text))
+    queue.append_with(
+        |out: &mut Vec<u8>| -> Result<(), AllocError>
+            ensures ok { OnOk result (out.new.items ≡ out.old.items ++ text.entry.now) }
+            ensures err { OnErr result (out.new.items ≡ out.old.items) }
+        { out.extend_from_slice(text) },
+    )
 }
 
 /// Takes up to `n` bytes away. Says whether what is left is this, and what is held at most twice as much.
