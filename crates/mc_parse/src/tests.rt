@@ -1,4 +1,4 @@
-ghost use Rattle.std.specs.Prelude.{◌≡◌};
+ghost use Rattle.std.specs.Prelude.{◌≡◌, ◌++◌, OnOk, OnErr};
 ghost use Rattle.std.specs.Option.{option_map};
 ghost use Rattle.mc_parse.specs.Peeks.{unit_of};
 
@@ -63,6 +63,60 @@ fn push_at_last(feed: &mut Feed, piece: &[u8]) -> Result<bool, AllocError> {
     let is_same = feed.unread_len() == held && len_of(feed.peek()) == found;
     feed.push(piece)?;
     Ok(is_same)
+}
+
+/// Appends a text through a function that writes to a buffer.
+fn append_text(queue: &mut Queue, text: &[u8]) -> Result<(), AllocError>
+    ensures ok { OnOk result (queue.new ≡ queue.old ++ text.now) }
+    ensures err { OnErr result (queue.new ≡ queue.old) }
+{
+    queue.append_with(
+        |out: &mut Vec<u8>| -> Result<(), AllocError>
+            ensures ok { OnOk result (out.new.items ≡ out.old.items ++ text.entry.now) }
+            ensures err { OnErr result (out.new.items ≡ out.old.items) }
+        { out.extend_from_slice(text) },
+    )
+}
+
+/// Takes up to `n` bytes away. Says whether what is left is this, and what is held at most twice as much.
+fn consume_to(queue: &mut Queue, n: usize, left: &[u8]) -> bool {
+    queue.consume(queue.len().min(n));
+    queue.as_slice() == left && queue.len() == left.len() && queue.held() <= 2 * left.len()
+}
+
+#[test]
+fn a_queue_takes_from_its_front(rt: HostRuntime) -> Result<(), AllocError> {
+    let mut queue = Queue::new(rt.alloc());
+    assert!(rt; queue.is_empty());
+    queue.push(b"abcdef")?;
+    append_text(&mut queue, b"gh")?;
+    let steps: [(usize, &[u8]); 5] = [
+        (0, b"abcdefgh"),
+        (3, b"defgh"),
+        (1, b"efgh"),
+        (3, b"h"),
+        (1, b""),
+    ];
+    for (n, left) in steps {
+        assert!(rt; consume_to(&mut queue, n, left));
+    }
+    assert!(rt; queue.is_empty());
+    Ok(())
+}
+
+#[test]
+fn a_large_queue_gives_its_memory_back(rt: HostRuntime) -> Result<(), AllocError> {
+    let mut queue = Queue::new(rt.alloc());
+    let piece = [b'x'; 8192];
+    for _ in 0..16 {
+        queue.push(&piece)?;
+    }
+    assert!(rt; queue.capacity() >= 131072);
+    queue.consume(queue.len().min(131071));
+    assert_eq!(rt; queue.held(), 1);
+    queue.clear();
+    assert!(rt; queue.capacity() <= 65536 && queue.held() == 0);
+    Ok(())
 }
 
 #[test]
@@ -152,7 +206,7 @@ fn a_block_that_is_passed_over(rt: HostRuntime) -> Result<(), AllocError> {
     assert_eq!(rt; feed.unread_len(), 0);
     for _ in 0..199 {
         assert!(rt; push_at_last(&mut feed, b"x")?);
-        assert_eq!(rt; feed.unread_len(), 0);
+        assert_eq!(rt; feed.held(), 0);
         assert!(rt; matches!(feed.peek(), Peek::More));
     }
     assert!(rt; push_at_last(&mut feed, b"version\r\nqu")?);
