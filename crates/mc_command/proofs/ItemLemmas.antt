@@ -18,8 +18,8 @@ use Rattle.std.specs.declared.vec.Vec.{Vec}
 use Rattle.std.specs.declared.alloc.Global.{Global}
 use Rattle.mc_time.specs.Death.{is_dead}
 use Rattle.mc_time.specs.declared.expiry.Expiry.{Expiry}
-use Rattle.mc_command.specs.Plain.{Plain, Entry, Items, alive, living}
-use Rattle.mc_command.specs.Items.{items_of, re_expired}
+use Rattle.mc_command.specs.Plain.{Plain, Entry, Items, alive, living, expiring}
+use Rattle.mc_command.specs.Items.{items_of}
 
 abbrev pub bytes_cmp : List ℕ → List ℕ → Ordering
 bytes_cmp = slice_cmp nat_cmp
@@ -257,18 +257,18 @@ insert-remove items k i =
     ∙ sym (get-insert nat_list_cmp_total items k i q))
 
 -- another expiry in the item that the entries have at a key
-pub re_expired-is : (old : Plain) (es fs : Entries) (q : List ℕ) (item other : Entry) (expiry : Expiry)
+pub expiring-is : (old : Plain) (es fs : Entries) (q : List ℕ) (item other : Entry) (expiry : Expiry)
     → old.items ≡ items_of es
     → item_at es q ≡ Some item
     → fs ≡ set_value (λ (k : Vec ℕ Global). is_at (bytes_cmp q) k.items) es other
     → other ≡ record item { expiry = expiry }
-    → record old { items = items_of fs } ≡ re_expired (get old.items q) q expiry old
-re_expired-is old es fs q item other expiry at found set is =
+    → record old { items = items_of fs } ≡ expiring (get old.items q) q expiry old
+expiring-is old es fs q item other expiry at found set is =
     let here : get old.items q ≡ Some item = ap (λ (m : Items). get m q) at ∙ get-items_of es q ∙ found in
     let items : items_of fs ≡ insert old.items q (record item { expiry = expiry }) =
     ap items_of set ∙ items_of-set_value es q other (rw found refl) ∙ ap (insert (items_of es) q) is ∙ ap (λ (m : Items). insert m q (record item { expiry = expiry })) (sym at) in
-    ap (λ (m : Items). let s : Plain = record old { items = m } in s) items ∙ ap (λ (o : Option Entry). re_expired o q expiry old) (sym here)
+    ap (λ (m : Items). let s : Plain = record old { items = m } in s) items ∙ ap (λ (o : Option Entry). expiring o q expiry old) (sym here)
 
-pub re_expired-none : (old : Plain) (es : Entries) (q : List ℕ) (expiry : Expiry) → old.items ≡ items_of es → item_at es q ≡ None → old ≡ re_expired (get old.items q) q expiry old
-re_expired-none old es q expiry at none =
-    ap (λ (o : Option Entry). re_expired o q expiry old) (sym (ap (λ (m : Items). get m q) at ∙ get-items_of es q ∙ none))
+pub expiring-none : (old : Plain) (es : Entries) (q : List ℕ) (expiry : Expiry) → old.items ≡ items_of es → item_at es q ≡ None → old ≡ expiring (get old.items q) q expiry old
+expiring-none old es q expiry at none =
+    ap (λ (o : Option Entry). expiring o q expiry old) (sym (ap (λ (m : Items). get m q) at ∙ get-items_of es q ∙ none))

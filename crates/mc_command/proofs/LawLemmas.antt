@@ -6,14 +6,16 @@ use Rattle.std.specs.Cmp.Lexicographic.{nat_list_cmp_total}
 use Rattle.std.specs.FinMap.{get, insert, remove, get-insert, get-remove, get-retain_keys, get-empty}
 use Rattle.mc_time.specs.declared.expiry.Expiry.{Expiry}
 use Rattle.mc_time.specs.declared.expiry.Expiry.TheVariants.{Never, At}
-use Rattle.mc_time.specs.Death.{is_dead, is_expired, is_flushed, moment_named, expiry_of}
+use Rattle.mc_time.specs.Death.{is_dead, is_expired, is_flushed, moment_named}
 use Rattle.mc_command.specs.declared.reply.Reply.{Reply}
 use Rattle.mc_command.specs.declared.reply.Reply.TheVariants.{TooLarge, NoChunk}
 use Rattle.mc_command.specs.declared.step.KeyStep.{KeyStep}
 use Rattle.mc_command.specs.declared.step.KeyStep.TheVariants.{Store, Cas, Read, ReadTouch, Touch, Delete, Count, Flush}
 use Rattle.mc_slab.specs.Classes.{class_holding}
 use Rattle.mc_command.specs.Commands.{key_of}
-use Rattle.mc_command.specs.Plain.{Plain, Entry, Items, Row, Outcome, Change, Leaves, Writes, Recounts, SetsExpiry, Removes, Answered, Spent, plain, applied, changed, wrote, charge, item_class, count_of, pages_of, chunks_of, has_room, with_chunk, written, without_dead, standing, alive, living, flushed, store_row, cas_row, read_row, read_touch_row, touch_row, delete_row, count_row}
+use Rattle.mc_command.specs.declared.row.Row.{Row}
+use Rattle.mc_command.specs.declared.row.Row.TheVariants.{Refuses, Reads, Touches, Deletes, Writes}
+use Rattle.mc_command.specs.Plain.{Plain, Entry, Items, Outcome, Answered, Spent, plain, stepped, changed, wrote, charge, count_of, pages_of, chunks_of, has_room, with_chunk, written, without_dead, expiring, perhaps_expiring, standing, alive, living, flushed, keeps_chunk, write_reply, block_of, written_block, row_of}
 use Rattle.mc_command.specs.Laws.{IsOnKey, AgreeAt, AgreeAfter, HaveSameRoom}
 use Rattle.mc_command.proofs.ItemLemmas.{bytes_cmp, same_bytes, laws, exact, is_equal}
 
@@ -59,31 +61,52 @@ wrote_keeps stays reply key flags expiry block old now other ne =
     (inserted_other old.items key other _ ne)
     (inserted_other (with_chunk old class).items key other _ ne ∙ ap (λ (m : Items). get m other) (with_chunk-items old class))
 
-changed_keeps : (reply : Reply) (change : Change) (key : List ℕ) (old : Plain) (now : ℕ) (other : List ℕ) → other ≢ key → Keeps old other (changed reply change key old now)
-changed_keeps reply Leaves key old now other ne = refl
-changed_keeps reply (Writes flags expiry block) key old now other ne = wrote_keeps false reply key flags expiry block old now other ne
-changed_keeps reply (Recounts item block) key old now other ne = wrote_keeps (eqb (item_class key item) (class_holding (charge key block))) reply key item.flags item.expiry block old now other ne
-changed_keeps reply (SetsExpiry item expiry) key old now other ne = inserted_other old.items key other _ ne
-changed_keeps reply Removes key old now other ne = removed_other old.items key other ne
+expiring_other : (item : Option Entry) (key other : List ℕ) (expiry : Expiry) (old : Plain)
+    → other ≢ key → get (expiring item key expiry old).items other ≡ get old.items other
+expiring_other None key other expiry old ne = refl
+expiring_other (Some item) key other expiry old ne = inserted_other old.items key other _ ne
 
-keeps_from : (outcome : Outcome) (mid old new : Plain) (reply : Reply) (other : List ℕ) → Keeps mid other outcome → get mid.items other ≡ get old.items other → outcome ≡ Answered reply new → get new.items other ≡ get old.items other
+perhaps_other : (item : Option Entry) (key other : List ℕ) (expiry : Option Expiry) (old : Plain)
+    → other ≢ key → get (perhaps_expiring item key expiry old).items other ≡ get old.items other
+perhaps_other item key other None old ne = refl
+perhaps_other item key other (Some expiry) old ne = expiring_other item key other expiry old ne
+
+changed_keeps : (row : Row) (step : KeyStep) (item : Option Entry) (old : Plain) (now : ℕ) (other : List ℕ)
+    → other ≢ key_of step → Keeps old other (changed row step item old now)
+changed_keeps (Refuses why) step item old now other ne = refl
+changed_keeps (Reads expiry) step item old now other ne = perhaps_other item (key_of step) other expiry old ne
+changed_keeps (Touches expiry) step item old now other ne = expiring_other item (key_of step) other expiry old ne
+changed_keeps Deletes step item old now other ne = removed_other old.items (key_of step) other ne
+changed_keeps (Writes draft) step item old now other ne =
+    let key : List ℕ = key_of step in
+    wrote_keeps (keeps_chunk draft.body key item) (write_reply draft.body) key draft.flags draft.expiry
+    (written_block draft.body (block_of step) item) old now other ne
+
+-- a step on a key
+pub on_key : (old : Plain) (step : KeyStep) (now : ℕ) → IsOnKey step → plain old step now ≡ stepped old step now
+on_key old (Store verb key flags exptime block) now on = refl
+on_key old (Cas key flags exptime block unique) now on = refl
+on_key old (Read key) now on = refl
+on_key old (ReadTouch key exptime) now on = refl
+on_key old (Touch key exptime) now on = refl
+on_key old (Delete key) now on = refl
+on_key old (Count key up by) now on = refl
+on_key old (Flush delay) now on = absurd on
+
+keeps_from : (outcome : Outcome) (mid old new : Plain) (reply : Reply) (other : List ℕ)
+    → Keeps mid other outcome → get mid.items other ≡ get old.items other → outcome ≡ Answered reply new
+    → get new.items other ≡ get old.items other
 keeps_from outcome mid old new reply other kept before is = subst (Keeps mid other) is kept ∙ before
 
-applied_keeps : (of : Option Entry → Row) (key : List ℕ) (old new : Plain) (now : ℕ) (reply : Reply) (other : List ℕ) → other ≢ key → applied of key old now ≡ Answered reply new → get new.items other ≡ get old.items other
-applied_keeps of key old new now reply other ne is =
-    let item = standing old key now in
-    let mid = without_dead item key old in
-    keeps_from (applied of key old now) mid old new reply other (changed_keeps (of item).0 (of item).1 key mid now other ne) (without_dead_other item key other old ne) is
-
-pub other_keys : (old new : Plain) (step : KeyStep) (now : ℕ) (reply : Reply) (other : List ℕ) → IsOnKey step → plain old step now ≡ Answered reply new → other ≢ key_of step → get new.items other ≡ get old.items other
-other_keys old new (Store verb key flags exptime block) now reply other on is ne = applied_keeps (store_row verb flags (expiry_of exptime now) block) key old new now reply other ne is
-other_keys old new (Cas key flags exptime block unique) now reply other on is ne = applied_keeps (cas_row flags (expiry_of exptime now) block unique) key old new now reply other ne is
-other_keys old new (Read key) now reply other on is ne = applied_keeps read_row key old new now reply other ne is
-other_keys old new (ReadTouch key exptime) now reply other on is ne = applied_keeps (read_touch_row (expiry_of exptime now)) key old new now reply other ne is
-other_keys old new (Touch key exptime) now reply other on is ne = applied_keeps (touch_row (expiry_of exptime now)) key old new now reply other ne is
-other_keys old new (Delete key) now reply other on is ne = applied_keeps delete_row key old new now reply other ne is
-other_keys old new (Count key up by) now reply other on is ne = applied_keeps (count_row up by) key old new now reply other ne is
-other_keys old new (Flush delay) now reply other on is ne = absurd on
+pub other_keys : (old new : Plain) (step : KeyStep) (now : ℕ) (reply : Reply) (other : List ℕ)
+    → IsOnKey step → plain old step now ≡ Answered reply new → other ≢ key_of step → get new.items other ≡ get old.items other
+other_keys old new step now reply other on is ne =
+    let item = standing old (key_of step) now in
+    let mid = without_dead item (key_of step) old in
+    keeps_from (stepped old step now) mid old new reply other
+    (changed_keeps (row_of step now item) step item mid now other ne)
+    (without_dead_other item (key_of step) other old ne)
+    (sym (on_key old step now on) ∙ is)
 
 -- the same change at the same key of two states that agree there
 insert_agrees : (m n : Items) (key : List ℕ) (item : Entry) → get (insert m key item) key ≡ get (insert n key item) key
@@ -146,38 +169,59 @@ wrote_agrees stays reply key flags expiry block a b now same room =
     (write_agrees (ltb a.greatest (charge key block)) (eqb a.next_unique 18446744073709551615) stays (has_room a class) reply key a b _ _ _ _ same (written_agrees key flags expiry block a b now same)
     (written_agrees key flags expiry block (with_chunk a class) (with_chunk b class) now (with_chunk_agrees key a b class same)))
 
-changed_agrees : (reply : Reply) (change : Change) (key : List ℕ) (a b : Plain) (now : ℕ) → AgreeAt key a b → ((class : ℕ) → has_room a class ≡ has_room b class) → AgreeAfter key (changed reply change key a now) (changed reply change key b now)
-changed_agrees reply Leaves key a b now same room = (refl, same)
-changed_agrees reply (Writes flags expiry block) key a b now same room = wrote_agrees false reply key flags expiry block a b now same room
-changed_agrees reply (Recounts item block) key a b now same room = wrote_agrees (eqb (item_class key item) (class_holding (charge key block))) reply key item.flags item.expiry block a b now same room
-changed_agrees reply (SetsExpiry item expiry) key a b now same room =
-    (refl, record { item = insert_agrees a.items b.items key _; cut = same.cut; next_unique = same.next_unique; greatest = same.greatest })
-changed_agrees reply Removes key a b now same room =
-    (refl, record { item = remove_agrees a.items b.items key; cut = same.cut; next_unique = same.next_unique; greatest = same.greatest })
+expiring_agrees : (item : Option Entry) (key : List ℕ) (expiry : Expiry) (a b : Plain)
+    → AgreeAt key a b → AgreeAt key (expiring item key expiry a) (expiring item key expiry b)
+expiring_agrees None key expiry a b same = same
+expiring_agrees (Some item) key expiry a b same = record {
+  item = insert_agrees a.items b.items key _;
+  cut = same.cut;
+  next_unique = same.next_unique;
+  greatest = same.greatest;
+}
+
+perhaps_agrees : (item : Option Entry) (key : List ℕ) (expiry : Option Expiry) (a b : Plain)
+    → AgreeAt key a b → AgreeAt key (perhaps_expiring item key expiry a) (perhaps_expiring item key expiry b)
+perhaps_agrees item key None a b same = same
+perhaps_agrees item key (Some expiry) a b same = expiring_agrees item key expiry a b same
+
+changed_agrees : (row : Row) (step : KeyStep) (item : Option Entry) (a b : Plain) (now : ℕ)
+    → AgreeAt (key_of step) a b → ((class : ℕ) → has_room a class ≡ has_room b class)
+    → AgreeAfter (key_of step) (changed row step item a now) (changed row step item b now)
+changed_agrees (Refuses why) step item a b now same room = (refl, same)
+changed_agrees (Reads expiry) step item a b now same room = (refl, perhaps_agrees item (key_of step) expiry a b same)
+changed_agrees (Touches expiry) step item a b now same room = (refl, expiring_agrees item (key_of step) expiry a b same)
+changed_agrees Deletes step item a b now same room = (
+  refl,
+  record {
+    item = remove_agrees a.items b.items (key_of step);
+    cut = same.cut;
+    next_unique = same.next_unique;
+    greatest = same.greatest;
+  },
+)
+changed_agrees (Writes draft) step item a b now same room =
+    let key : List ℕ = key_of step in
+    wrote_agrees (keeps_chunk draft.body key item) (write_reply draft.body) key draft.flags draft.expiry
+    (written_block draft.body (block_of step) item) a b now same room
 
 standing_agrees : (a b : Plain) (key : List ℕ) (now : ℕ) → AgreeAt key a b → standing a key now ≡ standing b key now
 standing_agrees a b key now same = ap (λ (o : Option Entry). alive a.cut now o) same.item ∙ ap (λ (c : Option ℕ). alive c now (get b.items key)) same.cut
 
--- the states that a step finds have the same room
-abbrev SameRoomAt : List ℕ → ℕ → Plain → Plain → Type 0
-SameRoomAt key now a b = (class : ℕ) → has_room (without_dead (standing a key now) key a) class ≡ has_room (without_dead (standing b key now) key b) class
-
-applied_agrees : (of : Option Entry → Row) (key : List ℕ) (a b : Plain) (now : ℕ) → AgreeAt key a b → SameRoomAt key now a b → AgreeAfter key (applied of key a now) (applied of key b now)
-applied_agrees of key a b now same room =
+stepped_agrees : (a b : Plain) (step : KeyStep) (now : ℕ)
+    → AgreeAt (key_of step) a b → HaveSameRoom step now a b → AgreeAfter (key_of step) (stepped a step now) (stepped b step now)
+stepped_agrees a b step now same room =
+    let key : List ℕ = key_of step in
     let stands = standing_agrees a b key now same in
-    subst (λ (item : Option Entry). AgreeAfter key (applied of key a now) (changed (of item).0 (of item).1 key (without_dead item key b) now)) stands
-    (changed_agrees (of (standing a key now)).0 (of (standing a key now)).1 key _ _ now (without_dead_agrees (standing a key now) key a b same)
+    subst (λ (item : Option Entry). AgreeAfter key (stepped a step now) (changed (row_of step now item) step item (without_dead item key b) now)) stands
+    (changed_agrees (row_of step now (standing a key now)) step (standing a key now) _ _ now
+    (without_dead_agrees (standing a key now) key a b same)
     (λ class. room class ∙ ap (λ (item : Option Entry). has_room (without_dead item key b) class) (sym stands)))
 
-pub one_key : (a b : Plain) (step : KeyStep) (now : ℕ) → IsOnKey step → AgreeAt (key_of step) a b → HaveSameRoom step now a b → AgreeAfter (key_of step) (plain a step now) (plain b step now)
-one_key a b (Store verb key flags exptime block) now on same room = applied_agrees (store_row verb flags (expiry_of exptime now) block) key a b now same room
-one_key a b (Cas key flags exptime block unique) now on same room = applied_agrees (cas_row flags (expiry_of exptime now) block unique) key a b now same room
-one_key a b (Read key) now on same room = applied_agrees read_row key a b now same room
-one_key a b (ReadTouch key exptime) now on same room = applied_agrees (read_touch_row (expiry_of exptime now)) key a b now same room
-one_key a b (Touch key exptime) now on same room = applied_agrees (touch_row (expiry_of exptime now)) key a b now same room
-one_key a b (Delete key) now on same room = applied_agrees delete_row key a b now same room
-one_key a b (Count key up by) now on same room = applied_agrees (count_row up by) key a b now same room
-one_key a b (Flush delay) now on same room = absurd on
+pub one_key : (a b : Plain) (step : KeyStep) (now : ℕ)
+    → IsOnKey step → AgreeAt (key_of step) a b → HaveSameRoom step now a b
+    → AgreeAfter (key_of step) (plain a step now) (plain b step now)
+one_key a b step now on same room =
+    rw (on_key a step now on, on_key b step now on) (stepped_agrees a b step now same room)
 
 -- the dead stay dead
 later_true : (moment now later : ℕ) → now ≤ later → leb moment now ≡ true → leb moment later ≡ true

@@ -4,13 +4,15 @@ use Rattle.std.proofs.lemmas.Bool.{cases_lt, ltb-true, eqb-true, or_cases}
 use Rattle.std.proofs.lemmas.List.{set_past}
 use Rattle.std.proofs.lemmas.List.Sums.{sum_by-set}
 use Rattle.mc_time.specs.declared.expiry.Expiry.{Expiry}
-use Rattle.mc_time.specs.Death.{expiry_of}
 use Rattle.mc_slab.specs.Classes.{class_holding}
 use Rattle.mc_command.specs.declared.reply.Reply.{Reply}
 use Rattle.mc_command.specs.declared.reply.Reply.TheVariants.{TooLarge, NoChunk}
 use Rattle.mc_command.specs.declared.step.KeyStep.{KeyStep}
 use Rattle.mc_command.specs.declared.step.KeyStep.TheVariants.{Store, Cas, Read, ReadTouch, Touch, Delete, Count, Flush}
-use Rattle.mc_command.specs.Plain.{Plain, Entry, Row, Outcome, Change, Leaves, Writes, Recounts, SetsExpiry, Removes, Answered, Spent, plain, applied, changed, wrote, charge, item_class, count_of, pages_of, chunks_of, has_room, with_chunk, written, without_dead, standing, store_row, cas_row, read_row, read_touch_row, touch_row, delete_row, count_row}
+use Rattle.mc_command.specs.declared.row.Row.{Row}
+use Rattle.mc_command.specs.declared.row.Row.TheVariants.{Refuses, Reads, Touches, Deletes, Writes}
+use Rattle.mc_command.specs.Commands.{key_of}
+use Rattle.mc_command.specs.Plain.{Plain, Entry, Outcome, Answered, Spent, plain, stepped, changed, wrote, charge, count_of, pages_of, chunks_of, has_room, with_chunk, written, without_dead, expiring, perhaps_expiring, standing, write_reply, keeps_chunk, block_of, written_block, row_of}
 
 -- one state's pages and limit after another's
 record Grows (old new : Plain) : Type 0 where
@@ -82,12 +84,23 @@ wrote_grows keeps reply key flags expiry block old now =
     (stays old old refl refl) (stays old (written old key flags expiry block now) refl refl)
     (λ room. let g = with_chunk-grows old class room in record { grows = g.grows; limit = g.limit; within = g.within })
 
-changed_grows : (reply : Reply) (change : Change) (key : List ℕ) (old : Plain) (now : ℕ) → GrowsTo old (changed reply change key old now)
-changed_grows reply Leaves key old now = stays old old refl refl
-changed_grows reply (Writes flags expiry block) key old now = wrote_grows false reply key flags expiry block old now
-changed_grows reply (Recounts item block) key old now = wrote_grows (eqb (item_class key item) (class_holding (charge key block))) reply key item.flags item.expiry block old now
-changed_grows reply (SetsExpiry item expiry) key old now = stays old _ refl refl
-changed_grows reply Removes key old now = stays old _ refl refl
+expiring_grows : (item : Option Entry) (key : List ℕ) (expiry : Expiry) (old : Plain) → Grows old (expiring item key expiry old)
+expiring_grows None key expiry old = stays old old refl refl
+expiring_grows (Some item) key expiry old = stays old _ refl refl
+
+perhaps_grows : (item : Option Entry) (key : List ℕ) (expiry : Option Expiry) (old : Plain) → Grows old (perhaps_expiring item key expiry old)
+perhaps_grows item key None old = stays old old refl refl
+perhaps_grows item key (Some expiry) old = expiring_grows item key expiry old
+
+changed_grows : (row : Row) (step : KeyStep) (item : Option Entry) (old : Plain) (now : ℕ) → GrowsTo old (changed row step item old now)
+changed_grows (Refuses why) step item old now = stays old old refl refl
+changed_grows (Reads expiry) step item old now = perhaps_grows item (key_of step) expiry old
+changed_grows (Touches expiry) step item old now = expiring_grows item (key_of step) expiry old
+changed_grows Deletes step item old now = stays old _ refl refl
+changed_grows (Writes draft) step item old now =
+    let key : List ℕ = key_of step in
+    wrote_grows (keeps_chunk draft.body key item) (write_reply draft.body) key draft.flags draft.expiry
+    (written_block draft.body (block_of step) item) old now
 
 found-pages : (item : Option Entry) (key : List ℕ) (old : Plain) → (without_dead item key old).pages ≡ old.pages
 found-pages None key old = refl
@@ -105,23 +118,25 @@ grows-from mid old (Answered reply new) pages limit g = record {
   within = λ fits. let same : sum mid.pages ≡ sum old.pages = ap sum pages in g.within (omega arith);
 }
 
-applied_grows : (of : Option Entry → Row) (key : List ℕ) (old : Plain) (now : ℕ) → GrowsTo old (applied of key old now)
-applied_grows of key old now =
-    let item = standing old key now in
-    grows-from (without_dead item key old) old (applied of key old now) (found-pages item key old) (found-limit item key old) (changed_grows (of item).0 (of item).1 key (without_dead item key old) now)
+stepped_grows : (old : Plain) (step : KeyStep) (now : ℕ) → GrowsTo old (stepped old step now)
+stepped_grows old step now =
+    let item = standing old (key_of step) now in
+    let mid = without_dead item (key_of step) old in
+    grows-from mid old (stepped old step now) (found-pages item (key_of step) old) (found-limit item (key_of step) old)
+    (changed_grows (row_of step now item) step item mid now)
 
 flushed_grows : (b : Bool) (now later old : Plain) → now.pages ≡ old.pages → now.limit ≡ old.limit → later.pages ≡ old.pages → later.limit ≡ old.limit → Grows old (cond b now later)
 flushed_grows true now later old p l q m = stays old now p l
 flushed_grows false now later old p l q m = stays old later q m
 
 plain_grows : (old : Plain) (step : KeyStep) (now : ℕ) → GrowsTo old (plain old step now)
-plain_grows old (Store verb key flags exptime block) now = applied_grows (store_row verb flags (expiry_of exptime now) block) key old now
-plain_grows old (Cas key flags exptime block unique) now = applied_grows (cas_row flags (expiry_of exptime now) block unique) key old now
-plain_grows old (Read key) now = applied_grows read_row key old now
-plain_grows old (ReadTouch key exptime) now = applied_grows (read_touch_row (expiry_of exptime now)) key old now
-plain_grows old (Touch key exptime) now = applied_grows (touch_row (expiry_of exptime now)) key old now
-plain_grows old (Delete key) now = applied_grows delete_row key old now
-plain_grows old (Count key up by) now = applied_grows (count_row up by) key old now
+plain_grows old (Store verb key flags exptime block) now = stepped_grows old (Store verb key flags exptime block) now
+plain_grows old (Cas key flags exptime block unique) now = stepped_grows old (Cas key flags exptime block unique) now
+plain_grows old (Read key) now = stepped_grows old (Read key) now
+plain_grows old (ReadTouch key exptime) now = stepped_grows old (ReadTouch key exptime) now
+plain_grows old (Touch key exptime) now = stepped_grows old (Touch key exptime) now
+plain_grows old (Delete key) now = stepped_grows old (Delete key) now
+plain_grows old (Count key up by) now = stepped_grows old (Count key up by) now
 plain_grows old (Flush delay) now = flushed_grows (eqb delay 0) _ _ old refl refl refl refl
 
 pub pages_grow : (old new : Plain) (step : KeyStep) (now : ℕ) (reply : Reply) (class : ℕ) → plain old step now ≡ Answered reply new → pages_of old class ≤ pages_of new class

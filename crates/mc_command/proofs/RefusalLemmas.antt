@@ -3,17 +3,21 @@ use Rattle.std.proofs.Common.{◌≡◌, ◌≢◌, ℕ, Bool, true, false, cond
 use Rattle.std.specs.Prelude.{◌↔◌}
 use Rattle.std.proofs.lemmas.Bool.{ltb-false, le-ltb, eq-eqb, ne_eqb}
 use Rattle.mc_time.specs.declared.expiry.Expiry.{Expiry}
-use Rattle.mc_time.specs.Death.{expiry_of}
 use Rattle.mc_slab.specs.Classes.{class_holding}
 use Rattle.mc_command.specs.declared.reply.Reply.{Reply}
 use Rattle.mc_command.specs.declared.reply.Reply.TheVariants.{Stored, NotStored, Exists, NotFound, Miss, Hit, Touched, Deleted, Number, NotNumeric, TooLarge, NoChunk, Flushed}
-use Rattle.mc_command.specs.declared.step.Verb.{Verb}
-use Rattle.mc_command.specs.declared.step.Verb.TheVariants.{Set, Add, Replace, Append, Prepend}
 use Rattle.mc_command.specs.declared.step.KeyStep.{KeyStep}
 use Rattle.mc_command.specs.declared.step.KeyStep.TheVariants.{Store, Cas, Read, ReadTouch, Touch, Delete, Count, Flush}
+use Rattle.mc_command.specs.declared.row.Row.{Row}
+use Rattle.mc_command.specs.declared.row.Row.TheVariants.{Refuses, Reads, Touches, Deletes, Writes}
+use Rattle.mc_command.specs.declared.row.Refusal.{Refusal}
+use Rattle.mc_command.specs.declared.row.Refusal.TheVariants as refusal
+use Rattle.mc_command.specs.declared.row.Body.{Body}
+use Rattle.mc_command.specs.declared.row.Body.TheVariants.{Given, Appended, Prepended, Counted}
 use Rattle.mc_command.specs.Commands.{key_of}
-use Rattle.mc_command.specs.Plain.{Plain, Entry, Row, Outcome, Change, Leaves, Writes, Recounts, SetsExpiry, Removes, Answered, Spent, plain, changed, wrote, charge, item_class, has_room, with_chunk, written, without_dead, standing, store_row, cas_row, number_row, number_of}
-use Rattle.mc_command.specs.Laws.{IsOnKey, found_by, row_of, chunk_taken, LacksChunk}
+use Rattle.mc_command.specs.Plain.{Plain, Entry, Outcome, Answered, Spent, plain, stepped, changed, wrote, charge, has_room, with_chunk, written, without_dead, standing, refusal_reply, hit_of, write_reply, keeps_chunk, block_of, written_block, row_of}
+use Rattle.mc_command.specs.Laws.{IsOnKey, found_by, chunk_taken, chunk_of, LacksChunk}
+use Rattle.mc_command.proofs.LawLemmas.{on_key}
 
 -- the reply that a refusal is
 abbrev pub is_refusal : Reply → Bool
@@ -44,43 +48,22 @@ not_refused : (outcome : Outcome) (new : Plain) → told outcome ≡ false → o
 not_refused outcome new other is = let yes : told outcome ≡ true = ap told is in cc
 
 -- no row tells it
-told-store : (verb : Verb) (flags : ℕ) (expiry : Expiry) (block : List ℕ) (item : Option Entry) → is_refusal (store_row verb flags expiry block item).0 ≡ false
-told-store Set flags expiry block item = refl
-told-store Add flags expiry block None = refl
-told-store Add flags expiry block (Some old) = refl
-told-store Replace flags expiry block None = refl
-told-store Replace flags expiry block (Some old) = refl
-told-store Append flags expiry block None = refl
-told-store Append flags expiry block (Some old) = refl
-told-store Prepend flags expiry block None = refl
-told-store Prepend flags expiry block (Some old) = refl
+told-refusal : (why : Refusal) → is_refusal (refusal_reply why) ≡ false
+told-refusal refusal.NotStored = refl
+told-refusal refusal.Exists = refl
+told-refusal refusal.NotFound = refl
+told-refusal refusal.Miss = refl
+told-refusal refusal.NotNumeric = refl
 
-told-either : (b : Bool) (one other : Row) → is_refusal one.0 ≡ false → is_refusal other.0 ≡ false → is_refusal (cond b one other).0 ≡ false
-told-either true one other h k = h
-told-either false one other h k = k
+told-hit : (item : Option Entry) → is_refusal (hit_of item) ≡ false
+told-hit None = refl
+told-hit (Some old) = refl
 
-told-cas : (flags : ℕ) (expiry : Expiry) (block : List ℕ) (unique : ℕ) (item : Option Entry) → is_refusal (cas_row flags expiry block unique item).0 ≡ false
-told-cas flags expiry block unique None = refl
-told-cas flags expiry block unique (Some old) = told-either (eqb old.unique unique) (Stored, Writes flags expiry block) (Exists, Leaves) refl refl
-
-told-number : (old : Entry) (up : Bool) (by : ℕ) (number : Option ℕ) → is_refusal (number_row old up by number).0 ≡ false
-told-number old up by None = refl
-told-number old up by (Some number) = refl
-
-told-row : (step : KeyStep) (now : ℕ) (item : Option Entry) → is_refusal (row_of step now item).0 ≡ false
-told-row (Store verb key flags exptime block) now item = told-store verb flags (expiry_of exptime now) block item
-told-row (Cas key flags exptime block unique) now item = told-cas flags (expiry_of exptime now) block unique item
-told-row (Read key) now None = refl
-told-row (Read key) now (Some old) = refl
-told-row (ReadTouch key exptime) now None = refl
-told-row (ReadTouch key exptime) now (Some old) = refl
-told-row (Touch key exptime) now None = refl
-told-row (Touch key exptime) now (Some old) = refl
-told-row (Delete key) now None = refl
-told-row (Delete key) now (Some old) = refl
-told-row (Count key up by) now None = refl
-told-row (Count key up by) now (Some old) = told-number old up by (number_of old.block)
-told-row (Flush delay) now item = refl
+told-write : (body : Body) → is_refusal (write_reply body) ≡ false
+told-write Given = refl
+told-write Appended = refl
+told-write Prepended = refl
+told-write (Counted number) = refl
 
 -- the tests of a write, which is refused by the last
 abbrev tested : (too_large spent stays room : Bool) → Reply → (old new placed : Plain) → Outcome
@@ -121,36 +104,53 @@ wrote-left stays reply key flags expiry block old new now other is =
     let class : ℕ = class_holding (charge key block) in
     (tested-fails (ltb old.greatest (charge key block)) (eqb old.next_unique 18446744073709551615) stays (has_room old class) reply old (written old key flags expiry block now) (written (with_chunk old class) key flags expiry block now) new other is).1
 
-changed-exactly : (reply : Reply) (change : Change) (key : List ℕ) (old : Plain) (now : ℕ) → is_refusal reply ≡ false → (changed reply change key old now ≡ Answered NoChunk old) ↔ LacksChunk old (chunk_taken key change)
-changed-exactly reply Leaves key old now other = ((λ is. not_refused (changed reply Leaves key old now) old other is), (λ lacks. absurd lacks))
-changed-exactly reply (Writes flags expiry block) key old now other = wrote-exactly false reply key flags expiry block old now other
-changed-exactly reply (Recounts item block) key old now other = wrote-exactly (eqb (item_class key item) (class_holding (charge key block))) reply key item.flags item.expiry block old now other
-changed-exactly reply (SetsExpiry item expiry) key old now other = ((λ is. not_refused (changed reply (SetsExpiry item expiry) key old now) old other is), (λ lacks. absurd lacks))
-changed-exactly reply Removes key old now other = ((λ is. not_refused (changed reply Removes key old now) old other is), (λ lacks. absurd lacks))
+changed-exactly : (row : Row) (step : KeyStep) (item : Option Entry) (old : Plain) (now : ℕ)
+    → (changed row step item old now ≡ Answered NoChunk old) ↔ LacksChunk old (chunk_taken step row item)
+changed-exactly (Refuses why) step item old now =
+    ((λ is. not_refused (changed (Refuses why) step item old now) old (told-refusal why) is), (λ lacks. absurd lacks))
+changed-exactly (Reads expiry) step item old now =
+    ((λ is. not_refused (changed (Reads expiry) step item old now) old (told-hit item) is), (λ lacks. absurd lacks))
+changed-exactly (Touches expiry) step item old now =
+    ((λ is. not_refused (changed (Touches expiry) step item old now) old refl is), (λ lacks. absurd lacks))
+changed-exactly Deletes step item old now =
+    ((λ is. not_refused (changed Deletes step item old now) old refl is), (λ lacks. absurd lacks))
+changed-exactly (Writes draft) step item old now =
+    let key : List ℕ = key_of step in
+    wrote-exactly (keeps_chunk draft.body key item) (write_reply draft.body) key draft.flags draft.expiry
+    (written_block draft.body (block_of step) item) old now (told-write draft.body)
 
-changed-left : (reply : Reply) (change : Change) (key : List ℕ) (old new : Plain) (now : ℕ) → is_refusal reply ≡ false → changed reply change key old now ≡ Answered NoChunk new → new ≡ old
-changed-left reply Leaves key old new now other is = absurd (not_refused (changed reply Leaves key old now) new other is)
-changed-left reply (Writes flags expiry block) key old new now other is = wrote-left false reply key flags expiry block old new now other is
-changed-left reply (Recounts item block) key old new now other is = wrote-left (eqb (item_class key item) (class_holding (charge key block))) reply key item.flags item.expiry block old new now other is
-changed-left reply (SetsExpiry item expiry) key old new now other is = absurd (not_refused (changed reply (SetsExpiry item expiry) key old now) new other is)
-changed-left reply Removes key old new now other is = absurd (not_refused (changed reply Removes key old now) new other is)
+changed-left : (row : Row) (step : KeyStep) (item : Option Entry) (old new : Plain) (now : ℕ)
+    → changed row step item old now ≡ Answered NoChunk new → new ≡ old
+changed-left (Refuses why) step item old new now is =
+    absurd (not_refused (changed (Refuses why) step item old now) new (told-refusal why) is)
+changed-left (Reads expiry) step item old new now is =
+    absurd (not_refused (changed (Reads expiry) step item old now) new (told-hit item) is)
+changed-left (Touches expiry) step item old new now is =
+    absurd (not_refused (changed (Touches expiry) step item old now) new refl is)
+changed-left Deletes step item old new now is =
+    absurd (not_refused (changed Deletes step item old now) new refl is)
+changed-left (Writes draft) step item old new now is =
+    let key : List ℕ = key_of step in
+    wrote-left (keeps_chunk draft.body key item) (write_reply draft.body) key draft.flags draft.expiry
+    (written_block draft.body (block_of step) item) old new now (told-write draft.body) is
 
-pub refused-exactly : (old : Plain) (step : KeyStep) (now : ℕ) → IsOnKey step → (plain old step now ≡ Answered NoChunk (found_by step now old)) ↔ LacksChunk (found_by step now old) (chunk_taken (key_of step) (row_of step now (standing old (key_of step) now)).1)
-refused-exactly old (Store verb key flags exptime block) now on = let row = row_of (Store verb key flags exptime block) now (standing old key now) in changed-exactly row.0 row.1 key (without_dead (standing old key now) key old) now (told-row (Store verb key flags exptime block) now (standing old key now))
-refused-exactly old (Cas key flags exptime block unique) now on = let row = row_of (Cas key flags exptime block unique) now (standing old key now) in changed-exactly row.0 row.1 key (without_dead (standing old key now) key old) now (told-row (Cas key flags exptime block unique) now (standing old key now))
-refused-exactly old (Read key) now on = let row = row_of (Read key) now (standing old key now) in changed-exactly row.0 row.1 key (without_dead (standing old key now) key old) now (told-row (Read key) now (standing old key now))
-refused-exactly old (ReadTouch key exptime) now on = let row = row_of (ReadTouch key exptime) now (standing old key now) in changed-exactly row.0 row.1 key (without_dead (standing old key now) key old) now (told-row (ReadTouch key exptime) now (standing old key now))
-refused-exactly old (Touch key exptime) now on = let row = row_of (Touch key exptime) now (standing old key now) in changed-exactly row.0 row.1 key (without_dead (standing old key now) key old) now (told-row (Touch key exptime) now (standing old key now))
-refused-exactly old (Delete key) now on = let row = row_of (Delete key) now (standing old key now) in changed-exactly row.0 row.1 key (without_dead (standing old key now) key old) now (told-row (Delete key) now (standing old key now))
-refused-exactly old (Count key up by) now on = let row = row_of (Count key up by) now (standing old key now) in changed-exactly row.0 row.1 key (without_dead (standing old key now) key old) now (told-row (Count key up by) now (standing old key now))
-refused-exactly old (Flush delay) now on = absurd on
+pub refused-exactly : (old : Plain) (step : KeyStep) (now : ℕ) → IsOnKey step
+    → (plain old step now ≡ Answered NoChunk (found_by step now old)) ↔ LacksChunk (found_by step now old) (chunk_of step now old)
+refused-exactly old step now on =
+    let item = standing old (key_of step) now in
+    rw (on_key old step now on) (changed-exactly (row_of step now item) step item (without_dead item (key_of step) old) now)
+
+on_key-left : (old new : Plain) (step : KeyStep) (now : ℕ) → stepped old step now ≡ Answered NoChunk new → new ≡ found_by step now old
+on_key-left old new step now is =
+    let item = standing old (key_of step) now in
+    changed-left (row_of step now item) step item (without_dead item (key_of step) old) new now is
 
 pub refused-left : (old new : Plain) (step : KeyStep) (now : ℕ) → plain old step now ≡ Answered NoChunk new → new ≡ found_by step now old
-refused-left old new (Store verb key flags exptime block) now is = let row = row_of (Store verb key flags exptime block) now (standing old key now) in changed-left row.0 row.1 key (without_dead (standing old key now) key old) new now (told-row (Store verb key flags exptime block) now (standing old key now)) is
-refused-left old new (Cas key flags exptime block unique) now is = let row = row_of (Cas key flags exptime block unique) now (standing old key now) in changed-left row.0 row.1 key (without_dead (standing old key now) key old) new now (told-row (Cas key flags exptime block unique) now (standing old key now)) is
-refused-left old new (Read key) now is = let row = row_of (Read key) now (standing old key now) in changed-left row.0 row.1 key (without_dead (standing old key now) key old) new now (told-row (Read key) now (standing old key now)) is
-refused-left old new (ReadTouch key exptime) now is = let row = row_of (ReadTouch key exptime) now (standing old key now) in changed-left row.0 row.1 key (without_dead (standing old key now) key old) new now (told-row (ReadTouch key exptime) now (standing old key now)) is
-refused-left old new (Touch key exptime) now is = let row = row_of (Touch key exptime) now (standing old key now) in changed-left row.0 row.1 key (without_dead (standing old key now) key old) new now (told-row (Touch key exptime) now (standing old key now)) is
-refused-left old new (Delete key) now is = let row = row_of (Delete key) now (standing old key now) in changed-left row.0 row.1 key (without_dead (standing old key now) key old) new now (told-row (Delete key) now (standing old key now)) is
-refused-left old new (Count key up by) now is = let row = row_of (Count key up by) now (standing old key now) in changed-left row.0 row.1 key (without_dead (standing old key now) key old) new now (told-row (Count key up by) now (standing old key now)) is
+refused-left old new (Store verb key flags exptime block) now is = on_key-left old new (Store verb key flags exptime block) now is
+refused-left old new (Cas key flags exptime block unique) now is = on_key-left old new (Cas key flags exptime block unique) now is
+refused-left old new (Read key) now is = on_key-left old new (Read key) now is
+refused-left old new (ReadTouch key exptime) now is = on_key-left old new (ReadTouch key exptime) now is
+refused-left old new (Touch key exptime) now is = on_key-left old new (Touch key exptime) now is
+refused-left old new (Delete key) now is = on_key-left old new (Delete key) now is
+refused-left old new (Count key up by) now is = on_key-left old new (Count key up by) now is
 refused-left old new (Flush delay) now is = absurd (not_refused (plain old (Flush delay) now) new refl is)

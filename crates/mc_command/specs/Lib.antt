@@ -2,6 +2,7 @@ pub mod Words
 pub mod Numbers
 pub mod Commands
 pub mod Plain
+pub mod Rows
 pub mod Accounts
 pub mod Items
 pub mod Laws

@@ -8,8 +8,8 @@ mod fault;
 mod keys;
 mod laws;
 mod number;
-mod plain;
 mod reply;
+mod row;
 mod step;
 mod words;
 
@@ -23,7 +23,7 @@ pub use laws::{
     refused_without_room, the_dead_stay_dead,
 };
 pub use number::{counted, number_of, number_up_to};
-pub use plain::{KeyTest, PlainStore};
 pub use reply::Reply;
+pub use row::{Body, Draft, Refusal, Row, Standing, row_of};
 pub use step::{KeyStep, StepFault, Steps, Verb};
 pub use words::{Words, first_word, first_word_len};

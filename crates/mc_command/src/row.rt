@@ -1,8 +1,8 @@
 //! The rows of the protocol's table: what a step on a key does, by the item that stands under it.
 
 ghost use Rattle.std.specs.Prelude.{◌≡◌};
-ghost use Rattle.mc_command.specs.Commands as commands;
 ghost use Rattle.mc_command.specs.Plain as machine;
+ghost use Rattle.mc_command.specs.Plain.{refusal_reply, write_reply};
 ghost use Rattle.mc_command.specs.Rows.{standing_in};
 
 use crate::number::{counted, number_of};
@@ -25,6 +25,21 @@ pub enum Refusal {
     NotNumeric,
 }
 
+impl Refusal {
+    /// Gives the reply of the refusal.
+    pub fn reply(self) -> Reply
+        ensures { result ≡ refusal_reply self }
+    {
+        match self {
+            Refusal::NotStored => Reply::NotStored,
+            Refusal::Exists => Reply::Exists,
+            Refusal::NotFound => Reply::NotFound,
+            Refusal::Miss => Reply::Miss,
+            Refusal::NotNumeric => Reply::NotNumeric,
+        }
+    }
+}
+
 /// How the block of a write is made.
 #[derive(Clone, Copy, Debug, PartialEq, Eq)]
 pub enum Body {
@@ -36,6 +51,18 @@ pub enum Body {
     Prepended,
     /// It is the decimal digits of this number.
     Counted(u64),
+}
+
+impl Body {
+    /// Gives the reply of the write.
+    pub fn reply(self) -> Reply
+        ensures { result ≡ write_reply self }
+    {
+        match self {
+            Body::Given | Body::Appended | Body::Prepended => Reply::Stored,
+            Body::Counted(number) => Reply::Number(number),
+        }
+    }
 }
 
 /// What a write puts under the key, but for its unique number and its moment.
@@ -86,9 +113,10 @@ pub trait Standing {
         ensures { result.now ≡ (entry_of self.now).block };
 }
 
-/// Finds the row of a step by the item that stands under its key. A flush is on no key, which is answered as one under which
-/// nothing stands. The cost is that of a few comparisons, and of reading the digits of a number that is to be counted.
-pub fn row<T: Standing>(step: &KeyStep<'_>, item: Option<&T>, now: Moment) -> Row
+/// Finds the row of a step by the item that stands under its key. A flush is on no key, which is
+/// answered as one under which nothing stands. The cost is that of a few comparisons, and of reading
+/// the digits of a number that is to be counted.
+pub fn row_of<T: Standing>(step: &KeyStep<'_>, item: Option<&T>, now: Moment) -> Row
     ensures { result ≡ machine.row_of step.now now (standing_in T.entry_of item.entry) }
 {
     match step {
@@ -106,15 +134,108 @@ pub fn row<T: Standing>(step: &KeyStep<'_>, item: Option<&T>, now: Moment) -> Ro
         } => cas_row(*flags, expiry_of(*exptime, now), *unique, item),
         KeyStep::Read { .. } => read_row(None, item),
         KeyStep::ReadTouch { exptime, .. } => read_row(Some(expiry_of(*exptime, now)), item),
-        KeyStep::Touch { exptime, .. } => match item {
-            None => Row::Refuses(Refusal::NotFound),
-            Some(_) => Row::Touches(expiry_of(*exptime, now)),
-        },
-        KeyStep::Delete { .. } => match item {
-            None => Row::Refuses(Refusal::NotFound),
-            Some(_) => Row::Deletes,
-        },
+        KeyStep::Touch { exptime, .. } => touch_row(expiry_of(*exptime, now), item),
+        KeyStep::Delete { .. } => delete_row(item),
         KeyStep::Count { up, by, .. } => count_row(*up, *by, item),
         KeyStep::Flush { .. } => Row::Refuses(Refusal::NotFound),
+    }
+}
+
+/// Drafts a write of the step's own block.
+fn given(flags: u32, expiry: Expiry) -> Row
+    ensures { result ≡ machine.given flags expiry }
+{
+    Row::Writes(Draft {
+        flags,
+        expiry,
+        body: Body::Given,
+    })
+}
+
+/// Drafts a write that keeps the item's flags and its expiry.
+fn joined<T: Standing>(old: &T, body: Body) -> Row
+    ensures { result ≡ machine.joined (T.entry_of old.now) body }
+{
+    Row::Writes(Draft {
+        flags: old.flags(),
+        expiry: old.expiry(),
+        body,
+    })
+}
+
+/// Finds the row of set, add, replace, append or prepend.
+fn store_row<T: Standing>(verb: Verb, flags: u32, expiry: Expiry, item: Option<&T>) -> Row
+    ensures { result ≡ machine.store_row verb flags expiry (standing_in T.entry_of item.entry) }
+{
+    match item {
+        None => match verb {
+            Verb::Set | Verb::Add => given(flags, expiry),
+            Verb::Replace | Verb::Append | Verb::Prepend => Row::Refuses(Refusal::NotStored),
+        },
+        Some(old) => match verb {
+            Verb::Set | Verb::Replace => given(flags, expiry),
+            Verb::Add => Row::Refuses(Refusal::NotStored),
+            Verb::Append => joined(old, Body::Appended),
+            Verb::Prepend => joined(old, Body::Prepended),
+        },
+    }
+}
+
+/// Finds the row of cas.
+fn cas_row<T: Standing>(flags: u32, expiry: Expiry, unique: u64, item: Option<&T>) -> Row
+    ensures { result ≡ machine.cas_row flags expiry unique (standing_in T.entry_of item.entry) }
+{
+    match item {
+        None => Row::Refuses(Refusal::NotFound),
+        Some(old) => {
+            if old.unique() == unique {
+                given(flags, expiry)
+            } else {
+                Row::Refuses(Refusal::Exists)
+            }
+        }
+    }
+}
+
+/// Finds the row of a retrieval, which sets the item's expiry where one is given.
+fn read_row<T: Standing>(expiry: Option<Expiry>, item: Option<&T>) -> Row
+    ensures { result ≡ machine.read_row expiry (standing_in T.entry_of item.entry) }
+{
+    match item {
+        None => Row::Refuses(Refusal::Miss),
+        Some(_) => Row::Reads(expiry),
+    }
+}
+
+/// Finds the row of touch.
+fn touch_row<T: Standing>(expiry: Expiry, item: Option<&T>) -> Row
+    ensures { result ≡ machine.touch_row expiry (standing_in T.entry_of item.entry) }
+{
+    match item {
+        None => Row::Refuses(Refusal::NotFound),
+        Some(_) => Row::Touches(expiry),
+    }
+}
+
+/// Finds the row of delete.
+fn delete_row<T: Standing>(item: Option<&T>) -> Row
+    ensures { result ≡ machine.delete_row (standing_in T.entry_of item.entry) }
+{
+    match item {
+        None => Row::Refuses(Refusal::NotFound),
+        Some(_) => Row::Deletes,
+    }
+}
+
+/// Finds the row of incr or decr.
+fn count_row<T: Standing>(up: bool, by: u64, item: Option<&T>) -> Row
+    ensures { result ≡ machine.count_row up by (standing_in T.entry_of item.entry) }
+{
+    match item {
+        None => Row::Refuses(Refusal::NotFound),
+        Some(old) => match number_of(old.block()) {
+            None => Row::Refuses(Refusal::NotNumeric),
+            Some(number) => joined(old, Body::Counted(counted(up, by, number))),
+        },
     }
 }

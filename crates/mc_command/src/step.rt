@@ -1,4 +1,6 @@
 ghost use Rattle.std.specs.Prelude.{◌≡◌};
+ghost use Rattle.mc_command.specs.Commands.{key_of};
+ghost use Rattle.mc_command.specs.Plain.{block_of};
 ghost use Rattle.mc_command.specs.declared.step.StepFault.TheVariants.{NoMemory};
 
 use crate::bytes::Bytes;
@@ -61,6 +63,39 @@ pub enum KeyStep<'a> {
     Flush {
         delay: u64,
     },
+}
+
+impl<'a> KeyStep<'a> {
+    /// Lends the key that the step is on. A flush is on none, for which it lends no bytes.
+    pub fn key(&self) -> &'a [u8]
+        ensures { result.now ≡ key_of self.now }
+    {
+        match self {
+            KeyStep::Store { key, .. }
+            | KeyStep::Cas { key, .. }
+            | KeyStep::Read { key }
+            | KeyStep::ReadTouch { key, .. }
+            | KeyStep::Touch { key, .. }
+            | KeyStep::Delete { key }
+            | KeyStep::Count { key, .. } => key.as_slice(),
+            KeyStep::Flush { .. } => &[],
+        }
+    }
+
+    /// Lends the block that the step brings, and no bytes where it brings none.
+    pub fn block(&self) -> &'a [u8]
+        ensures { result.now ≡ block_of self.now }
+    {
+        match self {
+            KeyStep::Store { block, .. } | KeyStep::Cas { block, .. } => block.as_slice(),
+            KeyStep::Read { .. }
+            | KeyStep::ReadTouch { .. }
+            | KeyStep::Touch { .. }
+            | KeyStep::Delete { .. }
+            | KeyStep::Count { .. }
+            | KeyStep::Flush { .. } => &[],
+        }
+    }
 }
 
 /// Why a step was not taken. The store is as it was.
