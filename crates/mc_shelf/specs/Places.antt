@@ -1,7 +1,7 @@
 -- Where keys stand in an index.
-use Rattle.std.specs.Prelude.{◌≡◌, ℕ, List, map, Option, Some, None, slice_get}
-use Rattle.std.specs.FinMap.{from_entries, get}
-use Rattle.mc_command.specs.Plain.{Items}
+use Rattle.std.specs.Prelude.{◌≡◌, ℕ, ◌+◌, ◌-◌, ◌<◌, ◌≤◌, List, map, reverse, length, Option, Some, None, slice_get}
+use Rattle.std.specs.FinMap.{from_entries, get, insert, remove}
+use Rattle.mc_command.specs.Plain.{Items, Entry}
 use Rattle.mc_shelf.specs.States.{EntryState, IndexState, Hashes, row, hash_row}
 use Rattle.mc_shelf.specs.declared.index.Place.{Place}
 
@@ -17,12 +17,71 @@ hashes_of entries = from_entries (map hash_row entries)
 abbrev pub entry_at : IndexState → Place → Option EntryState
 entry_at index place = slice_get index.entries place.number
 
--- an entry of the key stands at the place
+-- an entry of the key stands at the place, and its item and its hash are those under the key
 pub record IsPlaceOf (index : IndexState) (key : List ℕ) (place : Place) : Type 0 where
   pub entry : EntryState
   pub there : entry_at index place ≡ Some entry
   pub same_key : entry.key ≡ key
+  pub item : get (items_of index.entries) key ≡ Some entry.item
+  pub hash : get (hashes_of index.entries) key ≡ Some entry.hash
+
+-- an entry stands at the place
+abbrev pub IsFilled : IndexState → Place → Type 0
+IsFilled index place = (key : List ℕ) × IsPlaceOf index key place
+
+-- what a search for a key finds: its place, and none exactly where no entry has the key
+abbrev pub IsFound : IndexState → (key : List ℕ) → Option Place → Type 0
+IsFound index key None = get (items_of index.entries) key ≡ None
+IsFound index key (Some place) = IsPlaceOf index key place
 
 -- the hash that entries have with a key, if they have the key, is this one
 abbrev pub HasHash : List EntryState → (key : List ℕ) → (hash : ℕ) → Type 0
 HasHash entries key hash = (stored : ℕ) → get (hashes_of entries) key ≡ Some stored → stored ≡ hash
+
+-- the same items and hashes stand under the same keys
+pub record HoldsSame (old new : IndexState) : Type 0 where
+  pub items : items_of new.entries ≡ items_of old.entries
+  pub hashes : hashes_of new.entries ≡ hashes_of old.entries
+
+-- an item has come under a key, with a hash
+pub record IsInserted (old new : IndexState) (entry : EntryState) : Type 0 where
+  pub items : items_of new.entries ≡ insert (items_of old.entries) entry.key entry.item
+  pub hashes : hashes_of new.entries ≡ insert (hashes_of old.entries) entry.key entry.hash
+
+-- the item and the hash under a key are gone
+pub record IsRemoved (old new : IndexState) (key : List ℕ) : Type 0 where
+  pub items : items_of new.entries ≡ remove (items_of old.entries) key
+  pub hashes : hashes_of new.entries ≡ remove (hashes_of old.entries) key
+
+-- the item under a key, which is in the index, has become this one, and nothing else has changed
+pub record IsChanged (old new : IndexState) (key : List ℕ) (item : Entry) : Type 0 where
+  pub items : items_of new.entries ≡ insert (items_of old.entries) key item
+  pub hashes : hashes_of new.entries ≡ hashes_of old.entries
+  pub room : new.room ≡ old.room
+  pub left : new.left ≡ old.left
+
+-- The entry of a number, by which a sweep goes over the index. A list numbers its entries from its end.
+abbrev pub numbered : IndexState → ℕ → Option EntryState
+numbered index number = slice_get (reverse index.entries) number
+
+-- how many entries have a number from this one on
+abbrev pub count_from : IndexState → ℕ → ℕ
+count_from index at = length index.entries - at
+
+-- the place is that of the first entry from `at` on, which has this number
+pub record IsFirstFrom (index : IndexState) (at number : ℕ) (place : Place) : Type 0 where
+  pub filled : IsFilled index place
+  pub same : numbered index number ≡ entry_at index place
+  pub from : at ≤ number
+  pub skipped : (k : ℕ) → at ≤ k → k < number → numbered index k ≡ None
+  pub count : count_from index at ≡ count_from index (number + 1) + 1
+
+-- the first entry from a number on is at the place, and where there is none no entry has such a number
+abbrev pub IsNext : IndexState → (at : ℕ) → Option (ℕ × Place) → Type 0
+IsNext index at None = (k : ℕ) → at ≤ k → numbered index k ≡ None
+IsNext index at (Some (number, place)) = IsFirstFrom index at number place
+
+-- the entry of this number is gone, and no lower number has changed
+pub record KeepsLower (old new : IndexState) (number : ℕ) : Type 0 where
+  pub lower : (k : ℕ) → k < number → numbered new k ≡ numbered old k
+  pub count : count_from old number ≡ count_from new number + 1

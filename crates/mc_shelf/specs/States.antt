@@ -1,13 +1,14 @@
 -- What contracts see of an entry, an index, a shelf and a desk.
-use Rattle.std.specs.Prelude.{◌≡◌, ℕ, List, Option, Some, None, refl}
+use Rattle.std.specs.Prelude.{◌≡◌, ℕ, ◌≤◌, List, ◌++◌, length, Option, Some, None, decimal, refl}
 use Rattle.std.specs.Coded.{Coded, code_by, coded×, coded_ℕ, coded_list, coded_option}
 use Rattle.std.specs.Ordering.{nat_cmp}
 use Rattle.std.specs.Cmp.Lexicographic.{slice_cmp}
 use Rattle.std.specs.FinMap.{FinMap, get, empty, code}
 use Rattle.mc_slab.specs.Slabs.{SlabState, coded_slab, out_of}
-use Rattle.mc_slab.specs.Classes.{IsClass}
-use Rattle.mc_command.specs.Plain.{Items, Entry, coded_entry, Plain, count_of}
+use Rattle.mc_slab.specs.Classes.{IsClass, class_holding}
+use Rattle.mc_command.specs.Plain.{Items, Entry, coded_entry, Plain, charge, item_class, count_of}
 use Rattle.mc_item.specs.Items.{ItemState}
+use Rattle.mc_item.specs.declared.item.Parts.{Parts}
 
 -- an entry: a hash that came with the key, the key, and the item under it
 pub record EntryState : Type 0 where
@@ -24,6 +25,35 @@ coded_entry_state =
 -- what stands under its key of an item that lies in a chunk
 abbrev pub entry_of : ItemState → Entry
 entry_of item = record { flags = item.flags; expiry = item.expiry; block = item.block; unique = item.unique; updated = item.updated }
+
+-- the block of parts, and their charge
+abbrev pub block_in : Parts → List ℕ
+block_in parts = parts.first.now ++ parts.second.now
+
+abbrev pub charge_in : Parts → ℕ
+charge_in parts = charge parts.key.now (block_in parts)
+
+-- the entry of parts
+abbrev pub entry_in : (hash : ℕ) → Parts → EntryState
+entry_in hash parts = record {
+  hash = hash;
+  key = parts.key.now;
+  item = record {
+    flags = parts.flags;
+    expiry = parts.expiry;
+    block = block_in parts;
+    unique = parts.unique;
+    updated = parts.updated;
+  };
+}
+
+-- the item with the decimal digits of a number as its block
+abbrev pub renumbered : Entry → (number unique updated : ℕ) → Entry
+renumbered item number unique updated = record item { block = decimal number; unique = unique; updated = updated }
+
+-- the number's digits ask for the class of the chunk that the item lies in
+abbrev pub StaysInClass : (key : List ℕ) → Entry → (number : ℕ) → Type 0
+StaysInClass key item number = item_class key item ≡ class_holding (charge key (decimal number))
 
 -- an entry as a finite map has it
 abbrev pub row : EntryState → List ℕ × Entry

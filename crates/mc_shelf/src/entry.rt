@@ -2,11 +2,14 @@
 
 ghost use Rattle.std.specs.Ordering.{nat_cmp};
 ghost use Rattle.std.specs.Cmp.Lexicographic.{slice_cmp};
-ghost use Rattle.std.specs.Prelude.{◌≡◌, ◌+◌, ◌≤◌, ◌++◌, length, decimal};
-ghost use Rattle.mc_slab.specs.Classes.{IsClass, class_holding, size_of};
+ghost use Rattle.std.specs.Prelude.{◌≡◌, ◌≤◌, length};
+ghost use Rattle.mc_slab.specs.Classes.{IsClass, class_holding};
 ghost use Rattle.mc_slab.specs.Chunks.{IsChunkOf, chunk_class};
-ghost use Rattle.mc_command.specs.Plain.{item_class, charge};
+ghost use Rattle.mc_command.specs.Plain.{item_class};
+ghost use Rattle.mc_shelf.specs.States.{StaysInClass, renumbered, charge_in, entry_in};
 
+use mc_command::Standing;
+use mc_hop::Keyed;
 use mc_item::{Item, Parts};
 use mc_slab::{Chunk, Class};
 use mc_time::{Expiry, Moment};
@@ -36,22 +39,12 @@ impl Model for Entry {
 }
 
 impl Entry {
-    /// The entry of an item of those parts, in that chunk.
+    /// Writes the item of those parts into that chunk. It copies the key, of at most 250 bytes, and the block.
     pub(crate) fn write(hash: u64, chunk: Chunk, parts: Parts<'_>) -> Entry
         requires key { length parts.key.now ≤ 250 }
-        requires class { chunk_class chunk ≡ class_holding (48 + length parts.key.now + length (parts.first.now ++ parts.second.now)) }
-        requires room { 48 + length parts.key.now + length (parts.first.now ++ parts.second.now) ≤ length chunk }
-        ensures { result ≡ record {
-          hash = hash;
-          key = parts.entry.key.now;
-          item = record {
-            flags = parts.entry.flags;
-            expiry = parts.entry.expiry;
-            block = parts.entry.first.now ++ parts.entry.second.now;
-            unique = parts.entry.unique;
-            updated = parts.entry.updated;
-          };
-        } }
+        requires class { chunk_class chunk ≡ class_holding (charge_in parts) }
+        requires room { charge_in parts ≤ length chunk }
+        ensures { result ≡ entry_in hash parts.entry }
     {
         Entry {
             hash,
@@ -70,56 +63,11 @@ impl Entry {
         }
     }
 
-    /// The hash that came with its key.
-    pub fn hash(&self) -> u64
-        ensures { result ≡ self.now.hash }
-    {
-        self.hash
-    }
-
-    /// Its key, from 0 to 250 bytes.
-    pub fn key(&self) -> &[u8]
-        ensures { result.now ≡ self.now.key }
-    {
-        self.item.key()
-    }
-
     /// How its key stands to another in the order of keys, byte by byte.
     pub(crate) fn order_to(&self, key: &[u8]) -> Ordering
         ensures { result ≡ slice_cmp nat_cmp self.now.key key.now }
     {
         self.key().cmp(key)
-    }
-
-    /// Its block, of at most 1048576 bytes.
-    pub fn block(&self) -> &[u8]
-        ensures value { result.now ≡ self.now.item.block }
-        ensures size { length self.now.item.block ≤ 1048576 }
-    {
-        // Read for the clause on it: no chunk, and so no block in one, is longer than 1048576 bytes.
-        let _size = self.item.class().size();
-        self.item.block()
-    }
-
-    /// The flags that were stored with it.
-    pub fn flags(&self) -> u32
-        ensures { result ≡ self.now.item.flags }
-    {
-        self.item.flags()
-    }
-
-    /// When it expires.
-    pub fn expiry(&self) -> Expiry
-        ensures { result ≡ self.now.item.expiry }
-    {
-        self.item.expiry()
-    }
-
-    /// The number that no other write has.
-    pub fn unique(&self) -> u64
-        ensures { result ≡ self.now.item.unique }
-    {
-        self.item.unique()
     }
 
     /// When its block was last written.
@@ -137,27 +85,72 @@ impl Entry {
         self.item.class()
     }
 
-    /// It expires then. All else stays.
+    /// Sets when it expires. All else stays.
     pub(crate) fn set_expiry(&mut self, expiry: Expiry)
         ensures { self.new ≡ record self.old { item = record self.old.item { expiry = expiry } } }
     {
         self.item.set_expiry(expiry);
     }
 
-    /// Its block becomes the number's decimal digits, which stay in its chunk's class.
+    /// Makes the number's decimal digits its block, which stays in its chunk's class; with them come the unique number and
+    /// the moment of the write. All else stays.
     pub(crate) fn rewrite_number(&mut self, number: u64, unique: u64, updated: Moment)
-        requires class { item_class self.old.key self.old.item ≡ class_holding (charge self.old.key (decimal number)) }
-        requires fits { charge self.old.key (decimal number) ≤ size_of (class_holding (charge self.old.key (decimal number))) }
-        ensures { self.new ≡ record self.old { item = record self.old.item { block = decimal number; unique = unique; updated = updated } } }
+        requires { StaysInClass self.old.key self.old.item number }
+        ensures { self.new ≡ record self.old {
+          item = renumbered self.old.item number unique updated;
+        } }
     {
         self.item.rewrite_number(number, unique, updated);
     }
 
-    /// Its chunk.
+    /// Gives its chunk back.
     pub(crate) fn into_chunk(self) -> Chunk
         ensures chunk { IsChunkOf (item_class self.key self.item) result }
         ensures is_class { IsClass (item_class self.key self.item) }
     {
         self.item.into_chunk()
+    }
+}
+
+impl Keyed for Entry {
+    ghost hash_of = { λ e. e.hash };
+
+    ghost key_of = { λ e. e.key };
+
+    /// The hash that came with its key.
+    fn hash(&self) -> u64 {
+        self.hash
+    }
+
+    /// Its key, from 0 to 250 bytes.
+    fn key(&self) -> &[u8] {
+        self.item.key()
+    }
+}
+
+impl Standing for Entry {
+    ghost entry_of = { λ e. e.item };
+
+    /// The flags that were stored with it.
+    fn flags(&self) -> u32 {
+        self.item.flags()
+    }
+
+    /// When it expires.
+    fn expiry(&self) -> Expiry {
+        self.item.expiry()
+    }
+
+    /// The number that no other write has.
+    fn unique(&self) -> u64 {
+        self.item.unique()
+    }
+
+    /// Its block, of at most 1048576 bytes.
+    fn block(&self) -> &[u8]
+        ensures value { result.now ≡ self.now.item.block }
+        ensures size { length self.now.item.block ≤ 1048576 }
+    {
+        self.item.block()
     }
 }
