@@ -1,4 +1,7 @@
 pub mod RowLemmas
+pub mod EntryLemmas
+pub mod IndexLemmas
+pub mod PlaceLemmas
 pub mod StandLemmas
 pub mod PlanLemmas
 pub mod ApplyLemmas

@@ -1,5 +1,8 @@
 -- Where keys stand in an index.
-use Rattle.std.specs.Prelude.{◌≡◌, ℕ, ◌+◌, ◌-◌, ◌<◌, ◌≤◌, List, map, reverse, length, Option, Some, None, slice_get}
+use Rattle.std.specs.Prelude.{◌≡◌, ℕ, ◌+◌, ◌-◌, ◌^◌, ◌<◌, ◌≤◌, List, map, reverse, length, get_or, Option, Some, None, slice_get, Result, Ok, Err}
+use Rattle.std.specs.Ordering.{nat_cmp}
+use Rattle.std.specs.declared.cmp.Ordering.TheVariants.{Less, Greater}
+use Rattle.std.specs.Cmp.Lexicographic.{slice_cmp}
 use Rattle.std.specs.FinMap.{from_entries, get, insert, remove}
 use Rattle.mc_command.specs.Plain.{Items, Entry}
 use Rattle.mc_shelf.specs.States.{EntryState, IndexState, Hashes, row, hash_row}
@@ -33,6 +36,17 @@ IsFilled index place = (key : List ℕ) × IsPlaceOf index key place
 abbrev pub IsFound : IndexState → (key : List ℕ) → Option Place → Type 0
 IsFound index key None = get (items_of index.entries) key ≡ None
 IsFound index key (Some place) = IsPlaceOf index key place
+
+-- a key that no entry has would come in a list of entries at this position, in the order of the keys
+pub record IsGap (entries : List EntryState) (key : List ℕ) (at : ℕ) : Type 0 where
+  pub within : at ≤ length entries
+  pub before : (k : ℕ) (d : EntryState) → k < at → slice_cmp nat_cmp (get_or entries k d).key key ≡ Less
+  pub behind : (k : ℕ) (d : EntryState) → at ≤ k → k < length entries → slice_cmp nat_cmp (get_or entries k d).key key ≡ Greater
+
+-- what a search in the list finds
+abbrev pub IsSearched : IndexState → (key : List ℕ) → Result ℕ ℕ → Type 0
+IsSearched index key (Ok at) = IsPlaceOf index key (record { number = at })
+IsSearched index key (Err at) = IsGap index.entries key at
 
 -- the hash that entries have with a key, if they have the key, is this one
 abbrev pub HasHash : List EntryState → (key : List ℕ) → (hash : ℕ) → Type 0
@@ -68,12 +82,14 @@ numbered index number = slice_get (reverse index.entries) number
 abbrev pub count_from : IndexState → ℕ → ℕ
 count_from index at = length index.entries - at
 
--- the place is that of the first entry from `at` on, which has this number
+-- the place is that of the first entry from `at` on, which has this number, below 2 ^ 64 - 1
 pub record IsFirstFrom (index : IndexState) (at number : ℕ) (place : Place) : Type 0 where
   pub filled : IsFilled index place
   pub same : numbered index number ≡ entry_at index place
   pub from : at ≤ number
+  pub below : number < 2 ^ 64 - 1
   pub skipped : (k : ℕ) → at ≤ k → k < number → numbered index k ≡ None
+  pub ahead : count_from index number ≡ count_from index at
   pub count : count_from index at ≡ count_from index (number + 1) + 1
 
 -- the first entry from a number on is at the place, and where there is none no entry has such a number

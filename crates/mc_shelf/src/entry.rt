@@ -100,7 +100,15 @@ impl Entry {
           item = renumbered self.old.item number unique updated;
         } }
     {
+        self.lies_in_class();
         self.item.rewrite_number(number, unique, updated);
+    }
+
+    /// Says for a proof that its chunk is of a class. It reads that class, and changes nothing.
+    fn lies_in_class(&self)
+        ensures { IsClass (item_class self.now.key self.now.item) }
+    {
+        let _class = self.class();
     }
 
     /// Gives its chunk back.

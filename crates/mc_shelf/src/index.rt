@@ -1,7 +1,7 @@
 //! Entries, found by their hashes and keys.
 
 ghost use Rattle.std.specs.Prelude.{◌≡◌, ℕ, ◌+◌, ◌-◌, ◌≤◌, List, [], min, nat_lt};
-ghost use Rattle.std.specs.Prelude.{Some, None, IfOk, OnOk, option_copied};
+ghost use Rattle.std.specs.Prelude.{Some, None, IfOk, OnOk, OnErr, option_copied};
 ghost use Rattle.std.specs.FinMap.{get, len};
 ghost use Rattle.mc_shelf.specs.States.{StaysInClass, renumbered};
 ghost use Rattle.mc_shelf.specs.Places.{
@@ -10,6 +10,8 @@ ghost use Rattle.mc_shelf.specs.Places.{
   IsPlaceOf,
   IsFilled,
   IsFound,
+  IsGap,
+  IsSearched,
   HasHash,
   HoldsSame,
   IsInserted,
@@ -54,9 +56,9 @@ impl Model for Index {
     ghost coded = { coded_index };
 
     ghost view = { λ i. record {
-        entries = i.list.items;
-        room = vec_capacity i.list - vec_len i.list;
-        left = 0;
+      entries = i.list.items;
+      room = vec_capacity i.list - vec_len i.list;
+      left = 0;
     } };
 
     ghost invariant = { λ i. T (is_sorted (slice_cmp nat_cmp) (map row i.list.items)) };
@@ -79,11 +81,17 @@ impl Index {
         requires { HasHash self.now.entries key.now _hash }
         ensures { IsFound self.now key.now result }
     {
-        let number = self
-            .list
-            .binary_search_by(|entry| entry.order_to(key))
-            .ok()?;
-        Some(Place { number })
+        match self.search(key) {
+            Ok(number) => Some(Place { number }),
+            Err(_) => None,
+        }
+    }
+
+    /// Finds where the entry of a key stands in the list, and where none has the key, where it would come.
+    fn search(&self, key: &[u8]) -> Result<usize, usize>
+        ensures { IsSearched self.now key.now result }
+    {
+        self.list.binary_search_by(|entry| entry.order_to(key))
     }
 
     /// Finds the place of a key, as `find` does, whatever the place is that it is given: it looks there first, which is all
@@ -92,7 +100,7 @@ impl Index {
         requires { HasHash self.now.entries key.now hash }
         ensures { IsFound self.now key.now result }
     {
-        match self.get(place) {
+        match self.list.get(place.number) {
             Some(entry) if entry.hash() == hash && entry.key() == key => Some(place),
             _ => self.find(hash, key),
         }
@@ -128,13 +136,24 @@ impl Index {
         self.left() > 0
     }
 
-    /// Makes room for one entry more. The entries are as before; refused, so are the room and what is left to move.
+    /// Makes room for one entry more. The entries are as before; refused, all is.
     pub(crate) fn reserve(&mut self) -> Result<(), AllocError>
         ensures same { HoldsSame self.old self.new }
         ensures not_lowered { self.old.room ≤ self.new.room }
         ensures room { OnOk result (1 ≤ self.new.room) }
+        ensures refused { OnErr result (self.new ≡ self.old) }
     {
         self.list.reserve(1)
+    }
+
+    /// Finds where the entry of a new key would come in the list.
+    fn gap(&self, key: &[u8]) -> usize
+        requires { get (items_of self.now.entries) key.now ≡ None }
+        ensures { IsGap self.now.entries key.now result }
+    {
+        match self.search(key) {
+            Ok(number) | Err(number) => number,
+        }
     }
 
     /// Puts in an entry of a new key, for which there is room, and answers its place. It takes no memory. The cost grows
@@ -147,12 +166,7 @@ impl Index {
         ensures room { self.old.room ≤ self.new.room + 1 }
         ensures left { self.new.left ≤ self.old.left }
     {
-        let number = match self
-            .list
-            .binary_search_by(|other| other.order_to(entry.key()))
-        {
-            Ok(number) | Err(number) => number,
-        };
+        let number = self.gap(entry.key());
         match self.list.insert(number, entry) {
             Ok(()) => Place { number },
             Err(_) => unreachable!(),
@@ -181,13 +195,7 @@ impl Index {
 
     /// Makes the number's decimal digits the block of the item at a place, which stays in its chunk, as that class has
     /// room for them; with them come the unique number and the moment of the write.
-    pub(crate) fn rewrite_number(
-        &mut self,
-        place: Place,
-        number: u64,
-        unique: u64,
-        updated: Moment,
-    )
+    pub(crate) fn rewrite_number(&mut self, place: Place, number: u64, unique: u64, updated: Moment)
         requires filled { IsFilled self.old place }
         requires stays { (key : List ℕ) (at : IsPlaceOf self.old key place) →
             StaysInClass key at.entry.item number }
