@@ -2,12 +2,7 @@ pub mod RowLemmas
 pub mod EntryLemmas
 pub mod IndexLemmas
 pub mod PlaceLemmas
+pub mod KeyLemmas
+pub mod ShelfLemmas
 pub mod StandLemmas
 pub mod PlanLemmas
-pub mod ApplyLemmas
-pub mod RefusalLemmas
-pub mod AnswerLemmas
-pub mod SweepLemmas
-pub mod AloneLemmas
-pub mod UnionLemmas
-pub mod StoreLemmas

@@ -1,5 +1,5 @@
 -- What a change of the key's item makes of a plain state that stands for a shelf and a desk.
-use Rattle.std.proofs.Common.{◌≡◌, ◌≢◌, ℕ, ◌+◌, ◌-◌, ◌*◌, ◌<◌, ◌≤◌, ◌^◌, Bool, true, false, cond, List, length, get_or, set, sum, Option, Some, None, Less, Equal, Greater, is_eq, eqb, if◌then◌else◌, refl, sym, ap, ◌∙◌, arith, get_or-set_same, get_or-set_other, length-set, lt-ltb, le-ltb, eq-eqb, ne_eqb, eqb-true, true≢false, inl, inr}
+use Rattle.std.proofs.Common.{◌≡◌, ◌≢◌, ℕ, ◌+◌, ◌-◌, ◌*◌, ◌<◌, ◌≤◌, ◌^◌, ◌||◌, Bool, true, false, ltb, ltb-false, List, length, get_or, set, sum, Option, Some, None, Less, Equal, Greater, is_eq, eqb, if◌then◌else◌, refl, sym, ap, ◌∙◌, arith, get_or-set_same, get_or-set_other, length-set, lt-ltb, le-ltb, eq-eqb, ne_eqb, eqb-true, true≢false, inl, inr}
 use Rattle.std.proofs.lemmas.Bool.{cases_lt}
 use Rattle.std.specs.FinMap.{get, insert, remove}
 use Rattle.mc_time.specs.declared.expiry.Expiry.{Expiry}
@@ -282,3 +282,22 @@ module _ (insert_counts : InsertCounts) (remove_counts : RemoveCounts) (key : Li
         },
       )
 
+-- a class that has no room is full
+pub full_of : (slab : SlabState) (class : ℕ) → IsSlab slab → IsClass class → slabs.has_room slab class ≡ false → IsFull slab class
+full_of slab class is is_class none =
+    let both = neither (ltb (out_of slab class) (slabs.chunks_of slab class)) (ltb 0 (slabs.pages_left slab)) none in
+    let least = ltb-false (out_of slab class) (slabs.chunks_of slab class) both.0 in
+    let left = ltb-false 0 (slabs.pages_left slab) both.1 in
+    let within = is.within class is_class in
+    record { all_out = omega (arith, least, within); no_page = omega (arith, left) }
+  where
+    neither : (a b : Bool) → a || b ≡ false → (a ≡ false) × (b ≡ false)
+    neither true b e = absurd (true≢false e)
+    neither false b e = (refl, e)
+
+-- and one that has room isn't
+pub room_not_full : (slab : SlabState) (class : ℕ) → slabs.has_room slab class ≡ true → IsFull slab class → ⊥
+room_not_full slab class room full = true≢false (sym room ∙ none)
+  where
+    none : slabs.has_room slab class ≡ false
+    none = rw (le-ltb (out_of slab class) (slabs.chunks_of slab class) (omega (arith, full.all_out)), le-ltb 0 (slabs.pages_left slab) (omega (arith, full.no_page))) refl

@@ -13,7 +13,7 @@ use Rattle.mc_command.specs.declared.row.Body.{Body}
 use Rattle.mc_command.specs.declared.row.Body.TheVariants.{Given, Appended, Prepended, Counted}
 use Rattle.mc_command.specs.Rows.{standing_in}
 use Rattle.mc_slab.specs.Classes.{IsClass, class_holding}
-use Rattle.mc_slab.specs.Slabs.{SlabState, out_of, chunks_of, pages_left, has_room, given}
+use Rattle.mc_slab.specs.Slabs.{IsSlab, SlabState, out_of, chunks_of, pages_left, has_room, given}
 use Rattle.mc_command.specs.Commands.{key_of}
 use Rattle.mc_command.specs.Plain.{Plain, Entry, Outcome, Answered, Spent, MayFail, plain, charge, item_class, alive, hit_of, refusal_reply, block_of, written_block, row_of}
 use Rattle.mc_command.specs.Laws.{IsOnKey}
@@ -211,11 +211,16 @@ IsOut key shelf desk =
     (item : Entry) → get shelf.items key ≡ Some item
     → IsClass (item_class key item) → 0 < out_of desk.slab (item_class key item)
 
+-- the chunk of an item goes back to a desk's slab
+pub record GivesOne (class : ℕ) (old new : DeskState) : Type 0 where
+  pub given_is : new ≡ record old { slab = given old.slab class }
+  pub is_class : IsClass class
+  pub is_slab : IsSlab old.slab
+
 -- the chunk of the item that was found goes back
 abbrev pub GivesBack : (key : List ℕ) → Option Entry → DeskState → DeskState → Type 0
 GivesBack key None old new = new ≡ old
-GivesBack key (Some item) old new =
-    (new ≡ record old { slab = given old.slab (item_class key item) }) × IsClass (item_class key item)
+GivesBack key (Some item) old new = GivesOne (item_class key item) old new
 
 -- the numbers that writes draw are spent
 abbrev pub has_no_number : DeskState → Type 0

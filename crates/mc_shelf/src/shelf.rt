@@ -6,7 +6,6 @@ ghost use Rattle.std.specs.FinMap.{empty, get};
 ghost use Rattle.mc_time.specs.declared.expiry.Expiry.{Expiry as Expires};
 ghost use Rattle.mc_slab.specs.Classes.{class_holding};
 ghost use Rattle.mc_slab.specs.Chunks.{chunk_class};
-ghost use Rattle.mc_slab.specs.Slabs.{IsSlab};
 ghost use Rattle.mc_command.specs.declared.step.KeyStep.{KeyStep as Step};
 ghost use Rattle.mc_command.specs.declared.row.Row.TheVariants.{Reads};
 ghost use Rattle.mc_command.specs.Commands.{key_of};
@@ -366,7 +365,6 @@ impl Shelf {
         ensures dropped { (item : Item) → get self.old.content.items key.now ≡ Some item →
             IsDropped key.now hash self.old.content self.new.content }
         ensures given { GivesBack key.now (get self.old.content.items key.now) desk.old desk.new }
-        ensures slab { IsSlab desk.old.slab }
     {
         if let Some(place) = self.index.find(hash, key) {
             let entry = self.index.remove(place);
@@ -383,7 +381,6 @@ impl Shelf {
                 × GivesBack key.now (get self.old.content.items key.now) desk.old desk.new) }
         ensures alive { is_gone self.old.content.cut now (get self.old.content.items key.now) ≡ false →
             ((self.new.content ≡ self.old.content) × (desk.new ≡ desk.old)) }
-        ensures slab { IsSlab desk.old.slab }
     {
         if is_gone(self.entry(hash, key), self.cut, now) {
             self.discard(hash, key, desk);
