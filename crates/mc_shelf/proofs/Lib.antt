@@ -6,3 +6,4 @@ pub mod KeyLemmas
 pub mod ShelfLemmas
 pub mod StandLemmas
 pub mod PlanLemmas
+pub mod TakesLemmas

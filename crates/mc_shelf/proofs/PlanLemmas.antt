@@ -125,14 +125,14 @@ module _ (shelf : ShelfContent) (step : KeyStep) (now : ℕ) where
   stands = stood shelf step now
 
   -- what the next step says of an outcome of the plain machine
-  abbrev Does : Plain → Outcome → Next → Type 0
+  abbrev pub Does : Plain → Outcome → Next → Type 0
   Does s outcome (Answer reply) = (outcome ≡ Answered reply (found_in shelf step now s)) × (is_gone shelf.cut now found ≡ false)
   Does s outcome (Expire expiry reply) = (item : Entry) × (stands ≡ Some item) × (outcome ≡ Answered reply (record s { items = insert s.items key (record item { expiry = expiry }) }))
   Does s outcome (Discard reply) = (old : Entry) × (found ≡ Some old) × (outcome ≡ Answered reply (record s { items = remove s.items key }))
   Does s outcome (Write size draft) = (outcome ≡ wrote_at shelf step now draft s) × IsDrafted shelf step now size draft
 
   -- a dead item was found, and none stands
-  dead_found : (f st : Option Entry) → is_some f && is_none st ≡ true → ((old : Entry) × (f ≡ Some old)) × (st ≡ None)
+  pub dead_found : (f st : Option Entry) → is_some f && is_none st ≡ true → ((old : Entry) × (f ≡ Some old)) × (st ≡ None)
   dead_found None st e = absurd (true≢false (sym e))
   dead_found (Some old) (Some item) e = absurd (true≢false (sym e))
   dead_found (Some old) None e = ((old, refl), refl)
@@ -156,7 +156,7 @@ module _ (shelf : ShelfContent) (step : KeyStep) (now : ℕ) where
         | false ↦ λ fits. (refl, record { size_is = refl; fits = ltb-false shelf.greatest size fits; given = given })
       ] refl
 
-  row_does : (s : Plain) → s.greatest ≡ shelf.greatest → (row : Row) → SpeaksOf stands row → Does s (changed row step stands (found_in shelf step now s) now) (next_by (is_gone shelf.cut now found) shelf.greatest step stands row)
+  pub row_does : (s : Plain) → s.greatest ≡ shelf.greatest → (row : Row) → SpeaksOf stands row → Does s (changed row step stands (found_in shelf step now s) now) (next_by (is_gone shelf.cut now found) shelf.greatest step stands row)
   row_does s same (Refuses why) speaks = answered_does s (changed (Refuses why) step stands (found_in shelf step now s) now) (refusal_reply why) refl
   row_does s same (Reads None) speaks = answered_does s (changed (Reads None) step stands (found_in shelf step now s) now) (hit_of stands) refl
   row_does s same (Reads (Some expiry)) speaks = expires_does s expiry (hit_of stands) speaks

@@ -335,6 +335,8 @@ impl Shelf {
         ensures enough { result ≡ false → CanWrite plan.now.next desk.now →
             get self.now.content.items plan.now.key ≢ None }
     {
+        // Read for the invariant's clause on it: a charge of at most 1048576 bytes has a class.
+        let _greatest = self.greatest;
         let Next::Write(charge, _) = plan.next else {
             return false;
         };
@@ -412,6 +414,8 @@ impl Shelf {
             ((self.new.content ≡ self.old.content) × (desk.new ≡ desk.old)) }
     {
         counts_follow();
+        // Read for the invariant's clause on it: a charge of at most 1048576 bytes has a class.
+        let _greatest = self.greatest;
         if desk.is_spent() {
             return Err(StepFault::NumbersSpent);
         }
