@@ -7,3 +7,4 @@ pub mod ShelfLemmas
 pub mod StandLemmas
 pub mod PlanLemmas
 pub mod TakesLemmas
+pub mod RefusalLemmas

@@ -216,7 +216,7 @@ room_none t slab class pages limit count full =
     let used : sum t.pages ≡ sum slab.pages = ap sum pages in
     rw (le-ltb (count_of t.items class) (get_or t.pages (class - 1) 0 * chunks_a_page class) (omega arith), le-ltb (sum t.pages) t.limit (omega arith)) refl
 
-pub room_some : (t : Plain) (slab : SlabState) (class : ℕ) → IsSlab slab → IsClass class → t.pages ≡ slab.pages → t.limit ≡ slab.limit → count_of t.items class ≡ out_of slab class → (IsFull slab class → ⊥) → has_room t class ≡ true
+pub room_some : (t : Plain) (slab : SlabState) (class : ℕ) → IsSlab slab → IsClass class → t.pages ≡ slab.pages → t.limit ≡ slab.limit → count_of t.items class ≤ out_of slab class → (IsFull slab class → ⊥) → has_room t class ≡ true
 room_some t slab class is is_class pages limit count not_full =
     let chunks : get_or t.pages (class - 1) 0 * chunks_a_page class ≡ slabs.chunks_of slab class = ap (λ (ps : List ℕ). get_or ps (class - 1) 0 * chunks_a_page class) pages in
     let used : sum t.pages ≡ sum slab.pages = ap sum pages in

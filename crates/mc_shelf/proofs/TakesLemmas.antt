@@ -1,8 +1,9 @@
 -- What a shelf and a desk make of a plan is what the plain machine makes of the step.
-use Rattle.std.proofs.Common.{◌≡◌, ◌≢◌, ℕ, ◌+◌, ◌-◌, ◌<◌, ◌≤◌, ◌^◌, Bool, true, false, ◌&&◌, ◌||◌, List, [], length, decimal, Option, Some, None, is_some, is_none, eqb, eqb-true, if◌then◌else◌, refl, sym, ap, subst, ◌∙◌, arith, eq-eqb, true≢false}
+use Rattle.std.proofs.Common.{◌≡◌, ◌≢◌, ℕ, ◌+◌, ◌-◌, ◌<◌, ◌≤◌, ◌^◌, Bool, true, false, ◌&&◌, ◌||◌, List, [], length, decimal, Option, Some, None, is_some, is_none, eqb, eqb-true, leb, if◌then◌else◌, refl, sym, ap, subst, ◌∙◌, arith, eq-eqb, true≢false}
 use Rattle.std.proofs.lemmas.Option.{same_Some, none-some}
 use Rattle.std.specs.FinMap.{empty, get, insert, remove}
 use Rattle.mc_time.specs.declared.expiry.Expiry.{Expiry}
+use Rattle.mc_slab.specs.Classes as classes
 use Rattle.mc_slab.specs.Classes.{IsClass, class_holding, size_of}
 use Rattle.mc_slab.specs.Slabs as slabs
 use Rattle.mc_slab.specs.Slabs.{SlabState, IsSlab, IsFull, given, out_of, taken}
@@ -320,7 +321,7 @@ module _ (insert_counts : InsertCounts) (remove_counts : RemoveCounts) (step : K
         let under = found_in shelf step now s in
         let c : class_holding (charge its_key block) ≡ class = sym class_charge in
         let count = count_base is_class e s at in
-        let has : has_room under class ≡ true = room_some under desk.slab class is is_class at.pages at.limit count (room_not_full desk.slab class room) in
+        let has : has_room under class ≡ true = room_some under desk.slab class is is_class at.pages at.limit (omega (arith, count)) (room_not_full desk.slab class room) in
         let after = outs_after is is_class its_found (desk.next_unique + 1) desk' back in
         let pages : pages_after class (count_of under.items class) s.pages ≡ desk'.slab.pages = (λ i. pages_after class (count i) (at.pages i)) ∙ sym (pages-taken desk.slab class is_class) ∙ sym after.2 in
         let moved : (other : ℕ) → IsClass other → out_of desk'.slab other + of_class its_key its_found other ≡ out_of desk.slab other + bump class other = λ other is_other.
@@ -365,3 +366,8 @@ module _ (insert_counts : InsertCounts) (remove_counts : RemoveCounts) (step : K
           | true ↦ λ gone. let both = dead gone in (both.0.others, both.0.hash)
           | false ↦ λ gone. subst (λ (t : ShelfContent). OthersStay its_key shelf t × IsHash t its_key own) (sym (alive gone).0) (others_same its_key shelf, has)
         ] refl
+
+-- the class that is found for a charge is the one that holds it
+pub class_some : (charge class : ℕ) → Some class ≡ classes.class_of charge → class ≡ class_holding charge
+class_some charge class e =
+    elim (leb charge 1048576) as (λ b. Some class ≡ (if b then Some (class_holding charge) else None) → class ≡ class_holding charge) [ true ↦ λ e. same_Some class (class_holding charge) e | false ↦ λ e. absurd (none-some class (sym e)) ] e

@@ -1,7 +1,7 @@
 //! A shelf: the items of some keys, and the steps on one of its keys.
 
 ghost use Rattle.std.specs.Prelude.{◌≡◌, ◌≢◌, ◌↔◌, ℕ, ◌-◌, ◌≤◌, List, length, min};
-ghost use Rattle.std.specs.Prelude.{Option, Some, None, Err, IfOk, IfSome, OnErr, true, false};
+ghost use Rattle.std.specs.Prelude.{Option, Some, None, Err, IfOk, IfSome, OnErr, OnOk, true, false};
 ghost use Rattle.std.specs.FinMap.{empty, get};
 ghost use Rattle.mc_time.specs.declared.expiry.Expiry.{Expiry as Expires};
 ghost use Rattle.mc_slab.specs.Classes.{class_holding};
@@ -134,9 +134,7 @@ impl Shelf {
             → MayWantMemory step.now now self.old.content desk.old }
     {
         let plan = self.plan(alloc, step, hash, now)?;
-        if self.wants_room(&plan, desk) {
-            self.index.reserve()?;
-        }
+        self.make_room(&plan, desk)?;
         self.apply(alloc, plan, step, desk)
     }
 
@@ -325,6 +323,20 @@ impl Shelf {
     {
         let place = self.index.find(hash, key)?;
         self.index.get(place)
+    }
+
+    /// Makes room for the entry of a new key, where a plan can be taken that writes it.
+    fn make_room(&mut self, plan: &Plan<'_>, desk: &Desk) -> Result<(), AllocError>
+        requires { (step : Step) × (now : ℕ) × IsPlan plan.now self.old.content step now }
+        ensures content { self.new.content ≡ self.old.content }
+        ensures room { OnOk result (CanWrite plan.now.next desk.now →
+            get self.old.content.items plan.now.key ≡ None → 1 ≤ self.new.room) }
+        ensures refused { OnErr result (CanWrite plan.now.next desk.now) }
+    {
+        if self.wants_room(plan, desk) {
+            return self.index.reserve();
+        }
+        Ok(())
     }
 
     /// Answers whether a plan can be taken, and then puts in the entry of a new key.

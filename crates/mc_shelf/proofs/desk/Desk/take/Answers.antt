@@ -9,4 +9,7 @@ use Rattle.mc_shelf.proofs.desk.Desk.take.Goals as goal
 use Rattle.mc_shelf.proofs.desk.Desk.take.Goals.{in-Ok, in-Err}
 
 pub returns-clause-page : goal.returns-clause-page
-returns-clause-page c = elim c.match-take.branch [ in-Ok w ↦ ? | in-Err w ↦ ? ]
+returns-clause-page c = elim c.match-take.branch [
+  | in-Ok w ↦ subst (λ r. OnErr r (WantsPage c.args.self.now.slab c.args.class)) (sym w.result-is) tt
+  | in-Err w ↦ ?
+]
