@@ -8,3 +8,4 @@ pub mod StandLemmas
 pub mod PlanLemmas
 pub mod TakesLemmas
 pub mod RefusalLemmas
+pub mod SweepLemmas

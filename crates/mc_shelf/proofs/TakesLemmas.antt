@@ -146,7 +146,7 @@ module _ (insert_counts : InsertCounts) (remove_counts : RemoveCounts) (step : K
   drafted_is : IsDrafted shelf step now size draft
   drafted_is = drafts shelf step now size draft next
 
-  wrote_is : (s : Plain) → IsAt its_key shelf desk s → plain s step now ≡ wrote_at shelf step now draft s
+  pub wrote_is : (s : Plain) → IsAt its_key shelf desk s → plain s step now ≡ wrote_at shelf step now draft s
   wrote_is s at = (does_at insert_counts remove_counts step now shelf desk on (Write size draft) next s at).0
 
   fits_plain : (s : Plain) → IsAt its_key shelf desk s → charge its_key block ≤ s.greatest

@@ -67,6 +67,7 @@ impl Desk {
     pub(crate) fn is_spent(&self) -> bool
         ensures spent { result ≡ true → self.now.next_unique ≡ 2 ^ 64 - 1 }
         ensures left { result ≡ false → self.now.next_unique < 2 ^ 64 - 1 }
+        ensures slab { IsSlab self.now.slab }
     {
         self.next_unique() == u64::MAX
     }

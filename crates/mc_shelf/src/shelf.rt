@@ -6,6 +6,7 @@ ghost use Rattle.std.specs.FinMap.{empty, get};
 ghost use Rattle.mc_time.specs.declared.expiry.Expiry.{Expiry as Expires};
 ghost use Rattle.mc_slab.specs.Classes.{class_holding};
 ghost use Rattle.mc_slab.specs.Chunks.{chunk_class};
+ghost use Rattle.mc_slab.specs.Slabs.{IsSlab};
 ghost use Rattle.mc_command.specs.declared.step.KeyStep.{KeyStep as Step};
 ghost use Rattle.mc_command.specs.declared.row.Row.TheVariants.{Reads};
 ghost use Rattle.mc_command.specs.Commands.{key_of};
@@ -134,6 +135,7 @@ impl Shelf {
             → MayWantMemory step.now now self.old.content desk.old }
     {
         let plan = self.plan(alloc, step, hash, now)?;
+        counts_follow();
         self.make_room(&plan, desk)?;
         self.apply(alloc, plan, step, desk)
     }
@@ -304,6 +306,7 @@ impl Shelf {
         ensures hash { IfOk result (λ plan. plan.hash ≡ hash) }
         ensures asked { OnErr result ((expiry : Option Expires)
             × (row_at self.now.content step.now now ≡ Reads expiry)) }
+        ensures most { self.now.content.greatest ≤ 1048576 }
     {
         let found = self.entry(hash, step.key());
         let next = next_of(alloc, step, found, self.greatest, self.cut, now)?;
@@ -332,6 +335,7 @@ impl Shelf {
         ensures room { OnOk result (CanWrite plan.now.next desk.now →
             get self.old.content.items plan.now.key ≡ None → 1 ≤ self.new.room) }
         ensures refused { OnErr result (CanWrite plan.now.next desk.now) }
+        ensures slab { IsSlab desk.now.slab }
     {
         if self.wants_room(plan, desk) {
             return self.index.reserve();
@@ -346,7 +350,11 @@ impl Shelf {
             × (get self.now.content.items plan.now.key ≡ None)) }
         ensures enough { result ≡ false → CanWrite plan.now.next desk.now →
             get self.now.content.items plan.now.key ≢ None }
+        ensures slab { IsSlab desk.now.slab }
     {
+        if desk.is_spent() {
+            return false;
+        }
         // Read for the invariant's clause on it: a charge of at most 1048576 bytes has a class.
         let _greatest = self.greatest;
         let Next::Write(charge, _) = plan.next else {
@@ -355,9 +363,7 @@ impl Shelf {
         let Some(class) = class_of(charge) else {
             return false;
         };
-        !desk.is_spent()
-            && desk.has_room(class)
-            && self.entry(plan.hash, plan.key.as_slice()).is_none()
+        desk.has_room(class) && self.entry(plan.hash, plan.key.as_slice()).is_none()
     }
 
     /// Sets the expiry of a key's item.
