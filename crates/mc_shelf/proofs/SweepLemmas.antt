@@ -160,9 +160,10 @@ swept_none now shelf desk = record { greatest = refl; cut = refl; living_same = 
 -- what a removal keeps
 kept_by : (was new : IndexState) (key : List ℕ) → IsRemoved was new key → (other : List ℕ) (item : Entry) → get (items_of new.entries) other ≡ Some item → (get (items_of was.entries) other ≡ Some item) × (get (hashes_of new.entries) other ≡ get (hashes_of was.entries) other)
 kept_by was new key removed other item there =
-    let apart : other ≢ key = λ same. none-some item (sym (ap (λ (k : List ℕ). get (items_of new.entries) k) same ∙ ap (λ (m : Items). get m key) removed.items ∙ get_gone (items_of was.entries) key) ∙ there) in
-    (sym (ap (λ (m : Items). get m other) removed.items ∙ get_gone_other (items_of was.entries) key other apart) ∙ there,
-      ap (λ (m : Hashes). get m other) removed.hashes ∙ get_gone_other (hashes_of was.entries) key other apart)
+    let apart : other ≢ key = λ same. none-some item (sym (ap (λ (k : List ℕ). get (items_of new.entries) k) same ∙ ap (λ (m : Items). get m key) removed.items ∙ get_gone (items_of was.entries) key) ∙ there) in (
+      sym (ap (λ (m : Items). get m other) removed.items ∙ get_gone_other (items_of was.entries) key other apart) ∙ there,
+      ap (λ (m : Hashes). get m other) removed.hashes ∙ get_gone_other (hashes_of was.entries) key other apart,
+    )
 
 module _ (remove_counts : RemoveCounts) (greatest : ℕ) (cut : Option ℕ) (was new : IndexState) (key : List ℕ) (place : Place) (filled : IsPlaceOf was key place) (entry : EntryState) (there : entry_at was place ≡ Some entry) (removed : IsRemoved was new entry.key)
     (desk desk' : DeskState) (chunk : List ℕ) (is_chunk : IsChunkOf (item_class entry.key entry.item) chunk) (is_class : IsClass (item_class entry.key entry.item))

@@ -48,8 +48,8 @@ impl Desk {
     /// Tells what the class has: its pages, and its chunks that items lie in.
     pub fn account(&self, class: Class) -> Account
         ensures { result ≡ record {
-            pages = pages_of self.now.slab class;
-            out = out_of self.now.slab class;
+          pages = pages_of self.now.slab class;
+          out = out_of self.now.slab class;
         } }
     {
         self.slab.account(class)

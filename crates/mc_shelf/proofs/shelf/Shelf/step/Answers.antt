@@ -35,15 +35,14 @@ returns-clause-spent c =
     let plan = c.in_ok-plan.ensures.plan in
     let step = c.args.step.now in
     let old = c.args.self.now.content in
-    let desk = c.args.desk.now in
-    (
+    let desk = c.args.desk.now in (
       (λ e.
-        let both = c.apply.ensures.spent.0 e in
-        let some = writes_some c.in_ok-plan.plan.next both.0 in
-        is_spent c.counts_follow.ensures.insert c.counts_follow.ensures.remove step c.args.now old desk c.requires.on_key some.0 some.1 (sym some.2 ∙ plan.next) both.1),
+          let both = c.apply.ensures.spent.0 e in
+          let some = writes_some c.in_ok-plan.plan.next both.0 in
+          is_spent c.counts_follow.ensures.insert c.counts_follow.ensures.remove step c.args.now old desk c.requires.on_key some.0 some.1 (sym some.2 ∙ plan.next) both.1),
       (λ spent. spent_told c.apply.result _ c.apply.ensures.took
-        (λ reply took. taken_not_spent step c.in_ok-plan.plan.moment c.in_ok-plan.plan.hash old desk reply c.apply.new.self.content c.apply.new.desk c.requires.stands
+          (λ reply took. taken_not_spent step c.in_ok-plan.plan.moment c.in_ok-plan.plan.hash old desk reply c.apply.new.self.content c.apply.new.desk c.requires.stands
           (subst (λ (t : ShelfContent). IsTaken step c.in_ok-plan.plan.moment c.in_ok-plan.plan.hash t desk reply c.apply.new.self.content c.apply.new.desk) c.make_room.ensures.content took)
           (subst (λ (m : ℕ). IsSpent step m old desk) (sym plan.moment) spent))
-        (λ e. wants_not_spent step c.args.now old desk c.requires.stands (returns-clause-refused c e) spent)),
+          (λ e. wants_not_spent step c.args.now old desk c.requires.stands (returns-clause-refused c e) spent)),
     )
