@@ -1,120 +1,131 @@
 -- Where a step may be refused: its answer is one that memory is asked for.
-use Rattle.std.proofs.Common.{◌≡◌, ℕ, ◌-◌, ◌^◌, Bool, true, false, List, Result, Ok, Err, OnErr, Option, Some, None, eqb, ltb, if◌then◌else◌, sym, subst, ◌∙◌}
-use Rattle.std.specs.FinMap.{get}
+use Rattle.std.proofs.lemmas.Bool.{cases_lt, le-leb}
+use Rattle.std.proofs.lemmas.List.Sums.{fails_before_first}
+use Rattle.std.specs.List.{position_or_len}
+use Rattle.mc_slab.proofs.ClassLemmas.{size_of-last}
+use Rattle.std.proofs.Common.{◌≡◌, ◌≢◌, ℕ, ◌+◌, ◌-◌, ◌<◌, ◌≤◌, ◌^◌, Bool, true, false, true≢false, ◌||◌, List, Option, Some, None, Result, Ok, Err, IfOk, inl, inr, leb, eqb, ltb, lt-ltb, refl, sym, ap, subst, ◌∙◌, arith}
+use Rattle.std.specs.FinMap.{get, remove}
+use Rattle.mc_slab.specs.Classes.{IsClass, chunk_sizes, class_holding}
+use Rattle.mc_slab.specs.Slabs as slabs
+use Rattle.mc_slab.specs.Slabs.{SlabState, IsSlab, out_of}
 use Rattle.mc_time.specs.declared.expiry.Expiry.{Expiry}
-use Rattle.mc_slab.specs.Classes.{class_holding}
-use Rattle.mc_command.specs.declared.step.Verb.{Verb}
-use Rattle.mc_command.specs.declared.step.Verb.TheVariants.{Set, Add, Replace, Append, Prepend}
 use Rattle.mc_command.specs.declared.step.KeyStep.{KeyStep}
-use Rattle.mc_command.specs.declared.step.KeyStep.TheVariants.{Store, Cas, Read, ReadTouch, Touch, Delete, Count, Flush}
 use Rattle.mc_command.specs.declared.reply.Reply.{Reply}
-use Rattle.mc_command.specs.declared.reply.Reply.TheVariants.{Stored, NotStored, Exists, NotFound, Miss, Hit, Touched, Deleted, Number, NotNumeric, TooLarge, NoChunk, Flushed}
+use Rattle.mc_command.specs.declared.row.Row.{Row}
+use Rattle.mc_command.specs.declared.row.Row.TheVariants.{Reads}
+use Rattle.mc_command.specs.declared.row.Body.{Body}
+use Rattle.mc_command.specs.declared.row.Body.TheVariants.{Given, Appended, Prepended, Counted}
+use Rattle.mc_command.specs.declared.row.Draft.{Draft}
 use Rattle.mc_command.specs.Commands.{key_of}
-use Rattle.mc_command.specs.Plain.{Plain, Entry, Change, Leaves, Writes, Recounts, SetsExpiry, Removes, Answered, Spent, CopiesBlock, MayFail, plain, changed, wrote, written, with_chunk, has_room, charge, item_class, alive, number_of, number_row, store_row, cas_row, count_row}
-use Rattle.mc_command.specs.Laws.{IsOnKey, row_of}
-use Rattle.mc_shelf.specs.declared.plan.Next.TheVariants.{Write}
-use Rattle.mc_shelf.specs.States.{ShelfState, DeskState, IsAt}
-use Rattle.mc_shelf.specs.Plans.{IsHit, Puts, Takes, has_dead, next_of, row_at}
-use Rattle.mc_shelf.proofs.StandLemmas.{base, step_is}
-use Rattle.mc_shelf.proofs.PlanLemmas.{cas_if, write_puts}
+use Rattle.mc_command.specs.Plain.{Plain, Entry, Answered, Spent, CopiesBlock, MayFail, plain, changed, charge, count_of, has_room, hit_of, keeps_chunk, perhaps_expiring, with_chunk, write_reply, written, wrote}
+use Rattle.mc_command.specs.Laws.{IsOnKey, of_class}
+use Rattle.mc_shelf.specs.declared.plan.Next.{Next}
+use Rattle.mc_shelf.specs.declared.plan.Next.TheVariants.{Answer, Expire, Discard, Write}
+use Rattle.mc_command.specs.declared.step.StepFault.{StepFault}
+use Rattle.mc_command.specs.declared.step.StepFault.TheVariants.{NoMemory, NumbersSpent}
+use Rattle.mc_shelf.specs.States.{ShelfContent, DeskState, CanStand, IsAt}
+use Rattle.mc_shelf.specs.Plans.{CanWrite, IsSpent, IsTaken, MayWantMemory, NeedsPage, WantsPage, has_no_number, next_of, row_at, stood, writes}
+use Rattle.mc_shelf.proofs.StandLemmas.{RemoveCounts, base, room_not_full, room_some, step_is, wrote_kept, wrote_taken}
+use Rattle.mc_shelf.proofs.PlanLemmas.{SpeaksOf, block_at, found_in, row_speaks, wrote_at}
+use Rattle.mc_shelf.proofs.TakesLemmas.{drafts, wrote_is}
+use Rattle.mc_shelf.proofs.StandLemmas.{InsertCounts}
 
--- ---- a step that answers so may fail
+reply_copies : (body : Body) → CopiesBlock (write_reply body)
+reply_copies Given = tt
+reply_copies Appended = tt
+reply_copies Prepended = tt
+reply_copies (Counted number) = tt
 
-may_write : (large spent stays room : Bool) (reply : Reply) (t u v : Plain) → CopiesBlock reply →
-    MayFail (if large then Answered TooLarge t else if spent then Spent else if stays then Answered reply u else if room then Answered reply v else Answered NoChunk t)
-may_write true spent stays room reply t u v copies = tt
-may_write false true stays room reply t u v copies = tt
-may_write false false true room reply t u v copies = copies
-may_write false false false true reply t u v copies = copies
-may_write false false false false reply t u v copies = tt
+-- a hit is answered with a copy of a block
+pub hit_wants : (step : KeyStep) (now : ℕ) (shelf : ShelfContent) (desk : DeskState) → IsOnKey step → (expiry : Option Expiry) → row_at shelf step now ≡ Reads expiry → MayWantMemory step now shelf desk
+hit_wants step now shelf desk on expiry row s at =
+    let there = subst (λ (r : Row). SpeaksOf (stood shelf step now) r) row (row_speaks step now (stood shelf step now)) in
+    subst MayFail (sym (step_is step now shelf desk s on at ∙ ap (λ (r : Row). changed r step (stood shelf step now) (found_in shelf step now s) now) row)) (copies (stood shelf step now) there.0 there.1)
+  where
+    copies : (st : Option Entry) (item : Entry) → st ≡ Some item → CopiesBlock (hit_of st)
+    copies st item is = subst (λ (o : Option Entry). CopiesBlock (hit_of o)) (sym is) tt
 
-may_wrote : (stays : Bool) (reply : Reply) (key : List ℕ) (flags : ℕ) (expiry : Expiry) (block : List ℕ) (t : Plain) (now : ℕ) → CopiesBlock reply → MayFail (wrote stays reply key flags expiry block t now)
-may_wrote stays reply key flags expiry block t now copies =
-    may_write (ltb t.greatest (charge key block)) (eqb t.next_unique (2 ^ 64 - 1)) stays (has_room t (class_holding (charge key block))) reply t
-    (written t key flags expiry block now) (written (with_chunk t (class_holding (charge key block))) key flags expiry block now) copies
+-- a write that finds a number and a chunk is answered so that it may be refused
+module _ (insert_counts : InsertCounts) (remove_counts : RemoveCounts) (step : KeyStep) (now : ℕ) (shelf : ShelfContent) (desk : DeskState) (on : IsOnKey step) (is : IsSlab desk.slab) (size : ℕ) (draft : Draft) (next : Write size draft ≡ next_of shelf step now)
+    (class : IsClass (class_holding size)) (more : desk.next_unique ≢ 2 ^ 64 - 1) (chunk : slabs.has_room desk.slab (class_holding size) ≡ true) (s : Plain) (at : IsAt (key_of step) shelf desk s) where
+  abbrev under : Plain
+  under = found_in shelf step now s
 
-may_change : (reply : Reply) (change : Change) (key : List ℕ) (t : Plain) (now : ℕ) → CopiesBlock reply → MayFail (changed reply change key t now)
-may_change reply Leaves key t now copies = copies
-may_change reply (Writes flags expiry block) key t now copies = may_wrote false reply key flags expiry block t now copies
-may_change reply (Recounts item block) key t now copies = may_wrote (eqb (item_class key item) (class_holding (charge key block))) reply key item.flags item.expiry block t now copies
-may_change reply (SetsExpiry item expiry) key t now copies = copies
-may_change reply Removes key t now copies = copies
+  abbrev block : List ℕ
+  block = block_at shelf step now draft
 
-pub may_fail : (step : KeyStep) (now : ℕ) (shelf : ShelfState) (desk : DeskState) (s : Plain) → IsOnKey step → CopiesBlock (row_at shelf step now).0 → IsAt (key_of step) shelf desk s → MayFail (plain s step now)
-may_fail step now shelf desk s on copies at =
-    let row = row_at shelf step now in
-    subst MayFail (sym (step_is step now shelf desk s on at)) (may_change row.0 row.1 (key_of step) (record s { items = base (alive shelf.cut now (get shelf.items (key_of step))) (key_of step) s.items }) now copies)
+  fewer : (st : Option Entry) → count_of (base st (key_of step) s.items) (class_holding size) ≤ out_of desk.slab (class_holding size)
+  fewer (Some item) = let out = at.out (class_holding size) class in omega arith
+  fewer None =
+      let gone : count_of (remove s.items (key_of step)) (class_holding size) + of_class (key_of step) (get s.items (key_of step)) (class_holding size) ≡ count_of s.items (class_holding size) = remove_counts s.items (key_of step) (class_holding size) in
+      let out = at.out (class_holding size) class in
+      omega arith
 
--- a hit's block is copied
-pub hit_copies : (reply : Reply) → IsHit reply → CopiesBlock reply
-hit_copies Stored hit = tt
-hit_copies NotStored hit = hit
-hit_copies Exists hit = hit
-hit_copies NotFound hit = hit
-hit_copies Miss hit = hit
-hit_copies (Hit flags unique block) hit = tt
-hit_copies Touched hit = hit
-hit_copies Deleted hit = hit
-hit_copies (Number number) hit = tt
-hit_copies NotNumeric hit = hit
-hit_copies TooLarge hit = tt
-hit_copies NoChunk hit = tt
-hit_copies Flushed hit = hit
+  room : has_room under (class_holding (charge (key_of step) block)) ≡ true
+  room = subst (λ (n : ℕ). has_room under (class_holding n) ≡ true) (drafts shelf step now size draft next).size_is
+      (room_some under desk.slab (class_holding size) is class at.pages at.limit (fewer (stood shelf step now)) (room_not_full desk.slab (class_holding size) chunk))
 
--- ---- a write answers so
+  fits : charge (key_of step) block ≤ s.greatest
+  fits = rw at.greatest (subst (λ (n : ℕ). n ≤ shelf.greatest) (drafts shelf step now size draft next).size_is (drafts shelf step now size draft next).fits)
 
-store_copies : (verb : Verb) (flags : ℕ) (expiry : Expiry) (block : List ℕ) (stands : Option Entry) (f : ℕ) (e : Expiry) (b : List ℕ) → Puts (store_row verb flags expiry block stands).1 f e b → CopiesBlock (store_row verb flags expiry block stands).0
-store_copies Set flags expiry block None f e b puts = tt
-store_copies Set flags expiry block (Some old) f e b puts = tt
-store_copies Add flags expiry block None f e b puts = tt
-store_copies Add flags expiry block (Some old) f e b puts = puts
-store_copies Replace flags expiry block None f e b puts = puts
-store_copies Replace flags expiry block (Some old) f e b puts = tt
-store_copies Append flags expiry block None f e b puts = puts
-store_copies Append flags expiry block (Some old) f e b puts = tt
-store_copies Prepend flags expiry block None f e b puts = puts
-store_copies Prepend flags expiry block (Some old) f e b puts = tt
+  answers : (keeps : Bool) → MayFail (wrote keeps (write_reply draft.body) (key_of step) draft.flags draft.expiry block under now)
+  answers true = subst MayFail (sym (wrote_kept (write_reply draft.body) (key_of step) draft.flags draft.expiry block under now fits (λ e. more (sym at.next_unique ∙ e)))) (reply_copies draft.body)
+  answers false = subst MayFail (sym (wrote_taken (write_reply draft.body) (key_of step) draft.flags draft.expiry block under now fits (λ e. more (sym at.next_unique ∙ e)) room)) (reply_copies draft.body)
 
-cas_copies : (flags : ℕ) (expiry : Expiry) (block : List ℕ) (unique : ℕ) (stands : Option Entry) (f : ℕ) (e : Expiry) (b : List ℕ) → Puts (cas_row flags expiry block unique stands).1 f e b → CopiesBlock (cas_row flags expiry block unique stands).0
-cas_copies flags expiry block unique None f e b puts = puts
-cas_copies flags expiry block unique (Some old) f e b puts =
-    elim (eqb old.unique unique) as (λ is. Puts (cas_if is flags expiry block).1 f e b → CopiesBlock (cas_if is flags expiry block).0) [ true ↦ λ p. tt | false ↦ λ p. p ] puts
+  pub write_wants : MayFail (plain s step now)
+  write_wants = subst MayFail (sym (wrote_is insert_counts remove_counts step now shelf desk on size draft next s at)) (answers (keeps_chunk draft.body (key_of step) (stood shelf step now)))
 
-count_copies : (up : Bool) (by : ℕ) (stands : Option Entry) (f : ℕ) (e : Expiry) (b : List ℕ) → Puts (count_row up by stands).1 f e b → CopiesBlock (count_row up by stands).0
-count_copies up by None f e b puts = puts
-count_copies up by (Some old) f e b puts =
-    elim (number_of old.block) as (λ n. Puts (number_row old up by n).1 f e b → CopiesBlock (number_row old up by n).0) [ None ↦ λ p. p | Some n ↦ λ p. tt ] puts
+-- a page is left
+pub page_left : (slab : SlabState) (class : ℕ) → WantsPage slab class → slabs.has_room slab class ≡ true
+page_left slab class page = or_right (ltb (out_of slab class) (slabs.chunks_of slab class)) (ltb 0 (slabs.pages_left slab)) (lt-ltb 0 (slabs.pages_left slab) page.left)
+  where
+    or_right : (a b : Bool) → b ≡ true → a || b ≡ true
+    or_right true b e = refl
+    or_right false b e = e
 
-row_copies : (step : KeyStep) (now : ℕ) (stands : Option Entry) (f : ℕ) (e : Expiry) (b : List ℕ) → Puts (row_of step now stands).1 f e b → CopiesBlock (row_of step now stands).0
-row_copies (Store verb key flags exptime block) now stands f e b puts = store_copies verb flags _ block stands f e b puts
-row_copies (Cas key flags exptime block unique) now stands f e b puts = cas_copies flags _ block unique stands f e b puts
-row_copies (Read key) now None f e b puts = puts
-row_copies (Read key) now (Some old) f e b puts = tt
-row_copies (ReadTouch key exptime) now None f e b puts = puts
-row_copies (ReadTouch key exptime) now (Some old) f e b puts = tt
-row_copies (Touch key exptime) now None f e b puts = puts
-row_copies (Touch key exptime) now (Some old) f e b puts = puts
-row_copies (Delete key) now None f e b puts = puts
-row_copies (Delete key) now (Some old) f e b puts = puts
-row_copies (Count key up by) now stands f e b puts = count_copies up by stands f e b puts
-row_copies (Flush delay) now stands f e b puts = absurd puts
+pub needs_can : (next : Next) (desk : DeskState) → NeedsPage next desk → CanWrite next desk
+needs_can next desk page = record { size = page.size; draft = page.draft; writes_it = page.writes_it; number = page.number; chunk = page_left desk.slab (class_holding page.size) page.page }
 
-pub write_copies : (shelf : ShelfState) (step : KeyStep) (now size : ℕ) → next_of shelf step now ≡ Write size → CopiesBlock (row_at shelf step now).0
-write_copies shelf step now size next =
-    let row = row_at shelf step now in
-    let puts = write_puts (has_dead shelf (key_of step) now) shelf.greatest (key_of step) row.0 row.1 size next in
-    row_copies step now (alive shelf.cut now (get shelf.items (key_of step))) puts.0 puts.1 puts.2 puts.3
+-- ---- spent numbers
 
--- ---- results
-
-pub on_err : {A E : Type 0} (result : Result A E) (P : Type 0) → P → OnErr result P
-on_err (Ok a) P p = tt
-on_err (Err e) P p = p
-
--- a step that is answered isn't one that would draw the last number
-pub never_spent : (step : KeyStep) (now : ℕ) (shelf : ShelfState) (desk : DeskState) (reply : Reply) (new : ShelfState) (new_desk : DeskState) → Takes step now shelf desk reply new new_desk
-    → (s : Plain) → IsAt (key_of step) shelf desk s → plain s step now ≡ Spent → ⊥
-never_spent step now shelf desk reply new new_desk took s at spent = let there = took s at in apart reply there.0 (sym there.1 ∙ spent)
+-- where a step is taken, or may be refused, the numbers are not spent
+pub taken_not_spent : (step : KeyStep) (now own : ℕ) (shelf : ShelfContent) (desk : DeskState) (reply : Reply) (new : ShelfContent) (desk' : DeskState) → CanStand (key_of step) shelf desk → IsTaken step now own shelf desk reply new desk' → IsSpent step now shelf desk → ⊥
+taken_not_spent step now own shelf desk reply new desk' can took spent =
+    let there = took.takes can.plain can.stands in apart reply there.0 (sym there.1 ∙ spent can.plain can.stands)
   where
     apart : (reply : Reply) (t : Plain) → Answered reply t ≡ Spent → ⊥
     apart reply t e = cc
+
+pub wants_not_spent : (step : KeyStep) (now : ℕ) (shelf : ShelfContent) (desk : DeskState) → CanStand (key_of step) shelf desk → MayWantMemory step now shelf desk → IsSpent step now shelf desk → ⊥
+wants_not_spent step now shelf desk can wants spent = subst MayFail (spent can.plain can.stands) (wants can.plain can.stands)
+
+-- ---- classes
+
+-- a charge of at most a page has a class
+pub class_least : (charge : ℕ) → charge ≤ 1048576 → IsClass (class_holding charge)
+class_least charge most =
+    let place : ℕ = position_or_len (λ size. leb charge size) chunk_sizes in
+    elim (cases_lt 39 place) as (λ _. IsClass (class_holding charge)) [
+      | inl behind ↦ absurd (true≢false (sym (le-leb charge 1048576 most) ∙ ap (leb charge) (sym size_of-last) ∙ fails_before_first (λ size. leb charge size) chunk_sizes 39 0 behind))
+      | inr within ↦ (omega arith, omega arith)
+    ]
+
+-- a plan that can be taken wants memory
+pub can_wants : InsertCounts → RemoveCounts → (step : KeyStep) (now : ℕ) (shelf : ShelfContent) (desk : DeskState) → IsOnKey step → IsSlab desk.slab → shelf.greatest ≤ 1048576 → (next : Next) → next ≡ next_of shelf step now → CanWrite next desk → MayWantMemory step now shelf desk
+can_wants insert_counts remove_counts step now shelf desk on is most next next_is can s at =
+    let drafted = sym can.writes_it ∙ next_is in
+    let fits = (drafts shelf step now can.size can.draft drafted).fits in
+    write_wants insert_counts remove_counts step now shelf desk on is can.size can.draft drafted (class_least can.size (omega (arith, fits, most))) can.number can.chunk s at
+
+-- what writes is a write
+pub writes_some : (next : Next) → writes next ≡ true → (size : ℕ) × (draft : Draft) × (next ≡ Write size draft)
+writes_some (Answer reply) e = absurd (true≢false (sym e))
+writes_some (Expire expiry reply) e = absurd (true≢false (sym e))
+writes_some (Discard reply) e = absurd (true≢false (sym e))
+writes_some (Write size draft) e = (size, draft, refl)
+
+-- a result that is neither an answer nor want of memory tells of spent numbers
+pub spent_told : (result : Result Reply StepFault) (P : Reply → Type 0) → IfOk result P → ((reply : Reply) → P reply → ⊥) → (result ≡ Err NoMemory → ⊥) → result ≡ Err NumbersSpent
+spent_told (Ok reply) P took none refused = absurd (none reply took)
+spent_told (Err NoMemory) P took none refused = absurd (refused refl)
+spent_told (Err NumbersSpent) P took none refused = refl

@@ -1,57 +1,29 @@
--- What it does to a shelf and a desk to drop the item at a place.
-use Rattle.std.proofs.Common.{◌≡◌, ℕ, zero, suc, ◌+◌, ◌-◌, ◌<◌, ◌≤◌, true, false, true≢false, cond, List, [], ◌∷◌, length, get_or, remove, slice_get, Option, Some, None, is_some, refl, sym, ap, ◌∙◌, arith, eq-eqb, if◌then◌else◌, Less, Equal, Greater}
-use Rattle.std.proofs.lemmas.Option.{slice_get-get_or, slice_get_within}
-use Rattle.std.proofs.lemmas.List.Edits.{length-remove}
+-- What a sweep over an index drops of a shelf, and gives back to a desk.
+use Rattle.std.proofs.Common.{◌≡◌, ◌≢◌, ℕ, ◌+◌, ◌-◌, ◌<◌, ◌≤◌, Bool, true, false, cond, List, Option, Some, None, is_some, is_none, refl, sym, ap, subst, ◌∙◌, arith, eq-eqb, if◌then◌else◌, inl, inr, Less, Equal, Greater}
+use Rattle.std.proofs.lemmas.Bool.{cases_lt}
+use Rattle.std.proofs.lemmas.Option.{same_Some, none-some}
 use Rattle.std.specs.Borrow.{Bor}
+use Rattle.std.specs.Option.{option_copied}
 use Rattle.std.specs.Ordering.{is_eq}
 use Rattle.std.specs.FinMap as maps
-use Rattle.std.specs.FinMap.{entries, entries_sorted, entries-from_sorted, same_entries_map, same_map, get, get-entries, get-remove, get-retain_keys, empty, empty_of_len, len, len-entries, from_sorted, find}
+use Rattle.std.specs.FinMap.{empty, get, get-empty, get-remove, get-retain_keys, remove, same_map}
 use Rattle.std.specs.Cmp.Lexicographic.{nat_list_cmp_total}
-use Rattle.mc_time.specs.declared.expiry.Expiry.TheVariants.{Never}
 use Rattle.mc_time.specs.Death.{is_dead}
 use Rattle.mc_slab.specs.Classes.{IsClass}
+use Rattle.mc_slab.specs.Chunks.{IsChunkOf, chunk_class}
 use Rattle.mc_slab.specs.Slabs.{IsSlab, out_of, given}
 use Rattle.mc_command.specs.Plain.{Items, Entry, alive, count_of, item_class, living}
 use Rattle.mc_command.specs.Laws.{of_class}
-use Rattle.mc_shelf.specs.States.{EntryState, ShelfState, DeskState}
-use Rattle.mc_shelf.specs.Places.{StandsAt}
-use Rattle.mc_shelf.specs.Plans.{item_in}
-use Rattle.mc_shelf.specs.Sweeps.{AreOut, GivesFor, DropsDead, AreAliveFrom}
-use Rattle.mc_shelf.proofs.RowLemmas.{map_without, same_Some, without_at}
+use Rattle.mc_shelf.specs.States.{EntryState, Hashes, IndexState, ShelfContent, DeskState}
+use Rattle.mc_shelf.specs.declared.index.Place.{Place}
+use Rattle.mc_shelf.specs.Places.{entry_at, hashes_of, items_of, numbered, IsFirstFrom, IsNext, IsPlaceOf, IsRemoved, KeepsLower}
+use Rattle.mc_shelf.specs.Plans.{is_gone, item_in}
+use Rattle.mc_shelf.specs.Sweeps.{AreOut, GivesFor, IsPurged}
 use Rattle.mc_shelf.proofs.IndexLemmas.{order, same_key}
-use Rattle.mc_shelf.proofs.PlaceLemmas.{get_there, place_within}
+use Rattle.mc_shelf.proofs.PlaceLemmas.{hash_absent, item_there, numbers_all}
+use Rattle.mc_shelf.proofs.KeyLemmas.{get_gone, get_gone_other}
+use Rattle.mc_shelf.proofs.ShelfLemmas.{content_of}
 use Rattle.mc_shelf.proofs.StandLemmas.{RemoveCounts, bump, out-given}
-
--- ---- places
-
--- an item stands at each place
-pub stands_somewhere : (items : Items) (at : ℕ) → at < len items → (key : List ℕ) × (item : Entry) × StandsAt items key item at
-stands_somewhere items at within =
-    let none : List ℕ × Entry = ([], record { flags = 0; expiry = Never; block = []; unique = 0; updated = 0 }) in
-    let e = get_or (entries items) at none in
-    (e.0, e.1, record { here = slice_get-get_or (entries items) at none (omega (arith, len-entries items)) })
-
--- the entries without the one at a place
-pub entries_without : (items : Items) (key : List ℕ) (item : Entry) (at : ℕ) → StandsAt items key item at → entries (maps.remove items key) ≡ remove (entries items) at
-entries_without items key item at stands =
-    let es = entries items in
-    let both = map_without nat_list_cmp_total same_key es (remove es at) key (entries_sorted items) (without_at nat_list_cmp_total es at key item (entries_sorted items) stands.here) in
-    let back : from_sorted es ≡ items = same_entries_map (from_sorted es) items (entries-from_sorted order es (entries_sorted items)) in
-    ap (λ (m : Items). entries (maps.remove m key)) (sym back) ∙ ap (λ (m : Items). entries m) (sym both.1) ∙ entries-from_sorted order (remove es at) both.0
-
-pub len_without : (items : Items) (key : List ℕ) (item : Entry) (at : ℕ) → StandsAt items key item at → len (maps.remove items key) + 1 ≡ len items
-len_without items key item at stands =
-    let fewer = ap length (entries_without items key item at stands) in
-    let gone = length-remove (entries items) at (omega (arith, place_within items key item at stands, len-entries items)) in
-    omega (arith, fewer, gone, len-entries items, len-entries (maps.remove items key))
-
--- what stands behind a place that was removed stood one further
-behind_removed : {A : Type 0} (xs : List A) (at place : ℕ) → at ≤ place → slice_get (remove xs at) place ≡ slice_get xs (suc place)
-behind_removed [] zero place le = refl
-behind_removed [] (suc at) place le = refl
-behind_removed (x ∷ xs) zero place le = refl
-behind_removed (x ∷ xs) (suc at) zero le = absurd (omega arith)
-behind_removed (x ∷ xs) (suc at) (suc place) le = behind_removed xs at place (omega arith)
 
 -- ---- the desk
 
@@ -69,34 +41,40 @@ gives_both a b c d e f one two = record {
   next_unique = two.next_unique ∙ one.next_unique;
 }
 
-module _ (remove_counts : RemoveCounts) (shelf : ShelfState) (desk : DeskState) (key : List ℕ) (item : Entry) (found : get shelf.items key ≡ Some item) where
+module _ (remove_counts : RemoveCounts) (items : Items) (desk : DeskState) (key : List ℕ) (item : Entry) (found : get items key ≡ Some item) (are : (class : ℕ) → IsClass class → count_of items class ≤ out_of desk.slab class) where
   -- a chunk of an item that stands is out
-  pub out_held : AreOut shelf desk → IsClass (item_class key item) → 0 < out_of desk.slab (item_class key item)
-  out_held are is_class =
+  pub out_held : IsClass (item_class key item) → 0 < out_of desk.slab (item_class key item)
+  out_held is_class =
       let class = item_class key item in
-      let gone : count_of (maps.remove shelf.items key) class + of_class key (get shelf.items key) class ≡ count_of shelf.items class = remove_counts shelf.items key class in
-      let one : of_class key (get shelf.items key) class ≡ bump class class = ap (λ (o : Option Entry). of_class key o class) found in
+      let gone : count_of (remove items key) class + of_class key (get items key) class ≡ count_of items class = remove_counts items key class in
+      let one : of_class key (get items key) class ≡ bump class class = ap (λ (o : Option Entry). of_class key o class) found in
       let here : bump class class ≡ 1 = ap (λ b. if b then 1 else 0) (eq-eqb class class refl) in
       let out = are class is_class in
       omega arith
 
   -- its chunk goes back as it is dropped
-  pub gives_one : AreOut shelf desk → IsSlab desk.slab → IsClass (item_class key item) → GivesFor shelf.items (maps.remove shelf.items key) desk (record desk { slab = given desk.slab (item_class key item) })
-  gives_one are is is_class = record {
+  pub gives_one : (new : Items) (desk' : DeskState) → new ≡ remove items key → desk' ≡ record desk { slab = given desk.slab (item_class key item) } → IsSlab desk.slab → IsClass (item_class key item) → GivesFor items new desk desk'
+  gives_one new desk' new_is desk_is is is_class = subst (λ (m : Items). GivesFor items m desk desk') (sym new_is) (subst (λ (d : DeskState). GivesFor items (remove items key) desk d) (sym desk_is) (record {
     out = λ class is_other.
-        let gone : count_of (maps.remove shelf.items key) class + of_class key (get shelf.items key) class ≡ count_of shelf.items class = remove_counts shelf.items key class in
-        let one : of_class key (get shelf.items key) class ≡ bump (item_class key item) class = ap (λ (o : Option Entry). of_class key o class) found in
+        let gone : count_of (remove items key) class + of_class key (get items key) class ≡ count_of items class = remove_counts items key class in
+        let one : of_class key (get items key) class ≡ bump (item_class key item) class = ap (λ (o : Option Entry). of_class key o class) found in
         let less : out_of (given desk.slab (item_class key item)) class ≡ out_of desk.slab class - bump (item_class key item) class = out-given desk.slab (item_class key item) is_class is class is_other in
         let out = are class is_other in
         omega arith;
     pages = refl;
     limit = refl;
     next_unique = refl;
-  }
+  }))
+
+-- chunks that are out stay so
+pub out_after : (a b : Items) (d e : DeskState) → GivesFor a b d e → ((class : ℕ) → IsClass class → count_of a class ≤ out_of d.slab class) → (class : ℕ) → IsClass class → count_of b class ≤ out_of e.slab class
+out_after a b d e gives are class is =
+    let out = gives.out class is in
+    let had = are class is in
+    omega arith
 
 -- ---- the items that are alive
 
--- what a key has of the living ones
 alive_or_none : (cut : Option ℕ) (now : ℕ) (found : Option Entry) → cond (is_some (alive cut now found)) found None ≡ alive cut now found
 alive_or_none cut now None = refl
 alive_or_none cut now (Some item) =
@@ -108,10 +86,10 @@ get_living items cut now key =
     ∙ alive_or_none cut now (get items key)
 
 -- a dead item is none of them
-pub living_without : (items : Items) (cut : Option ℕ) (now : ℕ) (key : List ℕ) → alive cut now (get items key) ≡ None → living (maps.remove items key) cut now ≡ living items cut now
+living_without : (items : Items) (cut : Option ℕ) (now : ℕ) (key : List ℕ) → alive cut now (get items key) ≡ None → living (remove items key) cut now ≡ living items cut now
 living_without items cut now key dead =
     same_map nat_list_cmp_total same_key _ _ (λ q.
-    get_living (maps.remove items key) cut now q
+    get_living (remove items key) cut now q
     ∙ ap (alive cut now) (get-remove nat_list_cmp_total items key q)
     ∙ elim (order q key) as (λ r. order q key ≡ r → alive cut now (cond (is_eq r) None (get items q)) ≡ alive cut now (get items q)) [
       | Less ↦ λ e. refl
@@ -120,75 +98,142 @@ living_without items cut now key dead =
     ] refl
     ∙ sym (get_living items cut now q))
 
--- what is found under a key stands somewhere
-found_somewhere : (key : List ℕ) (es : List (List ℕ × Entry)) (item : Entry) → find order key es ≡ Some item → (place : ℕ) × (slice_get es place ≡ Some (key, item))
-found_somewhere key [] item found = cc
-found_somewhere key (e ∷ es) item found =
-    elim (order key e.0) as (λ r. order key e.0 ≡ r → cond (is_eq r) (Some e.1) (find order key es) ≡ Some item → (place : ℕ) × (slice_get (e ∷ es) place ≡ Some (key, item))) [
-      | Less ↦ λ is f. let rest = found_somewhere key es item f in (suc rest.0, rest.1)
-      | Equal ↦ λ is f. (0, ap (λ (k : List ℕ). Some (k, e.1)) (sym (same_key key e.0 is)) ∙ ap (λ (i : Entry). Some (key, i)) (same_Some e.1 item f))
-      | Greater ↦ λ is f. let rest = found_somewhere key es item f in (suc rest.0, rest.1)
-    ] refl found
-
 -- where all are alive, they are the living ones
-pub all_living : (now : ℕ) (shelf : ShelfState) → AreAliveFrom 0 now shelf → living shelf.items shelf.cut now ≡ shelf.items
-all_living now shelf are =
+all_living : (items : Items) (cut : Option ℕ) (now : ℕ) → ((key : List ℕ) (item : Entry) → get items key ≡ Some item → alive cut now (Some item) ≡ Some item) → living items cut now ≡ items
+all_living items cut now are =
     same_map nat_list_cmp_total same_key _ _ (λ q.
-    get_living shelf.items shelf.cut now q
-    ∙ elim (get shelf.items q) as (λ o. get shelf.items q ≡ o → alive shelf.cut now o ≡ o) [
-      | None ↦ λ e. refl
-      | Some item ↦ λ e.
-          let there = found_somewhere q (entries shelf.items) item (sym (get-entries shelf.items q) ∙ e) in
-          are there.0 q item (omega arith) there.1
-    ] refl)
+    get_living items cut now q
+    ∙ elim (get items q) as (λ o. get items q ≡ o → alive cut now o ≡ o) [ None ↦ λ e. refl | Some item ↦ λ e. are q item e ] refl)
 
--- ---- the item at a place is dead
+gone_none : (cut : Option ℕ) (now : ℕ) (item : Entry) → is_gone cut now (Some item) ≡ true → alive cut now (Some item) ≡ None
+gone_none cut now item = elim (is_dead item.expiry item.updated cut now) as (λ b. is_none (if b then None else Some item) ≡ true → (if b then None else Some item) ≡ None) [ true ↦ λ e. refl | false ↦ λ e. cc ]
 
-pub none_in : (found : Option (Bor EntryState)) → is_some found ≡ false → item_in found ≡ None
-none_in None none = refl
-none_in (Some e) none = absurd (true≢false none)
+gone_stays : (cut : Option ℕ) (now : ℕ) (item : Entry) → is_gone cut now (Some item) ≡ false → alive cut now (Some item) ≡ Some item
+gone_stays cut now item = elim (is_dead item.expiry item.updated cut now) as (λ b. is_none (if b then None else Some item) ≡ false → (if b then None else Some item) ≡ Some item) [ true ↦ λ e. cc | false ↦ λ e. refl ]
 
-module _ (at now : ℕ) (old new : ShelfState) (key : List ℕ) (item : Entry) (here : slice_get (entries old.items) at ≡ Some (key, item)) (dropped : new ≡ record old { items = maps.remove old.items key }) where
-  stands : StandsAt old.items key item at
-  stands = record { here = here }
+-- the item that is lent from a place is that of the entry there
+item_copied : (found : Option (Bor EntryState)) (e : EntryState) → option_copied found ≡ Some e → item_in found ≡ Some e.item
+item_copied None e is = cc
+item_copied (Some b) e is = ap (λ (x : EntryState). Some x.item) (same_Some b.now e is)
 
-  pub drops_dead : (desk desk' : DeskState) → alive old.cut now (Some item) ≡ None → GivesFor old.items new.items desk desk' → DropsDead now old new desk desk'
-  drops_dead desk desk' dead gives = record {
-    greatest = ap (λ (s : ShelfState). s.greatest) dropped;
-    cut = ap (λ (s : ShelfState). s.cut) dropped;
-    living = ap (λ (s : ShelfState). living s.items s.cut now) dropped ∙ living_without old.items old.cut now key (ap (alive old.cut now) (get_there old.items key item at stands) ∙ dead);
-    gives = gives;
+-- ---- numbers
+
+-- the entries of lower numbers are such
+abbrev pub Below : IndexState → ℕ → (EntryState → Type 0) → Type 0
+Below index at P = (k : ℕ) (e : EntryState) → k < at → numbered index k ≡ Some e → P e
+
+module _ (P : EntryState → Type 0) (index : IndexState) (at number : ℕ) (place : Place) (first : IsFirstFrom index at number place) where
+  below_skipped : Below index at P → Below index number P
+  below_skipped below k e lt there = elim (cases_lt k at) [ inl less ↦ below k e less there | inr behind ↦ absurd (none-some e (sym (first.skipped k behind lt) ∙ there)) ]
+
+  -- one entry further
+  pub below_next : Below index at P → ((e : EntryState) → entry_at index place ≡ Some e → P e) → Below index (number + 1) P
+  below_next below here k e lt there =
+      elim (cases_lt k number) [
+        | inl less ↦ below_skipped below k e less there
+        | inr behind ↦ let same : k ≡ number = omega arith in here e (sym first.same ∙ ap (numbered index) (sym same) ∙ there)
+      ]
+
+  -- after a removal
+  pub below_removed : Below index at P → (new : IndexState) → KeepsLower index new number → Below new number P
+  below_removed below new keeps k e lt there = below_skipped below k e lt (sym (keeps.lower k lt) ∙ there)
+
+-- where no number is left, each item is of such an entry
+pub items_all : (P : EntryState → Type 0) (index : IndexState) (at : ℕ) → Below index at P → IsNext index at None → (key : List ℕ) (item : Entry) → get (items_of index.entries) key ≡ Some item → (e : EntryState) × (P e) × (e.item ≡ item)
+items_all P index at below none key item found =
+    let one = numbers_all index key item found in
+    (one.entry, elim (cases_lt one.number at) [ inl less ↦ below one.number one.entry less one.there | inr behind ↦ absurd (none-some one.entry (sym (none one.number behind) ∙ one.there)) ], one.same_item)
+
+-- ---- sweeps
+
+-- the shelf of an index holds what it held but for dead items, whose chunks went back
+pub record Swept (now : ℕ) (old new : ShelfContent) (desk desk' : DeskState) : Type 0 where
+  pub greatest : new.greatest ≡ old.greatest
+  pub cut : new.cut ≡ old.cut
+  pub living_same : living new.items new.cut now ≡ living old.items old.cut now
+  pub gives : GivesFor old.items new.items desk desk'
+  pub kept : (key : List ℕ) (item : Entry) → get new.items key ≡ Some item → (get old.items key ≡ Some item) × (get new.hashes key ≡ get old.hashes key)
+
+pub swept_none : (now : ℕ) (shelf : ShelfContent) (desk : DeskState) → Swept now shelf shelf desk desk
+swept_none now shelf desk = record { greatest = refl; cut = refl; living_same = refl; gives = gives_none shelf.items desk; kept = λ key item there. (there, refl) }
+
+-- what a removal keeps
+kept_by : (was new : IndexState) (key : List ℕ) → IsRemoved was new key → (other : List ℕ) (item : Entry) → get (items_of new.entries) other ≡ Some item → (get (items_of was.entries) other ≡ Some item) × (get (hashes_of new.entries) other ≡ get (hashes_of was.entries) other)
+kept_by was new key removed other item there =
+    let apart : other ≢ key = λ same. none-some item (sym (ap (λ (k : List ℕ). get (items_of new.entries) k) same ∙ ap (λ (m : Items). get m key) removed.items ∙ get_gone (items_of was.entries) key) ∙ there) in (
+      sym (ap (λ (m : Items). get m other) removed.items ∙ get_gone_other (items_of was.entries) key other apart) ∙ there,
+      ap (λ (m : Hashes). get m other) removed.hashes ∙ get_gone_other (hashes_of was.entries) key other apart,
+    )
+
+module _ (remove_counts : RemoveCounts) (greatest : ℕ) (cut : Option ℕ) (was new : IndexState) (key : List ℕ) (place : Place) (filled : IsPlaceOf was key place) (entry : EntryState) (there : entry_at was place ≡ Some entry) (removed : IsRemoved was new entry.key)
+    (desk desk' : DeskState) (chunk : List ℕ) (is_chunk : IsChunkOf (item_class entry.key entry.item) chunk) (is_class : IsClass (item_class entry.key entry.item))
+    (are : (class : ℕ) → IsClass class → count_of (items_of was.entries) class ≤ out_of desk.slab class) where
+  same_as : entry.key ≡ key
+  same_as = ap (λ (e : EntryState). e.key) (same_Some entry filled.entry (sym there ∙ filled.there)) ∙ filled.same_key
+
+  found : get (items_of was.entries) entry.key ≡ Some entry.item
+  found = ap (λ (k : List ℕ). get (items_of was.entries) k) same_as ∙ item_there was key place filled entry there
+
+  -- its chunk is out
+  pub entry_out : 0 < out_of desk.slab (chunk_class chunk)
+  entry_out = subst (λ (n : ℕ). 0 < out_of desk.slab n) (sym is_chunk.class_is) (out_held remove_counts (items_of was.entries) desk entry.key entry.item found are is_class)
+
+  -- and goes back
+  pub entry_gives : desk' ≡ record desk { slab = given desk.slab (chunk_class chunk) } → IsSlab desk.slab → GivesFor (items_of was.entries) (items_of new.entries) desk desk'
+  entry_gives back is = gives_one remove_counts (items_of was.entries) desk entry.key entry.item found are (items_of new.entries) desk' removed.items (back ∙ ap (λ (n : ℕ). record desk { slab = given desk.slab n }) is_chunk.class_is) is is_class
+
+  -- a dead item is swept
+  pub swept_one : (now : ℕ) → is_gone cut now (Some entry.item) ≡ true → desk' ≡ record desk { slab = given desk.slab (chunk_class chunk) } → IsSlab desk.slab → Swept now (content_of greatest cut was) (content_of greatest cut new) desk desk'
+  swept_one now gone back is = record {
+    greatest = refl;
+    cut = refl;
+    living_same = ap (λ (m : Items). living m cut now) removed.items ∙ living_without (items_of was.entries) cut now entry.key (ap (alive cut now) found ∙ gone_none cut now entry.item gone);
+    gives = entry_gives back is;
+    kept = kept_by was new entry.key removed;
   }
 
-  pub alive_behind : AreAliveFrom (at + 1) now old → AreAliveFrom at now new
-  alive_behind are place k i le there =
-      let moved : slice_get (entries new.items) place ≡ slice_get (entries old.items) (suc place) =
-      ap (λ (s : ShelfState). slice_get (entries s.items) place) dropped
-      ∙ ap (λ (es : List (List ℕ × Entry)). slice_get es place) (entries_without old.items key item at stands)
-      ∙ behind_removed (entries old.items) at place le in
-      ap (λ (s : ShelfState). alive s.cut now (Some i)) dropped ∙ are (suc place) k i (omega arith) (sym moved ∙ there)
-
--- ---- passes over the places from the last to the first
-
-pub drops_none : (now : ℕ) (shelf : ShelfState) (desk : DeskState) → DropsDead now shelf shelf desk desk
-drops_none now shelf desk = record { greatest = refl; cut = refl; living = refl; gives = gives_none shelf.items desk }
-
-pub drops_both : (now : ℕ) (a b c : ShelfState) (d e f : DeskState) → DropsDead now a b d e → DropsDead now b c e f → DropsDead now a c d f
-drops_both now a b c d e f one two = record {
+pub swept_both : (now : ℕ) (a b c : ShelfContent) (d e f : DeskState) → Swept now a b d e → Swept now b c e f → Swept now a c d f
+swept_both now a b c d e f one two = record {
   greatest = two.greatest ∙ one.greatest;
   cut = two.cut ∙ one.cut;
-  living = two.living ∙ one.living;
+  living_same = two.living_same ∙ one.living_same;
   gives = gives_both a.items b.items c.items d e f one.gives two.gives;
+  kept = λ key item there.
+      let second = two.kept key item there in
+      let first = one.kept key item second.0 in
+      (first.0, second.1 ∙ first.1);
 }
 
-pub none_behind : (now : ℕ) (shelf : ShelfState) → AreAliveFrom (len shelf.items) now shelf
-none_behind now shelf place key item le there =
-    let inside = slice_get_within (entries shelf.items) place (key, item) there in
-    absurd (omega (arith, inside, len-entries shelf.items))
+-- the entry is not dead at a moment
+abbrev pub IsAlive : (cut : Option ℕ) → (now : ℕ) → EntryState → Type 0
+IsAlive cut now e = alive cut now (Some e.item) ≡ Some e.item
 
-pub purged : (now : ℕ) (old new : ShelfState) (desk desk' : DeskState) → DropsDead now old new desk desk' → AreAliveFrom 0 now new → new ≡ record old { items = living old.items old.cut now }
-purged now old new desk desk' drops are =
-    λ i. record { greatest = drops.greatest i; items = (sym (all_living now new are) ∙ drops.living) i; cut = drops.cut i }
+pub alive_here : (cut : Option ℕ) (now : ℕ) (index : IndexState) (place : Place) (found : Option (Bor EntryState)) → option_copied found ≡ entry_at index place → is_gone cut now (item_in found) ≡ false → (e : EntryState) → entry_at index place ≡ Some e → IsAlive cut now e
+alive_here cut now index place found copied stays e there = gone_stays cut now e.item (ap (is_gone cut now) (sym (item_copied found e (copied ∙ there))) ∙ stays)
 
-pub cleared : (old new : ShelfState) → new.greatest ≡ old.greatest → new.cut ≡ old.cut → len new.items ≡ 0 → new ≡ record old { items = empty }
-cleared old new greatest cut none = λ i. record { greatest = greatest i; items = empty_of_len new.items none i; cut = cut i }
+pub gone_here : (cut : Option ℕ) (now : ℕ) (index : IndexState) (place : Place) (found : Option (Bor EntryState)) → option_copied found ≡ entry_at index place → is_gone cut now (item_in found) ≡ true → (e : EntryState) → entry_at index place ≡ Some e → is_gone cut now (Some e.item) ≡ true
+gone_here cut now index place found copied gone e there = ap (is_gone cut now) (sym (item_copied found e (copied ∙ there))) ∙ gone
+
+-- at the end of a purge
+pub purged : (now : ℕ) (old : ShelfContent) (greatest : ℕ) (cut : Option ℕ) (index : IndexState) (desk desk' : DeskState) (at : ℕ) → Swept now old (content_of greatest cut index) desk desk' → Below index at (IsAlive cut now) → IsNext index at None → IsPurged now old (content_of greatest cut index)
+purged now old greatest cut index desk desk' at swept below none =
+    let items = items_of index.entries in
+    let all = all_living items cut now (λ key item there. let one = items_all (IsAlive cut now) index at below none key item there in subst (λ (i : Entry). alive cut now (Some i) ≡ Some i) one.2 one.1) in
+    record {
+      greatest = swept.greatest;
+      cut = swept.cut;
+      items = sym all ∙ swept.living_same;
+      hashes = λ key. elim (get items key) as (λ o. get items key ≡ o → get (hashes_of index.entries) key ≡ (if is_some o then get old.hashes key else None)) [
+        | None ↦ λ e. hash_absent index.entries key e
+        | Some item ↦ λ e. (swept.kept key item e).1
+      ] refl;
+    }
+
+-- at the end of a flush
+abbrev pub IsNone : EntryState → Type 0
+IsNone e = ⊥
+
+pub cleared : (index : IndexState) (at : ℕ) → Below index at IsNone → IsNext index at None → (items_of index.entries ≡ empty) × (hashes_of index.entries ≡ empty)
+cleared index at below none =
+    let gone : (key : List ℕ) → get (items_of index.entries) key ≡ None = λ key. elim (get (items_of index.entries) key) as (λ o. get (items_of index.entries) key ≡ o → o ≡ None) [ None ↦ λ e. refl | Some item ↦ λ e. absurd (items_all IsNone index at below none key item e).1 ] refl in
+    (same_map nat_list_cmp_total same_key _ _ (λ q. gone q ∙ sym (get-empty order q)), same_map nat_list_cmp_total same_key _ _ (λ q. hash_absent index.entries q (gone q) ∙ sym (get-empty order q)))
