@@ -119,12 +119,13 @@ impl<K: KeyHash + Drop> Store<K> {
     pub fn into_parts(self) -> StoreParts<K>
         ensures settings { result.settings ≡ self.settings }
         ensures hasher { result.hasher ≡ self.hasher }
-        ensures set_up { IsSetUp self.settings self.plain }
-        ensures parts { ArePartsOf (K.hash_of self.hasher)
-            self.plain result.shelves.items self.settings.shelves result.desk }
+        ensures set_up { IsSetUp result.settings self.plain }
+        ensures parts { ArePartsOf (K.hash_of result.hasher)
+            self.plain result.shelves.items result.settings.shelves result.desk }
         ensures left { self.left ≡ lefts result.shelves.items }
     {
-        self.parts
+        let Store { parts } = self;
+        parts
     }
 
     /// Tells how it was set up.
@@ -158,8 +159,7 @@ impl<K: KeyHash + Drop> Store<K> {
         } }
     {
         if shelf < self.parts.settings.shelves {
-            let shelf = &mut self.parts.shelves[shelf as usize];
-            shelf.grow(n)
+            self.parts.shelves[shelf as usize].grow(n)
         } else {
             0
         }
