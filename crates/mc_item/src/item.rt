@@ -83,6 +83,34 @@ impl Item {
         Item { chunk }
     }
 
+    /// Writes other parts into its chunk, in place. It copies the key and the block.
+    pub fn rewrite(&mut self, parts: Parts<'_>)
+        requires key { length parts.key.now ≤ 250 }
+        requires room { 48 + length parts.key.now + length parts.first.now + length parts.second.now
+            ≤ size_of self.old.class }
+        ensures value { self.new ≡ record {
+          key = parts.entry.key.now;
+          flags = parts.entry.flags;
+          expiry = parts.entry.expiry;
+          block = parts.entry.first.now ++ parts.entry.second.now;
+          unique = parts.entry.unique;
+          updated = parts.entry.updated;
+          class = self.old.class;
+        } }
+        ensures is_item { IsItem self.new }
+    {
+        let header = Header {
+            flags: parts.flags,
+            expiry: parts.expiry,
+            unique: parts.unique,
+            updated: parts.updated,
+            key_length: parts.key.len() as u64,
+            block_length: (parts.first.len() + parts.second.len()) as u64,
+        };
+        let bytes = self.chunk.bytes_mut();
+        write_item(bytes, header, parts.key, parts.first, parts.second);
+    }
+
     /// Its key, from 0 to 250 bytes.
     pub fn key(&self) -> &[u8]
         ensures value { result.now ≡ self.now.key }

@@ -2,12 +2,12 @@ pub mod RowLemmas
 pub mod EntryLemmas
 pub mod IndexLemmas
 pub mod PlaceLemmas
+pub mod KeyLemmas
+pub mod ShelfLemmas
 pub mod StandLemmas
 pub mod PlanLemmas
-pub mod ApplyLemmas
+pub mod TakesLemmas
 pub mod RefusalLemmas
-pub mod AnswerLemmas
-pub mod SweepLemmas
 pub mod AloneLemmas
 pub mod PartLemmas
 pub mod FlushLemmas

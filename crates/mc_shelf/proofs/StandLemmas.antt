@@ -1,10 +1,7 @@
 -- What a change of the key's item makes of a plain state that stands for a shelf and a desk.
-use Rattle.std.proofs.Common.{◌≡◌, ◌≢◌, ℕ, ◌+◌, ◌-◌, ◌*◌, ◌<◌, ◌≤◌, ◌^◌, Bool, true, false, cond, List, length, get_or, set, sum, Option, Some, None, Less, Equal, Greater, is_eq, eqb, if◌then◌else◌, refl, sym, ap, ◌∙◌, arith, get_or-set_same, get_or-set_other, length-set, lt-ltb, le-ltb, eq-eqb, ne_eqb, eqb-true, true≢false, inl, inr}
+use Rattle.std.proofs.Common.{◌≡◌, ◌≢◌, ℕ, ◌+◌, ◌-◌, ◌*◌, ◌<◌, ◌≤◌, ◌^◌, ◌||◌, Bool, true, false, ltb, ltb-false, List, length, get_or, set, sum, Option, Some, None, Less, Equal, Greater, is_eq, eqb, if◌then◌else◌, refl, sym, ap, ◌∙◌, arith, get_or-set_same, get_or-set_other, length-set, lt-ltb, le-ltb, eq-eqb, ne_eqb, eqb-true, true≢false, inl, inr}
 use Rattle.std.proofs.lemmas.Bool.{cases_lt}
-use Rattle.std.specs.Cmp.{tied_itself}
-use Rattle.std.specs.FinMap.{get, insert, remove, get-insert, get-remove, same_map}
-use Rattle.std.specs.Cmp.Lexicographic.{nat_list_cmp_total}
-use Rattle.std.specs.Ordering.{eq_by_cmp}
+use Rattle.std.specs.FinMap.{get, insert, remove}
 use Rattle.mc_time.specs.declared.expiry.Expiry.{Expiry}
 use Rattle.mc_slab.specs.Classes.{IsClass, class_holding, chunks_a_page}
 use Rattle.mc_slab.specs.Slabs as slabs
@@ -14,24 +11,11 @@ use Rattle.mc_command.specs.declared.step.KeyStep.TheVariants.{Store, Cas, Read,
 use Rattle.mc_command.specs.declared.reply.Reply.{Reply}
 use Rattle.mc_command.specs.declared.reply.Reply.TheVariants.{TooLarge, NoChunk}
 use Rattle.mc_command.specs.Commands.{key_of}
-use Rattle.mc_command.specs.Plain.{Plain, Items, Entry, Answered, Spent, plain, applied, changed, charge, item_class, count_of, has_room, with_chunk, without_dead, written, wrote, alive}
-use Rattle.mc_command.specs.Laws.{IsOnKey, row_of, of_class}
-use Rattle.mc_shelf.specs.States.{ShelfState, DeskState, IsAt}
-use Rattle.mc_shelf.specs.Plans.{OthersStay}
-use Rattle.mc_shelf.proofs.IndexLemmas.{order, same_key}
-
--- an insertion after a removal of the same key
-chosen_twice : (b : Bool) (x y z : Option Entry) → cond b x (cond b y z) ≡ cond b x z
-chosen_twice true x y z = refl
-chosen_twice false x y z = refl
-
-pub insert-remove : (items : Items) (k : List ℕ) (item : Entry) → insert (remove items k) k item ≡ insert items k item
-insert-remove items k item =
-    same_map nat_list_cmp_total same_key _ _ (λ q.
-    get-insert nat_list_cmp_total (remove items k) k item q
-    ∙ ap (cond (eq_by_cmp order q k) (Some item)) (get-remove nat_list_cmp_total items k q)
-    ∙ chosen_twice (eq_by_cmp order q k) (Some item) None (get items q)
-    ∙ sym (get-insert nat_list_cmp_total items k item q))
+use Rattle.mc_command.specs.Plain.{Plain, Items, Entry, Answered, Spent, plain, stepped, changed, charge, item_class, count_of, has_room, with_chunk, without_dead, written, wrote, alive, row_of}
+use Rattle.mc_command.specs.Laws.{IsOnKey, of_class}
+use Rattle.mc_shelf.specs.States.{ShelfContent, DeskState, IsAt}
+use Rattle.mc_shelf.specs.Plans.{IsDropped, IsPut, row_at, stood}
+use Rattle.mc_shelf.proofs.KeyLemmas.{get_gone, get_put}
 
 -- how counts of a class move, the laws of the plain machine
 abbrev pub InsertCounts : Type 0
@@ -98,22 +82,6 @@ module _ (slab : SlabState) (class : ℕ) (is_class : IsClass class) where
 
 -- ---- the key's item
 
-pub get_put : (items : Items) (key : List ℕ) (item : Entry) → get (insert items key item) key ≡ Some item
-get_put items key item = get-insert nat_list_cmp_total items key item key ∙ ap (λ r. cond (is_eq r) (Some item) (get items key)) (tied_itself nat_list_cmp_total key)
-
-pub get_gone : (items : Items) (key : List ℕ) → get (remove items key) key ≡ None
-get_gone items key = get-remove nat_list_cmp_total items key key ∙ ap (λ r. cond (is_eq r) None (get items key)) (tied_itself nat_list_cmp_total key)
-
-other_key : (key other : List ℕ) → (other ≡ key → ⊥) → is_eq (order other key) ≡ false
-other_key key other apart = elim (order other key) as (λ r. order other key ≡ r → is_eq r ≡ false) [ Less ↦ λ e. refl | Equal ↦ λ e. absurd (apart (same_key other key e)) | Greater ↦ λ e. refl ] refl
-
--- other keys stay
-pub get_put_other : (items : Items) (key other : List ℕ) (item : Entry) → (other ≡ key → ⊥) → get (insert items key item) other ≡ get items other
-get_put_other items key other item apart = get-insert nat_list_cmp_total items key item other ∙ ap (λ b. cond b (Some item) (get items other)) (other_key key other apart)
-
-pub get_gone_other : (items : Items) (key other : List ℕ) → (other ≡ key → ⊥) → get (remove items key) other ≡ get items other
-get_gone_other items key other apart = get-remove nat_list_cmp_total items key other ∙ ap (λ b. cond b None (get items other)) (other_key key other apart)
-
 -- the items without the key's, where none stands
 abbrev pub base : Option Entry → List ℕ → Items → Items
 base None key items = remove items key
@@ -124,15 +92,15 @@ base_is None key s = refl
 base_is (Some item) key s = refl
 
 -- a step, by the item that stands on the shelf
-pub step_is : (step : KeyStep) (now : ℕ) (shelf : ShelfState) (desk : DeskState) (s : Plain) → IsOnKey step → IsAt (key_of step) shelf desk s →
-    plain s step now ≡ (let stands = alive shelf.cut now (get shelf.items (key_of step)) in changed (row_of step now stands).0 (row_of step now stands).1 (key_of step) (record s { items = base stands (key_of step) s.items }) now)
+pub step_is : (step : KeyStep) (now : ℕ) (shelf : ShelfContent) (desk : DeskState) (s : Plain) → IsOnKey step → IsAt (key_of step) shelf desk s →
+    plain s step now ≡ changed (row_at shelf step now) step (stood shelf step now) (record s { items = base (stood shelf step now) (key_of step) s.items }) now
 step_is step now shelf desk s on at =
     let key = key_of step in
     by_row step on
-    ∙ ap (λ (stands : Option Entry). changed (row_of step now stands).0 (row_of step now stands).1 key (without_dead stands key s) now) (λ i. alive (at.cut i) now (at.item i))
-    ∙ ap (λ (t : Plain). changed (row_of step now (alive shelf.cut now (get shelf.items key))).0 (row_of step now (alive shelf.cut now (get shelf.items key))).1 key t now) (base_is (alive shelf.cut now (get shelf.items key)) key s)
+    ∙ ap (λ (stands : Option Entry). changed (row_of step now stands) step stands (without_dead stands key s) now) (λ i. alive (at.cut i) now (at.item i))
+    ∙ ap (λ (t : Plain). changed (row_at shelf step now) step (stood shelf step now) t now) (base_is (stood shelf step now) key s)
   where
-    by_row : (step : KeyStep) → IsOnKey step → plain s step now ≡ applied (row_of step now) (key_of step) s now
+    by_row : (step : KeyStep) → IsOnKey step → plain s step now ≡ stepped s step now
     by_row (Store verb key flags exptime block) on = refl
     by_row (Cas key flags exptime block unique) on = refl
     by_row (Read key) on = refl
@@ -142,7 +110,7 @@ step_is step now shelf desk s on at =
     by_row (Count key up by) on = refl
     by_row (Flush delay) on = absurd on
 
-module _ (insert_counts : InsertCounts) (remove_counts : RemoveCounts) (key : List ℕ) (shelf : ShelfState) (desk : DeskState) (s : Plain) (at : IsAt key shelf desk s) where
+module _ (insert_counts : InsertCounts) (remove_counts : RemoveCounts) (key : List ℕ) (shelf : ShelfContent) (desk : DeskState) (s : Plain) (at : IsAt key shelf desk s) where
   -- the counts where the key's item is put
   counts_put : (stands : Option Entry) (item : Entry) (class : ℕ) → count_of (insert (base stands key s.items) key item) class + of_class key (get shelf.items key) class ≡ count_of s.items class + of_class key (Some item) class
   counts_put (Some old) item class = ap (λ (o : Option Entry). count_of (insert s.items key item) class + of_class key o class) (sym at.item) ∙ insert_counts s.items key item class
@@ -170,12 +138,12 @@ module _ (insert_counts : InsertCounts) (remove_counts : RemoveCounts) (key : Li
   }
 
   -- the key's item is dropped
-  pub at_dropped : (old : Entry) → get shelf.items key ≡ Some old → IsSlab desk.slab → IsClass (item_class key old) →
-      IsAt key (record shelf { items = remove shelf.items key }) (record desk { slab = given desk.slab (item_class key old) }) (record s { items = remove s.items key })
-  at_dropped old found is is_class = record {
-    greatest = at.greatest;
-    cut = at.cut;
-    item = get_gone s.items key ∙ sym (get_gone shelf.items key);
+  pub at_dropped : (new : ShelfContent) (hash : ℕ) (old : Entry) → IsDropped key hash shelf new → get shelf.items key ≡ Some old → IsSlab desk.slab → IsClass (item_class key old) →
+      IsAt key new (record desk { slab = given desk.slab (item_class key old) }) (record s { items = remove s.items key })
+  at_dropped new hash old dropped found is is_class = record {
+    greatest = at.greatest ∙ sym dropped.others.greatest;
+    cut = at.cut ∙ sym dropped.others.cut;
+    item = get_gone s.items key ∙ sym dropped.item;
     next_unique = at.next_unique;
     limit = at.limit;
     pages = at.pages;
@@ -198,12 +166,12 @@ module _ (insert_counts : InsertCounts) (remove_counts : RemoveCounts) (key : Li
       omega arith
 
   -- the key's item is put there again, of the same class
-  pub at_put_again : (old new : Entry) → get shelf.items key ≡ Some old → item_class key new ≡ item_class key old → (n : ℕ) →
-      IsAt key (record shelf { items = insert shelf.items key new }) (record desk { next_unique = n }) (record s { items = insert s.items key new; next_unique = n })
-  at_put_again old new found same n = record {
-    greatest = at.greatest;
-    cut = at.cut;
-    item = get_put s.items key new ∙ sym (get_put shelf.items key new);
+  pub at_put_again : (after : ShelfContent) (hash : ℕ) (old new : Entry) → IsPut key hash shelf after new → get shelf.items key ≡ Some old → item_class key new ≡ item_class key old → (n : ℕ) →
+      IsAt key after (record desk { next_unique = n }) (record s { items = insert s.items key new; next_unique = n })
+  at_put_again after hash old new puts found same n = record {
+    greatest = at.greatest ∙ sym puts.others.greatest;
+    cut = at.cut ∙ sym puts.others.cut;
+    item = get_put s.items key new ∙ sym puts.item;
     next_unique = refl;
     limit = at.limit;
     pages = at.pages;
@@ -248,7 +216,7 @@ room_none t slab class pages limit count full =
     let used : sum t.pages ≡ sum slab.pages = ap sum pages in
     rw (le-ltb (count_of t.items class) (get_or t.pages (class - 1) 0 * chunks_a_page class) (omega arith), le-ltb (sum t.pages) t.limit (omega arith)) refl
 
-pub room_some : (t : Plain) (slab : SlabState) (class : ℕ) → IsSlab slab → IsClass class → t.pages ≡ slab.pages → t.limit ≡ slab.limit → count_of t.items class ≡ out_of slab class → (IsFull slab class → ⊥) → has_room t class ≡ true
+pub room_some : (t : Plain) (slab : SlabState) (class : ℕ) → IsSlab slab → IsClass class → t.pages ≡ slab.pages → t.limit ≡ slab.limit → count_of t.items class ≤ out_of slab class → (IsFull slab class → ⊥) → has_room t class ≡ true
 room_some t slab class is is_class pages limit count not_full =
     let chunks : get_or t.pages (class - 1) 0 * chunks_a_page class ≡ slabs.chunks_of slab class = ap (λ (ps : List ℕ). get_or ps (class - 1) 0 * chunks_a_page class) pages in
     let used : sum t.pages ≡ sum slab.pages = ap sum pages in
@@ -273,7 +241,7 @@ room_free t slab class pages free =
 abbrev pub item_of : (flags : ℕ) → Expiry → (block : List ℕ) → (unique updated : ℕ) → Entry
 item_of flags expiry block unique updated = record { flags = flags; expiry = expiry; block = block; unique = unique; updated = updated }
 
-module _ (insert_counts : InsertCounts) (remove_counts : RemoveCounts) (key : List ℕ) (shelf : ShelfState) (desk : DeskState) (s : Plain) (at : IsAt key shelf desk s)
+module _ (insert_counts : InsertCounts) (remove_counts : RemoveCounts) (key : List ℕ) (shelf : ShelfContent) (desk : DeskState) (s : Plain) (at : IsAt key shelf desk s)
     (reply : Reply) (flags : ℕ) (expiry : Expiry) (block : List ℕ) (now : ℕ) (stands : Option Entry) (fits : charge key block ≤ shelf.greatest) (more : desk.next_unique ≢ 2 ^ 64 - 1) where
   abbrev under : Plain
   under = record s { items = base stands key s.items }
@@ -285,12 +253,12 @@ module _ (insert_counts : InsertCounts) (remove_counts : RemoveCounts) (key : Li
   more_plain same = more (sym at.next_unique ∙ same)
 
   -- the item is put in a chunk more, and the slab's account follows
-  pub at_wrote : (slab : SlabState) → has_room under (class_holding (charge key block)) ≡ true → slab.limit ≡ desk.slab.limit
+  pub at_wrote : (after : ShelfContent) (hash : ℕ) → IsPut key hash shelf after (item_of flags expiry block desk.next_unique now) → (slab : SlabState) → has_room under (class_holding (charge key block)) ≡ true → slab.limit ≡ desk.slab.limit
       → pages_after (class_holding (charge key block)) (count_of under.items (class_holding (charge key block))) s.pages ≡ slab.pages
       → ((class : ℕ) → IsClass class → out_of slab class + of_class key (get shelf.items key) class ≡ out_of desk.slab class + bump (class_holding (charge key block)) class)
       → (new : Plain) × (wrote false reply key flags expiry block under now ≡ Answered reply new)
-      × IsAt key (record shelf { items = insert shelf.items key (item_of flags expiry block desk.next_unique now) }) (record { slab = slab; next_unique = desk.next_unique + 1 }) new
-  at_wrote slab room limit pages outs =
+      × IsAt key after (record { slab = slab; next_unique = desk.next_unique + 1 }) new
+  at_wrote after hash puts slab room limit pages outs =
       let class = class_holding (charge key block) in
       let with_page : Plain = record under { pages = pages_after class (count_of under.items class) s.pages } in
       let wrote_is : wrote false reply key flags expiry block under now ≡ Answered reply (written with_page key flags expiry block now) =
@@ -300,9 +268,9 @@ module _ (insert_counts : InsertCounts) (remove_counts : RemoveCounts) (key : Li
         written with_page key flags expiry block now,
         wrote_is,
         record {
-          greatest = at.greatest;
-          cut = at.cut;
-          item = get_put (base stands key s.items) key item ∙ ap Some seen ∙ sym (get_put shelf.items key (item_of flags expiry block desk.next_unique now));
+          greatest = at.greatest ∙ sym puts.others.greatest;
+          cut = at.cut ∙ sym puts.others.cut;
+          item = get_put (base stands key s.items) key item ∙ ap Some seen ∙ sym puts.item;
           next_unique = ap (λ (n : ℕ). n + 1) at.next_unique;
           limit = at.limit ∙ sym limit;
           pages = pages;
@@ -314,12 +282,22 @@ module _ (insert_counts : InsertCounts) (remove_counts : RemoveCounts) (key : Li
         },
       )
 
--- the other keys of a shelf stay
-pub others_put : (key : List ℕ) (shelf : ShelfState) (item : Entry) → OthersStay key shelf (record shelf { items = insert shelf.items key item })
-others_put key shelf item = record { greatest = refl; cut = refl; items = λ other apart. get_put_other shelf.items key other item apart }
+-- a class that has no room is full
+pub full_of : (slab : SlabState) (class : ℕ) → IsSlab slab → IsClass class → slabs.has_room slab class ≡ false → IsFull slab class
+full_of slab class is is_class none =
+    let both = neither (ltb (out_of slab class) (slabs.chunks_of slab class)) (ltb 0 (slabs.pages_left slab)) none in
+    let least = ltb-false (out_of slab class) (slabs.chunks_of slab class) both.0 in
+    let left = ltb-false 0 (slabs.pages_left slab) both.1 in
+    let within = is.within class is_class in
+    record { all_out = omega (arith, least, within); no_page = omega (arith, left) }
+  where
+    neither : (a b : Bool) → a || b ≡ false → (a ≡ false) × (b ≡ false)
+    neither true b e = absurd (true≢false e)
+    neither false b e = (refl, e)
 
-pub others_gone : (key : List ℕ) (shelf : ShelfState) → OthersStay key shelf (record shelf { items = remove shelf.items key })
-others_gone key shelf = record { greatest = refl; cut = refl; items = λ other apart. get_gone_other shelf.items key other apart }
-
-pub others_same : (key : List ℕ) (shelf : ShelfState) → OthersStay key shelf shelf
-others_same key shelf = record { greatest = refl; cut = refl; items = λ other apart. refl }
+-- and one that has room isn't
+pub room_not_full : (slab : SlabState) (class : ℕ) → slabs.has_room slab class ≡ true → IsFull slab class → ⊥
+room_not_full slab class room full = true≢false (sym room ∙ none)
+  where
+    none : slabs.has_room slab class ≡ false
+    none = rw (le-ltb (out_of slab class) (slabs.chunks_of slab class) (omega (arith, full.all_out)), le-ltb 0 (slabs.pages_left slab) (omega (arith, full.no_page))) refl

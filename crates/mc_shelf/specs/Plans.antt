@@ -1,5 +1,5 @@
 -- What a step asks of a shelf.
-use Rattle.std.specs.Prelude.{◌≡◌, ◌≢◌, ◌⊎◌, ℕ, ◌-◌, ◌^◌, ◌<◌, ◌≤◌, length, ◌&&◌, Bool, true, false, List, Option, Some, None, is_some, is_none, nat_lt, if◌then◌else◌}
+use Rattle.std.specs.Prelude.{◌≡◌, ◌≢◌, ◌⊎◌, ℕ, ◌-◌, ◌^◌, ◌<◌, ◌≤◌, ◌==◌, ◌&&◌, ◌||◌, Bool, true, false, List, [], ◌++◌, length, decimal, Option, Some, None, is_some, is_none, nat_lt, if◌then◌else◌}
 use Rattle.std.specs.FinMap.{get}
 use Rattle.std.specs.Borrow.{Bor}
 use Rattle.mc_time.specs.declared.expiry.Expiry.{Expiry}
@@ -9,10 +9,13 @@ use Rattle.mc_command.specs.declared.reply.Reply.TheVariants.{Touched, Deleted, 
 use Rattle.mc_command.specs.declared.row.Row.{Row}
 use Rattle.mc_command.specs.declared.row.Row.TheVariants.{Refuses, Reads, Touches, Deletes, Writes}
 use Rattle.mc_command.specs.declared.row.Draft.{Draft}
-use Rattle.mc_slab.specs.Classes.{class_holding}
-use Rattle.mc_slab.specs.Slabs.{out_of, chunks_of, pages_left}
+use Rattle.mc_command.specs.declared.row.Body.{Body}
+use Rattle.mc_command.specs.declared.row.Body.TheVariants.{Given, Appended, Prepended, Counted}
+use Rattle.mc_command.specs.Rows.{standing_in}
+use Rattle.mc_slab.specs.Classes.{IsClass, class_holding}
+use Rattle.mc_slab.specs.Slabs.{IsSlab, SlabState, out_of, chunks_of, pages_left, has_room, given}
 use Rattle.mc_command.specs.Commands.{key_of}
-use Rattle.mc_command.specs.Plain.{Plain, Entry, Outcome, Answered, Spent, MayFail, plain, charge, alive, hit_of, refusal_reply, block_of, written_block, row_of}
+use Rattle.mc_command.specs.Plain.{Plain, Entry, Outcome, Answered, Spent, MayFail, plain, charge, item_class, alive, hit_of, refusal_reply, block_of, written_block, row_of}
 use Rattle.mc_command.specs.Laws.{IsOnKey}
 use Rattle.mc_shelf.specs.States.{EntryState, ShelfContent, ShelfState, DeskState, IsAt, IsHash}
 use Rattle.mc_shelf.specs.declared.plan.Next.{Next}
@@ -21,13 +24,31 @@ use Rattle.mc_shelf.specs.declared.plan.Plan.{Plan}
 
 -- the item of a lent entry
 abbrev pub item_in : Option (Bor EntryState) → Option Entry
-item_in None = None
-item_in (Some e) = Some e.now.item
+item_in found = standing_in (λ e. e.item) found
 
 -- an answer that leaves the key's item, but a dead one is dropped
 abbrev pub answered : (dead : Bool) → Reply → Next
 answered true reply = Discard reply
 answered false reply = Answer reply
+
+-- the block of an item, and no bytes where there is none
+abbrev pub block_in : Option Entry → List ℕ
+block_in None = []
+block_in (Some item) = item.block
+
+-- the block that a body makes of a step's and of an old one
+abbrev pub made_block : Body → (block old : List ℕ) → List ℕ
+made_block Given block old = block
+made_block Appended block old = old ++ block
+made_block Prepended block old = block ++ old
+made_block (Counted number) block old = decimal number
+
+-- the block that a body makes of a step's alone
+abbrev pub own_block : Body → (block : List ℕ) → List ℕ
+own_block Given block = block
+own_block Appended block = block
+own_block Prepended block = block
+own_block (Counted number) block = decimal number
 
 -- the charge of what a draft puts under a step's key
 abbrev pub charge_of : KeyStep → Option Entry → Draft → ℕ
@@ -44,9 +65,15 @@ next_by dead greatest step item (Writes draft) =
     if nat_lt greatest (charge_of step item draft) then answered dead TooLarge
     else Write (charge_of step item draft) draft
 
--- the key's item is dead
-abbrev pub has_dead : ShelfContent → List ℕ → ℕ → Bool
-has_dead shelf key now = is_some (get shelf.items key) && is_none (alive shelf.cut now (get shelf.items key))
+-- the item that is found is dead
+abbrev pub is_gone : (cut : Option ℕ) → (now : ℕ) → Option Entry → Bool
+is_gone cut now found = is_some found && is_none (alive cut now found)
+
+-- what comes next in a step, by the item that is found under its key
+abbrev pub next_found : (greatest : ℕ) → (cut : Option ℕ) → KeyStep → (now : ℕ) → Option Entry → Next
+next_found greatest cut step now found =
+    let item = alive cut now found in
+    next_by (is_gone cut now found) greatest step item (row_of step now item)
 
 -- the item that stands under a step's key, and its row
 abbrev pub stood : ShelfContent → KeyStep → ℕ → Option Entry
@@ -57,8 +84,7 @@ row_at shelf step now = row_of step now (stood shelf step now)
 
 -- what comes next in a step
 abbrev pub next_of : ShelfContent → KeyStep → ℕ → Next
-next_of shelf step now =
-    next_by (has_dead shelf (key_of step) now) shelf.greatest step (stood shelf step now) (row_at shelf step now)
+next_of shelf step now = next_found shelf.greatest shelf.cut step now (get shelf.items (key_of step))
 
 -- it needs the desk: it drops an item, or writes one if there is a number and a chunk
 abbrev pub wants_desk : Next → Bool
@@ -77,9 +103,18 @@ writes (Write size draft) = true
 -- the plan of a step at a moment
 pub record IsPlan (plan : Plan) (shelf : ShelfContent) (step : KeyStep) (now : ℕ) : Type 0 where
   pub on_key : IsOnKey step
+  pub key : plan.key ≡ key_of step
   pub moment : plan.moment ≡ now
   pub next : plan.next ≡ next_of shelf step now
   pub hash : IsHash shelf (key_of step) plan.hash
+
+-- a write can be taken: a number is left, and a chunk of its class can be had
+pub record CanWrite (next : Next) (desk : DeskState) : Type 0 where
+  pub size : ℕ
+  pub draft : Draft
+  pub writes_it : next ≡ Write size draft
+  pub number : desk.next_unique ≢ 2 ^ 64 - 1
+  pub chunk : has_room desk.slab (class_holding size) ≡ true
 
 -- a write of a new key has room for its entry
 abbrev pub HasRoom : Plan → ShelfState → KeyStep → Type 0
@@ -104,17 +139,29 @@ pub record OthersStay (key : List ℕ) (old new : ShelfContent) : Type 0 where
   pub items : (other : List ℕ) → other ≢ key → get new.items other ≡ get old.items other
   pub hashes : (other : List ℕ) → other ≢ key → get new.hashes other ≡ get old.hashes other
 
+-- this item was put under the key, whose hash is this one, and the other keys stay
+pub record IsPut (key : List ℕ) (own : ℕ) (old new : ShelfContent) (one : Entry) : Type 0 where
+  pub item : get new.items key ≡ Some one
+  pub others : OthersStay key old new
+  pub hash : IsHash new key own
+
+-- the key's item was dropped, and the other keys stay
+pub record IsDropped (key : List ℕ) (own : ℕ) (old new : ShelfContent) : Type 0 where
+  pub item : get new.items key ≡ None
+  pub others : OthersStay key old new
+  pub hash : IsHash new key own
+
 -- a step was taken: as by the plain machine at its key, the other keys stay, and the key's hash is this one
-pub record IsTaken (step : KeyStep) (now hash : ℕ) (old : ShelfContent) (desk : DeskState) (reply : Reply) (new : ShelfContent) (desk' : DeskState) : Type 0 where
+pub record IsTaken (step : KeyStep) (now own : ℕ) (old : ShelfContent) (desk : DeskState) (reply : Reply) (new : ShelfContent) (desk' : DeskState) : Type 0 where
   pub takes : Takes step now old desk reply new desk'
   pub others : OthersStay (key_of step) old new
-  pub hash : IsHash new (key_of step) hash
+  pub hash : IsHash new (key_of step) own
 
 -- a plan that needs no desk was settled, whatever desk there is
-pub record IsSettled (step : KeyStep) (now hash : ℕ) (old : ShelfContent) (reply : Reply) (new : ShelfContent) : Type 0 where
+pub record IsSettled (step : KeyStep) (now own : ℕ) (old : ShelfContent) (reply : Reply) (new : ShelfContent) : Type 0 where
   pub takes : (desk : DeskState) → Takes step now old desk reply new desk
   pub others : OthersStay (key_of step) old new
-  pub hash : IsHash new (key_of step) hash
+  pub hash : IsHash new (key_of step) own
 
 -- a step that may be refused memory: it is answered with a copy of a block, or writes
 abbrev pub MayWantMemory : KeyStep → ℕ → ShelfContent → DeskState → Type 0
@@ -127,18 +174,70 @@ LookTakesMemory step now shelf =
     ((expiry : Option Expiry) × (row_at shelf step now ≡ Reads expiry))
     ⊎ ((get shelf.items (key_of step) ≡ None) × (writes (next_of shelf step now) ≡ true))
 
+-- the item that is found has a chunk of the class
+abbrev pub has_class : (key : List ℕ) → Option Entry → (class : ℕ) → Bool
+has_class key None class = false
+has_class key (Some item) class = item_class key item == class
+
+-- the block is a number's digits
+abbrev pub counts : Body → Bool
+counts Given = false
+counts Appended = false
+counts Prepended = false
+counts (Counted number) = true
+
+-- a write goes into the chunk of the item that is found: it has the class, and it is counted or dead
+abbrev pub reuses : (cut : Option ℕ) → (now : ℕ) → (key : List ℕ) → Option Entry → (class : ℕ) → Body → Bool
+reuses cut now key found class body = has_class key found class && (counts body || is_gone cut now found)
+
+-- the item of a draft with this block
+abbrev pub drafted : Draft → (block : List ℕ) → (unique updated : ℕ) → Entry
+drafted draft block unique updated = record {
+  flags = draft.flags;
+  expiry = draft.expiry;
+  block = block;
+  unique = unique;
+  updated = updated;
+}
+
+-- the block that a draft makes beside the item that a shelf has under the step's key, dead or not
+abbrev pub block_beside : ShelfContent → KeyStep → Draft → List ℕ
+block_beside shelf step draft =
+    made_block draft.body (block_of step) (block_in (get shelf.items (key_of step)))
+
+-- a chunk of the key's item is out
+abbrev pub IsOut : List ℕ → ShelfContent → DeskState → Type 0
+IsOut key shelf desk =
+    (item : Entry) → get shelf.items key ≡ Some item
+    → IsClass (item_class key item) → 0 < out_of desk.slab (item_class key item)
+
+-- the chunk of an item goes back to a desk's slab
+pub record GivesOne (class : ℕ) (old new : DeskState) : Type 0 where
+  pub given_is : new ≡ record old { slab = given old.slab class }
+  pub is_class : IsClass class
+  pub is_slab : IsSlab old.slab
+
+-- the chunk of the item that was found goes back
+abbrev pub GivesBack : (key : List ℕ) → Option Entry → DeskState → DeskState → Type 0
+GivesBack key None old new = new ≡ old
+GivesBack key (Some item) old new = GivesOne (item_class key item) old new
+
 -- the numbers that writes draw are spent
 abbrev pub has_no_number : DeskState → Type 0
 has_no_number desk = desk.next_unique ≡ 2 ^ 64 - 1
 
--- a write asks for a page: a number is left, all chunks of its class are out, and a page is left
+-- a chunk of the class asks for a page: all its chunks are out, and a page is left
+pub record WantsPage (slab : SlabState) (class : ℕ) : Type 0 where
+  pub all_out : out_of slab class ≡ chunks_of slab class
+  pub left : 0 < pages_left slab
+
+-- a write asks for a page: a number is left, and a chunk of its class asks for one
 pub record NeedsPage (next : Next) (desk : DeskState) : Type 0 where
   pub size : ℕ
   pub draft : Draft
   pub writes_it : next ≡ Write size draft
   pub number : has_no_number desk → ⊥
-  pub all_out : out_of desk.slab (class_holding size) ≡ chunks_of desk.slab (class_holding size)
-  pub left : 0 < pages_left desk.slab
+  pub page : WantsPage desk.slab (class_holding size)
 
 -- a plan that needs no desk
 pub record CanSettle (plan : Plan) (shelf : ShelfContent) : Type 0 where

@@ -1,10 +1,12 @@
 //! What the shelves of a store share.
 
-ghost use Rattle.std.specs.Prelude.{◌≡◌, ℕ, ◌+◌, ◌-◌, ◌^◌, ◌<◌, ◌≤◌, ◌≢◌, true, false, ◌↔◌, ◌⊎◌, IfOk, IfErr, OnOk, OnErr, Err};
+ghost use Rattle.std.specs.Prelude.{◌≡◌, ◌+◌, ◌-◌, ◌^◌, ◌<◌, ◌≤◌, true, false, IfOk, IfErr, OnOk, OnErr};
 ghost use Rattle.mc_slab.specs.Chunks.{IsChunkOf, chunk_class};
-ghost use Rattle.mc_slab.specs.Slabs.{IsSlab, IsFull, untouched, pages_of, out_of, chunks_of, pages_left, has_room, taken, given};
+ghost use Rattle.mc_slab.specs.Slabs.{IsSlab, untouched, pages_of, out_of, has_room, taken, given};
+ghost use Rattle.mc_shelf.specs.Plans.{WantsPage};
 
-use mc_slab::{Account, Chunk, Class, Slab, TakeFault};
+use mc_command::StepFault;
+use mc_slab::{Account, Chunk, Class, Slab};
 use std::alloc::{AllocError, Global};
 use std::marker::Model;
 
@@ -30,10 +32,12 @@ impl Model for Desk {
 }
 
 impl Desk {
-    /// A desk of that many pages, 1 to 65536, none of which has gone to a class, whose first number is 1.
+    /// Makes a desk of that many pages, 1 to 65536, none of which has gone to a class, whose first number is 1. The one error
+    /// is a refused allocation.
     pub fn new(alloc: Global, pages: u32) -> Result<Desk, AllocError>
         requires { (1 ≤ pages) × (pages ≤ 65536) }
-        ensures { IfOk result (λ desk. desk ≡ record { slab = untouched pages; next_unique = 1 }) }
+        ensures { IfOk result (λ desk.
+            desk ≡ record { slab = untouched pages; next_unique = 1 }) }
     {
         Ok(Desk {
             slab: Slab::new(alloc, pages)?,
@@ -41,14 +45,17 @@ impl Desk {
         })
     }
 
-    /// What the class has: its pages, and its chunks that items lie in.
+    /// Tells what the class has: its pages, and its chunks that items lie in.
     pub fn account(&self, class: Class) -> Account
-        ensures { result ≡ record { pages = pages_of self.now.slab class; out = out_of self.now.slab class } }
+        ensures { result ≡ record {
+            pages = pages_of self.now.slab class;
+            out = out_of self.now.slab class;
+        } }
     {
         self.slab.account(class)
     }
 
-    /// The number that the next write draws; 2^64 - 1 where they are spent.
+    /// Tells the number that the next write draws; 2^64 - 1 where they are spent.
     pub fn next_unique(&self) -> u64
         ensures value { result ≡ self.now.next_unique }
         ensures slab { IsSlab self.now.slab }
@@ -56,7 +63,7 @@ impl Desk {
         self.next_unique
     }
 
-    /// Whether the unique numbers are spent.
+    /// Answers whether the unique numbers are spent.
     pub(crate) fn is_spent(&self) -> bool
         ensures spent { result ≡ true → self.now.next_unique ≡ 2 ^ 64 - 1 }
         ensures left { result ≡ false → self.now.next_unique < 2 ^ 64 - 1 }
@@ -69,14 +76,15 @@ impl Desk {
         requires { self.old.next_unique < 2 ^ 64 - 1 }
         ensures number { result ≡ self.old.next_unique }
         ensures slab { IsSlab self.old.slab }
-        ensures drawn { self.new ≡ record self.old { next_unique = self.old.next_unique + 1 } }
+        ensures drawn { self.new
+            ≡ record self.old { next_unique = self.old.next_unique + 1 } }
     {
         let number = self.next_unique;
         self.next_unique += 1;
         number
     }
 
-    /// Whether a chunk of the class can be had: one is free, or a page is left.
+    /// Answers whether a chunk of the class can be had: one is free, or a page is left.
     pub(crate) fn has_room(&self, class: Class) -> bool
         ensures value { result ≡ has_room self.now.slab class }
         ensures slab { IsSlab self.now.slab }
@@ -86,23 +94,29 @@ impl Desk {
         u64::from(out) < chunks || 0 < self.slab.pages_left()
     }
 
-    /// Takes a chunk of the class, of any content.
-    pub(crate) fn take(&mut self, alloc: Global, class: Class) -> Result<Chunk, TakeFault>
+    /// Takes a chunk of the class, of any content, where one can be had. A page that goes to the class, where all its chunks
+    /// are out, is all that takes memory. Refused, the desk is as it was.
+    pub(crate) fn take(&mut self, alloc: Global, class: Class) -> Result<Chunk, StepFault>
+        requires { has_room self.old.slab class ≡ true }
         ensures chunk { IfOk result (IsChunkOf class) }
-        ensures taken { OnOk result (self.new ≡ record self.old { slab = taken self.old.slab class }) }
-        ensures full { (pages out : ℕ) → (result ≡ Err (TakeFault.Full class pages out)) ↔ (IsFull self.old.slab class × (pages ≡ pages_of self.old.slab class) × (out ≡ out_of self.old.slab class)) }
-        ensures no_memory { result ≡ Err TakeFault.NoMemory → (out_of self.old.slab class ≡ chunks_of self.old.slab class) × (0 < pages_left self.old.slab) }
-        ensures faults { IfErr result (λ fault. (fault ≡ TakeFault.NoMemory) ⊎ (fault ≡ TakeFault.Full class (pages_of self.old.slab class) (out_of self.old.slab class))) }
+        ensures taken { OnOk result
+            (self.new ≡ record self.old { slab = taken self.old.slab class }) }
+        ensures fault { IfErr result (λ fault. fault ≡ StepFault.NoMemory) }
+        ensures page { OnErr result (WantsPage self.old.slab class) }
         ensures err { OnErr result (self.new ≡ self.old) }
         ensures slab { IsSlab self.old.slab }
     {
-        self.slab.take(alloc, class)
+        match self.slab.take(alloc, class) {
+            Ok(chunk) => Ok(chunk),
+            Err(_) => Err(StepFault::NoMemory),
+        }
     }
 
     /// Takes a chunk back, of whose class one is out. It takes no memory.
     pub(crate) fn give(&mut self, chunk: Chunk)
         requires { 0 < out_of self.old.slab (chunk_class chunk) }
-        ensures given { self.new ≡ record self.old { slab = given self.old.slab (chunk_class chunk) } }
+        ensures given { self.new
+            ≡ record self.old { slab = given self.old.slab (chunk_class chunk) } }
         ensures slab { IsSlab self.old.slab }
     {
         self.slab.give(chunk);

@@ -63,6 +63,25 @@ impl Entry {
         }
     }
 
+    /// Writes the item of other parts into its chunk, whose class the charge asks for. The key is its own.
+    pub(crate) fn rewrite(&mut self, parts: Parts<'_>)
+        requires key { parts.key.now ≡ self.old.key }
+        requires short { length parts.key.now ≤ 250 }
+        requires class { class_holding (charge_in parts) ≡ item_class self.old.key self.old.item }
+        ensures { self.new ≡ record self.old { item = (entry_in 0 parts.entry).item } }
+    {
+        self.lies_in_class();
+        self.item.rewrite(Parts {
+            key: parts.key,
+            first: parts.first,
+            second: parts.second,
+            flags: parts.flags,
+            expiry: parts.expiry,
+            unique: parts.unique,
+            updated: parts.updated,
+        });
+    }
+
     /// How its key stands to another in the order of keys, byte by byte.
     pub(crate) fn order_to(&self, key: &[u8]) -> Ordering
         ensures { result ≡ slice_cmp nat_cmp self.now.key key.now }

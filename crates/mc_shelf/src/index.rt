@@ -1,9 +1,11 @@
 //! Entries, found by their hashes and keys.
 
-ghost use Rattle.std.specs.Prelude.{◌≡◌, ℕ, ◌+◌, ◌-◌, ◌≤◌, List, [], min, nat_lt};
-ghost use Rattle.std.specs.Prelude.{Some, None, IfOk, OnOk, OnErr, option_copied};
+ghost use Rattle.std.specs.Prelude.{◌≡◌, ℕ, ◌+◌, ◌-◌, ◌^◌, ◌<◌, ◌≤◌, List, [], length, min, nat_lt};
+ghost use Rattle.std.specs.Prelude.{Some, None, IfOk, IfSome, OnOk, OnErr, option_copied};
 ghost use Rattle.std.specs.FinMap.{get, len};
-ghost use Rattle.mc_shelf.specs.States.{StaysInClass, renumbered};
+ghost use Rattle.mc_slab.specs.Classes.{class_holding};
+ghost use Rattle.mc_command.specs.Plain.{item_class};
+ghost use Rattle.mc_shelf.specs.States.{StaysInClass, charge_in, entry_in, renumbered};
 ghost use Rattle.mc_shelf.specs.Places.{
   items_of,
   entry_at,
@@ -24,6 +26,7 @@ ghost use Rattle.mc_shelf.specs.Places.{
 
 use crate::entry::Entry;
 use mc_hop::Keyed;
+use mc_item::Parts;
 use mc_time::{Expiry, Moment};
 use std::alloc::{AllocError, Global};
 use std::marker::Model;
@@ -205,6 +208,26 @@ impl Index {
         self.list[place.number].rewrite_number(number, unique, updated);
     }
 
+    /// Writes the item of other parts, of the same key, into the chunk of the one at a place, whose class the charge asks for.
+    /// It takes no memory.
+    pub(crate) fn rewrite(&mut self, place: Place, parts: Parts<'_>)
+        requires key { IsPlaceOf self.old parts.key.now place }
+        requires short { length parts.key.now ≤ 250 }
+        requires class { (at : IsPlaceOf self.old parts.key.now place) →
+            class_holding (charge_in parts) ≡ item_class parts.key.now at.entry.item }
+        ensures { IsChanged self.old self.new parts.entry.key.now (entry_in 0 parts.entry).item }
+    {
+        self.list[place.number].rewrite(Parts {
+            key: parts.key,
+            first: parts.first,
+            second: parts.second,
+            flags: parts.flags,
+            expiry: parts.expiry,
+            unique: parts.unique,
+            updated: parts.updated,
+        });
+    }
+
     /// Takes the entry at a place out. The cost grows with the number of the entries behind it.
     pub(crate) fn remove(&mut self, place: Place) -> Entry
         requires { IsFilled self.old place }
@@ -222,7 +245,8 @@ impl Index {
     /// removal changes no lower one. Answers the number and the place. A sweep goes on at the number after it, and where it
     /// removed the entry, at the number itself.
     pub(crate) fn filled_from(&self, at: usize) -> Option<(usize, Place)>
-        ensures { IsNext self.now at result }
+        ensures next { IsNext self.now at result }
+        ensures fits { IfSome result (λ found. found.0 + 1 < 2 ^ 64) }
     {
         // A list numbers its entries from its end, so that few move when a sweep removes one.
         let number = self.list.len().checked_sub(at)?.checked_sub(1)?;

@@ -1,36 +1,32 @@
-//! What a step asks, by the protocol's table and the item that stands under its key.
+//! What a step does, by the protocol's table and the item that stands under its key.
 
-ghost use Rattle.std.specs.Prelude.{◌≡◌, ℕ, ◌≤◌, List, length, IfOk, OnErr};
+ghost use Rattle.std.specs.Prelude.{◌≡◌, ℕ, ◌≤◌, List, length, Option, IfOk, OnErr};
 ghost use Rattle.mc_time.specs.declared.expiry.Expiry.{Expiry as Expires};
-ghost use Rattle.mc_command.specs.Commands as commands;
+ghost use Rattle.mc_command.specs.declared.row.Row.TheVariants.{Reads};
+ghost use Rattle.mc_command.specs.Commands.{key_of};
 ghost use Rattle.mc_command.specs.Plain as machine;
-ghost use Rattle.mc_command.specs.Plain.{store_row, cas_row, read_row, read_touch_row, touch_row, delete_row, count_row};
-ghost use Rattle.mc_command.specs.Laws.{IsOnKey, row_of};
+ghost use Rattle.mc_command.specs.Plain.{hit_of, row_of};
 ghost use Rattle.mc_shelf.specs.Plans as plans;
-ghost use Rattle.mc_shelf.specs.Plans.{told_by, item_in, wants_desk, IsHit};
+ghost use Rattle.mc_shelf.specs.Plans.{
+  block_in,
+  charge_of,
+  item_in,
+  is_gone,
+  made_block,
+  next_found,
+  wants_desk,
+  writes,
+};
 
 use crate::entry::Entry;
-use crate::index::Place;
 use itoa::Buffer;
-use mc_command::{Block, KeyStep, Reply, Verb, counted, number_of};
-use mc_time::{Expiry, Moment, expiry_of, is_dead};
+use mc_command as command;
+use mc_command::{Block, Body, Bytes, Draft, KeyStep, Reply, Row, Standing};
+use mc_time::{Expiry, Moment, is_dead};
 use std::alloc::{AllocError, Global};
 
-/// What a chunk holds beside an item's key and its block, in bytes.
+/// How many bytes a chunk holds beside an item's key and its block.
 const CHUNK_HEAD: u64 = 48;
-
-/// What a row of the protocol's table asks.
-#[derive(Drop)]
-pub(crate) enum Told {
-    /// The key's item stays.
-    Leaves(Reply),
-    /// It expires then.
-    Expires(Expiry, Reply),
-    /// It is removed.
-    Removes(Reply),
-    /// One of that charge is written.
-    Charges(u64),
-}
 
 /// What a step does.
 #[derive(Drop)]
@@ -42,54 +38,80 @@ pub(crate) enum Next {
     /// The key's item is dropped: it is dead, or deleted.
     Discard(Reply),
     /// An item of that charge is written, if there is a unique number and a chunk.
-    Write(u64),
+    Write(u64, Draft),
 }
 
-/// What a shelf has found out about a step: where its key stands, and what comes next.
+/// What a shelf has found out about a step: what comes next at its key.
 #[derive(Drop)]
-pub struct Plan {
-    /// The hash of the step's key.
+pub struct Plan<'a> {
+    /// The step's key.
+    pub(crate) key: Bytes<'a>,
+    /// The hash of the key.
     pub(crate) hash: u64,
-    /// Where the key stands, or would stand.
-    pub(crate) place: Place,
     /// What comes next.
     pub(crate) next: Next,
     /// The moment of the step: that of the look-up, and of a write.
     pub(crate) moment: Moment,
 }
 
-impl Plan {
-    /// Whether the step needs the desk: it drops an item that is dead or deleted, or writes one, also where no chunk is
-    /// left or the unique numbers are spent. No other step does.
+impl<'a> Plan<'a> {
+    /// Answers whether the step needs the desk: it drops an item that is dead or deleted, or writes one, also where no chunk
+    /// is left or the unique numbers are spent. No other step does.
     pub fn needs_desk(&self) -> bool
         ensures { result ≡ wants_desk self.now.next }
     {
         match self.next {
             Next::Answer(_) | Next::Expire(..) => false,
-            Next::Discard(_) | Next::Write(_) => true,
+            Next::Discard(_) | Next::Write(..) => true,
+        }
+    }
+
+    /// Answers whether the step writes an item, if there is a unique number and a chunk.
+    pub(crate) fn writes(&self) -> bool
+        ensures { result ≡ writes self.now.next }
+    {
+        match self.next {
+            Next::Answer(_) | Next::Expire(..) | Next::Discard(_) => false,
+            Next::Write(..) => true,
         }
     }
 }
 
-/// What comes next where a row asks that: a dead item is dropped, and a write above the greatest charge is too large.
-pub(crate) fn next_by(dead: bool, greatest: u64, told: Told) -> Next
-    ensures { result ≡ plans.next_by dead greatest told }
+/// Finds out what comes next in a step, by the item that is found under its key. A hit's block is copied.
+pub(crate) fn next_of(
+    alloc: Global,
+    step: &KeyStep<'_>,
+    found: Option<&Entry>,
+    greatest: u64,
+    cut: Option<u64>,
+    now: Moment,
+) -> Result<Next, AllocError>
+    requires { length (key_of step.now) ≤ 250 }
+    ensures next { IfOk result (λ next.
+        next ≡ next_found greatest cut step.now now (item_in found.entry)) }
+    ensures refused { OnErr result ((expiry : Option Expires)
+        × (row_of step.now now (machine.alive cut now (item_in found.entry)) ≡ Reads expiry)) }
 {
-    match told {
-        Told::Leaves(reply) => answered(dead, reply),
-        Told::Expires(expiry, reply) => Next::Expire(expiry, reply),
-        Told::Removes(reply) => Next::Discard(reply),
-        Told::Charges(charge) => {
+    let item = alive(found, cut, now);
+    let dead = is_gone(found, cut, now);
+    match command::row_of(step, item, now) {
+        Row::Refuses(refusal) => Ok(answered(dead, refusal.reply())),
+        Row::Reads(None) => Ok(answered(dead, hit(alloc, item)?)),
+        Row::Reads(Some(expiry)) => Ok(Next::Expire(expiry, hit(alloc, item)?)),
+        Row::Touches(expiry) => Ok(Next::Expire(expiry, Reply::Touched)),
+        Row::Deletes => Ok(Next::Discard(Reply::Deleted)),
+        Row::Writes(draft) => {
+            let charge = charge_of(step, item, draft);
             if greatest < charge {
-                answered(dead, Reply::TooLarge)
+                Ok(answered(dead, Reply::TooLarge))
             } else {
-                Next::Write(charge)
+                Ok(Next::Write(charge, draft))
             }
         }
     }
 }
 
-/// An answer that leaves the key's item. A dead one is dropped.
+/// Gives an answer that leaves the key's item. A dead one is dropped.
 fn answered(dead: bool, reply: Reply) -> Next
     ensures { result ≡ plans.answered dead reply }
 {
@@ -100,7 +122,21 @@ fn answered(dead: bool, reply: Reply) -> Next
     }
 }
 
-/// The item that stands: one that isn't dead.
+/// Answers with an item, and a copy of its block.
+fn hit(alloc: Global, item: Option<&Entry>) -> Result<Reply, AllocError>
+    ensures { IfOk result (λ reply. reply ≡ hit_of (item_in item.entry)) }
+{
+    match item {
+        None => Ok(Reply::Miss),
+        Some(old) => Ok(Reply::Hit {
+            flags: old.flags(),
+            unique: old.unique(),
+            block: Block::of(Vec::from_slice(alloc, old.block())?),
+        }),
+    }
+}
+
+/// Lends the item that stands: one that isn't dead.
 pub(crate) fn alive<'a>(
     found: Option<&'a Entry>,
     cut: Option<u64>,
@@ -114,187 +150,48 @@ pub(crate) fn alive<'a>(
     }
 }
 
-/// The key of a step; none of a flush.
-pub(crate) fn key_of<'a>(step: &KeyStep<'a>) -> &'a [u8]
-    ensures { result.now ≡ commands.key_of step.now }
+/// Answers whether the item that is found is dead.
+pub(crate) fn is_gone(found: Option<&Entry>, cut: Option<u64>, now: Moment) -> bool
+    ensures { result ≡ is_gone cut now (item_in found.entry) }
 {
-    match step {
-        KeyStep::Store { key, .. }
-        | KeyStep::Cas { key, .. }
-        | KeyStep::Read { key }
-        | KeyStep::ReadTouch { key, .. }
-        | KeyStep::Touch { key, .. }
-        | KeyStep::Delete { key }
-        | KeyStep::Count { key, .. } => key.as_slice(),
-        KeyStep::Flush { .. } => &[],
+    match found {
+        Some(entry) => is_dead(entry.expiry(), entry.updated(), cut, now),
+        None => false,
     }
 }
 
-/// Whether a step is incr or decr.
-pub(crate) fn counts(step: &KeyStep<'_>) -> bool
-    ensures { result ≡ plans.counts step.now }
+/// Gives the charge of what a draft puts under a step's key, in bytes.
+fn charge_of(step: &KeyStep<'_>, item: Option<&Entry>, draft: Draft) -> u64
+    requires { length (key_of step.now) ≤ 250 }
+    ensures { result ≡ charge_of step.now (item_in item.entry) draft }
 {
-    match step {
-        KeyStep::Count { .. } => true,
-        KeyStep::Store { .. }
-        | KeyStep::Cas { .. }
-        | KeyStep::Read { .. }
-        | KeyStep::ReadTouch { .. }
-        | KeyStep::Touch { .. }
-        | KeyStep::Delete { .. }
-        | KeyStep::Flush { .. } => false,
+    charge(step.key(), step.block(), block_in(item), draft.body)
+}
+
+/// Lends the block of an item, and no bytes where there is none.
+pub(crate) fn block_in<'a>(item: Option<&'a Entry>) -> &'a [u8]
+    ensures value { result.now ≡ block_in (item_in item.entry) }
+    ensures size { length result.now ≤ 1048576 }
+{
+    match item {
+        Some(old) => old.block(),
+        None => &[],
     }
 }
 
-/// What a step asks, by the item that stands. It copies the block of a hit.
-pub(crate) fn row_told(
-    alloc: Global,
-    step: &KeyStep<'_>,
-    item: Option<&Entry>,
-    now: Moment,
-) -> Result<Told, AllocError>
-    requires on_key { IsOnKey step.now }
-    requires key { length (commands.key_of step.now) ≤ 250 }
-    ensures told { IfOk result (λ told. told ≡ told_by (commands.key_of step.now) (row_of step.now now (item_in item.entry))) }
-    ensures refused { OnErr result (IsHit (row_of step.now now (item_in item.entry)).0) }
+/// Gives the charge of a block that a body makes of a step's and of an old one.
+fn charge(key: &[u8], block: &[u8], old: &[u8], body: Body) -> u64
+    requires key { length key.now ≤ 250 }
+    requires old { length old.now ≤ 1048576 }
+    ensures { result ≡ machine.charge key.now (made_block body block.now old.now) }
 {
-    Ok(match step {
-        KeyStep::Store {
-            verb,
-            key,
-            block,
-            ..
-        } => store_told(*verb, key.as_slice(), block.as_slice(), item),
-        KeyStep::Cas {
-            key,
-            block,
-            unique,
-            ..
-        } => cas_told(key.as_slice(), block.as_slice(), *unique, item),
-        KeyStep::Read { .. } => read_told(alloc, item)?,
-        KeyStep::ReadTouch { exptime, .. } => {
-            read_touch_told(alloc, expiry_of(*exptime, now), item)?
+    let head = CHUNK_HEAD + key.len() as u64;
+    match body {
+        Body::Given => head + block.len() as u64,
+        Body::Appended | Body::Prepended => head + old.len() as u64 + block.len() as u64,
+        Body::Counted(number) => {
+            let mut buffer = Buffer::new();
+            head + buffer.format(number).len() as u64
         }
-        KeyStep::Touch { exptime, .. } => touch_told(expiry_of(*exptime, now), item),
-        KeyStep::Delete { .. } => delete_told(item),
-        KeyStep::Count { key, up, by } => count_told(key.as_slice(), *up, *by, item),
-        KeyStep::Flush { .. } => unreachable!(),
-    })
-}
-
-/// How many bytes of a chunk an item of that key and that block takes.
-fn charge(key: &[u8], block: &[u8]) -> u64
-    requires { length key.now ≤ 250 }
-    ensures { result ≡ machine.charge key.now block.now }
-{
-    CHUNK_HEAD + key.len() as u64 + block.len() as u64
-}
-
-/// set, add, replace, append and prepend. add stores only where no item stands; replace, append and prepend only where one
-/// does.
-fn store_told(verb: Verb, key: &[u8], block: &[u8], item: Option<&Entry>) -> Told
-    requires { length key.now ≤ 250 }
-    ensures { (flags : ℕ) (expiry : Expires) → result ≡ told_by key.now (store_row verb flags expiry block.now (item_in item.entry)) }
-{
-    match item {
-        None => match verb {
-            Verb::Set | Verb::Add => Told::Charges(charge(key, block)),
-            Verb::Replace | Verb::Append | Verb::Prepend => Told::Leaves(Reply::NotStored),
-        },
-        Some(old) => match verb {
-            Verb::Set | Verb::Replace => Told::Charges(charge(key, block)),
-            Verb::Add => Told::Leaves(Reply::NotStored),
-            Verb::Append | Verb::Prepend => {
-                Told::Charges(charge(key, block) + old.block().len() as u64)
-            }
-        },
-    }
-}
-
-/// cas. It stores only over an item that has the unique number it names.
-fn cas_told(key: &[u8], block: &[u8], unique: u64, item: Option<&Entry>) -> Told
-    requires { length key.now ≤ 250 }
-    ensures { (flags : ℕ) (expiry : Expires) → result ≡ told_by key.now (cas_row flags expiry block.now unique (item_in item.entry)) }
-{
-    match item {
-        None => Told::Leaves(Reply::NotFound),
-        Some(old) => {
-            if old.unique() == unique {
-                Told::Charges(charge(key, block))
-            } else {
-                Told::Leaves(Reply::Exists)
-            }
-        }
-    }
-}
-
-/// A hit, with a copy of the block.
-fn hit(alloc: Global, item: &Entry) -> Result<Reply, AllocError>
-    ensures { IfOk result (λ reply. reply ≡ Reply.Hit item.now.item.flags item.now.item.unique item.now.item.block) }
-{
-    Ok(Reply::Hit {
-        flags: item.flags(),
-        unique: item.unique(),
-        block: Block::of(Vec::from_slice(alloc, item.block())?),
-    })
-}
-
-/// get and gets. A hit is answered with a copy of the block.
-fn read_told(alloc: Global, item: Option<&Entry>) -> Result<Told, AllocError>
-    ensures told { (key : List ℕ) → IfOk result (λ told. told ≡ told_by key (read_row (item_in item.entry))) }
-    ensures refused { OnErr result (IsHit (read_row (item_in item.entry)).0) }
-{
-    match item {
-        None => Ok(Told::Leaves(Reply::Miss)),
-        Some(item) => Ok(Told::Leaves(hit(alloc, item)?)),
-    }
-}
-
-/// gat and gats: as get and gets, and the item of a hit expires then.
-fn read_touch_told(alloc: Global, expiry: Expiry, item: Option<&Entry>) -> Result<Told, AllocError>
-    ensures told { (key : List ℕ) → IfOk result (λ told. told ≡ told_by key (read_touch_row expiry (item_in item.entry))) }
-    ensures refused { OnErr result (IsHit (read_touch_row expiry (item_in item.entry)).0) }
-{
-    match item {
-        None => Ok(Told::Leaves(Reply::Miss)),
-        Some(item) => Ok(Told::Expires(expiry, hit(alloc, item)?)),
-    }
-}
-
-/// touch. The item that stands expires then.
-fn touch_told(expiry: Expiry, item: Option<&Entry>) -> Told
-    ensures { (key : List ℕ) → result ≡ told_by key (touch_row expiry (item_in item.entry)) }
-{
-    match item {
-        None => Told::Leaves(Reply::NotFound),
-        Some(_) => Told::Expires(expiry, Reply::Touched),
-    }
-}
-
-/// delete. The item that stands is removed.
-fn delete_told(item: Option<&Entry>) -> Told
-    ensures { (key : List ℕ) → result ≡ told_by key (delete_row (item_in item.entry)) }
-{
-    match item {
-        None => Told::Leaves(Reply::NotFound),
-        Some(_) => Told::Removes(Reply::Deleted),
-    }
-}
-
-/// incr and decr. A block that is a number is written anew, as the decimal digits of the number that it comes to.
-fn count_told(key: &[u8], up: bool, by: u64, item: Option<&Entry>) -> Told
-    requires { length key.now ≤ 250 }
-    ensures { result ≡ told_by key.now (count_row up by (item_in item.entry)) }
-{
-    match item {
-        None => Told::Leaves(Reply::NotFound),
-        Some(old) => match number_of(old.block()) {
-            None => Told::Leaves(Reply::NotNumeric),
-            Some(number) => {
-                let mut buffer = Buffer::new();
-                let digits = buffer.format(counted(up, by, number));
-                Told::Charges(charge(key, digits.as_bytes()))
-            }
-        },
     }
 }

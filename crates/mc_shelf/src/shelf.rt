@@ -1,33 +1,56 @@
 //! A shelf: the items of some keys, and the steps on one of its keys.
 
-ghost use Rattle.std.specs.Prelude.{◌≡◌, ◌↔◌, ◌×◌, ℕ, ◌-◌, ◌≤◌, List, length, min, true, Some, None, Err, IfOk, OnErr};
+ghost use Rattle.std.specs.Prelude.{◌≡◌, ◌≢◌, ◌↔◌, ℕ, ◌-◌, ◌≤◌, List, length, min};
+ghost use Rattle.std.specs.Prelude.{Option, Some, None, Err, IfOk, IfSome, OnErr, OnOk, true, false};
 ghost use Rattle.std.specs.FinMap.{empty, get};
+ghost use Rattle.mc_time.specs.declared.expiry.Expiry.{Expiry as Expires};
+ghost use Rattle.mc_slab.specs.Classes.{class_holding};
+ghost use Rattle.mc_slab.specs.Chunks.{chunk_class};
 ghost use Rattle.mc_command.specs.declared.step.KeyStep.{KeyStep as Step};
+ghost use Rattle.mc_command.specs.declared.row.Row.TheVariants.{Reads};
 ghost use Rattle.mc_command.specs.Commands.{key_of};
-ghost use Rattle.mc_command.specs.Plain.{Plain, plain};
+ghost use Rattle.mc_command.specs.Plain.{Entry as Item, block_of, charge, item_class};
 ghost use Rattle.mc_command.specs.Laws.{IsOnKey};
-ghost use Rattle.mc_shelf.specs.States.{CanStand, DeskState, IsAt, IsHash, nothing_held};
+ghost use Rattle.mc_shelf.specs.States.{CanStand, IsHash, nothing_held};
 ghost use Rattle.mc_shelf.specs.Plans.{
-  IsPlan,
-  HasRoom,
   CanSettle,
-  IsTaken,
+  CanWrite,
+  GivesBack,
+  HasRoom,
+  IsDropped,
+  IsOut,
+  IsPlan,
+  IsPut,
   IsSettled,
   IsSpent,
-  MayWantMemory,
+  IsTaken,
   LookTakesMemory,
+  MayWantMemory,
   NeedsPage,
+  block_beside,
+  drafted,
   has_no_number,
+  is_gone,
+  item_in,
+  next_of,
+  own_block,
+  reuses,
+  row_at,
   writes,
-  wants_desk,
 };
 ghost use Rattle.mc_shelf.specs.Sweeps.{AreOut, GivesFor, IsPurged};
 
 use crate::desk::Desk;
+use crate::entry::Entry;
 use crate::index::Index;
-use crate::plan::Plan;
-use mc_command::{KeyStep, Reply, StepFault};
-use mc_time::Moment;
+use crate::plan::{Next, Plan, block_in, is_gone, next_of};
+use crate::write;
+use crate::write::Write;
+use itoa::Buffer;
+use mc_command::{Body, Bytes, Draft, KeyStep, Reply, Standing, StepFault, counts_follow};
+use mc_item::Parts;
+use mc_slab::{Chunk, Class, class_of};
+use mc_time::{Expiry, Moment};
 use std::alloc::{AllocError, Global};
 use std::marker::Model;
 
@@ -110,18 +133,20 @@ impl Shelf {
         ensures refused { result ≡ Err StepFault.NoMemory
             → MayWantMemory step.now now self.old.content desk.old }
     {
-        todo!()
+        let plan = self.plan(alloc, step, hash, now)?;
+        self.make_room(&plan, desk)?;
+        self.apply(alloc, plan, step, desk)
     }
 
     /// Finds out what a step at a moment does. Copies the block of a hit, and makes room for the entry of a new key that is
     /// to be written; nothing else takes memory. The shelf holds what it held, though a growth of its table may begin.
-    pub fn look(
+    pub fn look<'a>(
         &mut self,
         alloc: Global,
-        step: &KeyStep<'_>,
+        step: &KeyStep<'a>,
         hash: u64,
         now: Moment,
-    ) -> Result<Plan, AllocError>
+    ) -> Result<Plan<'a>, AllocError>
         requires on_key { IsOnKey step.now }
         requires key { length (key_of step.now) ≤ 250 }
         requires hash { IsHash self.old.content (key_of step.now) hash }
@@ -131,43 +156,83 @@ impl Shelf {
         ensures content { self.new.content ≡ self.old.content }
         ensures asked { OnErr result (LookTakesMemory step.now now self.old.content) }
     {
-        todo!()
+        let plan = self.plan(alloc, step, hash, now)?;
+        if plan.writes() && self.entry(hash, step.key()).is_none() {
+            self.index.reserve()?;
+        }
+        Ok(plan)
     }
 
     /// Answers a step that needs no desk. It takes no memory.
-    pub fn settle(&mut self, plan: Plan) -> Reply
+    pub fn settle(&mut self, plan: Plan<'_>) -> Reply
         requires { CanSettle plan self.old.content }
-        ensures { (step : Step) (now : ℕ) → IsPlan plan self.old.content step now →
-            IsSettled step now plan.hash self.old.content result self.new.content }
+        ensures { (step : Step) (now : ℕ) → IsPlan plan.entry self.old.content step now →
+            IsSettled step now plan.entry.hash self.old.content result self.new.content }
     {
-        todo!()
+        counts_follow();
+        let Plan {
+            key, hash, next, ..
+        } = plan;
+        match next {
+            Next::Answer(reply) => reply,
+            Next::Expire(expiry, reply) => {
+                self.expire(hash, key.as_slice(), expiry);
+                reply
+            }
+            // These need the desk, and don't come here.
+            Next::Discard(reply) => reply,
+            Next::Write(_, draft) => draft.body.reply(),
+        }
     }
 
-    /// Takes a step that needs the desk, and answers it. A write takes a chunk while the key's old item still has its own; a
-    /// dead item's chunk of the same class is used again, and so is that of a number that incr and decr leave in its class. A
-    /// page that the slab gives to a class is all that takes memory. Refused, or with the unique numbers spent, the shelf
-    /// holds what it held, and the desk is as it was.
+    /// Takes the step of a plan, and answers it. A write takes a chunk while the key's old item still has its own; a dead
+    /// item's chunk of the same class is used again, and so is that of a number that incr and decr leave in its class. A page
+    /// that the slab gives to a class is all that takes memory. Refused, or with the unique numbers spent, the shelf holds
+    /// what it held, and the desk is as it was.
     pub fn apply(
         &mut self,
         alloc: Global,
-        plan: Plan,
+        plan: Plan<'_>,
         step: &KeyStep<'_>,
         desk: &mut Desk,
     ) -> Result<Reply, StepFault>
         requires plan { IsPlan plan self.old.content step.now plan.moment }
-        requires room { HasRoom plan self.old step.now }
-        requires desk { wants_desk plan.next ≡ true }
+        requires room { CanWrite plan.next desk.old → HasRoom plan self.old step.now }
         requires key { length (key_of step.now) ≤ 250 }
         requires stands { CanStand (key_of step.now) self.old.content desk.old }
-        ensures took { IfOk result (λ reply. IsTaken step.now plan.moment plan.hash
+        ensures took { IfOk result (λ reply. IsTaken step.now plan.entry.moment plan.entry.hash
             self.old.content desk.old reply self.new.content desk.new) }
         ensures spent { result ≡ Err StepFault.NumbersSpent
-            ↔ ((writes plan.next ≡ true) × has_no_number desk.old) }
-        ensures refused { result ≡ Err StepFault.NoMemory → NeedsPage plan.next desk.old }
+            ↔ ((writes plan.entry.next ≡ true) × has_no_number desk.old) }
+        ensures refused { result ≡ Err StepFault.NoMemory
+            → NeedsPage plan.entry.next desk.old }
         ensures err { OnErr result
             ((self.new.content ≡ self.old.content) × (desk.new ≡ desk.old)) }
     {
-        todo!()
+        counts_follow();
+        let Plan {
+            hash, next, moment, ..
+        } = plan;
+        match next {
+            Next::Answer(reply) => Ok(reply),
+            Next::Expire(expiry, reply) => {
+                self.expire(hash, step.key(), expiry);
+                Ok(reply)
+            }
+            Next::Discard(reply) => {
+                self.discard(hash, step.key(), desk);
+                Ok(reply)
+            }
+            Next::Write(charge, draft) => {
+                let write = Write {
+                    hash,
+                    moment,
+                    charge,
+                    draft,
+                };
+                self.write(alloc, &write, step, desk)
+            }
+        }
     }
 
     /// Drops the items that are dead at a moment, and gives their chunks back. It takes no memory. The cost is that of one
@@ -177,7 +242,17 @@ impl Shelf {
         ensures shelf { IsPurged now self.old.content self.new.content }
         ensures desk { GivesFor self.old.content.items self.new.content.items desk.old desk.new }
     {
-        todo!()
+        counts_follow();
+        let mut at = 0;
+        while let Some((number, place)) = self.index.filled_from(at) {
+            if is_gone(self.index.get(place), self.cut, now) {
+                let entry = self.index.remove(place);
+                desk.give(entry.into_chunk());
+                at = number;
+            } else {
+                at = number + 1;
+            }
+        }
     }
 
     /// Drops all items, and gives their chunks back. It takes no memory. The cost is that of one pass over the items.
@@ -187,7 +262,13 @@ impl Shelf {
             ≡ record self.old.content { items = empty; hashes = empty } }
         ensures desk { GivesFor self.old.content.items self.new.content.items desk.old desk.new }
     {
-        todo!()
+        counts_follow();
+        let mut at = 0;
+        while let Some((number, place)) = self.index.filled_from(at) {
+            let entry = self.index.remove(place);
+            desk.give(entry.into_chunk());
+            at = number;
+        }
     }
 
     /// Sets the moment from which on what was updated before it is dead; with none, no flush is waiting or has come.
@@ -206,5 +287,264 @@ impl Shelf {
         ensures room { self.old.room ≤ self.new.room }
     {
         self.index.move_some(n)
+    }
+
+    /// Finds out what a step at a moment does, and makes no room. A hit's block is copied, and nothing else takes memory.
+    fn plan<'a>(
+        &self,
+        alloc: Global,
+        step: &KeyStep<'a>,
+        hash: u64,
+        now: Moment,
+    ) -> Result<Plan<'a>, AllocError>
+        requires on_key { IsOnKey step.now }
+        requires key { length (key_of step.now) ≤ 250 }
+        requires hash { IsHash self.now.content (key_of step.now) hash }
+        ensures plan { IfOk result (λ plan. IsPlan plan self.now.content step.now now) }
+        ensures hash { IfOk result (λ plan. plan.hash ≡ hash) }
+        ensures asked { OnErr result ((expiry : Option Expires)
+            × (row_at self.now.content step.now now ≡ Reads expiry)) }
+    {
+        let found = self.entry(hash, step.key());
+        let next = next_of(alloc, step, found, self.greatest, self.cut, now)?;
+        Ok(Plan {
+            key: Bytes::of(step.key()),
+            hash,
+            next,
+            moment: now,
+        })
+    }
+
+    /// Lends the entry of a key, where it has the key.
+    fn entry(&self, hash: u64, key: &[u8]) -> Option<&Entry>
+        requires { IsHash self.now.content key.now hash }
+        ensures item { item_in result ≡ get self.now.content.items key.now }
+        ensures key { IfSome result (λ entry. entry.now.key ≡ key.now) }
+    {
+        let place = self.index.find(hash, key)?;
+        self.index.get(place)
+    }
+
+    /// Makes room for the entry of a new key, where a plan can be taken that writes it.
+    fn make_room(&mut self, plan: &Plan<'_>, desk: &Desk) -> Result<(), AllocError>
+        requires { (step : Step) × (now : ℕ) × IsPlan plan.now self.old.content step now }
+        ensures content { self.new.content ≡ self.old.content }
+        ensures room { OnOk result (CanWrite plan.now.next desk.now →
+            get self.old.content.items plan.now.key ≡ None → 1 ≤ self.new.room) }
+        ensures refused { OnErr result (CanWrite plan.now.next desk.now) }
+    {
+        if self.wants_room(plan, desk) {
+            return self.index.reserve();
+        }
+        Ok(())
+    }
+
+    /// Answers whether a plan can be taken, and then puts in the entry of a new key.
+    fn wants_room(&self, plan: &Plan<'_>, desk: &Desk) -> bool
+        requires { (step : Step) × (now : ℕ) × IsPlan plan.now self.now.content step now }
+        ensures wants { result ≡ true → (CanWrite plan.now.next desk.now
+            × (get self.now.content.items plan.now.key ≡ None)) }
+        ensures enough { result ≡ false → CanWrite plan.now.next desk.now →
+            get self.now.content.items plan.now.key ≢ None }
+    {
+        // Read for the invariant's clause on it: a charge of at most 1048576 bytes has a class.
+        let _greatest = self.greatest;
+        let Next::Write(charge, _) = plan.next else {
+            return false;
+        };
+        let Some(class) = class_of(charge) else {
+            return false;
+        };
+        !desk.is_spent()
+            && desk.has_room(class)
+            && self.entry(plan.hash, plan.key.as_slice()).is_none()
+    }
+
+    /// Sets the expiry of a key's item.
+    fn expire(&mut self, hash: u64, key: &[u8], expiry: Expiry)
+        requires { IsHash self.old.content key.now hash }
+        ensures { (item : Item) → get self.old.content.items key.now ≡ Some item →
+            IsPut key.now hash self.old.content self.new.content
+                (record item { expiry = expiry }) }
+    {
+        if let Some(place) = self.index.find(hash, key) {
+            self.index.set_expiry(place, expiry);
+        }
+    }
+
+    /// Drops a key's item, and gives its chunk back.
+    fn discard(&mut self, hash: u64, key: &[u8], desk: &mut Desk)
+        requires hash { IsHash self.old.content key.now hash }
+        requires out { IsOut key.now self.old.content desk.old }
+        ensures dropped { (item : Item) → get self.old.content.items key.now ≡ Some item →
+            IsDropped key.now hash self.old.content self.new.content }
+        ensures given { GivesBack key.now (get self.old.content.items key.now) desk.old desk.new }
+    {
+        if let Some(place) = self.index.find(hash, key) {
+            let entry = self.index.remove(place);
+            desk.give(entry.into_chunk());
+        }
+    }
+
+    /// Drops a key's item if it is dead.
+    fn drop_dead(&mut self, hash: u64, key: &[u8], now: Moment, desk: &mut Desk)
+        requires hash { IsHash self.old.content key.now hash }
+        requires out { IsOut key.now self.old.content desk.old }
+        ensures dead { is_gone self.old.content.cut now (get self.old.content.items key.now) ≡ true →
+            (IsDropped key.now hash self.old.content self.new.content
+                × GivesBack key.now (get self.old.content.items key.now) desk.old desk.new) }
+        ensures alive { is_gone self.old.content.cut now (get self.old.content.items key.now) ≡ false →
+            ((self.new.content ≡ self.old.content) × (desk.new ≡ desk.old)) }
+    {
+        if is_gone(self.entry(hash, key), self.cut, now) {
+            self.discard(hash, key, desk);
+        }
+    }
+
+    /// Writes the item of a step, in the chunk of the key's item or in one more.
+    fn write(
+        &mut self,
+        alloc: Global,
+        write: &Write,
+        step: &KeyStep<'_>,
+        desk: &mut Desk,
+    ) -> Result<Reply, StepFault>
+        requires on_key { IsOnKey step.now }
+        requires key { length (key_of step.now) ≤ 250 }
+        requires next { next_of self.old.content step.now write.now.moment
+            ≡ Next.Write write.now.charge write.now.draft }
+        requires hash { IsHash self.old.content (key_of step.now) write.now.hash }
+        requires room { CanWrite (Next.Write write.now.charge write.now.draft) desk.old →
+            get self.old.content.items (key_of step.now) ≡ None → 1 ≤ self.old.room }
+        requires stands { CanStand (key_of step.now) self.old.content desk.old }
+        ensures took { IfOk result (λ reply. IsTaken step.now write.now.moment write.now.hash
+            self.old.content desk.old reply self.new.content desk.new) }
+        ensures spent { result ≡ Err StepFault.NumbersSpent ↔ has_no_number desk.old }
+        ensures refused { result ≡ Err StepFault.NoMemory
+            → NeedsPage (Next.Write write.now.charge write.now.draft) desk.old }
+        ensures err { OnErr result
+            ((self.new.content ≡ self.old.content) × (desk.new ≡ desk.old)) }
+    {
+        counts_follow();
+        // Read for the invariant's clause on it: a charge of at most 1048576 bytes has a class.
+        let _greatest = self.greatest;
+        if desk.is_spent() {
+            return Err(StepFault::NumbersSpent);
+        }
+        let Some(class) = class_of(write.charge) else {
+            return Ok(Reply::TooLarge);
+        };
+        if self.reuses(write, class, step.key()) {
+            let unique = desk.draw();
+            self.rewrite(write, unique, step);
+            return Ok(write.draft.body.reply());
+        }
+        if !desk.has_room(class) {
+            self.drop_dead(write.hash, step.key(), write.moment, desk);
+            return Ok(Reply::NoChunk);
+        }
+        let chunk = desk.take(alloc, class)?;
+        let unique = desk.draw();
+        self.put(write, unique, chunk, step, desk);
+        Ok(write.draft.body.reply())
+    }
+
+    /// Answers whether a write goes into the chunk of the key's item: it is one of the class, and the item is dead, or a
+    /// number that is counted.
+    fn reuses(&self, write: &Write, class: Class, key: &[u8]) -> bool
+        requires { IsHash self.now.content key.now write.now.hash }
+        ensures { result ≡ reuses self.now.content.cut write.now.moment key.now
+            (get self.now.content.items key.now) class write.now.draft.body }
+    {
+        let found = self.entry(write.hash, key);
+        write::has_class(found, class)
+            && (write.counts() || is_gone(found, self.cut, write.moment))
+    }
+
+    /// Writes the step's own block, or a number, in the chunk of the key's item.
+    fn rewrite(&mut self, write: &Write, unique: u64, step: &KeyStep<'_>)
+        requires key { length (key_of step.now) ≤ 250 }
+        requires hash { IsHash self.old.content (key_of step.now) write.now.hash }
+        requires class { (item : Item) → get self.old.content.items (key_of step.now) ≡ Some item →
+            item_class (key_of step.now) item ≡ class_holding
+                (charge (key_of step.now) (own_block write.now.draft.body (block_of step.now))) }
+        ensures { (item : Item) → get self.old.content.items (key_of step.now) ≡ Some item →
+            IsPut (key_of step.now) write.now.hash self.old.content self.new.content
+                (drafted write.now.draft (own_block write.now.draft.body (block_of step.now))
+                    unique write.now.moment) }
+    {
+        match write.draft.body {
+            Body::Given | Body::Appended | Body::Prepended => {
+                self.overwrite(write, unique, step.key(), step.block());
+            }
+            Body::Counted(number) => {
+                let mut buffer = Buffer::new();
+                let digits = buffer.format(number).as_bytes();
+                self.overwrite(write, unique, step.key(), digits);
+            }
+        }
+    }
+
+    /// Writes a block in the chunk of a key's item.
+    fn overwrite(&mut self, write: &Write, unique: u64, key: &[u8], block: &[u8])
+        requires key { length key.now ≤ 250 }
+        requires hash { IsHash self.old.content key.now write.now.hash }
+        requires class { (item : Item) → get self.old.content.items key.now ≡ Some item →
+            item_class key.now item ≡ class_holding (charge key.now block.now) }
+        ensures { (item : Item) → get self.old.content.items key.now ≡ Some item →
+            IsPut key.now write.now.hash self.old.content self.new.content
+                (drafted write.now.draft block.now unique write.now.moment) }
+    {
+        if let Some(place) = self.index.find(write.hash, key) {
+            let Draft { flags, expiry, .. } = write.draft;
+            self.index.rewrite(
+                place,
+                Parts {
+                    key,
+                    first: &[],
+                    second: block,
+                    flags,
+                    expiry,
+                    unique,
+                    updated: write.moment,
+                },
+            );
+        }
+    }
+
+    /// Puts the item of a write into a chunk and under its key. The chunk of the item that stood there goes back.
+    fn put(
+        &mut self,
+        write: &Write,
+        unique: u64,
+        chunk: Chunk,
+        step: &KeyStep<'_>,
+        desk: &mut Desk,
+    )
+        requires key { length (key_of step.now) ≤ 250 }
+        requires hash { IsHash self.old.content (key_of step.now) write.now.hash }
+        requires class { chunk_class chunk ≡ class_holding
+            (charge (key_of step.now) (block_beside self.old.content step.now write.now.draft)) }
+        requires fits { charge (key_of step.now) (block_beside self.old.content step.now write.now.draft)
+            ≤ length chunk }
+        requires room { get self.old.content.items (key_of step.now) ≡ None → 1 ≤ self.old.room }
+        requires out { IsOut (key_of step.now) self.old.content desk.old }
+        ensures put { IsPut (key_of step.now) write.now.hash self.old.content self.new.content
+            (drafted write.now.draft (block_beside self.old.content step.now write.now.draft)
+                unique write.now.moment) }
+        ensures given { GivesBack (key_of step.now) (get self.old.content.items (key_of step.now))
+            desk.old desk.new }
+    {
+        let old = block_in(self.entry(write.hash, step.key()));
+        let entry = write.entry_in(chunk, unique, step, old);
+        match self.index.find(write.hash, step.key()) {
+            Some(place) => {
+                let old = self.index.replace(place, entry);
+                desk.give(old.into_chunk());
+            }
+            None => {
+                self.index.insert_reserved(entry);
+            }
+        }
     }
 }

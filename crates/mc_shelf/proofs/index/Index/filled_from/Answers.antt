@@ -4,8 +4,8 @@ use Rattle.mc_shelf.specs.Places.{IsFirstFrom}
 use Rattle.mc_shelf.proofs.IndexLemmas.{first_from}
 use Rattle.mc_shelf.proofs.index.Index.filled_from.Goals as goal
 
-pub returns : goal.returns
-returns c =
+pub returns-clause-next : goal.returns-clause-next
+returns-clause-next c =
     let list = c.self.inside.list in
     let long : vec_len list ≡ length list.items = list.ok.0 in
     let behind = c.in_ok-checked_sub.ensures in

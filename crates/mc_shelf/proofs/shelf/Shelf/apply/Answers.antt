@@ -1,73 +1,54 @@
-use Rattle.std.proofs.Common.{◌≡◌, ◌≤◌, ℕ, true, sym, subst, ◌∙◌}
-use Rattle.mc_slab.specs.Classes.{IsClass}
-use Rattle.mc_slab.specs.Slabs.{given, has_room}
+use Rattle.std.proofs.Common.{◌≡◌, ◌≤◌, List, ℕ, Some, sym, ap, subst, ◌∙◌}
+use Rattle.std.specs.FinMap.{get}
 use Rattle.mc_command.specs.Commands.{key_of}
-use Rattle.mc_command.specs.Plain.{item_class}
-use Rattle.mc_shelf.specs.States.{ShelfState, DeskState}
-use Rattle.mc_shelf.specs.Plans.{OthersStay, Takes, has_dead, row_at}
-use Rattle.mc_shelf.proofs.StandLemmas.{others_gone}
-use Rattle.mc_shelf.proofs.PlanLemmas.{item_discarded, takes_discard, write_fits, write_puts}
-use Rattle.mc_shelf.proofs.ApplyLemmas.{is_out}
-use Rattle.mc_shelf.proofs.AnswerLemmas.{write_not_full}
-use Rattle.mc_shelf.proofs.RefusalLemmas.{may_fail, write_copies, never_spent, on_err}
+use Rattle.mc_command.specs.Plain.{Entry}
+use Rattle.mc_shelf.specs.Plans.{GivesBack, IsDropped, IsOut, IsPut}
+use Rattle.mc_shelf.proofs.TakesLemmas.{discarded_is, expired_is, is_out, others_same, takes_answer, takes_discard, takes_expire}
 use Rattle.mc_shelf.proofs.shelf.Shelf.apply.Goals as goal
 
-pub discard-requires : goal.discard-requires
-discard-requires c =
-    let plan = c.requires.plan in
-    let shelf = c.args.self.now in
-    let key = key_of c.args.step.now in
-    let item = item_discarded shelf c.args.step.now c.args.plan.moment c.in-Discard.reply (sym plan.next ∙ c.in-Discard.is) in
-    (key, item.0, item.1, plan.place, λ is_class. is_out c.counts_follow.ensures.insert c.counts_follow.ensures.remove key shelf c.args.desk.now c.requires.stands item.0 item.1 is_class)
+pub discard-requires-clause-out : goal.discard-requires-clause-out
+discard-requires-clause-out c =
+    subst (λ (k : List ℕ). IsOut k c.args.self.now.content c.args.desk.now) (sym c.key-in-Discard.ensures)
+    (is_out c.counts_follow.ensures.insert c.counts_follow.ensures.remove (key_of c.args.step.now) c.args.self.now.content c.args.desk.now c.requires.stands)
 
-pub class_for-class-requires : goal.class_for-class-requires
-class_for-class-requires c =
-    let shelf = c.args.self.now in
-    let key = key_of c.args.step.now in
-    let next = sym c.requires.plan.next ∙ c.in-Write.is in
-    let row = row_at shelf c.args.step.now c.args.plan.moment in
-    let puts = write_puts (has_dead shelf key c.args.plan.moment) shelf.greatest key row.0 row.1 c.in-Write.size next in
-    let fit = write_fits (has_dead shelf key c.args.plan.moment) shelf.greatest key row.0 row.1 puts.0 puts.1 puts.2 c.in-Write.size next puts.3 in
-    subst (λ (n : ℕ). n ≤ shelf.greatest) fit.1 fit.0
+pub returns-in-Answer-clause-took : goal.returns-in-Answer-clause-took
+returns-in-Answer-clause-took c = record {
+  takes = takes_answer c.counts_follow.ensures.insert c.counts_follow.ensures.remove c.args.step.now c.args.plan.moment c.args.self.now.content c.args.desk.now c.requires.plan.on_key c.in-Answer.reply (sym c.in-Answer.is ∙ c.requires.plan.next);
+  others = others_same (key_of c.args.step.now) c.args.self.now.content;
+  hash = c.requires.plan.hash;
+}
+
+pub returns-in-Expire-clause-took : goal.returns-in-Expire-clause-took
+returns-in-Expire-clause-took c =
+    let old = c.args.self.now.content in
+    let new = c.expire.new.self.content in
+    let step = c.args.step.now in
+    let next = sym c.in-Expire.is ∙ c.requires.plan.next in
+    let key = c.key.ensures in
+    let puts = λ (item : Entry) (found : get old.items (key_of step) ≡ Some item). subst (λ (k : List ℕ). IsPut k c.args.plan.hash old new (record item { expiry = c.in-Expire.expiry })) key
+        (c.expire.ensures item (ap (λ (k : List ℕ). get old.items k) key ∙ found)) in
+    let there = expired_is old step c.args.plan.moment c.in-Expire.expiry c.in-Expire.reply next in
+    let put = puts there.0 there.1 in
+    record {
+      takes = takes_expire c.counts_follow.ensures.insert c.counts_follow.ensures.remove step c.args.plan.moment old c.args.desk.now c.requires.plan.on_key c.in-Expire.expiry c.in-Expire.reply c.args.plan.hash new puts next;
+      others = put.others;
+      hash = put.hash;
+    }
 
 pub returns-in-Discard-clause-took : goal.returns-in-Discard-clause-took
 returns-in-Discard-clause-took c =
-    let plan = c.requires.plan in
+    let old = c.args.self.now.content in
+    let new = c.discard.new.self.content in
     let step = c.args.step.now in
-    let key = key_of step in
-    let shelf = c.args.self.now in
-    let desk = c.args.desk.now in
-    let now = c.args.plan.moment in
-    let next = sym plan.next ∙ c.in-Discard.is in
-    let item = item_discarded shelf step now c.in-Discard.reply next in
-    let class = c.discard.ensures.class key item.0 item.1 plan.place in
-    let took = takes_discard c.counts_follow.ensures.insert c.counts_follow.ensures.remove step now shelf desk plan.on_key c.in-Discard.reply item.0 item.1 c.discard.ensures.slab class next in
-    subst (λ (d : DeskState). Takes step now shelf desk c.in-Discard.reply c.discard.new.self d) (sym (c.discard.ensures.desk key item.0 item.1 plan.place))
-    (subst (λ (t : ShelfState). Takes step now shelf desk c.in-Discard.reply t (record desk { slab = given desk.slab (item_class key item.0) })) (sym (c.discard.ensures.shelf key item.0 item.1 plan.place)) took)
-
-pub returns-in-Discard-clause-others : goal.returns-in-Discard-clause-others
-returns-in-Discard-clause-others c =
-    let plan = c.requires.plan in
-    let shelf = c.args.self.now in
-    let key = key_of c.args.step.now in
-    let item = item_discarded shelf c.args.step.now c.args.plan.moment c.in-Discard.reply (sym plan.next ∙ c.in-Discard.is) in
-    subst (λ (t : ShelfState). OthersStay key shelf t) (sym (c.discard.ensures.shelf key item.0 item.1 plan.place)) (others_gone key shelf)
-
-pub returns-in-Discard-clause-numbers : goal.returns-in-Discard-clause-numbers
-returns-in-Discard-clause-numbers c s at spent =
-    absurd (never_spent c.args.step.now c.args.plan.moment c.args.self.now c.args.desk.now c.in-Discard.reply c.discard.new.self c.discard.new.desk (returns-in-Discard-clause-took c) s at spent)
-
-pub returns-in-Write-clause-refused : goal.returns-in-Write-clause-refused
-returns-in-Write-clause-refused c =
-    let plan = c.requires.plan in
-    let shelf = c.args.self.now in
-    let copies = write_copies shelf c.args.step.now c.args.plan.moment c.in-Write.size (sym plan.next ∙ c.in-Write.is) in
-    on_err c.write.result _ (λ s at. may_fail c.args.step.now c.args.plan.moment shelf c.args.desk.now s plan.on_key copies at)
-
-pub returns-in-Write-clause-full : goal.returns-in-Write-clause-full
-returns-in-Write-clause-full c e s at new answered =
-    let plan = c.requires.plan in
-    let desk = c.args.desk.now in
-    let class = c.class_for-class.ensures in
-    write_not_full c.counts_follow.ensures.remove c.args.step.now c.args.plan.moment c.args.self.now desk plan.on_key c.in-Write.size (sym plan.next ∙ c.in-Write.is)
-    (subst IsClass class.0 class.2) (subst (λ (n : ℕ). has_room desk.slab n ≡ true) class.0 (c.write.ensures.no_memory e).1) s at new answered
+    let next = sym c.in-Discard.is ∙ c.requires.plan.next in
+    let key = c.key-in-Discard.ensures in
+    let drops = λ (item : Entry) (found : get old.items (key_of step) ≡ Some item). subst (λ (k : List ℕ). IsDropped k c.args.plan.hash old new) key
+        (c.discard.ensures.dropped item (ap (λ (k : List ℕ). get old.items k) key ∙ found)) in
+    let there = discarded_is old step c.args.plan.moment c.in-Discard.reply next in
+    let dropped = drops there.0 there.1 in
+    record {
+      takes = takes_discard c.counts_follow.ensures.insert c.counts_follow.ensures.remove step c.args.plan.moment old c.args.desk.now c.requires.plan.on_key c.in-Discard.reply c.args.plan.hash new c.discard.new.desk drops
+          (subst (λ (k : List ℕ). GivesBack k (get old.items k) c.args.desk.now c.discard.new.desk) key c.discard.ensures.given) next;
+      others = dropped.others;
+      hash = dropped.hash;
+    }

@@ -1,0 +1,23 @@
+-- Finite maps under keys: what an edit leaves under its key and under the others.
+use Rattle.std.proofs.Common.{◌≡◌, ◌≢◌, ℕ, Bool, true, false, cond, List, Option, Some, None, Less, Equal, Greater, is_eq, refl, ap, ◌∙◌}
+use Rattle.std.specs.Cmp.{tied_itself}
+use Rattle.std.specs.Cmp.Lexicographic.{nat_list_cmp_total}
+use Rattle.mc_shelf.proofs.IndexLemmas.{order, same_key}
+use Rattle.std.specs.FinMap.{FinMap, get, insert, remove, get-insert, get-remove}
+
+pub get_put : {X : Type 0} (items : FinMap order X) (key : List ℕ) (item : X) → get (insert items key item) key ≡ Some item
+get_put items key item = get-insert nat_list_cmp_total items key item key ∙ ap (λ r. cond (is_eq r) (Some item) (get items key)) (tied_itself nat_list_cmp_total key)
+
+pub get_gone : {X : Type 0} (items : FinMap order X) (key : List ℕ) → get (remove items key) key ≡ None
+get_gone items key = get-remove nat_list_cmp_total items key key ∙ ap (λ r. cond (is_eq r) None (get items key)) (tied_itself nat_list_cmp_total key)
+
+other_key : (key other : List ℕ) → other ≢ key → is_eq (order other key) ≡ false
+other_key key other apart = elim (order other key) as (λ r. order other key ≡ r → is_eq r ≡ false) [ Less ↦ λ e. refl | Equal ↦ λ e. absurd (apart (same_key other key e)) | Greater ↦ λ e. refl ] refl
+
+-- other keys stay
+pub get_put_other : {X : Type 0} (items : FinMap order X) (key other : List ℕ) (item : X) → other ≢ key → get (insert items key item) other ≡ get items other
+get_put_other items key other item apart = get-insert nat_list_cmp_total items key item other ∙ ap (λ b. cond b (Some item) (get items other)) (other_key key other apart)
+
+pub get_gone_other : {X : Type 0} (items : FinMap order X) (key other : List ℕ) → other ≢ key → get (remove items key) other ≡ get items other
+get_gone_other items key other apart = get-remove nat_list_cmp_total items key other ∙ ap (λ b. cond b None (get items other)) (other_key key other apart)
+
