@@ -1,5 +1,5 @@
 -- What a purge of one shelf, and a flush of all, make of the state that they are parts of.
-use Rattle.std.proofs.Common.{◌≡◌, ◌≢◌, ℕ, zero, suc, ◌+◌, ◌<◌, ◌≤◌, Bool, true, false, cond, not, ◌||◌, eqb, eqb-true, eq-eqb, ne_eqb, ltb, lt-ltb, le-ltb, ltb-true, ltb-false, true≢false, List, ◌++◌, length, length-set, take, drop, Option, Some, None, is_some, slice_get, slice_set, refl, sym, ap, subst, ◌∙◌, arith, ◌⊎◌, inl, inr, ⊎_elim}
+use Rattle.std.proofs.Common.{◌≡◌, ◌≢◌, ℕ, ◌+◌, ◌<◌, ◌≤◌, Bool, true, false, cond, not, ◌||◌, eqb, eqb-true, eq-eqb, ne_eqb, ltb, lt-ltb, le-ltb, ltb-true, ltb-false, true≢false, List, ◌++◌, length, length-set, take, drop, Option, Some, None, is_some, slice_get, slice_set, refl, sym, ap, subst, ◌∙◌, arith, ◌⊎◌, inl, inr, ⊎_elim}
 use Rattle.std.proofs.lemmas.Option.{slice_get_within}
 use Rattle.std.specs.FinMap as maps
 use Rattle.std.specs.FinMap.{get, get-empty, retain_keys}

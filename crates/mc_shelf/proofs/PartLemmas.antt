@@ -1,6 +1,8 @@
 -- Parts of a state: what they are together, and what a change of one of them makes of the state.
-use Rattle.std.proofs.Common.{◌≡◌, ◌≢◌, ℕ, zero, suc, ◌+◌, ◌<◌, Bool, true, false, cond, not, eqb, eqb-true, eq-eqb, true≢false, List, [], ◌∷◌, ◌++◌, length, length-set, Option, Some, None, slice_get, slice_set, refl, sym, ap, subst, ◌∙◌, arith, ◌⊎◌, inl, inr, ⊎_elim}
+use Rattle.std.proofs.Common.{◌≡◌, ◌≢◌, ℕ, zero, suc, ◌+◌, ◌-◌, ◌<◌, Bool, true, false, cond, not, eqb, eqb-true, eq-eqb, true≢false, List, [], ◌∷◌, ◌++◌, length, length-set, map, Option, Some, None, slice_get, slice_set, refl, sym, ap, subst, ◌∙◌, arith, ◌⊎◌, inl, inr, ⊎_elim}
 use Rattle.std.proofs.lemmas.Option.{same_Some}
+use Rattle.std.proofs.lemmas.List.FromFn.{get_or-map-range_with_len}
+use Rattle.std.specs.List.{range_with_len}
 use Rattle.std.specs.Option.{option_or}
 use Rattle.std.specs.Cmp.{tied_itself}
 use Rattle.std.specs.Cmp.Lexicographic.{nat_list_cmp_total}
@@ -13,8 +15,8 @@ use Rattle.mc_command.specs.Commands.{key_of}
 use Rattle.mc_command.specs.Laws.{IsOnKey}
 use Rattle.mc_command.specs.Plain.{Answered, Entry, Items, Plain, count_of, plain}
 use Rattle.mc_shelf.specs.States.{ShelfContent, ShelfState, DeskState, IsAt, IsHash}
-use Rattle.mc_shelf.specs.Plans.{IsTaken}
-use Rattle.mc_shelf.specs.Parts.{shelf_of, IsShelfOf, IsDeskOf, ArePartsOf, GoesTo, GoesByStep}
+use Rattle.mc_shelf.specs.Plans.{IsTaken, IsSettled}
+use Rattle.mc_shelf.specs.Parts.{shelf_of, IsShelfOf, IsDeskOf, ArePartsOf, GoesTo, GoesByStep, GoesWithoutDesk}
 use Rattle.mc_shelf.specs.Unions.{all_entries, all_items, cut_of, plain_of}
 use Rattle.mc_shelf.specs.Stores.{IsSetUp}
 use Rattle.mc_shelf.specs.declared.store.Settings.{Settings}
@@ -191,7 +193,7 @@ module _ {hash_of : List ℕ → ℕ} {count at : ℕ} {state : Plain} {shelf : 
       apart = λ q other. taken.others.items q (elsewhere q other) ∙ fits.apart q other;
       hashes = λ q.
           ⊎_elim
-          (λ same. subst (λ (k : List ℕ). IsHash shelf' k (hash_of k)) (sym same) taken.hashed)
+          (λ same. subst (λ (k : List ℕ). IsHash shelf' k (hash_of k)) (sym same) taken.hash)
           (λ other stored found. fits.hashes q stored (sym (taken.others.hashes q other) ∙ found))
           (key_or_not q (key_of step));
     }
@@ -218,6 +220,37 @@ module _ {hash_of : List ℕ → ℕ} {count at : ℕ} {state : Plain} {shelf : 
           hashes = part.hashes;
         };
       };
+    }
+
+-- a desk that keeps a state's account
+a_desk : (state : Plain) → (desk : DeskState) × IsDeskOf state desk
+a_desk state =
+    let out_at = λ (class : ℕ). count_of state.items class in (
+      record { slab = record { limit = state.limit; pages = state.pages; out = map out_at (range_with_len 1 40) }; next_unique = state.next_unique },
+      record {
+        next_unique = refl;
+        limit = refl;
+        pages = refl;
+        out = λ class is. get_or-map-range_with_len out_at 1 40 (class - 1) class 0 (omega (arith, is.0, is.1)) (omega (arith, is.0));
+      },
+    )
+
+same_answer : (reply : Reply) (a b : Plain) → Answered reply a ≡ Answered reply b → a ≡ b
+same_answer reply a b same = cc
+
+pub goes_without_desk : {hash_of : List ℕ → ℕ} {shelves at now : ℕ} {state : Plain} {reply : Reply} {old new : ShelfContent} (step : KeyStep) → IsOnKey step → shelf_of hash_of shelves (key_of step) ≡ at → OthersLaw → LimitLaw
+    → IsShelfOf hash_of shelves state at old → IsSettled step now (hash_of (key_of step)) old reply new → GoesWithoutDesk hash_of shelves at step now state reply new
+goes_without_desk {hash_of} {shelves} {at} {now} {state} {reply} {old} {new} step on mine others limit fits settled =
+    let by = λ (desk : DeskState) (account : IsDeskOf state desk).
+    goes_by_step step mine fits account on others limit (record { takes = settled.takes desk; others = settled.others; hash = settled.hash }) in
+    let first = by (a_desk state).0 (a_desk state).1 in
+    record {
+      new = first.new;
+      answered = first.answered;
+      goes = λ desk account.
+          let this = by desk account in
+          subst (λ (s : Plain). GoesTo hash_of shelves at state s new desk) (same_answer reply this.new first.new (sym this.answered ∙ first.answered)) this.goes;
+      some_desk = a_desk state;
     }
 
 -- ---- items that are dropped

@@ -1,5 +1,5 @@
 -- A store: what a change of one of its shelves, or of all, makes of the state that its parts keep.
-use Rattle.std.proofs.Common.{◌≡◌, ℕ, zero, suc, ◌-◌, ◌^◌, ◌<◌, Bool, true, false, cond, eqb, ltb, List, [], ◌∷◌, length, map, replicate, Option, Some, None, slice_get, slice_index, slice_index_or, slice_set, refl, sym, ap, subst, ◌∙◌, arith, Result, Ok, Err, IfOk, OnErr}
+use Rattle.std.proofs.Common.{◌≡◌, ℕ, zero, suc, ◌-◌, ◌^◌, ◌<◌, Bool, true, false, cond, eqb, ltb, List, length, map, replicate, Option, Some, None, slice_get, slice_index, slice_index_or, slice_set, refl, sym, ap, subst, ◌∙◌, arith, Result, Ok, Err, IfOk, OnErr}
 use Rattle.std.specs.Option.{option_map}
 use Rattle.std.proofs.lemmas.List.{get_or-replicate, length-map, length-replicate, map-set}
 use Rattle.std.proofs.lemmas.Option.{get_or_from_slice_get, slice_get-map, slice_get_read, same_Some}
@@ -19,7 +19,6 @@ use Rattle.mc_shelf.specs.States.{ShelfContent, ShelfState, DeskState, IsAt, not
 use Rattle.mc_shelf.specs.Plans.{IsTaken, IsSpent}
 use Rattle.mc_shelf.specs.Parts.{shelf_of, IsShelfOf, IsDeskOf, ArePartsOf, GoesTo, GoesByStep}
 use Rattle.mc_shelf.specs.Unions.{lefts, plain_of}
-use Rattle.mc_shelf.specs.Stores.{IsSetUp}
 use Rattle.mc_shelf.specs.declared.store.Settings.{Settings}
 use Rattle.mc_shelf.proofs.IndexLemmas.{order}
 use Rattle.mc_shelf.proofs.PartLemmas.{parts_go, plain_is, are_kept}

@@ -8,8 +8,8 @@ use Rattle.mc_command.specs.declared.reply.Reply.{Reply}
 use Rattle.mc_shelf.specs.Parts.{shelf_of}
 use Rattle.mc_shelf.specs.declared.store.Settings.{Settings}
 
--- A store: how it was set up, what hashes its keys, and the plain machine's state; and beside these, of each shelf how many
--- entries of an old table are left to move.
+-- A store: how it was set up, what hashes its keys, and the plain machine's state; and beside these,
+-- of each shelf how many entries of an old table are left to move.
 pub record StoreState (K : Type 0) : Type 0 where
   pub settings : Settings
   pub hasher : K
@@ -24,7 +24,8 @@ coded_settings =
 
 abbrev pub coded_store : {K : Type 0} → Coded K → Coded (StoreState K)
 coded_store {K} coded_hasher =
-    code_by (Settings × (K × (Plain × List ℕ))) (coded× coded_settings (coded× coded_hasher (coded× coded_plain (coded_list coded_ℕ))))
+    code_by (Settings × (K × (Plain × List ℕ)))
+    (coded× coded_settings (coded× coded_hasher (coded× coded_plain (coded_list coded_ℕ))))
     (λ s. (s.settings, (s.hasher, (s.plain, s.left))))
     (λ p. record { settings = p.0; hasher = p.1.0; plain = p.1.1.0; left = p.1.1.1 })
     (λ _. refl)
@@ -45,10 +46,15 @@ pub record HoldSame {K : Type 0} (old new : StoreState K) : Type 0 where
   pub hasher : new.hasher ≡ old.hasher
 
 -- a store took a step as the plain machine does, with that reply
-abbrev pub TookStep : {K : Type 0} → (old : StoreState K) → KeyStep → (now : ℕ) → Reply → (new : StoreState K) → Type 0
-TookStep old step now reply new = (plain old.plain step now ≡ Answered reply new.plain) × AreAlike old new
+abbrev pub TookStep
+    : {K : Type 0} → (old : StoreState K) → KeyStep → (now : ℕ) → Reply → (new : StoreState K)
+    → Type 0
+TookStep old step now reply new =
+    (plain old.plain step now ≡ Answered reply new.plain) × AreAlike old new
 
 -- the state without the dead of one shelf, if the shelf is there
 abbrev pub shelf_purged : (hash_of : List ℕ → ℕ) → (shelves shelf now : ℕ) → Plain → Plain
 shelf_purged hash_of shelves shelf now state =
-    if nat_lt shelf shelves then purged (λ key. shelf_of hash_of shelves key == shelf) now state else state
+    if nat_lt shelf shelves
+    then purged (λ key. shelf_of hash_of shelves key == shelf) now state
+    else state

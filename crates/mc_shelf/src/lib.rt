@@ -1,7 +1,6 @@
 //! The store of one thread, by shelves: the items of some keys each, and the desk that they share.
 #![tactic(auto)]
 
-mod apply;
 #[cfg(test)]
 mod compare_tests;
 mod desk;
@@ -11,7 +10,6 @@ mod parts;
 mod plan;
 mod shelf;
 mod store;
-mod sweep;
 #[cfg(test)]
 mod tests;
 mod write;

@@ -8,7 +8,7 @@ ghost use Rattle.mc_command.specs.Plain.{Plain, flushed};
 ghost use Rattle.mc_command.specs.Purge.{purged};
 ghost use Rattle.mc_command.specs.Laws.{IsOnKey};
 ghost use Rattle.mc_shelf.specs.States.{ShelfContent, DeskState, nothing_held};
-ghost use Rattle.mc_shelf.specs.Plans.{IsTaken};
+ghost use Rattle.mc_shelf.specs.Plans.{IsTaken, IsSettled};
 ghost use Rattle.mc_shelf.specs.Sweeps.{AreOut, GivesFor};
 ghost use Rattle.mc_shelf.specs.Unions.{IsFlushed, lefts};
 ghost use Rattle.mc_shelf.specs.Parts.{
@@ -18,6 +18,7 @@ ghost use Rattle.mc_shelf.specs.Parts.{
   ArePartsOf,
   GoesTo,
   GoesByStep,
+  GoesWithoutDesk,
 };
 
 use crate::desk::Desk;
@@ -26,24 +27,31 @@ use mc_command::{counts_follow, other_keys_stay, pages_stay};
 use mc_time::{Moment, cut_after};
 use std::alloc::{AllocError, Global};
 
-/// A step that is taken by a key's shelf and by the desk, as parts of a state, takes the state to the plain machine's next:
-/// both are parts of that, and each other shelf stays one.
+/// States that a step which a key's shelf takes with the desk, as parts of a state, takes the state
+/// to the plain machine's next: both are parts of that, and each other shelf stays one. One that is
+/// settled without the desk does so whatever desk the state has.
 pub fn steps_change_one_shelf()
-    ensures { (hash_of : List ℕ → ℕ) (shelves at : ℕ) (state : Plain) (step : KeyStep) (now : ℕ)
-        (reply : Reply) (old new : ShelfContent) (desk desk' : DeskState) →
+    ensures taken { (hash_of : List ℕ → ℕ) (shelves at : ℕ) (state : Plain) (step : KeyStep)
+        (now : ℕ) (reply : Reply) (old new : ShelfContent) (desk desk' : DeskState) →
         IsOnKey step → shelf_of hash_of shelves (key_of step) ≡ at →
         IsShelfOf hash_of shelves state at old → IsDeskOf state desk →
         IsTaken step now (hash_of (key_of step)) old desk reply new desk' →
         GoesByStep hash_of shelves at step now state reply new desk' }
+    ensures settled { (hash_of : List ℕ → ℕ) (shelves at : ℕ) (state : Plain) (step : KeyStep)
+        (now : ℕ) (reply : Reply) (old new : ShelfContent) →
+        IsOnKey step → shelf_of hash_of shelves (key_of step) ≡ at →
+        IsShelfOf hash_of shelves state at old →
+        IsSettled step now (hash_of (key_of step)) old reply new →
+        GoesWithoutDesk hash_of shelves at step now state reply new }
 {
     other_keys_stay();
     pages_stay();
 }
 
 impl Shelf {
-    /// Drops the items that are dead at a moment, of a shelf that is with this desk a part of a state, and gives their chunks
-    /// back: the state goes to the one purged of that shelf's dead. It takes no memory. The cost is that of one pass over
-    /// the items.
+    /// Drops the items that are dead at a moment, of a shelf that is with this desk a part of a
+    /// state, and gives their chunks back: the state goes to the one purged of that shelf's dead. It
+    /// takes no memory. The cost is that of one pass over the items.
     pub fn purge_part(&mut self, now: Moment, desk: &mut Desk)
         requires { (hash_of : List ℕ → ℕ) × (shelves : ℕ) × (at : ℕ) × (state : Plain)
             × IsShelfOf hash_of shelves state at self.old.content × IsDeskOf state desk.old }
@@ -57,7 +65,8 @@ impl Shelf {
         self.purge(now, desk);
     }
 
-    /// Flushes the shelf: all items go at once, or the dead go and the others are flushed after a delay.
+    /// Flushes the shelf: all items go at once, or the dead go and the others are flushed after a
+    /// delay.
     fn flush(&mut self, delay: u64, now: Moment, desk: &mut Desk)
         requires { AreOut self.old.content desk.old }
         ensures shelf { IsFlushed delay now self.old.content self.new.content }
@@ -72,9 +81,9 @@ impl Shelf {
     }
 }
 
-/// Flushes a state by its parts, all its shelves in their order and the desk: all items go at once, or the dead go and the
-/// others are flushed after a delay, in seconds or as a moment, as an exptime is read. It takes no memory. The cost is that
-/// of one pass over all items.
+/// Flushes a state by its parts, all its shelves in their order and the desk: all items go at once,
+/// or the dead go and the others are flushed after a delay, which is read as an exptime is. It takes
+/// no memory. The cost is that of one pass over all items.
 pub fn flush_parts(shelves: &mut [Shelf], desk: &mut Desk, delay: u64, now: Moment)
     requires { (hash_of : List ℕ → ℕ) × (state : Plain) × (count : ℕ)
         × ArePartsOf hash_of state shelves.old count desk.old }
@@ -88,7 +97,7 @@ pub fn flush_parts(shelves: &mut [Shelf], desk: &mut Desk, delay: u64, now: Mome
     }
 }
 
-/// So many shelves of no items.
+/// Makes so many shelves of no items. The one error is a refused allocation.
 pub(crate) fn empty_shelves(
     alloc: Global,
     count: u32,

@@ -1,7 +1,11 @@
-//! The store of one thread, as callers see it: how it is set up, its hasher, and the plain machine's state.
+//! The store of one thread, as callers see it: how it is set up, its hasher, and the plain machine's
+//! state.
+
+#[cfg(test)]
+mod tests;
 
 ghost use Rattle.std.specs.Prelude.{◌≡◌, ◌↔◌, ◌-◌, ◌≤◌, min, length, replicate, slice_index, slice_set, IfOk, OnErr, Err};
-ghost use Rattle.mc_command.specs.Commands.{key_of};
+ghost use Rattle.mc_command.specs.Commands.{key_of, longest_key};
 ghost use Rattle.mc_command.specs.Plain.{Plain, opening, plain, Answered, Spent, MayFail};
 ghost use Rattle.mc_command.specs.Laws.{IsOnKey};
 ghost use Rattle.mc_shelf.specs.Parts.{ArePartsOf};
@@ -41,8 +45,9 @@ pub struct StoreParts<K: KeyHash + Drop> {
     pub desk: Desk,
 }
 
-/// A store of one thread: shelves of items, and the desk that they share. Contracts see how it was set up, its hasher, and
-/// the plain machine's state; and beside these, of each shelf how many entries of an old table are left to move.
+/// A store of one thread: shelves of items, and the desk that they share. Contracts see how it was
+/// set up, its hasher, and the plain machine's state; and beside these, of each shelf how many entries
+/// of an old table are left to move.
 #[derive(Drop)]
 pub struct Store<K: KeyHash + Drop> {
     parts: StoreParts<K>,
@@ -70,7 +75,8 @@ impl<K: KeyHash + Drop> Model for Store<K> {
 }
 
 impl<K: KeyHash + Drop> Store<K> {
-    /// Makes a store of no items, no class of which has a page. The one error is a refused allocation.
+    /// Makes a store of no items, no class of which has a page. The one error is a refused
+    /// allocation.
     pub fn new(alloc: Global, settings: Settings, hasher: K) -> Result<Store<K>, AllocError>
         requires pages { 1 ≤ settings.pages × settings.pages ≤ 65536 }
         requires greatest { settings.greatest ≡ 1048576 }
@@ -113,12 +119,13 @@ impl<K: KeyHash + Drop> Store<K> {
     pub fn into_parts(self) -> StoreParts<K>
         ensures settings { result.settings ≡ self.settings }
         ensures hasher { result.hasher ≡ self.hasher }
-        ensures set_up { IsSetUp self.settings self.plain }
-        ensures parts { ArePartsOf (K.hash_of self.hasher)
-            self.plain result.shelves.items self.settings.shelves result.desk }
+        ensures set_up { IsSetUp result.settings self.plain }
+        ensures parts { ArePartsOf (K.hash_of result.hasher)
+            self.plain result.shelves.items result.settings.shelves result.desk }
         ensures left { self.left ≡ lefts result.shelves.items }
     {
-        self.parts
+        let Store { parts } = self;
+        parts
     }
 
     /// Tells how it was set up.
@@ -129,8 +136,8 @@ impl<K: KeyHash + Drop> Store<K> {
         self.parts.settings
     }
 
-    /// Drops the dead items of a shelf, and no other. Of a shelf that isn't there it drops none. It takes no memory; the
-    /// cost grows with the number of the shelf's items.
+    /// Drops the dead items of a shelf, and no other. Of a shelf that isn't there it drops none. It
+    /// takes no memory. The cost is that of one pass over the shelf's items.
     pub fn purge(&mut self, shelf: u32, now: Moment)
         ensures plain { self.new.plain ≡ shelf_purged (K.hash_of self.old.hasher)
             self.old.settings.shelves shelf now self.old.plain }
@@ -142,8 +149,9 @@ impl<K: KeyHash + Drop> Store<K> {
         }
     }
 
-    /// Moves up to `n` entries of a shelf's old table, and answers how many it moved: as many as are left, where they are
-    /// fewer, and 0 of a shelf that isn't there. All else is as it was, and no memory is taken. The cost grows with `n`.
+    /// Moves up to `n` entries of a shelf's old table, and answers how many it moved: as many as are
+    /// left, where they are fewer, and 0 of a shelf that isn't there. All else is as it was, and no
+    /// memory is taken. The cost grows with `n`.
     pub fn grow(&mut self, shelf: u32, n: usize) -> usize
         ensures moved { result ≡ min n (slice_index self.old.left shelf) }
         ensures left { self.new ≡ record self.old {
@@ -151,8 +159,7 @@ impl<K: KeyHash + Drop> Store<K> {
         } }
     {
         if shelf < self.parts.settings.shelves {
-            let shelf = &mut self.parts.shelves[shelf as usize];
-            shelf.grow(n)
+            self.parts.shelves[shelf as usize].grow(n)
         } else {
             0
         }
@@ -166,7 +173,7 @@ impl<K: KeyHash + Drop> Store<K> {
         now: Moment,
     ) -> Result<Reply, StepFault>
         requires on_key { IsOnKey step.now }
-        requires key { length (key_of step.now) ≤ 250 }
+        requires key { length (key_of step.now) ≤ longest_key }
         ensures took { IfOk result (λ reply. TookStep self.old step.now now reply self.new) }
         ensures spent { result ≡ Err StepFault.NumbersSpent
             ↔ (plain self.old.plain step.now now ≡ Spent) }
@@ -198,7 +205,7 @@ impl<K: KeyHash + Drop> Steps for Store<K> {
     ghost same = { λ old new. HoldSame old new };
 
     fn step(&mut self, alloc: Global, step: &KeyStep<'_>, now: Moment) -> Result<Reply, StepFault>
-        requires { length (key_of step.now) ≤ 250 }
+        requires { length (key_of step.now) ≤ longest_key }
         ensures took { IfOk result (λ reply. TookStep self.old step.now now reply self.new) }
         ensures spent { result ≡ Err StepFault.NumbersSpent
             ↔ (plain self.old.plain step.now now ≡ Spent) }

@@ -1,7 +1,8 @@
-//! Keys of different shelves over one desk: by Fnv `a` is on shelf 12 of 64, `b` on 37 and `k` on 10. Where an allocation is
-//! refused the store answers as before, and takes the step when it is asked again.
+//! Keys of different shelves over one desk: by Fnv `a` is on shelf 12 of 64, `b` on 37 and `k` on 10.
+//! Where an allocation is refused the store answers as before, and takes the step when it is asked
+//! again.
 
-ghost use Rattle.std.specs.Prelude.{◌≤◌, length};
+ghost use Rattle.std.specs.Prelude.{◌≡◌, ◌≤◌, length};
 ghost use Rattle.mc_command.specs.Commands.{key_of};
 
 use super::*;
@@ -257,7 +258,6 @@ fn a_purge_drops_the_dead_of_one_shelf(rt: HostRuntime) -> Result<(), Fail> {
     answers(&rt, rt.alloc(), &mut store, &dies)?;
     store.purge(37, now);
     store.purge(64, now);
-    assert!(rt; store.grow(12, 8) <= 8);
     let full: [Row<'_>; 1] = [(1010, b"b", Ask::Set(0, large), Want::Told("no chunk"))];
     answers(&rt, rt.alloc(), &mut store, &full)?;
     store.purge(12, now);
@@ -267,4 +267,47 @@ fn a_purge_drops_the_dead_of_one_shelf(rt: HostRuntime) -> Result<(), Fail> {
         (1010, b"a", Ask::Get, Want::Told("miss")),
     ];
     answers(&rt, rt.alloc(), &mut store, &free)
+}
+
+/// The store made again of its parts.
+fn remade(store: Store<Fnv>) -> Store<Fnv>
+    ensures { result.plain ≡ store.plain }
+{
+    Store::from_parts(store.into_parts())
+}
+
+#[test]
+fn a_store_of_parts_answers_as_before(rt: HostRuntime) -> Result<(), Fail> {
+    let first: [Row<'_>; 4] = [
+        (1000, b"a", Ask::Set(0, b"x"), Want::Told("stored")),
+        (1000, b"b", Ask::Set(10, b"y"), Want::Told("stored")),
+        (1000, b"k", Ask::Set(0, b"9"), Want::Told("stored")),
+        (1000, b"k", Ask::Flush(20), Want::Told("flushed")),
+    ];
+    let then: [Row<'_>; 6] = [
+        (1001, b"a", Ask::Get, Want::Hit(1, b"x")),
+        (1001, b"k", Ask::Incr(1), Want::Told("number 10")),
+        (1001, b"k", Ask::Get, Want::Hit(4, b"10")),
+        (1010, b"b", Ask::Get, Want::Told("miss")),
+        (1019, b"a", Ask::Get, Want::Hit(1, b"x")),
+        (1020, b"a", Ask::Get, Want::Told("miss")),
+    ];
+    let mut store = open(rt.alloc(), 64)?;
+    answers(&rt, rt.alloc(), &mut store, &first)?;
+    let mut store = remade(store);
+    assert_eq!(rt; store.settings().shelves, 64);
+    answers(&rt, rt.alloc(), &mut store, &then)
+}
+
+#[test]
+fn no_old_table_is_left_to_move(rt: HostRuntime) -> Result<(), Fail> {
+    let rows: [Row<'_>; 2] = [
+        (1000, b"a", Ask::Set(0, b"x"), Want::Told("stored")),
+        (1000, b"a", Ask::Get, Want::Hit(1, b"x")),
+    ];
+    let mut store = open(rt.alloc(), 64)?;
+    answers(&rt, rt.alloc(), &mut store, &rows)?;
+    assert_eq!(rt; store.grow(12, 8), 0);
+    assert_eq!(rt; store.grow(64, 8), 0);
+    Ok(())
 }

@@ -1,4 +1,4 @@
-use Rattle.std.proofs.Common.{◌⊎◌, inl, inr, ap, ◌∙◌}
+use Rattle.std.proofs.Common.{inl, inr, ap, ◌∙◌}
 use Rattle.mc_shelf.specs.States.{ShelfState}
 use Rattle.mc_shelf.proofs.FlushLemmas.{is_flushed}
 use Rattle.mc_shelf.proofs.shelf.Shelf.flush.Goals as goal

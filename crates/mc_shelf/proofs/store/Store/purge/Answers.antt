@@ -1,6 +1,4 @@
-use Rattle.std.proofs.Common.{cond, sym, ap, ◌∙◌, lt-ltb}
-use Rattle.mc_shelf.specs.Stores.{shelf_purged}
-use Rattle.mc_shelf.specs.Unions.{plain_of}
+use Rattle.std.proofs.Common.{lt-ltb}
 use Rattle.mc_shelf.proofs.StoreLemmas.{shelf_here, kept_after, plain_after}
 use Rattle.mc_shelf.proofs.store.Store.purge.Goals as goal
 
