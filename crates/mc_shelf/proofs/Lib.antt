@@ -9,3 +9,4 @@ pub mod PlanLemmas
 pub mod TakesLemmas
 pub mod RefusalLemmas
 pub mod SweepLemmas
+pub mod DeskLemmas
