@@ -12,3 +12,4 @@ pub mod SweepLemmas
 pub mod PartLemmas
 pub mod FlushLemmas
 pub mod StoreLemmas
+pub mod DeskLemmas

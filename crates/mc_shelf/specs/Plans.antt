@@ -255,3 +255,8 @@ ChangesItems key old reply new =
 abbrev pub NeedsDesk : (key : List ℕ) → Plain → Outcome → Type 0
 NeedsDesk key old (Answered reply new) = ChangesItems key old reply new
 NeedsDesk key old Spent = Unit {0}
+
+-- of each plain state that stands for the shelf and the desk, the step's outcome needs the desk
+abbrev pub WantsDesk : KeyStep → ℕ → ShelfContent → DeskState → Type 0
+WantsDesk step now shelf desk =
+    (s : Plain) → IsAt (key_of step) shelf desk s → NeedsDesk (key_of step) s (plain s step now)

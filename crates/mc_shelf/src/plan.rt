@@ -1,13 +1,17 @@
 //! What a step does, by the protocol's table and the item that stands under its key.
 
-ghost use Rattle.std.specs.Prelude.{◌≡◌, ℕ, ◌≤◌, List, length, Option, IfOk, OnErr};
+ghost use Rattle.std.specs.Prelude.{◌≡◌, ◌↔◌, ℕ, ◌≤◌, length, true, Option, IfOk, OnErr};
 ghost use Rattle.mc_time.specs.declared.expiry.Expiry.{Expiry as Expires};
+ghost use Rattle.mc_command.specs.declared.step.KeyStep.{KeyStep as Step};
 ghost use Rattle.mc_command.specs.declared.row.Row.TheVariants.{Reads};
 ghost use Rattle.mc_command.specs.Commands.{key_of};
 ghost use Rattle.mc_command.specs.Plain as machine;
 ghost use Rattle.mc_command.specs.Plain.{hit_of, row_of};
+ghost use Rattle.mc_shelf.specs.States.{CanStand, DeskState, ShelfContent};
 ghost use Rattle.mc_shelf.specs.Plans as plans;
 ghost use Rattle.mc_shelf.specs.Plans.{
+  IsPlan,
+  WantsDesk,
   block_in,
   charge_of,
   item_in,
@@ -58,7 +62,10 @@ impl<'a> Plan<'a> {
     /// Answers whether the step needs the desk: it drops an item that is dead or deleted, or writes one, also where no chunk
     /// is left or the unique numbers are spent. No other step does.
     pub fn needs_desk(&self) -> bool
-        ensures { result ≡ wants_desk self.now.next }
+        ensures told { result ≡ wants_desk self.now.next }
+        ensures needed { (shelf : ShelfContent) (desk : DeskState) (step : Step) (now : ℕ) →
+            IsPlan self.now shelf step now → CanStand (key_of step) shelf desk →
+            (result ≡ true) ↔ WantsDesk step now shelf desk }
     {
         match self.next {
             Next::Answer(_) | Next::Expire(..) => false,

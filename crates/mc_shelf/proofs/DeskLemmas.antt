@@ -1,0 +1,147 @@
+-- Which plans need the desk: those of a step that drops an item, writes one, finds no chunk, or finds the numbers spent.
+use Rattle.std.proofs.Common.{◌≡◌, ◌≢◌, ◌⊎◌, ◌↔◌, ℕ, ◌+◌, ◌-◌, ◌≤◌, ◌^◌, Bool, true, false, true≢false, ◌&&◌, List, Option, Some, None, is_some, is_none, eqb, ltb, le-ltb, inl, inr, if◌then◌else◌, refl, sym, ap, subst, ◌∙◌, arith}
+use Rattle.std.proofs.lemmas.Option.{none-some}
+use Rattle.std.specs.FinMap.{get, insert, remove}
+use Rattle.mc_time.specs.declared.expiry.Expiry.{Expiry}
+use Rattle.mc_slab.specs.Classes.{class_holding}
+use Rattle.mc_command.specs.declared.step.KeyStep.{KeyStep}
+use Rattle.mc_command.specs.declared.reply.Reply.{Reply}
+use Rattle.mc_command.specs.declared.reply.Reply.TheVariants.{NoChunk, TooLarge}
+use Rattle.mc_command.specs.declared.row.Row.{Row}
+use Rattle.mc_command.specs.declared.row.Row.TheVariants.{Refuses, Reads, Touches, Deletes, Writes}
+use Rattle.mc_command.specs.declared.row.Refusal.{Refusal}
+use Rattle.mc_command.specs.declared.row.Refusal.TheVariants as refusal
+use Rattle.mc_command.specs.declared.row.Draft.{Draft}
+use Rattle.mc_command.specs.Commands.{key_of}
+use Rattle.mc_command.specs.Plain.{Plain, Entry, Outcome, Answered, Spent, plain, charge, count_of, has_room, hit_of, keeps_chunk, refusal_reply, with_chunk, write_reply, written, wrote}
+use Rattle.mc_command.specs.Laws.{IsOnKey}
+use Rattle.mc_shelf.specs.declared.plan.Next.{Next}
+use Rattle.mc_shelf.specs.declared.plan.Next.TheVariants.{Answer, Expire, Discard, Write}
+use Rattle.mc_shelf.specs.States.{ShelfContent, DeskState, CanStand, IsAt}
+use Rattle.mc_shelf.specs.Plans.{NeedsDesk, WantsDesk, answered, charge_of, is_gone, next_by, next_of, row_at, stood, wants_desk}
+use Rattle.mc_shelf.proofs.KeyLemmas.{get_gone, get_put}
+use Rattle.mc_shelf.proofs.StandLemmas.{base, step_is, with_chunk-plain}
+use Rattle.mc_shelf.proofs.PlanLemmas.{Does, IsDrafted, block_at, found_in, next_does, wrote_at}
+
+-- ---- no step without the desk is told that no chunk is left
+
+refused_apart : (why : Refusal) → refusal_reply why ≡ NoChunk → ⊥
+refused_apart refusal.NotStored e = cc
+refused_apart refusal.Exists e = cc
+refused_apart refusal.NotFound e = cc
+refused_apart refusal.Miss e = cc
+refused_apart refusal.NotNumeric e = cc
+
+hit_apart : (item : Option Entry) → hit_of item ≡ NoChunk → ⊥
+hit_apart None e = cc
+hit_apart (Some old) e = cc
+
+-- the reply of what needs no desk is another
+abbrev Tells : Next → Type 0
+Tells (Answer reply) = reply ≢ NoChunk
+Tells (Expire expiry reply) = reply ≢ NoChunk
+Tells (Discard reply) = Unit {0}
+Tells (Write size draft) = Unit {0}
+
+answered_tells : (dead : Bool) (reply : Reply) → reply ≢ NoChunk → Tells (answered dead reply)
+answered_tells true reply other = tt
+answered_tells false reply other = other
+
+next_tells : (dead : Bool) (greatest : ℕ) (step : KeyStep) (item : Option Entry) (row : Row) → Tells (next_by dead greatest step item row)
+next_tells dead greatest step item (Refuses why) = answered_tells dead (refusal_reply why) (refused_apart why)
+next_tells dead greatest step item (Reads None) = answered_tells dead (hit_of item) (hit_apart item)
+next_tells dead greatest step item (Reads (Some expiry)) = hit_apart item
+next_tells dead greatest step item (Touches expiry) = λ e. cc
+next_tells dead greatest step item Deletes = tt
+next_tells dead greatest step item (Writes draft) =
+    elim (ltb greatest (charge_of step item draft)) as (λ b. Tells (if b then answered dead TooLarge else Write (charge_of step item draft) draft)) [ true ↦ answered_tells dead TooLarge (λ e. cc) | false ↦ tt ]
+
+-- ---- a write
+
+one_more : (n : ℕ) → n + 1 ≢ n
+one_more n e = absurd (omega arith)
+
+module _ (key : List ℕ) (s : Plain) where
+  wrote_needs : (spent keeps room : Bool) (reply : Reply) (t u v : Plain) → u.next_unique ≢ s.next_unique → v.next_unique ≢ s.next_unique
+      → NeedsDesk key s (if spent then Spent else if keeps then Answered reply u else if room then Answered reply v else Answered NoChunk t)
+  wrote_needs true keeps room reply t u v more most = tt
+  wrote_needs false true room reply t u v more most = inl more
+  wrote_needs false false true reply t u v more most = inl most
+  wrote_needs false false false reply t u v more most = inr (inl refl)
+
+-- ---- plans
+
+module _ (shelf : ShelfContent) (desk : DeskState) (step : KeyStep) (now : ℕ) (on : IsOnKey step) (s : Plain) (at : IsAt (key_of step) shelf desk s) where
+  abbrev its_key : List ℕ
+  its_key = key_of step
+
+  does : (next : Next) → next ≡ next_of shelf step now → Does shelf step now s (plain s step now) next
+  does next is = next_does shelf step now desk s on at (plain s step now) (step_is step now shelf desk s on at) next is
+
+  discard_needs : (reply : Reply) → Discard reply ≡ next_of shelf step now → NeedsDesk its_key s (plain s step now)
+  discard_needs reply is =
+      let d = does (Discard reply) is in
+      subst (NeedsDesk its_key s) (sym d.2) (inr (inr ((λ none. none-some d.0 (sym none ∙ at.item ∙ d.1)), get_gone s.items its_key)))
+
+  write_needs : (size : ℕ) (draft : Draft) → Write size draft ≡ next_of shelf step now → NeedsDesk its_key s (plain s step now)
+  write_needs size draft is =
+      let d = does (Write size draft) is in
+      let block = block_at shelf step now draft in
+      let under = found_in shelf step now s in
+      let class = class_holding (charge its_key block) in
+      let fits : ltb s.greatest (charge its_key block) ≡ false = le-ltb s.greatest (charge its_key block) (rw at.greatest (subst (λ (n : ℕ). n ≤ shelf.greatest) d.1.size_is d.1.fits)) in
+      let after : (with_chunk under class).next_unique ≡ s.next_unique = ap (λ (t : Plain). t.next_unique) (with_chunk-plain under class) in
+      subst (NeedsDesk its_key s)
+      (sym (d.0 ∙ ap (λ (b : Bool). if b then Answered TooLarge under else small draft block under) fits))
+      (wrote_needs its_key s (eqb s.next_unique (2 ^ 64 - 1)) (keeps_chunk draft.body its_key (stood shelf step now)) (has_room under class) (write_reply draft.body) under
+      (written under its_key draft.flags draft.expiry block now) (written (with_chunk under class) its_key draft.flags draft.expiry block now) (one_more s.next_unique) (λ e. one_more s.next_unique (ap (λ (n : ℕ). n + 1) (sym after) ∙ e)))
+    where
+      small : Draft → List ℕ → Plain → Outcome
+      small draft block under =
+          if eqb s.next_unique (2 ^ 64 - 1) then Spent
+          else if keeps_chunk draft.body its_key (stood shelf step now) then Answered (write_reply draft.body) (written under its_key draft.flags draft.expiry block now)
+          else if has_room under (class_holding (charge its_key block)) then Answered (write_reply draft.body) (written (with_chunk under (class_holding (charge its_key block))) its_key draft.flags draft.expiry block now)
+          else Answered NoChunk under
+
+  -- where it is wanted, it is needed
+  pub wanted_needs : (next : Next) → next ≡ next_of shelf step now → wants_desk next ≡ true → NeedsDesk its_key s (plain s step now)
+  wanted_needs (Answer reply) is e = absurd (true≢false (sym e))
+  wanted_needs (Expire expiry reply) is e = absurd (true≢false (sym e))
+  wanted_needs (Discard reply) is e = discard_needs reply is
+  wanted_needs (Write size draft) is e = write_needs size draft is
+
+  -- an item that was found is still there
+  still_there : (found st : Option Entry) → get s.items its_key ≡ found → is_some found && is_none st ≡ false → get s.items its_key ≢ None → get (base st its_key s.items) its_key ≡ None → ⊥
+  still_there found (Some item) is gone some none = some none
+  still_there None None is gone some none = some is
+  still_there (Some old) None is gone some none = true≢false gone
+
+  answer_needs_none : (reply : Reply) → Answer reply ≡ next_of shelf step now → NeedsDesk its_key s (plain s step now) → ⊥
+  answer_needs_none reply is needs =
+      let d = does (Answer reply) is in
+      elim (subst (NeedsDesk its_key s) d.0 needs) [
+        | inl more ↦ more refl
+        | inr (inl none) ↦ subst Tells (sym is) (next_tells (is_gone shelf.cut now (get shelf.items its_key)) shelf.greatest step (stood shelf step now) (row_at shelf step now)) none
+        | inr (inr gone) ↦ still_there (get shelf.items its_key) (stood shelf step now) at.item d.1 gone.0 gone.1
+      ]
+
+  expire_needs_none : (expiry : Expiry) (reply : Reply) → Expire expiry reply ≡ next_of shelf step now → NeedsDesk its_key s (plain s step now) → ⊥
+  expire_needs_none expiry reply is needs =
+      let d = does (Expire expiry reply) is in
+      elim (subst (NeedsDesk its_key s) d.2 needs) [
+        | inl more ↦ more refl
+        | inr (inl none) ↦ subst Tells (sym is) (next_tells (is_gone shelf.cut now (get shelf.items its_key)) shelf.greatest step (stood shelf step now) (row_at shelf step now)) none
+        | inr (inr gone) ↦ none-some (record d.0 { expiry = expiry }) (sym gone.1 ∙ get_put s.items its_key (record d.0 { expiry = expiry }))
+      ]
+
+  -- where it is needed, it is wanted
+  pub needs_wanted : (next : Next) → next ≡ next_of shelf step now → NeedsDesk its_key s (plain s step now) → wants_desk next ≡ true
+  needs_wanted (Answer reply) is needs = absurd (answer_needs_none reply is needs)
+  needs_wanted (Expire expiry reply) is needs = absurd (expire_needs_none expiry reply is needs)
+  needs_wanted (Discard reply) is needs = refl
+  needs_wanted (Write size draft) is needs = refl
+
+-- the desk is wanted exactly where each plain state needs it
+pub wanted_exactly : (shelf : ShelfContent) (desk : DeskState) (step : KeyStep) (now : ℕ) → IsOnKey step → CanStand (key_of step) shelf desk → (next : Next) → next ≡ next_of shelf step now → (wants_desk next ≡ true) ↔ WantsDesk step now shelf desk
+wanted_exactly shelf desk step now on can next is =
+    ((λ wants s at. wanted_needs shelf desk step now on s at next is wants), (λ needs. needs_wanted shelf desk step now on can.plain can.stands next is (needs can.plain can.stands)))
