@@ -10,3 +10,4 @@ pub mod TakesLemmas
 pub mod RefusalLemmas
 pub mod SweepLemmas
 pub mod DeskLemmas
+pub mod AloneLemmas
