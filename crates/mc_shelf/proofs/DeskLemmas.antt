@@ -1,7 +1,7 @@
 -- Which plans need the desk: those of a step that drops an item, writes one, finds no chunk, or finds the numbers spent.
-use Rattle.std.proofs.Common.{◌≡◌, ◌≢◌, ◌⊎◌, ◌↔◌, ℕ, ◌+◌, ◌-◌, ◌≤◌, ◌^◌, Bool, true, false, true≢false, ◌&&◌, List, Option, Some, None, is_some, is_none, eqb, ltb, le-ltb, inl, inr, if◌then◌else◌, refl, sym, ap, subst, ◌∙◌, arith}
+use Rattle.std.proofs.Common.{◌≡◌, ◌≢◌, ◌↔◌, ℕ, ◌+◌, ◌-◌, ◌≤◌, ◌^◌, Bool, true, false, true≢false, ◌&&◌, List, Option, Some, None, is_some, is_none, eqb, ltb, le-ltb, inl, inr, if◌then◌else◌, refl, sym, ap, subst, ◌∙◌, arith}
 use Rattle.std.proofs.lemmas.Option.{none-some}
-use Rattle.std.specs.FinMap.{get, insert, remove}
+use Rattle.std.specs.FinMap.{get}
 use Rattle.mc_time.specs.declared.expiry.Expiry.{Expiry}
 use Rattle.mc_slab.specs.Classes.{class_holding}
 use Rattle.mc_command.specs.declared.step.KeyStep.{KeyStep}
@@ -13,7 +13,7 @@ use Rattle.mc_command.specs.declared.row.Refusal.{Refusal}
 use Rattle.mc_command.specs.declared.row.Refusal.TheVariants as refusal
 use Rattle.mc_command.specs.declared.row.Draft.{Draft}
 use Rattle.mc_command.specs.Commands.{key_of}
-use Rattle.mc_command.specs.Plain.{Plain, Entry, Outcome, Answered, Spent, plain, charge, count_of, has_room, hit_of, keeps_chunk, refusal_reply, with_chunk, write_reply, written, wrote}
+use Rattle.mc_command.specs.Plain.{Plain, Entry, Outcome, Answered, Spent, plain, charge, has_room, hit_of, keeps_chunk, refusal_reply, with_chunk, write_reply, written}
 use Rattle.mc_command.specs.Laws.{IsOnKey}
 use Rattle.mc_shelf.specs.declared.plan.Next.{Next}
 use Rattle.mc_shelf.specs.declared.plan.Next.TheVariants.{Answer, Expire, Discard, Write}
@@ -21,7 +21,7 @@ use Rattle.mc_shelf.specs.States.{ShelfContent, DeskState, CanStand, IsAt}
 use Rattle.mc_shelf.specs.Plans.{NeedsDesk, WantsDesk, answered, charge_of, is_gone, next_by, next_of, row_at, stood, wants_desk}
 use Rattle.mc_shelf.proofs.KeyLemmas.{get_gone, get_put}
 use Rattle.mc_shelf.proofs.StandLemmas.{base, step_is, with_chunk-plain}
-use Rattle.mc_shelf.proofs.PlanLemmas.{Does, IsDrafted, block_at, found_in, next_does, wrote_at}
+use Rattle.mc_shelf.proofs.PlanLemmas.{Does, block_at, found_in, next_does}
 
 -- ---- no step without the desk is told that no chunk is left
 

@@ -1,5 +1,5 @@
 -- Finite maps under keys: what an edit leaves under its key and under the others.
-use Rattle.std.proofs.Common.{◌≡◌, ◌≢◌, ℕ, Bool, true, false, cond, List, Option, Some, None, Less, Equal, Greater, is_eq, refl, ap, ◌∙◌}
+use Rattle.std.proofs.Common.{◌≡◌, ◌≢◌, ℕ, false, cond, List, Some, None, Less, Equal, Greater, is_eq, refl, ap, ◌∙◌}
 use Rattle.std.specs.Cmp.{tied_itself}
 use Rattle.std.specs.Cmp.Lexicographic.{nat_list_cmp_total}
 use Rattle.mc_shelf.proofs.IndexLemmas.{order, same_key}

@@ -13,3 +13,4 @@ pub mod PartLemmas
 pub mod FlushLemmas
 pub mod StoreLemmas
 pub mod DeskLemmas
+pub mod AloneLemmas

@@ -1,5 +1,5 @@
 -- What the plan of a step says of the plain machine at the key.
-use Rattle.std.proofs.Common.{◌≡◌, ◌≢◌, ℕ, ◌+◌, ◌-◌, ◌<◌, ◌≤◌, ◌^◌, Bool, true, false, ◌&&◌, List, [], ◌++◌, length, append-nil, Option, Some, None, is_some, is_none, eqb, ltb, if◌then◌else◌, refl, sym, ap, subst, ◌∙◌, arith, eq-eqb, ltb-true, ltb-false, true≢false}
+use Rattle.std.proofs.Common.{◌≡◌, ℕ, ◌≤◌, Bool, true, false, ◌&&◌, List, append-nil, Option, Some, None, is_some, is_none, eqb, ltb, if◌then◌else◌, refl, sym, ap, subst, ◌∙◌, ltb-true, ltb-false, true≢false}
 use Rattle.std.specs.FinMap.{get, insert, remove}
 use Rattle.mc_time.specs.declared.expiry.Expiry.{Expiry}
 use Rattle.mc_time.specs.Death.{is_dead}
@@ -22,7 +22,7 @@ use Rattle.mc_shelf.specs.declared.plan.Next.{Next}
 use Rattle.mc_shelf.specs.declared.plan.Next.TheVariants.{Answer, Expire, Discard, Write}
 use Rattle.mc_shelf.specs.States.{ShelfContent, DeskState, IsAt}
 use Rattle.mc_shelf.specs.Plans.{answered, block_in, charge_of, is_gone, made_block, next_by, next_of, row_at, stood}
-use Rattle.mc_shelf.proofs.StandLemmas.{base, step_is, wrote_too_large}
+use Rattle.mc_shelf.proofs.StandLemmas.{base, wrote_too_large}
 
 -- ---- the item that a row speaks of
 

@@ -3,7 +3,7 @@ use Rattle.std.proofs.lemmas.Bool.{cases_lt, le-leb}
 use Rattle.std.proofs.lemmas.List.Sums.{fails_before_first}
 use Rattle.std.specs.List.{position_or_len}
 use Rattle.mc_slab.proofs.ClassLemmas.{size_of-last}
-use Rattle.std.proofs.Common.{◌≡◌, ◌≢◌, ℕ, ◌+◌, ◌-◌, ◌<◌, ◌≤◌, ◌^◌, Bool, true, false, true≢false, ◌||◌, List, Option, Some, None, Result, Ok, Err, IfOk, inl, inr, leb, eqb, ltb, lt-ltb, refl, sym, ap, subst, ◌∙◌, arith}
+use Rattle.std.proofs.Common.{◌≡◌, ◌≢◌, ℕ, ◌+◌, ◌-◌, ◌≤◌, ◌^◌, Bool, true, false, true≢false, ◌||◌, List, Option, Some, None, Result, Ok, Err, IfOk, inl, inr, leb, ltb, lt-ltb, refl, sym, ap, subst, ◌∙◌, arith}
 use Rattle.std.specs.FinMap.{get, remove}
 use Rattle.mc_slab.specs.Classes.{IsClass, chunk_sizes, class_holding}
 use Rattle.mc_slab.specs.Slabs as slabs
@@ -17,16 +17,16 @@ use Rattle.mc_command.specs.declared.row.Body.{Body}
 use Rattle.mc_command.specs.declared.row.Body.TheVariants.{Given, Appended, Prepended, Counted}
 use Rattle.mc_command.specs.declared.row.Draft.{Draft}
 use Rattle.mc_command.specs.Commands.{key_of}
-use Rattle.mc_command.specs.Plain.{Plain, Entry, Answered, Spent, CopiesBlock, MayFail, plain, changed, charge, count_of, has_room, hit_of, keeps_chunk, perhaps_expiring, with_chunk, write_reply, written, wrote}
+use Rattle.mc_command.specs.Plain.{Plain, Entry, Answered, Spent, CopiesBlock, MayFail, plain, changed, charge, count_of, has_room, hit_of, keeps_chunk, write_reply, wrote}
 use Rattle.mc_command.specs.Laws.{IsOnKey, of_class}
 use Rattle.mc_shelf.specs.declared.plan.Next.{Next}
 use Rattle.mc_shelf.specs.declared.plan.Next.TheVariants.{Answer, Expire, Discard, Write}
 use Rattle.mc_command.specs.declared.step.StepFault.{StepFault}
 use Rattle.mc_command.specs.declared.step.StepFault.TheVariants.{NoMemory, NumbersSpent}
 use Rattle.mc_shelf.specs.States.{ShelfContent, DeskState, CanStand, IsAt}
-use Rattle.mc_shelf.specs.Plans.{CanWrite, IsSpent, IsTaken, MayWantMemory, NeedsPage, WantsPage, has_no_number, next_of, row_at, stood, writes}
+use Rattle.mc_shelf.specs.Plans.{CanWrite, IsSpent, IsTaken, MayWantMemory, NeedsPage, WantsPage, next_of, row_at, stood, writes}
 use Rattle.mc_shelf.proofs.StandLemmas.{RemoveCounts, base, room_not_full, room_some, step_is, wrote_kept, wrote_taken}
-use Rattle.mc_shelf.proofs.PlanLemmas.{SpeaksOf, block_at, found_in, row_speaks, wrote_at}
+use Rattle.mc_shelf.proofs.PlanLemmas.{SpeaksOf, block_at, found_in, row_speaks}
 use Rattle.mc_shelf.proofs.TakesLemmas.{drafts, wrote_is}
 use Rattle.mc_shelf.proofs.StandLemmas.{InsertCounts}
 

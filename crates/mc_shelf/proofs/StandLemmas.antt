@@ -1,5 +1,5 @@
 -- What a change of the key's item makes of a plain state that stands for a shelf and a desk.
-use Rattle.std.proofs.Common.{◌≡◌, ◌≢◌, ℕ, ◌+◌, ◌-◌, ◌*◌, ◌<◌, ◌≤◌, ◌^◌, ◌||◌, Bool, true, false, ltb, ltb-false, List, length, get_or, set, sum, Option, Some, None, Less, Equal, Greater, is_eq, eqb, if◌then◌else◌, refl, sym, ap, ◌∙◌, arith, get_or-set_same, get_or-set_other, length-set, lt-ltb, le-ltb, eq-eqb, ne_eqb, eqb-true, true≢false, inl, inr}
+use Rattle.std.proofs.Common.{◌≡◌, ◌≢◌, ℕ, ◌+◌, ◌-◌, ◌*◌, ◌<◌, ◌≤◌, ◌^◌, ◌||◌, Bool, true, false, ltb, ltb-false, List, length, get_or, set, sum, Option, Some, None, eqb, if◌then◌else◌, refl, sym, ap, ◌∙◌, arith, get_or-set_same, get_or-set_other, length-set, lt-ltb, le-ltb, eq-eqb, ne_eqb, eqb-true, true≢false, inl, inr}
 use Rattle.std.proofs.lemmas.Bool.{cases_lt}
 use Rattle.std.specs.FinMap.{get, insert, remove}
 use Rattle.mc_time.specs.declared.expiry.Expiry.{Expiry}

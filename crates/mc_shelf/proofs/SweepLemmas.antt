@@ -1,11 +1,10 @@
 -- What a sweep over an index drops of a shelf, and gives back to a desk.
-use Rattle.std.proofs.Common.{◌≡◌, ◌≢◌, ℕ, ◌+◌, ◌-◌, ◌<◌, ◌≤◌, Bool, true, false, cond, List, Option, Some, None, is_some, is_none, refl, sym, ap, subst, ◌∙◌, arith, eq-eqb, if◌then◌else◌, inl, inr, Less, Equal, Greater}
+use Rattle.std.proofs.Common.{◌≡◌, ◌≢◌, ℕ, ◌+◌, ◌-◌, ◌<◌, ◌≤◌, true, false, cond, List, Option, Some, None, is_some, is_none, refl, sym, ap, subst, ◌∙◌, arith, eq-eqb, if◌then◌else◌, inl, inr, Less, Equal, Greater}
 use Rattle.std.proofs.lemmas.Bool.{cases_lt}
 use Rattle.std.proofs.lemmas.Option.{same_Some, none-some}
 use Rattle.std.specs.Borrow.{Bor}
 use Rattle.std.specs.Option.{option_copied}
 use Rattle.std.specs.Ordering.{is_eq}
-use Rattle.std.specs.FinMap as maps
 use Rattle.std.specs.FinMap.{empty, get, get-empty, get-remove, get-retain_keys, remove, same_map}
 use Rattle.std.specs.Cmp.Lexicographic.{nat_list_cmp_total}
 use Rattle.mc_time.specs.Death.{is_dead}
@@ -18,7 +17,7 @@ use Rattle.mc_shelf.specs.States.{EntryState, Hashes, IndexState, ShelfContent, 
 use Rattle.mc_shelf.specs.declared.index.Place.{Place}
 use Rattle.mc_shelf.specs.Places.{entry_at, hashes_of, items_of, numbered, IsFirstFrom, IsNext, IsPlaceOf, IsRemoved, KeepsLower}
 use Rattle.mc_shelf.specs.Plans.{is_gone, item_in}
-use Rattle.mc_shelf.specs.Sweeps.{AreOut, GivesFor, IsPurged}
+use Rattle.mc_shelf.specs.Sweeps.{GivesFor, IsPurged}
 use Rattle.mc_shelf.proofs.IndexLemmas.{order, same_key}
 use Rattle.mc_shelf.proofs.PlaceLemmas.{hash_absent, item_there, numbers_all}
 use Rattle.mc_shelf.proofs.KeyLemmas.{get_gone, get_gone_other}

@@ -1,5 +1,5 @@
 -- What a shelf and a desk make of a plan is what the plain machine makes of the step.
-use Rattle.std.proofs.Common.{◌≡◌, ◌≢◌, ℕ, ◌+◌, ◌-◌, ◌<◌, ◌≤◌, ◌^◌, Bool, true, false, ◌&&◌, ◌||◌, List, [], length, decimal, Option, Some, None, is_some, is_none, eqb, eqb-true, leb, if◌then◌else◌, refl, sym, ap, subst, ◌∙◌, arith, eq-eqb, true≢false}
+use Rattle.std.proofs.Common.{◌≡◌, ◌≢◌, ℕ, ◌+◌, ◌-◌, ◌≤◌, ◌^◌, Bool, true, false, ◌&&◌, ◌||◌, List, [], decimal, Option, Some, None, is_some, is_none, eqb, eqb-true, leb, if◌then◌else◌, refl, sym, ap, subst, ◌∙◌, arith, eq-eqb, true≢false}
 use Rattle.std.proofs.lemmas.Option.{same_Some, none-some}
 use Rattle.std.specs.FinMap.{empty, get, insert, remove}
 use Rattle.mc_time.specs.declared.expiry.Expiry.{Expiry}
@@ -20,7 +20,7 @@ use Rattle.mc_command.specs.Laws.{IsOnKey, of_class}
 use Rattle.mc_shelf.specs.declared.plan.Next.{Next}
 use Rattle.mc_shelf.specs.declared.plan.Next.TheVariants.{Answer, Expire, Discard, Write}
 use Rattle.mc_shelf.specs.States.{ShelfContent, DeskState, CanStand, IsAt, IsHash}
-use Rattle.mc_shelf.specs.Plans.{GivesBack, GivesOne, IsDropped, IsOut, IsPut, IsSpent, IsTaken, OthersStay, Takes, block_beside, block_in, counts, drafted, has_class, is_gone, next_of, own_block, reuses, row_at, stood}
+use Rattle.mc_shelf.specs.Plans.{GivesBack, GivesOne, IsDropped, IsOut, IsPut, IsSpent, OthersStay, Takes, block_beside, counts, drafted, has_class, is_gone, next_of, own_block, reuses, row_at, stood}
 use Rattle.mc_shelf.proofs.StandLemmas.{InsertCounts, RemoveCounts, base, step_is, at_none, at_dropped, at_put_again, at_wrote, bump, full_of, limit-taken, out-given, out-taken, out_some, pages_after, pages-taken, room_free, room_none, room_not_full, room_some, wrote_full, wrote_kept, wrote_spent}
 use Rattle.mc_shelf.proofs.PlanLemmas.{Does, IsDrafted, alive_found, block_at, dead_found, found_in, made_beside, next_does, row_does, row_speaks, wrote_at}
 

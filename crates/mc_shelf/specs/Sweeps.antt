@@ -1,10 +1,10 @@
 -- What a purge and a flush make of a shelf.
-use Rattle.std.specs.Prelude.{◌≡◌, ℕ, ◌+◌, ◌≤◌, List, Option, Some, None, is_some, if◌then◌else◌}
+use Rattle.std.specs.Prelude.{◌≡◌, ℕ, ◌+◌, ◌≤◌, List, None, is_some, if◌then◌else◌}
 use Rattle.std.specs.FinMap.{get}
 use Rattle.mc_slab.specs.Classes.{IsClass}
 use Rattle.mc_slab.specs.Slabs.{out_of}
-use Rattle.mc_command.specs.Plain.{Items, Entry, count_of, living}
-use Rattle.mc_shelf.specs.States.{ShelfContent, DeskState}
+use Rattle.mc_command.specs.Plain.{Items, count_of, living}
+use Rattle.mc_shelf.specs.States.{ShelfContent, DeskState, IsHash}
 
 -- the shelf's items lie in chunks that are out
 abbrev pub AreOut : ShelfContent → DeskState → Type 0
@@ -27,3 +27,7 @@ pub record IsPurged (now : ℕ) (old new : ShelfContent) : Type 0 where
 -- the chunks of the desk that are out are those of the shelf's items
 abbrev pub IsAlone : ShelfContent → DeskState → Type 0
 IsAlone shelf desk = (class : ℕ) → IsClass class → out_of desk.slab class ≡ count_of shelf.items class
+
+-- each key of the shelf has this one hash
+abbrev pub HasOneHash : ShelfContent → (hash : ℕ) → Type 0
+HasOneHash shelf hash = (key : List ℕ) → IsHash shelf key hash

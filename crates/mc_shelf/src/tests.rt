@@ -1,10 +1,12 @@
-//! Keys of a shelf, over a desk of one page: the replies of the protocol, and what a purge, a flush and a cut leave. Where an
-//! allocation is refused the shelf and the desk are as they were, and take the step when they are asked again.
+//! Keys of a shelf, over a desk of one page: the replies of the protocol, and what a purge, a flush
+//! and a cut leave. Where an allocation is refused the shelf holds what it held, the desk is as it
+//! was, and they take the step when they are asked again.
 
-ghost use Rattle.std.specs.Prelude.{◌≡◌, [], ◌∷◌, IfOk};
+ghost use Rattle.std.specs.Prelude.{◌≡◌, IfOk};
 ghost use Rattle.mc_command.specs.Commands.{key_of};
 ghost use Rattle.mc_command.specs.Laws.{IsOnKey};
 ghost use Rattle.mc_slab.specs.Slabs.{untouched};
+ghost use Rattle.mc_shelf.specs.States.{nothing_held};
 
 use super::*;
 use mc_command::{Bytes, KeyStep, Reply, StepFault, Verb, counts_follow, other_keys_stay};
@@ -96,7 +98,16 @@ fn told(reply: &Reply) -> &'static str {
     }
 }
 
-/// A shelf that has a desk of its own.
+/// Tells what came of a step.
+fn told_of(taken: &Result<Reply, StepFault>) -> &'static str {
+    match taken {
+        Ok(reply) => told(reply),
+        Err(StepFault::NumbersSpent) => "spent",
+        Err(StepFault::NoMemory) => "no memory",
+    }
+}
+
+/// A shelf that has a desk of its own, and one hash for all its keys.
 #[derive(Drop)]
 struct Alone {
     shelf: Shelf,
@@ -106,7 +117,7 @@ struct Alone {
 impl Model for Alone {
     ghost use Rattle.std.specs.Coded.{coded×};
     ghost use Rattle.mc_shelf.specs.States.{ShelfState, DeskState, coded_shelf, coded_desk};
-    ghost use Rattle.mc_shelf.specs.Sweeps.{IsAlone};
+    ghost use Rattle.mc_shelf.specs.Sweeps.{HasOneHash, IsAlone};
 
     ghost Value = { ShelfState × DeskState };
 
@@ -114,18 +125,27 @@ impl Model for Alone {
 
     ghost view = { λ a. (a.shelf, a.desk) };
 
-    ghost invariant = { λ a. IsAlone a.shelf a.desk };
+    ghost invariant = { λ a. IsAlone a.shelf.content a.desk × HasOneHash a.shelf.content 1 };
 }
 
 impl Alone {
-    /// A shelf of no items, and a desk of one page.
+    /// Makes a shelf of no items, and a desk of one page.
     fn open(alloc: Global) -> Result<Alone, AllocError> {
+        Alone::over(alloc, desk_of(alloc)?)
+    }
+
+    /// Makes a shelf of no items over a desk that has one number left.
+    fn near_the_last(alloc: Global) -> Result<Alone, AllocError> {
+        Alone::over(alloc, last_desk_of(alloc)?)
+    }
+
+    /// Makes a shelf of no items over a desk of which nothing was taken.
+    fn over(alloc: Global, desk: Desk) -> Result<Alone, AllocError>
+        requires { desk.slab ≡ untouched 1 }
+    {
         counts_follow();
-        let desk = desk_of(alloc)?;
-        Ok(Alone {
-            shelf: Shelf::new(alloc, 1048576),
-            desk,
-        })
+        let shelf = shelf_of(alloc)?;
+        Ok(Alone { shelf, desk })
     }
 
     /// Takes a step, again where it is refused memory.
@@ -171,12 +191,32 @@ impl Alone {
     }
 }
 
-/// A desk of one page, asked for again where memory is refused.
+/// Makes a shelf of no items, asked for again where memory is refused.
+fn shelf_of(alloc: Global) -> Result<Shelf, AllocError>
+    ensures { IfOk result (λ shelf. shelf.content ≡ nothing_held 1048576) }
+{
+    match Shelf::new(alloc, 1048576) {
+        Err(_) => Shelf::new(alloc, 1048576),
+        made => made,
+    }
+}
+
+/// Makes a desk of one page, asked for again where memory is refused.
 fn desk_of(alloc: Global) -> Result<Desk, AllocError>
-    ensures { IfOk result (λ desk. desk ≡ record { slab = untouched 1; next_unique = 1 }) }
+    ensures { IfOk result (λ desk. desk.slab ≡ untouched 1) }
 {
     match Desk::new(alloc, 1) {
         Err(_) => Desk::new(alloc, 1),
+        made => made,
+    }
+}
+
+/// Makes a desk of one page that has one number left, asked for again where memory is refused.
+fn last_desk_of(alloc: Global) -> Result<Desk, AllocError>
+    ensures { IfOk result (λ desk. desk.slab ≡ untouched 1) }
+{
+    match Desk::near_the_last(alloc, 1) {
+        Err(_) => Desk::near_the_last(alloc, 1),
         made => made,
     }
 }
@@ -286,6 +326,53 @@ fn a_cut_ends_what_was_updated_before(rt: HostRuntime) -> Result<(), Fail> {
     alone.purge(1005);
     assert!(rt; alone.out() == 1, "{} are out", alone.out());
     tell(&rt, alloc, &mut alone, &[at(1006, b'a', Ask::Get, "hit")])
+}
+
+/// The one number that is left is drawn, and then each write is told that the numbers are spent, a
+/// new key's too and whatever memory there is. A step that draws none goes on.
+#[test]
+fn spent_numbers_are_told(rt: HostRuntime) -> Result<(), Fail> {
+    let alloc = rt.alloc();
+    let mut alone = Alone::near_the_last(alloc)?;
+    let turns = [at(1000, b'k', Ask::Store(Verb::Set, b"1"), "stored")];
+    tell(&rt, alloc, &mut alone, &turns)?;
+    let spent = [
+        at(1000, b'k', Ask::Store(Verb::Set, b"2"), "spent"),
+        at(1000, b'n', Ask::Store(Verb::Set, b"2"), "spent"),
+        at(1000, b'k', Ask::Incr(14), "spent"),
+    ];
+    for turn in spent {
+        let told = told_of(&alone.take_once(alloc, turn));
+        assert!(rt; told == turn.want, "{told}");
+    }
+    let turns = [
+        at(1000, b'k', Ask::Get, "hit"),
+        at(1000, b'n', Ask::Get, "miss"),
+        at(1000, b'k', Ask::Delete, "deleted"),
+    ];
+    tell(&rt, alloc, &mut alone, &turns)
+}
+
+/// A write that finds no chunk is told so at once, a new key's too and whatever memory there is.
+#[test]
+fn a_chunk_that_is_not_left_is_told(rt: HostRuntime) -> Result<(), Fail> {
+    let alloc = rt.alloc();
+    let mut alone = Alone::open(alloc)?;
+    let long = b"9                                                           ";
+    tell(
+        &rt,
+        alloc,
+        &mut alone,
+        &[at(1000, b'k', Ask::Store(Verb::Set, long), "stored")],
+    )?;
+    for turn in [
+        at(1000, b'k', Ask::Incr(6), "no chunk"),
+        at(1000, b'n', Ask::Store(Verb::Set, b"2"), "no chunk"),
+    ] {
+        let told = told_of(&alone.take_once(alloc, turn));
+        assert!(rt; told == turn.want, "{told}");
+    }
+    Ok(())
 }
 
 #[test]

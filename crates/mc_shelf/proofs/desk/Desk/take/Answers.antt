@@ -1,5 +1,4 @@
-use Rattle.std.proofs.Common.{◌≡◌, ◌⊎◌, inl, inr, ◌<◌, ℕ, Err, IfErr, OnErr, true, refl, sym, ap, subst, ◌∙◌}
-use Rattle.mc_slab.specs.declared.slab.TakeFault.{TakeFault}
+use Rattle.std.proofs.Common.{◌≡◌, ◌⊎◌, inl, inr, Err, IfErr, OnErr, true, sym, ap, subst, ◌∙◌}
 use Rattle.mc_slab.specs.declared.slab.TakeFault.TheVariants.{Full, NoMemory}
 use Rattle.mc_slab.specs.Slabs.{SlabState, out_of, pages_of, has_room}
 use Rattle.mc_shelf.specs.Plans.{WantsPage}

@@ -1,4 +1,4 @@
-use Rattle.std.proofs.Common.{◌≡◌, ◌+◌, ◌≤◌, length, length-append, arith, refl, sym, subst, ◌∙◌}
+use Rattle.std.proofs.Common.{◌≡◌, ◌≤◌, length-append, arith, refl, sym, subst, ◌∙◌}
 use Rattle.mc_slab.specs.Classes.{IsClass, size_of}
 use Rattle.mc_item.specs.Items.{charge_of}
 use Rattle.mc_command.specs.Plain.{item_class}

@@ -1,7 +1,6 @@
-use Rattle.std.proofs.Common.{◌≡◌, List, ℕ, refl, sym, ap, subst, ◌∙◌}
-use Rattle.mc_slab.specs.Classes.{class_holding}
+use Rattle.std.proofs.Common.{List, ℕ, refl, sym, ap, ◌∙◌}
 use Rattle.mc_command.specs.Plain.{Entry, item_class}
-use Rattle.mc_shelf.specs.States.{EntryState, charge_in, entry_in}
+use Rattle.mc_shelf.specs.States.{EntryState, entry_in}
 use Rattle.mc_shelf.proofs.IndexLemmas.{read_there, edited_order, edited}
 use Rattle.mc_shelf.proofs.index.Index.rewrite.Goals as goal
 

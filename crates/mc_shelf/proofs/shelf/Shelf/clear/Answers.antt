@@ -1,8 +1,7 @@
-use Rattle.std.proofs.Common.{◌≡◌, ◌≤◌, ◌+◌, ◌<◌, ℕ, Some, arith, sym, ap, subst, ◌∙◌}
-use Rattle.mc_command.specs.Plain.{Items}
-use Rattle.mc_shelf.specs.States.{ShelfContent, ShelfState}
+use Rattle.std.proofs.Common.{arith, ap, subst, ◌∙◌}
+use Rattle.mc_shelf.specs.States.{ShelfState}
 use Rattle.mc_shelf.specs.Places.{items_of}
-use Rattle.mc_shelf.specs.Sweeps.{AreOut, GivesFor}
+use Rattle.mc_shelf.specs.Sweeps.{GivesFor}
 use Rattle.mc_shelf.proofs.SweepLemmas.{IsNone, below_removed, cleared, entry_gives, entry_out, gives_both, gives_none, out_after}
 use Rattle.mc_shelf.proofs.shelf.Shelf.clear.Goals as goal
 

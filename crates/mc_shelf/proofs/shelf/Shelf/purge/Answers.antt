@@ -1,7 +1,5 @@
-use Rattle.std.proofs.Common.{◌≡◌, ◌≤◌, ◌+◌, ◌<◌, ℕ, Some, arith, true, sym, ap, subst, ◌∙◌}
-use Rattle.mc_slab.specs.Classes.{IsClass}
+use Rattle.std.proofs.Common.{arith, sym, ap, subst, ◌∙◌}
 use Rattle.mc_shelf.specs.States.{ShelfContent, ShelfState}
-use Rattle.mc_shelf.specs.Sweeps.{AreOut}
 use Rattle.mc_shelf.proofs.ShelfLemmas.{content_of}
 use Rattle.mc_shelf.proofs.SweepLemmas.{IsAlive, Swept, alive_here, below_next, below_removed, entry_out, gone_here, out_after, purged, swept_both, swept_none, swept_one}
 use Rattle.mc_shelf.proofs.shelf.Shelf.purge.Goals as goal

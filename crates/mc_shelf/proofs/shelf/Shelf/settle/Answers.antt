@@ -2,7 +2,6 @@ use Rattle.std.proofs.Common.{◌≡◌, List, ℕ, Some, sym, ap, subst, ◌∙
 use Rattle.std.specs.FinMap.{get}
 use Rattle.mc_command.specs.Commands.{key_of}
 use Rattle.mc_command.specs.Plain.{Entry}
-use Rattle.mc_shelf.specs.States.{ShelfState}
 use Rattle.mc_shelf.specs.Plans.{IsPut}
 use Rattle.mc_shelf.proofs.TakesLemmas.{expired_is, others_same, takes_answer, takes_expire}
 use Rattle.mc_shelf.proofs.shelf.Shelf.settle.Goals as goal

@@ -1,10 +1,10 @@
-use Rattle.std.proofs.Common.{◌≡◌, ◌≢◌, ◌+◌, ◌-◌, ◌^◌, ◌≤◌, List, ℕ, Some, true, false, arith, length, refl, sym, ap, subst, ◌∙◌}
+use Rattle.std.proofs.Common.{◌≡◌, ◌≢◌, ◌+◌, ◌-◌, ◌^◌, ◌≤◌, List, ℕ, true, false, arith, length, refl, sym, ap, subst, ◌∙◌}
 use Rattle.std.specs.FinMap.{get}
-use Rattle.mc_slab.specs.Classes.{IsClass, class_holding, size_of}
+use Rattle.mc_slab.specs.Classes.{class_holding}
 use Rattle.mc_slab.specs.Slabs.{taken}
 use Rattle.mc_command.specs.declared.reply.Reply.{Reply}
 use Rattle.mc_command.specs.Commands.{key_of}
-use Rattle.mc_command.specs.Plain.{Entry, block_of, charge, write_reply}
+use Rattle.mc_command.specs.Plain.{block_of, write_reply}
 use Rattle.mc_shelf.specs.States.{DeskState, ShelfState}
 use Rattle.mc_shelf.specs.Plans.{GivesBack, IsDropped, IsOut, IsPut, Takes, block_beside, drafted, is_gone, own_block, reuses}
 use Rattle.mc_shelf.proofs.TakesLemmas.{beside_is, charge_beside, class_own, class_some, drafts, is_out, is_out_taken, others_full, own_is, reused_is, takes_again, takes_anew, takes_full}

@@ -1,6 +1,5 @@
 use Rattle.std.proofs.Common.{◌≡◌, ◌≤◌, List, ℕ, length, sym, ap, subst, ◌∙◌}
 use Rattle.mc_slab.specs.Classes.{class_holding}
-use Rattle.mc_slab.specs.Chunks.{chunk_class}
 use Rattle.mc_command.specs.declared.row.Body.{Body}
 use Rattle.mc_command.specs.declared.row.Body.TheVariants.{Given, Appended, Prepended}
 use Rattle.mc_command.specs.Plain.{charge}
