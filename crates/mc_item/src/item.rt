@@ -107,8 +107,13 @@ impl Item {
             key_length: parts.key.len() as u64,
             block_length: (parts.first.len() + parts.second.len()) as u64,
         };
-        let bytes = self.chunk.bytes_mut();
-        write_item(bytes, header, parts.key, parts.first, parts.second);
+        write_item(
+            self.chunk.bytes_mut(),
+            header,
+            parts.key,
+            parts.first,
+            parts.second,
+        );
     }
 
     /// Its key, from 0 to 250 bytes.

@@ -20,4 +20,3 @@ get_put_other items key other item apart = get-insert nat_list_cmp_total items k
 
 pub get_gone_other : {X : Type 0} (items : FinMap order X) (key other : List ℕ) → other ≢ key → get (remove items key) other ≡ get items other
 get_gone_other items key other apart = get-remove nat_list_cmp_total items key other ∙ ap (λ b. cond b None (get items other)) (other_key key other apart)
-

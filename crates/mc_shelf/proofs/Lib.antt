@@ -8,6 +8,7 @@ pub mod StandLemmas
 pub mod PlanLemmas
 pub mod TakesLemmas
 pub mod RefusalLemmas
+pub mod SweepLemmas
 pub mod AloneLemmas
 pub mod PartLemmas
 pub mod FlushLemmas

@@ -146,7 +146,7 @@ module _ (insert_counts : InsertCounts) (remove_counts : RemoveCounts) (step : K
   drafted_is : IsDrafted shelf step now size draft
   drafted_is = drafts shelf step now size draft next
 
-  wrote_is : (s : Plain) → IsAt its_key shelf desk s → plain s step now ≡ wrote_at shelf step now draft s
+  pub wrote_is : (s : Plain) → IsAt its_key shelf desk s → plain s step now ≡ wrote_at shelf step now draft s
   wrote_is s at = (does_at insert_counts remove_counts step now shelf desk on (Write size draft) next s at).0
 
   fits_plain : (s : Plain) → IsAt its_key shelf desk s → charge its_key block ≤ s.greatest
@@ -306,13 +306,21 @@ module _ (insert_counts : InsertCounts) (remove_counts : RemoveCounts) (step : K
     -- what is out after a chunk was taken, and the old item's given back
     outs_after : IsSlab desk.slab → IsClass class → (f : Option Entry) (n : ℕ) (desk' : DeskState) → GivesBack its_key f (record { slab = taken desk.slab class; next_unique = n }) desk'
         → (desk'.next_unique ≡ n) × (desk'.slab.limit ≡ desk.slab.limit) × (desk'.slab.pages ≡ (taken desk.slab class).pages) × ((other : ℕ) → IsClass other → out_of desk'.slab other ≡ out_of (taken desk.slab class) other - of_class its_key f other)
-    outs_after is is_class None n desk' back = (ap (λ (d : DeskState). d.next_unique) back, ap (λ (d : DeskState). d.slab.limit) back ∙ limit-taken desk.slab class is_class, ap (λ (d : DeskState). d.slab.pages) back,
-        λ other is_other. ap (λ (d : DeskState). out_of d.slab other) back ∙ sym (less (out_of (taken desk.slab class) other)))
+    outs_after is is_class None n desk' back = (
+      ap (λ (d : DeskState). d.next_unique) back,
+      ap (λ (d : DeskState). d.slab.limit) back ∙ limit-taken desk.slab class is_class,
+      ap (λ (d : DeskState). d.slab.pages) back,
+      λ other is_other. ap (λ (d : DeskState). out_of d.slab other) back ∙ sym (less (out_of (taken desk.slab class) other)),
+    )
       where
         less : (m : ℕ) → m - 0 ≡ m
         less m = omega arith
-    outs_after is is_class (Some item) n desk' back = (ap (λ (d : DeskState). d.next_unique) back.given_is, ap (λ (d : DeskState). d.slab.limit) back.given_is ∙ limit-taken desk.slab class is_class, ap (λ (d : DeskState). d.slab.pages) back.given_is,
-        λ other is_other. ap (λ (d : DeskState). out_of d.slab other) back.given_is ∙ out-given (taken desk.slab class) (item_class its_key item) back.is_class back.is_slab other is_other)
+    outs_after is is_class (Some item) n desk' back = (
+      ap (λ (d : DeskState). d.next_unique) back.given_is,
+      ap (λ (d : DeskState). d.slab.limit) back.given_is ∙ limit-taken desk.slab class is_class,
+      ap (λ (d : DeskState). d.slab.pages) back.given_is,
+      λ other is_other. ap (λ (d : DeskState). out_of d.slab other) back.given_is ∙ out-given (taken desk.slab class) (item_class its_key item) back.is_class back.is_slab other is_other,
+    )
 
     -- the item goes into a chunk more
     pub takes_anew : Reuses false → IsClass class → IsSlab desk.slab → slabs.has_room desk.slab class ≡ true → desk.next_unique ≢ 2 ^ 64 - 1 → (own : ℕ) (new : ShelfContent) (desk' : DeskState)
@@ -334,29 +342,32 @@ module _ (insert_counts : InsertCounts) (remove_counts : RemoveCounts) (step : K
         let wrote = at_wrote insert_counts remove_counts its_key shelf desk s at (write_reply draft.body) draft.flags draft.expiry block now its_stands (subst (λ (n : ℕ). n ≤ shelf.greatest) drafted_is.size_is drafted_is.fits) more new own puts desk'.slab
         (subst (λ (n : ℕ). has_room under n ≡ true) (sym c) has) after.1
         (subst (λ (n : ℕ). pages_after n (count_of under.items n) s.pages ≡ desk'.slab.pages) (sym c) pages)
-        (λ other is_other. subst (λ (n : ℕ). out_of desk'.slab other + of_class its_key its_found other ≡ out_of desk.slab other + bump n other) (sym c) (moved other is_other)) in
-        (wrote.0, wrote_is s at ∙ ap (λ (b : Bool). machine.wrote b (write_reply draft.body) its_key draft.flags draft.expiry block under now) (keeps_none e) ∙ wrote.1,
-          subst (λ (n : ℕ). IsAt its_key new (record { slab = desk'.slab; next_unique = n }) wrote.0) (sym after.0) wrote.2)
+        (λ other is_other. subst (λ (n : ℕ). out_of desk'.slab other + of_class its_key its_found other ≡ out_of desk.slab other + bump n other) (sym c) (moved other is_other)) in (
+          wrote.0,
+          wrote_is s at ∙ ap (λ (b : Bool). machine.wrote b (write_reply draft.body) its_key draft.flags draft.expiry block under now) (keeps_none e) ∙ wrote.1,
+          subst (λ (n : ℕ). IsAt its_key new (record { slab = desk'.slab; next_unique = n }) wrote.0) (sym after.0) wrote.2,
+        )
 
     -- no chunk is left
     pub takes_full : Reuses false → IsClass class → IsSlab desk.slab → slabs.has_room desk.slab class ≡ false → desk.next_unique ≢ 2 ^ 64 - 1 → (own : ℕ) (new : ShelfContent) (desk' : DeskState)
         → (is_gone shelf.cut now its_found ≡ true → IsDropped its_key own shelf new × GivesBack its_key its_found desk desk')
         → (is_gone shelf.cut now its_found ≡ false → (new ≡ shelf) × (desk' ≡ desk)) → Takes step now shelf desk NoChunk new desk'
-    takes_full e is_class is room more own new desk' dead alive s at =
-        (found_in shelf step now s,
-          wrote_is s at ∙ ap (λ (b : Bool). machine.wrote b (write_reply draft.body) its_key draft.flags draft.expiry block (found_in shelf step now s) now) (keeps_none e)
-              ∙ wrote_full (write_reply draft.body) its_key draft.flags draft.expiry block (found_in shelf step now s) now (fits_plain s at) (not_last s at more)
-                (subst (λ (n : ℕ). has_room (found_in shelf step now s) n ≡ false) class_charge (room_none (found_in shelf step now s) desk.slab class at.pages at.limit (count_base is_class e s at) (full_of desk.slab class is is_class room))),
-          elim (is_gone shelf.cut now its_found) as (λ b. is_gone shelf.cut now its_found ≡ b → IsAt its_key new desk' (found_in shelf step now s)) [
-            | true ↦ λ gone.
-                let there = dead_found shelf step now its_found its_stands gone in
-                let both = dead gone in
-                subst (λ (o : Option Entry). IsAt its_key new desk' (record s { items = base o its_key s.items })) (sym there.1)
-                (dropped_at insert_counts remove_counts step now shelf desk on s at there.0.0 own new desk' there.0.1 both.0 both.1)
-            | false ↦ λ gone.
-                let both = alive gone in
-                subst (λ (d : DeskState). IsAt its_key new d (found_in shelf step now s)) (sym both.1) (subst (λ (t : ShelfContent). IsAt its_key t desk (found_in shelf step now s)) (sym both.0) (at_under insert_counts remove_counts step now shelf desk on s at gone))
-          ] refl)
+    takes_full e is_class is room more own new desk' dead alive s at = (
+      found_in shelf step now s,
+      wrote_is s at ∙ ap (λ (b : Bool). machine.wrote b (write_reply draft.body) its_key draft.flags draft.expiry block (found_in shelf step now s) now) (keeps_none e)
+          ∙ wrote_full (write_reply draft.body) its_key draft.flags draft.expiry block (found_in shelf step now s) now (fits_plain s at) (not_last s at more)
+          (subst (λ (n : ℕ). has_room (found_in shelf step now s) n ≡ false) class_charge (room_none (found_in shelf step now s) desk.slab class at.pages at.limit (count_base is_class e s at) (full_of desk.slab class is is_class room))),
+      elim (is_gone shelf.cut now its_found) as (λ b. is_gone shelf.cut now its_found ≡ b → IsAt its_key new desk' (found_in shelf step now s)) [
+        | true ↦ λ gone.
+            let there = dead_found shelf step now its_found its_stands gone in
+            let both = dead gone in
+            subst (λ (o : Option Entry). IsAt its_key new desk' (record s { items = base o its_key s.items })) (sym there.1)
+            (dropped_at insert_counts remove_counts step now shelf desk on s at there.0.0 own new desk' there.0.1 both.0 both.1)
+        | false ↦ λ gone.
+            let both = alive gone in
+            subst (λ (d : DeskState). IsAt its_key new d (found_in shelf step now s)) (sym both.1) (subst (λ (t : ShelfContent). IsAt its_key t desk (found_in shelf step now s)) (sym both.0) (at_under insert_counts remove_counts step now shelf desk on s at gone))
+      ] refl,
+    )
 
     pub others_full : (own : ℕ) (new : ShelfContent) (desk' : DeskState) → IsHash shelf its_key own
         → (is_gone shelf.cut now its_found ≡ true → IsDropped its_key own shelf new × GivesBack its_key its_found desk desk')

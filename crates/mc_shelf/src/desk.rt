@@ -48,8 +48,8 @@ impl Desk {
     /// Tells what the class has: its pages, and its chunks that items lie in.
     pub fn account(&self, class: Class) -> Account
         ensures { result ≡ record {
-            pages = pages_of self.now.slab class;
-            out = out_of self.now.slab class;
+          pages = pages_of self.now.slab class;
+          out = out_of self.now.slab class;
         } }
     {
         self.slab.account(class)
@@ -67,6 +67,7 @@ impl Desk {
     pub(crate) fn is_spent(&self) -> bool
         ensures spent { result ≡ true → self.now.next_unique ≡ 2 ^ 64 - 1 }
         ensures left { result ≡ false → self.now.next_unique < 2 ^ 64 - 1 }
+        ensures slab { IsSlab self.now.slab }
     {
         self.next_unique() == u64::MAX
     }

@@ -6,6 +6,7 @@ ghost use Rattle.std.specs.FinMap.{empty, get};
 ghost use Rattle.mc_time.specs.declared.expiry.Expiry.{Expiry as Expires};
 ghost use Rattle.mc_slab.specs.Classes.{class_holding};
 ghost use Rattle.mc_slab.specs.Chunks.{chunk_class};
+ghost use Rattle.mc_slab.specs.Slabs.{IsSlab};
 ghost use Rattle.mc_command.specs.declared.step.KeyStep.{KeyStep as Step};
 ghost use Rattle.mc_command.specs.declared.row.Row.TheVariants.{Reads};
 ghost use Rattle.mc_command.specs.Commands.{key_of};
@@ -134,6 +135,7 @@ impl Shelf {
             → MayWantMemory step.now now self.old.content desk.old }
     {
         let plan = self.plan(alloc, step, hash, now)?;
+        counts_follow();
         self.make_room(&plan, desk)?;
         self.apply(alloc, plan, step, desk)
     }
@@ -171,7 +173,10 @@ impl Shelf {
     {
         counts_follow();
         let Plan {
-            key, hash, next, ..
+            key,
+            hash,
+            next,
+            ..
         } = plan;
         match next {
             Next::Answer(reply) => reply,
@@ -211,7 +216,10 @@ impl Shelf {
     {
         counts_follow();
         let Plan {
-            hash, next, moment, ..
+            hash,
+            next,
+            moment,
+            ..
         } = plan;
         match next {
             Next::Answer(reply) => Ok(reply),
@@ -304,6 +312,7 @@ impl Shelf {
         ensures hash { IfOk result (λ plan. plan.hash ≡ hash) }
         ensures asked { OnErr result ((expiry : Option Expires)
             × (row_at self.now.content step.now now ≡ Reads expiry)) }
+        ensures most { self.now.content.greatest ≤ 1048576 }
     {
         let found = self.entry(hash, step.key());
         let next = next_of(alloc, step, found, self.greatest, self.cut, now)?;
@@ -332,6 +341,7 @@ impl Shelf {
         ensures room { OnOk result (CanWrite plan.now.next desk.now →
             get self.old.content.items plan.now.key ≡ None → 1 ≤ self.new.room) }
         ensures refused { OnErr result (CanWrite plan.now.next desk.now) }
+        ensures slab { IsSlab desk.now.slab }
     {
         if self.wants_room(plan, desk) {
             return self.index.reserve();
@@ -346,7 +356,11 @@ impl Shelf {
             × (get self.now.content.items plan.now.key ≡ None)) }
         ensures enough { result ≡ false → CanWrite plan.now.next desk.now →
             get self.now.content.items plan.now.key ≢ None }
+        ensures slab { IsSlab desk.now.slab }
     {
+        if desk.is_spent() {
+            return false;
+        }
         // Read for the invariant's clause on it: a charge of at most 1048576 bytes has a class.
         let _greatest = self.greatest;
         let Next::Write(charge, _) = plan.next else {
@@ -355,9 +369,7 @@ impl Shelf {
         let Some(class) = class_of(charge) else {
             return false;
         };
-        !desk.is_spent()
-            && desk.has_room(class)
-            && self.entry(plan.hash, plan.key.as_slice()).is_none()
+        desk.has_room(class) && self.entry(plan.hash, plan.key.as_slice()).is_none()
     }
 
     /// Sets the expiry of a key's item.
@@ -365,7 +377,7 @@ impl Shelf {
         requires { IsHash self.old.content key.now hash }
         ensures { (item : Item) → get self.old.content.items key.now ≡ Some item →
             IsPut key.now hash self.old.content self.new.content
-                (record item { expiry = expiry }) }
+            (record item { expiry = expiry }) }
     {
         if let Some(place) = self.index.find(hash, key) {
             self.index.set_expiry(place, expiry);
@@ -392,7 +404,7 @@ impl Shelf {
         requires out { IsOut key.now self.old.content desk.old }
         ensures dead { is_gone self.old.content.cut now (get self.old.content.items key.now) ≡ true →
             (IsDropped key.now hash self.old.content self.new.content
-                × GivesBack key.now (get self.old.content.items key.now) desk.old desk.new) }
+            × GivesBack key.now (get self.old.content.items key.now) desk.old desk.new) }
         ensures alive { is_gone self.old.content.cut now (get self.old.content.items key.now) ≡ false →
             ((self.new.content ≡ self.old.content) × (desk.new ≡ desk.old)) }
     {
@@ -457,8 +469,7 @@ impl Shelf {
             (get self.now.content.items key.now) class write.now.draft.body }
     {
         let found = self.entry(write.hash, key);
-        write::has_class(found, class)
-            && (write.counts() || is_gone(found, self.cut, write.moment))
+        write::has_class(found, class) && (write.counts() || is_gone(found, self.cut, write.moment))
     }
 
     /// Writes the step's own block, or a number, in the chunk of the key's item.
@@ -467,11 +478,11 @@ impl Shelf {
         requires hash { IsHash self.old.content (key_of step.now) write.now.hash }
         requires class { (item : Item) → get self.old.content.items (key_of step.now) ≡ Some item →
             item_class (key_of step.now) item ≡ class_holding
-                (charge (key_of step.now) (own_block write.now.draft.body (block_of step.now))) }
+            (charge (key_of step.now) (own_block write.now.draft.body (block_of step.now))) }
         ensures { (item : Item) → get self.old.content.items (key_of step.now) ≡ Some item →
             IsPut (key_of step.now) write.now.hash self.old.content self.new.content
-                (drafted write.now.draft (own_block write.now.draft.body (block_of step.now))
-                    unique write.now.moment) }
+            (drafted write.now.draft (own_block write.now.draft.body (block_of step.now))
+            unique write.now.moment) }
     {
         match write.draft.body {
             Body::Given | Body::Appended | Body::Prepended => {
@@ -493,7 +504,7 @@ impl Shelf {
             item_class key.now item ≡ class_holding (charge key.now block.now) }
         ensures { (item : Item) → get self.old.content.items key.now ≡ Some item →
             IsPut key.now write.now.hash self.old.content self.new.content
-                (drafted write.now.draft block.now unique write.now.moment) }
+            (drafted write.now.draft block.now unique write.now.moment) }
     {
         if let Some(place) = self.index.find(write.hash, key) {
             let Draft { flags, expiry, .. } = write.draft;
@@ -513,14 +524,7 @@ impl Shelf {
     }
 
     /// Puts the item of a write into a chunk and under its key. The chunk of the item that stood there goes back.
-    fn put(
-        &mut self,
-        write: &Write,
-        unique: u64,
-        chunk: Chunk,
-        step: &KeyStep<'_>,
-        desk: &mut Desk,
-    )
+    fn put(&mut self, write: &Write, unique: u64, chunk: Chunk, step: &KeyStep<'_>, desk: &mut Desk)
         requires key { length (key_of step.now) ≤ 250 }
         requires hash { IsHash self.old.content (key_of step.now) write.now.hash }
         requires class { chunk_class chunk ≡ class_holding
@@ -531,7 +535,7 @@ impl Shelf {
         requires out { IsOut (key_of step.now) self.old.content desk.old }
         ensures put { IsPut (key_of step.now) write.now.hash self.old.content self.new.content
             (drafted write.now.draft (block_beside self.old.content step.now write.now.draft)
-                unique write.now.moment) }
+            unique write.now.moment) }
         ensures given { GivesBack (key_of step.now) (get self.old.content.items (key_of step.now))
             desk.old desk.new }
     {

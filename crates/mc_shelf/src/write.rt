@@ -53,10 +53,10 @@ impl Write {
         requires room { charge (key_of step.now)
             (made_block self.now.draft.body (block_of step.now) old.now) ≤ length chunk }
         ensures { result ≡ record {
-            hash = self.now.hash;
-            key = key_of step.now;
-            item = drafted self.now.draft (made_block self.now.draft.body (block_of step.now) old.now)
-                unique self.now.moment;
+          hash = self.now.hash;
+          key = key_of step.now;
+          item = drafted self.now.draft (made_block self.now.draft.body (block_of step.now) old.now)
+              unique self.now.moment;
         } }
     {
         let block = step.block();
@@ -86,9 +86,9 @@ impl Write {
             ≡ class_holding (charge key.now (first.now ++ second.now)) }
         requires room { charge key.now (first.now ++ second.now) ≤ length chunk }
         ensures { result ≡ record {
-            hash = self.now.hash;
-            key = key.now;
-            item = drafted self.now.draft (first.now ++ second.now) unique self.now.moment;
+          hash = self.now.hash;
+          key = key.now;
+          item = drafted self.now.draft (first.now ++ second.now) unique self.now.moment;
         } }
     {
         Entry::write(

@@ -26,7 +26,7 @@ returns-in-Expire-clause-took c =
     let next = sym c.in-Expire.is ∙ c.requires.plan.next in
     let key = c.key.ensures in
     let puts = λ (item : Entry) (found : get old.items (key_of step) ≡ Some item). subst (λ (k : List ℕ). IsPut k c.args.plan.hash old new (record item { expiry = c.in-Expire.expiry })) key
-        (c.expire.ensures item (ap (λ (k : List ℕ). get old.items k) key ∙ found)) in
+    (c.expire.ensures item (ap (λ (k : List ℕ). get old.items k) key ∙ found)) in
     let there = expired_is old step c.args.plan.moment c.in-Expire.expiry c.in-Expire.reply next in
     let put = puts there.0 there.1 in
     record {
@@ -43,7 +43,7 @@ returns-in-Discard-clause-took c =
     let next = sym c.in-Discard.is ∙ c.requires.plan.next in
     let key = c.key-in-Discard.ensures in
     let drops = λ (item : Entry) (found : get old.items (key_of step) ≡ Some item). subst (λ (k : List ℕ). IsDropped k c.args.plan.hash old new) key
-        (c.discard.ensures.dropped item (ap (λ (k : List ℕ). get old.items k) key ∙ found)) in
+    (c.discard.ensures.dropped item (ap (λ (k : List ℕ). get old.items k) key ∙ found)) in
     let there = discarded_is old step c.args.plan.moment c.in-Discard.reply next in
     let dropped = drops there.0 there.1 in
     record {

@@ -21,7 +21,7 @@ returns-in-Expire c step now plan =
     let next = sym c.in-Expire.is ∙ plan.next in
     let key = c.as_slice.ensures ∙ plan.key in
     let puts = λ (item : Entry) (found : get old.items (key_of step) ≡ Some item). subst (λ (k : List ℕ). IsPut k c.args.plan.hash old new (record item { expiry = c.in-Expire.expiry })) key
-        (c.expire.ensures item (ap (λ (k : List ℕ). get old.items k) key ∙ found)) in
+    (c.expire.ensures item (ap (λ (k : List ℕ). get old.items k) key ∙ found)) in
     let there = expired_is old step now c.in-Expire.expiry c.in-Expire.reply next in
     let put = puts there.0 there.1 in
     record {

@@ -1,0 +1,239 @@
+-- What a sweep over an index drops of a shelf, and gives back to a desk.
+use Rattle.std.proofs.Common.{◌≡◌, ◌≢◌, ℕ, ◌+◌, ◌-◌, ◌<◌, ◌≤◌, Bool, true, false, cond, List, Option, Some, None, is_some, is_none, refl, sym, ap, subst, ◌∙◌, arith, eq-eqb, if◌then◌else◌, inl, inr, Less, Equal, Greater}
+use Rattle.std.proofs.lemmas.Bool.{cases_lt}
+use Rattle.std.proofs.lemmas.Option.{same_Some, none-some}
+use Rattle.std.specs.Borrow.{Bor}
+use Rattle.std.specs.Option.{option_copied}
+use Rattle.std.specs.Ordering.{is_eq}
+use Rattle.std.specs.FinMap as maps
+use Rattle.std.specs.FinMap.{empty, get, get-empty, get-remove, get-retain_keys, remove, same_map}
+use Rattle.std.specs.Cmp.Lexicographic.{nat_list_cmp_total}
+use Rattle.mc_time.specs.Death.{is_dead}
+use Rattle.mc_slab.specs.Classes.{IsClass}
+use Rattle.mc_slab.specs.Chunks.{IsChunkOf, chunk_class}
+use Rattle.mc_slab.specs.Slabs.{IsSlab, out_of, given}
+use Rattle.mc_command.specs.Plain.{Items, Entry, alive, count_of, item_class, living}
+use Rattle.mc_command.specs.Laws.{of_class}
+use Rattle.mc_shelf.specs.States.{EntryState, Hashes, IndexState, ShelfContent, DeskState}
+use Rattle.mc_shelf.specs.declared.index.Place.{Place}
+use Rattle.mc_shelf.specs.Places.{entry_at, hashes_of, items_of, numbered, IsFirstFrom, IsNext, IsPlaceOf, IsRemoved, KeepsLower}
+use Rattle.mc_shelf.specs.Plans.{is_gone, item_in}
+use Rattle.mc_shelf.specs.Sweeps.{AreOut, GivesFor, IsPurged}
+use Rattle.mc_shelf.proofs.IndexLemmas.{order, same_key}
+use Rattle.mc_shelf.proofs.PlaceLemmas.{hash_absent, item_there, numbers_all}
+use Rattle.mc_shelf.proofs.KeyLemmas.{get_gone, get_gone_other}
+use Rattle.mc_shelf.proofs.ShelfLemmas.{content_of}
+use Rattle.mc_shelf.proofs.StandLemmas.{RemoveCounts, bump, out-given}
+
+-- ---- the desk
+
+pub gives_none : (items : Items) (desk : DeskState) → GivesFor items items desk desk
+gives_none items desk = record { out = λ class is. refl; pages = refl; limit = refl; next_unique = refl }
+
+pub gives_both : (a b c : Items) (d e f : DeskState) → GivesFor a b d e → GivesFor b c e f → GivesFor a c d f
+gives_both a b c d e f one two = record {
+  out = λ class is.
+      let first = one.out class is in
+      let second = two.out class is in
+      omega arith;
+  pages = two.pages ∙ one.pages;
+  limit = two.limit ∙ one.limit;
+  next_unique = two.next_unique ∙ one.next_unique;
+}
+
+module _ (remove_counts : RemoveCounts) (items : Items) (desk : DeskState) (key : List ℕ) (item : Entry) (found : get items key ≡ Some item) (are : (class : ℕ) → IsClass class → count_of items class ≤ out_of desk.slab class) where
+  -- a chunk of an item that stands is out
+  pub out_held : IsClass (item_class key item) → 0 < out_of desk.slab (item_class key item)
+  out_held is_class =
+      let class = item_class key item in
+      let gone : count_of (remove items key) class + of_class key (get items key) class ≡ count_of items class = remove_counts items key class in
+      let one : of_class key (get items key) class ≡ bump class class = ap (λ (o : Option Entry). of_class key o class) found in
+      let here : bump class class ≡ 1 = ap (λ b. if b then 1 else 0) (eq-eqb class class refl) in
+      let out = are class is_class in
+      omega arith
+
+  -- its chunk goes back as it is dropped
+  pub gives_one : (new : Items) (desk' : DeskState) → new ≡ remove items key → desk' ≡ record desk { slab = given desk.slab (item_class key item) } → IsSlab desk.slab → IsClass (item_class key item) → GivesFor items new desk desk'
+  gives_one new desk' new_is desk_is is is_class = subst (λ (m : Items). GivesFor items m desk desk') (sym new_is) (subst (λ (d : DeskState). GivesFor items (remove items key) desk d) (sym desk_is) (record {
+    out = λ class is_other.
+        let gone : count_of (remove items key) class + of_class key (get items key) class ≡ count_of items class = remove_counts items key class in
+        let one : of_class key (get items key) class ≡ bump (item_class key item) class = ap (λ (o : Option Entry). of_class key o class) found in
+        let less : out_of (given desk.slab (item_class key item)) class ≡ out_of desk.slab class - bump (item_class key item) class = out-given desk.slab (item_class key item) is_class is class is_other in
+        let out = are class is_other in
+        omega arith;
+    pages = refl;
+    limit = refl;
+    next_unique = refl;
+  }))
+
+-- chunks that are out stay so
+pub out_after : (a b : Items) (d e : DeskState) → GivesFor a b d e → ((class : ℕ) → IsClass class → count_of a class ≤ out_of d.slab class) → (class : ℕ) → IsClass class → count_of b class ≤ out_of e.slab class
+out_after a b d e gives are class is =
+    let out = gives.out class is in
+    let had = are class is in
+    omega arith
+
+-- ---- the items that are alive
+
+alive_or_none : (cut : Option ℕ) (now : ℕ) (found : Option Entry) → cond (is_some (alive cut now found)) found None ≡ alive cut now found
+alive_or_none cut now None = refl
+alive_or_none cut now (Some item) =
+    elim (is_dead item.expiry item.updated cut now) as (λ b. cond (is_some (if b then None else Some item)) (Some item) None ≡ (if b then None else Some item)) [ true ↦ refl | false ↦ refl ]
+
+get_living : (items : Items) (cut : Option ℕ) (now : ℕ) (key : List ℕ) → get (living items cut now) key ≡ alive cut now (get items key)
+get_living items cut now key =
+    get-retain_keys items (λ k. is_some (alive cut now (get items k))) key (λ x h. ap (λ (k : List ℕ). is_some (alive cut now (get items k))) (sym (same_key key x h)))
+    ∙ alive_or_none cut now (get items key)
+
+-- a dead item is none of them
+living_without : (items : Items) (cut : Option ℕ) (now : ℕ) (key : List ℕ) → alive cut now (get items key) ≡ None → living (remove items key) cut now ≡ living items cut now
+living_without items cut now key dead =
+    same_map nat_list_cmp_total same_key _ _ (λ q.
+    get_living (remove items key) cut now q
+    ∙ ap (alive cut now) (get-remove nat_list_cmp_total items key q)
+    ∙ elim (order q key) as (λ r. order q key ≡ r → alive cut now (cond (is_eq r) None (get items q)) ≡ alive cut now (get items q)) [
+      | Less ↦ λ e. refl
+      | Equal ↦ λ e. sym (ap (λ (k : List ℕ). alive cut now (get items k)) (same_key q key e) ∙ dead)
+      | Greater ↦ λ e. refl
+    ] refl
+    ∙ sym (get_living items cut now q))
+
+-- where all are alive, they are the living ones
+all_living : (items : Items) (cut : Option ℕ) (now : ℕ) → ((key : List ℕ) (item : Entry) → get items key ≡ Some item → alive cut now (Some item) ≡ Some item) → living items cut now ≡ items
+all_living items cut now are =
+    same_map nat_list_cmp_total same_key _ _ (λ q.
+    get_living items cut now q
+    ∙ elim (get items q) as (λ o. get items q ≡ o → alive cut now o ≡ o) [ None ↦ λ e. refl | Some item ↦ λ e. are q item e ] refl)
+
+gone_none : (cut : Option ℕ) (now : ℕ) (item : Entry) → is_gone cut now (Some item) ≡ true → alive cut now (Some item) ≡ None
+gone_none cut now item = elim (is_dead item.expiry item.updated cut now) as (λ b. is_none (if b then None else Some item) ≡ true → (if b then None else Some item) ≡ None) [ true ↦ λ e. refl | false ↦ λ e. cc ]
+
+gone_stays : (cut : Option ℕ) (now : ℕ) (item : Entry) → is_gone cut now (Some item) ≡ false → alive cut now (Some item) ≡ Some item
+gone_stays cut now item = elim (is_dead item.expiry item.updated cut now) as (λ b. is_none (if b then None else Some item) ≡ false → (if b then None else Some item) ≡ Some item) [ true ↦ λ e. cc | false ↦ λ e. refl ]
+
+-- the item that is lent from a place is that of the entry there
+item_copied : (found : Option (Bor EntryState)) (e : EntryState) → option_copied found ≡ Some e → item_in found ≡ Some e.item
+item_copied None e is = cc
+item_copied (Some b) e is = ap (λ (x : EntryState). Some x.item) (same_Some b.now e is)
+
+-- ---- numbers
+
+-- the entries of lower numbers are such
+abbrev pub Below : IndexState → ℕ → (EntryState → Type 0) → Type 0
+Below index at P = (k : ℕ) (e : EntryState) → k < at → numbered index k ≡ Some e → P e
+
+module _ (P : EntryState → Type 0) (index : IndexState) (at number : ℕ) (place : Place) (first : IsFirstFrom index at number place) where
+  below_skipped : Below index at P → Below index number P
+  below_skipped below k e lt there = elim (cases_lt k at) [ inl less ↦ below k e less there | inr behind ↦ absurd (none-some e (sym (first.skipped k behind lt) ∙ there)) ]
+
+  -- one entry further
+  pub below_next : Below index at P → ((e : EntryState) → entry_at index place ≡ Some e → P e) → Below index (number + 1) P
+  below_next below here k e lt there =
+      elim (cases_lt k number) [
+        | inl less ↦ below_skipped below k e less there
+        | inr behind ↦ let same : k ≡ number = omega arith in here e (sym first.same ∙ ap (numbered index) (sym same) ∙ there)
+      ]
+
+  -- after a removal
+  pub below_removed : Below index at P → (new : IndexState) → KeepsLower index new number → Below new number P
+  below_removed below new keeps k e lt there = below_skipped below k e lt (sym (keeps.lower k lt) ∙ there)
+
+-- where no number is left, each item is of such an entry
+pub items_all : (P : EntryState → Type 0) (index : IndexState) (at : ℕ) → Below index at P → IsNext index at None → (key : List ℕ) (item : Entry) → get (items_of index.entries) key ≡ Some item → (e : EntryState) × (P e) × (e.item ≡ item)
+items_all P index at below none key item found =
+    let one = numbers_all index key item found in
+    (one.entry, elim (cases_lt one.number at) [ inl less ↦ below one.number one.entry less one.there | inr behind ↦ absurd (none-some one.entry (sym (none one.number behind) ∙ one.there)) ], one.same_item)
+
+-- ---- sweeps
+
+-- the shelf of an index holds what it held but for dead items, whose chunks went back
+pub record Swept (now : ℕ) (old new : ShelfContent) (desk desk' : DeskState) : Type 0 where
+  pub greatest : new.greatest ≡ old.greatest
+  pub cut : new.cut ≡ old.cut
+  pub living_same : living new.items new.cut now ≡ living old.items old.cut now
+  pub gives : GivesFor old.items new.items desk desk'
+  pub kept : (key : List ℕ) (item : Entry) → get new.items key ≡ Some item → (get old.items key ≡ Some item) × (get new.hashes key ≡ get old.hashes key)
+
+pub swept_none : (now : ℕ) (shelf : ShelfContent) (desk : DeskState) → Swept now shelf shelf desk desk
+swept_none now shelf desk = record { greatest = refl; cut = refl; living_same = refl; gives = gives_none shelf.items desk; kept = λ key item there. (there, refl) }
+
+-- what a removal keeps
+kept_by : (was new : IndexState) (key : List ℕ) → IsRemoved was new key → (other : List ℕ) (item : Entry) → get (items_of new.entries) other ≡ Some item → (get (items_of was.entries) other ≡ Some item) × (get (hashes_of new.entries) other ≡ get (hashes_of was.entries) other)
+kept_by was new key removed other item there =
+    let apart : other ≢ key = λ same. none-some item (sym (ap (λ (k : List ℕ). get (items_of new.entries) k) same ∙ ap (λ (m : Items). get m key) removed.items ∙ get_gone (items_of was.entries) key) ∙ there) in (
+      sym (ap (λ (m : Items). get m other) removed.items ∙ get_gone_other (items_of was.entries) key other apart) ∙ there,
+      ap (λ (m : Hashes). get m other) removed.hashes ∙ get_gone_other (hashes_of was.entries) key other apart,
+    )
+
+module _ (remove_counts : RemoveCounts) (greatest : ℕ) (cut : Option ℕ) (was new : IndexState) (key : List ℕ) (place : Place) (filled : IsPlaceOf was key place) (entry : EntryState) (there : entry_at was place ≡ Some entry) (removed : IsRemoved was new entry.key)
+    (desk desk' : DeskState) (chunk : List ℕ) (is_chunk : IsChunkOf (item_class entry.key entry.item) chunk) (is_class : IsClass (item_class entry.key entry.item))
+    (are : (class : ℕ) → IsClass class → count_of (items_of was.entries) class ≤ out_of desk.slab class) where
+  same_as : entry.key ≡ key
+  same_as = ap (λ (e : EntryState). e.key) (same_Some entry filled.entry (sym there ∙ filled.there)) ∙ filled.same_key
+
+  found : get (items_of was.entries) entry.key ≡ Some entry.item
+  found = ap (λ (k : List ℕ). get (items_of was.entries) k) same_as ∙ item_there was key place filled entry there
+
+  -- its chunk is out
+  pub entry_out : 0 < out_of desk.slab (chunk_class chunk)
+  entry_out = subst (λ (n : ℕ). 0 < out_of desk.slab n) (sym is_chunk.class_is) (out_held remove_counts (items_of was.entries) desk entry.key entry.item found are is_class)
+
+  -- and goes back
+  pub entry_gives : desk' ≡ record desk { slab = given desk.slab (chunk_class chunk) } → IsSlab desk.slab → GivesFor (items_of was.entries) (items_of new.entries) desk desk'
+  entry_gives back is = gives_one remove_counts (items_of was.entries) desk entry.key entry.item found are (items_of new.entries) desk' removed.items (back ∙ ap (λ (n : ℕ). record desk { slab = given desk.slab n }) is_chunk.class_is) is is_class
+
+  -- a dead item is swept
+  pub swept_one : (now : ℕ) → is_gone cut now (Some entry.item) ≡ true → desk' ≡ record desk { slab = given desk.slab (chunk_class chunk) } → IsSlab desk.slab → Swept now (content_of greatest cut was) (content_of greatest cut new) desk desk'
+  swept_one now gone back is = record {
+    greatest = refl;
+    cut = refl;
+    living_same = ap (λ (m : Items). living m cut now) removed.items ∙ living_without (items_of was.entries) cut now entry.key (ap (alive cut now) found ∙ gone_none cut now entry.item gone);
+    gives = entry_gives back is;
+    kept = kept_by was new entry.key removed;
+  }
+
+pub swept_both : (now : ℕ) (a b c : ShelfContent) (d e f : DeskState) → Swept now a b d e → Swept now b c e f → Swept now a c d f
+swept_both now a b c d e f one two = record {
+  greatest = two.greatest ∙ one.greatest;
+  cut = two.cut ∙ one.cut;
+  living_same = two.living_same ∙ one.living_same;
+  gives = gives_both a.items b.items c.items d e f one.gives two.gives;
+  kept = λ key item there.
+      let second = two.kept key item there in
+      let first = one.kept key item second.0 in
+      (first.0, second.1 ∙ first.1);
+}
+
+-- the entry is not dead at a moment
+abbrev pub IsAlive : (cut : Option ℕ) → (now : ℕ) → EntryState → Type 0
+IsAlive cut now e = alive cut now (Some e.item) ≡ Some e.item
+
+pub alive_here : (cut : Option ℕ) (now : ℕ) (index : IndexState) (place : Place) (found : Option (Bor EntryState)) → option_copied found ≡ entry_at index place → is_gone cut now (item_in found) ≡ false → (e : EntryState) → entry_at index place ≡ Some e → IsAlive cut now e
+alive_here cut now index place found copied stays e there = gone_stays cut now e.item (ap (is_gone cut now) (sym (item_copied found e (copied ∙ there))) ∙ stays)
+
+pub gone_here : (cut : Option ℕ) (now : ℕ) (index : IndexState) (place : Place) (found : Option (Bor EntryState)) → option_copied found ≡ entry_at index place → is_gone cut now (item_in found) ≡ true → (e : EntryState) → entry_at index place ≡ Some e → is_gone cut now (Some e.item) ≡ true
+gone_here cut now index place found copied gone e there = ap (is_gone cut now) (sym (item_copied found e (copied ∙ there))) ∙ gone
+
+-- at the end of a purge
+pub purged : (now : ℕ) (old : ShelfContent) (greatest : ℕ) (cut : Option ℕ) (index : IndexState) (desk desk' : DeskState) (at : ℕ) → Swept now old (content_of greatest cut index) desk desk' → Below index at (IsAlive cut now) → IsNext index at None → IsPurged now old (content_of greatest cut index)
+purged now old greatest cut index desk desk' at swept below none =
+    let items = items_of index.entries in
+    let all = all_living items cut now (λ key item there. let one = items_all (IsAlive cut now) index at below none key item there in subst (λ (i : Entry). alive cut now (Some i) ≡ Some i) one.2 one.1) in
+    record {
+      greatest = swept.greatest;
+      cut = swept.cut;
+      items = sym all ∙ swept.living_same;
+      hashes = λ key. elim (get items key) as (λ o. get items key ≡ o → get (hashes_of index.entries) key ≡ (if is_some o then get old.hashes key else None)) [
+        | None ↦ λ e. hash_absent index.entries key e
+        | Some item ↦ λ e. (swept.kept key item e).1
+      ] refl;
+    }
+
+-- at the end of a flush
+abbrev pub IsNone : EntryState → Type 0
+IsNone e = ⊥
+
+pub cleared : (index : IndexState) (at : ℕ) → Below index at IsNone → IsNext index at None → (items_of index.entries ≡ empty) × (hashes_of index.entries ≡ empty)
+cleared index at below none =
+    let gone : (key : List ℕ) → get (items_of index.entries) key ≡ None = λ key. elim (get (items_of index.entries) key) as (λ o. get (items_of index.entries) key ≡ o → o ≡ None) [ None ↦ λ e. refl | Some item ↦ λ e. absurd (items_all IsNone index at below none key item e).1 ] refl in
+    (same_map nat_list_cmp_total same_key _ _ (λ q. gone q ∙ sym (get-empty order q)), same_map nat_list_cmp_total same_key _ _ (λ q. hash_absent index.entries q (gone q) ∙ sym (get-empty order q)))

@@ -1,0 +1,15 @@
+use Rattle.std.proofs.Common.{◌≤◌}
+use Rattle.mc_shelf.specs.Places.{count_from}
+use Rattle.mc_shelf.proofs.ShelfLemmas.{content_of}
+use Rattle.mc_shelf.proofs.SweepLemmas.{Below, IsAlive, Swept}
+use Rattle.mc_shelf.proofs.shelf.Shelf.purge.Given as goal
+
+abbrev pub invariant-loop-number : goal.invariant-loop-number
+invariant-loop-number l = record {
+  most : l.self-inside.greatest ≤ 1048576;
+  swept : Swept l.now l.fn.self.content (content_of l.self-inside.greatest l.self-inside.cut l.self-inside.index) l.fn.desk l.desk;
+  below : Below l.self-inside.index l.at (IsAlive l.self-inside.cut l.now);
+}
+
+abbrev pub decreases-loop-number : goal.decreases-loop-number
+decreases-loop-number l = count_from l.self-inside.index l.at

@@ -1,0 +1,48 @@
+use Rattle.std.proofs.Common.{◌≡◌, ◌≤◌, ℕ, Ok, Err, Result, arith, rules, sym, ap, subst, ◌∙◌}
+use Rattle.mc_command.specs.declared.reply.Reply.{Reply}
+use Rattle.mc_command.specs.declared.step.StepFault.{StepFault}
+use Rattle.mc_command.specs.declared.step.StepFault.TheVariants.{NoMemory, NumbersSpent}
+use Rattle.mc_command.specs.Commands.{key_of}
+use Rattle.mc_shelf.specs.States.{CanStand, ShelfContent}
+use Rattle.mc_shelf.specs.Plans.{IsSpent, IsTaken, next_of}
+use Rattle.mc_shelf.proofs.TakesLemmas.{is_spent}
+use Rattle.mc_shelf.proofs.RefusalLemmas.{can_wants, needs_can, spent_told, taken_not_spent, wants_not_spent, writes_some}
+use Rattle.mc_shelf.proofs.shelf.Shelf.step.Goals as goal
+
+apart : (r : Result Reply StepFault) → r ≡ Err NoMemory → r ≡ Err NumbersSpent → ⊥
+apart r a b = cc
+
+pub returns-in_err-make_room-clause-refused : goal.returns-in_err-make_room-clause-refused
+returns-in_err-make_room-clause-refused c e s at =
+    let plan = c.in_ok-plan.ensures.plan in
+    can_wants c.counts_follow.ensures.insert c.counts_follow.ensures.remove c.args.step.now c.args.now c.args.self.now.content c.args.desk.now c.requires.on_key c.make_room.ensures.slab c.plan.ensures.most c.in_ok-plan.plan.next plan.next c.in_err-make_room.ensures.refused s at
+
+pub returns-in_err-make_room-clause-spent : goal.returns-in_err-make_room-clause-spent
+returns-in_err-make_room-clause-spent c =
+    let no : c.from_residual-in_err-make_room.result ≡ Err NoMemory = search rules in (
+      (λ e. absurd (apart _ no e)),
+      (λ spent. absurd (wants_not_spent c.args.step.now c.args.now c.args.self.now.content c.args.desk.now c.requires.stands (returns-in_err-make_room-clause-refused c no) spent)),
+    )
+
+pub returns-clause-refused : goal.returns-clause-refused
+returns-clause-refused c e s at =
+    let plan = c.in_ok-plan.ensures.plan in
+    can_wants c.counts_follow.ensures.insert c.counts_follow.ensures.remove c.args.step.now c.args.now c.args.self.now.content c.args.desk.now c.requires.on_key c.make_room.ensures.slab c.plan.ensures.most c.in_ok-plan.plan.next plan.next
+    (needs_can c.in_ok-plan.plan.next c.args.desk.now (c.apply.ensures.refused e)) s at
+
+pub returns-clause-spent : goal.returns-clause-spent
+returns-clause-spent c =
+    let plan = c.in_ok-plan.ensures.plan in
+    let step = c.args.step.now in
+    let old = c.args.self.now.content in
+    let desk = c.args.desk.now in (
+      (λ e.
+          let both = c.apply.ensures.spent.0 e in
+          let some = writes_some c.in_ok-plan.plan.next both.0 in
+          is_spent c.counts_follow.ensures.insert c.counts_follow.ensures.remove step c.args.now old desk c.requires.on_key some.0 some.1 (sym some.2 ∙ plan.next) both.1),
+      (λ spent. spent_told c.apply.result _ c.apply.ensures.took
+          (λ reply took. taken_not_spent step c.in_ok-plan.plan.moment c.in_ok-plan.plan.hash old desk reply c.apply.new.self.content c.apply.new.desk c.requires.stands
+          (subst (λ (t : ShelfContent). IsTaken step c.in_ok-plan.plan.moment c.in_ok-plan.plan.hash t desk reply c.apply.new.self.content c.apply.new.desk) c.make_room.ensures.content took)
+          (subst (λ (m : ℕ). IsSpent step m old desk) (sym plan.moment) spent))
+          (λ e. wants_not_spent step c.args.now old desk c.requires.stands (returns-clause-refused c e) spent)),
+    )
