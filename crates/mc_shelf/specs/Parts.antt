@@ -42,8 +42,8 @@ pub record ArePartsOf (hash_of : List ℕ → ℕ) (state : Plain) (shelves : Li
   pub account : IsDeskOf state desk
 
 -- The state goes from one to another by the shelf at a place and the desk alone: they are parts of
--- the new one as they stand now, and each other shelf that is a part of the old one is a part of the
--- new one as it was. The greatest charge and the limit of pages stay.
+-- the new one as they stand now, and each other shelf that is a part of the old one is a part of
+-- the new one as it was. The greatest charge and the limit of pages stay.
 pub record GoesTo (hash_of : List ℕ → ℕ) (shelves at : ℕ) (old new : Plain) (shelf : ShelfContent)
     (desk : DeskState) : Type 0 where
   pub greatest : new.greatest ≡ old.greatest

@@ -8,8 +8,8 @@ use Rattle.mc_command.specs.declared.reply.Reply.{Reply}
 use Rattle.mc_shelf.specs.Parts.{shelf_of}
 use Rattle.mc_shelf.specs.declared.store.Settings.{Settings}
 
--- A store: how it was set up, what hashes its keys, and the plain machine's state; and beside these,
--- of each shelf how many entries of an old table are left to move.
+-- A store: how it was set up, what hashes its keys, and the plain machine's state; and beside
+-- these, of each shelf how many entries of an old table are left to move.
 pub record StoreState (K : Type 0) : Type 0 where
   pub settings : Settings
   pub hasher : K
@@ -18,7 +18,8 @@ pub record StoreState (K : Type 0) : Type 0 where
 
 abbrev pub coded_settings : Coded Settings
 coded_settings =
-    code_by (ℕ × (ℕ × ℕ)) (coded× coded_ℕ (coded× coded_ℕ coded_ℕ)) (λ s. (s.pages, (s.greatest, s.shelves)))
+    code_by (ℕ × (ℕ × ℕ)) (coded× coded_ℕ (coded× coded_ℕ coded_ℕ))
+    (λ s. (s.pages, (s.greatest, s.shelves)))
     (λ p. record { pages = p.0; greatest = p.1.0; shelves = p.1.1 })
     (λ _. refl)
 

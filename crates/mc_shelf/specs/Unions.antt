@@ -43,6 +43,7 @@ left_of_flush delay now cut item = if delay == 0 then None else alive cut now it
 pub record IsFlushed (delay now : ℕ) (old new : ShelfContent) : Type 0 where
   pub greatest : new.greatest ≡ old.greatest
   pub cut : new.cut ≡ (if delay == 0 then None else Some (moment_named delay now))
-  pub items : (key : List ℕ) → get new.items key ≡ left_of_flush delay now old.cut (get old.items key)
+  pub items : (key : List ℕ)
+      → get new.items key ≡ left_of_flush delay now old.cut (get old.items key)
   pub hashes : (key : List ℕ) (stored : ℕ) → get new.hashes key ≡ Some stored
       → get old.hashes key ≡ Some stored

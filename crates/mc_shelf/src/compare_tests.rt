@@ -1,5 +1,5 @@
-//! The store by shelves beside the plain store: the same steps, drawn at random, are answered alike. Where an allocation is
-//! refused, a store takes the step when it is asked again.
+//! The store by shelves beside the plain store: the same steps, drawn at random, are answered
+//! alike. Where an allocation is refused, a store takes the step when it is asked again.
 
 ghost use Rattle.std.specs.Prelude.{◌≤◌, length};
 ghost use Rattle.mc_command.specs.Commands.{key_of};

@@ -1,5 +1,5 @@
-//! The store of one thread, as callers see it: how it is set up, its hasher, and the plain machine's
-//! state.
+//! The store of one thread, as callers see it: how it is set up, its hasher, and the plain
+//! machine's state.
 
 #[cfg(test)]
 mod tests;
@@ -46,8 +46,8 @@ pub struct StoreParts<K: KeyHash + Drop> {
 }
 
 /// A store of one thread: shelves of items, and the desk that they share. Contracts see how it was
-/// set up, its hasher, and the plain machine's state; and beside these, of each shelf how many entries
-/// of an old table are left to move.
+/// set up, its hasher, and the plain machine's state; and beside these, of each shelf how many
+/// entries of an old table are left to move.
 #[derive(Drop)]
 pub struct Store<K: KeyHash + Drop> {
     parts: StoreParts<K>,
@@ -102,7 +102,8 @@ impl<K: KeyHash + Drop> Store<K> {
 
     /// Makes a store of parts that keep a state. It takes no memory.
     pub fn from_parts(parts: StoreParts<K>) -> Store<K>
-        requires { (state : Plain) × IsSetUp parts.settings state × ArePartsOf (K.hash_of parts.hasher)
+        requires { (state : Plain) × IsSetUp parts.settings state
+            × ArePartsOf (K.hash_of parts.hasher)
             state parts.shelves.items parts.settings.shelves parts.desk }
         ensures settings { result.settings ≡ parts.settings }
         ensures hasher { result.hasher ≡ parts.hasher }
@@ -149,9 +150,9 @@ impl<K: KeyHash + Drop> Store<K> {
         }
     }
 
-    /// Moves up to `n` entries of a shelf's old table, and answers how many it moved: as many as are
-    /// left, where they are fewer, and 0 of a shelf that isn't there. All else is as it was, and no
-    /// memory is taken. The cost grows with `n`.
+    /// Moves up to `n` entries of a shelf's old table, and answers how many it moved: as many as
+    /// are left, where they are fewer, and 0 of a shelf that isn't there. All else is as it was,
+    /// and no memory is taken. The cost grows with `n`.
     pub fn grow(&mut self, shelf: u32, n: usize) -> usize
         ensures moved { result ≡ min n (slice_index self.old.left shelf) }
         ensures left { self.new ≡ record self.old {
@@ -165,7 +166,8 @@ impl<K: KeyHash + Drop> Store<K> {
         }
     }
 
-    /// Takes a step on one key, on the key's shelf. Where it isn't taken the store holds what it held.
+    /// Takes a step on one key, on the key's shelf. Where it isn't taken the store holds what it
+    /// held.
     fn step_on_key(
         &mut self,
         alloc: Global,

@@ -1,6 +1,6 @@
-//! Keys of different shelves over one desk: by Fnv `a` is on shelf 12 of 64, `b` on 37 and `k` on 10.
-//! Where an allocation is refused the store answers as before, and takes the step when it is asked
-//! again.
+//! Keys of different shelves over one desk: by Fnv `a` is on shelf 12 of 64, `b` on 37 and `k` on
+//! 10. Where an allocation is refused the store answers as before, and takes the step when it is
+//! asked again.
 
 ghost use Rattle.std.specs.Prelude.{◌≡◌, ◌≤◌, length};
 ghost use Rattle.mc_command.specs.Commands.{key_of};
