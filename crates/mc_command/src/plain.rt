@@ -18,7 +18,6 @@ ghost use Rattle.mc_command.specs.Items.{items_of};
 ghost use Rattle.mc_command.specs.Steps.{Ends, found, store_step, cas_step};
 ghost use Rattle.mc_command.specs.Plain.{opening, plain, standing, expiring, count_of, has_room, living, Answered, Spent, MayFail};
 
-use crate::bytes::Bytes;
 use crate::number::{counted, number_of};
 use crate::plain::accounts::Accounts;
 use crate::plain::item::{Given, Item};
@@ -294,11 +293,7 @@ impl PlainStore {
                 exptime,
                 block,
             } => {
-                let given = Given {
-                    flags: *flags,
-                    exptime: *exptime,
-                    block: Bytes::of(block.as_slice()),
-                };
+                let given = Given::of(*flags, *exptime, block);
                 self.store(alloc, *verb, key.as_slice(), &given, now)
             }
             KeyStep::Cas {
@@ -308,11 +303,7 @@ impl PlainStore {
                 block,
                 unique,
             } => {
-                let given = Given {
-                    flags: *flags,
-                    exptime: *exptime,
-                    block: Bytes::of(block.as_slice()),
-                };
+                let given = Given::of(*flags, *exptime, block);
                 self.cas(alloc, key.as_slice(), &given, *unique, now)
             }
             KeyStep::Read { key } => self.read(alloc, key.as_slice(), now),

@@ -114,12 +114,23 @@ impl<'a> LentWrite<'a> {
 /// What a storage command brings.
 #[derive(Drop)]
 pub(crate) struct Given<'a> {
-    pub(crate) flags: u32,
-    pub(crate) exptime: i64,
-    pub(crate) block: Bytes<'a>,
+    flags: u32,
+    exptime: i64,
+    block: Bytes<'a>,
 }
 
 impl<'a> Given<'a> {
+    /// Lends what a storage command brings.
+    pub(crate) fn of(flags: u32, exptime: i64, block: &Bytes<'a>) -> Given<'a>
+        ensures { result ≡ record { flags = flags; exptime = exptime; block = block.now } }
+    {
+        Given {
+            flags,
+            exptime,
+            block: Bytes::of(block.as_slice()),
+        }
+    }
+
     /// Lends the write of what is given.
     pub(crate) fn write(&self, now: Moment) -> LentWrite<'a>
         ensures { result ≡ record {
