@@ -77,8 +77,8 @@ pushed_all u (piece ∷ pieces) is =
     pushed_all (pushed u piece) pieces (settled_stays all (cases_lt all.passed (length all.bytes))) ∙ pushed_twice u piece (concat pieces)
 
 -- a feed of no bytes
-pub kept_none : (greatest : ℕ) → IsKept greatest 0 None (Searched 0) []
-kept_none greatest = record { settled = inl refl; points = tt; knows = (tt, omega arith, omega arith) }
+pub kept_none : (greatest passed : ℕ) → IsKept greatest passed None (Searched 0) []
+kept_none greatest passed = record { settled = inr refl; points = tt; knows = (tt, omega arith, omega arith) }
 
 -- a cursor stays when more come
 pub cursor_pushed : (greatest : ℕ) (cursor : Option Cursor) (bytes more : List ℕ) → IfSome cursor (λ c. PointsInto greatest c bytes) → IfSome cursor (λ c. PointsInto greatest c (bytes ++ more))

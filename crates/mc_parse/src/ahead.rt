@@ -21,7 +21,7 @@ pub enum Ahead {
 }
 
 impl Ahead {
-    /// Knows nothing.
+    /// Makes the knowledge of nothing.
     pub fn none() -> Ahead
         ensures { result ≡ Ahead.Searched 0 }
     {

@@ -56,7 +56,7 @@ impl Cursor {
         }
     }
 
-    /// One turn further. It costs as much as a key.
+    /// Takes one turn. It costs as much as a key.
     fn next(&self, unread: &[u8]) -> Cursor
         requires within { IsWithin self.now unread.now }
         requires taken { self.now.taken < 2 ^ 64 - 1 }
@@ -75,7 +75,7 @@ impl Cursor {
         }
     }
 
-    /// The retrieval of the keys that are left. It costs nothing.
+    /// Finds the retrieval of the keys that are left. It looks at none of them.
     #[inline]
     pub fn peek<'a>(&self, unread: &'a [u8]) -> Peek<'a>
         requires { IsWithin self.now unread.now }
@@ -122,7 +122,7 @@ pub fn cursor_after(
     }
 }
 
-/// The cursor after `taken` turns. It costs as much as the keys that it passes.
+/// Moves to the cursor after `taken` turns. It costs as much as the keys that it passes.
 fn moved_to(mut cursor: Cursor, unread: &[u8], taken: usize) -> Cursor
     requires within { IsWithin cursor unread.now }
     requires ahead { cursor.taken ≤ taken }
@@ -137,7 +137,7 @@ fn moved_to(mut cursor: Cursor, unread: &[u8], taken: usize) -> Cursor
     Cursor { taken, ..cursor }
 }
 
-/// Where the keys begin in the text of a retrieval's line: behind its name, and behind the exptime where it has one.
+/// Finds where the keys begin in the text of a retrieval's line: behind its name, and behind the exptime that it may have.
 fn keys_begin(text: &[u8], exptime: Option<i64>) -> usize
     ensures inside { result ≤ length text.now }
     ensures behind { words (drop result text.now) ≡ drop (words_before exptime) (words text.now) }

@@ -3,7 +3,7 @@ ghost use Rattle.mc_parse.specs.Exptimes.{exptime_of, delay_of};
 
 use mc_command::number_up_to;
 
-/// An exptime: a number of at most `i64::MAX`, which a minus may precede.
+/// Reads an exptime: a number of at most `i64::MAX`, which a minus may precede.
 pub fn exptime_of(word: &[u8]) -> Option<i64>
     ensures { result ≡ exptime_of word.now }
 {
@@ -13,7 +13,7 @@ pub fn exptime_of(word: &[u8]) -> Option<i64>
     }
 }
 
-/// A delay: an exptime that isn't negative.
+/// Reads a delay: an exptime that isn't negative.
 pub fn delay_of(word: &[u8]) -> Option<u64>
     ensures { result ≡ delay_of word.now }
 {

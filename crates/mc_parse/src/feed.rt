@@ -37,7 +37,7 @@ impl Feed {
     ghost use Rattle.mc_parse.specs.Feeds.{pushed, read, IsSettled, HasNoUnit, HasUnit, ReadsUnit};
     ghost use Rattle.mc_parse.specs.Feeds.{Finds, FindsAny, FindsLeft, FindsAnyLeft};
 
-    /// A feed of no bytes, whose storage commands may charge at most `greatest` bytes. It takes no memory.
+    /// Makes a feed of no bytes, whose storage commands may charge at most `greatest` bytes. It takes no memory.
     pub fn new(alloc: Global, greatest: u64) -> Feed
         ensures { result ≡ record { greatest = greatest; passed = 0; bytes = [] } }
     {
@@ -63,8 +63,8 @@ impl Feed {
         Ok(())
     }
 
-    /// What the unread bytes begin with. It takes no memory. Bytes that were there before the last piece came aren't
-    /// searched again, and where a block is awaited it costs nothing until the block is there.
+    /// Finds what the unread bytes begin with. It takes no memory and looks at no line: each was read once, when it was
+    /// whole. While a block is awaited it finds nothing.
     pub fn peek(&self) -> Peek<'_>
         // What it finds is spelled by the front that it counts, and no byte is to be passed over.
         ensures found { Finds self.now (unit_of result) }
@@ -79,8 +79,8 @@ impl Feed {
         self.first_unit()
     }
 
-    /// The same after `taken` turns of the first unit: of a retrieval, the retrieval of the keys that are left. Where
-    /// `mark` was told of these turns it costs as much as the next key, whatever the line's length.
+    /// Finds what is left of the first unit after `taken` of its turns: of a retrieval, the retrieval of the keys that are
+    /// left. Where `mark` was told of these turns it looks at no key, and else at those that they took.
     #[inline]
     pub fn peek_after(&self, taken: usize) -> Peek<'_>
         ensures found { FindsLeft self.now taken (unit_of result) }
@@ -114,7 +114,7 @@ impl Feed {
         self.done_passing(len, passed);
     }
 
-    /// The same where the caller knows how many bytes the unit passes over, which spares a look at it.
+    /// Passes over the first `len` unread bytes, and the `passed` bytes behind them as they come. It takes no memory.
     pub fn done_passing(&mut self, len: usize, passed: u64)
         requires inside { len ≤ length self.old.bytes }
         // A unit that is passed over was found, so no byte is to be passed over before it.
@@ -157,7 +157,7 @@ impl Feed {
         self.unread.held()
     }
 
-    /// The same as `peek`. What else is said there follows from the two clauses.
+    /// Finds what `peek` finds. What else is said there follows from the two clauses.
     #[inline]
     fn first_unit(&self) -> Peek<'_>
         ensures found { Finds self.now (unit_of result) }
@@ -169,7 +169,7 @@ impl Feed {
         self.ahead.peek(self.unread.as_slice())
     }
 
-    /// The same as `peek_after`.
+    /// Finds what `peek_after` finds.
     #[inline]
     fn unit_after(&self, taken: usize) -> Peek<'_>
         ensures found { FindsLeft self.now taken (unit_of result) }

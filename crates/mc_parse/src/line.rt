@@ -58,13 +58,13 @@ pub enum Head<'a> {
     },
 }
 
-/// The longest key.
+/// The longest key, in bytes.
 const LONGEST_KEY: usize = 250;
 
-/// The longest block.
+/// The longest block, in bytes.
 const LONGEST_BLOCK: u64 = 2147483645;
 
-/// What a line says, or its first fault. `text` is the line without its end.
+/// Tells what a line says, or its first fault. `text` is the line without its end.
 pub fn line_of(greatest: u64, text: &[u8]) -> Result<Line<'_>, LineFault>
     ensures { result ≡ meaning greatest (words text.now) }
 {
@@ -213,7 +213,7 @@ fn flush_line(args: &[u8]) -> Result<Line<'_>, LineFault>
     Ok(Line::Bare(Command::FlushAll { delay, quiet }))
 }
 
-/// The line of a command that is its name alone.
+/// Reads the line of a command that is its name alone.
 fn lone_line<'a>(command: Command<'a>, args: &[u8]) -> Result<Line<'a>, LineFault>
     ensures { result ≡ lone_line command.entry (words args.now) }
 {
@@ -223,7 +223,7 @@ fn lone_line<'a>(command: Command<'a>, args: &[u8]) -> Result<Line<'a>, LineFaul
     }
 }
 
-/// A word that has to stand, and what follows it.
+/// Finds a word that has to stand, and what follows it.
 fn next_word(text: &[u8]) -> Result<(&[u8], &[u8]), LineFault>
     ensures { MatchResult result
         (λ p. words text.now ≡ p.0.now ∷ words p.1.now)
@@ -232,7 +232,7 @@ fn next_word(text: &[u8]) -> Result<(&[u8], &[u8]), LineFault>
     first_word(text).ok_or(LineFault::Unknown)
 }
 
-/// A word that has to stand and is a key, and what follows it.
+/// Finds a key that has to stand, and what follows it.
 fn next_key(text: &[u8]) -> Result<(&[u8], &[u8]), LineFault>
     ensures { MatchResult result
         (λ p. words text.now ≡ p.0.now ∷ words p.1.now)
@@ -241,7 +241,7 @@ fn next_key(text: &[u8]) -> Result<(&[u8], &[u8]), LineFault>
     first_key(text).ok_or(LineFault::Unknown)
 }
 
-/// The end of a line: nothing, or `noreply`, which makes the command quiet.
+/// Reads the end of a line: nothing, or `noreply`, which makes the command quiet.
 fn ending(args: &[u8]) -> Result<bool, LineFault>
     ensures { result ≡ ending (words args.now) }
 {
@@ -251,7 +251,7 @@ fn ending(args: &[u8]) -> Result<bool, LineFault>
     }
 }
 
-/// The same for a delete, which may have a 0 before it.
+/// Reads the end of a delete's line, which may have a 0 before the `noreply`.
 fn delete_ending(args: &[u8]) -> Result<bool, LineFault>
     ensures { result ≡ delete_ending (words args.now) }
 {
@@ -262,7 +262,7 @@ fn delete_ending(args: &[u8]) -> Result<bool, LineFault>
     }
 }
 
-/// The end of a line that goes on with a word, which has to be `noreply` and the last.
+/// Reads the end of a line that goes on with a word, which has to be `noreply` and the last.
 fn noreply(word: &[u8], rest: &[u8]) -> Result<bool, LineFault>
     ensures { result ≡ ending (word.now ∷ words rest.now) }
 {
@@ -273,7 +273,7 @@ fn noreply(word: &[u8], rest: &[u8]) -> Result<bool, LineFault>
     }
 }
 
-/// The line of a head whose block has `len` bytes, unless its item would be charged more than `greatest`.
+/// Makes the line of a head whose block has `len` bytes, unless its item would be charged more than `greatest`.
 fn fitting<'a>(greatest: u64, key: &[u8], len: u32, head: Head<'a>) -> Result<Line<'a>, LineFault>
     ensures { result ≡ fitting greatest key.now len head.entry }
 {
@@ -297,7 +297,7 @@ fn key_formed(word: &[u8]) -> Result<Bytes<'_>, LineFault>
     }
 }
 
-/// The keys that the words of a text are, at least one. They are tested and counted in one walk.
+/// Finds the keys that the words of a text are, at least one. They are tested and counted in one walk.
 fn keys_formed(text: &[u8]) -> Result<Keys<'_>, LineFault>
     ensures { result ≡ keys_formed (words text.now) }
 {
@@ -314,7 +314,7 @@ fn keys_formed(text: &[u8]) -> Result<Keys<'_>, LineFault>
     Ok(Keys::counted(text, count))
 }
 
-/// A word of a line holds no space and no line feed, so its length is all that is asked.
+/// Says whether a word is a key. A word of a line holds no space and no line feed, so its length is all that is asked.
 fn is_key(word: &[u8]) -> bool
     ensures { result ≡ is_key word.now }
 {
@@ -330,7 +330,7 @@ fn flags_formed(word: &[u8]) -> Result<u32, LineFault>
     }
 }
 
-/// The length of a block.
+/// Reads the length of a block.
 fn bytes_formed(word: &[u8]) -> Result<u32, LineFault>
     ensures { result ≡ formed BadFormat (number_up_to 2147483645 word.now) }
 {

@@ -22,7 +22,7 @@ pub enum Name {
     Quit,
 }
 
-/// The command that a word names. Those that come most often are asked for first.
+/// Finds the command that a word names. Those that come most often are asked for first.
 pub(crate) fn name_of(word: &[u8]) -> Option<Name>
     ensures { result ≡ name_of word.now }
 {

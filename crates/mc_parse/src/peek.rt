@@ -40,8 +40,8 @@ pub fn peek_at(greatest: u64, unread: &[u8]) -> Peek<'_>
     ahead.peek(unread)
 }
 
-/// Where the first line feed is, if a line may be so long. None of the first `searched` bytes is one, and they aren't
-/// looked at.
+/// Finds the first line feed, if a line may be so long. None of the first `searched` bytes is one, and they aren't looked
+/// at.
 pub fn first_feed(unread: &[u8], searched: usize) -> Option<usize>
     requires { AllByRecursion (λ b. b ≢ 10) (take searched unread.now) }
     ensures some { IfSome result (λ end. HasLine end unread.now) }
@@ -86,7 +86,7 @@ pub fn peek_said<'a>(line: Result<Line<'a>, LineFault>, unread: &'a [u8], end: u
     }
 }
 
-/// The command that a block makes of a line's head.
+/// Makes the command of a line's head and its block.
 #[inline]
 fn with_block<'a>(head: Head<'a>, block: &'a [u8]) -> Command<'a>
     ensures { result ≡ with_block head.entry block.now }
@@ -124,7 +124,7 @@ fn with_block<'a>(head: Head<'a>, block: &'a [u8]) -> Command<'a>
     }
 }
 
-/// The text of a line, without the carriage return at its end.
+/// Lends the text of a line without the carriage return at its end.
 pub fn without_carriage_return(text: &[u8]) -> &[u8]
     ensures { result.now ≡ strip_carriage_return text.now }
 {
