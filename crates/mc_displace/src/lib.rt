@@ -2,5 +2,7 @@
 #![tactic(auto)]
 
 mod displace;
+#[cfg(test)]
+mod tests;
 
 pub use displace::bring_near;

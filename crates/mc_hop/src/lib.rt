@@ -6,6 +6,8 @@ mod cells;
 mod hash;
 mod reads;
 mod table;
+#[cfg(test)]
+mod tests;
 
 pub use bits::lowest;
 pub use hash::{Constant, Fnv, KeyHash, Keyed};

@@ -1,0 +1,146 @@
+//! A table of entries whose keys are words: what is put in is found, changed and taken out again, by at most 32 reads.
+
+ghost use Rattle.std.specs.Prelude.{◌≡◌};
+
+use super::*;
+use std::alloc::{AllocError, Global};
+use std::test::*;
+
+/// A word and its hash.
+#[derive(Drop)]
+struct Word {
+    hash: u64,
+    key: &'static [u8],
+    count: u32,
+}
+
+impl Keyed for Word {
+    ghost hash_of = { λ e. e.hash };
+
+    ghost key_of = { λ e. e.key.now };
+
+    fn hash(&self) -> u64 {
+        self.hash
+    }
+
+    fn key(&self) -> &[u8] {
+        self.key
+    }
+}
+
+/// Puts an entry of a new key near its home, if there is room.
+fn add(table: &mut Hop<Word>, entry: Word) -> bool {
+    match table.find(entry.hash(), entry.key()) {
+        Some(_) => return false,
+        None => {}
+    }
+    let home = table.home_of(entry.hash());
+    let Some(at) = table.free_from(home) else {
+        return false;
+    };
+    if at - home >= 32 {
+        return false;
+    }
+    table.put_within(home, at, entry);
+    true
+}
+
+/// A table of 64 homes, asked for again where memory is refused.
+fn opened(alloc: Global) -> Result<Hop<Word>, AllocError> {
+    match Hop::new(alloc, 6) {
+        Err(_) => Hop::new(alloc, 6),
+        made => made,
+    }
+}
+
+/// Three words of one home, the last of another hash than its own word's.
+fn words() -> [Word; 3] {
+    [
+        Word {
+            hash: 256,
+            key: b"a",
+            count: 0,
+        },
+        Word {
+            hash: 256,
+            key: b"b",
+            count: 0,
+        },
+        Word {
+            hash: 257,
+            key: b"a",
+            count: 0,
+        },
+    ]
+}
+
+#[test]
+fn what_is_put_in_is_found(rt: HostRuntime) -> Result<(), Fail> {
+    let mut table = opened(rt.alloc())?;
+    for word in words() {
+        assert!(rt; add(&mut table, word), "no room");
+    }
+    assert!(rt; table.len() == 3, "{} entries", table.len());
+    assert!(rt;
+        table.find(256, b"a") == Some(1),
+        "the first is not in its home"
+    );
+    assert!(rt;
+        table.find(256, b"b") == Some(2),
+        "the second is not behind it"
+    );
+    assert!(rt;
+        table.find(257, b"a") == Some(3),
+        "the third is not behind them"
+    );
+    assert!(rt;
+        table.find(257, b"b").is_none(),
+        "a word that was not put in"
+    );
+    Ok(())
+}
+
+#[test]
+fn a_walk_reads_what_its_home_holds(rt: HostRuntime) -> Result<(), Fail> {
+    let mut table = opened(rt.alloc())?;
+    for word in words() {
+        assert!(rt; add(&mut table, word), "no room");
+    }
+    let mut reads = Reads(0);
+    let found = table.find_counted(257, b"b", &mut reads);
+    assert!(rt; found.is_none() && reads.0 == 3, "{} reads", reads.0);
+    Ok(())
+}
+
+#[test]
+fn a_word_is_counted_and_taken_out(rt: HostRuntime) -> Result<(), Fail> {
+    let mut table = opened(rt.alloc())?;
+    for word in words() {
+        assert!(rt; add(&mut table, word), "no room");
+    }
+    if let Some(at) = table.find(256, b"b") {
+        let before = table.update(at, |word| counted(word));
+        assert!(rt; before == 0, "it was counted before");
+        let word = table.remove(at);
+        assert!(rt; word.count == 1, "it was not counted");
+    }
+    assert!(rt;
+        table.find(256, b"b").is_none() && table.len() == 2,
+        "it is still there"
+    );
+    Ok(())
+}
+
+/// The word counted once more, and how often it was before.
+fn counted(word: Word) -> (Word, u32)
+    ensures hash { result.0.hash ≡ word.hash }
+    ensures key { result.0.key ≡ word.key }
+{
+    let Word { hash, key, count } = word;
+    let more = Word {
+        hash,
+        key,
+        count: count.wrapping_add(1),
+    };
+    (more, count)
+}
