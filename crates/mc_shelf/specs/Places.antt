@@ -1,10 +1,12 @@
 -- Where keys stand in an index.
-use Rattle.std.specs.Prelude.{◌≡◌, ℕ, ◌+◌, ◌-◌, ◌^◌, ◌<◌, ◌≤◌, List, map, reverse, length, get_or, Option, Some, None, slice_get, Result, Ok, Err}
+use Rattle.std.specs.Prelude.{◌≡◌, ℕ, ◌+◌, ◌-◌, ◌^◌, ◌<◌, ◌≤◌, List, map, reverse, length, get_or, Option, Some, None, slice_get, IfSome, Result, Ok, Err}
 use Rattle.std.specs.Ordering.{nat_cmp}
 use Rattle.std.specs.declared.cmp.Ordering.TheVariants.{Less, Greater}
 use Rattle.std.specs.Cmp.Lexicographic.{slice_cmp}
 use Rattle.std.specs.FinMap.{from_entries, get, insert, remove}
+use Rattle.std.specs.Borrow.{Bor}
 use Rattle.mc_command.specs.Plain.{Items, Entry}
+use Rattle.mc_command.specs.Rows.{standing_in}
 use Rattle.mc_shelf.specs.States.{EntryState, IndexState, Hashes, row, hash_row}
 use Rattle.mc_shelf.specs.declared.index.Place.{Place}
 
@@ -28,6 +30,13 @@ pub record IsPlaceOf (index : IndexState) (key : List ℕ) (place : Place) : Typ
   pub item : get (items_of index.entries) key ≡ Some entry.item
   pub hash : get (hashes_of index.entries) key ≡ Some entry.hash
 
+-- the hash and the key of an entry
+abbrev pub hash_in : EntryState → ℕ
+hash_in e = e.hash
+
+abbrev pub key_in : EntryState → List ℕ
+key_in e = e.key
+
 -- an entry stands at the place
 abbrev pub IsFilled : IndexState → Place → Type 0
 IsFilled index place = (key : List ℕ) × IsPlaceOf index key place
@@ -36,6 +45,11 @@ IsFilled index place = (key : List ℕ) × IsPlaceOf index key place
 abbrev pub IsFound : IndexState → (key : List ℕ) → Option Place → Type 0
 IsFound index key None = get (items_of index.entries) key ≡ None
 IsFound index key (Some place) = IsPlaceOf index key place
+
+-- the entry that is lent is the key's, and none is where no entry has the key
+pub record IsEntryOf (index : IndexState) (key : List ℕ) (entry : Option (Bor EntryState)) : Type 0 where
+  pub item : standing_in (λ e. e.item) entry ≡ get (items_of index.entries) key
+  pub same_key : IfSome entry (λ e. e.now.key ≡ key)
 
 -- a key that no entry has would come in a list of entries at this position, in the order of the keys
 pub record IsGap (entries : List EntryState) (key : List ℕ) (at : ℕ) : Type 0 where

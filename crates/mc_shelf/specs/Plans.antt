@@ -1,5 +1,5 @@
 -- What a step asks of a shelf.
-use Rattle.std.specs.Prelude.{◌≡◌, ◌≢◌, ◌⊎◌, ℕ, ◌-◌, ◌^◌, ◌<◌, ◌≤◌, ◌==◌, ◌&&◌, ◌||◌, Bool, true, false, List, [], ◌++◌, decimal, Option, Some, None, is_some, is_none, nat_lt, if◌then◌else◌}
+use Rattle.std.specs.Prelude.{◌≡◌, ◌≢◌, ◌⊎◌, ℕ, ◌-◌, ◌^◌, ◌<◌, ◌≤◌, ◌==◌, ◌&&◌, ◌||◌, Bool, true, false, List, [], ◌++◌, decimal, length, Option, Some, None, is_some, is_none, nat_lt, if◌then◌else◌}
 use Rattle.std.specs.FinMap.{get}
 use Rattle.std.specs.Borrow.{Bor}
 use Rattle.mc_time.specs.declared.expiry.Expiry.{Expiry}
@@ -18,9 +18,11 @@ use Rattle.mc_command.specs.Commands.{key_of}
 use Rattle.mc_command.specs.Plain.{Plain, Entry, Outcome, Answered, Spent, MayFail, plain, charge, item_class, alive, hit_of, refusal_reply, block_of, written_block, row_of}
 use Rattle.mc_command.specs.Laws.{IsOnKey}
 use Rattle.mc_shelf.specs.States.{EntryState, ShelfContent, ShelfState, DeskState, IsAt, IsHash}
+use Rattle.mc_shelf.specs.declared.index.Place.{Place}
 use Rattle.mc_shelf.specs.declared.plan.Next.{Next}
 use Rattle.mc_shelf.specs.declared.plan.Next.TheVariants.{Answer, Expire, Discard, Write}
 use Rattle.mc_shelf.specs.declared.plan.Plan.{Plan}
+use Rattle.mc_shelf.specs.declared.write.Write.{Write as Writing}
 
 -- the item of a lent entry
 abbrev pub item_in : Option (Bor EntryState) → Option Entry
@@ -100,13 +102,18 @@ writes (Expire expiry reply) = false
 writes (Discard reply) = false
 writes (Write size draft) = true
 
+-- what is known of a key: its hash, where the shelf has the key, and by a place that it has
+pub record IsKnown (shelf : ShelfContent) (key : List ℕ) (own : ℕ) (found : Option Place) : Type 0 where
+  pub hash : IsHash shelf key own
+  pub place : is_some found ≡ is_some (get shelf.items key)
+
 -- the plan of a step at a moment
 pub record IsPlan (plan : Plan) (shelf : ShelfContent) (step : KeyStep) (now : ℕ) : Type 0 where
   pub on_key : IsOnKey step
   pub key : plan.key ≡ key_of step
   pub moment : plan.moment ≡ now
   pub next : plan.next ≡ next_of shelf step now
-  pub hash : IsHash shelf (key_of step) plan.hash
+  pub known : IsKnown shelf (key_of step) plan.hash plan.place
 
 -- a write can be taken: a number is left, and a chunk of its class can be had
 pub record CanWrite (next : Next) (desk : DeskState) : Type 0 where
@@ -189,6 +196,13 @@ counts (Counted number) = true
 -- a write goes into the chunk of the item that is found: it has the class, and it is counted or dead
 abbrev pub reuses : (cut : Option ℕ) → (now : ℕ) → (key : List ℕ) → Option Entry → (class : ℕ) → Body → Bool
 reuses cut now key found class body = has_class key found class && (counts body || is_gone cut now found)
+
+-- a write that comes next in a step, of a key that is known
+pub record IsWriteOf (write : Writing) (shelf : ShelfContent) (step : KeyStep) : Type 0 where
+  pub on_key : IsOnKey step
+  pub short : length (key_of step) ≤ 250
+  pub next : next_of shelf step write.moment ≡ Write write.charge write.draft
+  pub known : IsKnown shelf (key_of step) write.hash write.place
 
 -- the item of a draft with this block
 abbrev pub drafted : Draft → (block : List ℕ) → (unique updated : ℕ) → Entry

@@ -3,15 +3,17 @@
 ghost use Rattle.std.specs.Prelude.{◌≡◌, ℕ, ◌+◌, ◌-◌, ◌^◌, ◌<◌, ◌≤◌, List, [], length, min, nat_lt};
 ghost use Rattle.std.specs.Prelude.{Some, None, IfOk, IfSome, OnOk, OnErr, option_copied};
 ghost use Rattle.std.specs.FinMap.{get, len};
-ghost use Rattle.mc_slab.specs.Classes.{class_holding};
-ghost use Rattle.mc_command.specs.Plain.{item_class};
-ghost use Rattle.mc_shelf.specs.States.{StaysInClass, charge_in, entry_in, renumbered};
+ghost use Rattle.mc_hop.specs.Tables.{KeepsKey};
+ghost use Rattle.mc_shelf.specs.States.{EntryState};
 ghost use Rattle.mc_shelf.specs.Places.{
   items_of,
   entry_at,
   IsPlaceOf,
+  hash_in,
+  key_in,
   IsFilled,
   IsFound,
+  IsEntryOf,
   IsGap,
   IsSearched,
   HasHash,
@@ -25,12 +27,10 @@ ghost use Rattle.mc_shelf.specs.Places.{
 };
 
 use crate::entry::Entry;
+use core::mem;
 use mc_hop::Keyed;
-use mc_item::Parts;
-use mc_time::{Expiry, Moment};
 use std::alloc::{AllocError, Global};
 use std::marker::Model;
-use std::mem;
 
 /// Where an entry stands in an index, until an entry comes or goes. Only the index knows what the number means.
 #[derive(Clone, Copy)]
@@ -97,16 +97,26 @@ impl Index {
         self.list.binary_search_by(|entry| entry.order_to(key))
     }
 
-    /// Finds the place of a key, as `find` does, whatever the place is that it is given: it looks there first, which is all
-    /// the cost where the key was found there and no entry has come or gone since.
-    pub(crate) fn find_again(&self, place: Place, hash: u64, key: &[u8]) -> Option<Place>
-        requires { HasHash self.now.entries key.now hash }
+    /// Finds the place of a key that was looked for before: `found` is what was found, and none only where no entry has the
+    /// key. Whatever the place is, the answer is right: it looks there first, which is all the cost where no entry has come
+    /// or gone since.
+    pub(crate) fn find_again(&self, found: Option<Place>, hash: u64, key: &[u8]) -> Option<Place>
+        requires hash { HasHash self.now.entries key.now hash }
+        requires none { found ≡ None → get (items_of self.now.entries) key.now ≡ None }
         ensures { IsFound self.now key.now result }
     {
+        let place = found?;
         match self.list.get(place.number) {
             Some(entry) if entry.hash() == hash && entry.key() == key => Some(place),
             _ => self.find(hash, key),
         }
+    }
+
+    /// Lends the entry whose place a search has found.
+    pub(crate) fn found(&self, found: Option<Place>) -> Option<&Entry>
+        ensures { (key : List ℕ) → IsFound self.now key found → IsEntryOf self.now key result }
+    {
+        self.get(found?)
     }
 
     /// Lends the entry at a place, where one stands there.
@@ -176,56 +186,24 @@ impl Index {
         }
     }
 
-    /// Puts an entry in the place of the one of the same key and hash, and gives that back. It takes no memory.
-    pub(crate) fn replace(&mut self, place: Place, entry: Entry) -> Entry
-        requires key { IsPlaceOf self.old entry.key place }
-        requires hash { HasHash self.old.entries entry.key entry.hash }
-        ensures old { entry_at self.old place ≡ Some result }
-        ensures new { entry_at self.new place ≡ Some entry }
-        ensures changed { IsChanged self.old self.new entry.key entry.item }
-    {
-        mem::replace(&mut self.list[place.number], entry)
-    }
-
-    /// Sets the expiry of the item at a place. All else stays.
-    pub(crate) fn set_expiry(&mut self, place: Place, expiry: Expiry)
-        requires { IsFilled self.old place }
-        ensures { (key : List ℕ) (at : IsPlaceOf self.old key place) →
-            IsChanged self.old self.new key (record at.entry.item { expiry = expiry }) }
-    {
-        self.list[place.number].set_expiry(expiry);
-    }
-
-    /// Makes the number's decimal digits the block of the item at a place, which stays in its chunk, as that class has
-    /// room for them; with them come the unique number and the moment of the write.
-    pub(crate) fn rewrite_number(&mut self, place: Place, number: u64, unique: u64, updated: Moment)
+    /// Changes the entry at a place by a closure that keeps its hash and its key, and hands out what the closure answers
+    /// beside it. It takes no memory of its own.
+    pub(crate) fn update<R, F: FnOnce(Entry) -> (Entry, R)>(&mut self, place: Place, change: F) -> R
         requires filled { IsFilled self.old place }
-        requires stays { (key : List ℕ) (at : IsPlaceOf self.old key place) →
-            StaysInClass key at.entry.item number }
-        ensures { (key : List ℕ) (at : IsPlaceOf self.old key place) →
-            IsChanged self.old self.new key (renumbered at.entry.item number unique updated) }
+        requires keeps { (entry : EntryState) → entry_at self.old place ≡ Some entry →
+            KeepsKey hash_in key_in (F.pre change) (F.post change) entry }
+        ensures { (key : List ℕ) (at : IsPlaceOf self.old key place) → (pair : EntryState × R)
+            × F.post change at.entry pair × (result ≡ pair.1)
+            × IsChanged self.old self.new key pair.0.item }
     {
-        self.list[place.number].rewrite_number(number, unique, updated);
-    }
-
-    /// Writes the item of other parts, of the same key, into the chunk of the one at a place, whose class the charge asks for.
-    /// It takes no memory.
-    pub(crate) fn rewrite(&mut self, place: Place, parts: Parts<'_>)
-        requires key { IsPlaceOf self.old parts.key.now place }
-        requires short { length parts.key.now ≤ 250 }
-        requires class { (at : IsPlaceOf self.old parts.key.now place) →
-            class_holding (charge_in parts) ≡ item_class parts.key.now at.entry.item }
-        ensures { IsChanged self.old self.new parts.entry.key.now (entry_in 0 parts.entry).item }
-    {
-        self.list[place.number].rewrite(Parts {
-            key: parts.key,
-            first: parts.first,
-            second: parts.second,
-            flags: parts.flags,
-            expiry: parts.expiry,
-            unique: parts.unique,
-            updated: parts.updated,
-        });
+        mem::replace_with(
+            &mut self.list[place.number],
+            change,
+            |entry, change|
+                requires { F.pre change entry }
+                ensures { F.post change entry result }
+            { change(entry) },
+        )
     }
 
     /// Takes the entry at a place out. The cost grows with the number of the entries behind it.

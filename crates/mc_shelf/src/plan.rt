@@ -23,6 +23,7 @@ ghost use Rattle.mc_shelf.specs.Plans.{
 };
 
 use crate::entry::Entry;
+use crate::index::Place;
 use itoa::Buffer;
 use mc_command as command;
 use mc_command::{Block, Body, Bytes, Draft, KeyStep, Reply, Row, Standing};
@@ -52,6 +53,8 @@ pub struct Plan<'a> {
     pub(crate) key: Bytes<'a>,
     /// The hash of the key.
     pub(crate) hash: u64,
+    /// Where the key's item was found, and none where the key has no item.
+    pub(crate) place: Option<Place>,
     /// What comes next.
     pub(crate) next: Next,
     /// The moment of the step: that of the look-up, and of a write.

@@ -4,7 +4,7 @@ ghost use Rattle.std.specs.Prelude.{◌≡◌, ◌≢◌, ◌↔◌, ℕ, ◌-�
 ghost use Rattle.std.specs.Prelude.{Option, Some, None, Err, IfOk, IfSome, OnErr, OnOk, true, false};
 ghost use Rattle.std.specs.FinMap.{empty, get};
 ghost use Rattle.mc_time.specs.declared.expiry.Expiry.{Expiry as Expires};
-ghost use Rattle.mc_slab.specs.Classes.{class_holding};
+ghost use Rattle.mc_slab.specs.Classes.{IsClass, class_holding, size_of};
 ghost use Rattle.mc_slab.specs.Chunks.{chunk_class};
 ghost use Rattle.mc_slab.specs.Slabs.{IsSlab};
 ghost use Rattle.mc_command.specs.declared.step.KeyStep.{KeyStep as Step};
@@ -19,12 +19,14 @@ ghost use Rattle.mc_shelf.specs.Plans.{
   GivesBack,
   HasRoom,
   IsDropped,
+  IsKnown,
   IsOut,
   IsPlan,
   IsPut,
   IsSettled,
   IsSpent,
   IsTaken,
+  IsWriteOf,
   LookTakesMemory,
   MayWantMemory,
   NeedsPage,
@@ -43,7 +45,7 @@ ghost use Rattle.mc_shelf.specs.Sweeps.{AreOut, GivesFor, IsPurged};
 
 use crate::desk::Desk;
 use crate::entry::Entry;
-use crate::index::Index;
+use crate::index::{Index, Place};
 use crate::plan::{Next, Plan, block_in, is_gone, next_of};
 use crate::write;
 use crate::write::Write;
@@ -159,7 +161,7 @@ impl Shelf {
         ensures asked { OnErr result (LookTakesMemory step.now now self.old.content) }
     {
         let plan = self.plan(alloc, step, hash, now)?;
-        if plan.writes() && self.entry(hash, step.key()).is_none() {
+        if plan.writes() && plan.place.is_none() {
             self.index.reserve()?;
         }
         Ok(plan)
@@ -175,13 +177,14 @@ impl Shelf {
         let Plan {
             key,
             hash,
+            place,
             next,
             ..
         } = plan;
         match next {
             Next::Answer(reply) => reply,
             Next::Expire(expiry, reply) => {
-                self.expire(hash, key.as_slice(), expiry);
+                self.expire(place, hash, key.as_slice(), expiry);
                 reply
             }
             // These need the desk, and don't come here.
@@ -217,6 +220,7 @@ impl Shelf {
         counts_follow();
         let Plan {
             hash,
+            place,
             next,
             moment,
             ..
@@ -224,16 +228,17 @@ impl Shelf {
         match next {
             Next::Answer(reply) => Ok(reply),
             Next::Expire(expiry, reply) => {
-                self.expire(hash, step.key(), expiry);
+                self.expire(place, hash, step.key(), expiry);
                 Ok(reply)
             }
             Next::Discard(reply) => {
-                self.discard(hash, step.key(), desk);
+                self.discard(place, hash, step.key(), desk);
                 Ok(reply)
             }
             Next::Write(charge, draft) => {
                 let write = Write {
                     hash,
+                    place,
                     moment,
                     charge,
                     draft,
@@ -314,24 +319,26 @@ impl Shelf {
             × (row_at self.now.content step.now now ≡ Reads expiry)) }
         ensures most { self.now.content.greatest ≤ 1048576 }
     {
-        let found = self.entry(hash, step.key());
+        let place = self.index.find(hash, step.key());
+        let found = self.index.found(place);
         let next = next_of(alloc, step, found, self.greatest, self.cut, now)?;
         Ok(Plan {
             key: Bytes::of(step.key()),
             hash,
+            place,
             next,
             moment: now,
         })
     }
 
     /// Lends the entry of a key, where it has the key.
-    fn entry(&self, hash: u64, key: &[u8]) -> Option<&Entry>
-        requires { IsHash self.now.content key.now hash }
+    fn entry(&self, place: Option<Place>, hash: u64, key: &[u8]) -> Option<&Entry>
+        requires { IsKnown self.now.content key.now hash place }
         ensures item { item_in result ≡ get self.now.content.items key.now }
         ensures key { IfSome result (λ entry. entry.now.key ≡ key.now) }
     {
-        let place = self.index.find(hash, key)?;
-        self.index.get(place)
+        let found = self.index.find_again(place, hash, key);
+        self.index.found(found)
     }
 
     /// Makes room for the entry of a new key, where a plan can be taken that writes it.
@@ -361,55 +368,70 @@ impl Shelf {
         if desk.is_spent() {
             return false;
         }
-        // Read for the invariant's clause on it: a charge of at most 1048576 bytes has a class.
-        let _greatest = self.greatest;
         let Next::Write(charge, _) = plan.next else {
             return false;
         };
-        let Some(class) = class_of(charge) else {
-            return false;
-        };
-        desk.has_room(class) && self.entry(plan.hash, plan.key.as_slice()).is_none()
+        desk.has_room(self.class_for(charge)) && plan.place.is_none()
+    }
+
+    /// Gives the class that holds a charge of at most the greatest.
+    fn class_for(&self, charge: u64) -> Class
+        requires { charge ≤ self.now.content.greatest }
+        ensures value { result ≡ class_holding charge }
+        ensures is_class { IsClass result }
+        ensures holds { charge ≤ size_of result }
+    {
+        match class_of(charge.min(self.greatest)) {
+            Some(class) => class,
+            None => unreachable!(),
+        }
     }
 
     /// Sets the expiry of a key's item.
-    fn expire(&mut self, hash: u64, key: &[u8], expiry: Expiry)
-        requires { IsHash self.old.content key.now hash }
+    fn expire(&mut self, place: Option<Place>, hash: u64, key: &[u8], expiry: Expiry)
+        requires { IsKnown self.old.content key.now hash place }
         ensures { (item : Item) → get self.old.content.items key.now ≡ Some item →
             IsPut key.now hash self.old.content self.new.content
             (record item { expiry = expiry }) }
     {
-        if let Some(place) = self.index.find(hash, key) {
-            self.index.set_expiry(place, expiry);
+        if let Some(place) = self.index.find_again(place, hash, key) {
+            self.index.update(place, |mut entry| {
+                entry.set_expiry(expiry);
+                (entry, ())
+            });
         }
     }
 
     /// Drops a key's item, and gives its chunk back.
-    fn discard(&mut self, hash: u64, key: &[u8], desk: &mut Desk)
-        requires hash { IsHash self.old.content key.now hash }
+    fn discard(&mut self, place: Option<Place>, hash: u64, key: &[u8], desk: &mut Desk)
+        requires known { IsKnown self.old.content key.now hash place }
         requires out { IsOut key.now self.old.content desk.old }
         ensures dropped { (item : Item) → get self.old.content.items key.now ≡ Some item →
             IsDropped key.now hash self.old.content self.new.content }
         ensures given { GivesBack key.now (get self.old.content.items key.now) desk.old desk.new }
     {
-        if let Some(place) = self.index.find(hash, key) {
+        if let Some(place) = self.index.find_again(place, hash, key) {
             let entry = self.index.remove(place);
             desk.give(entry.into_chunk());
         }
     }
 
-    /// Drops a key's item if it is dead.
-    fn drop_dead(&mut self, hash: u64, key: &[u8], now: Moment, desk: &mut Desk)
-        requires hash { IsHash self.old.content key.now hash }
+    /// Drops the item of a write's key if it is dead.
+    fn drop_dead(&mut self, write: &Write, key: &[u8], desk: &mut Desk)
+        requires known { IsKnown self.old.content key.now write.now.hash write.now.place }
         requires out { IsOut key.now self.old.content desk.old }
-        ensures dead { is_gone self.old.content.cut now (get self.old.content.items key.now) ≡ true →
-            (IsDropped key.now hash self.old.content self.new.content
+        ensures dead { is_gone self.old.content.cut write.now.moment (get self.old.content.items key.now) ≡ true →
+            (IsDropped key.now write.now.hash self.old.content self.new.content
             × GivesBack key.now (get self.old.content.items key.now) desk.old desk.new) }
-        ensures alive { is_gone self.old.content.cut now (get self.old.content.items key.now) ≡ false →
+        ensures alive { is_gone self.old.content.cut write.now.moment (get self.old.content.items key.now) ≡ false →
             ((self.new.content ≡ self.old.content) × (desk.new ≡ desk.old)) }
     {
-        if is_gone(self.entry(hash, key), self.cut, now) {
-            self.discard(hash, key, desk);
+        if is_gone(
+            self.entry(write.place, write.hash, key),
+            self.cut,
+            write.moment,
+        ) {
+            self.discard(write.place, write.hash, key, desk);
         }
     }
 
@@ -421,11 +443,7 @@ impl Shelf {
         step: &KeyStep<'_>,
         desk: &mut Desk,
     ) -> Result<Reply, StepFault>
-        requires on_key { IsOnKey step.now }
-        requires key { length (key_of step.now) ≤ 250 }
-        requires next { next_of self.old.content step.now write.now.moment
-            ≡ Next.Write write.now.charge write.now.draft }
-        requires hash { IsHash self.old.content (key_of step.now) write.now.hash }
+        requires write { IsWriteOf write.now self.old.content step.now }
         requires room { CanWrite (Next.Write write.now.charge write.now.draft) desk.old →
             get self.old.content.items (key_of step.now) ≡ None → 1 ≤ self.old.room }
         requires stands { CanStand (key_of step.now) self.old.content desk.old }
@@ -438,21 +456,17 @@ impl Shelf {
             ((self.new.content ≡ self.old.content) × (desk.new ≡ desk.old)) }
     {
         counts_follow();
-        // Read for the invariant's clause on it: a charge of at most 1048576 bytes has a class.
-        let _greatest = self.greatest;
         if desk.is_spent() {
             return Err(StepFault::NumbersSpent);
         }
-        let Some(class) = class_of(write.charge) else {
-            return Ok(Reply::TooLarge);
-        };
+        let class = self.class_for(write.charge);
         if self.reuses(write, class, step.key()) {
             let unique = desk.draw();
             self.rewrite(write, unique, step);
             return Ok(write.draft.body.reply());
         }
         if !desk.has_room(class) {
-            self.drop_dead(write.hash, step.key(), write.moment, desk);
+            self.drop_dead(write, step.key(), desk);
             return Ok(Reply::NoChunk);
         }
         let chunk = desk.take(alloc, class)?;
@@ -464,18 +478,18 @@ impl Shelf {
     /// Answers whether a write goes into the chunk of the key's item: it is one of the class, and the item is dead, or a
     /// number that is counted.
     fn reuses(&self, write: &Write, class: Class, key: &[u8]) -> bool
-        requires { IsHash self.now.content key.now write.now.hash }
+        requires { IsKnown self.now.content key.now write.now.hash write.now.place }
         ensures { result ≡ reuses self.now.content.cut write.now.moment key.now
             (get self.now.content.items key.now) class write.now.draft.body }
     {
-        let found = self.entry(write.hash, key);
+        let found = self.entry(write.place, write.hash, key);
         write::has_class(found, class) && (write.counts() || is_gone(found, self.cut, write.moment))
     }
 
     /// Writes the step's own block, or a number, in the chunk of the key's item.
     fn rewrite(&mut self, write: &Write, unique: u64, step: &KeyStep<'_>)
         requires key { length (key_of step.now) ≤ 250 }
-        requires hash { IsHash self.old.content (key_of step.now) write.now.hash }
+        requires known { IsKnown self.old.content (key_of step.now) write.now.hash write.now.place }
         requires class { (item : Item) → get self.old.content.items (key_of step.now) ≡ Some item →
             item_class (key_of step.now) item ≡ class_holding
             (charge (key_of step.now) (own_block write.now.draft.body (block_of step.now))) }
@@ -499,34 +513,35 @@ impl Shelf {
     /// Writes a block in the chunk of a key's item.
     fn overwrite(&mut self, write: &Write, unique: u64, key: &[u8], block: &[u8])
         requires key { length key.now ≤ 250 }
-        requires hash { IsHash self.old.content key.now write.now.hash }
+        requires known { IsKnown self.old.content key.now write.now.hash write.now.place }
         requires class { (item : Item) → get self.old.content.items key.now ≡ Some item →
             item_class key.now item ≡ class_holding (charge key.now block.now) }
         ensures { (item : Item) → get self.old.content.items key.now ≡ Some item →
             IsPut key.now write.now.hash self.old.content self.new.content
             (drafted write.now.draft block.now unique write.now.moment) }
     {
-        if let Some(place) = self.index.find(write.hash, key) {
-            let Draft { flags, expiry, .. } = write.draft;
-            self.index.rewrite(
-                place,
-                Parts {
+        let Draft { flags, expiry, .. } = write.draft;
+        let updated = write.moment;
+        if let Some(place) = self.index.find_again(write.place, write.hash, key) {
+            self.index.update(place, |mut entry| {
+                entry.rewrite(Parts {
                     key,
                     first: &[],
                     second: block,
                     flags,
                     expiry,
                     unique,
-                    updated: write.moment,
-                },
-            );
+                    updated,
+                });
+                (entry, ())
+            });
         }
     }
 
     /// Puts the item of a write into a chunk and under its key. The chunk of the item that stood there goes back.
     fn put(&mut self, write: &Write, unique: u64, chunk: Chunk, step: &KeyStep<'_>, desk: &mut Desk)
         requires key { length (key_of step.now) ≤ 250 }
-        requires hash { IsHash self.old.content (key_of step.now) write.now.hash }
+        requires known { IsKnown self.old.content (key_of step.now) write.now.hash write.now.place }
         requires class { chunk_class chunk ≡ class_holding
             (charge (key_of step.now) (block_beside self.old.content step.now write.now.draft)) }
         requires fits { charge (key_of step.now) (block_beside self.old.content step.now write.now.draft)
@@ -539,11 +554,12 @@ impl Shelf {
         ensures given { GivesBack (key_of step.now) (get self.old.content.items (key_of step.now))
             desk.old desk.new }
     {
-        let old = block_in(self.entry(write.hash, step.key()));
+        let place = self.index.find_again(write.place, write.hash, step.key());
+        let old = block_in(self.index.found(place));
         let entry = write.entry_in(chunk, unique, step, old);
-        match self.index.find(write.hash, step.key()) {
+        match place {
             Some(place) => {
-                let old = self.index.replace(place, entry);
+                let old = self.index.update(place, |old| (entry, old));
                 desk.give(old.into_chunk());
             }
             None => {

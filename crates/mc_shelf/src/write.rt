@@ -9,6 +9,7 @@ ghost use Rattle.mc_shelf.specs.Plans as plans;
 ghost use Rattle.mc_shelf.specs.Plans.{drafted, item_in, made_block};
 
 use crate::entry::Entry;
+use crate::index::Place;
 use itoa::Buffer;
 use mc_command::{Body, Draft, KeyStep};
 use mc_item::Parts;
@@ -20,6 +21,8 @@ use mc_time::Moment;
 pub(crate) struct Write {
     /// The hash of the step's key.
     pub(crate) hash: u64,
+    /// Where the key's item was found, and none where the key has no item.
+    pub(crate) place: Option<Place>,
     /// The moment of the step.
     pub(crate) moment: Moment,
     /// The charge of the item, in bytes.

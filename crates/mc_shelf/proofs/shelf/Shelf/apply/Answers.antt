@@ -15,7 +15,7 @@ pub returns-in-Answer-clause-took : goal.returns-in-Answer-clause-took
 returns-in-Answer-clause-took c = record {
   takes = takes_answer c.counts_follow.ensures.insert c.counts_follow.ensures.remove c.args.step.now c.args.plan.moment c.args.self.now.content c.args.desk.now c.requires.plan.on_key c.in-Answer.reply (sym c.in-Answer.is ∙ c.requires.plan.next);
   others = others_same (key_of c.args.step.now) c.args.self.now.content;
-  hash = c.requires.plan.hash;
+  hash = c.requires.plan.known.hash;
 }
 
 pub returns-in-Expire-clause-took : goal.returns-in-Expire-clause-took

@@ -5,8 +5,7 @@ use Rattle.mc_command.specs.declared.row.Body.{Body}
 use Rattle.mc_command.specs.declared.row.Body.TheVariants.{Given, Appended, Prepended}
 use Rattle.mc_command.specs.Commands.{key_of}
 use Rattle.mc_command.specs.Plain.{Entry, block_of, charge, item_class}
-use Rattle.mc_shelf.specs.States.{IsHash}
-use Rattle.mc_shelf.specs.Plans.{own_block}
+use Rattle.mc_shelf.specs.Plans.{IsKnown, own_block}
 use Rattle.mc_shelf.proofs.shelf.Shelf.rewrite.Goals as goal
 
 -- a body that is no number's has the step's own block
@@ -23,7 +22,7 @@ overwrite-requires c =
     let block : own_block c.args.write.now.draft.body (block_of step) ≡ c.block.result.now = own_step c.args.write.now.draft.body (block_of step) c.in-Given.is ∙ sym c.block.ensures in
     record {
       key = subst (λ (k : List ℕ). length k ≤ 250) key c.requires.key;
-      hash = subst (λ (k : List ℕ). IsHash shelf k c.args.write.now.hash) key c.requires.hash;
+      known = subst (λ (k : List ℕ). IsKnown shelf k c.args.write.now.hash c.args.write.now.place) key c.requires.known;
       class = subst (λ (k : List ℕ). (item : Entry) → get shelf.items k ≡ Some item → item_class k item ≡ class_holding (charge k c.block.result.now)) key
           (subst (λ (l : List ℕ). (item : Entry) → get shelf.items (key_of step) ≡ Some item → item_class (key_of step) item ≡ class_holding (charge (key_of step) l)) block c.requires.class);
     }

@@ -10,7 +10,7 @@ pub returns-in-Answer : goal.returns-in-Answer
 returns-in-Answer c step now plan = record {
   takes = λ desk. takes_answer c.counts_follow.ensures.insert c.counts_follow.ensures.remove step now c.args.self.now.content desk plan.on_key c.in-Answer.reply (sym c.in-Answer.is ∙ plan.next);
   others = others_same (key_of step) c.args.self.now.content;
-  hash = plan.hash;
+  hash = plan.known.hash;
 }
 
 pub returns-in-Expire : goal.returns-in-Expire

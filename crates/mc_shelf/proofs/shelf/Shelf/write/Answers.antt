@@ -1,30 +1,27 @@
-use Rattle.std.proofs.Common.{◌≡◌, ◌≢◌, ◌+◌, ◌-◌, ◌^◌, ◌≤◌, List, ℕ, true, false, arith, length, refl, sym, ap, subst, ◌∙◌}
+use Rattle.std.proofs.Common.{◌≡◌, ◌≢◌, ◌+◌, ◌-◌, ◌^◌, ◌≤◌, List, ℕ, true, false, arith, length, sym, ap, subst, ◌∙◌}
 use Rattle.std.specs.FinMap.{get}
 use Rattle.mc_slab.specs.Classes.{class_holding}
 use Rattle.mc_slab.specs.Slabs.{taken}
 use Rattle.mc_command.specs.declared.reply.Reply.{Reply}
 use Rattle.mc_command.specs.Commands.{key_of}
 use Rattle.mc_command.specs.Plain.{block_of, write_reply}
-use Rattle.mc_shelf.specs.States.{DeskState, ShelfState}
+use Rattle.mc_shelf.specs.States.{DeskState}
 use Rattle.mc_shelf.specs.Plans.{GivesBack, IsDropped, IsOut, IsPut, Takes, block_beside, drafted, is_gone, own_block, reuses}
-use Rattle.mc_shelf.proofs.TakesLemmas.{beside_is, charge_beside, class_own, class_some, drafts, is_out, is_out_taken, others_full, own_is, reused_is, takes_again, takes_anew, takes_full}
+use Rattle.mc_shelf.proofs.TakesLemmas.{beside_is, charge_beside, class_own, drafts, is_out, is_out_taken, others_full, own_is, reused_is, takes_again, takes_anew, takes_full}
 use Rattle.mc_shelf.proofs.shelf.Shelf.write.Goals as goal
 
-pub returns-in_default-clause-took : goal.returns-in_default-clause-took
-returns-in_default-clause-took c =
+pub class_for-class-requires : goal.class_for-class-requires
+class_for-class-requires c =
     let write = c.args.write.now in
-    let fits = (drafts c.args.self.now.content c.args.step.now write.moment write.charge write.draft (sym c.requires.next)).fits in
-    let greatest : c.self.inside.greatest ≡ c.args.self.now.content.greatest = ap (λ (s : ShelfState). s.content.greatest) c.self.view_is in
-    let most = c.self.invariant in
-    absurd (omega (arith, c.in_default.ensures.none.0 refl, fits, greatest, most))
+    (drafts c.args.self.now.content c.args.step.now write.moment write.charge write.draft (sym c.requires.write.next)).fits
 
 pub rewrite-requires-clause-class : goal.rewrite-requires-clause-class
 rewrite-requires-clause-class c =
     let shelf = c.args.self.now.content in
     let write = c.args.write.now in
-    let reused = subst (λ (k : List ℕ). reuses shelf.cut write.moment k (get shelf.items k) c.in-Some.class write.draft.body ≡ true) c.key.ensures (sym c.reuses.ensures ∙ c.if-reuses.true) in
-    class_own c.counts_follow.ensures.insert c.counts_follow.ensures.remove c.args.step.now write.moment shelf c.args.desk.now c.requires.on_key write.charge write.draft (sym c.requires.next)
-    c.in-Some.class (class_some write.charge c.in-Some.class (sym c.in-Some.is ∙ c.class_of.ensures.value)) reused
+    let reused = subst (λ (k : List ℕ). reuses shelf.cut write.moment k (get shelf.items k) c.class_for-class.result write.draft.body ≡ true) c.key.ensures (sym c.reuses.ensures ∙ c.if-reuses.true) in
+    class_own c.counts_follow.ensures.insert c.counts_follow.ensures.remove c.args.step.now write.moment shelf c.args.desk.now c.requires.write.on_key write.charge write.draft (sym c.requires.write.next)
+    c.class_for-class.result c.class_for-class.ensures.value reused
 
 pub returns-then-reuses-clause-took : goal.returns-then-reuses-clause-took
 returns-then-reuses-clause-took c =
@@ -33,18 +30,18 @@ returns-then-reuses-clause-took c =
     let write = c.args.write.now in
     let step = c.args.step.now in
     let new = c.rewrite.new.self.content in
-    let class = c.in-Some.class in
-    let class_is = class_some write.charge class (sym c.in-Some.is ∙ c.class_of.ensures.value) in
+    let class = c.class_for-class.result in
+    let class_is = c.class_for-class.ensures.value in
     let reused = subst (λ (k : List ℕ). reuses shelf.cut write.moment k (get shelf.items k) class write.draft.body ≡ true) c.key.ensures (sym c.reuses.ensures ∙ c.if-reuses.true) in
     let more : desk.next_unique ≢ 2 ^ 64 - 1 = λ e. let less = c.is_spent.ensures.left c.if-is_spent.false in omega (arith, less) in
-    let there = reused_is c.counts_follow.ensures.insert c.counts_follow.ensures.remove step write.moment shelf desk c.requires.on_key write.charge write.draft (sym c.requires.next) class class_is reused in
-    let block = own_is c.counts_follow.ensures.insert c.counts_follow.ensures.remove step write.moment shelf desk c.requires.on_key write.charge write.draft (sym c.requires.next) class class_is reused in
+    let there = reused_is c.counts_follow.ensures.insert c.counts_follow.ensures.remove step write.moment shelf desk c.requires.write.on_key write.charge write.draft (sym c.requires.write.next) class class_is reused in
+    let block = own_is c.counts_follow.ensures.insert c.counts_follow.ensures.remove step write.moment shelf desk c.requires.write.on_key write.charge write.draft (sym c.requires.write.next) class class_is reused in
     let puts = subst (λ (l : List ℕ). IsPut (key_of step) write.hash shelf new (drafted write.draft l desk.next_unique write.moment)) block
     (subst (λ (n : ℕ). IsPut (key_of step) write.hash shelf new (drafted write.draft (own_block write.draft.body (block_of step)) n write.moment)) c.draw-unique.ensures.number (c.rewrite.ensures there.0 there.1)) in
     record {
       takes = subst (λ (r : Reply). Takes step write.moment shelf desk r new c.draw-unique.new.self) (sym c.reply.ensures)
           (subst (λ (d : DeskState). Takes step write.moment shelf desk (write_reply write.draft.body) new d) (sym c.draw-unique.ensures.drawn)
-          (takes_again c.counts_follow.ensures.insert c.counts_follow.ensures.remove step write.moment shelf desk c.requires.on_key write.charge write.draft (sym c.requires.next) class class_is reused c.in-Some.ensures.is_class c.draw-unique.ensures.slab more write.hash new puts));
+          (takes_again c.counts_follow.ensures.insert c.counts_follow.ensures.remove step write.moment shelf desk c.requires.write.on_key write.charge write.draft (sym c.requires.write.next) class class_is reused c.class_for-class.ensures.is_class c.draw-unique.ensures.slab more write.hash new puts));
       others = puts.others;
       hash = puts.hash;
     }
@@ -62,15 +59,15 @@ returns-then-not-has_room-clause-took c =
     let step = c.args.step.now in
     let new = c.drop_dead.new.self.content in
     let desk' = c.drop_dead.new.desk in
-    let class = c.in-Some.class in
-    let class_is = class_some write.charge class (sym c.in-Some.is ∙ c.class_of.ensures.value) in
+    let class = c.class_for-class.result in
+    let class_is = c.class_for-class.ensures.value in
     let reused = subst (λ (k : List ℕ). reuses shelf.cut write.moment k (get shelf.items k) class write.draft.body ≡ false) c.key.ensures (sym c.reuses.ensures ∙ c.if-reuses.false) in
     let more : desk.next_unique ≢ 2 ^ 64 - 1 = λ e. let less = c.is_spent.ensures.left c.if-is_spent.false in omega (arith, less) in
     let dead = subst (λ (k : List ℕ). is_gone shelf.cut write.moment (get shelf.items k) ≡ true → IsDropped k write.hash shelf new × GivesBack k (get shelf.items k) desk desk') c.key-then-not-has_room.ensures c.drop_dead.ensures.dead in
     let alive = subst (λ (k : List ℕ). is_gone shelf.cut write.moment (get shelf.items k) ≡ false → (new ≡ shelf) × (desk' ≡ desk)) c.key-then-not-has_room.ensures c.drop_dead.ensures.alive in
-    let others = others_full c.counts_follow.ensures.insert c.counts_follow.ensures.remove step write.moment shelf desk c.requires.on_key write.charge write.draft (sym c.requires.next) class class_is write.hash new desk' c.requires.hash dead alive in
+    let others = others_full c.counts_follow.ensures.insert c.counts_follow.ensures.remove step write.moment shelf desk c.requires.write.on_key write.charge write.draft (sym c.requires.write.next) class class_is write.hash new desk' c.requires.write.known.hash dead alive in
     record {
-      takes = takes_full c.counts_follow.ensures.insert c.counts_follow.ensures.remove step write.moment shelf desk c.requires.on_key write.charge write.draft (sym c.requires.next) class class_is reused c.in-Some.ensures.is_class c.has_room.ensures.slab
+      takes = takes_full c.counts_follow.ensures.insert c.counts_follow.ensures.remove step write.moment shelf desk c.requires.write.on_key write.charge write.draft (sym c.requires.write.next) class class_is reused c.class_for-class.ensures.is_class c.has_room.ensures.slab
           (sym c.has_room.ensures.value ∙ c.if-not-has_room.true) more write.hash new desk' dead alive;
       others = others.0;
       hash = others.1;
@@ -79,22 +76,22 @@ returns-then-not-has_room-clause-took c =
 pub put-requires-clause-class : goal.put-requires-clause-class
 put-requires-clause-class c =
     let write = c.args.write.now in
-    let charge_is = charge_beside c.counts_follow.ensures.insert c.counts_follow.ensures.remove c.args.step.now write.moment c.args.self.now.content c.args.desk.now c.requires.on_key write.charge write.draft (sym c.requires.next) in
-    c.in_ok-chunk.ensures.chunk.class_is ∙ class_some write.charge c.in-Some.class (sym c.in-Some.is ∙ c.class_of.ensures.value) ∙ ap class_holding (sym charge_is)
+    let charge_is = charge_beside c.counts_follow.ensures.insert c.counts_follow.ensures.remove c.args.step.now write.moment c.args.self.now.content c.args.desk.now c.requires.write.on_key write.charge write.draft (sym c.requires.write.next) in
+    c.in_ok-chunk.ensures.chunk.class_is ∙ c.class_for-class.ensures.value ∙ ap class_holding (sym charge_is)
 
 pub put-requires-clause-fits : goal.put-requires-clause-fits
 put-requires-clause-fits c =
     let write = c.args.write.now in
-    let charge_is = charge_beside c.counts_follow.ensures.insert c.counts_follow.ensures.remove c.args.step.now write.moment c.args.self.now.content c.args.desk.now c.requires.on_key write.charge write.draft (sym c.requires.next) in
-    subst (λ (n : ℕ). n ≤ length c.in_ok-chunk.chunk) (sym charge_is) (subst (λ (n : ℕ). write.charge ≤ n) (sym c.in_ok-chunk.ensures.chunk.size) c.in-Some.ensures.holds)
+    let charge_is = charge_beside c.counts_follow.ensures.insert c.counts_follow.ensures.remove c.args.step.now write.moment c.args.self.now.content c.args.desk.now c.requires.write.on_key write.charge write.draft (sym c.requires.write.next) in
+    subst (λ (n : ℕ). n ≤ length c.in_ok-chunk.chunk) (sym charge_is) (subst (λ (n : ℕ). write.charge ≤ n) (sym c.in_ok-chunk.ensures.chunk.size) c.class_for-class.ensures.holds)
 
 pub put-requires-clause-out : goal.put-requires-clause-out
 put-requires-clause-out c =
     let desk = c.args.desk.now in
-    let drawn : c.draw-unique-2.new.self ≡ record { slab = taken desk.slab c.in-Some.class; next_unique = desk.next_unique + 1 } =
+    let drawn : c.draw-unique-2.new.self ≡ record { slab = taken desk.slab c.class_for-class.result; next_unique = desk.next_unique + 1 } =
     c.draw-unique-2.ensures.drawn ∙ ap (λ (d : DeskState). record d { next_unique = d.next_unique + 1 }) c.in_ok-chunk.ensures.taken in
     subst (λ (d : DeskState). IsOut (key_of c.args.step.now) c.args.self.now.content d) (sym drawn)
-    (is_out_taken c.counts_follow.ensures.insert c.counts_follow.ensures.remove (key_of c.args.step.now) c.args.self.now.content desk c.in-Some.class c.requires.stands c.take.ensures.slab c.in-Some.ensures.is_class (desk.next_unique + 1))
+    (is_out_taken c.counts_follow.ensures.insert c.counts_follow.ensures.remove (key_of c.args.step.now) c.args.self.now.content desk c.class_for-class.result c.requires.stands c.take.ensures.slab c.class_for-class.ensures.is_class (desk.next_unique + 1))
 
 pub returns-clause-took : goal.returns-clause-took
 returns-clause-took c =
@@ -103,20 +100,20 @@ returns-clause-took c =
     let write = c.args.write.now in
     let step = c.args.step.now in
     let new = c.put.new.self.content in
-    let class = c.in-Some.class in
-    let class_is = class_some write.charge class (sym c.in-Some.is ∙ c.class_of.ensures.value) in
+    let class = c.class_for-class.result in
+    let class_is = c.class_for-class.ensures.value in
     let reused = subst (λ (k : List ℕ). reuses shelf.cut write.moment k (get shelf.items k) class write.draft.body ≡ false) c.key.ensures (sym c.reuses.ensures ∙ c.if-reuses.false) in
     let more : desk.next_unique ≢ 2 ^ 64 - 1 = λ e. let less = c.is_spent.ensures.left c.if-is_spent.false in omega (arith, less) in
     let drawn : c.draw-unique-2.new.self ≡ record { slab = taken desk.slab class; next_unique = desk.next_unique + 1 } =
     c.draw-unique-2.ensures.drawn ∙ ap (λ (d : DeskState). record d { next_unique = d.next_unique + 1 }) c.in_ok-chunk.ensures.taken in
     let unique : c.draw-unique-2.result ≡ desk.next_unique = c.draw-unique-2.ensures.number ∙ ap (λ (d : DeskState). d.next_unique) c.in_ok-chunk.ensures.taken in
-    let block = beside_is c.counts_follow.ensures.insert c.counts_follow.ensures.remove step write.moment shelf desk c.requires.on_key write.charge write.draft (sym c.requires.next) in
+    let block = beside_is c.counts_follow.ensures.insert c.counts_follow.ensures.remove step write.moment shelf desk c.requires.write.on_key write.charge write.draft (sym c.requires.write.next) in
     let puts = subst (λ (l : List ℕ). IsPut (key_of step) write.hash shelf new (drafted write.draft l desk.next_unique write.moment)) block
     (subst (λ (n : ℕ). IsPut (key_of step) write.hash shelf new (drafted write.draft (block_beside shelf step write.draft) n write.moment)) unique c.put.ensures.put) in
     let back = subst (λ (d : DeskState). GivesBack (key_of step) (get shelf.items (key_of step)) d c.put.new.desk) drawn c.put.ensures.given in
     record {
       takes = subst (λ (r : Reply). Takes step write.moment shelf desk r new c.put.new.desk) (sym c.reply-2.ensures)
-          (takes_anew c.counts_follow.ensures.insert c.counts_follow.ensures.remove step write.moment shelf desk c.requires.on_key write.charge write.draft (sym c.requires.next) class class_is reused c.in-Some.ensures.is_class c.take.ensures.slab
+          (takes_anew c.counts_follow.ensures.insert c.counts_follow.ensures.remove step write.moment shelf desk c.requires.write.on_key write.charge write.draft (sym c.requires.write.next) class class_is reused c.class_for-class.ensures.is_class c.take.ensures.slab
           (sym c.has_room.ensures.value ∙ c.if-not-has_room.false) more write.hash new c.put.new.desk puts back);
       others = puts.others;
       hash = puts.hash;
