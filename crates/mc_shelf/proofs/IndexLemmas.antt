@@ -15,7 +15,7 @@ use Rattle.mc_time.specs.declared.expiry.Expiry.TheVariants.{Never}
 use Rattle.mc_command.specs.Plain.{Entry}
 use Rattle.mc_shelf.specs.States.{EntryState, IndexState, row, hash_row}
 use Rattle.mc_shelf.specs.declared.index.Place.{Place}
-use Rattle.mc_shelf.specs.Places.{items_of, hashes_of, entry_at, numbered, IsPlaceOf, IsFilled, IsGap, IsSearched, IsInserted, IsRemoved, IsChanged, IsFirstFrom, KeepsLower}
+use Rattle.mc_shelf.specs.Places.{items_of, hashes_of, entry_at, numbered, IsPlaceOf, IsGap, IsSearched, IsInserted, IsRemoved, IsChanged, IsFirstFrom, KeepsLower}
 use Rattle.mc_shelf.proofs.RowLemmas.{sorted_pair, find_at, find_gap, put_at, put_gap, without_at, map_put, map_without}
 
 -- the order of keys
@@ -49,11 +49,6 @@ set_same : {A : Type 0} (xs : List A) (i : ℕ) (x : A) → slice_get xs i ≡ S
 set_same [] i x there = refl
 set_same (y ∷ xs) zero x there = ap (λ z. z ∷ xs) (sym (same_Some y x there))
 set_same (y ∷ xs) (suc i) x there = ap (λ l. y ∷ l) (set_same xs i x there)
-
-pub set_there : {A : Type 0} (xs : List A) (i : ℕ) (x y : A) → slice_get xs i ≡ Some x → slice_get (set xs i y) i ≡ Some y
-set_there [] i x y there = cc
-set_there (z ∷ xs) zero x y there = refl
-set_there (z ∷ xs) (suc i) x y there = set_there xs i x y there
 
 insert_here : {A : Type 0} (xs : List A) (i : ℕ) (x : A) → i ≤ length xs → slice_get (insert xs i x) i ≡ Some x
 insert_here xs zero x le = refl
@@ -281,25 +276,6 @@ module _ (seen old : IndexState) (is : seen ≡ old) (h : InOrder seen.entries) 
         room = room ∙ ap (λ (s : IndexState). s.room) is;
         left = left ∙ ap (λ (s : IndexState). s.left) is;
       }
-
-  -- the item of the entry there becomes another
-  pub edited_order : (place : Place) → IsFilled old place → (f : Entry → Entry) (was e : EntryState)
-      → was ≡ get_or seen.entries place.number was → e ≡ record was { item = f was.item } → InOrder (set seen.entries place.number e)
-  edited_order place filled f was e read becomes =
-      let at = filled.1 in
-      let same : at.entry ≡ was = read_there seen old is filled.0 place at was read in
-      replaced_order filled.0 place at e (ap (λ (e : EntryState). e.key) becomes ∙ ap (λ (e : EntryState). e.key) (sym same) ∙ at.same_key)
-
-  pub edited : (new : IndexState) (key : List ℕ) (place : Place) (at : IsPlaceOf old key place) (f : Entry → Entry) (was e : EntryState)
-      → was ≡ get_or seen.entries place.number was → e ≡ record was { item = f was.item }
-      → new.entries ≡ set seen.entries place.number e → new.room ≡ seen.room → new.left ≡ seen.left → IsChanged old new key (f at.entry.item)
-  edited new key place at f was e read becomes edit room left =
-      let same : at.entry ≡ was = read_there seen old is key place at was read in
-      replaced new key place at e (f at.entry.item)
-      (ap (λ (e : EntryState). e.key) becomes ∙ ap (λ (e : EntryState). e.key) (sym same) ∙ at.same_key)
-      (ap (λ (e : EntryState). e.hash) becomes ∙ ap (λ (e : EntryState). e.hash) (sym same))
-      (ap (λ (e : EntryState). e.item) becomes ∙ ap (λ (e : EntryState). f e.item) (sym same))
-      edit room left
 
   seen_gap : (at : ℕ) (e : EntryState) (key : List ℕ) → key ≡ e.key → IsGap old.entries key at → IsGap seen.entries e.key at
   seen_gap at e key same gap = subst (λ (s : IndexState). IsGap s.entries e.key at) (sym is) (subst (λ k. IsGap old.entries k at) same gap)

@@ -1,7 +1,7 @@
 -- What places and numbers say of the items and the hashes of an index, whatever its entries' order.
 use Rattle.std.proofs.Common.{◌≡◌, ℕ, suc, ◌-◌, ◌<◌, Bool, true, false, cond, List, [], ◌∷◌, map, reverse, length, get_or, slice_get, Option, Some, None, is_some, Ordering, Less, Equal, Greater, is_eq, sym, refl, ap, ◌∙◌, arith}
 use Rattle.std.proofs.lemmas.List.{length-reverse, get_or-reverse}
-use Rattle.std.proofs.lemmas.Option.{same_Some, none-some, slice_get-get_or, get_or_from_slice_get, slice_get_within}
+use Rattle.std.proofs.lemmas.Option.{same_Some, slice_get-get_or, get_or_from_slice_get, slice_get_within}
 use Rattle.std.specs.Ordering.{eq_by_cmp}
 use Rattle.std.specs.Cmp.Lexicographic.{nat_list_cmp_total}
 use Rattle.std.specs.FinMap.{get, get-from_entries}
@@ -25,22 +25,9 @@ module _ (index : IndexState) (key : List ℕ) (place : Place) (here : IsPlaceOf
   pub item_there : (e : EntryState) → entry_at index place ≡ Some e → get (items_of index.entries) key ≡ Some e.item
   item_there e there = here.item ∙ ap (λ (e : EntryState). Some e.item) (entry_there e there)
 
-  pub hash_there : (e : EntryState) → entry_at index place ≡ Some e → get (hashes_of index.entries) key ≡ Some e.hash
-  hash_there e there = here.hash ∙ ap (λ (e : EntryState). Some e.hash) (entry_there e there)
-
   -- the key's item and hash are those of the entry there
   pub there_item : (item : Entry) → get (items_of index.entries) key ≡ Some item → here.entry.item ≡ item
   there_item item found = same_Some here.entry.item item (sym here.item ∙ found)
-
-  pub there_hash : (hash : ℕ) → get (hashes_of index.entries) key ≡ Some hash → here.entry.hash ≡ hash
-  there_hash hash found = same_Some here.entry.hash hash (sym here.hash ∙ found)
-
-  -- some entry is there, and some item under the key
-  pub not_empty : entry_at index place ≡ None → ⊥
-  not_empty none = none-some here.entry (sym none ∙ here.there)
-
-  pub not_absent : get (items_of index.entries) key ≡ None → ⊥
-  not_absent none = none-some here.entry.item (sym none ∙ here.item)
 
 -- ---- items and hashes
 
@@ -69,15 +56,6 @@ some_of (Some x) e = (x, refl)
 
 pub hash_absent : (list : List EntryState) (key : List ℕ) → get (items_of list) key ≡ None → get (hashes_of list) key ≡ None
 hash_absent list key none = none_of _ (sym (same_keys list key) ∙ ap is_some none)
-
-pub item_absent : (list : List EntryState) (key : List ℕ) → get (hashes_of list) key ≡ None → get (items_of list) key ≡ None
-item_absent list key none = none_of _ (same_keys list key ∙ ap is_some none)
-
-pub hash_present : (list : List EntryState) (key : List ℕ) (item : Entry) → get (items_of list) key ≡ Some item → (hash : ℕ) × (get (hashes_of list) key ≡ Some hash)
-hash_present list key item found = some_of _ (sym (same_keys list key) ∙ ap is_some found)
-
-pub item_present : (list : List EntryState) (key : List ℕ) (hash : ℕ) → get (hashes_of list) key ≡ Some hash → (item : Entry) × (get (items_of list) key ≡ Some item)
-item_present list key hash found = some_of _ (same_keys list key ∙ ap is_some found)
 
 -- ---- numbers
 
