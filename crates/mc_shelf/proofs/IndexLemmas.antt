@@ -2,7 +2,7 @@
 use Rattle.std.proofs.Common.{◌≡◌, ℕ, zero, suc, ◌+◌, ◌-◌, ◌^◌, ◌<◌, ◌≤◌, Bool, true, false, ◌&&◌, T, List, [], ◌∷◌, map, reverse, length, get_or, set, insert, remove, slice_get, option_map, Option, Some, None, Result, Ok, Err, Ordering, Less, Equal, Greater, nat_cmp, sym, refl, ap, subst, ◌∙◌, arith, HoldsAt, inl, inr}
 use Rattle.std.proofs.lemmas.List.{length-map, length-reverse, get_or-map, get_or-reverse, map-set}
 use Rattle.std.proofs.lemmas.Bool.{cases_lt}
-use Rattle.std.proofs.lemmas.Option.{same_Some, slice_get-map, slice_get-get_or, slice_get_within, slice_get_past, get_or_from_slice_get}
+use Rattle.std.proofs.lemmas.Option.{same_Some, slice_get-map, slice_get-get_or, slice_get_within, get_or_from_slice_get}
 use Rattle.std.proofs.lemmas.List.Sorted.{IsNonDecreasingBy-from_default}
 use Rattle.std.specs.List.Sorted.{IsBinarySearchResult, IsSearchInRange, IsNonDecreasingBy}
 use Rattle.std.specs.Ordering.{ordering_index, is_lt}
@@ -327,9 +327,6 @@ len_of list h =
 -- the list from its end
 pub numbered_at : (index : IndexState) (number : ℕ) → number < length index.entries → numbered index number ≡ slice_get index.entries (length index.entries - 1 - number)
 numbered_at index number inside = reverse_at index.entries number inside
-
-pub numbered_past : (index : IndexState) (number : ℕ) → length index.entries ≤ number → numbered index number ≡ None
-numbered_past index number past = slice_get_past (reverse index.entries) number (rw length-reverse past)
 
 pub numbered_within : (index : IndexState) (number : ℕ) (e : EntryState) → numbered index number ≡ Some e → number < length index.entries
 numbered_within index number e there = subst (λ n. number < n) (length-reverse index.entries) (slice_get_within (reverse index.entries) number e there)

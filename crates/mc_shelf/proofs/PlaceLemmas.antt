@@ -50,10 +50,6 @@ none_of : {A : Type 0} (o : Option A) → is_some o ≡ false → o ≡ None
 none_of None e = refl
 none_of (Some x) e = cc
 
-some_of : {A : Type 0} (o : Option A) → is_some o ≡ true → (x : A) × (o ≡ Some x)
-some_of None e = cc
-some_of (Some x) e = (x, refl)
-
 pub hash_absent : (list : List EntryState) (key : List ℕ) → get (items_of list) key ≡ None → get (hashes_of list) key ≡ None
 hash_absent list key none = none_of _ (sym (same_keys list key) ∙ ap is_some none)
 
