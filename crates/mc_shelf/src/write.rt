@@ -278,10 +278,12 @@ impl Shelf {
     fn drop_dead(&mut self, write: &Write, key: &[u8], desk: &mut Desk)
         requires known { IsKnown self.old.content key.now write.now.hash write.now.place }
         requires out { IsOut key.now self.old.content desk.old }
-        ensures dead { is_gone self.old.content.cut write.now.moment (get self.old.content.items key.now) ≡ true →
+        ensures dead { is_gone self.old.content.cut write.now.moment
+            (get self.old.content.items key.now) ≡ true →
             (IsDropped key.now write.now.hash self.old.content self.new.content
             × GivesBack key.now (get self.old.content.items key.now) desk.old desk.new) }
-        ensures alive { is_gone self.old.content.cut write.now.moment (get self.old.content.items key.now) ≡ false →
+        ensures alive { is_gone self.old.content.cut write.now.moment
+            (get self.old.content.items key.now) ≡ false →
             ((self.new.content ≡ self.old.content) × (desk.new ≡ desk.old)) }
     {
         if is_gone(
