@@ -24,13 +24,16 @@ sys.path.insert(0, f"{ROOT}/tests")
 import measure  # noqa: E402
 
 # as many pages as every input here wants
-ARGS = ["--stdin", "--now", "1000", "-m", "1024"]
+ARGS = ["--stdin", "--now", "1000", "-m", "2048"]
 SECONDS = 300
 VALUE = b"v" * 100
 KEYS = 1000
 MEGA = 1_000_000
 WORLDS = f"{ROOT}/crates/mc_bench/out/mc_bench"
 SESSIONS = [1, 100, 10_000]
+# how many items stand while a command's cost is taken, and their memory
+STANDING = [10_000, 100_000, 1_000_000, 4_000_000]
+RESIDENT = [100_000, 1_000_000, 4_000_000]
 # what mcserver says last, and of an item that finds no chunk
 VERSION = b"VERSION 1.6.0\r\n"
 REFUSED = b"SERVER_ERROR out of memory storing object\r\n"
@@ -45,6 +48,20 @@ def key(number):
 
 def stored(verb, name, block=VALUE, more=b""):
     return b"%s %s 0 0 %d%s\r\n%s\r\n" % (verb, name, len(block), more, block)
+
+
+def one_shelf(count, shelf=12, shelves=64):
+    """Keys of 32 bytes that are all of one shelf, by FNV-1a: only its lowest 6 bits are computed."""
+    found, number = [], 0
+    while len(found) < count:
+        name = key(number)
+        low = 0x25  # the lowest bits of the hash of no byte, and 0x33 those of the prime, modulo 64
+        for byte in name:
+            low = (low ^ byte) * 0x33 % shelves
+        if low == shelf:
+            found.append(name)
+        number += 1
+    return found
 
 
 def preload(block=VALUE):
@@ -207,7 +224,7 @@ def memcached():
         sys.exit("memcached doesn't listen")
 
     user = ["-u", "root"] if os.geteuid() == 0 else []
-    return Server([found, "-M", "-m", "1024", "-l", "127.0.0.1", "-p", str(port), *user], link)
+    return Server([found, "-M", "-m", "2048", "-l", "127.0.0.1", "-p", str(port), *user], link)
 
 
 # ---- runs
@@ -269,39 +286,55 @@ class Bench:
 
     def resident(self):
         """What an item takes while it stands, beside memcached on the same machine."""
-        print(f"\n{'resident bytes an item':<25}{'items':>11}{'bytes an item':>15}  over memcached's")
-        for count in (100_000, 1_000_000):
-            stream = b"".join(stored(b"set", key(it), more=b" noreply") for it in range(count))
+        print(f"\n{'resident bytes an item':<25}{'items':>11}{'bytes a block':>15}{'bytes an item':>15}  over memcached's")
+        for count, size in [*((it, 100) for it in RESIDENT), (1_000_000, 10), (1_000_000, 1000)]:
+            block = b"v" * size
+            stream = b"".join(stored(b"set", key(it), block, b" noreply") for it in range(count))
             last = None
             for name, server in [("memcached", memcached()), ("mcserver", Server([self.program, *ARGS]))]:
                 if server is None:
-                    print(f"{name:<25}{'':>11}{'not installed':>15}")
+                    print(f"{name:<25}{'':>11}{'':>15}{'not installed':>15}")
                     continue
                 before = (server.answer(b"version\r\n", b"\r\n"), server.resident())[1]
                 server.answer(stream + b"version\r\n", b"\r\n")
                 found = (server.resident() - before) / count
                 server.stop()
-                print(f"{name:<25}{count:>11,}{found:>15.0f}" + (f"  {found / last:.2f}" if last else ""), flush=True)
+                print(f"{name:<25}{count:>11,}{size:>15,}{found:>15.0f}" + (f"  {found / last:.2f}" if last else ""), flush=True)
                 last = found
 
     def standing(self, least=200_000):
-        """What a set of a new key, a set of one that stands, and a get cost while so many items stand."""
-        print(f"\n{'items that stand':<17}{'ns a set of a new key':>22}{'ns a set again':>16}{'ns a get':>10}  (of the processor's time)")
-        for count in (10_000, 100_000, 1_000_000):
+        """What a set of a new key, a set of one that stands, a get and a get of nothing cost while so many items stand."""
+        words = ["a set of a new key", "a set again", "a get", "a get of nothing"]
+        print(f"\n{'items that stand':<17}" + "".join(f"{'ns ' + it:>22}" for it in words) + "  (of the processor's time)")
+        for count in STANDING:
             order = [it * 7919 % count for it in range(count)]
             times = max(least // count, 1)
             sets_of = b"".join(stored(b"set", key(it), more=b" noreply") for it in order)
             gets_of = b"".join(b"get %s\r\n" % key(it) for it in order)
+            misses_of = b"".join(b"get %s\r\n" % key(count + it) for it in order)
             found = []
             for _ in range(self.runs if count < MEGA else 1):
                 server = Server([self.program, *ARGS])
                 server.answer(b"version\r\n", VERSION)
-                new = server.cost(sets_of) / count
-                again = server.cost(sets_of * times) / count / times
-                found.append((new, again, server.cost(gets_of * times) / count / times))
+                costs = [server.cost(sets_of) / count]
+                costs += [server.cost(it * times) / count / times for it in (sets_of, gets_of, misses_of)]
+                found.append(costs)
                 server.stop()
-            new, again, got = (statistics.median(it) * 1e9 for it in zip(*found))
-            print(f"{count:<17,}{new:>22.0f}{again:>16.0f}{got:>10.0f}", flush=True)
+            print(f"{count:<17,}" + "".join(f"{statistics.median(it) * 1e9:>22.0f}" for it in zip(*found)), flush=True)
+
+    def hostile(self, count=200_000):
+        """What a set costs of keys that all go to one shelf, in falling order, beside keys of all shelves."""
+        print(f"\n{'hostile keys':<41}{'keys':>9}{'ns a set':>10}  (of the processor's time)")
+        names = {
+            "of all shelves, in falling order": [key(it) for it in range(count)],
+            "of one shelf, in falling order": one_shelf(count),
+        }
+        for name, keys in names.items():
+            sets_of = b"".join(stored(b"set", it, more=b" noreply") for it in sorted(keys, reverse=True))
+            server = Server([self.program, *ARGS])
+            server.answer(b"version\r\n", VERSION)
+            print(f"{name:<41}{count:>9,}{server.cost(sets_of) / count * 1e9:>10.0f}", flush=True)
+            server.stop()
 
     def refilled(self, times=100):
         """A store of 64 pages is filled to the refusal and emptied by deletes, again and again."""
@@ -396,6 +429,7 @@ def main():
         bench.memory()
         bench.resident()
         bench.standing()
+        bench.hostile()
         bench.refilled()
         worlds(given.turns, given.runs)
     return 0
