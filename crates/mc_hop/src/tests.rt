@@ -1,4 +1,5 @@
-//! A table of entries whose keys are words: what is put in is found, changed and taken out again, by at most 32 reads.
+//! A table of entries whose keys are words: what is put in is found, changed and taken out again, by at
+//! most 32 reads.
 
 ghost use Rattle.std.specs.Prelude.{◌≡◌};
 
