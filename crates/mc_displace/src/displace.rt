@@ -1,18 +1,18 @@
 //! Brings an empty bucket near a home.
 
-ghost use Rattle.std.specs.Prelude.{◌≡◌, ℕ, ◌+◌, ◌-◌, ◌<◌, ◌≤◌, ◌∷◌, Some, None, IfSome, IsNone, IfOk, IfErr, length, slice_index_or, true, is_some};
-ghost use Rattle.mc_hop.specs.Tables.{home_in, IsAt, IsAbsent};
+ghost use Rattle.std.specs.Prelude.{◌≡◌, ◌+◌, ◌<◌, ◌≤◌, None, IfSome, IsNone, IfOk, IfErr, length};
+ghost use Rattle.mc_hop.specs.Tables.{bucket_at};
 ghost use Rattle.mc_hop.specs.Contents.{content};
-ghost use Rattle.mc_displace.specs.Moves.{IsMovable, IsNear, IsStuck};
+ghost use Rattle.mc_displace.specs.Moves.{IsMovable, CanMove, HasHome, NoneMovable, IsNear, IsStuck};
 
 use mc_hop::{Hop, Keyed, lowest};
 
-/// The bucket of an entry that can be moved into an empty bucket, if there is one, and that entry's home.
+/// Finds an entry that can be moved into an empty bucket, if there is one: its home and its bucket.
 fn movable<T: Keyed + Drop>(hop: &Hop<T>, free: usize) -> Option<(usize, usize)>
     requires inside { free < length hop.now.items }
     requires far { 31 ≤ free }
-    ensures found { IfSome result (λ m. IsMovable T.hash_of hop.now.k hop.now.items free m.1 × ((entry : T) → slice_index_or hop.now.items m.1 None ≡ Some entry → home_in hop.now.k (T.hash_of entry) ≡ m.0) × (free ≤ m.1 + 31)) }
-    ensures none { IsNone result → (at : ℕ) → IsMovable T.hash_of hop.now.k hop.now.items free at → ⊥ }
+    ensures found { IfSome result (CanMove T.hash_of hop.now free) }
+    ensures none { IsNone result → NoneMovable T.hash_of hop.now free }
 {
     hop.entries_are_near();
     for home in free - 31..free {
@@ -29,28 +29,30 @@ fn movable<T: Keyed + Drop>(hop: &Hop<T>, free: usize) -> Option<(usize, usize)>
 
 /// Moves the entry of a bucket into an empty one within 31 of its home. The content is as it was.
 fn shift<T: Keyed + Drop>(hop: &mut Hop<T>, home: usize, at: usize, free: usize)
-    requires empty { slice_index_or hop.old.items free None ≡ None }
+    requires empty { bucket_at hop.old.items free ≡ None }
     requires movable { IsMovable T.hash_of hop.old.k hop.old.items free at }
-    requires home { (entry : T) → slice_index_or hop.old.items at None ≡ Some entry → home_in hop.old.k (T.hash_of entry) ≡ home }
-    ensures content { content T.hash_of T.key_of hop.new.items ≡ content T.hash_of T.key_of hop.old.items }
-    ensures free { slice_index_or hop.new.items at None ≡ None }
+    requires home { HasHome T.hash_of hop.old at home }
+    ensures content { content T.hash_of T.key_of hop.new.items ≡
+        content T.hash_of T.key_of hop.old.items }
+    ensures free { bucket_at hop.new.items at ≡ None }
     ensures size { (hop.new.k ≡ hop.old.k) × (length hop.new.items ≡ length hop.old.items) }
 {
     let entry = hop.remove(at);
     hop.put_within(home, free, entry);
 }
 
-/// Brings an empty bucket within 31 of a home by moving entries. The content is as it was. An error is the empty bucket where
-/// no entry can be moved into it.
+/// Brings an empty bucket within 31 of a home by moving entries. The content is as it was. An error is
+/// the empty bucket where no entry can be moved into it.
 pub fn bring_near<T: Keyed + Drop>(
     hop: &mut Hop<T>,
     home: usize,
     free: usize,
 ) -> Result<usize, usize>
     requires inside { free < length hop.old.items }
-    requires empty { slice_index_or hop.old.items free None ≡ None }
+    requires empty { bucket_at hop.old.items free ≡ None }
     requires range { (home ≤ free) × (free ≤ home + 255) }
-    ensures content { content T.hash_of T.key_of hop.new.items ≡ content T.hash_of T.key_of hop.old.items }
+    ensures content { content T.hash_of T.key_of hop.new.items ≡
+        content T.hash_of T.key_of hop.old.items }
     ensures near { IfOk result (IsNear hop.new.items home) }
     ensures stuck { IfErr result (IsStuck T.hash_of hop.new.k hop.new.items home) }
 {

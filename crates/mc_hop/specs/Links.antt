@@ -21,12 +21,14 @@ used (zero ∷ ats) = used ats
 used (suc i ∷ ats) = used ats + 1
 
 -- the numbers and the places are each other's inverse, and there is room for a value of each bucket
-pub record IsLinked {X : Type 0} (ats : List ℕ) (items : List X) (places : List ℕ) (item_room place_room : ℕ) : Type 0 where
+pub record IsLinked {X : Type 0} (ats : List ℕ) (items : List X) (places : List ℕ)
+    (item_room place_room : ℕ) : Type 0 where
   pub same_length : length places ≡ length items
   pub inside : (i : ℕ) → i < length places → slice_index_or places i 0 < length ats
   pub there : (i : ℕ) → i < length places → slice_index_or ats (slice_index_or places i 0) 0 ≡ i + 1
   pub within : (b : ℕ) → slice_index_or ats b 0 ≤ length places
-  pub back : (b : ℕ) → 0 < slice_index_or ats b 0 → slice_index_or places (slice_index_or ats b 0 - 1) 0 ≡ b
+  pub back : (b : ℕ) → 0 < slice_index_or ats b 0
+      → slice_index_or places (slice_index_or ats b 0 - 1) 0 ≡ b
   pub count : used ats ≡ length places
   pub room : length ats ≤ item_room
   pub more : length ats ≤ place_room
@@ -34,10 +36,15 @@ pub record IsLinked {X : Type 0} (ats : List ℕ) (items : List X) (places : Lis
 
 -- the numbers once the value at the last place stands at another one, unless that was the last
 abbrev pub renumbered : List ℕ → List ℕ → ℕ → List ℕ
-renumbered ats places place = if nat_lt place (length places) then slice_set ats (slice_index_or places place 0) (suc place) else ats
+renumbered ats places place =
+    if nat_lt place (length places) then
+    slice_set ats (slice_index_or places place 0) (suc place)
+    else ats
 
 -- a list after the item at a place was taken out and the last one put there
 pub record IsSwapped {X : Type 0} (old new : List X) (place : ℕ) : Type 0 where
   pub shorter : length new + 1 ≡ length old
-  pub last : (d : X) → place + 1 < length old → slice_index_or new place d ≡ slice_index_or old (length old - 1) d
-  pub others : (k : ℕ) (d : X) → k ≢ place → k + 1 < length old → slice_index_or new k d ≡ slice_index_or old k d
+  pub last : (d : X) → place + 1 < length old
+      → slice_index_or new place d ≡ slice_index_or old (length old - 1) d
+  pub others : (k : ℕ) (d : X) → k ≢ place → k + 1 < length old
+      → slice_index_or new k d ≡ slice_index_or old k d

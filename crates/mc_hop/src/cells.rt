@@ -7,14 +7,15 @@ ghost use Rattle.mc_hop.specs.Links.{ats_of, words_of, renumbered};
 use std::alloc::{AllocError, Global};
 use std::marker::Model;
 
-/// A bucket: its word, and one more than the place of its value among the values, or 0 where it has none.
+/// A bucket: its word, and one more than the place of its value among the values, or 0 where it has
+/// none.
 #[derive(Clone, Copy)]
 struct Cell {
     word: u32,
     at: u32,
 }
 
-/// So many buckets with no value, whose words are 0.
+/// Makes so many buckets with no value, whose words are 0.
 fn empty_list(alloc: Global, len: usize) -> Result<Vec<Cell>, AllocError>
     ensures { IfOk result (λ cells. cells.items ≡ replicate len (record { word = 0; at = 0 })) }
 {
@@ -23,7 +24,7 @@ fn empty_list(alloc: Global, len: usize) -> Result<Vec<Cell>, AllocError>
     Ok(cells)
 }
 
-/// The number of a bucket: one more than the place of its value, or 0.
+/// Returns the number of a bucket: one more than the place of its value, or 0.
 fn number_of(cells: &Vec<Cell>, at: usize) -> usize
     requires { at < vec_len cells.now }
     ensures { result ≡ slice_index_or (ats_of cells.now.items) at 0 }
@@ -51,11 +52,13 @@ fn set_word_in(cells: &mut Vec<Cell>, at: usize, word: u32)
     cells[at].word = word;
 }
 
-/// The value that was at the last place stands at that one now, unless it was the last.
+/// Renumbers the value that was at the last place and stands at that one now, unless it was the last.
 fn renumber(cells: &mut Vec<Cell>, places: &Vec<u32>, place: usize)
-    requires inside { place < vec_len places.now → slice_index_or places.now.items place 0 < vec_len cells.old }
+    requires inside { place < vec_len places.now →
+        slice_index_or places.now.items place 0 < vec_len cells.old }
     requires small { vec_len places.now < 2 ^ 32 - 1 }
-    ensures numbers { ats_of cells.new.items ≡ renumbered (ats_of cells.old.items) places.now.items place }
+    ensures numbers { ats_of cells.new.items ≡
+        renumbered (ats_of cells.old.items) places.now.items place }
     ensures words { words_of cells.new.items ≡ words_of cells.old.items }
 {
     if place < places.len() {
@@ -63,8 +66,9 @@ fn renumber(cells: &mut Vec<Cell>, places: &Vec<u32>, place: usize)
     }
 }
 
-/// A row of buckets, each with a word and at most one value. The values lie side by side in a list of their own, in no order,
-/// so an empty bucket takes 8 bytes alone. Contracts see the words and the values, bucket by bucket.
+/// A row of buckets, each with a word and at most one value. The values lie side by side in a list of
+/// their own, in no order, so an empty bucket takes 8 bytes alone. Contracts see the words and the
+/// values, bucket by bucket.
 #[derive(Drop)]
 pub struct Cells<T: Drop> {
     cells: Vec<Cell>,
@@ -81,13 +85,17 @@ impl<T: Drop> Model for Cells<T> {
 
     ghost coded = { coded_cells T.code };
 
-    ghost view = { λ c. record { words = words_of c.cells.items; items = map (item_of c.items.items) (ats_of c.cells.items) } };
+    ghost view = { λ c. record {
+      words = words_of c.cells.items;
+      items = map (item_of c.items.items) (ats_of c.cells.items);
+    } };
 
-    ghost invariant = { λ c. IsLinked (ats_of c.cells.items) c.items.items c.places.items (vec_capacity c.items) (vec_capacity c.places) };
+    ghost invariant = { λ c. IsLinked (ats_of c.cells.items) c.items.items c.places.items
+        (vec_capacity c.items) (vec_capacity c.places) };
 }
 
 impl<T: Drop> Cells<T> {
-    /// So many empty buckets, whose words are 0, with room for a value of each.
+    /// Makes so many empty buckets, whose words are 0, with room for a value of each.
     pub fn new(alloc: Global, len: usize) -> Result<Cells<T>, AllocError>
         requires { len < 2 ^ 32 - 1 }
         ensures { IfOk result (λ cells. cells ≡ empty_cells len) }
@@ -99,21 +107,21 @@ impl<T: Drop> Cells<T> {
         })
     }
 
-    /// How many buckets there are.
+    /// Counts the buckets.
     pub fn len(&self) -> usize
         ensures { result ≡ length self.now.items }
     {
         self.cells.len()
     }
 
-    /// How many of them have a value.
+    /// Counts those that have a value.
     pub fn count(&self) -> usize
         ensures { result ≡ filled self.now.items }
     {
         self.items.len()
     }
 
-    /// The word of a bucket.
+    /// Returns the word of a bucket.
     pub fn word(&self, at: usize) -> u32
         requires { at < length self.now.items }
         ensures { result ≡ slice_index_or self.now.words at 0 }
@@ -129,7 +137,7 @@ impl<T: Drop> Cells<T> {
         set_word_in(&mut self.cells, at, word);
     }
 
-    /// Whether a bucket has no value.
+    /// Tells whether a bucket has no value.
     pub fn is_empty(&self, at: usize) -> bool
         requires { at < length self.now.items }
         ensures yes { result ≡ true → slice_index_or self.now.items at None ≡ None }
@@ -138,7 +146,7 @@ impl<T: Drop> Cells<T> {
         number_of(&self.cells, at) == 0
     }
 
-    /// The value of a bucket, if it has one.
+    /// Lends the value of a bucket, if it has one.
     pub fn get(&self, at: usize) -> Option<&T>
         requires { at < length self.now.items }
         ensures { option_copied result ≡ slice_index_or self.now.items at None }

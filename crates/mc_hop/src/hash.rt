@@ -7,11 +7,11 @@ pub trait Keyed {
 
     ghost key_of: { Self → List ℕ };
 
-    /// The hash of its key.
+    /// Returns the hash of its key.
     fn hash(&self) -> u64
         ensures { result ≡ hash_of self.now };
 
-    /// Its key.
+    /// Lends its key.
     fn key(&self) -> &[u8]
         ensures { result.now ≡ key_of self.now };
 }
@@ -23,7 +23,7 @@ pub trait KeyHash {
     /// The hash of a key, as contracts see it.
     ghost hash_of: { Self → List ℕ → ℕ };
 
-    /// The hash of the key. The cost grows with its length.
+    /// Computes the hash of a key. The cost grows with its length.
     fn hash(&self, key: &[u8]) -> u64
         ensures { result ≡ hash_of self.now key.now };
 }

@@ -1,4 +1,5 @@
-//! Hashes of keys, and one hopscotch table (Herlihy, Shavit and Tzafrir, "Hopscotch Hashing", DISC 2008).
+//! Hashes of keys, and one hopscotch table (Herlihy, Shavit and Tzafrir, "Hopscotch Hashing", DISC
+//! 2008).
 #![tactic(auto)]
 
 mod bits;

@@ -1,12 +1,12 @@
 //! One hopscotch table.
 
-ghost use Rattle.std.specs.Prelude.{◌≡◌, ℕ, ◌+◌, ◌/◌, ◌%◌, ◌<◌, ◌≤◌, ◌^◌, ◌↔◌, List, IsTrue, Some, None, IfOk, IfSome, IsNone, option_copied, is_some, true, length, replicate, slice_index_or, slice_set};
-ghost use Rattle.std.specs.Prelude.{◌∷◌};
-ghost use Rattle.std.specs.FinMap.{insert, remove};
-ghost use Rattle.std.specs.Int.{bit_at};
-ghost use Rattle.mc_hop.specs.Contents.{content};
+ghost use Rattle.std.specs.Prelude.{◌≡◌, ℕ, ◌+◌, ◌<◌, ◌≤◌, ◌^◌, Some, None, IfOk, IfSome, IsNone};
+ghost use Rattle.std.specs.Prelude.{option_copied, is_some, true, length};
+ghost use Rattle.mc_hop.specs.Contents.{content, content_with, content_without};
 ghost use Rattle.mc_hop.specs.Cells.{filled};
-ghost use Rattle.mc_hop.specs.Tables.{KeepsKey, HopState, home_in, homed, IsAt, IsAbsent, IsFirstFree, NoneFree};
+ghost use Rattle.mc_hop.specs.Tables.{KeepsKey, home_in, IsAt, IsAbsent, IsFirstFree, NoneFree};
+ghost use Rattle.mc_hop.specs.Tables.{AreHops, AreNear, IsNearHome, IsFound};
+ghost use Rattle.mc_hop.specs.Tables.{empty_table, with_bucket, bucket_at};
 
 use crate::bits::{lowest, with_bit, without_bit};
 use crate::cells::Cells;
@@ -15,7 +15,7 @@ use crate::reads::{Counts, Uncounted};
 use std::alloc::{AllocError, Global};
 use std::marker::Model;
 
-/// The home of a hash among 2^k homes.
+/// Finds the home of a hash among 2^k homes.
 fn home_among(k: u32, hash: u64) -> usize
     requires { k ≤ 24 }
     ensures value { result ≡ home_in k hash }
@@ -24,8 +24,8 @@ fn home_among(k: u32, hash: u64) -> usize
     ((hash / 256) % (1u64 << k)) as usize
 }
 
-/// One hopscotch table of 2^k homes and 255 further buckets. Contracts see k and the buckets; bit j of a bucket's word is set
-/// exactly where the bucket j behind it holds an entry whose home it is.
+/// One hopscotch table of 2^k homes and 255 further buckets. Contracts see k and the buckets; bit j of
+/// a bucket's word is set exactly where the bucket j behind it holds an entry whose home it is.
 #[derive(Drop)]
 pub struct Hop<T: Keyed + Drop> {
     k: u32,
@@ -33,8 +33,7 @@ pub struct Hop<T: Keyed + Drop> {
 }
 
 impl<T: Keyed + Drop> Model for Hop<T> {
-    ghost use Rattle.mc_hop.specs.Cells.{filled};
-    ghost use Rattle.mc_hop.specs.Tables.{KeepsKey, HopState, coded_hop, IsTable};
+    ghost use Rattle.mc_hop.specs.Tables.{HopState, coded_hop, IsTable};
 
     ghost Value = { HopState T };
 
@@ -46,10 +45,10 @@ impl<T: Keyed + Drop> Model for Hop<T> {
 }
 
 impl<T: Keyed + Drop> Hop<T> {
-    /// A table of 2^k homes and 255 further buckets, all empty.
+    /// Makes a table of 2^k homes and 255 further buckets, all empty.
     pub fn new(alloc: Global, k: u32) -> Result<Hop<T>, AllocError>
         requires { (6 ≤ k) × (k ≤ 24) }
-        ensures { IfOk result (λ table. table ≡ record { k = k; items = replicate (2 ^ k + 255) None }) }
+        ensures { IfOk result (λ table. table ≡ empty_table k) }
     {
         let buckets = (1usize << k) + 255;
         Ok(Hop {
@@ -58,7 +57,7 @@ impl<T: Keyed + Drop> Hop<T> {
         })
     }
 
-    /// The home of a hash.
+    /// Finds the home of a hash.
     pub fn home_of(&self, hash: u64) -> usize
         ensures value { result ≡ home_in self.now.k hash }
         ensures inside { result + 255 < length self.now.items }
@@ -66,7 +65,7 @@ impl<T: Keyed + Drop> Hop<T> {
         home_among(self.k, hash)
     }
 
-    /// How many buckets there are.
+    /// Counts the buckets.
     pub fn buckets(&self) -> usize
         ensures value { result ≡ length self.now.items }
         ensures size { result ≡ 2 ^ self.now.k + 255 }
@@ -74,30 +73,31 @@ impl<T: Keyed + Drop> Hop<T> {
         self.cells.len()
     }
 
-    /// Each entry stands within 31 of its home. It does nothing.
+    /// Says that each entry stands within 31 of its home. It does nothing.
     pub fn entries_are_near(&self)
-        ensures { (at : ℕ) (entry : T) → slice_index_or self.now.items at None ≡ Some entry → (home_in self.now.k (T.hash_of entry) ≤ at) × (at ≤ home_in self.now.k (T.hash_of entry) + 31) }
+        ensures { AreNear T.hash_of self.now.k self.now.items }
     {
         let _ = &self.k;
     }
 
-    /// The hop word of a bucket.
+    /// Returns the hop word of a bucket.
     pub fn word(&self, at: usize) -> u32
         requires { at < length self.now.items }
-        ensures { (j : ℕ) → j < 32 → bit_at result j ≡ homed T.hash_of self.now.k at (slice_index_or self.now.items (at + j) None) }
+        ensures { AreHops T.hash_of self.now.k self.now.items at result }
     {
         self.cells.word(at)
     }
 
-    /// The entry of a bucket, if it has one.
+    /// Lends the entry of a bucket, if it has one.
     pub fn get(&self, at: usize) -> Option<&T>
         requires { at < length self.now.items }
-        ensures { option_copied result ≡ slice_index_or self.now.items at None }
+        ensures { option_copied result ≡ bucket_at self.now.items at }
     {
         self.cells.get(at)
     }
 
-    /// Whether a bucket holds the entry of that hash and key. It is the one read of a bucket that a walk makes.
+    /// Tells whether a bucket holds the entry of that hash and key. It is the one read of a bucket that
+    /// a walk makes.
     fn holds<C: Counts>(&self, at: usize, hash: u64, key: &[u8], reads: &mut C) -> bool
         requires { at < length self.now.items }
         ensures reads { C.count reads.new ≤ C.count reads.old + 1 }
@@ -111,17 +111,19 @@ impl<T: Keyed + Drop> Hop<T> {
         }
     }
 
-    /// The bucket of that hash and key, if an entry has them.
+    /// Finds the bucket of that hash and key, if an entry has them.
     pub fn find(&self, hash: u64, key: &[u8]) -> Option<usize>
-        ensures found { IfSome result (λ at. (at < length self.now.items) × IsAt T.hash_of T.key_of self.now.items hash key.now at) }
+        ensures found { IfSome result
+            (λ at. IsFound T.hash_of T.key_of self.now.items hash key.now at) }
         ensures none { IsNone result → IsAbsent T.hash_of T.key_of self.now.items hash key.now }
     {
         self.find_counted(hash, key, &mut Uncounted)
     }
 
-    /// The same walk, with its reads counted: at most 32 buckets.
+    /// Finds it by the same walk, with its reads counted: at most 32 buckets.
     pub fn find_counted<C: Counts>(&self, hash: u64, key: &[u8], reads: &mut C) -> Option<usize>
-        ensures found { IfSome result (λ at. (at < length self.now.items) × IsAt T.hash_of T.key_of self.now.items hash key.now at) }
+        ensures found { IfSome result
+            (λ at. IsFound T.hash_of T.key_of self.now.items hash key.now at) }
         ensures none { IsNone result → IsAbsent T.hash_of T.key_of self.now.items hash key.now }
         ensures reads { C.count reads.new ≤ C.count reads.old + 32 }
     {
@@ -142,7 +144,7 @@ impl<T: Keyed + Drop> Hop<T> {
         None
     }
 
-    /// The first empty bucket among the home and the 255 behind it.
+    /// Finds the first empty bucket among the home and the 255 behind it.
     pub fn free_from(&self, home: usize) -> Option<usize>
         requires { home + 255 < length self.now.items }
         ensures found { IfSome result (IsFirstFree self.now.items home) }
@@ -161,10 +163,12 @@ impl<T: Keyed + Drop> Hop<T> {
     pub fn put_within(&mut self, home: usize, at: usize, entry: T)
         requires of_entry { home ≡ home_in self.old.k (T.hash_of entry) }
         requires within { (home ≤ at) × (at ≤ home + 31) }
-        requires empty { slice_index_or self.old.items at None ≡ None }
-        requires new { IsAbsent T.hash_of T.key_of self.old.items (T.hash_of entry) (T.key_of entry) }
-        ensures put { self.new ≡ record self.old { items = slice_set self.old.items at (Some entry) } }
-        ensures content { content T.hash_of T.key_of self.new.items ≡ insert (content T.hash_of T.key_of self.old.items) (T.hash_of entry ∷ T.key_of entry) entry }
+        requires empty { bucket_at self.old.items at ≡ None }
+        requires new { IsAbsent T.hash_of T.key_of self.old.items
+            (T.hash_of entry) (T.key_of entry) }
+        ensures put { self.new ≡ with_bucket self.old at (Some entry) }
+        ensures content { content T.hash_of T.key_of self.new.items ≡
+            content_with T.hash_of T.key_of self.old.items entry entry }
     {
         let bit = (at - home) as u32;
         let word = self.cells.word(home);
@@ -175,14 +179,14 @@ impl<T: Keyed + Drop> Hop<T> {
     /// Changes the entry of a bucket that has one, by a closure that keeps its hash and its key, and
     /// hands out what the closure answers beside it. It takes no memory of its own.
     pub fn update<R, F: FnOnce(T) -> (T, R)>(&mut self, at: usize, change: F) -> R
-        requires filled { is_some (slice_index_or self.old.items at None) ≡ true }
-        requires keeps { (entry : T) → slice_index_or self.old.items at None ≡ Some entry →
+        requires filled { is_some (bucket_at self.old.items at) ≡ true }
+        requires keeps { (entry : T) → bucket_at self.old.items at ≡ Some entry →
             KeepsKey T.hash_of T.key_of (F.pre change) (F.post change) entry }
-        ensures { (entry : T) → slice_index_or self.old.items at None ≡ Some entry →
+        ensures { (entry : T) → bucket_at self.old.items at ≡ Some entry →
             (pair : T × R) × F.post change entry pair × (result ≡ pair.1)
-            × (self.new ≡ record self.old { items = slice_set self.old.items at (Some pair.0) })
-            × (content T.hash_of T.key_of self.new.items
-            ≡ insert (content T.hash_of T.key_of self.old.items) (T.hash_of entry ∷ T.key_of entry) pair.0) }
+            × (self.new ≡ with_bucket self.old at (Some pair.0))
+            × (content T.hash_of T.key_of self.new.items ≡
+            content_with T.hash_of T.key_of self.old.items entry pair.0) }
     {
         let entry = self.cells.take(at);
         let (entry, answer) = change(entry);
@@ -199,13 +203,16 @@ impl<T: Keyed + Drop> Hop<T> {
 
     /// Takes the entry of a bucket out.
     pub fn remove(&mut self, at: usize) -> T
-        requires { is_some (slice_index_or self.old.items at None) ≡ true }
-        ensures here { slice_index_or self.old.items at None ≡ Some result }
-        ensures removed { self.new ≡ record self.old { items = slice_set self.old.items at None } }
-        ensures content { content T.hash_of T.key_of self.new.items ≡ remove (content T.hash_of T.key_of self.old.items) (T.hash_of result ∷ T.key_of result) }
-        ensures back { content T.hash_of T.key_of self.old.items ≡ insert (content T.hash_of T.key_of self.new.items) (T.hash_of result ∷ T.key_of result) result }
-        ensures near { (home_in self.old.k (T.hash_of result) ≤ at) × (at ≤ home_in self.old.k (T.hash_of result) + 31) }
-        ensures gone { IsAbsent T.hash_of T.key_of self.new.items (T.hash_of result) (T.key_of result) }
+        requires { is_some (bucket_at self.old.items at) ≡ true }
+        ensures here { bucket_at self.old.items at ≡ Some result }
+        ensures removed { self.new ≡ with_bucket self.old at None }
+        ensures content { content T.hash_of T.key_of self.new.items ≡
+            content_without T.hash_of T.key_of self.old.items result }
+        ensures back { content T.hash_of T.key_of self.old.items ≡
+            content_with T.hash_of T.key_of self.new.items result result }
+        ensures near { IsNearHome T.hash_of self.old.k result at }
+        ensures gone { IsAbsent T.hash_of T.key_of self.new.items
+            (T.hash_of result) (T.key_of result) }
     {
         let entry = self.cells.take(at);
         let home = home_among(self.k, entry.hash());

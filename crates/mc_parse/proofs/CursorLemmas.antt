@@ -5,9 +5,8 @@ use Rattle.std.proofs.lemmas.List.{append-nil, drop-drop, take-take, take-append
 use Rattle.std.specs.Str.Lines.{strip_carriage_return}
 use Rattle.std.specs.List.{slice_index}
 use Rattle.mc_command.specs.Words.{words}
-use Rattle.mc_command.specs.Commands.{after_steps}
+use Rattle.mc_command.specs.Commands.{Shape, Single, Retrieval, Stepless, Parting, shape, retrieval, after_by, after_steps, retrieval-shape}
 use Rattle.mc_command.specs.declared.command.Command.{Command}
-use Rattle.mc_command.specs.declared.command.Command.TheVariants.{Store as StoreCommand, Cas as CasCommand, Get, GetTouch, Touch, Delete, Count, FlushAll, Version, Quit}
 use Rattle.mc_command.specs.declared.fault.LineFault.{LineFault}
 use Rattle.mc_parse.specs.declared.line.Line.{Line}
 use Rattle.mc_parse.specs.declared.line.Line.TheVariants.{Bare, Block}
@@ -17,22 +16,22 @@ use Rattle.mc_parse.specs.declared.cursor.Cursor.{Cursor}
 use Rattle.mc_parse.specs.Lines.{meaning}
 use Rattle.mc_parse.specs.Units.{ProtocolUnit, Request, Fault, LongLine, Completes, with_block, SpellsLine}
 use Rattle.mc_parse.specs.Peeks.{IsSpelled, left_of}
-use Rattle.mc_parse.specs.Cursors.{retrieval, words_before, text_left, IsWithin, PointsInto}
+use Rattle.mc_parse.specs.Cursors.{words_before, text_left, IsWithin, PointsInto}
 use Rattle.mc_parse.proofs.KeyLemmas.{stored_is}
 use Rattle.mc_parse.proofs.RetrievalLemmas.{keys_behind}
 
 -- turns after turns
+more_by : (its : Shape) (command : Command) (taken more : ℕ) → shape command ≡ its → after_steps (after_by its command taken) more ≡ after_by its command (taken + more)
+more_by (Single step has_block quiet) command taken more is = ap (λ s. after_by s command more) is
+more_by (Retrieval exptime keys with_unique) command taken more is =
+    let left : Command = retrieval exptime (drop taken keys) with_unique in
+    ap (λ s. after_by s left more) (retrieval-shape exptime (drop taken keys) with_unique)
+    ∙ ap (λ ks. retrieval exptime ks with_unique) (drop-drop more taken keys)
+more_by (Stepless query) command taken more is = ap (λ s. after_by s command more) is
+more_by Parting command taken more is = ap (λ s. after_by s command more) is
+
 step_more : (command : Command) (taken more : ℕ) → after_steps (after_steps command taken) more ≡ after_steps command (taken + more)
-step_more (Get keys with_unique) taken more = ap (λ ks. Get ks with_unique) (drop-drop more taken keys)
-step_more (GetTouch exptime keys with_unique) taken more = ap (λ ks. GetTouch exptime ks with_unique) (drop-drop more taken keys)
-step_more (StoreCommand verb key flags exptime block quiet) taken more = refl
-step_more (CasCommand key flags exptime block unique quiet) taken more = refl
-step_more (Touch key exptime quiet) taken more = refl
-step_more (Delete key quiet) taken more = refl
-step_more (Count key up by quiet) taken more = refl
-step_more (FlushAll delay quiet) taken more = refl
-step_more Version taken more = refl
-step_more Quit taken more = refl
+step_more command taken more = more_by (shape command) command taken more refl
 
 turn_more : (unit : ProtocolUnit) (taken more : ℕ) → left_of (left_of unit taken) more ≡ left_of unit (taken + more)
 turn_more (Request command) taken more = ap Request (step_more command taken more)

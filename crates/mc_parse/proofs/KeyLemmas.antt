@@ -7,11 +7,9 @@ use Rattle.std.specs.Str.Lines.{strip_carriage_return}
 use Rattle.std.proofs.lemmas.List.{drop-map}
 use Rattle.std.proofs.lemmas.List.Elements.{All-drop}
 use Rattle.mc_command.specs.Words.{words}
-use Rattle.mc_command.specs.Commands.{HasShortKeys, after_steps, key_of}
+use Rattle.mc_command.specs.Commands.{Shape, Single, Retrieval, Stepless, Parting, shape, shape_left, steps_by, read_step, HasShortKeys, after_steps, after_steps-shape, key_of}
 use Rattle.mc_command.specs.declared.command.Command.{Command}
-use Rattle.mc_command.specs.declared.command.Command.TheVariants.{Store, Cas, Get, GetTouch, Touch, Delete, Count, FlushAll, Version, Quit}
 use Rattle.mc_command.specs.declared.step.KeyStep.{KeyStep}
-use Rattle.mc_command.specs.declared.step.KeyStep.TheVariants.{Read as ReadStep, ReadTouch as ReadTouchStep}
 use Rattle.mc_command.specs.declared.fault.LineFault.{LineFault}
 use Rattle.mc_command.specs.declared.fault.LineFault.TheVariants.{BadChunk}
 use Rattle.mc_parse.specs.declared.line.Line.{Line}
@@ -49,18 +47,15 @@ abbrev IsShortStep : KeyStep → Type 0
 IsShortStep step = length (key_of step) ≤ 250
 
 -- and so are those that are left of it
+keys_left : (its : Shape) (taken : ℕ) → All IsShortStep (steps_by its) → All IsShortStep (steps_by (shape_left its taken))
+keys_left (Single step has_block quiet) taken short = short
+keys_left (Retrieval exptime keys with_unique) taken short =
+    subst (All IsShortStep) (drop-map (λ key. read_step exptime key) taken keys) (All-drop IsShortStep taken (map (λ key. read_step exptime key) keys) short)
+keys_left (Stepless query) taken short = short
+keys_left Parting taken short = short
+
 pub left_keys : (command : Command) (taken : ℕ) → HasShortKeys command → HasShortKeys (after_steps command taken)
-left_keys (Get keys with_unique) taken short = subst (All IsShortStep) (drop-map ReadStep taken keys) (All-drop IsShortStep taken (map ReadStep keys) short)
-left_keys (GetTouch exptime keys with_unique) taken short =
-    subst (All IsShortStep) (drop-map (λ key. ReadTouchStep key exptime) taken keys) (All-drop IsShortStep taken (map (λ key. ReadTouchStep key exptime) keys) short)
-left_keys (Store verb key flags exptime block quiet) taken short = short
-left_keys (Cas key flags exptime block unique quiet) taken short = short
-left_keys (Touch key exptime quiet) taken short = short
-left_keys (Delete key quiet) taken short = short
-left_keys (Count key up by quiet) taken short = short
-left_keys (FlushAll delay quiet) taken short = short
-left_keys Version taken short = short
-left_keys Quit taken short = short
+left_keys command taken short = subst (λ its. All IsShortStep (steps_by its)) (sym (after_steps-shape command taken)) (keys_left (shape command) taken short)
 
 left_command : (greatest taken : ℕ) (bytes : List ℕ) (unit : ProtocolUnit) (command : Command) (len : ℕ) → IsSpelled greatest (unit, len) bytes → Request command ≡ left_of unit taken → HasShortKeys command
 left_command greatest taken bytes (Request whole) command len is left =

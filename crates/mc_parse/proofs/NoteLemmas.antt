@@ -3,15 +3,15 @@ use Rattle.std.proofs.Common.{◌≡◌, ◌<◌, ◌≤◌, ◌+◌, ◌-◌, �
 use Rattle.std.proofs.lemmas.List.{drop-take, take-take, take-append-le, drop-append-le, length-take, length-take-le, take-append-drop}
 use Rattle.std.specs.Str.Lines.{strip_carriage_return}
 use Rattle.mc_command.specs.Words.{words}
-use Rattle.mc_command.specs.Commands.{after_steps}
+use Rattle.mc_command.specs.Commands.{Shape, Single, Retrieval, Stepless, Parting, shape, HasBlockBy, after_steps}
 use Rattle.mc_command.specs.declared.command.Command.{Command}
-use Rattle.mc_command.specs.declared.command.Command.TheVariants.{Store as StoreCommand, Cas as CasCommand, Get, GetTouch, Touch as TouchCommand, Delete as DeleteCommand, Count as CountCommand, FlushAll as FlushCommand, Version as VersionCommand, Quit as QuitCommand}
+use Rattle.mc_command.specs.declared.command.Command.TheVariants.{Touch as TouchCommand, Delete as DeleteCommand, Count as CountCommand, FlushAll as FlushCommand, Query as QueryCommand, Quit as QuitCommand}
 use Rattle.mc_command.specs.declared.fault.LineFault.{LineFault}
 use Rattle.mc_parse.specs.declared.line.Line.{Line}
 use Rattle.mc_parse.specs.declared.line.Line.TheVariants.{Bare}
 use Rattle.mc_parse.specs.declared.line.Head.TheVariants.{Store as StoreHead, Cas as CasHead}
 use Rattle.mc_parse.specs.declared.note.Said.{Said}
-use Rattle.mc_parse.specs.declared.note.Said.TheVariants.{Fault as SaidFault, Store, Cas, Touch, Delete, Count, FlushAll, Version, Quit}
+use Rattle.mc_parse.specs.declared.note.Said.TheVariants.{Fault as SaidFault, Store, Cas, Touch, Delete, Count, FlushAll, Query, Quit}
 use Rattle.mc_parse.specs.declared.note.LineNote.{LineNote}
 use Rattle.mc_parse.specs.Lines.{meaning}
 use Rattle.mc_parse.specs.Units.{ProtocolUnit, Request, Fault, LongLine, IsLine, Completes, with_block}
@@ -20,7 +20,7 @@ use Rattle.mc_parse.specs.Notes.{said_of, is_keyed, IsNoted, StandsInLine}
 use Rattle.mc_parse.proofs.UnitLemmas.{completed}
 use Rattle.mc_parse.proofs.KeyLemmas.{stored_is}
 use Rattle.mc_parse.proofs.CursorLemmas.{stripped_is}
-use Rattle.mc_parse.proofs.RetrievalLemmas.{KeyIs, Tells, KeysAre, meaning-tells}
+use Rattle.mc_parse.proofs.RetrievalLemmas.{KeyIs, Tells, KeysBy, meaning-tells}
 
 -- the first of some words
 pub first_of : (ws : List (List ℕ)) (word : List ℕ) → take 1 ws ≡ word ∷ [] → (more : List (List ℕ)) × (ws ≡ word ∷ more)
@@ -28,31 +28,25 @@ first_of [] word is = absurd (cc)
 first_of (w ∷ ws) word is = let e : w ≡ word = cc in (ws, ap (λ k. k ∷ ws) e)
 
 -- a command that a line says has no block
-stands : (command : Command) (args : List (List ℕ)) → KeysAre command args → StandsInLine command
-stands (StoreCommand verb key flags exptime block quiet) args h = h
-stands (CasCommand key flags exptime block unique quiet) args h = h
-stands (Get keys with_unique) args h = tt
-stands (GetTouch exptime keys with_unique) args h = tt
-stands (TouchCommand key exptime quiet) args h = tt
-stands (DeleteCommand key quiet) args h = tt
-stands (CountCommand key up by quiet) args h = tt
-stands (FlushCommand delay quiet) args h = tt
-stands VersionCommand args h = tt
-stands QuitCommand args h = tt
+stands : (its : Shape) (args : List (List ℕ)) → KeysBy its args → HasBlockBy its → ⊥
+stands (Single step has_block quiet) args h has = let no = h.0 in cc
+stands (Retrieval exptime keys with_unique) args h has = has
+stands (Stepless query) args h has = has
+stands Parting args h has = has
 
 pub meaning_stands : (greatest : ℕ) (ws : List (List ℕ)) (command : Command) → meaning greatest ws ≡ Ok (Bare command) → StandsInLine command
-meaning_stands greatest ws command is = stands command (drop 1 ws) (subst (λ m. Tells m (drop 1 ws)) is (meaning-tells greatest ws))
+meaning_stands greatest ws command is = stands (shape command) (drop 1 ws) (subst (λ m. Tells m (drop 1 ws)) is (meaning-tells greatest ws))
 
 -- the key is the second word, or there is none
 key_there : (ws : List (List ℕ)) (said : Said) (key : List ℕ) → Tells (said_of said key) (drop 1 ws) → (is_keyed said ≡ false → key ≡ []) → KeyIs key (drop 1 ws) ⊎ (key ≡ [])
 key_there ws (SaidFault fault) key tells none = inr (none refl)
 key_there ws (Store verb flags exptime quiet len) key tells none = inl tells
 key_there ws (Cas flags exptime unique quiet len) key tells none = inl tells
-key_there ws (Touch exptime quiet) key tells none = inl tells
-key_there ws (Delete quiet) key tells none = inl tells
-key_there ws (Count up by quiet) key tells none = inl tells
+key_there ws (Touch exptime quiet) key tells none = inl tells.1
+key_there ws (Delete quiet) key tells none = inl tells.1
+key_there ws (Count up by quiet) key tells none = inl tells.1
 key_there ws (FlushAll delay quiet) key tells none = inr (none refl)
-key_there ws Version key tells none = inr (none refl)
+key_there ws (Query query) key tells none = inr (none refl)
 key_there ws Quit key tells none = inr (none refl)
 
 no_key : (key rest : List ℕ) → key ≡ [] → key ≡ take (length key) rest
@@ -140,10 +134,10 @@ whole_said (FlushAll delay quiet) key rest command taken h =
     let e = h.1 in
     let is : command ≡ FlushCommand delay quiet = cc in
     still command (FlushCommand delay quiet) taken is refl
-whole_said Version key rest command taken h =
+whole_said (Query query) key rest command taken h =
     let e = h.1 in
-    let is : command ≡ VersionCommand = cc in
-    still command VersionCommand taken is refl
+    let is : command ≡ QueryCommand query = cc in
+    still command (QueryCommand query) taken is refl
 whole_said Quit key rest command taken h =
     let e = h.1 in
     let is : command ≡ QuitCommand = cc in

@@ -1,12 +1,14 @@
 -- The keys of a retrieval are the words of its line behind its name, and behind the exptime of gat and gats. The key of
 -- another command is the second word.
-use Rattle.std.proofs.Common.{◌≡◌, ℕ, ◌-◌, ◌^◌, ◌+◌, Bool, true, false, cond, List, [], ◌∷◌, length, take, drop, refl, subst, ℤ, Option, Some, None, Result, Ok, Err, leb, if◌then◌else◌}
+use Rattle.std.proofs.Common.{◌≡◌, ℕ, ◌-◌, ◌^◌, ◌+◌, Bool, true, false, cond, List, [], ◌∷◌, length, take, drop, refl, subst, ℤ, Option, Some, None, Result, Ok, Err, leb, if◌then◌else◌, IsFalse}
 use Rattle.std.specs.Prelude.{codes}
 use Rattle.std.specs.List.{list_all}
 use Rattle.std.specs.Str.{bytes_eq}
 use Rattle.mc_command.specs.Numbers.{number_up_to}
 use Rattle.mc_command.specs.declared.command.Command.{Command}
-use Rattle.mc_command.specs.declared.command.Command.TheVariants.{Store as StoreCommand, Cas as CasCommand, Get, GetTouch, Touch, Delete, Count, FlushAll, Version, Quit}
+use Rattle.mc_command.specs.declared.command.Command.TheVariants.{FlushAll, Query as QueryCommand, Quit}
+use Rattle.mc_command.specs.declared.command.Query.{Query}
+use Rattle.mc_command.specs.Commands.{Shape, Single, Retrieval, Stepless, Parting, shape, retrieval}
 use Rattle.mc_command.specs.declared.step.Verb.{Verb}
 use Rattle.mc_command.specs.declared.fault.LineFault.{LineFault}
 use Rattle.mc_command.specs.declared.fault.LineFault.TheVariants.{Unknown, BadFormat, BadDelta, TooLarge}
@@ -15,27 +17,26 @@ use Rattle.mc_parse.specs.declared.line.Line.TheVariants.{Bare, Block}
 use Rattle.mc_parse.specs.declared.line.Head.{Head}
 use Rattle.mc_parse.specs.declared.line.Head.TheVariants.{Store, Cas}
 use Rattle.mc_parse.specs.declared.name.Name.{Name}
-use Rattle.mc_parse.specs.declared.name.Name.TheVariants.{Store as StoreName, Cas as CasName, Get as GetName, GetTouch as GetTouchName, Touch as TouchName, Delete as DeleteName, Count as CountName, FlushAll as FlushName, Version as VersionName, Quit as QuitName}
+use Rattle.mc_parse.specs.declared.name.Name.TheVariants.{Store as StoreName, Cas as CasName, Get as GetName, GetTouch as GetTouchName, Touch as TouchName, Delete as DeleteName, Count as CountName, FlushAll as FlushName, Query as QueryName, Quit as QuitName}
 use Rattle.mc_parse.specs.Exptimes.{exptime_of, delay_of}
-use Rattle.mc_parse.specs.Lines.{◌>>=◌, formed, is_key, key_formed, keys_formed, ending, delete_ending, delayed, fitting, name_of, store_line, cas_line, get_touch_line, touch_line, delete_line, count_line, flush_line, lone_line, named_line, meaning}
-use Rattle.mc_parse.specs.Cursors.{retrieval, words_before}
+use Rattle.mc_parse.specs.Lines.{◌>>=◌, formed, is_key, key_formed, keys_formed, ending, delete_ending, delayed, fitting, name_of, store_line, cas_line, get_touch_line, touch_line, delete_line, count_line, flush_line, lone_line, named_line, meaning, IsKeyed}
+use Rattle.mc_parse.specs.Cursors.{words_before}
 
 -- the first of these words is the key
 abbrev pub KeyIs : List ℕ → List (List ℕ) → Type 0
 KeyIs key args = take 1 args ≡ key ∷ []
 
--- the keys of the command are among these words; one that has a block stands in no line
+-- the keys of a command of a shape are among these words; one that has a block stands in no line
+abbrev pub KeysBy : Shape → List (List ℕ) → Type 0
+KeysBy (Single step has_block quiet) args = IsFalse has_block × IsKeyed (λ key. KeyIs key args) step
+KeysBy (Retrieval None keys with_unique) args = args ≡ keys
+KeysBy (Retrieval (Some exptime) keys with_unique) args = drop 1 args ≡ keys
+KeysBy (Stepless query) args = Unit {0}
+KeysBy Parting args = Unit {0}
+
+-- and so are the command's
 abbrev pub KeysAre : Command → List (List ℕ) → Type 0
-KeysAre (Get keys with_unique) args = args ≡ keys
-KeysAre (GetTouch exptime keys with_unique) args = drop 1 args ≡ keys
-KeysAre (StoreCommand verb key flags exptime block quiet) args = ⊥
-KeysAre (CasCommand key flags exptime block unique quiet) args = ⊥
-KeysAre (Touch key exptime quiet) args = KeyIs key args
-KeysAre (Delete key quiet) args = KeyIs key args
-KeysAre (Count key up by quiet) args = KeyIs key args
-KeysAre (FlushAll delay quiet) args = Unit {0}
-KeysAre Version args = Unit {0}
-KeysAre Quit args = Unit {0}
+KeysAre command args = KeysBy (shape command) args
 
 abbrev pub HeadKeyIs : Head → List (List ℕ) → Type 0
 HeadKeyIs (Store verb key flags exptime quiet) args = KeyIs key args
@@ -117,31 +118,31 @@ touch_line-tells [] = tt
 touch_line-tells (key ∷ []) = tt
 touch_line-tells (key ∷ exptime ∷ rest) =
     let args = key ∷ exptime ∷ rest in
-    after args (ending rest) _ (λ quiet. after_key args key _ (after args (formed BadFormat (exptime_of exptime)) _ (λ e. refl)))
+    after args (ending rest) _ (λ quiet. after_key args key _ (after args (formed BadFormat (exptime_of exptime)) _ (λ e. (refl, refl))))
 
 delete_line-tells : (args : List (List ℕ)) → Tells (delete_line args) args
 delete_line-tells [] = tt
-delete_line-tells (key ∷ rest) = after (key ∷ rest) (delete_ending rest) _ (λ quiet. after_key (key ∷ rest) key _ refl)
+delete_line-tells (key ∷ rest) = after (key ∷ rest) (delete_ending rest) _ (λ quiet. after_key (key ∷ rest) key _ (refl, refl))
 
 count_line-tells : (up : Bool) (args : List (List ℕ)) → Tells (count_line up args) args
 count_line-tells up [] = tt
 count_line-tells up (key ∷ []) = tt
 count_line-tells up (key ∷ value ∷ rest) =
     let args = key ∷ value ∷ rest in
-    after args (ending rest) _ (λ quiet. after_key args key _ (after args (formed BadDelta (number_up_to (2 ^ 64 - 1) value)) _ (λ by. refl)))
+    after args (ending rest) _ (λ quiet. after_key args key _ (after args (formed BadDelta (number_up_to (2 ^ 64 - 1) value)) _ (λ by. (refl, refl))))
 
 delayed-tells : (args : List (List ℕ)) (word : List ℕ) (quiet : Bool) → Tells (delayed word quiet) args
-delayed-tells args word quiet = after args (formed BadFormat (delay_of word)) _ (λ delay. tt)
+delayed-tells args word quiet = after args (formed BadFormat (delay_of word)) _ (λ delay. (refl, tt))
 
 flush_line-tells : (args : List (List ℕ)) → Tells (flush_line args) args
-flush_line-tells [] = tt
-flush_line-tells (word ∷ []) = either (word ∷ []) (bytes_eq word (codes "noreply")) (Ok (Bare (FlushAll 0 true))) (delayed word false) tt (delayed-tells (word ∷ []) word false)
+flush_line-tells [] = (refl, tt)
+flush_line-tells (word ∷ []) = either (word ∷ []) (bytes_eq word (codes "noreply")) (Ok (Bare (FlushAll 0 true))) (delayed word false) (refl, tt) (delayed-tells (word ∷ []) word false)
 flush_line-tells (delay ∷ word ∷ rest) =
     after (delay ∷ word ∷ rest) (ending (word ∷ rest)) _ (λ quiet. delayed-tells (delay ∷ word ∷ rest) delay quiet)
 
-version_line-tells : (args : List (List ℕ)) → Tells (lone_line Version args) args
-version_line-tells [] = tt
-version_line-tells (word ∷ args) = tt
+query_line-tells : (query : Query) (args : List (List ℕ)) → Tells (lone_line (QueryCommand query) args) args
+query_line-tells query [] = tt
+query_line-tells query (word ∷ args) = tt
 
 quit_line-tells : (args : List (List ℕ)) → Tells (lone_line Quit args) args
 quit_line-tells [] = tt
@@ -156,7 +157,7 @@ named_line-tells greatest TouchName args = touch_line-tells args
 named_line-tells greatest DeleteName args = delete_line-tells args
 named_line-tells greatest (CountName up) args = count_line-tells up args
 named_line-tells greatest FlushName args = flush_line-tells args
-named_line-tells greatest VersionName args = version_line-tells args
+named_line-tells greatest (QueryName query) args = query_line-tells query args
 named_line-tells greatest QuitName args = quit_line-tells args
 
 pub meaning-tells : (greatest : ℕ) (ws : List (List ℕ)) → Tells (meaning greatest ws) (drop 1 ws)

@@ -1,16 +1,11 @@
 -- Where a retrieval stands after some of its turns.
 use Rattle.std.specs.Prelude.{◌≡◌, ◌≤◌, ℕ, Bool, List, length, take, drop, ℤ, Option, Some, None, IfSome}
 use Rattle.mc_command.specs.Words.{words}
+use Rattle.mc_command.specs.Commands.{retrieval}
 use Rattle.mc_command.specs.declared.command.Command.{Command}
-use Rattle.mc_command.specs.declared.command.Command.TheVariants.{Get, GetTouch}
 use Rattle.mc_parse.specs.Units.{Request}
 use Rattle.mc_parse.specs.Peeks.{IsSpelled, IsLeft}
 use Rattle.mc_parse.specs.declared.cursor.Cursor.{Cursor}
-
--- a retrieval of these keys: gat or gats where it has an exptime
-abbrev pub retrieval : Option ℤ → List (List ℕ) → Bool → Command
-retrieval None keys with_unique = Get keys with_unique
-retrieval (Some exptime) keys with_unique = GetTouch exptime keys with_unique
 
 -- how many words of a retrieval's line come before the keys: its name, and the exptime where it has one
 abbrev pub words_before : Option ℤ → ℕ

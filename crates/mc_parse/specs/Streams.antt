@@ -2,23 +2,22 @@
 use Rattle.std.specs.Prelude.{◌≡◌, ℕ, Bool, true, false, List, [], ◌∷◌, ◌++◌, drop}
 use Rattle.std.specs.Bool.{MatchBool}
 use Rattle.mc_command.specs.declared.command.Command.{Command}
-use Rattle.mc_command.specs.declared.command.Command.TheVariants.{Store, Cas, Get, GetTouch, Touch, Delete, Count, FlushAll, Version, Quit}
+use Rattle.mc_command.specs.Commands.{Shape, Single, Retrieval, Stepless, Parting, shape}
 use Rattle.mc_command.specs.declared.fault.LineFault.{LineFault}
 use Rattle.mc_command.specs.declared.fault.LineFault.TheVariants.{Unknown, BadFormat, BadDelta, TooLarge, BadChunk}
 use Rattle.mc_parse.specs.Units.{ProtocolUnit, Request, Fault, LongLine, Spells}
 use Rattle.mc_parse.specs.Peeks.{BeginsWithNone}
 
+-- a command of a shape ends its stream
+abbrev pub is_quit_by : Shape → Bool
+is_quit_by (Single step has_block quiet) = false
+is_quit_by (Retrieval exptime keys with_unique) = false
+is_quit_by (Stepless query) = false
+is_quit_by Parting = true
+
+-- a command ends its stream
 abbrev pub is_quit : Command → Bool
-is_quit Quit = true
-is_quit Version = false
-is_quit (Store verb key flags exptime block quiet) = false
-is_quit (Cas key flags exptime block unique quiet) = false
-is_quit (Get keys with_unique) = false
-is_quit (GetTouch exptime keys with_unique) = false
-is_quit (Touch key exptime quiet) = false
-is_quit (Delete key quiet) = false
-is_quit (Count key up by quiet) = false
-is_quit (FlushAll delay quiet) = false
+is_quit command = is_quit_by (shape command)
 
 -- a unit that ends its stream: quit, and a line that is too long
 abbrev pub is_last : ProtocolUnit → Bool

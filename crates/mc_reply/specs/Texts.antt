@@ -2,9 +2,10 @@
 use Rattle.std.specs.Prelude.{ℕ, ◌+◌, ◌<◌, ◌==◌, Bool, true, false, List, [], ◌++◌, length, vec_capacity, codes, decimal, if◌then◌else◌, Option, Some, None, slice_get}
 use Rattle.std.specs.declared.vec.Vec.{Vec}
 use Rattle.std.specs.declared.alloc.Global.{Global}
-use Rattle.mc_command.specs.Commands.{is_quiet}
+use Rattle.mc_command.specs.Commands.{Shape, Single, Retrieval, Stepless, Parting, shape, is_quiet}
 use Rattle.mc_command.specs.declared.command.Command.{Command}
-use Rattle.mc_command.specs.declared.command.Command.TheVariants.{Store, Cas, Get, GetTouch, Touch, Delete, Count, FlushAll, Version, Quit}
+use Rattle.mc_command.specs.declared.command.Query.{Query}
+use Rattle.mc_command.specs.declared.command.Query.TheVariants.{Version}
 use Rattle.mc_command.specs.declared.reply.Reply.{Reply}
 use Rattle.mc_command.specs.declared.reply.Reply.TheVariants.{Stored, NotStored, Exists, NotFound, Miss, Hit, Touched, Deleted, Number, NotNumeric, TooLarge, NoChunk, Flushed}
 use Rattle.mc_command.specs.declared.fault.LineFault.{LineFault}
@@ -82,31 +83,32 @@ abbrev pub unless_quiet : Bool → List ℕ → List ℕ
 unless_quiet true text = []
 unless_quiet false text = text
 
+-- the text of the reply to step `at` of a command of a shape
+abbrev pub reply_text_by : Shape → ℕ → Reply → List ℕ
+reply_text_by (Single step has_block quiet) at reply = unless_quiet quiet (said reply)
+reply_text_by (Retrieval exptime keys with_unique) at reply =
+    retrieval_text keys with_unique at reply
+reply_text_by (Stepless query) at reply = []
+reply_text_by Parting at reply = []
+
 -- the text of the reply to step `at` of a command
 abbrev pub reply_text : Command → ℕ → Reply → List ℕ
-reply_text (Store verb key flags exptime block quiet) at reply = unless_quiet quiet (said reply)
-reply_text (Cas key flags exptime block unique quiet) at reply = unless_quiet quiet (said reply)
-reply_text (Get keys with_unique) at reply = retrieval_text keys with_unique at reply
-reply_text (GetTouch exptime keys with_unique) at reply = retrieval_text keys with_unique at reply
-reply_text (Touch key exptime quiet) at reply = unless_quiet quiet (said reply)
-reply_text (Delete key quiet) at reply = unless_quiet quiet (said reply)
-reply_text (Count key up by quiet) at reply = unless_quiet quiet (said reply)
-reply_text (FlushAll delay quiet) at reply = unless_quiet quiet (said reply)
-reply_text Version at reply = []
-reply_text Quit at reply = []
+reply_text command at reply = reply_text_by (shape command) at reply
+
+-- what a query is answered
+abbrev pub query_text : Query → List ℕ
+query_text Version = codes "VERSION 1.6.0\r\n"
+
+-- the text of a command of a shape that takes no step
+abbrev pub plain_text_by : Shape → List ℕ
+plain_text_by (Single step has_block quiet) = []
+plain_text_by (Retrieval exptime keys with_unique) = []
+plain_text_by (Stepless query) = query_text query
+plain_text_by Parting = []
 
 -- the text of a command that takes no step
 abbrev pub plain_text : Command → List ℕ
-plain_text Version = codes "VERSION 1.6.0\r\n"
-plain_text Quit = []
-plain_text (Store verb key flags exptime block quiet) = []
-plain_text (Cas key flags exptime block unique quiet) = []
-plain_text (Get keys with_unique) = []
-plain_text (GetTouch exptime keys with_unique) = []
-plain_text (Touch key exptime quiet) = []
-plain_text (Delete key quiet) = []
-plain_text (Count key up by quiet) = []
-plain_text (FlushAll delay quiet) = []
+plain_text command = plain_text_by (shape command)
 
 -- the text of a line's fault, which a noreply doesn't silence
 abbrev pub fault_text : LineFault → List ℕ

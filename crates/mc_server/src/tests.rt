@@ -69,7 +69,7 @@ fn tells_each_write_that_fails(rt: HostRuntime) -> Result<(), Fail> {
     let alloc = rt.alloc();
     for calls in 0..ALIVE.len() {
         let mut reader = Drip::new(INPUT.as_bytes(), 100);
-        let mut writer = Sip::failing(alloc, calls, ErrorKind::BrokenPipe);
+        let mut writer = Sip::failing(alloc, 0, calls, ErrorKind::BrokenPipe)?;
         let end = served(alloc, None, &mut reader, &mut writer);
         assert!(rt; matches!(end, End::Served(Err(ServeFault::Write))));
         assert!(rt; writer.taken().len() == calls);

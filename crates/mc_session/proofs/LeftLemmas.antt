@@ -3,17 +3,15 @@ use Rattle.std.proofs.Common.{◌≡◌, ◌<◌, ◌+◌, ◌-◌, ◌==◌, �
 use Rattle.std.proofs.lemmas.Bool.{cases_eq}
 use Rattle.std.proofs.lemmas.Option.{slice_get_past}
 use Rattle.std.proofs.lemmas.List.{drop-map, length-map, length-drop}
-use Rattle.mc_command.specs.Commands.{steps, after_steps, is_quiet}
+use Rattle.mc_command.specs.Commands.{Shape, Single, Retrieval, Stepless, Parting, shape, shape_left, steps_by, read_step, is_quiet_by, steps, after_steps, after_steps-shape, is_quiet}
 use Rattle.mc_command.specs.declared.command.Command.{Command}
-use Rattle.mc_command.specs.declared.command.Command.TheVariants.{Store, Cas, Get, GetTouch, Touch, Delete, Count, FlushAll, Version, Quit}
 use Rattle.mc_command.specs.declared.step.KeyStep.{KeyStep}
 use Rattle.mc_command.specs.declared.step.Steps.{Ghosts as Relations}
-use Rattle.mc_command.specs.declared.step.KeyStep.TheVariants.{Read as ReadStep, ReadTouch as ReadTouchStep}
 use Rattle.mc_command.specs.declared.reply.Reply.{Reply}
 use Rattle.mc_parse.specs.Units.{ProtocolUnit, Request, Fault, LongLine}
-use Rattle.mc_parse.specs.Streams.{is_quit}
+use Rattle.mc_parse.specs.Streams.{is_quit, is_quit_by}
 use Rattle.mc_parse.specs.Peeks.{left_of}
-use Rattle.mc_reply.specs.Texts.{reply_text, plain_text, retrieval_text, asked_text, end_text}
+use Rattle.mc_reply.specs.Texts.{reply_text, reply_text_by, plain_text, plain_text_by, retrieval_text, asked_text, end_text}
 use Rattle.mc_session.specs.declared.after_turn.AfterTurn.TheVariants.{Step, Read, Close}
 use Rattle.mc_session.specs.Turns.{Answers, AnswersStep, turn_count}
 use Rattle.mc_session.specs.Answers.{next_of}
@@ -34,17 +32,14 @@ same_test a b c d there back =
     by_case (cases_eq a b)
 
 -- the steps that are left
+steps_by_left : (its : Shape) (taken : ℕ) → taken < max 1 (length (steps_by its)) → steps_by (shape_left its taken) ≡ drop taken (steps_by its)
+steps_by_left (Single step has_block quiet) taken due = let none : taken ≡ 0 = omega arith in rw none refl
+steps_by_left (Retrieval exptime keys with_unique) taken due = sym (drop-map _ taken keys)
+steps_by_left (Stepless query) taken due = let none : taken ≡ 0 = omega arith in rw none refl
+steps_by_left Parting taken due = let none : taken ≡ 0 = omega arith in rw none refl
+
 steps_left : (command : Command) (taken : ℕ) → taken < max 1 (length (steps command)) → steps (after_steps command taken) ≡ drop taken (steps command)
-steps_left (Get keys with_unique) taken due = sym (drop-map _ taken keys)
-steps_left (GetTouch exptime keys with_unique) taken due = sym (drop-map _ taken keys)
-steps_left (Store verb key flags exptime block quiet) taken due = let none : taken ≡ 0 = omega arith in rw none refl
-steps_left (Cas key flags exptime block unique quiet) taken due = let none : taken ≡ 0 = omega arith in rw none refl
-steps_left (Touch key exptime quiet) taken due = let none : taken ≡ 0 = omega arith in rw none refl
-steps_left (Delete key quiet) taken due = let none : taken ≡ 0 = omega arith in rw none refl
-steps_left (Count key up by quiet) taken due = let none : taken ≡ 0 = omega arith in rw none refl
-steps_left (FlushAll delay quiet) taken due = let none : taken ≡ 0 = omega arith in rw none refl
-steps_left Version taken due = let none : taken ≡ 0 = omega arith in rw none refl
-steps_left Quit taken due = let none : taken ≡ 0 = omega arith in rw none refl
+steps_left command taken due = ap steps_by (after_steps-shape command taken) ∙ steps_by_left (shape command) taken due
 
 -- the first of them is the next step
 pub step_left : (left command : Command) (taken : ℕ) → taken < turn_count (Request command) → Request left ≡ left_of (Request command) taken → slice_get (steps left) 0 ≡ slice_get (steps command) taken
@@ -64,35 +59,29 @@ retrieval_left keys with_unique taken reply due =
     ∙ ap (λ text. asked_text (slice_get keys taken) with_unique reply ++ text) (end_left keys taken due)
 
 -- the text of the reply to the next step
+reply_by_left : (its : Shape) (taken : ℕ) (reply : Reply) → taken < max 1 (length (steps_by its)) → reply_text_by (shape_left its taken) 0 reply ≡ reply_text_by its taken reply
+reply_by_left (Single step has_block quiet) taken reply due = refl
+reply_by_left (Retrieval exptime keys with_unique) taken reply due = retrieval_left keys with_unique taken reply (omega (arith, due, length-map keys (λ key. read_step exptime key)))
+reply_by_left (Stepless query) taken reply due = refl
+reply_by_left Parting taken reply due = refl
+
 reply_left : (command : Command) (taken : ℕ) (reply : Reply) → taken < max 1 (length (steps command)) → reply_text (after_steps command taken) 0 reply ≡ reply_text command taken reply
-reply_left (Get keys with_unique) taken reply due = retrieval_left keys with_unique taken reply (omega (arith, length-map keys ReadStep))
-reply_left (GetTouch exptime keys with_unique) taken reply due = retrieval_left keys with_unique taken reply (omega (arith, length-map keys (λ key. ReadTouchStep key exptime)))
-reply_left (Store verb key flags exptime block quiet) taken reply due = refl
-reply_left (Cas key flags exptime block unique quiet) taken reply due = refl
-reply_left (Touch key exptime quiet) taken reply due = refl
-reply_left (Delete key quiet) taken reply due = refl
-reply_left (Count key up by quiet) taken reply due = refl
-reply_left (FlushAll delay quiet) taken reply due = refl
-reply_left Version taken reply due = refl
-reply_left Quit taken reply due = refl
+reply_left command taken reply due = ap (λ its. reply_text_by its 0 reply) (after_steps-shape command taken) ∙ reply_by_left (shape command) taken reply due
 
 -- what is left of a command is as quiet, ends the stream as it does, and is answered the same without a step
-pub record IsLike (command other : Command) : Type 0 where
-  pub quiet : is_quiet command ≡ is_quiet other
-  pub quit : is_quit command ≡ is_quit other
-  pub plain : plain_text command ≡ plain_text other
+pub record IsLike (one other : Shape) : Type 0 where
+  pub quiet : is_quiet_by one ≡ is_quiet_by other
+  pub quit : is_quit_by one ≡ is_quit_by other
+  pub plain : plain_text_by one ≡ plain_text_by other
 
-like_left : (command : Command) (taken : ℕ) → IsLike (after_steps command taken) command
-like_left (Get keys with_unique) taken = record { quiet = refl; quit = refl; plain = refl }
-like_left (GetTouch exptime keys with_unique) taken = record { quiet = refl; quit = refl; plain = refl }
-like_left (Store verb key flags exptime block quiet) taken = record { quiet = refl; quit = refl; plain = refl }
-like_left (Cas key flags exptime block unique quiet) taken = record { quiet = refl; quit = refl; plain = refl }
-like_left (Touch key exptime quiet) taken = record { quiet = refl; quit = refl; plain = refl }
-like_left (Delete key quiet) taken = record { quiet = refl; quit = refl; plain = refl }
-like_left (Count key up by quiet) taken = record { quiet = refl; quit = refl; plain = refl }
-like_left (FlushAll delay quiet) taken = record { quiet = refl; quit = refl; plain = refl }
-like_left Version taken = record { quiet = refl; quit = refl; plain = refl }
-like_left Quit taken = record { quiet = refl; quit = refl; plain = refl }
+like_by : (its : Shape) (taken : ℕ) → IsLike (shape_left its taken) its
+like_by (Single step has_block quiet) taken = record { quiet = refl; quit = refl; plain = refl }
+like_by (Retrieval exptime keys with_unique) taken = record { quiet = refl; quit = refl; plain = refl }
+like_by (Stepless query) taken = record { quiet = refl; quit = refl; plain = refl }
+like_by Parting taken = record { quiet = refl; quit = refl; plain = refl }
+
+like_left : (command : Command) (taken : ℕ) → IsLike (shape (after_steps command taken)) (shape command)
+like_left command taken = subst (λ its. IsLike its (shape command)) (sym (after_steps-shape command taken)) (like_by (shape command) taken)
 
 -- what comes next is the same
 pub next_left : (unit : ProtocolUnit) (taken len : ℕ) → taken < turn_count unit → next_of (left_of unit taken) 0 len ≡ next_of unit taken len

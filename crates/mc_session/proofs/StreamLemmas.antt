@@ -1,15 +1,15 @@
 -- The turns of a run are the turns of its stream.
-use Rattle.std.proofs.Common.{◌≡◌, ◌⊎◌, ◌↔◌, inl, inr, ℕ, zero, suc, ◌+◌, ◌-◌, ◌<◌, ◌≤◌, ◌==◌, Bool, true, false, List, [], ◌∷◌, ◌++◌, length, drop, refl, sym, ap, ◌∙◌, subst, arith, append_assoc, append-nil, if◌then◌else◌, IsTrue, IsFalse}
+use Rattle.std.proofs.Common.{◌≡◌, ◌⊎◌, ◌↔◌, inl, inr, ℕ, zero, suc, ◌+◌, ◌-◌, ◌<◌, ◌≤◌, ◌==◌, Bool, true, false, List, [], ◌∷◌, ◌++◌, length, drop, max, refl, sym, ap, ◌∙◌, subst, arith, append_assoc, append-nil, if◌then◌else◌, IsTrue, IsFalse}
 use Rattle.std.specs.Bool.{MatchBool}
 use Rattle.std.proofs.Math.Seq.{drop-nil}
 use Rattle.std.proofs.Math.ListN.{drop_of_length-le}
 use Rattle.std.proofs.lemmas.Bool.{cases_lt, eqb-true}
 use Rattle.std.proofs.lemmas.List.{append_cancel_left}
-use Rattle.mc_command.specs.declared.command.Command.TheVariants.{Store, Cas, Get, GetTouch, Touch, Delete, Count, FlushAll, Version, Quit}
+use Rattle.mc_command.specs.Commands.{Shape, Single, Retrieval, Stepless, Parting, shape, steps_by}
 use Rattle.mc_command.specs.declared.step.Steps.{Ghosts as Relations}
 use Rattle.mc_parse.specs.Units.{ProtocolUnit, Request, Fault, LongLine}
 use Rattle.mc_parse.specs.Peeks.{BeginsWithNone}
-use Rattle.mc_parse.specs.Streams.{AreUnits, is_last, passed_after}
+use Rattle.mc_parse.specs.Streams.{AreUnits, is_last, is_quit_by, passed_after}
 use Rattle.mc_parse.specs.Feeds.{Unread, settled}
 use Rattle.mc_session.specs.Turns.{SessionState, TakesTurn, NoTurnDue, HasUnits, turn_count, turns_from, turns, opened, fed, closed}
 use Rattle.mc_session.specs.Serving.{Run, nothing, turn}
@@ -51,20 +51,18 @@ drop_whole : (unit : ProtocolUnit) (at n : ℕ) (more : List (ProtocolUnit × �
 drop_whole unit at zero more = refl
 drop_whole unit at (suc n) more = drop_whole unit (at + 1) n more
 
+-- a command of a shape that ends its stream has one turn
+once_by : (its : Shape) → is_quit_by its ≡ true → max 1 (length (steps_by its)) ≡ 1
+once_by (Single step has_block quiet) last = refl
+once_by (Retrieval exptime keys with_unique) last = absurd (cc)
+once_by (Stepless query) last = refl
+once_by Parting last = refl
+
 -- a last unit has one turn
 last_once : (unit : ProtocolUnit) → is_last unit ≡ true → turn_count unit ≡ 1
 last_once LongLine last = refl
 last_once (Fault fault) last = refl
-last_once (Request Quit) last = refl
-last_once (Request Version) last = refl
-last_once (Request (Store verb key flags exptime block quiet)) last = absurd (cc)
-last_once (Request (Cas key flags exptime block unique quiet)) last = absurd (cc)
-last_once (Request (Get keys with_unique)) last = absurd (cc)
-last_once (Request (GetTouch exptime keys with_unique)) last = absurd (cc)
-last_once (Request (Touch key exptime quiet)) last = absurd (cc)
-last_once (Request (Delete key quiet)) last = absurd (cc)
-last_once (Request (Count key up by quiet)) last = absurd (cc)
-last_once (Request (FlushAll delay quiet)) last = absurd (cc)
+last_once (Request command) last = once_by (shape command) last
 
 -- of all the turns these were taken, and those are left of what is unread
 pub record HasLeft (all taken : List (ProtocolUnit × ℕ)) (unread : Unread) (at : ℕ) : Type 0 where

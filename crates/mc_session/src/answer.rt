@@ -123,7 +123,7 @@ fn is_quit(command: &Command<'_>) -> bool
 {
     match command {
         Command::Quit => true,
-        Command::Version
+        Command::Query(_)
         | Command::Store { .. }
         | Command::Cas { .. }
         | Command::Get { .. }

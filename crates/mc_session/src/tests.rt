@@ -1,8 +1,9 @@
 use super::*;
 use mc_command::PlainStore;
+use mc_testing::{Drip, SESSIONS, Sip};
 use mc_time::{Fixed, Moment};
 use std::alloc::{AllocError, Global};
-use std::io::{self, ErrorKind, Read, Write};
+use std::io::ErrorKind;
 use std::process::Abort;
 use std::test::Fail;
 
@@ -15,98 +16,11 @@ const PAGE: u64 = 1_048_576;
 /// More calls than a test makes.
 const NEVER: usize = 10000;
 
-/// What is read, and what must be written.
-const ROWS: [(&str, &str); 12] = [
-    (
-        "set a 5 0 3\r\nabc\r\nadd a 0 0 1\r\nx\r\nreplace a 7 0 1\r\nb\r\nappend a 0 0 1\r\nc\r\nprepend a 0 0 1\r\na\r\nget a\r\n",
-        "STORED\r\nNOT_STORED\r\nSTORED\r\nSTORED\r\nSTORED\r\nVALUE a 7 3\r\nabc\r\nEND\r\n",
-    ),
-    (
-        "set a 0 0 1\r\n9\r\nincr a 3\r\ndecr a 2\r\ntouch a 60\r\ngat 0 a\r\ndelete a\r\nflush_all\r\nget a\r\n",
-        "STORED\r\n12\r\n10\r\nTOUCHED\r\nVALUE a 0 2\r\n10\r\nEND\r\nDELETED\r\nOK\r\nEND\r\n",
-    ),
-    (
-        "set a 0 0 1\r\nx\r\ngets a\r\ncas a 0 0 1 1\r\ny\r\ncas a 0 0 1 1\r\nz\r\n",
-        "STORED\r\nVALUE a 0 1 1\r\nx\r\nEND\r\nSTORED\r\nEXISTS\r\n",
-    ),
-    ("", ""),
-    (
-        "set a 5 0 3\r\nabc\r\nget a\r\n",
-        "STORED\r\nVALUE a 5 3\r\nabc\r\nEND\r\n",
-    ),
-    (
-        "set e 0 0 0\r\n\r\nget e\r\n",
-        "STORED\r\nVALUE e 0 0\r\n\r\nEND\r\n",
-    ),
-    (
-        "set a 0 0 3\r\nabcdef\r\n",
-        "CLIENT_ERROR bad data chunk\r\nERROR\r\n",
-    ),
-    ("set a 0 0 4\r\n\r\n\r\n\r\n", "STORED\r\n"),
-    (
-        "set a 0 0 1 noreply\r\nx\r\nget a b a\r\nquit\r\nget a\r\n",
-        "VALUE a 0 1\r\nx\r\nVALUE a 0 1\r\nx\r\nEND\r\n",
-    ),
-    ("set a 0 0 5\r\nab", ""),
-    (
-        "\r\nfoo\r\nget\r\nversion\n  version  \r\n",
-        "ERROR\r\nERROR\r\nERROR\r\nVERSION 1.6.0\r\nVERSION 1.6.0\r\n",
-    ),
-    (
-        "set a 0 0 52\r\n0123456789\r\nget a\r\n012345678901234567890123456789012\r\nget a\r\n",
-        "SERVER_ERROR object too large for cache\r\nEND\r\n",
-    ),
-];
-
-/// Gives one byte at a time, and fails once it was asked so often.
-#[derive(Drop)]
-struct Drip<'a> {
-    rest: &'a [u8],
-    calls: usize,
-}
-
-impl Read for Drip<'_> {
-    fn read(&mut self, buf: &mut [u8]) -> io::Result<usize> {
-        if self.calls == 0 {
-            return Err(io::Error::from(ErrorKind::Other));
-        }
-        self.calls -= 1;
-        let Some((first, rest)) = self.rest.split_first() else {
-            return Ok(0);
-        };
-        if buf.is_empty() {
-            return Ok(0);
-        }
-        buf[0] = *first;
-        self.rest = rest;
-        Ok(1)
-    }
-}
-
-/// Takes one byte at a time, and fails once it was asked so often.
-#[derive(Drop)]
-struct Sip {
-    taken: Vec<u8>,
-    calls: usize,
-}
-
-impl Write for Sip {
-    fn write(&mut self, buf: &[u8]) -> io::Result<usize> {
-        if self.calls == 0 {
-            return Err(io::Error::from(ErrorKind::Other));
-        }
-        self.calls -= 1;
-        let Some(first) = buf.first() else {
-            return Ok(0);
-        };
-        self.taken.push(*first)?;
-        Ok(1)
-    }
-
-    fn flush(&mut self) -> io::Result<()> {
-        Ok(())
-    }
-}
+/// A block of more than the greatest charge, and what must be written.
+const TOO_LARGE: (&str, &str) = (
+    "set a 0 0 52\r\n0123456789\r\nget a\r\n012345678901234567890123456789012\r\nget a\r\n",
+    "SERVER_ERROR object too large for cache\r\nEND\r\n",
+);
 
 /// How a run over that reader and writer ends, and what it wrote.
 fn run(
@@ -115,14 +29,8 @@ fn run(
     reads: usize,
     writes: usize,
 ) -> Result<(Result<(), ServeFault>, Vec<u8>), AllocError> {
-    let mut reader = Drip {
-        rest: input,
-        calls: reads,
-    };
-    let mut writer = Sip {
-        taken: Vec::with_capacity(alloc, 1000)?,
-        calls: writes,
-    };
+    let mut reader = Drip::failing(input, reads, ErrorKind::Other);
+    let mut writer = Sip::failing(alloc, 1000, writes, ErrorKind::Other)?;
     let mut store = PlainStore::new(alloc, 64, PAGE)?;
     let clock = Fixed(Moment::from_seconds(1000));
     let ended = serve(
@@ -133,7 +41,7 @@ fn run(
         &mut store,
         &clock,
     );
-    Ok((ended, writer.taken))
+    Ok((ended, writer.into_taken()))
 }
 
 /// The same where a growth may be refused before the run: at most one is in a test.
@@ -165,7 +73,7 @@ fn written(rt: &impl Abort, alloc: Global, input: &[u8]) -> Result<Vec<u8>, Fail
 
 #[test]
 fn rows_are_written(rt: HostRuntime) -> Result<(), Fail> {
-    for (input, output) in ROWS {
+    for (input, output) in SESSIONS {
         let out = written(&rt, rt.alloc(), input.as_bytes())?;
         assert_eq!(rt; out.as_slice(), output.as_bytes(), "at {input}");
     }
@@ -173,8 +81,16 @@ fn rows_are_written(rt: HostRuntime) -> Result<(), Fail> {
 }
 
 #[test]
+fn a_block_that_is_too_large_is_passed_over(rt: HostRuntime) -> Result<(), Fail> {
+    let (input, output) = TOO_LARGE;
+    let out = written(&rt, rt.alloc(), input.as_bytes())?;
+    assert_eq!(rt; out.as_slice(), output.as_bytes());
+    Ok(())
+}
+
+#[test]
 fn a_failed_read_leaves_what_came_before_answered(rt: HostRuntime) -> Result<(), Fail> {
-    for (input, output) in ROWS {
+    for (input, output) in SESSIONS {
         let input = input.as_bytes();
         for reads in 0..=input.len() {
             let (came, _) = input.split_at(reads);
@@ -192,7 +108,7 @@ fn a_failed_read_leaves_what_came_before_answered(rt: HostRuntime) -> Result<(),
 
 #[test]
 fn a_failed_write_leaves_a_beginning(rt: HostRuntime) -> Result<(), Fail> {
-    for (input, output) in ROWS {
+    for (input, output) in SESSIONS {
         let output = output.as_bytes();
         for writes in 0..output.len() {
             let (front, _) = output.split_at(writes);

@@ -5,30 +5,12 @@ ghost use Rattle.std.specs.Prelude.{◌≤◌, length};
 ghost use Rattle.mc_command.specs.Commands.{key_of};
 
 use crate::{Settings, Store};
-use mc_command::{Bytes, KeyStep, KeyTest, PlainStore, Reply, StepFault, Steps, Verb};
+use mc_command::{Bytes, KeyStep, KeyTest, PlainStore, StepFault, Verb};
 use mc_hop::Fnv;
+use mc_testing::{Dice, asked, is_same};
 use mc_time::Moment;
 use std::alloc::{AllocError, Global};
 use std::test::*;
-
-/// Numbers that look random, by Knuth's MMIX generator.
-#[derive(Drop)]
-struct Dice {
-    state: u64,
-}
-
-impl Dice {
-    /// A number below `sides`, which is at least 1.
-    fn roll(&mut self, sides: u64) -> u64
-        requires { 1 ≤ sides }
-    {
-        self.state = self
-            .state
-            .wrapping_mul(6364136223846793005)
-            .wrapping_add(1442695040888963407);
-        (self.state >> 33) % sides
-    }
-}
 
 /// One of eight keys.
 fn key_at(number: u64) -> &'static [u8]
@@ -133,57 +115,6 @@ fn step_with<'a>(
     }
 }
 
-fn kind(reply: &Reply) -> u8 {
-    match reply {
-        Reply::Stored => 0,
-        Reply::NotStored => 1,
-        Reply::Exists => 2,
-        Reply::NotFound => 3,
-        Reply::Miss => 4,
-        Reply::Hit { .. } => 5,
-        Reply::Touched => 6,
-        Reply::Deleted => 7,
-        Reply::Number(_) => 8,
-        Reply::NotNumeric => 9,
-        Reply::TooLarge => 10,
-        Reply::NoChunk => 11,
-        Reply::Flushed => 12,
-    }
-}
-
-/// The flags, the unique number and the block of a hit, and a number.
-fn parts(reply: &Reply) -> (u32, u64, &[u8]) {
-    match reply {
-        Reply::Hit {
-            flags,
-            unique,
-            block,
-        } => (*flags, *unique, block.bytes()),
-        Reply::Number(number) => (0, *number, &[]),
-        _ => (0, 0, &[]),
-    }
-}
-
-/// Whether two replies are the same.
-fn is_same(reply: &Reply, other: &Reply) -> bool {
-    kind(reply) == kind(other) && parts(reply) == parts(other)
-}
-
-/// The step's answer, asked for again where memory is refused.
-fn asked<S: Steps>(
-    store: &mut S,
-    alloc: Global,
-    step: &KeyStep<'_>,
-    now: Moment,
-) -> Result<Reply, StepFault>
-    requires { length (key_of step.now) ≤ 250 }
-{
-    match store.step(alloc, step, now) {
-        Err(StepFault::NoMemory) => store.step(alloc, step, now),
-        answer => answer,
-    }
-}
-
 /// Takes a step in both stores, and compares the replies.
 fn is_answered_alike(
     alloc: Global,
@@ -242,7 +173,7 @@ fn random_steps_are_answered_as_by_the_plain_store(rt: HostRuntime) -> Result<()
         Err(_) => opened(alloc)?,
         Ok(all) => all,
     };
-    let mut dice = Dice { state: 1 };
+    let mut dice = Dice::new(1);
     for turn in 0..4000 {
         let now = Moment::from_seconds_at_most(1000 + turn / 20);
         let step = step_of(&mut dice, &bytes);

@@ -11,6 +11,7 @@ ghost use Rattle.mc_shelf.specs.States.{nothing_held};
 use super::*;
 use mc_command::{Bytes, KeyStep, Reply, StepFault, Verb, counts_follow, other_keys_stay};
 use mc_slab::class_of;
+use mc_testing::{Want, is_wanted, told_of};
 use mc_time::Moment;
 use std::alloc::{AllocError, Global};
 use std::marker::Model;
@@ -34,7 +35,7 @@ struct Turn<'a> {
     seconds: u64,
     key: u8,
     ask: Ask<'a>,
-    want: &'static str,
+    want: Want<'static>,
 }
 
 fn at<'a>(seconds: u64, key: u8, ask: Ask<'a>, want: &'static str) -> Turn<'a> {
@@ -42,7 +43,16 @@ fn at<'a>(seconds: u64, key: u8, ask: Ask<'a>, want: &'static str) -> Turn<'a> {
         seconds,
         key,
         ask,
-        want,
+        want: Want::Told(want),
+    }
+}
+
+fn counted<'a>(seconds: u64, key: u8, by: u64, number: u64) -> Turn<'a> {
+    Turn {
+        seconds,
+        key,
+        ask: Ask::Incr(by),
+        want: Want::Number(number),
     }
 }
 
@@ -76,34 +86,6 @@ fn step_of<'a>(key: &'a [u8], ask: Ask<'a>) -> KeyStep<'a>
         Ask::Get => KeyStep::Read { key },
         Ask::Incr(by) => KeyStep::Count { key, up: true, by },
         Ask::Delete => KeyStep::Delete { key },
-    }
-}
-
-fn told(reply: &Reply) -> &'static str {
-    match reply {
-        Reply::Stored => "stored",
-        Reply::NotStored => "not stored",
-        Reply::Exists => "exists",
-        Reply::NotFound => "not found",
-        Reply::Miss => "miss",
-        Reply::Hit { .. } => "hit",
-        Reply::Touched => "touched",
-        Reply::Deleted => "deleted",
-        Reply::Number(15) => "number 15",
-        Reply::Number(_) => "another number",
-        Reply::NotNumeric => "not numeric",
-        Reply::TooLarge => "too large",
-        Reply::NoChunk => "no chunk",
-        Reply::Flushed => "flushed",
-    }
-}
-
-/// Tells what came of a step.
-fn told_of(taken: &Result<Reply, StepFault>) -> &'static str {
-    match taken {
-        Ok(reply) => told(reply),
-        Err(StepFault::NumbersSpent) => "spent",
-        Err(StepFault::NoMemory) => "no memory",
     }
 }
 
@@ -224,11 +206,11 @@ fn last_desk_of(alloc: Global) -> Result<Desk, AllocError>
 /// Takes steps and compares their replies.
 fn tell(rt: &impl Abort, alloc: Global, alone: &mut Alone, turns: &[Turn<'_>]) -> Result<(), Fail> {
     for turn in turns {
-        let reply = alone.take(alloc, *turn)?;
+        let taken = alone.take(alloc, *turn);
         assert!(rt;
-            told(&reply) == turn.want,
+            is_wanted(&taken, turn.want),
             "{} at {}",
-            told(&reply),
+            told_of(&taken),
             turn.seconds
         );
     }
@@ -244,7 +226,7 @@ fn a_key_is_written_in_chunks(rt: HostRuntime) -> Result<(), Fail> {
         at(1000, b'k', Ask::Store(Verb::Set, b"1"), "stored"),
         at(1000, b'k', Ask::Store(Verb::Add, b"2"), "not stored"),
         at(1000, b'k', Ask::Store(Verb::Append, b"0"), "stored"),
-        at(1000, b'k', Ask::Incr(5), "number 15"),
+        counted(1000, b'k', 5, 15),
         at(1000, b'k', Ask::Cas(1, b"x"), "exists"),
         at(1000, b'k', Ask::Cas(3, b"x"), "stored"),
         at(1000, b'k', Ask::Incr(5), "not numeric"),
@@ -337,13 +319,13 @@ fn spent_numbers_are_told(rt: HostRuntime) -> Result<(), Fail> {
     let turns = [at(1000, b'k', Ask::Store(Verb::Set, b"1"), "stored")];
     tell(&rt, alloc, &mut alone, &turns)?;
     let spent = [
-        at(1000, b'k', Ask::Store(Verb::Set, b"2"), "spent"),
-        at(1000, b'n', Ask::Store(Verb::Set, b"2"), "spent"),
-        at(1000, b'k', Ask::Incr(14), "spent"),
+        at(1000, b'k', Ask::Store(Verb::Set, b"2"), "numbers spent"),
+        at(1000, b'n', Ask::Store(Verb::Set, b"2"), "numbers spent"),
+        at(1000, b'k', Ask::Incr(14), "numbers spent"),
     ];
     for turn in spent {
-        let told = told_of(&alone.take_once(alloc, turn));
-        assert!(rt; told == turn.want, "{told}");
+        let taken = alone.take_once(alloc, turn);
+        assert!(rt; is_wanted(&taken, turn.want), "{}", told_of(&taken));
     }
     let turns = [
         at(1000, b'k', Ask::Get, "hit"),
@@ -369,8 +351,8 @@ fn a_chunk_that_is_not_left_is_told(rt: HostRuntime) -> Result<(), Fail> {
         at(1000, b'k', Ask::Incr(6), "no chunk"),
         at(1000, b'n', Ask::Store(Verb::Set, b"2"), "no chunk"),
     ] {
-        let told = told_of(&alone.take_once(alloc, turn));
-        assert!(rt; told == turn.want, "{told}");
+        let taken = alone.take_once(alloc, turn);
+        assert!(rt; is_wanted(&taken, turn.want), "{}", told_of(&taken));
     }
     Ok(())
 }

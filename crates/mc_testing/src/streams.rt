@@ -1,4 +1,4 @@
-use std::alloc::Global;
+use std::alloc::{AllocError, Global};
 use std::io::{self, ErrorKind, Read, Write};
 
 /// Gives bytes in pieces of one size, and fails at one of its calls.
@@ -35,7 +35,7 @@ impl<'a> Drip<'a> {
         }
     }
 
-    /// The bytes that it hasn't given.
+    /// Lends the bytes that it hasn't given.
     pub fn rest(&self) -> &[u8] {
         self.rest
     }
@@ -78,19 +78,30 @@ impl Sip {
         }
     }
 
-    /// Makes a writer that takes one byte a call, and fails so once it was asked that often.
-    pub fn failing(alloc: Global, calls: usize, fault: ErrorKind) -> Sip {
-        Sip {
-            taken: Vec::new(alloc),
+    /// Makes a writer that takes one byte a call, and fails so once it was asked that often. It has
+    /// room for `room` bytes, and takes memory only past them.
+    pub fn failing(
+        alloc: Global,
+        room: usize,
+        calls: usize,
+        fault: ErrorKind,
+    ) -> Result<Sip, AllocError> {
+        Ok(Sip {
+            taken: Vec::with_capacity(alloc, room)?,
             piece: 1,
             calls,
             fault,
-        }
+        })
     }
 
-    /// The bytes that it took.
+    /// Lends the bytes that it took.
     pub fn taken(&self) -> &[u8] {
         self.taken.as_slice()
+    }
+
+    /// Gives the bytes that it took.
+    pub fn into_taken(self) -> Vec<u8> {
+        self.taken
     }
 }
 

@@ -24,7 +24,7 @@ fn sips(rt: HostRuntime) -> Result<(), Fail> {
         assert!(rt; writer.write(bytes.as_bytes())? == len);
     }
     assert!(rt; writer.taken() == b"abd".as_slice());
-    let mut writer = Sip::failing(rt.alloc(), 1, ErrorKind::Other);
+    let mut writer = Sip::failing(rt.alloc(), 1, 1, ErrorKind::Other)?;
     assert!(rt; writer.write(b"abc")? == 1);
     assert!(rt; writer.write(b"bc").is_err());
     assert!(rt; writer.taken() == b"a".as_slice());

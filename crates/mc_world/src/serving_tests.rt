@@ -4,86 +4,15 @@ use super::*;
 use mc_hop::Fnv;
 use mc_session::ServeFault;
 use mc_shelf::Settings;
+use mc_testing::{Drip, SESSIONS, Sip};
 use mc_time::{Fixed, Moment};
 use std::alloc::{AllocError, Global};
-use std::io::{self, ErrorKind, Read, Write};
+use std::io::ErrorKind;
 use std::process::Abort;
 use std::test::Fail;
 
 /// More calls than a test makes.
 const NEVER: usize = 10000;
-
-/// What is read, and what must be written.
-const ROWS: [(&str, &str); 6] = [
-    ("", ""),
-    (
-        "set a 5 0 3\r\nabc\r\nget a\r\n",
-        "STORED\r\nVALUE a 5 3\r\nabc\r\nEND\r\n",
-    ),
-    (
-        "set a 0 0 1\r\nx\r\ngets a\r\ncas a 0 0 1 1\r\ny\r\ncas a 0 0 1 1\r\nz\r\n",
-        "STORED\r\nVALUE a 0 1 1\r\nx\r\nEND\r\nSTORED\r\nEXISTS\r\n",
-    ),
-    (
-        "set a 0 0 3\r\nabcdef\r\n",
-        "CLIENT_ERROR bad data chunk\r\nERROR\r\n",
-    ),
-    (
-        "set a 0 0 1 noreply\r\nx\r\nget a b a\r\nquit\r\nget a\r\n",
-        "VALUE a 0 1\r\nx\r\nVALUE a 0 1\r\nx\r\nEND\r\n",
-    ),
-    ("set a 0 0 5\r\nab", ""),
-];
-
-/// Gives one byte at a time, and fails once it was asked so often.
-#[derive(Drop)]
-struct Drip<'a> {
-    rest: &'a [u8],
-    calls: usize,
-}
-
-impl Read for Drip<'_> {
-    fn read(&mut self, buf: &mut [u8]) -> io::Result<usize> {
-        if self.calls == 0 {
-            return Err(io::Error::from(ErrorKind::Other));
-        }
-        self.calls -= 1;
-        let Some((first, rest)) = self.rest.split_first() else {
-            return Ok(0);
-        };
-        if buf.is_empty() {
-            return Ok(0);
-        }
-        buf[0] = *first;
-        self.rest = rest;
-        Ok(1)
-    }
-}
-
-/// Takes one byte at a time, and fails once it was asked so often.
-#[derive(Drop)]
-struct Sip {
-    taken: Vec<u8>,
-    calls: usize,
-}
-
-impl Write for Sip {
-    fn write(&mut self, buf: &[u8]) -> io::Result<usize> {
-        if self.calls == 0 {
-            return Err(io::Error::from(ErrorKind::Other));
-        }
-        self.calls -= 1;
-        let Some(first) = buf.first() else {
-            return Ok(0);
-        };
-        self.taken.push(*first)?;
-        Ok(1)
-    }
-
-    fn flush(&mut self) -> io::Result<()> {
-        Ok(())
-    }
-}
 
 fn world(alloc: Global) -> Result<World<Fnv>, AllocError> {
     let settings = Settings {
@@ -102,20 +31,14 @@ fn run(
     reads: usize,
     writes: usize,
 ) -> Result<(Result<(), ServeFault>, Vec<u8>), AllocError> {
-    let mut reader = Drip {
-        rest: input,
-        calls: reads,
-    };
-    let mut writer = Sip {
-        taken: Vec::with_capacity(alloc, 1000)?,
-        calls: writes,
-    };
+    let mut reader = Drip::failing(input, reads, ErrorKind::Other);
+    let mut writer = Sip::failing(alloc, 1000, writes, ErrorKind::Other)?;
     if world.opened() >= 65535 {
         return Err(AllocError);
     }
     let clock = Fixed(Moment::from_seconds(1000));
     let ended = serve_one(alloc, &mut reader, &mut writer, world, &clock);
-    Ok((ended, writer.taken))
+    Ok((ended, writer.into_taken()))
 }
 
 /// What a run of a new world that is well writes. Where a growth was refused, what was written is a
@@ -149,7 +72,7 @@ fn again(rt: &impl Abort, alloc: Global, input: &[u8]) -> Result<Vec<u8>, Fail> 
 
 #[test]
 fn rows_are_written(rt: HostRuntime) -> Result<(), Fail> {
-    for (input, output) in ROWS {
+    for (input, output) in SESSIONS {
         let out = written(&rt, rt.alloc(), input.as_bytes())?;
         assert_eq!(rt; out.as_slice(), output.as_bytes(), "at {input}");
     }
@@ -158,7 +81,7 @@ fn rows_are_written(rt: HostRuntime) -> Result<(), Fail> {
 
 #[test]
 fn a_failed_read_leaves_what_came_before_answered(rt: HostRuntime) -> Result<(), Fail> {
-    for (input, _) in ROWS {
+    for (input, _) in SESSIONS {
         let input = input.as_bytes();
         for reads in 0..input.len() {
             let (came, _) = input.split_at(reads);

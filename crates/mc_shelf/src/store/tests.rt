@@ -2,104 +2,13 @@
 //! 10. Where an allocation is refused the store answers as before, and takes the step when it is
 //! asked again.
 
-ghost use Rattle.std.specs.Prelude.{◌≡◌, ◌≤◌, length};
-ghost use Rattle.mc_command.specs.Commands.{key_of};
+ghost use Rattle.std.specs.Prelude.{◌≡◌, ◌≤◌};
 
 use super::*;
-use mc_command::{Bytes, Verb};
 use mc_hop::Fnv;
+use mc_testing::{Ask, Row, Want, filled, first_unlike, set};
 use std::process::Abort;
 use std::test::*;
-
-/// What is asked of a key.
-#[derive(Clone, Copy)]
-enum Ask<'a> {
-    Set(i64, &'a [u8]),
-    Get,
-    Delete,
-    Incr(u64),
-    Flush(u64),
-}
-
-/// What it is answered: a reply, or a hit with its unique number and its block.
-#[derive(Clone, Copy)]
-enum Want<'a> {
-    Told(&'a str),
-    Hit(u64, &'a [u8]),
-}
-
-type Row<'a> = (u64, &'a [u8], Ask<'a>, Want<'a>);
-
-fn step_of<'a>(key: &'a [u8], ask: Ask<'a>) -> KeyStep<'a>
-    requires { length key.now ≤ 250 }
-    ensures { length (key_of result) ≤ 250 }
-{
-    let key = Bytes::of(key);
-    match ask {
-        Ask::Set(exptime, block) => KeyStep::Store {
-            verb: Verb::Set,
-            key,
-            flags: 7,
-            exptime,
-            block: Bytes::of(block),
-        },
-        Ask::Get => KeyStep::Read { key },
-        Ask::Delete => KeyStep::Delete { key },
-        Ask::Incr(by) => KeyStep::Count { key, up: true, by },
-        Ask::Flush(delay) => KeyStep::Flush { delay },
-    }
-}
-
-fn told(reply: &Reply) -> &'static str {
-    match reply {
-        Reply::Stored => "stored",
-        Reply::NotStored => "not stored",
-        Reply::Exists => "exists",
-        Reply::NotFound => "not found",
-        Reply::Miss => "miss",
-        Reply::Hit { .. } => "hit",
-        Reply::Touched => "touched",
-        Reply::Deleted => "deleted",
-        Reply::Number(10) => "number 10",
-        Reply::Number(_) => "another number",
-        Reply::NotNumeric => "not numeric",
-        Reply::TooLarge => "too large",
-        Reply::NoChunk => "no chunk",
-        Reply::Flushed => "flushed",
-    }
-}
-
-fn is_wanted(reply: &Reply, want: Want<'_>) -> bool {
-    match want {
-        Want::Told(text) => told(reply) == text,
-        Want::Hit(wanted, bytes) => match reply {
-            Reply::Hit {
-                flags,
-                unique,
-                block,
-            } => *flags == 7 && *unique == wanted && block.bytes() == bytes,
-            _ => false,
-        },
-    }
-}
-
-fn is_same_read(a: &Reply, b: &Reply) -> bool {
-    match b {
-        Reply::Hit {
-            flags: 7,
-            unique,
-            block,
-        } => match a {
-            Reply::Hit {
-                flags: 7,
-                unique: other,
-                block: bytes,
-            } => unique == other && block.bytes() == bytes.bytes(),
-            _ => false,
-        },
-        _ => told(a) == told(b),
-    }
-}
 
 /// A store of that many pages, asked for again where memory is refused.
 fn open(alloc: Global, pages: u32) -> Result<Store<Fnv>, AllocError>
@@ -116,84 +25,30 @@ fn open(alloc: Global, pages: u32) -> Result<Store<Fnv>, AllocError>
     }
 }
 
-/// The step's answer, asked for again where memory is refused.
-fn asked(
-    store: &mut Store<Fnv>,
-    alloc: Global,
-    step: &KeyStep<'_>,
-    now: Moment,
-) -> Result<Reply, StepFault>
-    requires { length (key_of step.now) ≤ 250 }
-{
-    match store.step(alloc, step, now) {
-        Err(StepFault::NoMemory) => store.step(alloc, step, now),
-        answer => answer,
-    }
-}
-
-/// Takes the step. Where memory is refused, the key's item is as it was.
-fn take(
-    rt: &impl Abort,
-    store: &mut Store<Fnv>,
-    alloc: Global,
-    key: &[u8],
-    step: &KeyStep<'_>,
-    now: Moment,
-) -> Result<Reply, StepFault>
-    requires key { length key.now ≤ 250 }
-    requires step { length (key_of step.now) ≤ 250 }
-{
-    let read = step_of(key, Ask::Get);
-    let before = asked(store, alloc, &read, now)?;
-    if let Ok(reply) = store.step(alloc, step, now) {
-        return Ok(reply);
-    }
-    let after = asked(store, alloc, &read, now)?;
-    assert!(rt;
-        is_same_read(&before, &after),
-        "a refused step changed the item"
-    );
-    store.step(alloc, step, now)
-}
-
-/// The store gives each row the answer that it wants.
+/// The store answers each row as it wants.
 fn answers(
     rt: &impl Abort,
     alloc: Global,
     store: &mut Store<Fnv>,
     rows: &[Row<'_>],
 ) -> Result<(), Fail> {
-    for (seconds, key, ask, want) in rows {
-        assert!(rt; key.len() <= 250);
-        let now = Moment::from_seconds_at_most(*seconds);
-        let step = step_of(key, *ask);
-        let reply = take(rt, store, alloc, key, &step, now)?;
-        assert!(rt; is_wanted(&reply, *want), "at {seconds}: {}", told(&reply));
-    }
+    assert_eq!(rt; first_unlike(store, alloc, rows)?, None);
     Ok(())
-}
-
-/// So many bytes, asked for again where memory is refused.
-fn filled(alloc: Global, len: usize) -> Result<Vec<u8>, AllocError> {
-    match vec![in alloc; b'x'; len] {
-        Err(_) => vec![in alloc; b'x'; len],
-        bytes => bytes,
-    }
 }
 
 #[test]
 fn each_key_has_its_item(rt: HostRuntime) -> Result<(), Fail> {
     let rows: [Row<'_>; 11] = [
         (1000, b"a", Ask::Get, Want::Told("miss")),
-        (1000, b"a", Ask::Set(0, b"x"), Want::Told("stored")),
-        (1000, b"b", Ask::Set(0, b"y"), Want::Told("stored")),
-        (1000, b"k", Ask::Set(0, b"9"), Want::Told("stored")),
-        (1000, b"k", Ask::Incr(1), Want::Told("number 10")),
+        set(1000, b"a", 0, b"x", "stored"),
+        set(1000, b"b", 0, b"y", "stored"),
+        set(1000, b"k", 0, b"9", "stored"),
+        (1000, b"k", Ask::Incr(1), Want::Number(10)),
         (1000, b"a", Ask::Get, Want::Hit(1, b"x")),
         (1000, b"b", Ask::Delete, Want::Told("deleted")),
         (1000, b"b", Ask::Delete, Want::Told("not found")),
         (1000, b"k", Ask::Get, Want::Hit(4, b"10")),
-        (1000, b"a", Ask::Set(0, b"z"), Want::Told("stored")),
+        set(1000, b"a", 0, b"z", "stored"),
         (1000, b"a", Ask::Get, Want::Hit(5, b"z")),
     ];
     let mut store = open(rt.alloc(), 64)?;
@@ -203,19 +58,19 @@ fn each_key_has_its_item(rt: HostRuntime) -> Result<(), Fail> {
 #[test]
 fn a_flush_reaches_all_shelves(rt: HostRuntime) -> Result<(), Fail> {
     let rows: [Row<'_>; 14] = [
-        (1000, b"a", Ask::Set(0, b"x"), Want::Told("stored")),
+        set(1000, b"a", 0, b"x", "stored"),
         (1000, b"k", Ask::Flush(10), Want::Told("flushed")),
-        (1005, b"b", Ask::Set(0, b"y"), Want::Told("stored")),
+        set(1005, b"b", 0, b"y", "stored"),
         (1009, b"a", Ask::Get, Want::Hit(1, b"x")),
         (1010, b"a", Ask::Get, Want::Told("miss")),
         (1010, b"b", Ask::Get, Want::Told("miss")),
-        (1010, b"a", Ask::Set(0, b"z"), Want::Told("stored")),
-        (1010, b"k", Ask::Set(0, b"w"), Want::Told("stored")),
+        set(1010, b"a", 0, b"z", "stored"),
+        set(1010, b"k", 0, b"w", "stored"),
         (1011, b"a", Ask::Get, Want::Hit(3, b"z")),
         (1011, b"b", Ask::Flush(0), Want::Told("flushed")),
         (1011, b"a", Ask::Get, Want::Told("miss")),
         (1011, b"k", Ask::Get, Want::Told("miss")),
-        (1011, b"b", Ask::Set(0, b"v"), Want::Told("stored")),
+        set(1011, b"b", 0, b"v", "stored"),
         (1011, b"b", Ask::Get, Want::Hit(5, b"v")),
     ];
     let mut store = open(rt.alloc(), 64)?;
@@ -229,17 +84,17 @@ fn a_chunk_that_comes_back_serves_another_shelf(rt: HostRuntime) -> Result<(), F
     let large = filled(rt.alloc(), 600000)?;
     let large = large.as_slice();
     let rows: [Row<'_>; 10] = [
-        (1000, b"a", Ask::Set(0, large), Want::Told("stored")),
-        (1000, b"b", Ask::Set(0, large), Want::Told("no chunk")),
-        (1000, b"k", Ask::Set(0, b"x"), Want::Told("no chunk")),
+        set(1000, b"a", 0, large, "stored"),
+        set(1000, b"b", 0, large, "no chunk"),
+        set(1000, b"k", 0, b"x", "no chunk"),
         (1000, b"a", Ask::Delete, Want::Told("deleted")),
-        (1000, b"b", Ask::Set(10, large), Want::Told("stored")),
-        (1010, b"a", Ask::Set(0, large), Want::Told("no chunk")),
+        set(1000, b"b", 10, large, "stored"),
+        set(1010, b"a", 0, large, "no chunk"),
         // A flush with a delay drops the dead of all shelves.
         (1010, b"k", Ask::Flush(10), Want::Told("flushed")),
-        (1010, b"a", Ask::Set(0, large), Want::Told("stored")),
+        set(1010, b"a", 0, large, "stored"),
         (1010, b"k", Ask::Flush(0), Want::Told("flushed")),
-        (1010, b"b", Ask::Set(0, large), Want::Told("stored")),
+        set(1010, b"b", 0, large, "stored"),
     ];
     let mut store = open(rt.alloc(), 1)?;
     answers(&rt, rt.alloc(), &mut store, &rows)
@@ -252,18 +107,18 @@ fn a_purge_drops_the_dead_of_one_shelf(rt: HostRuntime) -> Result<(), Fail> {
     let now = Moment::from_seconds_at_most(1010);
     let mut store = open(rt.alloc(), 1)?;
     let dies: [Row<'_>; 2] = [
-        (1000, b"a", Ask::Set(10, large), Want::Told("stored")),
-        (1010, b"b", Ask::Set(0, large), Want::Told("no chunk")),
+        set(1000, b"a", 10, large, "stored"),
+        set(1010, b"b", 0, large, "no chunk"),
     ];
     answers(&rt, rt.alloc(), &mut store, &dies)?;
     store.purge(37, now);
     store.purge(64, now);
-    let full: [Row<'_>; 1] = [(1010, b"b", Ask::Set(0, large), Want::Told("no chunk"))];
+    let full: [Row<'_>; 1] = [set(1010, b"b", 0, large, "no chunk")];
     answers(&rt, rt.alloc(), &mut store, &full)?;
     store.purge(12, now);
     assert_eq!(rt; store.settings().shelves, 64);
     let free: [Row<'_>; 2] = [
-        (1010, b"b", Ask::Set(0, large), Want::Told("stored")),
+        set(1010, b"b", 0, large, "stored"),
         (1010, b"a", Ask::Get, Want::Told("miss")),
     ];
     answers(&rt, rt.alloc(), &mut store, &free)
@@ -279,14 +134,14 @@ fn remade(store: Store<Fnv>) -> Store<Fnv>
 #[test]
 fn a_store_of_parts_answers_as_before(rt: HostRuntime) -> Result<(), Fail> {
     let first: [Row<'_>; 4] = [
-        (1000, b"a", Ask::Set(0, b"x"), Want::Told("stored")),
-        (1000, b"b", Ask::Set(10, b"y"), Want::Told("stored")),
-        (1000, b"k", Ask::Set(0, b"9"), Want::Told("stored")),
+        set(1000, b"a", 0, b"x", "stored"),
+        set(1000, b"b", 10, b"y", "stored"),
+        set(1000, b"k", 0, b"9", "stored"),
         (1000, b"k", Ask::Flush(20), Want::Told("flushed")),
     ];
     let then: [Row<'_>; 6] = [
         (1001, b"a", Ask::Get, Want::Hit(1, b"x")),
-        (1001, b"k", Ask::Incr(1), Want::Told("number 10")),
+        (1001, b"k", Ask::Incr(1), Want::Number(10)),
         (1001, b"k", Ask::Get, Want::Hit(4, b"10")),
         (1010, b"b", Ask::Get, Want::Told("miss")),
         (1019, b"a", Ask::Get, Want::Hit(1, b"x")),
@@ -302,7 +157,7 @@ fn a_store_of_parts_answers_as_before(rt: HostRuntime) -> Result<(), Fail> {
 #[test]
 fn no_old_table_is_left_to_move(rt: HostRuntime) -> Result<(), Fail> {
     let rows: [Row<'_>; 2] = [
-        (1000, b"a", Ask::Set(0, b"x"), Want::Told("stored")),
+        set(1000, b"a", 0, b"x", "stored"),
         (1000, b"a", Ask::Get, Want::Hit(1, b"x")),
     ];
     let mut store = open(rt.alloc(), 64)?;

@@ -3,7 +3,7 @@ use Rattle.std.specs.Str.Lines.{strip_carriage_return}
 use Rattle.mc_command.specs.Words.{words}
 use Rattle.mc_parse.specs.Lines.{meaning}
 use Rattle.mc_parse.specs.Units.{Request, Completes}
-use Rattle.mc_parse.specs.Cursors.{retrieval}
+use Rattle.mc_command.specs.Commands.{retrieval}
 use Rattle.mc_parse.proofs.UnitLemmas.{spells_bare}
 use Rattle.mc_parse.proofs.NoteLemmas.{noted}
 use Rattle.mc_parse.proofs.ahead.read_line.Goals as goal

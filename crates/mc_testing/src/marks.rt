@@ -1,0 +1,62 @@
+//! A hopscotch table of entries that are told by their hash and key alone.
+
+ghost use Rattle.std.specs.Prelude.{◌≡◌};
+
+use mc_hop::{Hop, Keyed};
+use std::alloc::{AllocError, Global};
+
+/// A hash and a key.
+#[derive(Drop)]
+pub struct Mark {
+    hash: u64,
+    key: &'static [u8],
+}
+
+impl Keyed for Mark {
+    ghost hash_of = { λ e. e.hash };
+
+    ghost key_of = { λ e. e.key.now };
+
+    fn hash(&self) -> u64 {
+        self.hash
+    }
+
+    fn key(&self) -> &[u8] {
+        self.key
+    }
+}
+
+/// Makes a table of 64 homes, asked for again where memory is refused.
+pub fn marks_table(alloc: Global) -> Result<Hop<Mark>, AllocError> {
+    match Hop::new(alloc, 6) {
+        Err(_) => Hop::new(alloc, 6),
+        made => made,
+    }
+}
+
+/// Puts the mark of a new hash and key into the first empty bucket of the 32 from its home on, and
+/// tells whether it did.
+pub fn add_mark(table: &mut Hop<Mark>, hash: u64, key: &'static [u8]) -> bool {
+    if table.find(hash, key).is_some() {
+        return false;
+    }
+    let home = table.home_of(hash);
+    match table.free_from(home) {
+        Some(at) if at - home < 32 => {
+            table.put_within(home, at, Mark { hash, key });
+            true
+        }
+        _ => false,
+    }
+}
+
+/// Adds marks of so many hashes one after another, all under one key, and tells whether all found
+/// room. The hashes of 256 in a row, from a multiple of 256 on, have one home.
+pub fn fill_marks(table: &mut Hop<Mark>, hash: u64, count: u64) -> bool {
+    for number in 0..count {
+        if !add_mark(table, hash.wrapping_add(number), b"k") {
+            return false;
+        }
+    }
+    true
+}

@@ -1,0 +1,221 @@
+//! Rows of steps with what they are answered, over any store that takes steps.
+
+ghost use Rattle.std.specs.Prelude.{◌≤◌, length};
+ghost use Rattle.mc_command.specs.Commands.{key_of};
+
+use mc_command::{Bytes, KeyStep, Reply, StepFault, Steps, Verb};
+use mc_time::Moment;
+use std::alloc::{AllocError, Global};
+
+/// What is asked of a key. What is stored has the flags 7, and by cas the exptime 0.
+#[derive(Clone, Copy)]
+pub enum Ask<'a> {
+    /// The exptime and the block.
+    Store(Verb, i64, &'a [u8]),
+    /// The unique number and the block.
+    Cas(u64, &'a [u8]),
+    Get,
+    /// The exptime.
+    Gat(i64),
+    /// The exptime.
+    Touch(i64),
+    Delete,
+    Incr(u64),
+    Decr(u64),
+    /// The delay. It is asked of no key.
+    Flush(u64),
+}
+
+/// What it is answered.
+#[derive(Clone, Copy)]
+pub enum Want<'a> {
+    /// A reply, or why there is none, by its name in `told_of`.
+    Told(&'a str),
+    /// A hit of an item of the flags 7: its unique number and its block.
+    Hit(u64, &'a [u8]),
+    Number(u64),
+}
+
+/// At which second it is asked, of which key, what is asked, and what it is answered.
+pub type Row<'a> = (u64, &'a [u8], Ask<'a>, Want<'a>);
+
+/// Makes the row of a set.
+pub fn set<'a>(
+    seconds: u64,
+    key: &'a [u8],
+    exptime: i64,
+    block: &'a [u8],
+    want: &'static str,
+) -> Row<'a> {
+    let ask = Ask::Store(Verb::Set, exptime, block);
+    (seconds, key, ask, Want::Told(want))
+}
+
+/// Makes the step that asks this of a key of at most 250 bytes.
+pub fn step_of<'a>(key: &'a [u8], ask: Ask<'a>) -> KeyStep<'a>
+    requires { length key.now ≤ 250 }
+    ensures { length (key_of result) ≤ 250 }
+{
+    let key = Bytes::of(key);
+    match ask {
+        Ask::Store(verb, exptime, block) => KeyStep::Store {
+            verb,
+            key,
+            flags: 7,
+            exptime,
+            block: Bytes::of(block),
+        },
+        Ask::Cas(unique, block) => KeyStep::Cas {
+            key,
+            flags: 7,
+            exptime: 0,
+            block: Bytes::of(block),
+            unique,
+        },
+        Ask::Get => KeyStep::Read { key },
+        Ask::Gat(exptime) => KeyStep::ReadTouch { key, exptime },
+        Ask::Touch(exptime) => KeyStep::Touch { key, exptime },
+        Ask::Delete => KeyStep::Delete { key },
+        Ask::Incr(by) => KeyStep::Count { key, up: true, by },
+        Ask::Decr(by) => KeyStep::Count { key, up: false, by },
+        Ask::Flush(delay) => KeyStep::Flush { delay },
+    }
+}
+
+/// Names a reply.
+fn told(reply: &Reply) -> &'static str {
+    match reply {
+        Reply::Stored => "stored",
+        Reply::NotStored => "not stored",
+        Reply::Exists => "exists",
+        Reply::NotFound => "not found",
+        Reply::Miss => "miss",
+        Reply::Hit { .. } => "hit",
+        Reply::Touched => "touched",
+        Reply::Deleted => "deleted",
+        Reply::Number(_) => "number",
+        Reply::NotNumeric => "not numeric",
+        Reply::TooLarge => "too large",
+        Reply::NoChunk => "no chunk",
+        Reply::Flushed => "flushed",
+    }
+}
+
+/// Names what came of a step.
+pub fn told_of(taken: &Result<Reply, StepFault>) -> &'static str {
+    match taken {
+        Ok(reply) => told(reply),
+        Err(StepFault::NumbersSpent) => "numbers spent",
+        Err(StepFault::NoMemory) => "no memory",
+    }
+}
+
+/// Lends what a hit has beside its name, its flags, unique number and block; or, in the place of the
+/// unique number, a number.
+fn parts(reply: &Reply) -> (u32, u64, &[u8]) {
+    match reply {
+        Reply::Hit {
+            flags,
+            unique,
+            block,
+        } => (*flags, *unique, block.bytes()),
+        Reply::Number(number) => (0, *number, &[]),
+        _ => (0, 0, &[]),
+    }
+}
+
+/// Tells whether two replies are the same.
+pub fn is_same(reply: &Reply, other: &Reply) -> bool {
+    told(reply) == told(other) && parts(reply) == parts(other)
+}
+
+/// Tells whether what came of a step is what is wanted.
+pub fn is_wanted(taken: &Result<Reply, StepFault>, want: Want<'_>) -> bool {
+    match want {
+        Want::Told(text) => told_of(taken) == text,
+        Want::Hit(unique, block) => told_of(taken) == "hit" && has(taken, (7, unique, block)),
+        Want::Number(number) => told_of(taken) == "number" && has(taken, (0, number, &[])),
+    }
+}
+
+/// Tells whether a reply has these parts.
+fn has(taken: &Result<Reply, StepFault>, wanted: (u32, u64, &[u8])) -> bool {
+    match taken {
+        Ok(reply) => parts(reply) == wanted,
+        Err(_) => false,
+    }
+}
+
+/// Takes a step, again where memory is refused.
+pub fn asked<S: Steps>(
+    store: &mut S,
+    alloc: Global,
+    step: &KeyStep<'_>,
+    now: Moment,
+) -> Result<Reply, StepFault>
+    requires { length (key_of step.now) ≤ 250 }
+{
+    match store.step(alloc, step, now) {
+        Err(StepFault::NoMemory) => store.step(alloc, step, now),
+        answer => answer,
+    }
+}
+
+/// Takes a step, again where memory is refused, and answers nothing where the refusal changed the
+/// key's item.
+fn taken<S: Steps>(
+    store: &mut S,
+    alloc: Global,
+    key: &[u8],
+    step: &KeyStep<'_>,
+    now: Moment,
+) -> Result<Option<Reply>, StepFault>
+    requires key { length key.now ≤ 250 }
+    requires step { length (key_of step.now) ≤ 250 }
+{
+    let read = step_of(key, Ask::Get);
+    let before = asked(store, alloc, &read, now)?;
+    if let Ok(reply) = store.step(alloc, step, now) {
+        return Ok(Some(reply));
+    }
+    let after = asked(store, alloc, &read, now)?;
+    if !is_same(&before, &after) {
+        return Ok(None);
+    }
+    Ok(Some(store.step(alloc, step, now)?))
+}
+
+/// Takes the steps of rows one after another, and finds the first that isn't answered as it wants:
+/// its second and the name of its answer. It ends there. A step that is refused memory must leave
+/// its key's item as it was, and is taken again.
+pub fn first_unlike<S: Steps>(
+    store: &mut S,
+    alloc: Global,
+    rows: &[Row<'_>],
+) -> Result<Option<(u64, &'static str)>, StepFault> {
+    for (seconds, key, ask, want) in rows {
+        if key.len() > 250 {
+            return Ok(Some((*seconds, "too long a key")));
+        }
+        let now = Moment::from_seconds_at_most(*seconds);
+        let step = step_of(key, *ask);
+        match taken(store, alloc, key, &step, now)? {
+            None => return Ok(Some((*seconds, "changed by a refused step"))),
+            Some(reply) => {
+                let answer = Ok(reply);
+                if !is_wanted(&answer, *want) {
+                    return Ok(Some((*seconds, told_of(&answer))));
+                }
+            }
+        }
+    }
+    Ok(None)
+}
+
+/// Makes so many bytes, asked for again where memory is refused.
+pub fn filled(alloc: Global, len: usize) -> Result<Vec<u8>, AllocError> {
+    match vec![in alloc; b'x'; len] {
+        Err(_) => vec![in alloc; b'x'; len],
+        bytes => bytes,
+    }
+}

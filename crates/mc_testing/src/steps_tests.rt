@@ -1,0 +1,226 @@
+//! The plain store: the protocol's worked examples at their moments, and each kind of step once.
+//! Where an allocation is refused the store answers as before, and takes the step when it is asked
+//! again.
+
+ghost use Rattle.std.specs.Prelude.{◌≤◌};
+
+use crate::steps::{Ask, Row, Want, asked, filled, first_unlike, set, step_of, told_of};
+use mc_command::{PlainStore, Steps, Verb};
+use mc_time::Moment;
+use std::alloc::Global;
+use std::process::Abort;
+use std::test::Fail;
+
+/// A new store of so many pages and that greatest charge answers each row as it wants.
+fn answers(
+    rt: &impl Abort,
+    alloc: Global,
+    pages: u32,
+    greatest: u64,
+    rows: &[Row<'_>],
+) -> Result<(), Fail>
+    requires pages { (1 ≤ pages) × (pages ≤ 65536) }
+    requires greatest { greatest ≤ 1048576 }
+{
+    let mut store = PlainStore::new(alloc, pages, greatest)?;
+    assert_eq!(rt; first_unlike(&mut store, alloc, rows)?, None);
+    Ok(())
+}
+
+#[test]
+fn exptimes_up_to_30_days_count_from_now(rt: HostRuntime) -> Result<(), Fail> {
+    let rows: [Row<'_>; 6] = [
+        set(1000, b"a", 2592000, b"x", "stored"),
+        set(1000, b"b", 2592001, b"y", "stored"),
+        (2592000, b"b", Ask::Get, Want::Hit(2, b"y")),
+        (2592001, b"b", Ask::Get, Want::Told("miss")),
+        (2592999, b"a", Ask::Get, Want::Hit(1, b"x")),
+        (2593000, b"a", Ask::Get, Want::Told("miss")),
+    ];
+    answers(&rt, rt.alloc(), 64, 1048576, &rows)
+}
+
+#[test]
+fn a_flush_comes_after_its_delay(rt: HostRuntime) -> Result<(), Fail> {
+    let rows: [Row<'_>; 8] = [
+        (1000, b"a", Ask::Flush(10), Want::Told("flushed")),
+        set(1005, b"a", 0, b"x", "stored"),
+        (1009, b"a", Ask::Get, Want::Hit(1, b"x")),
+        (1010, b"a", Ask::Get, Want::Told("miss")),
+        set(1010, b"b", 0, b"y", "stored"),
+        (1011, b"b", Ask::Get, Want::Hit(2, b"y")),
+        (1011, b"b", Ask::Flush(0), Want::Told("flushed")),
+        (1011, b"b", Ask::Get, Want::Told("miss")),
+    ];
+    answers(&rt, rt.alloc(), 64, 1048576, &rows)
+}
+
+#[test]
+fn storage_commands_store_on_their_condition(rt: HostRuntime) -> Result<(), Fail> {
+    let rows: [Row<'_>; 12] = [
+        (
+            1000,
+            b"a",
+            Ask::Store(Verb::Append, 0, b"x"),
+            Want::Told("not stored"),
+        ),
+        (1000, b"a", Ask::Cas(1, b"y"), Want::Told("not found")),
+        set(1000, b"a", 0, b"b", "stored"),
+        (
+            1000,
+            b"a",
+            Ask::Store(Verb::Append, 0, b"c"),
+            Want::Told("stored"),
+        ),
+        (
+            1000,
+            b"a",
+            Ask::Store(Verb::Prepend, 0, b"a"),
+            Want::Told("stored"),
+        ),
+        (1000, b"a", Ask::Get, Want::Hit(3, b"abc")),
+        (
+            1000,
+            b"a",
+            Ask::Store(Verb::Add, 0, b"d"),
+            Want::Told("not stored"),
+        ),
+        (
+            1000,
+            b"a",
+            Ask::Store(Verb::Replace, 0, b"e"),
+            Want::Told("stored"),
+        ),
+        (1000, b"a", Ask::Cas(4, b"y"), Want::Told("stored")),
+        (1000, b"a", Ask::Cas(4, b"z"), Want::Told("exists")),
+        (1000, b"a", Ask::Get, Want::Hit(5, b"y")),
+        (
+            1000,
+            b"b",
+            Ask::Store(Verb::Add, -1, b"x"),
+            Want::Told("stored"),
+        ),
+    ];
+    answers(&rt, rt.alloc(), 64, 1048576, &rows)
+}
+
+#[test]
+fn touches_set_the_expiry_and_deletes_remove(rt: HostRuntime) -> Result<(), Fail> {
+    let rows: [Row<'_>; 10] = [
+        (1000, b"a", Ask::Touch(0), Want::Told("not found")),
+        set(1000, b"a", 0, b"x", "stored"),
+        (1000, b"a", Ask::Gat(10), Want::Hit(1, b"x")),
+        (1009, b"a", Ask::Get, Want::Hit(1, b"x")),
+        (1009, b"a", Ask::Touch(-1), Want::Told("touched")),
+        (1009, b"a", Ask::Get, Want::Told("miss")),
+        (1009, b"a", Ask::Delete, Want::Told("not found")),
+        set(1009, b"a", 0, b"x", "stored"),
+        (1009, b"a", Ask::Delete, Want::Told("deleted")),
+        (1009, b"a", Ask::Gat(0), Want::Told("miss")),
+    ];
+    answers(&rt, rt.alloc(), 64, 1048576, &rows)
+}
+
+#[test]
+fn counts_wrap_up_and_stop_at_zero(rt: HostRuntime) -> Result<(), Fail> {
+    let rows: [Row<'_>; 7] = [
+        (1000, b"n", Ask::Incr(1), Want::Told("not found")),
+        set(1000, b"n", 0, b"18446744073709551615", "stored"),
+        (1000, b"n", Ask::Incr(1), Want::Number(0)),
+        (1000, b"n", Ask::Decr(5), Want::Number(0)),
+        (1000, b"n", Ask::Get, Want::Hit(3, b"0")),
+        set(1000, b"n", 0, b"12x", "stored"),
+        (1000, b"n", Ask::Incr(1), Want::Told("not numeric")),
+    ];
+    answers(&rt, rt.alloc(), 64, 1048576, &rows)
+}
+
+#[test]
+fn what_is_too_large_is_not_written(rt: HostRuntime) -> Result<(), Fail> {
+    // A charge is 48 bytes beside the key and the block.
+    let rows: [Row<'_>; 3] = [
+        set(1000, b"a", 0, b"x", "stored"),
+        (
+            1000,
+            b"a",
+            Ask::Store(Verb::Append, 0, b"y"),
+            Want::Told("too large"),
+        ),
+        (1000, b"a", Ask::Get, Want::Hit(1, b"x")),
+    ];
+    answers(&rt, rt.alloc(), 64, 50, &rows)
+}
+
+// A page has one chunk that holds a charge of more than 493552 bytes, and here there is one page.
+
+#[test]
+fn a_full_chunk_is_not_written_over(rt: HostRuntime) -> Result<(), Fail> {
+    let large = filled(rt.alloc(), 600000)?;
+    let large = large.as_slice();
+    let rows: [Row<'_>; 7] = [
+        set(1000, b"a", 0, large, "stored"),
+        set(1000, b"b", 0, b"x", "no chunk"),
+        set(1000, b"a", 0, large, "no chunk"),
+        (1000, b"a", Ask::Get, Want::Hit(1, large)),
+        (1000, b"a", Ask::Delete, Want::Told("deleted")),
+        set(1000, b"b", 0, b"x", "no chunk"),
+        set(1000, b"b", 0, large, "stored"),
+    ];
+    answers(&rt, rt.alloc(), 1, 1048576, &rows)
+}
+
+#[test]
+fn the_dead_hold_their_chunks_until_they_are_dropped(rt: HostRuntime) -> Result<(), Fail> {
+    let large = filled(rt.alloc(), 600000)?;
+    let large = large.as_slice();
+    let rows: [Row<'_>; 8] = [
+        set(1000, b"a", 10, large, "stored"),
+        set(1010, b"b", 0, large, "no chunk"),
+        set(1010, b"a", 10, large, "stored"),
+        (1010, b"a", Ask::Get, Want::Hit(2, large)),
+        // What finds no chunk for its own class drops the key's dead item all the same.
+        set(1020, b"a", 0, b"x", "no chunk"),
+        set(1020, b"b", 0, large, "stored"),
+        (1020, b"b", Ask::Flush(0), Want::Told("flushed")),
+        set(1020, b"a", 0, large, "stored"),
+    ];
+    answers(&rt, rt.alloc(), 1, 1048576, &rows)
+}
+
+#[test]
+fn a_number_asks_room_where_its_class_changes(rt: HostRuntime) -> Result<(), Fail> {
+    // 48 bytes, a key of 47 and a block of 1 are the 96 of the first class's chunks.
+    let key = b"a key of as many bytes as leave room for one, 0";
+    let rows: [Row<'_>; 5] = [
+        set(1000, key, 0, b"9", "stored"),
+        (1000, key, Ask::Incr(1), Want::Told("no chunk")),
+        (1000, key, Ask::Get, Want::Hit(1, b"9")),
+        (1000, key, Ask::Decr(9), Want::Number(0)),
+        (1000, key, Ask::Get, Want::Hit(2, b"0")),
+    ];
+    answers(&rt, rt.alloc(), 1, 1048576, &rows)
+}
+
+#[test]
+fn what_is_not_written_takes_no_memory(rt: HostRuntime) -> Result<(), Fail> {
+    let large = filled(rt.alloc(), 600000)?;
+    let large = large.as_slice();
+    let mut store = PlainStore::new(rt.alloc(), 1, 700000)?;
+    let now = Moment::from_seconds_at_most(1000);
+    let step = step_of(b"a", Ask::Store(Verb::Set, 0, large));
+    let _ = asked(&mut store, rt.alloc(), &step, now)?;
+    let asks: [(&[u8], Ask<'_>, &'static str); 4] = [
+        (b"a", Ask::Store(Verb::Append, 0, large), "too large"),
+        (b"a", Ask::Store(Verb::Prepend, 0, large), "too large"),
+        (b"a", Ask::Store(Verb::Append, 0, b"x"), "no chunk"),
+        (b"b", Ask::Store(Verb::Set, 0, b"x"), "no chunk"),
+    ];
+    for (key, ask, want) in asks {
+        assert!(&rt; key.len() <= 250);
+        let step = step_of(key, ask);
+        let now = Moment::from_seconds_at_most(1000);
+        let told = told_of(&store.step(rt.alloc(), &step, now));
+        assert!(&rt; told == want, "{told} for {want}");
+    }
+    Ok(())
+}
