@@ -14,3 +14,4 @@ pub mod FlushLemmas
 pub mod StoreLemmas
 pub mod DeskLemmas
 pub mod AloneLemmas
+pub mod KeyMapLemmas
