@@ -1,4 +1,4 @@
--- Entries under their hashes and keys in one finite map, the hash first: what they say of the keys alone.
+-- Entries in one finite map under their hashes and keys, the hash first: what stands under a key.
 use Rattle.std.specs.Prelude.{◌≡◌, ℕ, List, ◌∷◌, map, Some}
 use Rattle.std.specs.Ordering.{nat_cmp}
 use Rattle.std.specs.Cmp.Lexicographic.{slice_cmp}
@@ -22,7 +22,11 @@ items_in m = from_entries (map row (entries_in m))
 abbrev pub hashes_in : EntryMap → Hashes
 hashes_in m = from_entries (map hash_row (entries_in m))
 
--- each entry stands under its own hash and key, and each key under one hash
+-- an entry stands under its own hash and key
+abbrev pub StandsIn : EntryMap → EntryState → Type 0
+StandsIn m e = get m (e.hash ∷ e.key) ≡ Some e
+
+-- all entries stand so, and those of one key under one hash
 pub record IsKeyed (m : EntryMap) : Type 0 where
   pub labelled : (at : List ℕ) (e : EntryState) → get m at ≡ Some e → at ≡ e.hash ∷ e.key
-  pub one_hash : (a b : EntryState) → get m (a.hash ∷ a.key) ≡ Some a → get m (b.hash ∷ b.key) ≡ Some b → a.key ≡ b.key → a.hash ≡ b.hash
+  pub one_hash : (a b : EntryState) → StandsIn m a → StandsIn m b → a.key ≡ b.key → a.hash ≡ b.hash
