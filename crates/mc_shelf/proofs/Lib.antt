@@ -14,3 +14,5 @@ pub mod FlushLemmas
 pub mod StoreLemmas
 pub mod DeskLemmas
 pub mod AloneLemmas
+pub mod LabelLemmas
+pub mod KeyMapLemmas
