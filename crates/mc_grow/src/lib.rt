@@ -1,0 +1,9 @@
+//! A growing index of entries: two hopscotch tables and a list of strays, as one finite map.
+#![tactic(auto)]
+
+mod adding;
+mod index;
+#[cfg(test)]
+mod tests;
+
+pub use index::{Index, Place};
