@@ -7,12 +7,9 @@ use Rattle.std.specs.FinMap.{FinMap, nat_cmp-IsAntisymmetric, slice_cmp-IsAntisy
 use Rattle.mc_hop.specs.Contents.{rows, content}
 use Rattle.mc_command.specs.Plain.{Entry}
 use Rattle.mc_shelf.specs.States.{EntryState}
-use Rattle.mc_shelf.specs.KeyMaps.{EntryMap, items_in, hashes_in, StandsIn, IsKeyed}
-use Rattle.mc_shelf.proofs.LabelLemmas.{order, same, same_list, same_itself, none_by, own, own_key, same_label, Held, parts_in, held, part_there, no_part, no_entry, len-parts, part_same}
-
--- the hash that an entry has with a key, if one has the key, is this one
-abbrev pub IsHashOf : EntryMap → (key : List ℕ) → (hash : ℕ) → Type 0
-IsHashOf m key hash = (stored : ℕ) → get (hashes_in m) key ≡ Some stored → stored ≡ hash
+use Rattle.mc_shelf.specs.KeyMaps.{EntryMap, items_in, hashes_in, IsHashOf, StandsIn, IsKeyed}
+use Rattle.mc_shelf.proofs.KeyLemmas.{order}
+use Rattle.mc_shelf.proofs.LabelLemmas.{same, same_list, same_itself, none_by, own, own_key, same_label, Held, parts_in, held, part_there, no_part, no_entry, len-parts, part_same}
 
 -- ---- items and hashes under a key
 

@@ -8,9 +8,7 @@ use Rattle.std.specs.FinMap.{FinMap, nat_cmp-IsAntisymmetric, slice_cmp-IsAntisy
 use Rattle.std.specs.FinMap.Entries.{below_all}
 use Rattle.mc_shelf.specs.States.{EntryState}
 use Rattle.mc_shelf.specs.KeyMaps.{EntryMap, entries_in, StandsIn, IsKeyed}
-
-abbrev pub order : List ℕ → List ℕ → Ordering
-order = slice_cmp nat_cmp
+use Rattle.mc_shelf.proofs.KeyLemmas.{order, same_key}
 
 abbrev pub same : List ℕ → List ℕ → Bool
 same = eq_by_cmp order

@@ -1,4 +1,3 @@
-pub mod RowLemmas
 pub mod EntryLemmas
 pub mod IndexLemmas
 pub mod PlaceLemmas

@@ -22,6 +22,17 @@ items_in m = from_entries (map row (entries_in m))
 abbrev pub hashes_in : EntryMap → Hashes
 hashes_in m = from_entries (map hash_row (entries_in m))
 
+-- the hash and the key of an entry
+abbrev pub hash_in : EntryState → ℕ
+hash_in e = e.hash
+
+abbrev pub key_in : EntryState → List ℕ
+key_in e = e.key
+
+-- the hash that an entry has with a key, if one has the key, is this one
+abbrev pub IsHashOf : EntryMap → (key : List ℕ) → (hash : ℕ) → Type 0
+IsHashOf m key hash = (stored : ℕ) → get (hashes_in m) key ≡ Some stored → stored ≡ hash
+
 -- an entry stands under its own hash and key
 abbrev pub StandsIn : EntryMap → EntryState → Type 0
 StandsIn m e = get m (e.hash ∷ e.key) ≡ Some e
