@@ -1,5 +1,5 @@
 -- A shelf that is the only one of its desk: a plain state has all of its items, and a step on a key keeps it so.
-use Rattle.std.proofs.Common.{◌≡◌, ◌≢◌, ℕ, ◌-◌, true, false, if◌then◌else◌, is_some, List, Some, None, Result, Ok, Err, IfOk, OnErr, Less, Equal, Greater, refl, sym, ap, subst, ◌∙◌, arith}
+use Rattle.std.proofs.Common.{◌≡◌, ◌≢◌, ℕ, ◌-◌, List, Result, Ok, Err, IfOk, OnErr, Less, Equal, Greater, refl, sym, ap, subst, ◌∙◌, arith}
 use Rattle.std.proofs.lemmas.List.{get_or-replicate}
 use Rattle.std.specs.Cmp.{tied_itself}
 use Rattle.std.proofs.lemmas.Option.{none-some}
@@ -13,7 +13,7 @@ use Rattle.mc_command.specs.Plain.{Plain, Items, Answered, count_of, plain}
 use Rattle.mc_command.specs.Laws.{IsOnKey}
 use Rattle.mc_shelf.specs.States.{ShelfContent, DeskState, IsAt, CanStand, IsHash, nothing_held}
 use Rattle.mc_shelf.specs.Plans.{IsTaken}
-use Rattle.mc_shelf.specs.Sweeps.{HasOneHash, IsAlone, IsPurged}
+use Rattle.mc_shelf.specs.Sweeps.{HasOneHash, IsAlone}
 use Rattle.mc_shelf.proofs.KeyLemmas.{order, same_key}
 
 -- a step on one key leaves the other keys' items, the law of the plain machine
@@ -82,11 +82,6 @@ module _ (law : OtherKeysStay) (step : KeyStep) (now own : ℕ) (on_key : IsOnKe
     (λ class is. ap (λ (d : DeskState). out_of d.slab class) err.1 ∙ alone class is ∙ ap (λ (t : ShelfContent). count_of t.items class) (sym err.0)),
     subst (λ (t : ShelfContent). HasOneHash t own) (sym err.0) hash,
   )
-
--- a purge keeps hashes
-pub one_hash_purged : (now own : ℕ) (old new : ShelfContent) → HasOneHash old own → IsPurged now old new → HasOneHash new own
-one_hash_purged now own old new hash purged key stored there =
-    elim (is_some (get new.items key)) as (λ b. (if b then get old.hashes key else None) ≡ Some stored → stored ≡ own) [ true ↦ λ e. hash key stored e | false ↦ λ e. absurd (none-some stored e) ] (sym (purged.hashes key) ∙ there)
 
 -- an emptied shelf has none
 pub one_hash_cleared : (own : ℕ) (old new : ShelfContent) → new ≡ record old { items = empty; hashes = empty } → HasOneHash new own

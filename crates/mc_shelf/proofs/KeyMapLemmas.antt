@@ -9,7 +9,7 @@ use Rattle.mc_command.specs.Plain.{Entry}
 use Rattle.mc_shelf.specs.States.{EntryState}
 use Rattle.mc_shelf.specs.KeyMaps.{EntryMap, items_in, hashes_in, IsHashOf, StandsIn, IsKeyed}
 use Rattle.mc_shelf.proofs.KeyLemmas.{order}
-use Rattle.mc_shelf.proofs.LabelLemmas.{same, same_list, same_itself, none_by, own, own_key, same_label, Held, parts_in, held, part_there, no_part, no_entry, len-parts, part_same}
+use Rattle.mc_shelf.proofs.LabelLemmas.{same, same_list, same_itself, none_by, own, own_key, same_label, Held, parts_in, held, part_there, no_part, no_entry, part_same}
 
 -- ---- items and hashes under a key
 
@@ -58,10 +58,6 @@ module _ (m : EntryMap) (keyed : IsKeyed m) where
   not_found hash key right none = item_absent key (none_by _ (λ stored is.
       let s = hash_held key stored is in
       none-some s.entry (sym none ∙ ap (λ n. get m (n ∷ key)) (sym (s.same_part ∙ right stored is)) ∙ s.there)))
-
-  -- there are as many items as entries
-  pub len-items : len (items_in m) ≡ len m
-  len-items = len-parts (λ e. e.item) m keyed
 
 -- ---- a change of one entry
 

@@ -83,16 +83,6 @@ find_later p es at e below found =
       | false ↦ λ t. found
     ] refl
 
--- no two labels of a list have one key
-abbrev OneLabel : List Labelled → Type 0
-OneLabel es = (p q : List ℕ) (a b : EntryState) → find order p es ≡ Some a → find order q es ≡ Some b → a.key ≡ b.key → p ≡ q
-
-one_label : (m : EntryMap) → IsKeyed m → OneLabel (entries m)
-one_label m keyed p q a b ea eb keys =
-    let at_p : get m p ≡ Some a = get-entries m p ∙ ea in
-    let at_q : get m q ≡ Some b = get-entries m q ∙ eb in
-    keyed.labelled p a at_p ∙ same_label m keyed a b (own m keyed p a at_p) (own m keyed q b at_q) keys ∙ sym (keyed.labelled q b at_q)
-
 -- an entry of a list, of this key and with this part
 record InList {X : Type 0} (part : EntryState → X) (es : List Labelled) (key : List ℕ) (x : X) : Type 0 where
   at : List ℕ
@@ -140,23 +130,6 @@ module _ {X : Type 0} (part : EntryState → X) where
         | false ↦ λ is. not_missed es at e is (rest_none (same e.key p.1.key) (part p.1) (find order e.key (pairs es)) none)
       ] found
 
-  new_key : (p : Labelled) (es : List Labelled) → T (is_sorted order (p ∷ es)) → OneLabel (p ∷ es) → find order p.1.key (pairs es) ≡ None
-  new_key p es h one = none_by _ (λ x is.
-      let below : T (below_all order p.0 es) = first _ _ h in
-      let s = in_list es (second _ _ h) p.1.key x is in
-      let labels : p.0 ≡ s.at = one p.0 s.at p.1 s.entry (find_first p es) (find_later p es s.at s.entry below s.there) (sym s.same_key) in
-      none-some s.entry (sym (find_below p.0 es below) ∙ ap (λ q. find order q es) labels ∙ s.there))
-
-  len-pairs : (es : List Labelled) → T (is_sorted order es) → OneLabel es → len (from_entries {R = order} (pairs es)) ≡ length es
-  len-pairs [] h one = len-empty order X
-  len-pairs (p ∷ es) h one =
-      let one_more : length es + 1 ≡ length (p ∷ es) = omega arith in
-      let below : T (below_all order p.0 es) = first _ _ h in
-      let others : FinMap order X = from_entries (pairs es) in
-      let rest : len others ≡ length es = len-pairs es (second _ _ h) (λ q r a b ea eb. one q r a b (find_later p es q a below ea) (find_later p es r b below eb)) in
-      let new : is_some (get others p.1.key) ≡ false = ap is_some (get-from_entries nat_list_cmp_total (pairs es) p.1.key ∙ new_key p es h one) in
-      len-insert nat_list_cmp_total others p.1.key (part p.1) ∙ ap (λ b. cond b (len others) (len others + 1)) new ∙ ap (λ n. n + 1) rest ∙ one_more
-
   module _ (m : EntryMap) (keyed : IsKeyed m) where
     at_key : (key : List ℕ) → get (parts_in m) key ≡ find order key (pairs (entries m))
     at_key key = get-from_entries nat_list_cmp_total (pairs (entries m)) key
@@ -186,10 +159,6 @@ module _ {X : Type 0} (part : EntryState → X) where
 
     pub no_entry : (key : List ℕ) → get (parts_in m) key ≡ None → (hash : ℕ) → get m (hash ∷ key) ≡ None
     no_entry key none hash = none_by _ (λ e is. none-some (part e) (sym none ∙ part_there hash key e is))
-
-    -- no two entries have one key
-    pub len-parts : len (parts_in m) ≡ len m
-    len-parts = len-pairs (entries m) (entries_sorted m) (one_label m keyed) ∙ sym (len-entries m)
 
   -- two maps with the same entries of a key have the same under it
   pub part_same : (m n : EntryMap) → IsKeyed m → IsKeyed n → (key : List ℕ) → ((hash : ℕ) → get m (hash ∷ key) ≡ get n (hash ∷ key)) → get (parts_in m) key ≡ get (parts_in n) key

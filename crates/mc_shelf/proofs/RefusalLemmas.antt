@@ -8,25 +8,22 @@ use Rattle.std.specs.FinMap.{get, remove}
 use Rattle.mc_slab.specs.Classes.{IsClass, chunk_sizes, class_holding}
 use Rattle.mc_slab.specs.Slabs as slabs
 use Rattle.mc_slab.specs.Slabs.{SlabState, IsSlab, out_of}
-use Rattle.mc_time.specs.declared.expiry.Expiry.{Expiry}
 use Rattle.mc_command.specs.declared.step.KeyStep.{KeyStep}
 use Rattle.mc_command.specs.declared.reply.Reply.{Reply}
-use Rattle.mc_command.specs.declared.row.Row.{Row}
-use Rattle.mc_command.specs.declared.row.Row.TheVariants.{Reads}
 use Rattle.mc_command.specs.declared.row.Body.{Body}
 use Rattle.mc_command.specs.declared.row.Body.TheVariants.{Given, Appended, Prepended, Counted}
 use Rattle.mc_command.specs.declared.row.Draft.{Draft}
 use Rattle.mc_command.specs.Commands.{key_of}
-use Rattle.mc_command.specs.Plain.{Plain, Entry, Answered, Spent, CopiesBlock, MayFail, plain, changed, charge, count_of, has_room, hit_of, keeps_chunk, write_reply, wrote}
+use Rattle.mc_command.specs.Plain.{Plain, Entry, Answered, Spent, CopiesBlock, MayFail, plain, charge, count_of, has_room, keeps_chunk, write_reply, wrote}
 use Rattle.mc_command.specs.Laws.{IsOnKey, of_class}
 use Rattle.mc_shelf.specs.declared.plan.Next.{Next}
 use Rattle.mc_shelf.specs.declared.plan.Next.TheVariants.{Answer, Expire, Discard, Write}
 use Rattle.mc_command.specs.declared.step.StepFault.{StepFault}
 use Rattle.mc_command.specs.declared.step.StepFault.TheVariants.{NoMemory, NumbersSpent}
 use Rattle.mc_shelf.specs.States.{ShelfContent, DeskState, CanStand, IsAt}
-use Rattle.mc_shelf.specs.Plans.{CanWrite, IsSpent, IsTaken, MayWantMemory, NeedsPage, WantsPage, next_of, row_at, stood, writes}
-use Rattle.mc_shelf.proofs.StandLemmas.{RemoveCounts, base, room_not_full, room_some, step_is, wrote_kept, wrote_taken}
-use Rattle.mc_shelf.proofs.PlanLemmas.{SpeaksOf, block_at, found_in, row_speaks}
+use Rattle.mc_shelf.specs.Plans.{CanWrite, IsSpent, IsTaken, MayWantMemory, NeedsPage, WantsPage, next_of, stood, writes}
+use Rattle.mc_shelf.proofs.StandLemmas.{RemoveCounts, base, room_not_full, room_some, wrote_kept, wrote_taken}
+use Rattle.mc_shelf.proofs.PlanLemmas.{block_at, found_in}
 use Rattle.mc_shelf.proofs.TakesLemmas.{drafts, wrote_is}
 use Rattle.mc_shelf.proofs.StandLemmas.{InsertCounts}
 
@@ -35,15 +32,6 @@ reply_copies Given = tt
 reply_copies Appended = tt
 reply_copies Prepended = tt
 reply_copies (Counted number) = tt
-
--- a hit is answered with a copy of a block
-pub hit_wants : (step : KeyStep) (now : ℕ) (shelf : ShelfContent) (desk : DeskState) → IsOnKey step → (expiry : Option Expiry) → row_at shelf step now ≡ Reads expiry → MayWantMemory step now shelf desk
-hit_wants step now shelf desk on expiry row s at =
-    let there = subst (λ (r : Row). SpeaksOf (stood shelf step now) r) row (row_speaks step now (stood shelf step now)) in
-    subst MayFail (sym (step_is step now shelf desk s on at ∙ ap (λ (r : Row). changed r step (stood shelf step now) (found_in shelf step now s) now) row)) (copies (stood shelf step now) there.0 there.1)
-  where
-    copies : (st : Option Entry) (item : Entry) → st ≡ Some item → CopiesBlock (hit_of st)
-    copies st item is = subst (λ (o : Option Entry). CopiesBlock (hit_of o)) (sym is) tt
 
 -- a write that finds a number and a chunk is answered so that it may be refused
 module _ (insert_counts : InsertCounts) (remove_counts : RemoveCounts) (step : KeyStep) (now : ℕ) (shelf : ShelfContent) (desk : DeskState) (on : IsOnKey step) (is : IsSlab desk.slab) (size : ℕ) (draft : Draft) (next : Write size draft ≡ next_of shelf step now)

@@ -1,5 +1,5 @@
 -- What a change of the key's item makes of a plain state that stands for a shelf and a desk.
-use Rattle.std.proofs.Common.{◌≡◌, ◌≢◌, ℕ, ◌+◌, ◌-◌, ◌*◌, ◌<◌, ◌≤◌, ◌^◌, ◌||◌, Bool, true, false, ltb, ltb-false, List, length, get_or, set, sum, Option, Some, None, eqb, if◌then◌else◌, refl, sym, ap, ◌∙◌, arith, get_or-set_same, get_or-set_other, length-set, lt-ltb, le-ltb, eq-eqb, ne_eqb, eqb-true, true≢false, inl, inr}
+use Rattle.std.proofs.Common.{◌≡◌, ◌≢◌, ℕ, ◌+◌, ◌-◌, ◌*◌, ◌<◌, ◌≤◌, ◌^◌, ◌||◌, Bool, true, false, ltb, ltb-false, List, length, get_or, set, sum, Option, Some, None, eqb, if◌then◌else◌, refl, sym, ap, ◌∙◌, arith, get_or-set_same, get_or-set_other, lt-ltb, le-ltb, eq-eqb, ne_eqb, eqb-true, true≢false, inl, inr}
 use Rattle.std.proofs.lemmas.Bool.{cases_lt}
 use Rattle.std.specs.FinMap.{get, insert, remove}
 use Rattle.mc_time.specs.declared.expiry.Expiry.{Expiry}
@@ -64,9 +64,6 @@ module _ (slab : SlabState) (class : ℕ) (is_class : IsClass class) where
 
   pub limit-taken : (taken slab class).limit ≡ slab.limit
   limit-taken = ap (λ (t : SlabState). t.limit) taken_is
-
-  pub length-taken : length slab.out ≡ 40 → length (taken slab class).out ≡ 40
-  length-taken long = ap (λ (t : SlabState). length t.out) taken_is ∙ rw length-set long
 
   pub out-taken : length slab.out ≡ 40 → (other : ℕ) → IsClass other → out_of (taken slab class) other ≡ out_of slab other + bump class other
   out-taken long other is_other =

@@ -1,10 +1,9 @@
 -- What a shelf and a desk make of a plan is what the plain machine makes of the step.
-use Rattle.std.proofs.Common.{◌≡◌, ◌≢◌, ℕ, ◌+◌, ◌-◌, ◌≤◌, ◌^◌, Bool, true, false, ◌&&◌, ◌||◌, List, [], decimal, Option, Some, None, is_some, is_none, eqb, eqb-true, leb, if◌then◌else◌, refl, sym, ap, subst, ◌∙◌, arith, eq-eqb, true≢false}
-use Rattle.std.proofs.lemmas.Option.{same_Some, none-some}
+use Rattle.std.proofs.Common.{◌≡◌, ◌≢◌, ℕ, ◌+◌, ◌-◌, ◌≤◌, ◌^◌, Bool, true, false, ◌&&◌, ◌||◌, List, [], decimal, Option, Some, None, is_some, is_none, eqb, eqb-true, if◌then◌else◌, refl, sym, ap, subst, ◌∙◌, arith, eq-eqb, true≢false}
+use Rattle.std.proofs.lemmas.Option.{same_Some}
 use Rattle.std.specs.FinMap.{empty, get, insert, remove}
 use Rattle.mc_time.specs.declared.expiry.Expiry.{Expiry}
-use Rattle.mc_slab.specs.Classes as classes
-use Rattle.mc_slab.specs.Classes.{IsClass, class_holding, size_of}
+use Rattle.mc_slab.specs.Classes.{IsClass, class_holding}
 use Rattle.mc_slab.specs.Slabs as slabs
 use Rattle.mc_slab.specs.Slabs.{SlabState, IsSlab, IsFull, given, out_of, taken}
 use Rattle.mc_command.specs.declared.step.KeyStep.{KeyStep}
@@ -377,8 +376,3 @@ module _ (insert_counts : InsertCounts) (remove_counts : RemoveCounts) (step : K
           | true ↦ λ gone. let both = dead gone in (both.0.others, both.0.hash)
           | false ↦ λ gone. subst (λ (t : ShelfContent). OthersStay its_key shelf t × IsHash t its_key own) (sym (alive gone).0) (others_same its_key shelf, has)
         ] refl
-
--- the class that is found for a charge is the one that holds it
-pub class_some : (charge class : ℕ) → Some class ≡ classes.class_of charge → class ≡ class_holding charge
-class_some charge class e =
-    elim (leb charge 1048576) as (λ b. Some class ≡ (if b then Some (class_holding charge) else None) → class ≡ class_holding charge) [ true ↦ λ e. same_Some class (class_holding charge) e | false ↦ λ e. absurd (none-some class (sym e)) ] e

@@ -40,11 +40,6 @@ pub record IsEntryOf (index : IndexState EntryState) (key : List ℕ) (entry : O
   pub item : standing_in (λ e. e.item) entry ≡ get (items_of index) key
   pub same_key : IfSome entry (λ e. e.now.key ≡ key)
 
--- the same items and hashes stand under the same keys
-pub record HoldsSame (old new : IndexState EntryState) : Type 0 where
-  pub items : items_of new ≡ items_of old
-  pub hashes : hashes_of new ≡ hashes_of old
-
 -- an item has come under a key, with a hash
 pub record KeyComes (old new : IndexState EntryState) (entry : EntryState) : Type 0 where
   pub items : items_of new ≡ insert (items_of old) entry.key entry.item

@@ -8,7 +8,6 @@ ghost use Rattle.mc_grow.specs.Indexes.{IsFilled, IsNext, KeepsLower, entry_at, 
 ghost use Rattle.mc_shelf.specs.States.{EntryState};
 ghost use Rattle.mc_shelf.specs.KeyMaps.{IsHashOf, IsKeyed, hash_in, key_in};
 ghost use Rattle.mc_shelf.specs.Places.{
-  HoldsSame,
   IsChanged,
   IsEntryOf,
   IsKeyAt,
@@ -99,7 +98,7 @@ impl Index {
 
     /// Makes room for one entry more, and begins a growth where one is due. The entries are as before, refused or not.
     pub(crate) fn reserve(&mut self, alloc: Global) -> Result<(), AllocError>
-        ensures same { HoldsSame self.old self.new }
+        ensures entries { entries_of self.new ≡ entries_of self.old }
         ensures room { OnOk result (1 ≤ self.new.spare) }
     {
         self.entries.reserve(alloc)
@@ -160,7 +159,7 @@ impl Index {
     pub(crate) fn move_some(&mut self, n: usize) -> usize
         ensures moved { result ≡ min n (left self.old) }
         ensures left { left self.new ≡ left self.old - result }
-        ensures same { HoldsSame self.old self.new }
+        ensures entries { entries_of self.new ≡ entries_of self.old }
         ensures room { self.old.spare ≤ self.new.spare }
     {
         self.entries.move_some(n)

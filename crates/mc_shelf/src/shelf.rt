@@ -1,16 +1,15 @@
 //! A shelf: the items of some keys, and the steps on one of its keys.
 
-ghost use Rattle.std.specs.Prelude.{◌≡◌, ◌≢◌, ◌↔◌, ℕ, ◌-◌, ◌≤◌, List, length, min};
+ghost use Rattle.std.specs.Prelude.{◌≡◌, ◌≢◌, ◌↔◌, ℕ, ◌-◌, ◌≤◌, length, min};
 ghost use Rattle.std.specs.Prelude.{Option, Some, None, Err, IfOk, IfSome, OnErr, OnOk, true, false};
 ghost use Rattle.std.specs.FinMap.{empty, get};
 ghost use Rattle.mc_time.specs.declared.expiry.Expiry.{Expiry as Expires};
 ghost use Rattle.mc_slab.specs.Classes.{IsClass, class_holding, size_of};
-ghost use Rattle.mc_slab.specs.Chunks.{chunk_class};
 ghost use Rattle.mc_slab.specs.Slabs.{IsSlab};
 ghost use Rattle.mc_command.specs.declared.step.KeyStep.{KeyStep as Step};
 ghost use Rattle.mc_command.specs.declared.row.Row.TheVariants.{Reads};
 ghost use Rattle.mc_command.specs.Commands.{key_of};
-ghost use Rattle.mc_command.specs.Plain.{Entry as Item, block_of, charge, item_class};
+ghost use Rattle.mc_command.specs.Plain.{Entry as Item};
 ghost use Rattle.mc_command.specs.Laws.{IsOnKey};
 ghost use Rattle.mc_shelf.specs.States.{CanStand, IsHash, nothing_held};
 ghost use Rattle.mc_shelf.specs.Plans.{
@@ -26,18 +25,13 @@ ghost use Rattle.mc_shelf.specs.Plans.{
   IsSettled,
   IsSpent,
   IsTaken,
-  IsWriteOf,
   LookTakesMemory,
   MayWantMemory,
   NeedsPage,
-  block_beside,
-  drafted,
   has_no_number,
   is_gone,
   item_in,
   next_of,
-  own_block,
-  reuses,
   row_at,
   writes,
 };
@@ -46,13 +40,10 @@ ghost use Rattle.mc_shelf.specs.Sweeps.{AreOut, GivesFor, IsPurged};
 use crate::desk::Desk;
 use crate::entry::Entry;
 use crate::index::{Index, Place};
-use crate::plan::{Next, Plan, block_in, is_gone, next_of};
-use crate::write;
+use crate::plan::{Next, Plan, is_gone, next_of};
 use crate::write::Write;
-use itoa::Buffer;
-use mc_command::{Body, Bytes, Draft, KeyStep, Reply, Standing, StepFault, counts_follow};
-use mc_item::Parts;
-use mc_slab::{Chunk, Class, class_of};
+use mc_command::{Bytes, KeyStep, Reply, StepFault, counts_follow};
+use mc_slab::{Class, class_of};
 use mc_time::{Expiry, Moment};
 use std::alloc::{AllocError, Global};
 use std::marker::Model;
@@ -333,7 +324,7 @@ impl Shelf {
     }
 
     /// Lends the entry of a key, where it has the key.
-    fn entry(&self, place: Option<Place>, hash: u64, key: &[u8]) -> Option<&Entry>
+    pub(crate) fn entry(&self, place: Option<Place>, hash: u64, key: &[u8]) -> Option<&Entry>
         requires { IsKnown self.now.content key.now hash place }
         ensures item { item_in result ≡ get self.now.content.items key.now }
         ensures key { IfSome result (λ entry. entry.now.key ≡ key.now) }
@@ -376,7 +367,7 @@ impl Shelf {
     }
 
     /// Gives the class that holds a charge of at most the greatest.
-    fn class_for(&self, charge: u64) -> Class
+    pub(crate) fn class_for(&self, charge: u64) -> Class
         requires { charge ≤ self.now.content.greatest }
         ensures value { result ≡ class_holding charge }
         ensures is_class { IsClass result }
@@ -404,7 +395,7 @@ impl Shelf {
     }
 
     /// Drops a key's item, and gives its chunk back.
-    fn discard(&mut self, place: Option<Place>, hash: u64, key: &[u8], desk: &mut Desk)
+    pub(crate) fn discard(&mut self, place: Option<Place>, hash: u64, key: &[u8], desk: &mut Desk)
         requires known { IsKnown self.old.content key.now hash place }
         requires out { IsOut key.now self.old.content desk.old }
         ensures dropped { (item : Item) → get self.old.content.items key.now ≡ Some item →
@@ -414,158 +405,6 @@ impl Shelf {
         if let Some(place) = self.index.find_again(place, hash, key) {
             let entry = self.index.remove(place);
             desk.give(entry.into_chunk());
-        }
-    }
-
-    /// Drops the item of a write's key if it is dead.
-    fn drop_dead(&mut self, write: &Write, key: &[u8], desk: &mut Desk)
-        requires known { IsKnown self.old.content key.now write.now.hash write.now.place }
-        requires out { IsOut key.now self.old.content desk.old }
-        ensures dead { is_gone self.old.content.cut write.now.moment (get self.old.content.items key.now) ≡ true →
-            (IsDropped key.now write.now.hash self.old.content self.new.content
-            × GivesBack key.now (get self.old.content.items key.now) desk.old desk.new) }
-        ensures alive { is_gone self.old.content.cut write.now.moment (get self.old.content.items key.now) ≡ false →
-            ((self.new.content ≡ self.old.content) × (desk.new ≡ desk.old)) }
-    {
-        if is_gone(
-            self.entry(write.place, write.hash, key),
-            self.cut,
-            write.moment,
-        ) {
-            self.discard(write.place, write.hash, key, desk);
-        }
-    }
-
-    /// Writes the item of a step, in the chunk of the key's item or in one more.
-    fn write(
-        &mut self,
-        alloc: Global,
-        write: &Write,
-        step: &KeyStep<'_>,
-        desk: &mut Desk,
-    ) -> Result<Reply, StepFault>
-        requires write { IsWriteOf write.now self.old.content step.now }
-        requires room { CanWrite (Next.Write write.now.charge write.now.draft) desk.old →
-            get self.old.content.items (key_of step.now) ≡ None → 1 ≤ self.old.room }
-        requires stands { CanStand (key_of step.now) self.old.content desk.old }
-        ensures took { IfOk result (λ reply. IsTaken step.now write.now.moment write.now.hash
-            self.old.content desk.old reply self.new.content desk.new) }
-        ensures spent { result ≡ Err StepFault.NumbersSpent ↔ has_no_number desk.old }
-        ensures refused { result ≡ Err StepFault.NoMemory
-            → NeedsPage (Next.Write write.now.charge write.now.draft) desk.old }
-        ensures err { OnErr result
-            ((self.new.content ≡ self.old.content) × (desk.new ≡ desk.old)) }
-    {
-        counts_follow();
-        if desk.is_spent() {
-            return Err(StepFault::NumbersSpent);
-        }
-        let class = self.class_for(write.charge);
-        if self.reuses(write, class, step.key()) {
-            let unique = desk.draw();
-            self.rewrite(write, unique, step);
-            return Ok(write.draft.body.reply());
-        }
-        if !desk.has_room(class) {
-            self.drop_dead(write, step.key(), desk);
-            return Ok(Reply::NoChunk);
-        }
-        let chunk = desk.take(alloc, class)?;
-        let unique = desk.draw();
-        self.put(write, unique, chunk, step, desk);
-        Ok(write.draft.body.reply())
-    }
-
-    /// Answers whether a write goes into the chunk of the key's item: it is one of the class, and the item is dead, or a
-    /// number that is counted.
-    fn reuses(&self, write: &Write, class: Class, key: &[u8]) -> bool
-        requires { IsKnown self.now.content key.now write.now.hash write.now.place }
-        ensures { result ≡ reuses self.now.content.cut write.now.moment key.now
-            (get self.now.content.items key.now) class write.now.draft.body }
-    {
-        let found = self.entry(write.place, write.hash, key);
-        write::has_class(found, class) && (write.counts() || is_gone(found, self.cut, write.moment))
-    }
-
-    /// Writes the step's own block, or a number, in the chunk of the key's item.
-    fn rewrite(&mut self, write: &Write, unique: u64, step: &KeyStep<'_>)
-        requires key { length (key_of step.now) ≤ 250 }
-        requires known { IsKnown self.old.content (key_of step.now) write.now.hash write.now.place }
-        requires class { (item : Item) → get self.old.content.items (key_of step.now) ≡ Some item →
-            item_class (key_of step.now) item ≡ class_holding
-            (charge (key_of step.now) (own_block write.now.draft.body (block_of step.now))) }
-        ensures { (item : Item) → get self.old.content.items (key_of step.now) ≡ Some item →
-            IsPut (key_of step.now) write.now.hash self.old.content self.new.content
-            (drafted write.now.draft (own_block write.now.draft.body (block_of step.now))
-            unique write.now.moment) }
-    {
-        match write.draft.body {
-            Body::Given | Body::Appended | Body::Prepended => {
-                self.overwrite(write, unique, step.key(), step.block());
-            }
-            Body::Counted(number) => {
-                let mut buffer = Buffer::new();
-                let digits = buffer.format(number).as_bytes();
-                self.overwrite(write, unique, step.key(), digits);
-            }
-        }
-    }
-
-    /// Writes a block in the chunk of a key's item.
-    fn overwrite(&mut self, write: &Write, unique: u64, key: &[u8], block: &[u8])
-        requires key { length key.now ≤ 250 }
-        requires known { IsKnown self.old.content key.now write.now.hash write.now.place }
-        requires class { (item : Item) → get self.old.content.items key.now ≡ Some item →
-            item_class key.now item ≡ class_holding (charge key.now block.now) }
-        ensures { (item : Item) → get self.old.content.items key.now ≡ Some item →
-            IsPut key.now write.now.hash self.old.content self.new.content
-            (drafted write.now.draft block.now unique write.now.moment) }
-    {
-        let Draft { flags, expiry, .. } = write.draft;
-        let updated = write.moment;
-        if let Some(place) = self.index.find_again(write.place, write.hash, key) {
-            self.index.update(place, |mut entry| {
-                entry.rewrite(Parts {
-                    key,
-                    first: &[],
-                    second: block,
-                    flags,
-                    expiry,
-                    unique,
-                    updated,
-                });
-                (entry, ())
-            });
-        }
-    }
-
-    /// Puts the item of a write into a chunk and under its key. The chunk of the item that stood there goes back.
-    fn put(&mut self, write: &Write, unique: u64, chunk: Chunk, step: &KeyStep<'_>, desk: &mut Desk)
-        requires key { length (key_of step.now) ≤ 250 }
-        requires known { IsKnown self.old.content (key_of step.now) write.now.hash write.now.place }
-        requires class { chunk_class chunk ≡ class_holding
-            (charge (key_of step.now) (block_beside self.old.content step.now write.now.draft)) }
-        requires fits { charge (key_of step.now) (block_beside self.old.content step.now write.now.draft)
-            ≤ length chunk }
-        requires room { get self.old.content.items (key_of step.now) ≡ None → 1 ≤ self.old.room }
-        requires out { IsOut (key_of step.now) self.old.content desk.old }
-        ensures put { IsPut (key_of step.now) write.now.hash self.old.content self.new.content
-            (drafted write.now.draft (block_beside self.old.content step.now write.now.draft)
-            unique write.now.moment) }
-        ensures given { GivesBack (key_of step.now) (get self.old.content.items (key_of step.now))
-            desk.old desk.new }
-    {
-        let place = self.index.find_again(write.place, write.hash, step.key());
-        let old = block_in(self.index.found(place));
-        let entry = write.entry_in(chunk, unique, step, old);
-        match place {
-            Some(place) => {
-                let old = self.index.update(place, |old| (entry, old));
-                desk.give(old.into_chunk());
-            }
-            None => {
-                self.index.insert_reserved(entry);
-            }
         }
     }
 }

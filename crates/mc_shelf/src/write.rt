@@ -1,20 +1,45 @@
-//! What a step writes into a chunk.
+//! Writing the item of a step: in the chunk of the key's item, or in one more.
 
-ghost use Rattle.std.specs.Prelude.{◌≡◌, ◌≤◌, ◌++◌, List, ℕ, length, IfSome};
+ghost use Rattle.std.specs.Prelude.{◌≡◌, ◌↔◌, ◌++◌, ℕ, ◌≤◌, List, length};
+ghost use Rattle.std.specs.Prelude.{Option, Some, None, Err, IfOk, IfSome, OnErr, true, false};
+ghost use Rattle.std.specs.FinMap.{get};
 ghost use Rattle.mc_slab.specs.Classes.{class_holding};
 ghost use Rattle.mc_slab.specs.Chunks.{chunk_class};
 ghost use Rattle.mc_command.specs.Commands.{key_of};
-ghost use Rattle.mc_command.specs.Plain.{block_of, charge};
+ghost use Rattle.mc_command.specs.Plain.{Entry as Item, block_of, charge, item_class};
+ghost use Rattle.mc_shelf.specs.States.{CanStand};
 ghost use Rattle.mc_shelf.specs.Plans as plans;
-ghost use Rattle.mc_shelf.specs.Plans.{drafted, item_in, made_block};
+ghost use Rattle.mc_shelf.specs.Plans.{
+  CanWrite,
+  GivesBack,
+  IsDropped,
+  IsKnown,
+  IsOut,
+  IsPut,
+  IsTaken,
+  IsWriteOf,
+  NeedsPage,
+  block_beside,
+  drafted,
+  has_no_number,
+  is_gone,
+  item_in,
+  made_block,
+  own_block,
+  reuses,
+};
 
+use crate::desk::Desk;
 use crate::entry::Entry;
 use crate::index::Place;
+use crate::plan::{Next, block_in, is_gone};
+use crate::shelf::Shelf;
 use itoa::Buffer;
-use mc_command::{Body, Draft, KeyStep};
+use mc_command::{Body, Draft, KeyStep, Reply, StepFault, counts_follow};
 use mc_item::Parts;
 use mc_slab::{Chunk, Class};
 use mc_time::Moment;
+use std::alloc::Global;
 
 /// A write that comes next.
 #[derive(Clone, Copy)]
@@ -33,7 +58,7 @@ pub(crate) struct Write {
 
 impl Write {
     /// Answers whether the block is a number's digits.
-    pub(crate) fn counts(&self) -> bool
+    fn counts(&self) -> bool
         ensures { result ≡ plans.counts self.now.draft.body }
     {
         match self.draft.body {
@@ -43,13 +68,7 @@ impl Write {
     }
 
     /// Makes the entry of the write in a chunk, beside the block of an old item.
-    pub(crate) fn entry_in(
-        &self,
-        chunk: Chunk,
-        unique: u64,
-        step: &KeyStep<'_>,
-        old: &[u8],
-    ) -> Entry
+    fn entry_in(&self, chunk: Chunk, unique: u64, step: &KeyStep<'_>, old: &[u8]) -> Entry
         requires key { length (key_of step.now) ≤ 250 }
         requires class { chunk_class chunk ≡ class_holding
             (charge (key_of step.now) (made_block self.now.draft.body (block_of step.now) old.now)) }
@@ -111,12 +130,168 @@ impl Write {
 }
 
 /// Answers whether the item that is found has a chunk of the class.
-pub(crate) fn has_class(found: Option<&Entry>, class: Class) -> bool
+fn has_class(found: Option<&Entry>, class: Class) -> bool
     ensures { (key : List ℕ) → IfSome found.entry (λ entry. entry.now.key ≡ key) →
         result ≡ plans.has_class key (item_in found.entry) class }
 {
     match found {
         Some(entry) => entry.class().number() == class.number(),
         None => false,
+    }
+}
+
+impl Shelf {
+    /// Writes the item of a step, in the chunk of the key's item or in one more.
+    pub(crate) fn write(
+        &mut self,
+        alloc: Global,
+        write: &Write,
+        step: &KeyStep<'_>,
+        desk: &mut Desk,
+    ) -> Result<Reply, StepFault>
+        requires write { IsWriteOf write.now self.old.content step.now }
+        requires room { CanWrite (Next.Write write.now.charge write.now.draft) desk.old →
+            get self.old.content.items (key_of step.now) ≡ None → 1 ≤ self.old.room }
+        requires stands { CanStand (key_of step.now) self.old.content desk.old }
+        ensures took { IfOk result (λ reply. IsTaken step.now write.now.moment write.now.hash
+            self.old.content desk.old reply self.new.content desk.new) }
+        ensures spent { result ≡ Err StepFault.NumbersSpent ↔ has_no_number desk.old }
+        ensures refused { result ≡ Err StepFault.NoMemory
+            → NeedsPage (Next.Write write.now.charge write.now.draft) desk.old }
+        ensures err { OnErr result
+            ((self.new.content ≡ self.old.content) × (desk.new ≡ desk.old)) }
+    {
+        counts_follow();
+        if desk.is_spent() {
+            return Err(StepFault::NumbersSpent);
+        }
+        let class = self.class_for(write.charge);
+        if self.reuses(write, class, step.key()) {
+            let unique = desk.draw();
+            self.rewrite(write, unique, step);
+            return Ok(write.draft.body.reply());
+        }
+        if !desk.has_room(class) {
+            self.drop_dead(write, step.key(), desk);
+            return Ok(Reply::NoChunk);
+        }
+        let chunk = desk.take(alloc, class)?;
+        let unique = desk.draw();
+        self.put(write, unique, chunk, step, desk);
+        Ok(write.draft.body.reply())
+    }
+
+    /// Answers whether a write goes into the chunk of the key's item: it is one of the class, and the item is dead, or a
+    /// number that is counted.
+    fn reuses(&self, write: &Write, class: Class, key: &[u8]) -> bool
+        requires { IsKnown self.now.content key.now write.now.hash write.now.place }
+        ensures { result ≡ reuses self.now.content.cut write.now.moment key.now
+            (get self.now.content.items key.now) class write.now.draft.body }
+    {
+        let found = self.entry(write.place, write.hash, key);
+        has_class(found, class) && (write.counts() || is_gone(found, self.cut, write.moment))
+    }
+
+    /// Writes the step's own block, or a number, in the chunk of the key's item.
+    fn rewrite(&mut self, write: &Write, unique: u64, step: &KeyStep<'_>)
+        requires key { length (key_of step.now) ≤ 250 }
+        requires known { IsKnown self.old.content (key_of step.now) write.now.hash write.now.place }
+        requires class { (item : Item) → get self.old.content.items (key_of step.now) ≡ Some item →
+            item_class (key_of step.now) item ≡ class_holding
+            (charge (key_of step.now) (own_block write.now.draft.body (block_of step.now))) }
+        ensures { (item : Item) → get self.old.content.items (key_of step.now) ≡ Some item →
+            IsPut (key_of step.now) write.now.hash self.old.content self.new.content
+            (drafted write.now.draft (own_block write.now.draft.body (block_of step.now))
+            unique write.now.moment) }
+    {
+        match write.draft.body {
+            Body::Given | Body::Appended | Body::Prepended => {
+                self.overwrite(write, unique, step.key(), step.block());
+            }
+            Body::Counted(number) => {
+                let mut buffer = Buffer::new();
+                let digits = buffer.format(number).as_bytes();
+                self.overwrite(write, unique, step.key(), digits);
+            }
+        }
+    }
+
+    /// Writes a block in the chunk of a key's item.
+    fn overwrite(&mut self, write: &Write, unique: u64, key: &[u8], block: &[u8])
+        requires key { length key.now ≤ 250 }
+        requires known { IsKnown self.old.content key.now write.now.hash write.now.place }
+        requires class { (item : Item) → get self.old.content.items key.now ≡ Some item →
+            item_class key.now item ≡ class_holding (charge key.now block.now) }
+        ensures { (item : Item) → get self.old.content.items key.now ≡ Some item →
+            IsPut key.now write.now.hash self.old.content self.new.content
+            (drafted write.now.draft block.now unique write.now.moment) }
+    {
+        let Draft { flags, expiry, .. } = write.draft;
+        let updated = write.moment;
+        if let Some(place) = self.index.find_again(write.place, write.hash, key) {
+            self.index.update(place, |mut entry| {
+                entry.rewrite(Parts {
+                    key,
+                    first: &[],
+                    second: block,
+                    flags,
+                    expiry,
+                    unique,
+                    updated,
+                });
+                (entry, ())
+            });
+        }
+    }
+
+    /// Puts the item of a write into a chunk and under its key. The chunk of the item that stood there goes back.
+    fn put(&mut self, write: &Write, unique: u64, chunk: Chunk, step: &KeyStep<'_>, desk: &mut Desk)
+        requires key { length (key_of step.now) ≤ 250 }
+        requires known { IsKnown self.old.content (key_of step.now) write.now.hash write.now.place }
+        requires class { chunk_class chunk ≡ class_holding
+            (charge (key_of step.now) (block_beside self.old.content step.now write.now.draft)) }
+        requires fits { charge (key_of step.now) (block_beside self.old.content step.now write.now.draft)
+            ≤ length chunk }
+        requires room { get self.old.content.items (key_of step.now) ≡ None → 1 ≤ self.old.room }
+        requires out { IsOut (key_of step.now) self.old.content desk.old }
+        ensures put { IsPut (key_of step.now) write.now.hash self.old.content self.new.content
+            (drafted write.now.draft (block_beside self.old.content step.now write.now.draft)
+            unique write.now.moment) }
+        ensures given { GivesBack (key_of step.now) (get self.old.content.items (key_of step.now))
+            desk.old desk.new }
+    {
+        let place = self.index.find_again(write.place, write.hash, step.key());
+        let old = block_in(self.index.found(place));
+        let entry = write.entry_in(chunk, unique, step, old);
+        match place {
+            Some(place) => {
+                let old = self.index.update(place, |old| (entry, old));
+                desk.give(old.into_chunk());
+            }
+            None => {
+                self.index.insert_reserved(entry);
+            }
+        }
+    }
+
+    /// Drops the item of a write's key if it is dead.
+    fn drop_dead(&mut self, write: &Write, key: &[u8], desk: &mut Desk)
+        requires known { IsKnown self.old.content key.now write.now.hash write.now.place }
+        requires out { IsOut key.now self.old.content desk.old }
+        ensures dead { is_gone self.old.content.cut write.now.moment
+            (get self.old.content.items key.now) ≡ true →
+            (IsDropped key.now write.now.hash self.old.content self.new.content
+            × GivesBack key.now (get self.old.content.items key.now) desk.old desk.new) }
+        ensures alive { is_gone self.old.content.cut write.now.moment
+            (get self.old.content.items key.now) ≡ false →
+            ((self.new.content ≡ self.old.content) × (desk.new ≡ desk.old)) }
+    {
+        if is_gone(
+            self.entry(write.place, write.hash, key),
+            self.cut,
+            write.moment,
+        ) {
+            self.discard(write.place, write.hash, key, desk);
+        }
     }
 }
