@@ -7,7 +7,7 @@ ghost use Rattle.mc_command.specs.Commands.{key_of};
 
 use super::*;
 use mc_command::{Bytes, Verb};
-use mc_hop::Fnv;
+use mc_hop::{Constant, Fnv};
 use std::process::Abort;
 use std::test::*;
 
@@ -105,20 +105,31 @@ fn is_same_read(a: &Reply, b: &Reply) -> bool {
 fn open(alloc: Global, pages: u32) -> Result<Store<Fnv>, AllocError>
     requires { (1 ≤ pages) × (pages ≤ 65536) }
 {
+    open_with(alloc, pages, Fnv)
+}
+
+/// The same, with a hasher.
+fn open_with<K: KeyHash + Drop + Copy>(
+    alloc: Global,
+    pages: u32,
+    hasher: K,
+) -> Result<Store<K>, AllocError>
+    requires { (1 ≤ pages) × (pages ≤ 65536) }
+{
     let settings = Settings {
         pages,
         greatest: 1048576,
         shelves: 64,
     };
-    match Store::new(alloc, settings, Fnv) {
-        Err(_) => Store::new(alloc, settings, Fnv),
+    match Store::new(alloc, settings, hasher) {
+        Err(_) => Store::new(alloc, settings, hasher),
         made => made,
     }
 }
 
 /// The step's answer, asked for again where memory is refused.
-fn asked(
-    store: &mut Store<Fnv>,
+fn asked<K: KeyHash + Drop>(
+    store: &mut Store<K>,
     alloc: Global,
     step: &KeyStep<'_>,
     now: Moment,
@@ -299,15 +310,39 @@ fn a_store_of_parts_answers_as_before(rt: HostRuntime) -> Result<(), Fail> {
     answers(&rt, rt.alloc(), &mut store, &then)
 }
 
+/// The answer to what is asked of the key of one byte at 1000.
+fn answered(
+    store: &mut Store<Constant>,
+    alloc: Global,
+    key: u8,
+    ask: Ask<'_>,
+) -> Result<&'static str, StepFault> {
+    let key = [key];
+    let step = step_of(&key, ask);
+    let reply = asked(store, alloc, &step, Moment::from_seconds_at_most(1000))?;
+    Ok(told(&reply))
+}
+
+/// Keys of one hash, of which a table takes 32, and the others are strays. The table of 64 homes
+/// grows before the 34th comes, since there is a stray, and that of 128 before the 38th. Each has
+/// 32 entries then, of which 8 are moved after each key.
 #[test]
-fn no_old_table_is_left_to_move(rt: HostRuntime) -> Result<(), Fail> {
-    let rows: [Row<'_>; 2] = [
-        (1000, b"a", Ask::Set(0, b"x"), Want::Told("stored")),
-        (1000, b"a", Ask::Get, Want::Hit(1, b"x")),
-    ];
-    let mut store = open(rt.alloc(), 64)?;
-    answers(&rt, rt.alloc(), &mut store, &rows)?;
-    assert_eq!(rt; store.grow(12, 8), 0);
+fn entries_are_moved_while_a_table_grows(rt: HostRuntime) -> Result<(), Fail> {
+    let alloc = rt.alloc();
+    let mut store = open_with(alloc, 1, Constant(0))?;
+    for key in 1..41 {
+        let told = answered(&mut store, alloc, key, Ask::Set(0, b"x"))?;
+        assert!(rt; told == "stored", "{told}");
+        let moved = store.grow(0, 8);
+        let want = if key < 34 { 0 } else { 8 };
+        assert!(rt; moved == want, "{moved} were moved after key {key}");
+    }
+    for key in 1..41 {
+        let told = answered(&mut store, alloc, key, Ask::Get)?;
+        assert!(rt; told == "hit", "{told}");
+    }
     assert_eq!(rt; store.grow(64, 8), 0);
+    assert_eq!(rt; store.grow(0, 8), 8);
+    assert_eq!(rt; store.grow(0, 8), 0);
     Ok(())
 }
