@@ -3,6 +3,7 @@
 
 mod adding;
 mod index;
+mod parts;
 #[cfg(test)]
 mod tests;
 
