@@ -6,13 +6,13 @@ ghost use Rattle.std.specs.FinMap.{get, insert, remove};
 ghost use Rattle.mc_hop.specs.Tables.{KeepsKey};
 ghost use Rattle.mc_grow.specs.Indexes.{IsNew, StandsAs, HasBegun, IsFilled, IsFound, IsNext, IsPlaceOf, IsUpdated};
 ghost use Rattle.mc_grow.specs.Parts.{IsFirstFilled, IsSpot, NoneFilledFrom};
-ghost use Rattle.mc_grow.specs.Indexes.{KeepsLower, count, entry_at, holds, is_due, left, most_reads};
+ghost use Rattle.mc_grow.specs.Indexes.{KeepsLower, cells, count, entry_at, holds, is_due, left, most_reads};
 ghost use Rattle.mc_grow.specs.Adding.{AreMoved, IsInserted};
 
 use crate::adding::add;
 use crate::parts::{Spot, drained_buckets, drained_entry, drained_len};
 use crate::parts::{filled_bucket, filled_drained, find_drained, find_stray};
-use crate::parts::{remove_drained, update_drained, update_stray};
+use crate::parts::{remove_drained, stray, update_drained, update_stray};
 use mc_hop::{Counts, Hop, Keyed, Uncounted};
 use mc_hop::{content_changes_at_one_key, content_has_each_entry};
 use std::alloc::{AllocError, Global};
@@ -164,7 +164,7 @@ impl<T: Keyed + Drop> Index<T> {
         match self.spot(place) {
             Spot::Drained(at) => drained_entry(&self.draining, at),
             Spot::Table(at) => self.table.get(at),
-            Spot::Stray(at) => self.strays.get(at),
+            Spot::Stray(at) => stray(&self.strays, at),
         }
     }
 
