@@ -1,12 +1,16 @@
 -- The places of an index, by its parts: the old table's buckets, the table's, and the strays.
-use Rattle.std.proofs.Common.{◌≡◌, ◌≢◌, ℕ, zero, suc, ◌+◌, ◌-◌, ◌<◌, ◌≤◌, ◌⊎◌, inl, inr, List, [], ◌∷◌, ◌++◌, Option, Some, None, map, drop, length, length-set, get_or, set, refl, sym, ap, subst, ◌∙◌, arith, ⊎_elim}
+use Rattle.std.proofs.Common.{◌≡◌, ◌≢◌, ℕ, zero, suc, ◌+◌, ◌-◌, ◌<◌, ◌≤◌, ◌^◌, ◌⊎◌, inl, inr, List, [], ◌∷◌, ◌++◌, Option, Some, None, map, drop, length, length-set, get_or, set, refl, sym, ap, subst, ◌∙◌, arith, ⊎_elim}
 use Rattle.std.proofs.lemmas.Bool.{cases_eq, cases_lt}
 use Rattle.std.proofs.lemmas.Option.{none-some}
 use Rattle.std.proofs.Math.Seq.{drop-nil}
+use Rattle.std.specs.FinMap.{get}
+use Rattle.mc_hop.specs.Contents.{content}
 use Rattle.std.proofs.lemmas.List.{get_or_past, get_or_append_left, get_or-append-add, get_or-set_same, get_or-set_other, length-map, length-append, map-set}
 use Rattle.mc_hop.specs.Cells.{filled}
 use Rattle.mc_hop.specs.Links.{IsSwapped}
 use Rattle.mc_hop.specs.Tables.{AreApart, HasEntry, IsAt, IsAbsent}
+use Rattle.mc_grow.specs.declared.index.Place.{Place}
+use Rattle.mc_grow.specs.Indexes.{IndexState, IsFirstFrom, IsPlaceOf, cells}
 use Rattle.mc_grow.specs.Parts.{IsFirstFilled, NoneFilled, NoneFilledFrom}
 use Rattle.mc_grow.proofs.PartLemmas.{same_Some, inside, stray_inside, stray_is, stray_there}
 
@@ -37,7 +41,7 @@ filled-changed (Some z ∷ items) (suc at) x y e = ap (λ n. n + 1) (filled-chan
 
 -- from a number on
 pub filled_skip : {X : Type 0} (items : List (Option X)) (low high : ℕ) → low ≤ high → NoneFilled items low high → filled (drop high items) ≡ filled (drop low items)
-filled_skip {X} [] low high l none = ap (filled {X}) (drop-nil high ∙ sym (drop-nil low))
+filled_skip {X} [] low high l none = ap (λ (l : List (Option X)). filled l) (drop-nil high ∙ sym (drop-nil low))
 filled_skip (o ∷ items) zero zero l none = refl
 filled_skip {X} (o ∷ items) zero (suc high) l none =
     filled_skip items zero high (omega arith) (λ at low below. none (suc at) (omega arith) (omega (arith, below)))
@@ -46,7 +50,7 @@ filled_skip (o ∷ items) (suc low) zero l none = absurd (omega (arith, l))
 filled_skip (o ∷ items) (suc low) (suc high) l none =
     filled_skip items low high (omega (arith, l)) (λ at above below. none (suc at) (omega (arith, above)) (omega (arith, below)))
 
-pub filled_here : {X : Type 0} (items : List (Option X)) (at : ℕ) (x : X) → get_or items at None ≡ Some x → filled (drop at items) ≡ filled (drop (at + 1) items) + 1
+pub filled_here : {X : Type 0} (items : List (Option X)) (at : ℕ) (x : X) → get_or items at None ≡ Some x → filled (drop at items) ≡ filled (drop (suc at) items) + 1
 filled_here [] at x e = absurd (none-some x e)
 filled_here {X} (o ∷ items) zero x e = ap (λ (p : Option X). filled (p ∷ items)) e
 filled_here (o ∷ items) (suc at) x e = filled_here items at x e
@@ -79,6 +83,11 @@ set_second {X} [] ys at o = ap (λ (n : ℕ). set ys n o) (omega arith)
 set_second {X} (p ∷ xs) ys at o = ap (λ (n : ℕ). set (p ∷ (xs ++ ys)) n o) {x = suc (length xs) + at} {y = suc (length xs + at)} (omega arith) ∙ ap (λ (zs : List (Option X)). p ∷ zs) (set_second xs ys at o)
 
 -- ---- the parts of an index
+
+some_stray : {X : Type 0} (xs : List X) (n : ℕ) → n < length xs → (x : X) × (get_or (map Some xs) n None ≡ Some x)
+some_stray [] n l = absurd (omega (arith, l))
+some_stray (x ∷ xs) zero l = (x, refl)
+some_stray (x ∷ xs) (suc n) l = some_stray xs n (omega (arith, l))
 
 module _ {X : Type 0} (old table : List (Option X)) (strays : List X) where
   abbrev pub all : List (Option X)
@@ -134,10 +143,10 @@ module _ {X : Type 0} (old table : List (Option X)) (strays : List X) where
         (λ j e. absurd (omega (arith, e, high, inside table n first.entry first.there)));
   }
 
-  pub first_stray : (at from n : ℕ) (x : X) → NoneFilledFrom old at → from ≡ at - length old → NoneFilledFrom table from → n ≡ at - (length old + length table) → n < length strays → x ≡ get_or strays n x → IsFirstFilled all at (length old + (length table + n))
-  first_stray at from n x none is none_table n_is below e = record {
-    entry = x;
-    there = cell_stray n ∙ stray_there strays n x below e;
+  pub first_stray : (at from n : ℕ) → NoneFilledFrom old at → from ≡ at - length old → NoneFilledFrom table from → n ≡ at - (length old + length table) → n < length strays → IsFirstFilled all at (length old + (length table + n))
+  first_stray at from n none is none_table n_is below = record {
+    entry = (some_stray strays n below).0;
+    there = cell_stray n ∙ (some_stray strays n below).1;
     low = omega (arith, n_is);
     skipped = λ k low high.
         cell_none k (λ l. none k low) (λ j f l. none_table j (omega (arith, is, f, low)))
@@ -171,6 +180,33 @@ module _ {X : Type 0} (old table : List (Option X)) (strays : List X) where
         (λ (t : (i : ℕ) × (r.0 ≡ length table + i) × (get_or (map Some strays) i None ≡ Some is.entry)). no_stray t.0 (record { entry = is.entry; there = t.2; same_hash = is.same_hash; same_key = is.same_key }))
         (in_one table (map Some strays) r.0 is.entry r.2))
         (in_one old (table ++ map Some strays) at is.entry is.there)
+
+-- ---- what contracts see
+
+pub first_from : {X : Type 0} (index : IndexState X) (at : ℕ) (place : Place) → IsFirstFilled (cells index) at place.number → place.number < 2 ^ 64 - 1 → IsFirstFrom index at place.number place
+first_from index at place first small =
+    let ahead = filled_skip (cells index) at place.number first.low first.skipped in record {
+      filled = (first.entry, first.there);
+      same = refl;
+      from = first.low;
+      below = small;
+      skipped = first.skipped;
+      ahead = ahead;
+      count =
+          sym ahead ∙ filled_here (cells index) place.number first.entry first.there
+          ∙ ap (λ (n : ℕ). filled (drop n (cells index)) + 1) {x = suc place.number} (omega arith);
+    }
+
+pub placed : {X : Type 0} (hash_of : X → ℕ) (key_of : X → List ℕ) (index : IndexState X) (hash : ℕ) (key : List ℕ) (place : Place) → ((items : List (Option X)) (x : X) → AreApart hash_of key_of items → HasEntry items x → get (content hash_of key_of items) (hash_of x ∷ key_of x) ≡ Some x) → AreApart hash_of key_of (cells index) → IsAt hash_of key_of (cells index) hash key place.number → IsPlaceOf hash_of key_of index hash key place
+placed hash_of key_of index hash key place law apart is = record {
+  entry = is.entry;
+  there = is.there;
+  same_hash = is.same_hash;
+  same_key = is.same_key;
+  held =
+      ap (λ (q : List ℕ). get (content hash_of key_of (cells index)) q) (sym (λ i. is.same_hash i ∷ is.same_key i))
+      ∙ law (cells index) is.entry apart (place.number, is.there);
+}
 
 -- ---- a change of one place
 
