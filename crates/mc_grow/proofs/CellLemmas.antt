@@ -212,7 +212,7 @@ placed hash_of key_of index hash key place law apart is = record {
 
 module _ {X : Type 0} (hash_of : X → ℕ) (key_of : X → List ℕ) (items : List (Option X)) (at : ℕ) where
   -- without an entry, or with another of its hash and key, the others stay apart
-  was : (n : ℕ) (z : X) → get_or (set items at None) n None ≡ Some z → get_or items n None ≡ Some z
+  pub was : (n : ℕ) (z : X) → get_or (set items at None) n None ≡ Some z → get_or items n None ≡ Some z
   was n z e =
       ⊎_elim
       (λ (same : n ≡ at).
