@@ -276,5 +276,5 @@ seen_removed {X} {hash_of} {key_of} {place} {x} {new = new} same is = subst (λ 
 pub seen_updated : {X R : Type 0} {hash_of : X → ℕ} {key_of : X → List ℕ} {post : X → X × R → Type 0} {entry : X} {place : Place} {v now new : IndexState X} {answer : R} → v ≡ now → IsUpdated hash_of key_of post entry place v new answer → IsUpdated hash_of key_of post entry place now new answer
 seen_updated {X} {R} {hash_of} {key_of} {post} {entry} {place} {new = new} {answer} same is = subst (λ (s : IndexState X). IsUpdated hash_of key_of post entry place s new answer) same is
 
-pub seen_entry : {X : Type 0} {place : Place} {x : X} {v now : IndexState X} → v ≡ now → entry_at v place ≡ Some x → entry_at now place ≡ Some x
-seen_entry {X} {place} {x} same is = subst (λ (s : IndexState X). entry_at s place ≡ Some x) same is
+pub seen_entry : {X : Type 0} (place : Place) {x : X} {v now : IndexState X} → v ≡ now → entry_at v place ≡ Some x → entry_at now place ≡ Some x
+seen_entry {X} place {x} same is = subst (λ (s : IndexState X). entry_at s place ≡ Some x) same is

@@ -15,7 +15,7 @@ update_drained-requires-clause-filled g c = ap is_some (in_drained c.self.view_i
 pub update_drained-requires-clause-keeps : goal.update_drained-requires-clause-keeps
 update_drained-requires-clause-keeps g c entry there =
     let spot = number_drained c.self.view_is c.in-Drained.ensures in
-    c.requires.keeps entry (seen_entry c.self.view_is (ap (λ (n : ℕ). get_or (all (drained_items c.self.inside.draining) c.self.inside.table.items c.self.inside.strays.items) n None) spot.1 ∙ cell_drained _ _ _ c.in-Drained.at spot.0 ∙ there))
+    c.requires.keeps entry (seen_entry c.args.place c.self.view_is (ap (λ (n : ℕ). get_or (all (drained_items c.self.inside.draining) c.self.inside.table.items c.self.inside.strays.items) n None) spot.1 ∙ cell_drained _ _ _ c.in-Drained.at spot.0 ∙ there))
 
 pub update-requires-clause-filled : goal.update-requires-clause-filled
 update-requires-clause-filled g c = ap is_some (in_table c.self.view_is c.requires.filled.1 c.in-Table.ensures)
@@ -23,7 +23,7 @@ update-requires-clause-filled g c = ap is_some (in_table c.self.view_is c.requir
 pub update-requires-clause-keeps : goal.update-requires-clause-keeps
 update-requires-clause-keeps g c entry there =
     let spot = number_table c.self.view_is c.in-Table.ensures in
-    c.requires.keeps entry (seen_entry c.self.view_is (ap (λ (n : ℕ). get_or (all (drained_items c.self.inside.draining) c.self.inside.table.items c.self.inside.strays.items) n None) spot.1 ∙ cell_table _ _ _ c.in-Table.at spot.0 ∙ there))
+    c.requires.keeps entry (seen_entry c.args.place c.self.view_is (ap (λ (n : ℕ). get_or (all (drained_items c.self.inside.draining) c.self.inside.table.items c.self.inside.strays.items) n None) spot.1 ∙ cell_table _ _ _ c.in-Table.at spot.0 ∙ there))
 
 pub update_stray-requires-clause-inside : goal.update_stray-requires-clause-inside
 update_stray-requires-clause-inside g c = omega (arith, stray_inside c.self.inside.strays.items c.in-Stray.at _ (in_strays c.self.view_is c.in-Stray.at c.requires.filled.1 c.in-Stray.ensures), c.self.inside.strays.ok.0)
@@ -31,7 +31,7 @@ update_stray-requires-clause-inside g c = omega (arith, stray_inside c.self.insi
 pub update_stray-requires-clause-may : goal.update_stray-requires-clause-may
 update_stray-requires-clause-may g c entry there =
     let spot = number_stray c.self.view_is c.in-Stray.at c.in-Stray.ensures in
-    (c.requires.keeps entry (seen_entry c.self.view_is (ap (λ (n : ℕ). get_or (all (drained_items c.self.inside.draining) c.self.inside.table.items c.self.inside.strays.items) n None) spot ∙ cell_stray _ _ _ c.in-Stray.at ∙ there))).may_call
+    (c.requires.keeps entry (seen_entry c.args.place c.self.view_is (ap (λ (n : ℕ). get_or (all (drained_items c.self.inside.draining) c.self.inside.table.items c.self.inside.strays.items) n None) spot ∙ cell_stray _ _ _ c.in-Stray.at ∙ there))).may_call
 
 pub invariant_of-self : goal.invariant_of-self
 invariant_of-self g c =
@@ -88,7 +88,7 @@ returns-in-Drained g c entry there =
     let is = c.update_drained.ensures.changed entry here in
     let keeps = c.requires.keeps entry there in
     seen_updated c.self.view_is
-    (updated g.T.Keyed.hash_of g.T.Keyed.key_of entry is.given c.args.place _ _ c.content_changes_at_one_key.ensures.replaced c.self.invariant.apart (seen_entry (sym c.self.view_is) there)
+    (updated g.T.Keyed.hash_of g.T.Keyed.key_of entry is.given c.args.place _ _ c.content_changes_at_one_key.ensures.replaced c.self.invariant.apart (seen_entry c.args.place (sym c.self.view_is) there)
     (keeps.same_hash (is.given, c.update_drained.result) is.called) (keeps.same_key (is.given, c.update_drained.result) is.called) is.called
     (set_drained (drained_items i.draining) i.table.items i.strays.items c.in-Drained.at c.args.place.number (Some is.given) spot.0 spot.1 is.changed)
     refl c.update_drained.ensures.stays (ap filled is.changed ∙ filled-changed _ c.in-Drained.at entry is.given here)
@@ -103,7 +103,7 @@ returns-in-Table g c entry there =
     let keeps = c.requires.keeps entry there in
     let called = subst (λ (r : g.row.R.Denot). g.F.FnOnce.post c.args.change (entry, tt) (is.0.0, r)) (sym is.2) is.1 in
     seen_updated c.self.view_is
-    (updated g.T.Keyed.hash_of g.T.Keyed.key_of entry is.0.0 c.args.place _ _ c.content_changes_at_one_key.ensures.replaced c.self.invariant.apart (seen_entry (sym c.self.view_is) there)
+    (updated g.T.Keyed.hash_of g.T.Keyed.key_of entry is.0.0 c.args.place _ _ c.content_changes_at_one_key.ensures.replaced c.self.invariant.apart (seen_entry c.args.place (sym c.self.view_is) there)
     (keeps.same_hash is.0 is.1) (keeps.same_key is.0 is.1) called
     (set_table (drained_items i.draining) i.table.items i.strays.items c.in-Table.at c.args.place.number (Some is.0.0) spot.0 spot.1 (ap (λ (t : HopState g.row.T.Denot). t.items) is.3))
     (ap (λ (t : HopState g.row.T.Denot). t.k) is.3) refl refl refl)
@@ -116,7 +116,7 @@ returns-in-Stray g c entry there =
     let is = c.update_stray.ensures.changed entry here in
     let keeps = c.requires.keeps entry there in
     seen_updated c.self.view_is
-    (updated g.T.Keyed.hash_of g.T.Keyed.key_of entry is.given c.args.place _ _ c.content_changes_at_one_key.ensures.replaced c.self.invariant.apart (seen_entry (sym c.self.view_is) there)
+    (updated g.T.Keyed.hash_of g.T.Keyed.key_of entry is.given c.args.place _ _ c.content_changes_at_one_key.ensures.replaced c.self.invariant.apart (seen_entry c.args.place (sym c.self.view_is) there)
     (keeps.same_hash (is.given, c.update_stray.result) is.called) (keeps.same_key (is.given, c.update_stray.result) is.called) is.called
     (set_stray (drained_items i.draining) i.table.items i.strays.items c.in-Stray.at c.args.place.number (Some is.given) _ spot is.changed)
     refl refl refl (λ j. c.update_stray.ensures.capacity j - (c.update_stray.ensures.len j + filled (drained_items i.draining))))
