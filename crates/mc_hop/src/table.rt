@@ -6,7 +6,7 @@ ghost use Rattle.std.specs.FinMap.{insert, remove};
 ghost use Rattle.std.specs.Int.{bit_at};
 ghost use Rattle.mc_hop.specs.Contents.{content};
 ghost use Rattle.mc_hop.specs.Cells.{filled};
-ghost use Rattle.mc_hop.specs.Tables.{KeepsKey, HopState, home_in, homed, IsAt, IsAbsent, IsFirstFree, NoneFree};
+ghost use Rattle.mc_hop.specs.Tables.{AreApart, KeepsKey, HopState, home_in, homed, IsAt, IsAbsent, IsFirstFree, NoneFree};
 
 use crate::bits::{lowest, with_bit, without_bit};
 use crate::cells::Cells;
@@ -85,6 +85,13 @@ impl<T: Keyed + Drop> Hop<T> {
     /// Each entry stands within 31 of its home. It does nothing.
     pub fn entries_are_near(&self)
         ensures { (at : ℕ) (entry : T) → slice_index_or self.now.items at None ≡ Some entry → (home_in self.now.k (T.hash_of entry) ≤ at) × (at ≤ home_in self.now.k (T.hash_of entry) + 31) }
+    {
+        let _ = &self.k;
+    }
+
+    /// No two entries have one hash and key. It does nothing.
+    pub fn entries_are_apart(&self)
+        ensures { AreApart T.hash_of T.key_of self.now.items }
     {
         let _ = &self.k;
     }
