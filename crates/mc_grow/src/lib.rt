@@ -3,6 +3,7 @@
 
 mod adding;
 mod index;
+mod moving;
 #[cfg(test)]
 mod tests;
 
