@@ -12,7 +12,7 @@ use Rattle.std.specs.FinMap.{FinMap, get, insert, get-empty, get-insert, nat_cmp
 use Rattle.mc_hop.specs.Cells.{filled}
 use Rattle.mc_hop.specs.Tables.{AreApart, HasEntry, IsAbsent}
 use Rattle.mc_hop.specs.Contents.{AreDisjoint, content}
-use Rattle.mc_grow.specs.Moving.{HoldsAll}
+use Rattle.mc_grow.specs.Moving.{HoldsAll, IsIn}
 
 abbrev pub Map : Type 0 → Type 0
 Map X = FinMap (slice_cmp nat_cmp) X
@@ -105,11 +105,6 @@ pub record ContentLaws {X : Type 0} (hash_of : X → ℕ) (key_of : X → List �
   pub first : (xs ys zs : List (Option X)) (key : List ℕ) (entry : X) → content hash_of key_of zs ≡ insert (content hash_of key_of xs) key entry → content hash_of key_of (zs ++ ys) ≡ insert (content hash_of key_of (xs ++ ys)) key entry
   pub second : (xs ys zs : List (Option X)) (key : List ℕ) (entry : X) → get (content hash_of key_of xs) key ≡ None → content hash_of key_of zs ≡ insert (content hash_of key_of ys) key entry → content hash_of key_of (xs ++ zs) ≡ insert (content hash_of key_of (xs ++ ys)) key entry
   pub apart : (xs ys : List (Option X)) → AreApart hash_of key_of (xs ++ ys) ↔ (AreApart hash_of key_of xs × AreApart hash_of key_of ys × AreDisjoint (content hash_of key_of xs) (content hash_of key_of ys))
-
--- an entry has come to buckets
-pub record IsIn {X : Type 0} (hash_of : X → ℕ) (key_of : X → List ℕ) (x : X) (old new : List (Option X)) : Type 0 where
-  pub come : content hash_of key_of new ≡ insert (content hash_of key_of old) (hash_of x ∷ key_of x) x
-  pub apart : AreApart hash_of key_of new
 
 -- an entry was taken out of them
 pub record IsOut {X : Type 0} (hash_of : X → ℕ) (key_of : X → List ℕ) (x : X) (old new : List (Option X)) : Type 0 where

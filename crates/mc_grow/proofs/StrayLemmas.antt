@@ -12,7 +12,7 @@ use Rattle.std.specs.FinMap.{FinMap, get, insert}
 use Rattle.mc_hop.specs.Tables.{AreApart, HasEntry}
 use Rattle.mc_hop.specs.Contents.{AreDisjoint, content}
 use Rattle.mc_grow.specs.Moving.{HoldsAll}
-use Rattle.mc_grow.proofs.MoveLemmas.{ContentLaws, IsIn, Map, same, same_key, same_self, same_Some, at_its_key, none_beside, none_before, disjoint_first, disjoint_less_second}
+use Rattle.mc_grow.proofs.MoveLemmas.{ContentLaws, Map, same, same_key, same_self, same_Some, at_its_key, none_beside, none_before, disjoint_first, disjoint_less_second}
 
 abbrev head_of : List ℕ → ℕ
 head_of [] = 0

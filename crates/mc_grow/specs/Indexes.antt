@@ -1,5 +1,5 @@
 -- An index of entries: what contracts see of it.
-use Rattle.std.specs.Prelude.{◌≡◌, ℕ, ◌+◌, ◌*◌, ◌-◌, ◌^◌, ◌<◌, ◌≤◌, ◌&&◌, ◌||◌, Bool, true, false, not, List, [], ◌∷◌, ◌++◌, Option, Some, None, map, drop, length, replicate, nat_lt, if◌then◌else◌, slice_index_or, refl}
+use Rattle.std.specs.Prelude.{◌≡◌, ℕ, ◌+◌, ◌*◌, ◌-◌, ◌^◌, ◌<◌, ◌≤◌, ◌&&◌, ◌||◌, Bool, true, false, not, List, [], ◌∷◌, ◌++◌, Option, Some, None, map, drop, length, replicate, nat_lt, if◌then◌else◌, slice_index_or, slice_set, refl}
 use Rattle.std.specs.Coded.{Coded, code_by, coded×, coded_ℕ, coded_bool, coded_list, coded_option}
 use Rattle.std.specs.Ordering.{nat_cmp}
 use Rattle.std.specs.Cmp.Lexicographic.{slice_cmp}
@@ -78,9 +78,10 @@ abbrev pub IsFilled : {X : Type 0} → IndexState X → Place → Type 0
 IsFilled {X} index place = (entry : X) × (entry_at index place ≡ Some entry)
 
 -- the entry was changed to what a closure gives of it, and the answer is the closure's; all else stays
-pub record IsUpdated {X R : Type 0} (hash_of : X → ℕ) (key_of : X → List ℕ) (post : X → X × R → Type 0) (entry : X) (old new : IndexState X) (answer : R) : Type 0 where
+pub record IsUpdated {X R : Type 0} (hash_of : X → ℕ) (key_of : X → List ℕ) (post : X → X × R → Type 0) (entry : X) (place : Place) (old new : IndexState X) (answer : R) : Type 0 where
   pub given : X
   pub called : post entry (given, answer)
+  pub changed : cells new ≡ slice_set (cells old) place.number (Some given)
   pub content : holds hash_of key_of new ≡ insert (holds hash_of key_of old) (hash_of entry ∷ key_of entry) given
   pub same_k : new.k ≡ old.k
   pub same_growing : new.growing ≡ old.growing

@@ -11,6 +11,11 @@ pub record HoldsAll {X : Type 0} (hash_of : X → ℕ) (key_of : X → List ℕ)
   pub same : content hash_of key_of new ≡ content hash_of key_of old
   pub apart : AreApart hash_of key_of new
 
+-- an entry has come to buckets
+pub record IsIn {X : Type 0} (hash_of : X → ℕ) (key_of : X → List ℕ) (x : X) (old new : List (Option X)) : Type 0 where
+  pub come : content hash_of key_of new ≡ insert (content hash_of key_of old) (hash_of x ∷ key_of x) x
+  pub apart : AreApart hash_of key_of new
+
 -- one entry was taken out of the old table, and added to the other by the rule
 pub record IsTaken {X : Type 0} (hash_of : X → ℕ) (key_of : X → List ℕ) (k : ℕ) (drained_old drained_new : List (Option X)) (old new : Side X) : Type 0 where
   pub entry : X

@@ -1,15 +1,20 @@
 //! An index that grows: two tables and strays.
 
 ghost use Rattle.std.specs.Prelude.{◌≡◌, ℕ, List, Option, ◌+◌, ◌-◌, ◌<◌, ◌≤◌, ◌^◌, ◌∷◌, Some, None, IfOk, IfSome, OnOk, OnErr};
-ghost use Rattle.std.specs.Prelude.{option_copied, min, nat_lt, true, false, length};
+ghost use Rattle.std.specs.Prelude.{IsNone, option_copied, min, nat_lt, true, false, length};
 ghost use Rattle.std.specs.FinMap.{get, insert, remove};
 ghost use Rattle.mc_hop.specs.Tables.{KeepsKey};
 ghost use Rattle.mc_grow.specs.Indexes.{IsNew, StandsAs, HasBegun, IsFilled, IsFound, IsNext, IsPlaceOf, IsUpdated};
+ghost use Rattle.mc_grow.specs.Parts.{IsFirstFilled, IsSpot, NoneFilledFrom};
 ghost use Rattle.mc_grow.specs.Indexes.{KeepsLower, count, entry_at, holds, is_due, left, most_reads};
 ghost use Rattle.mc_grow.specs.Adding.{AreMoved, IsInserted};
 
 use crate::adding::add;
+use crate::parts::{Spot, drained_buckets, drained_entry, drained_len};
+use crate::parts::{filled_bucket, filled_drained, find_drained, find_stray};
+use crate::parts::{remove_drained, update_drained, update_stray};
 use mc_hop::{Counts, Hop, Keyed, Uncounted};
+use mc_hop::{content_changes_at_one_key, content_has_each_entry};
 use std::alloc::{AllocError, Global};
 use std::marker::Model;
 
@@ -78,7 +83,21 @@ impl<T: Keyed + Drop> Index<T> {
         ensures found { IsFound T.hash_of T.key_of self.now hash key.now result }
         ensures reads { C.count reads.new ≤ C.count reads.old + most_reads self.now }
     {
-        unreachable!()
+        content_has_each_entry::<T>();
+        let first = drained_buckets(&self.draining);
+        let second = first + self.table.buckets();
+        if let Some(at) = find_drained(&self.draining, hash, key, reads) {
+            return Some(Place { number: at });
+        }
+        if let Some(at) = self.table.find_counted(hash, key, reads) {
+            return Some(Place { number: first + at });
+        }
+        match find_stray(&self.strays, hash, key, reads) {
+            Some(at) => Some(Place {
+                number: second + at,
+            }),
+            None => None,
+        }
     }
 
     /// Finds the place as `find` does, whatever the place is that it is given: it looks there first, which is one read where
@@ -101,11 +120,52 @@ impl<T: Keyed + Drop> Index<T> {
         let _ = &self.strays;
     }
 
+    /// Tells which part a place is in, and which of it.
+    fn spot(&self, place: Place) -> Spot
+        ensures { IsSpot (length self.now.draining) (length self.now.table) place.number result }
+    {
+        let first = drained_buckets(&self.draining);
+        let buckets = self.table.buckets();
+        if place.number < first {
+            Spot::Drained(place.number)
+        } else if place.number - first < buckets {
+            Spot::Table(place.number - first)
+        } else {
+            Spot::Stray(place.number - first - buckets)
+        }
+    }
+
+    /// Finds the first number at or above `at` that has an entry.
+    fn next_filled(&self, at: usize) -> Option<usize>
+        ensures found { IfSome result (IsFirstFilled (cells self.now) at) }
+        ensures none { IsNone result → NoneFilledFrom (cells self.now) at }
+        ensures small { IfSome result (λ number. number < 2 ^ 64 - 1) }
+    {
+        let first = drained_buckets(&self.draining);
+        let second = first + self.table.buckets();
+        if let Some(number) = filled_drained(&self.draining, at) {
+            return Some(number);
+        }
+        if let Some(number) = filled_bucket(&self.table, at.saturating_sub(first)) {
+            return Some(first + number);
+        }
+        let stray = at.saturating_sub(second);
+        if stray < self.strays.len() {
+            Some(second + stray)
+        } else {
+            None
+        }
+    }
+
     /// Lends the entry at a place, where one stands there.
     pub fn get(&self, place: Place) -> Option<&T>
         ensures { option_copied result ≡ entry_at self.now place }
     {
-        unreachable!()
+        match self.spot(place) {
+            Spot::Drained(at) => drained_entry(&self.draining, at),
+            Spot::Table(at) => self.table.get(at),
+            Spot::Stray(at) => self.strays.get(at),
+        }
     }
 
     /// Changes the entry at a place by a closure that keeps its hash and its key, and hands out what the closure answers beside
@@ -115,23 +175,28 @@ impl<T: Keyed + Drop> Index<T> {
         requires keeps { (entry : T) → entry_at self.old place ≡ Some entry →
             KeepsKey T.hash_of T.key_of (F.pre change) (F.post change) entry }
         ensures { (entry : T) → entry_at self.old place ≡ Some entry →
-            IsUpdated T.hash_of T.key_of (F.post change) entry self.old self.new result }
+            IsUpdated T.hash_of T.key_of (F.post change) entry place self.old self.new result }
     {
-        unreachable!()
+        content_changes_at_one_key::<T>();
+        match self.spot(place) {
+            Spot::Drained(at) => update_drained(&mut self.draining, at, change),
+            Spot::Table(at) => self.table.update(at, change),
+            Spot::Stray(at) => update_stray(&mut self.strays, at, change),
+        }
     }
 
     /// Counts the entries.
     pub fn len(&self) -> usize
         ensures { result ≡ count self.now }
     {
-        unreachable!()
+        drained_len(&self.draining) + self.table.len() + self.strays.len()
     }
 
     /// Counts the entries of the old table, which are left to move.
     pub fn left(&self) -> usize
         ensures { result ≡ left self.now }
     {
-        unreachable!()
+        drained_len(&self.draining)
     }
 
     /// Answers whether a growth runs.
@@ -147,7 +212,8 @@ impl<T: Keyed + Drop> Index<T> {
     pub fn filled_from(&self, at: usize) -> Option<(usize, Place)>
         ensures { IsNext self.now at result }
     {
-        unreachable!()
+        let number = self.next_filled(at)?;
+        Some((number, Place { number }))
     }
 
     /// Takes the entry at a place out. It takes no memory.
@@ -162,7 +228,12 @@ impl<T: Keyed + Drop> Index<T> {
         ensures fewer { count self.old ≡ count self.new + 1 }
         ensures rest { (self.new.k ≡ self.old.k) × (self.new.growing ≡ self.old.growing) }
     {
-        unreachable!()
+        content_changes_at_one_key::<T>();
+        match self.spot(place) {
+            Spot::Drained(at) => remove_drained(&mut self.draining, at),
+            Spot::Table(at) => self.table.remove(at),
+            Spot::Stray(at) => self.strays.swap_remove(at),
+        }
     }
 
     /// Makes room for one entry more, and begins a growth where one is due: a table of twice the homes, to which the entries of

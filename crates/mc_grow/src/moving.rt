@@ -1,6 +1,6 @@
 //! Adds entries to a table and to the strays beside it.
 
-ghost use Rattle.std.specs.Prelude.{◌≡◌, ℕ, ◌+◌, ◌-◌, ◌<◌, ◌≤◌, ◌∷◌, ◌++◌, Option, Some, None};
+ghost use Rattle.std.specs.Prelude.{◌≡◌, ℕ, ◌+◌, ◌-◌, ◌^◌, ◌<◌, ◌≤◌, ◌∷◌, ◌++◌, Option, Some, None};
 ghost use Rattle.std.specs.Prelude.{List, is_some, length, min, true, false, slice_index_or, vec_len, vec_capacity};
 ghost use Rattle.std.specs.List.{swap_remove};
 ghost use Rattle.std.specs.FinMap.{get, insert};
@@ -8,7 +8,7 @@ ghost use Rattle.mc_hop.specs.Cells.{filled};
 ghost use Rattle.mc_hop.specs.Contents.{content};
 ghost use Rattle.mc_hop.specs.Tables.{AreApart};
 ghost use Rattle.mc_grow.specs.Adding.{IsAdded, AreTried, AreTaken, beside, cells_of};
-ghost use Rattle.mc_grow.specs.Moving.{HoldsAll, IsTaken, IsTried};
+ghost use Rattle.mc_grow.specs.Moving.{HoldsAll, IsIn, IsTaken, IsTried};
 
 use crate::adding::add;
 use mc_hop::{content_has_each_entry, content_of_two_lists, Hop, Keyed};
@@ -27,27 +27,28 @@ pub(crate) fn place<T: Keyed + Drop>(
     requires most { vec_len strays.old < 2 ^ 32 }
     ensures added { IsAdded T.hash_of T.key_of table.old.k entry
         (beside table.old strays.old.items) (beside table.new strays.new.items) }
-    ensures content { content T.hash_of T.key_of (cells_of (beside table.new strays.new.items))
-        ≡ insert (content T.hash_of T.key_of (cells_of (beside table.old strays.old.items)))
-        (T.hash_of entry ∷ T.key_of entry) entry }
-    ensures apart { AreApart T.hash_of T.key_of (cells_of (beside table.new strays.new.items)) }
+    ensures content { IsIn T.hash_of T.key_of entry (cells_of (beside table.old strays.old.items))
+        (cells_of (beside table.new strays.new.items)) }
     ensures there { slice_index_or (cells_of (beside table.new strays.new.items)) result None
         ≡ Some entry }
     ensures k { table.new.k ≡ table.old.k }
     ensures room { vec_len strays.new ≤ vec_len strays.old + 1 }
     ensures capacity { vec_capacity strays.new ≡ vec_capacity strays.old }
     ensures small { result < 2 ^ 33 }
+    ensures buckets { length table.new.items ≡ length table.old.items }
 {
     content_has_each_entry::<T>();
     content_of_two_lists::<T>();
-    let place = match add(table, entry) {
-        Ok(at) => at,
-        Err(entry) => {
-            strays.push_reserved(entry);
-            table.buckets() + strays.len() - 1
+    let entry = match add(table, entry) {
+        Ok(at) => {
+            table.entries_are_apart();
+            return at;
         }
+        Err(entry) => entry,
     };
     table.entries_are_apart();
+    let place = table.buckets() + strays.len();
+    strays.push_reserved(entry);
     place
 }
 
@@ -128,15 +129,15 @@ fn try_stray<T: Keyed + Drop>(table: &mut Hop<T>, strays: &mut Vec<T>, at: usize
     content_has_each_entry::<T>();
     content_of_two_lists::<T>();
     let entry = strays.swap_remove(at);
-    let put = match add(table, entry) {
-        Ok(_) => true,
-        Err(entry) => {
-            put_back(strays, at, entry);
-            false
+    match add(table, entry) {
+        Ok(_) => {
+            table.entries_are_apart();
+            return true;
         }
-    };
+        Err(entry) => put_back(strays, at, entry),
+    }
     table.entries_are_apart();
-    put
+    false
 }
 
 /// Puts a stray back under its number, and the one that has it now at the end.

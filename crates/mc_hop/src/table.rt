@@ -74,10 +74,12 @@ impl<T: Keyed + Drop> Hop<T> {
         self.k
     }
 
-    /// How many buckets there are.
+    /// How many buckets there are: at most 2^24 + 255.
     pub fn buckets(&self) -> usize
         ensures value { result ≡ length self.now.items }
         ensures size { result ≡ 2 ^ self.now.k + 255 }
+        ensures exponent { (6 ≤ self.now.k) × (self.now.k ≤ 24) }
+        ensures most { result ≤ 2 ^ 24 + 255 }
     {
         self.cells.len()
     }
