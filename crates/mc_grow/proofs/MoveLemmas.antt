@@ -1,5 +1,5 @@
 -- What the content of buckets is when an entry comes to a part of them, or goes from one part to another.
-use Rattle.std.proofs.Common.{◌≡◌, ℕ, zero, suc, ◌+◌, ◌↔◌, ◌⊎◌, inl, inr, Bool, true, false, cond, List, [], ◌∷◌, ◌++◌, map, Option, Some, None, get_or, refl, sym, ap, subst, ◌∙◌}
+use Rattle.std.proofs.Common.{◌≡◌, ℕ, zero, suc, ◌+◌, ◌↔◌, ◌⊎◌, inl, inr, Bool, true, false, cond, List, [], ◌∷◌, ◌++◌, map, Option, Some, None, get_or, set, refl, sym, ap, subst, ◌∙◌}
 use Rattle.std.proofs.lemmas.Option.{none-some}
 use Rattle.std.proofs.lemmas.List.{map-append, append_assoc, append-nil}
 use Rattle.std.proofs.lemmas.Cmp.{eq_by_cmp_equiv}
@@ -12,7 +12,7 @@ use Rattle.std.specs.FinMap.{FinMap, get, insert, get-empty, get-insert, nat_cmp
 use Rattle.mc_hop.specs.Cells.{filled}
 use Rattle.mc_hop.specs.Tables.{AreApart, HasEntry, IsAbsent}
 use Rattle.mc_hop.specs.Contents.{AreDisjoint, content}
-use Rattle.mc_grow.specs.Moving.{HoldsAll, IsIn}
+use Rattle.mc_grow.specs.Moving.{ContentLaws, HoldsAll, IsIn}
 
 abbrev pub Map : Type 0 → Type 0
 Map X = FinMap (slice_cmp nat_cmp) X
@@ -95,22 +95,19 @@ disjoint_less_second m n k x apart none q y z here there =
       | (inr e) ↦ apart q y z here (e ∙ there)
     ]
 
--- the laws of the content of buckets that are used here, as calls give them
-pub record ContentLaws {X : Type 0} (hash_of : X → ℕ) (key_of : X → List ℕ) : Type 0 where
-  pub absent : (items : List (Option X)) (hash : ℕ) (key : List ℕ) → IsAbsent hash_of key_of items hash key ↔ (get (content hash_of key_of items) (hash ∷ key) ≡ None)
-  pub alike : (items others : List (Option X)) → AreApart hash_of key_of items → AreApart hash_of key_of others → ((entry : X) → HasEntry items entry ↔ HasEntry others entry) → content hash_of key_of items ≡ content hash_of key_of others
-  pub none : (items : List (Option X)) → filled items ≡ 0 → content hash_of key_of items ≡ content hash_of key_of []
-  pub joined : (xs ys : List (Option X)) (key : List ℕ) → get (content hash_of key_of (xs ++ ys)) key ≡ option_or (get (content hash_of key_of xs) key) (get (content hash_of key_of ys) key)
-  pub parts : (xs ys zs others : List (Option X)) → content hash_of key_of xs ≡ content hash_of key_of zs → content hash_of key_of ys ≡ content hash_of key_of others → content hash_of key_of (xs ++ ys) ≡ content hash_of key_of (zs ++ others)
-  pub first : (xs ys zs : List (Option X)) (key : List ℕ) (entry : X) → content hash_of key_of zs ≡ insert (content hash_of key_of xs) key entry → content hash_of key_of (zs ++ ys) ≡ insert (content hash_of key_of (xs ++ ys)) key entry
-  pub second : (xs ys zs : List (Option X)) (key : List ℕ) (entry : X) → get (content hash_of key_of xs) key ≡ None → content hash_of key_of zs ≡ insert (content hash_of key_of ys) key entry → content hash_of key_of (xs ++ zs) ≡ insert (content hash_of key_of (xs ++ ys)) key entry
-  pub apart : (xs ys : List (Option X)) → AreApart hash_of key_of (xs ++ ys) ↔ (AreApart hash_of key_of xs × AreApart hash_of key_of ys × AreDisjoint (content hash_of key_of xs) (content hash_of key_of ys))
-
 -- an entry was taken out of them
 pub record IsOut {X : Type 0} (hash_of : X → ℕ) (key_of : X → List ℕ) (x : X) (old new : List (Option X)) : Type 0 where
   pub back : content hash_of key_of old ≡ insert (content hash_of key_of new) (hash_of x ∷ key_of x) x
   pub gone : get (content hash_of key_of new) (hash_of x ∷ key_of x) ≡ None
   pub apart : AreApart hash_of key_of new
+
+-- a bucket less has an entry
+pub filled_less : {X : Type 0} (items : List (Option X)) (at : ℕ) (x : X) → get_or items at None ≡ Some x → filled items ≡ filled (set items at None) + 1
+filled_less [] at x e = absurd (none-some x e)
+filled_less (None ∷ items) zero x e = absurd (none-some x e)
+filled_less (Some y ∷ items) zero x e = refl
+filled_less (None ∷ items) (suc at) x e = filled_less items at x e
+filled_less (Some y ∷ items) (suc at) x e = ap (λ (n : ℕ). n + 1) (filled_less items at x e)
 
 one_apart : {X : Type 0} (hash_of : X → ℕ) (key_of : X → List ℕ) (o : Option X) → AreApart hash_of key_of (o ∷ [])
 one_apart hash_of key_of o zero zero x y e f h k = refl

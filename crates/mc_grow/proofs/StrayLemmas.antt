@@ -1,18 +1,20 @@
 -- The strays in another order, and one of them taken out.
-use Rattle.std.proofs.Common.{◌≡◌, ℕ, zero, suc, ◌+◌, ◌-◌, ◌<◌, ◌≤◌, ◌↔◌, Bool, true, false, cond, List, [], ◌∷◌, ◌++◌, map, length, take, drop, set, Option, Some, None, get_or, refl, sym, ap, subst, ◌∙◌, arith}
+use Rattle.std.proofs.Common.{◌≡◌, ℕ, zero, suc, ◌+◌, ◌-◌, ◌<◌, ◌≤◌, ◌↔◌, Bool, true, false, cond, List, [], ◌∷◌, ◌++◌, map, length, take, drop, set, Option, Some, None, get_or, refl, sym, ap, subst, ◌∙◌, arith, ⊎_elim}
 use Rattle.std.proofs.lemmas.Option.{none-some}
 use Rattle.std.proofs.lemmas.List.Sums.{sum_by-cons}
 use Rattle.std.proofs.lemmas.List.Sorted.{sum_by-IsPermutation, Contains-permutation, IsPermutation-sym}
-use Rattle.std.proofs.lemmas.List.{get_or-map}
-use Rattle.std.specs.List.{sum_by, Contains}
+use Rattle.std.proofs.lemmas.List.{ext_get_or, get_or-map, get_or_push, get_or_append_left}
+use Rattle.std.proofs.lemmas.Bool.{cases_eq}
+use Rattle.mc_hop.specs.Links.{IsSwapped}
+use Rattle.std.specs.List.{sum_by, SwappedAt, swap_remove, Contains}
 use Rattle.std.specs.List.Sorted.{IsPermutation}
 use Rattle.std.specs.Ordering.{nat_cmp, eq_by_cmp}
 use Rattle.std.specs.Cmp.Lexicographic.{slice_cmp}
 use Rattle.std.specs.FinMap.{FinMap, get, insert}
 use Rattle.mc_hop.specs.Tables.{AreApart, HasEntry}
 use Rattle.mc_hop.specs.Contents.{AreDisjoint, content}
-use Rattle.mc_grow.specs.Moving.{HoldsAll}
-use Rattle.mc_grow.proofs.MoveLemmas.{ContentLaws, Map, same, same_key, same_self, same_Some, at_its_key, none_beside, none_before, disjoint_first, disjoint_less_second}
+use Rattle.mc_grow.specs.Moving.{ContentLaws, HoldsAll}
+use Rattle.mc_grow.proofs.MoveLemmas.{Map, same, same_key, same_self, same_Some, at_its_key, none_beside, none_before, disjoint_first, disjoint_less_second}
 
 abbrev head_of : List ℕ → ℕ
 head_of [] = 0
@@ -97,8 +99,8 @@ module _ {X : Type 0} (hash_of : X → ℕ) (key_of : X → List ℕ) (laws : Co
       laws.alike (map Some xs) (map Some ys) apart (apart_permutation hash_of key_of xs ys moves apart) (λ y. (entries_move xs ys moves y, entries_move ys xs (IsPermutation-sym xs ys moves) y))
 
   -- a stray is new to the table, and to the other strays
-  pub stray_is_new : (items : List (Option X)) (strays : List X) (x : X) (at : ℕ) → AreApart hash_of key_of (items ++ map Some strays) → get (holds (map Some strays)) (key hash_of key_of x) ≡ Some x → get (holds items) (key hash_of key_of x) ≡ None
-  stray_is_new items strays x at apart stands =
+  pub stray_is_new : (items : List (Option X)) (strays : List X) (x : X) → AreApart hash_of key_of (items ++ map Some strays) → get (holds (map Some strays)) (key hash_of key_of x) ≡ Some x → get (holds items) (key hash_of key_of x) ≡ None
+  stray_is_new items strays x apart stands =
       none_before (holds items) (holds (map Some strays)) (key hash_of key_of x) x ((laws.apart items (map Some strays)).0 apart).2 stands
 
   pub stray_stands : (strays rest : List X) (x : X) → IsPermutation strays (x ∷ rest) → AreApart hash_of key_of (map Some strays) → get (holds (map Some strays)) (key hash_of key_of x) ≡ Some x
@@ -113,7 +115,7 @@ module _ {X : Type 0} (hash_of : X → ℕ) (key_of : X → List ℕ) (laws : Co
       let front = (laws.apart (Some x ∷ []) (map Some rest)).0 (apart_permutation hash_of key_of strays (x ∷ rest) moves parts.1) in
       let gone : get (holds (map Some rest)) (key hash_of key_of x) ≡ None = none_beside (holds (Some x ∷ [])) (holds (map Some rest)) (key hash_of key_of x) x front.2 (at_its_key (holds []) (key hash_of key_of x) x) in
       let beside : AreDisjoint (holds items) (insert (holds (map Some rest)) (key hash_of key_of x) x) = subst (λ (m : Map X). AreDisjoint (holds items) m) in_order parts.2 in
-      let fresh : get (holds items) (key hash_of key_of x) ≡ None = stray_is_new items strays x 0 apart (stray_stands strays rest x moves parts.1) in
+      let fresh : get (holds items) (key hash_of key_of x) ≡ None = stray_is_new items strays x apart (stray_stands strays rest x moves parts.1) in
       record {
         same = laws.first items (map Some rest) others (key hash_of key_of x) x put
             ∙ sym (laws.second items (map Some rest) (map Some strays) (key hash_of key_of x) x fresh in_order);
@@ -121,3 +123,28 @@ module _ {X : Type 0} (hash_of : X → ℕ) (key_of : X → List ℕ) (laws : Co
             subst (λ (m : Map X). AreDisjoint m (holds (map Some rest))) (sym put)
             (disjoint_first (holds items) (holds (map Some rest)) (key hash_of key_of x) x (disjoint_less_second (holds items) (holds (map Some rest)) (key hash_of key_of x) x beside gone) gone));
       }
+
+-- a stray goes out, and comes back under its number
+pub put_back_again : {X : Type 0} (items old pushed new : List X) (at last : ℕ) (x : X) → at < length items → x ≡ get_or items at x → IsSwapped items old at → pushed ≡ old ++ (x ∷ []) → last ≡ length old → SwappedAt pushed new at last → length new ≡ length items → new ≡ items
+put_back_again items old pushed new at last x inside there out push ends swapped same_length =
+    ext_get_or x new items same_length (λ k below.
+    let in_items : k < length items = omega (arith, below, same_length) in
+    let x_is_last : get_or pushed last x ≡ x = ap (λ l. get_or l last x) push ∙ get_or_push old x x last (sym ends) in
+    ⊎_elim
+    (λ (e : k ≡ at). ap (λ n. get_or new n x) e ∙ swapped.0 x ∙ x_is_last ∙ there ∙ ap (λ n. get_or items n x) (sym e))
+    (λ (apart : k ≡ at → ⊥).
+    ⊎_elim
+    (λ (e : k ≡ last).
+    let before : at < length old = omega (arith, inside, out.shorter, ends, e, apart) in
+    let more : at + 1 < length items = omega (arith, before, out.shorter) in
+    let end : length items - 1 ≡ k = omega (arith, out.shorter, ends, e) in
+    ap (λ n. get_or new n x) e ∙ swapped.1 x ∙ ap (λ l. get_or l at x) push ∙ get_or_append_left old (x ∷ []) at x before ∙ out.last x more ∙ ap (λ n. get_or items n x) end)
+    (λ (other : k ≡ last → ⊥).
+    let before : k < length old = omega (arith, in_items, out.shorter, ends, other) in
+    swapped.2 k x apart other ∙ ap (λ l. get_or l k x) push ∙ get_or_append_left old (x ∷ []) k x before ∙ out.others k x apart (omega (arith, before, out.shorter)))
+    (cases_eq k last))
+    (cases_eq k at))
+
+-- what was not tried yet, when a stray of it goes out
+pub swapped_behind : {X : Type 0} (xs rest : List X) (at : ℕ) (x : X) → at < length xs → x ≡ get_or xs at x → rest ≡ swap_remove xs at x → (take at rest ≡ take at xs) × IsPermutation (drop at xs) (x ∷ drop at rest)
+swapped_behind xs rest at x inside there out = ?

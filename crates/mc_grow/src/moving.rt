@@ -2,16 +2,24 @@
 
 ghost use Rattle.std.specs.Prelude.{◌≡◌, ℕ, ◌+◌, ◌-◌, ◌^◌, ◌<◌, ◌≤◌, ◌∷◌, ◌++◌, Option, Some, None};
 ghost use Rattle.std.specs.Prelude.{List, is_some, length, min, true, false, slice_index_or, vec_len, vec_capacity};
-ghost use Rattle.std.specs.List.{swap_remove};
-ghost use Rattle.std.specs.FinMap.{get, insert};
+ghost use Rattle.mc_hop.specs.Links.{IsSwapped};
+ghost use Rattle.std.specs.FinMap.{get};
 ghost use Rattle.mc_hop.specs.Cells.{filled};
 ghost use Rattle.mc_hop.specs.Contents.{content};
 ghost use Rattle.mc_hop.specs.Tables.{AreApart};
 ghost use Rattle.mc_grow.specs.Adding.{IsAdded, AreTried, AreTaken, beside, cells_of};
-ghost use Rattle.mc_grow.specs.Moving.{HoldsAll, IsIn, IsTaken, IsTried};
+ghost use Rattle.mc_grow.specs.Moving.{ContentLaws, HoldsAll, IsIn, IsTaken, IsTried};
 
 use crate::adding::add;
 use mc_hop::{content_has_each_entry, content_of_two_lists, Hop, Keyed};
+
+/// Says the laws of the content of buckets in one. It does nothing.
+pub(crate) fn content_laws<T: Keyed + Drop>()
+    ensures { ContentLaws T.hash_of T.key_of }
+{
+    content_has_each_entry::<T>();
+    content_of_two_lists::<T>();
+}
 
 /// Adds an entry of a new key, to a bucket near its home or else to the strays, and answers its place among the buckets and the
 /// strays behind them. It takes no memory.
@@ -37,8 +45,7 @@ pub(crate) fn place<T: Keyed + Drop>(
     ensures small { result < 2 ^ 33 }
     ensures buckets { length table.new.items ≡ length table.old.items }
 {
-    content_has_each_entry::<T>();
-    content_of_two_lists::<T>();
+    content_laws::<T>();
     let entry = match add(table, entry) {
         Ok(at) => {
             table.entries_are_apart();
@@ -74,8 +81,7 @@ fn move_one<T: Keyed + Drop>(
     ensures room { vec_len strays.new ≤ vec_len strays.old + 1 }
     ensures capacity { vec_capacity strays.new ≡ vec_capacity strays.old }
 {
-    content_has_each_entry::<T>();
-    content_of_two_lists::<T>();
+    content_laws::<T>();
     let entry = draining.remove(at);
     draining.entries_are_apart();
     place(table, strays, entry);
@@ -126,8 +132,7 @@ fn try_stray<T: Keyed + Drop>(table: &mut Hop<T>, strays: &mut Vec<T>, at: usize
     ensures k { table.new.k ≡ table.old.k }
     ensures capacity { vec_capacity strays.new ≡ vec_capacity strays.old }
 {
-    content_has_each_entry::<T>();
-    content_of_two_lists::<T>();
+    content_laws::<T>();
     let entry = strays.swap_remove(at);
     match add(table, entry) {
         Ok(_) => {
@@ -145,7 +150,7 @@ fn put_back<T: Drop>(strays: &mut Vec<T>, at: usize, entry: T)
     requires inside { at ≤ vec_len strays.old }
     requires room { vec_len strays.old < vec_capacity strays.old }
     ensures items { (items : List T) → at < length items → entry ≡ slice_index_or items at entry →
-        strays.old.items ≡ swap_remove items at entry → strays.new.items ≡ items }
+        IsSwapped items strays.old.items at → strays.new.items ≡ items }
     ensures capacity { vec_capacity strays.new ≡ vec_capacity strays.old }
 {
     let last = strays.len();
