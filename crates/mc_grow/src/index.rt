@@ -40,7 +40,7 @@ impl<T: Keyed + Drop> Model for Index<T> {
     ghost use Rattle.std.specs.Prelude.{◌+◌, ◌-◌, is_some, vec_capacity, vec_len};
     ghost use Rattle.mc_hop.specs.Cells.{filled};
     ghost use Rattle.mc_grow.specs.Indexes.{IndexState, coded_index};
-    ghost use Rattle.mc_grow.specs.Parts.{IsIndex, drained_items};
+    ghost use Rattle.mc_grow.specs.Parts.{IsIndex, drained_items, room_in};
 
     ghost Value = { IndexState T };
 
@@ -52,7 +52,7 @@ impl<T: Keyed + Drop> Model for Index<T> {
       table = i.table.items;
       strays = i.strays.items;
       growing = is_some i.draining;
-      spare = vec_capacity i.strays - (vec_len i.strays + filled (drained_items i.draining));
+      spare = room_in (vec_capacity i.strays) - (vec_len i.strays + filled (drained_items i.draining));
     } };
 
     ghost invariant = { λ i. IsIndex T.hash_of T.key_of i.draining i.table i.strays.items (vec_capacity i.strays) };
@@ -234,7 +234,8 @@ impl<T: Keyed + Drop> Index<T> {
 
     /// Makes room for one entry more, and begins a growth where one is due: a table of twice the homes, to which the entries of
     /// the old one come by `move_some`. Room is made for all of them among the strays, so that no move takes memory. The content
-    /// is as it was; refused, all stands where it stood.
+    /// is as it was; refused, all stands where it stood. An error is a refused allocation, or that strays and entries of the old
+    /// table would be more than 2^32.
     pub fn reserve(&mut self, alloc: Global) -> Result<(), AllocError>
         ensures room { OnOk result (1 ≤ self.new.spare) }
         ensures begins { OnOk result (is_due self.old ≡ true → HasBegun self.old self.new) }
