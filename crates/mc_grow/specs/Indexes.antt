@@ -1,9 +1,9 @@
 -- An index of entries: what contracts see of it.
-use Rattle.std.specs.Prelude.{◌≡◌, ℕ, ◌+◌, ◌*◌, ◌-◌, ◌^◌, ◌<◌, ◌≤◌, ◌&&◌, ◌||◌, Bool, true, false, not, List, [], ◌∷◌, ◌++◌, Option, Some, None, map, drop, length, replicate, nat_lt, if◌then◌else◌, slice_index_or, refl}
+use Rattle.std.specs.Prelude.{◌≡◌, ℕ, ◌+◌, ◌*◌, ◌-◌, ◌^◌, ◌<◌, ◌≤◌, ◌&&◌, ◌||◌, Bool, true, false, not, List, [], ◌∷◌, ◌++◌, Option, Some, None, map, drop, length, replicate, nat_lt, if◌then◌else◌, slice_index_or, slice_set, refl}
 use Rattle.std.specs.Coded.{Coded, code_by, coded×, coded_ℕ, coded_bool, coded_list, coded_option}
 use Rattle.std.specs.Ordering.{nat_cmp}
 use Rattle.std.specs.Cmp.Lexicographic.{slice_cmp}
-use Rattle.std.specs.FinMap.{FinMap, get, insert}
+use Rattle.std.specs.FinMap.{FinMap, get, insert, remove}
 use Rattle.mc_hop.specs.Cells.{filled}
 use Rattle.mc_hop.specs.Contents.{content}
 use Rattle.mc_grow.specs.declared.index.Place.{Place}
@@ -78,9 +78,10 @@ abbrev pub IsFilled : {X : Type 0} → IndexState X → Place → Type 0
 IsFilled {X} index place = (entry : X) × (entry_at index place ≡ Some entry)
 
 -- the entry was changed to what a closure gives of it, and the answer is the closure's; all else stays
-pub record IsUpdated {X R : Type 0} (hash_of : X → ℕ) (key_of : X → List ℕ) (post : X → X × R → Type 0) (entry : X) (old new : IndexState X) (answer : R) : Type 0 where
+pub record IsUpdated {X R : Type 0} (hash_of : X → ℕ) (key_of : X → List ℕ) (post : X → X × R → Type 0) (entry : X) (place : Place) (old new : IndexState X) (answer : R) : Type 0 where
   pub given : X
   pub called : post entry (given, answer)
+  pub changed : cells new ≡ slice_set (cells old) place.number (Some given)
   pub content : holds hash_of key_of new ≡ insert (holds hash_of key_of old) (hash_of entry ∷ key_of entry) given
   pub same_k : new.k ≡ old.k
   pub same_growing : new.growing ≡ old.growing
@@ -124,6 +125,17 @@ IsNext index at (Some (number, place)) = IsFirstFrom index at number place
 pub record KeepsLower {X : Type 0} (old new : IndexState X) (number : ℕ) : Type 0 where
   pub lower : (k : ℕ) → k < number → slice_index_or (cells new) k None ≡ slice_index_or (cells old) k None
   pub count : count_from old number ≡ count_from new number + 1
+
+-- the entry at a place was taken out: lower numbers stay, and there is no less room than before
+pub record IsRemoved {X : Type 0} (hash_of : X → ℕ) (key_of : X → List ℕ) (place : Place) (entry : X) (old new : IndexState X) : Type 0 where
+  pub there : entry_at old place ≡ Some entry
+  pub removed : holds hash_of key_of new ≡ remove (holds hash_of key_of old) (hash_of entry ∷ key_of entry)
+  pub lower : KeepsLower old new place.number
+  pub room : old.spare ≤ new.spare
+  pub less_left : left new ≤ left old
+  pub fewer : count old ≡ count new + 1
+  pub same_k : new.k ≡ old.k
+  pub same_growing : new.growing ≡ old.growing
 
 -- all stands where it stood
 abbrev pub StandsAs : {X : Type 0} → (old new : IndexState X) → Type 0

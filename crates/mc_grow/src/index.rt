@@ -1,15 +1,20 @@
 //! An index that grows: two tables and strays.
 
 ghost use Rattle.std.specs.Prelude.{◌≡◌, ℕ, List, Option, ◌+◌, ◌-◌, ◌<◌, ◌≤◌, ◌^◌, ◌∷◌, Some, None, IfOk, IfSome, OnOk, OnErr};
-ghost use Rattle.std.specs.Prelude.{option_copied, min, nat_lt, true, false, length};
-ghost use Rattle.std.specs.FinMap.{get, insert, remove};
+ghost use Rattle.std.specs.Prelude.{IsNone, option_copied, min, nat_lt, true, false, length};
+ghost use Rattle.std.specs.FinMap.{get, insert};
 ghost use Rattle.mc_hop.specs.Tables.{KeepsKey};
 ghost use Rattle.mc_grow.specs.Indexes.{IsNew, StandsAs, HasBegun, IsFilled, IsFound, IsNext, IsPlaceOf, IsUpdated};
-ghost use Rattle.mc_grow.specs.Indexes.{KeepsLower, count, entry_at, holds, is_due, left, most_reads};
+ghost use Rattle.mc_grow.specs.Parts.{IsFirstFilled, IsSpot, NoneFilledFrom};
+ghost use Rattle.mc_grow.specs.Indexes.{IsRemoved, cells, count, entry_at, holds, is_due, left, most_reads};
 ghost use Rattle.mc_grow.specs.Adding.{AreMoved, IsInserted};
 
 use crate::adding::add;
+use crate::parts::{Spot, drained_buckets, drained_entry, drained_len};
+use crate::parts::{filled_bucket, filled_drained, find_drained, find_stray};
+use crate::parts::{remove_drained, stray, update_drained, update_stray};
 use mc_hop::{Counts, Hop, Keyed, Uncounted};
+use mc_hop::{content_changes_at_one_key, content_has_each_entry};
 use std::alloc::{AllocError, Global};
 use std::marker::Model;
 
@@ -35,7 +40,7 @@ impl<T: Keyed + Drop> Model for Index<T> {
     ghost use Rattle.std.specs.Prelude.{◌+◌, ◌-◌, is_some, vec_capacity, vec_len};
     ghost use Rattle.mc_hop.specs.Cells.{filled};
     ghost use Rattle.mc_grow.specs.Indexes.{IndexState, coded_index};
-    ghost use Rattle.mc_grow.specs.Parts.{IsIndex, drained_items};
+    ghost use Rattle.mc_grow.specs.Parts.{IsIndex, drained_items, room_in};
 
     ghost Value = { IndexState T };
 
@@ -47,7 +52,7 @@ impl<T: Keyed + Drop> Model for Index<T> {
       table = i.table.items;
       strays = i.strays.items;
       growing = is_some i.draining;
-      spare = vec_capacity i.strays - (vec_len i.strays + filled (drained_items i.draining));
+      spare = room_in (vec_capacity i.strays) - (vec_len i.strays + filled (drained_items i.draining));
     } };
 
     ghost invariant = { λ i. IsIndex T.hash_of T.key_of i.draining i.table i.strays.items (vec_capacity i.strays) };
@@ -78,7 +83,21 @@ impl<T: Keyed + Drop> Index<T> {
         ensures found { IsFound T.hash_of T.key_of self.now hash key.now result }
         ensures reads { C.count reads.new ≤ C.count reads.old + most_reads self.now }
     {
-        unreachable!()
+        content_has_each_entry::<T>();
+        let first = drained_buckets(&self.draining);
+        let second = first + self.table.buckets();
+        if let Some(at) = find_drained(&self.draining, hash, key, reads) {
+            return Some(Place { number: at });
+        }
+        if let Some(at) = self.table.find_counted(hash, key, reads) {
+            return Some(Place { number: first + at });
+        }
+        match find_stray(&self.strays, hash, key, reads) {
+            Some(at) => Some(Place {
+                number: second + at,
+            }),
+            None => None,
+        }
     }
 
     /// Finds the place as `find` does, whatever the place is that it is given: it looks there first, which is one read where
@@ -86,6 +105,8 @@ impl<T: Keyed + Drop> Index<T> {
     pub fn find_again(&self, place: Place, hash: u64, key: &[u8]) -> Option<Place>
         ensures { IsFound T.hash_of T.key_of self.now hash key.now result }
     {
+        content_has_each_entry::<T>();
+        let _ = &self.table;
         match self.get(place) {
             Some(entry) if entry.hash() == hash && entry.key() == key => Some(place),
             _ => self.find(hash, key),
@@ -101,11 +122,52 @@ impl<T: Keyed + Drop> Index<T> {
         let _ = &self.strays;
     }
 
+    /// Tells which part a place is in, and which of it.
+    fn spot(&self, place: Place) -> Spot
+        ensures { IsSpot (length self.now.draining) (length self.now.table) place.number result }
+    {
+        let first = drained_buckets(&self.draining);
+        let buckets = self.table.buckets();
+        if place.number < first {
+            Spot::Drained(place.number)
+        } else if place.number - first < buckets {
+            Spot::Table(place.number - first)
+        } else {
+            Spot::Stray(place.number - first - buckets)
+        }
+    }
+
+    /// Finds the first number at or above `at` that has an entry.
+    fn next_filled(&self, at: usize) -> Option<usize>
+        ensures found { IfSome result (IsFirstFilled (cells self.now) at) }
+        ensures none { IsNone result → NoneFilledFrom (cells self.now) at }
+        ensures small { IfSome result (λ number. number < 2 ^ 64 - 1) }
+    {
+        let first = drained_buckets(&self.draining);
+        let second = first + self.table.buckets();
+        if let Some(number) = filled_drained(&self.draining, at) {
+            return Some(number);
+        }
+        if let Some(number) = filled_bucket(&self.table, at.saturating_sub(first)) {
+            return Some(first + number);
+        }
+        let stray = at.saturating_sub(second);
+        if stray < self.strays.len() {
+            Some(second + stray)
+        } else {
+            None
+        }
+    }
+
     /// Lends the entry at a place, where one stands there.
     pub fn get(&self, place: Place) -> Option<&T>
         ensures { option_copied result ≡ entry_at self.now place }
     {
-        unreachable!()
+        match self.spot(place) {
+            Spot::Drained(at) => drained_entry(&self.draining, at),
+            Spot::Table(at) => self.table.get(at),
+            Spot::Stray(at) => stray(&self.strays, at),
+        }
     }
 
     /// Changes the entry at a place by a closure that keeps its hash and its key, and hands out what the closure answers beside
@@ -115,23 +177,28 @@ impl<T: Keyed + Drop> Index<T> {
         requires keeps { (entry : T) → entry_at self.old place ≡ Some entry →
             KeepsKey T.hash_of T.key_of (F.pre change) (F.post change) entry }
         ensures { (entry : T) → entry_at self.old place ≡ Some entry →
-            IsUpdated T.hash_of T.key_of (F.post change) entry self.old self.new result }
+            IsUpdated T.hash_of T.key_of (F.post change) entry place self.old self.new result }
     {
-        unreachable!()
+        content_changes_at_one_key::<T>();
+        match self.spot(place) {
+            Spot::Drained(at) => update_drained(&mut self.draining, at, change),
+            Spot::Table(at) => self.table.update(at, change),
+            Spot::Stray(at) => update_stray(&mut self.strays, at, change),
+        }
     }
 
     /// Counts the entries.
     pub fn len(&self) -> usize
         ensures { result ≡ count self.now }
     {
-        unreachable!()
+        drained_len(&self.draining) + self.table.len() + self.strays.len()
     }
 
     /// Counts the entries of the old table, which are left to move.
     pub fn left(&self) -> usize
         ensures { result ≡ left self.now }
     {
-        unreachable!()
+        drained_len(&self.draining)
     }
 
     /// Answers whether a growth runs.
@@ -147,27 +214,28 @@ impl<T: Keyed + Drop> Index<T> {
     pub fn filled_from(&self, at: usize) -> Option<(usize, Place)>
         ensures { IsNext self.now at result }
     {
-        unreachable!()
+        let number = self.next_filled(at)?;
+        Some((number, Place { number }))
     }
 
     /// Takes the entry at a place out. It takes no memory.
     pub fn remove(&mut self, place: Place) -> T
         requires { IsFilled self.old place }
-        ensures there { entry_at self.old place ≡ Some result }
-        ensures removed { holds T.hash_of T.key_of self.new
-            ≡ remove (holds T.hash_of T.key_of self.old) (T.hash_of result ∷ T.key_of result) }
-        ensures lower { KeepsLower self.old self.new place.number }
-        ensures room { self.old.spare ≤ self.new.spare }
-        ensures left { left self.new ≤ left self.old }
-        ensures fewer { count self.old ≡ count self.new + 1 }
-        ensures rest { (self.new.k ≡ self.old.k) × (self.new.growing ≡ self.old.growing) }
+        ensures { IsRemoved T.hash_of T.key_of place result self.old self.new }
     {
-        unreachable!()
+        content_has_each_entry::<T>();
+        content_changes_at_one_key::<T>();
+        match self.spot(place) {
+            Spot::Drained(at) => remove_drained(&mut self.draining, at),
+            Spot::Table(at) => self.table.remove(at),
+            Spot::Stray(at) => self.strays.swap_remove(at),
+        }
     }
 
     /// Makes room for one entry more, and begins a growth where one is due: a table of twice the homes, to which the entries of
     /// the old one come by `move_some`. Room is made for all of them among the strays, so that no move takes memory. The content
-    /// is as it was; refused, all stands where it stood.
+    /// is as it was; refused, all stands where it stood. An error is a refused allocation, or that strays and entries of the old
+    /// table would be more than 2^32.
     pub fn reserve(&mut self, alloc: Global) -> Result<(), AllocError>
         ensures room { OnOk result (1 ≤ self.new.spare) }
         ensures begins { OnOk result (is_due self.old ≡ true → HasBegun self.old self.new) }

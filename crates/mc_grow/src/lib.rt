@@ -3,6 +3,8 @@
 
 mod adding;
 mod index;
+mod moving;
+mod parts;
 #[cfg(test)]
 mod tests;
 

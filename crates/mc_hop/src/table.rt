@@ -66,6 +66,14 @@ impl<T: Keyed + Drop> Hop<T> {
         home_among(self.k, hash)
     }
 
+    /// The exponent of the number of homes.
+    pub fn exponent(&self) -> u32
+        ensures value { result ≡ self.now.k }
+        ensures range { (6 ≤ result) × (result ≤ 24) }
+    {
+        self.k
+    }
+
     /// How many buckets there are: at most 2^24 + 255.
     pub fn buckets(&self) -> usize
         ensures value { result ≡ length self.now.items }
@@ -199,9 +207,19 @@ impl<T: Keyed + Drop> Hop<T> {
         answer
     }
 
-    /// Counts the entries.
+    /// Finds a bucket that has an entry, if one has. It costs the same however many are empty.
+    pub fn any_filled(&self) -> Option<usize>
+        ensures found { IfSome result (λ at.
+            is_some (slice_index_or self.now.items at None) ≡ true) }
+        ensures none { IsNone result → filled self.now.items ≡ 0 }
+    {
+        self.cells.last_filled()
+    }
+
+    /// Counts the entries: at most 2^24 + 255.
     pub fn len(&self) -> usize
-        ensures { result ≡ filled self.now.items }
+        ensures value { result ≡ filled self.now.items }
+        ensures most { result ≤ 2 ^ 24 + 255 }
     {
         self.cells.count()
     }
