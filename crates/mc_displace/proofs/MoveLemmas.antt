@@ -2,7 +2,7 @@
 use Rattle.std.proofs.Common.{◌≡◌, ℕ, ◌+◌, ◌-◌, ◌<◌, ◌≤◌, Bool, cond, List, Option, Some, None, length, get_or, sym, ap, ◌∙◌, arith, ⊎_elim}
 use Rattle.std.proofs.lemmas.Bool.{cases_eq, eq-eqb}
 use Rattle.std.specs.Int.{bit_at}
-use Rattle.mc_hop.specs.Tables.{home_in, homed}
+use Rattle.mc_hop.specs.Tables.{HopState, home_in, homed}
 use Rattle.mc_displace.specs.Moves.{IsMovable}
 use Rattle.mc_hop.specs.Contents.{content}
 
@@ -33,10 +33,12 @@ none_of_home hash_of k items free home word before near bits clear at m below =
     (λ (n : home_in k (hash_of m.entry) ≡ home → ⊥). before at m (omega (arith, below, n)))
     (cases_eq (home_in k (hash_of m.entry)) home)
 
--- after so many moves: the content is as it was, and the empty bucket has come so much nearer, and not past the home
-pub record Brought {X : Type 0} (hash_of : X → ℕ) (key_of : X → List ℕ) (first items : List (Option X)) (home start free turn : ℕ) : Type 0 where
-  pub same : content hash_of key_of items ≡ content hash_of key_of first
-  pub empty : get_or items free None ≡ None
-  pub inside : free < length items
+-- after so many moves: the content and the size are as they were, and the empty bucket has come so much nearer, and not past the home
+pub record Brought {X : Type 0} (hash_of : X → ℕ) (key_of : X → List ℕ) (first table : HopState X) (home start free turn : ℕ) : Type 0 where
+  pub same : content hash_of key_of table.items ≡ content hash_of key_of first.items
+  pub same_k : table.k ≡ first.k
+  pub same_length : length table.items ≡ length first.items
+  pub empty : get_or table.items free None ≡ None
+  pub inside : free < length table.items
   pub low : home ≤ free
   pub nearer : free + turn ≤ start

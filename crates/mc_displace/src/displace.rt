@@ -53,6 +53,7 @@ pub fn bring_near<T: Keyed + Drop>(
     requires range { (home ≤ free) × (free ≤ home + 255) }
     ensures content { content T.hash_of T.key_of hop.new.items ≡
         content T.hash_of T.key_of hop.old.items }
+    ensures size { (hop.new.k ≡ hop.old.k) × (length hop.new.items ≡ length hop.old.items) }
     ensures near { IfOk result (IsNear hop.new.items home) }
     ensures stuck { IfErr result (IsStuck T.hash_of hop.new.k hop.new.items home) }
 {

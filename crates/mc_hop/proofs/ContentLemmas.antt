@@ -11,13 +11,13 @@ use Rattle.std.specs.FinMap.{FinMap, find, get, insert, remove, get-insert, get-
 use Rattle.mc_hop.specs.Tables.{IsAbsent}
 use Rattle.mc_hop.specs.Contents.{rows, content}
 
-abbrev order : List ℕ → List ℕ → Ordering
+abbrev pub order : List ℕ → List ℕ → Ordering
 order = slice_cmp nat_cmp
 
-abbrev same : List ℕ → List ℕ → Bool
+abbrev pub same : List ℕ → List ℕ → Bool
 same = eq_by_cmp order
 
-same_Some : {X : Type 0} (x y : X) → Some x ≡ Some y → x ≡ y
+pub same_Some : {X : Type 0} (x y : X) → Some x ≡ Some y → x ≡ y
 same_Some x y e = cc
 
 is_equal : (o : Ordering) → is_eq o ≡ true → o ≡ Equal
@@ -25,26 +25,26 @@ is_equal Less h = cc
 is_equal Equal h = refl
 is_equal Greater h = cc
 
-same_key : (p q : List ℕ) → same p q ≡ true → p ≡ q
+pub same_key : (p q : List ℕ) → same p q ≡ true → p ≡ q
 same_key p q e = slice_cmp-IsAntisymmetric nat_cmp-IsAntisymmetric p q (is_equal (order p q) e)
 
-abbrev head_of : List ℕ → ℕ
+abbrev pub head_of : List ℕ → ℕ
 head_of [] = 0
 head_of (x ∷ xs) = x
 
-abbrev tail_of : List ℕ → List ℕ
+abbrev pub tail_of : List ℕ → List ℕ
 tail_of [] = []
 tail_of (x ∷ xs) = xs
 
 module _ {X : Type 0} (hash_of : X → ℕ) (key_of : X → List ℕ) where
-  abbrev key : X → List ℕ
+  abbrev pub key : X → List ℕ
   key x = hash_of x ∷ key_of x
 
-  abbrev found : List ℕ → List (Option X) → Option X
+  abbrev pub found : List ℕ → List (Option X) → Option X
   found q items = find order q (rows hash_of key_of items)
 
   -- a key that no bucket has
-  not_found : (items : List (Option X)) (hash : ℕ) (k : List ℕ) → IsAbsent hash_of key_of items hash k → found (hash ∷ k) items ≡ None
+  pub not_found : (items : List (Option X)) (hash : ℕ) (k : List ℕ) → IsAbsent hash_of key_of items hash k → found (hash ∷ k) items ≡ None
   not_found [] hash k absent = refl
   not_found (None ∷ items) hash k absent = not_found items hash k (λ at is. absent (suc at) (record { entry = is.entry; there = is.there; same_hash = is.same_hash; same_key = is.same_key }))
   not_found (Some x ∷ items) hash k absent =
@@ -66,7 +66,7 @@ module _ {X : Type 0} (hash_of : X → ℕ) (key_of : X → List ℕ) where
       let is : same (key x) (key y) ≡ true = ap (λ (k : List ℕ). same k (key y)) (sym (same_key q (key x) ex)) ∙ ey in
       none-some y (sym none ∙ ap (λ (b : Bool). cond b (Some y) o) is)
 
-  rest_none : (b : Bool) (y : X) (o : Option X) → cond b (Some y) o ≡ None → o ≡ None
+  pub rest_none : (b : Bool) (y : X) (o : Option X) → cond b (Some y) o ≡ None → o ≡ None
   rest_none true y o e = absurd (none-some y (sym e))
   rest_none false y o e = e
 

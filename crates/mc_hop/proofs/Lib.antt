@@ -1,3 +1,4 @@
 pub mod LinkLemmas
 pub mod TableLemmas
 pub mod ContentLemmas
+pub mod LawLemmas

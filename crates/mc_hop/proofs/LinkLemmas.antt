@@ -29,7 +29,7 @@ item-push xs y zero l = refl
 item-push xs y (suc i) l = get-push xs y i (omega (arith, l))
 
 -- at most as many numbers are used as there are, and fewer where one isn't
-used-le : (ats : List ℕ) → used ats ≤ length ats
+pub used-le : (ats : List ℕ) → used ats ≤ length ats
 used-le [] = omega arith
 used-le (zero ∷ ats) = omega (arith, used-le ats)
 used-le (suc i ∷ ats) = omega (arith, used-le ats)
@@ -453,3 +453,16 @@ no_words n cells e = ap words_of e ∙ words n where
   words : (n : ℕ) → words_of (replicate n (record { word = 0; at = 0 })) ≡ replicate n 0
   words zero = refl
   words (suc n) = ap (λ (l : List ℕ). 0 ∷ l) (words n)
+
+-- the bucket of a place has a value
+pub filled_at_place : {X : Type 0} (ats : List ℕ) (items : List X) (places : List ℕ) (item_room place_room : ℕ) → IsLinked ats items places item_room place_room → (old : List (Option X)) → map (item_of items) ats ≡ old → (i at : ℕ) → i < length places → at ≡ get_or places i 0 → is_some (get_or old at None) ≡ true
+filled_at_place {X} ats items places item_room place_room linked old seen i at l is =
+    let inside : at < length ats = subst (λ (n : ℕ). n < length ats) (sym is) (linked.inside i l) in
+    let number : get_or ats at 0 ≡ suc i = ap (λ (n : ℕ). get_or ats n 0) is ∙ linked.there i l ∙ omega arith in
+    ap (λ (xs : List (Option X)). is_some (get_or xs at None)) (sym seen)
+    ∙ ap is_some (get_or-map (item_of items) ats at 0 None inside ∙ ap (item_of items) number)
+    ∙ filled_item items i (subst (λ (n : ℕ). i < n) linked.same_length l) where
+      filled_item : (xs : List X) (n : ℕ) → n < length xs → is_some (slice_get xs n) ≡ true
+      filled_item [] n below = absurd (omega (arith, below))
+      filled_item (x ∷ xs) zero below = refl
+      filled_item (x ∷ xs) (suc n) below = filled_item xs n (omega (arith, below))

@@ -1,6 +1,6 @@
 //! Buckets, each with a word of 32 bits and at most one value.
 
-ghost use Rattle.std.specs.Prelude.{◌≡◌, ◌+◌, ◌-◌, ◌<◌, ◌≤◌, ◌^◌, ◌↔◌, IsTrue, Some, None, IfOk, option_copied, false, vec_len, is_some, true, length, replicate, slice_index_or, slice_set};
+ghost use Rattle.std.specs.Prelude.{◌≡◌, ◌+◌, ◌-◌, ◌<◌, ◌≤◌, ◌^◌, ◌↔◌, IsTrue, Some, None, IfOk, IfSome, IsNone, option_copied, false, vec_len, is_some, true, length, replicate, slice_index_or, slice_set};
 ghost use Rattle.mc_hop.specs.Cells.{empty_cells, filled};
 ghost use Rattle.mc_hop.specs.Links.{ats_of, words_of, renumbered};
 
@@ -116,9 +116,24 @@ impl<T: Drop> Cells<T> {
 
     /// Counts those that have a value.
     pub fn count(&self) -> usize
-        ensures { result ≡ filled self.now.items }
+        ensures value { result ≡ filled self.now.items }
+        ensures most { result ≤ length self.now.items }
     {
         self.items.len()
+    }
+
+    /// Finds a bucket that has a value, if one has: the one to which a value came last, where none was taken out since. It costs
+    /// the same however many are empty.
+    pub fn last_filled(&self) -> Option<usize>
+        ensures found { IfSome result (λ at.
+            is_some (slice_index_or self.now.items at None) ≡ true) }
+        ensures none { IsNone result → filled self.now.items ≡ 0 }
+    {
+        let count = self.places.len();
+        if count == 0 {
+            return None;
+        }
+        Some(self.places[count - 1] as usize)
     }
 
     /// Returns the word of a bucket.

@@ -5,6 +5,7 @@
 mod bits;
 mod cells;
 mod hash;
+mod laws;
 mod reads;
 mod table;
 #[cfg(test)]
@@ -12,5 +13,6 @@ mod tests;
 
 pub use bits::lowest;
 pub use hash::{Constant, Fnv, KeyHash, Keyed};
+pub use laws::{content_changes_at_one_key, content_has_each_entry, content_of_two_lists};
 pub use reads::{Counts, Reads, Uncounted};
 pub use table::Hop;

@@ -4,7 +4,7 @@ ghost use Rattle.std.specs.Prelude.{◌≡◌, ℕ, ◌+◌, ◌<◌, ◌≤◌,
 ghost use Rattle.std.specs.Prelude.{option_copied, is_some, true, length};
 ghost use Rattle.mc_hop.specs.Contents.{content, content_with, content_without};
 ghost use Rattle.mc_hop.specs.Cells.{filled};
-ghost use Rattle.mc_hop.specs.Tables.{KeepsKey, home_in, IsAt, IsAbsent, IsFirstFree, NoneFree};
+ghost use Rattle.mc_hop.specs.Tables.{AreApart, KeepsKey, home_in, IsAt, IsAbsent, IsFirstFree, NoneFree};
 ghost use Rattle.mc_hop.specs.Tables.{AreHops, AreNear, IsNearHome, IsFound};
 ghost use Rattle.mc_hop.specs.Tables.{empty_table, with_bucket, bucket_at};
 
@@ -65,10 +65,20 @@ impl<T: Keyed + Drop> Hop<T> {
         home_among(self.k, hash)
     }
 
-    /// Counts the buckets.
+    /// Returns the exponent of the number of homes.
+    pub fn exponent(&self) -> u32
+        ensures value { result ≡ self.now.k }
+        ensures range { (6 ≤ result) × (result ≤ 24) }
+    {
+        self.k
+    }
+
+    /// Counts the buckets: at most 2^24 + 255.
     pub fn buckets(&self) -> usize
         ensures value { result ≡ length self.now.items }
         ensures size { result ≡ 2 ^ self.now.k + 255 }
+        ensures exponent { (6 ≤ self.now.k) × (self.now.k ≤ 24) }
+        ensures most { result ≤ 2 ^ 24 + 255 }
     {
         self.cells.len()
     }
@@ -76,6 +86,13 @@ impl<T: Keyed + Drop> Hop<T> {
     /// Says that each entry stands within 31 of its home. It does nothing.
     pub fn entries_are_near(&self)
         ensures { AreNear T.hash_of self.now.k self.now.items }
+    {
+        let _ = &self.k;
+    }
+
+    /// States that no two entries have one hash and key. It does nothing.
+    pub fn entries_are_apart(&self)
+        ensures { AreApart T.hash_of T.key_of self.now.items }
     {
         let _ = &self.k;
     }
@@ -194,9 +211,19 @@ impl<T: Keyed + Drop> Hop<T> {
         answer
     }
 
-    /// Counts the entries.
+    /// Finds a bucket that has an entry, if one has. It costs the same however many are empty.
+    pub fn any_filled(&self) -> Option<usize>
+        ensures found { IfSome result (λ at.
+            is_some (bucket_at self.now.items at) ≡ true) }
+        ensures none { IsNone result → filled self.now.items ≡ 0 }
+    {
+        self.cells.last_filled()
+    }
+
+    /// Counts the entries: at most 2^24 + 255.
     pub fn len(&self) -> usize
-        ensures { result ≡ filled self.now.items }
+        ensures value { result ≡ filled self.now.items }
+        ensures most { result ≤ 2 ^ 24 + 255 }
     {
         self.cells.count()
     }

@@ -14,7 +14,7 @@ use Rattle.mc_command.specs.Laws.{IsOnKey}
 use Rattle.mc_shelf.specs.States.{ShelfContent, DeskState, IsAt, CanStand, IsHash, nothing_held}
 use Rattle.mc_shelf.specs.Plans.{IsTaken}
 use Rattle.mc_shelf.specs.Sweeps.{HasOneHash, IsAlone}
-use Rattle.mc_shelf.proofs.IndexLemmas.{order, same_key}
+use Rattle.mc_shelf.proofs.KeyLemmas.{order, same_key}
 
 -- a step on one key leaves the other keys' items, the law of the plain machine
 abbrev pub OtherKeysStay : Type 0

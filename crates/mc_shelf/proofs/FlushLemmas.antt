@@ -15,7 +15,7 @@ use Rattle.mc_shelf.specs.Unions.{IsFlushed, left_of_flush}
 use Rattle.std.proofs.Math.Seq.{take-append_seam}
 use Rattle.mc_shelf.specs.Stores.{IsSetUp}
 use Rattle.mc_shelf.specs.declared.store.Settings.{Settings}
-use Rattle.mc_shelf.proofs.IndexLemmas.{order}
+use Rattle.mc_shelf.proofs.KeyLemmas.{order}
 use Rattle.mc_shelf.proofs.PartLemmas.{PartsLaw, same_items, get_kept, parted, own_items, shelf_kept, put_cases}
 
 hash_kept : (kept : Bool) (o : Option ℕ) (stored : ℕ) → cond kept o None ≡ Some stored → o ≡ Some stored

@@ -1,9 +1,15 @@
 -- Finite maps under keys: what an edit leaves under its key and under the others.
-use Rattle.std.proofs.Common.{◌≡◌, ◌≢◌, ℕ, false, cond, List, Some, None, Less, Equal, Greater, is_eq, refl, ap, ◌∙◌}
+use Rattle.std.proofs.Common.{◌≡◌, ◌≢◌, ℕ, false, cond, List, Some, None, Ordering, Less, Equal, Greater, nat_cmp, is_eq, refl, ap, ◌∙◌}
 use Rattle.std.specs.Cmp.{tied_itself}
-use Rattle.std.specs.Cmp.Lexicographic.{nat_list_cmp_total}
-use Rattle.mc_shelf.proofs.IndexLemmas.{order, same_key}
-use Rattle.std.specs.FinMap.{FinMap, get, insert, remove, get-insert, get-remove}
+use Rattle.std.specs.Cmp.Lexicographic.{slice_cmp, nat_list_cmp_total}
+use Rattle.std.specs.FinMap.{FinMap, IsAntisymmetric, nat_cmp-IsAntisymmetric, slice_cmp-IsAntisymmetric, get, insert, remove, get-insert, get-remove}
+
+-- the order of keys
+abbrev pub order : List ℕ → List ℕ → Ordering
+order = slice_cmp nat_cmp
+
+pub same_key : IsAntisymmetric order
+same_key = slice_cmp-IsAntisymmetric nat_cmp-IsAntisymmetric
 
 pub get_put : {X : Type 0} (items : FinMap order X) (key : List ℕ) (item : X) → get (insert items key item) key ≡ Some item
 get_put items key item = get-insert nat_list_cmp_total items key item key ∙ ap (λ r. cond (is_eq r) (Some item) (get items key)) (tied_itself nat_list_cmp_total key)

@@ -1,4 +1,3 @@
-pub mod RowLemmas
 pub mod EntryLemmas
 pub mod IndexLemmas
 pub mod PlaceLemmas
@@ -14,3 +13,5 @@ pub mod FlushLemmas
 pub mod StoreLemmas
 pub mod DeskLemmas
 pub mod AloneLemmas
+pub mod LabelLemmas
+pub mod KeyMapLemmas

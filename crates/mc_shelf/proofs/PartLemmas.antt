@@ -20,7 +20,7 @@ use Rattle.mc_shelf.specs.Parts.{shelf_of, IsShelfOf, IsDeskOf, ArePartsOf, Goes
 use Rattle.mc_shelf.specs.Unions.{all_entries, all_items, cut_of, plain_of}
 use Rattle.mc_shelf.specs.Stores.{IsSetUp}
 use Rattle.mc_shelf.specs.declared.store.Settings.{Settings}
-use Rattle.mc_shelf.proofs.IndexLemmas.{order, same_key}
+use Rattle.mc_shelf.proofs.KeyLemmas.{order, same_key}
 
 -- the plain machine's step on a key leaves the other keys, as `other_keys_stay` says, and the limit of pages, as `pages_stay`
 abbrev pub OthersLaw : Type 0

@@ -1,5 +1,5 @@
 -- What a sweep over an index drops of a shelf, and gives back to a desk.
-use Rattle.std.proofs.Common.{◌≡◌, ◌≢◌, ℕ, ◌+◌, ◌-◌, ◌<◌, ◌≤◌, true, false, cond, List, Option, Some, None, is_some, is_none, refl, sym, ap, subst, ◌∙◌, arith, eq-eqb, if◌then◌else◌, inl, inr, Less, Equal, Greater}
+use Rattle.std.proofs.Common.{◌≡◌, ◌≢◌, ℕ, ◌+◌, ◌-◌, ◌<◌, ◌≤◌, true, false, cond, List, ◌∷◌, get_or, Option, Some, None, is_some, is_none, refl, sym, ap, subst, ◌∙◌, arith, eq-eqb, if◌then◌else◌, inl, inr, Less, Equal, Greater}
 use Rattle.std.proofs.lemmas.Bool.{cases_lt}
 use Rattle.std.proofs.lemmas.Option.{same_Some, none-some}
 use Rattle.std.specs.Borrow.{Bor}
@@ -13,14 +13,16 @@ use Rattle.mc_slab.specs.Chunks.{IsChunkOf, chunk_class}
 use Rattle.mc_slab.specs.Slabs.{IsSlab, out_of, given}
 use Rattle.mc_command.specs.Plain.{Items, Entry, alive, count_of, item_class, living}
 use Rattle.mc_command.specs.Laws.{of_class}
-use Rattle.mc_shelf.specs.States.{EntryState, Hashes, IndexState, ShelfContent, DeskState}
-use Rattle.mc_shelf.specs.declared.index.Place.{Place}
-use Rattle.mc_shelf.specs.Places.{entry_at, hashes_of, items_of, numbered, IsFirstFrom, IsNext, IsPlaceOf, IsRemoved, KeepsLower}
+use Rattle.mc_grow.specs.Indexes.{IndexState, IsFirstFrom, IsNext, KeepsLower, cells, count_from, entry_at}
+use Rattle.mc_grow.specs.declared.index.Place.{Place}
+use Rattle.mc_shelf.specs.States.{EntryState, Hashes, ShelfContent, DeskState}
+use Rattle.mc_shelf.specs.KeyMaps.{IsKeyed}
+use Rattle.mc_shelf.specs.Places.{IsRemoved, entries_of, hashes_of, items_of}
 use Rattle.mc_shelf.specs.Plans.{is_gone, item_in}
 use Rattle.mc_shelf.specs.Sweeps.{GivesFor, IsPurged}
-use Rattle.mc_shelf.proofs.IndexLemmas.{order, same_key}
-use Rattle.mc_shelf.proofs.PlaceLemmas.{hash_absent, item_there, numbers_all}
-use Rattle.mc_shelf.proofs.KeyLemmas.{get_gone, get_gone_other}
+use Rattle.mc_shelf.proofs.KeyLemmas.{order, same_key, get_gone, get_gone_other}
+use Rattle.mc_shelf.proofs.KeyMapLemmas.{hash_absent, item_held}
+use Rattle.mc_shelf.proofs.IndexLemmas.{numbered}
 use Rattle.mc_shelf.proofs.ShelfLemmas.{content_of}
 use Rattle.mc_shelf.proofs.StandLemmas.{RemoveCounts, bump, out-given}
 
@@ -118,10 +120,10 @@ item_copied (Some b) e is = ap (λ (x : EntryState). Some x.item) (same_Some b.n
 -- ---- numbers
 
 -- the entries of lower numbers are such
-abbrev pub Below : IndexState → ℕ → (EntryState → Type 0) → Type 0
-Below index at P = (k : ℕ) (e : EntryState) → k < at → numbered index k ≡ Some e → P e
+abbrev pub Below : IndexState EntryState → ℕ → (EntryState → Type 0) → Type 0
+Below index at P = (k : ℕ) (e : EntryState) → k < at → get_or (cells index) k None ≡ Some e → P e
 
-module _ (P : EntryState → Type 0) (index : IndexState) (at number : ℕ) (place : Place) (first : IsFirstFrom index at number place) where
+module _ (P : EntryState → Type 0) (index : IndexState EntryState) (at number : ℕ) (place : Place) (first : IsFirstFrom index at number place) where
   below_skipped : Below index at P → Below index number P
   below_skipped below k e lt there = elim (cases_lt k at) [ inl less ↦ below k e less there | inr behind ↦ absurd (none-some e (sym (first.skipped k behind lt) ∙ there)) ]
 
@@ -130,18 +132,26 @@ module _ (P : EntryState → Type 0) (index : IndexState) (at number : ℕ) (pla
   below_next below here k e lt there =
       elim (cases_lt k number) [
         | inl less ↦ below_skipped below k e less there
-        | inr behind ↦ let same : k ≡ number = omega arith in here e (sym first.same ∙ ap (numbered index) (sym same) ∙ there)
+        | inr behind ↦ let same : place.number ≡ k = omega (arith, first.same) in here e (ap (λ n. get_or (cells index) n None) same ∙ there)
       ]
 
   -- after a removal
-  pub below_removed : Below index at P → (new : IndexState) → KeepsLower index new number → Below new number P
-  below_removed below new keeps k e lt there = below_skipped below k e lt (sym (keeps.lower k lt) ∙ there)
+  pub below_removed : Below index at P → (new : IndexState EntryState) → KeepsLower index new place.number → Below new number P
+  below_removed below new keeps k e lt there =
+      below_skipped below k e lt (sym (keeps.lower k (omega (arith, first.same))) ∙ there)
+
+  -- and so many fewer are ahead
+  pub fewer_removed : (new : IndexState EntryState) → KeepsLower index new place.number → count_from new number < count_from index at
+  fewer_removed new keeps =
+      let count = subst (λ n. count_from index n ≡ count_from new n + 1) first.same keeps.count in
+      omega (arith, first.ahead, count)
 
 -- where no number is left, each item is of such an entry
-pub items_all : (P : EntryState → Type 0) (index : IndexState) (at : ℕ) → Below index at P → IsNext index at None → (key : List ℕ) (item : Entry) → get (items_of index.entries) key ≡ Some item → (e : EntryState) × (P e) × (e.item ≡ item)
-items_all P index at below none key item found =
-    let one = numbers_all index key item found in
-    (one.entry, elim (cases_lt one.number at) [ inl less ↦ below one.number one.entry less one.there | inr behind ↦ absurd (none-some one.entry (sym (none one.number behind) ∙ one.there)) ], one.same_item)
+pub items_all : (P : EntryState → Type 0) (index : IndexState EntryState) → IsKeyed (entries_of index) → (at : ℕ) → Below index at P → IsNext index at None → (key : List ℕ) (item : Entry) → get (items_of index) key ≡ Some item → (e : EntryState) × (P e) × (e.item ≡ item)
+items_all P index keyed at below none key item found =
+    let held = item_held _ keyed key item found in
+    let one = numbered index (held.entry.hash ∷ key) held.entry held.there in
+    (held.entry, elim (cases_lt one.0 at) [ inl less ↦ below one.0 held.entry less one.1 | inr behind ↦ absurd (none-some held.entry (sym (none one.0 behind) ∙ one.1)) ], held.same_part)
 
 -- ---- sweeps
 
@@ -157,36 +167,30 @@ pub swept_none : (now : ℕ) (shelf : ShelfContent) (desk : DeskState) → Swept
 swept_none now shelf desk = record { greatest = refl; cut = refl; living_same = refl; gives = gives_none shelf.items desk; kept = λ key item there. (there, refl) }
 
 -- what a removal keeps
-kept_by : (was new : IndexState) (key : List ℕ) → IsRemoved was new key → (other : List ℕ) (item : Entry) → get (items_of new.entries) other ≡ Some item → (get (items_of was.entries) other ≡ Some item) × (get (hashes_of new.entries) other ≡ get (hashes_of was.entries) other)
+kept_by : (was new : IndexState EntryState) (key : List ℕ) → IsRemoved was new key → (other : List ℕ) (item : Entry) → get (items_of new) other ≡ Some item → (get (items_of was) other ≡ Some item) × (get (hashes_of new) other ≡ get (hashes_of was) other)
 kept_by was new key removed other item there =
-    let apart : other ≢ key = λ same. none-some item (sym (ap (λ (k : List ℕ). get (items_of new.entries) k) same ∙ ap (λ (m : Items). get m key) removed.items ∙ get_gone (items_of was.entries) key) ∙ there) in (
-      sym (ap (λ (m : Items). get m other) removed.items ∙ get_gone_other (items_of was.entries) key other apart) ∙ there,
-      ap (λ (m : Hashes). get m other) removed.hashes ∙ get_gone_other (hashes_of was.entries) key other apart,
+    let apart : other ≢ key = λ same. none-some item (sym (ap (λ (k : List ℕ). get (items_of new) k) same ∙ ap (λ (m : Items). get m key) removed.items ∙ get_gone (items_of was) key) ∙ there) in (
+      sym (ap (λ (m : Items). get m other) removed.items ∙ get_gone_other (items_of was) key other apart) ∙ there,
+      ap (λ (m : Hashes). get m other) removed.hashes ∙ get_gone_other (hashes_of was) key other apart,
     )
 
-module _ (remove_counts : RemoveCounts) (greatest : ℕ) (cut : Option ℕ) (was new : IndexState) (key : List ℕ) (place : Place) (filled : IsPlaceOf was key place) (entry : EntryState) (there : entry_at was place ≡ Some entry) (removed : IsRemoved was new entry.key)
+module _ (remove_counts : RemoveCounts) (greatest : ℕ) (cut : Option ℕ) (was new : IndexState EntryState) (entry : EntryState) (found : get (items_of was) entry.key ≡ Some entry.item) (removed : IsRemoved was new entry.key)
     (desk desk' : DeskState) (chunk : List ℕ) (is_chunk : IsChunkOf (item_class entry.key entry.item) chunk) (is_class : IsClass (item_class entry.key entry.item))
-    (are : (class : ℕ) → IsClass class → count_of (items_of was.entries) class ≤ out_of desk.slab class) where
-  same_as : entry.key ≡ key
-  same_as = ap (λ (e : EntryState). e.key) (same_Some entry filled.entry (sym there ∙ filled.there)) ∙ filled.same_key
-
-  found : get (items_of was.entries) entry.key ≡ Some entry.item
-  found = ap (λ (k : List ℕ). get (items_of was.entries) k) same_as ∙ item_there was key place filled entry there
-
+    (are : (class : ℕ) → IsClass class → count_of (items_of was) class ≤ out_of desk.slab class) where
   -- its chunk is out
   pub entry_out : 0 < out_of desk.slab (chunk_class chunk)
-  entry_out = subst (λ (n : ℕ). 0 < out_of desk.slab n) (sym is_chunk.class_is) (out_held remove_counts (items_of was.entries) desk entry.key entry.item found are is_class)
+  entry_out = subst (λ (n : ℕ). 0 < out_of desk.slab n) (sym is_chunk.class_is) (out_held remove_counts (items_of was) desk entry.key entry.item found are is_class)
 
   -- and goes back
-  pub entry_gives : desk' ≡ record desk { slab = given desk.slab (chunk_class chunk) } → IsSlab desk.slab → GivesFor (items_of was.entries) (items_of new.entries) desk desk'
-  entry_gives back is = gives_one remove_counts (items_of was.entries) desk entry.key entry.item found are (items_of new.entries) desk' removed.items (back ∙ ap (λ (n : ℕ). record desk { slab = given desk.slab n }) is_chunk.class_is) is is_class
+  pub entry_gives : desk' ≡ record desk { slab = given desk.slab (chunk_class chunk) } → IsSlab desk.slab → GivesFor (items_of was) (items_of new) desk desk'
+  entry_gives back is = gives_one remove_counts (items_of was) desk entry.key entry.item found are (items_of new) desk' removed.items (back ∙ ap (λ (n : ℕ). record desk { slab = given desk.slab n }) is_chunk.class_is) is is_class
 
   -- a dead item is swept
   pub swept_one : (now : ℕ) → is_gone cut now (Some entry.item) ≡ true → desk' ≡ record desk { slab = given desk.slab (chunk_class chunk) } → IsSlab desk.slab → Swept now (content_of greatest cut was) (content_of greatest cut new) desk desk'
   swept_one now gone back is = record {
     greatest = refl;
     cut = refl;
-    living_same = ap (λ (m : Items). living m cut now) removed.items ∙ living_without (items_of was.entries) cut now entry.key (ap (alive cut now) found ∙ gone_none cut now entry.item gone);
+    living_same = ap (λ (m : Items). living m cut now) removed.items ∙ living_without (items_of was) cut now entry.key (ap (alive cut now) found ∙ gone_none cut now entry.item gone);
     gives = entry_gives back is;
     kept = kept_by was new entry.key removed;
   }
@@ -207,23 +211,23 @@ swept_both now a b c d e f one two = record {
 abbrev pub IsAlive : (cut : Option ℕ) → (now : ℕ) → EntryState → Type 0
 IsAlive cut now e = alive cut now (Some e.item) ≡ Some e.item
 
-pub alive_here : (cut : Option ℕ) (now : ℕ) (index : IndexState) (place : Place) (found : Option (Bor EntryState)) → option_copied found ≡ entry_at index place → is_gone cut now (item_in found) ≡ false → (e : EntryState) → entry_at index place ≡ Some e → IsAlive cut now e
+pub alive_here : (cut : Option ℕ) (now : ℕ) (index : IndexState EntryState) (place : Place) (found : Option (Bor EntryState)) → option_copied found ≡ entry_at index place → is_gone cut now (item_in found) ≡ false → (e : EntryState) → entry_at index place ≡ Some e → IsAlive cut now e
 alive_here cut now index place found copied stays e there = gone_stays cut now e.item (ap (is_gone cut now) (sym (item_copied found e (copied ∙ there))) ∙ stays)
 
-pub gone_here : (cut : Option ℕ) (now : ℕ) (index : IndexState) (place : Place) (found : Option (Bor EntryState)) → option_copied found ≡ entry_at index place → is_gone cut now (item_in found) ≡ true → (e : EntryState) → entry_at index place ≡ Some e → is_gone cut now (Some e.item) ≡ true
+pub gone_here : (cut : Option ℕ) (now : ℕ) (index : IndexState EntryState) (place : Place) (found : Option (Bor EntryState)) → option_copied found ≡ entry_at index place → is_gone cut now (item_in found) ≡ true → (e : EntryState) → entry_at index place ≡ Some e → is_gone cut now (Some e.item) ≡ true
 gone_here cut now index place found copied gone e there = ap (is_gone cut now) (sym (item_copied found e (copied ∙ there))) ∙ gone
 
 -- at the end of a purge
-pub purged : (now : ℕ) (old : ShelfContent) (greatest : ℕ) (cut : Option ℕ) (index : IndexState) (desk desk' : DeskState) (at : ℕ) → Swept now old (content_of greatest cut index) desk desk' → Below index at (IsAlive cut now) → IsNext index at None → IsPurged now old (content_of greatest cut index)
-purged now old greatest cut index desk desk' at swept below none =
-    let items = items_of index.entries in
-    let all = all_living items cut now (λ key item there. let one = items_all (IsAlive cut now) index at below none key item there in subst (λ (i : Entry). alive cut now (Some i) ≡ Some i) one.2 one.1) in
+pub purged : (now : ℕ) (old : ShelfContent) (greatest : ℕ) (cut : Option ℕ) (index : IndexState EntryState) → IsKeyed (entries_of index) → (desk desk' : DeskState) (at : ℕ) → Swept now old (content_of greatest cut index) desk desk' → Below index at (IsAlive cut now) → IsNext index at None → IsPurged now old (content_of greatest cut index)
+purged now old greatest cut index keyed desk desk' at swept below none =
+    let items = items_of index in
+    let all = all_living items cut now (λ key item there. let one = items_all (IsAlive cut now) index keyed at below none key item there in subst (λ (i : Entry). alive cut now (Some i) ≡ Some i) one.2 one.1) in
     record {
       greatest = swept.greatest;
       cut = swept.cut;
       items = sym all ∙ swept.living_same;
-      hashes = λ key. elim (get items key) as (λ o. get items key ≡ o → get (hashes_of index.entries) key ≡ (if is_some o then get old.hashes key else None)) [
-        | None ↦ λ e. hash_absent index.entries key e
+      hashes = λ key. elim (get items key) as (λ o. get items key ≡ o → get (hashes_of index) key ≡ (if is_some o then get old.hashes key else None)) [
+        | None ↦ λ e. hash_absent _ keyed key e
         | Some item ↦ λ e. (swept.kept key item e).1
       ] refl;
     }
@@ -232,7 +236,7 @@ purged now old greatest cut index desk desk' at swept below none =
 abbrev pub IsNone : EntryState → Type 0
 IsNone e = ⊥
 
-pub cleared : (index : IndexState) (at : ℕ) → Below index at IsNone → IsNext index at None → (items_of index.entries ≡ empty) × (hashes_of index.entries ≡ empty)
-cleared index at below none =
-    let gone : (key : List ℕ) → get (items_of index.entries) key ≡ None = λ key. elim (get (items_of index.entries) key) as (λ o. get (items_of index.entries) key ≡ o → o ≡ None) [ None ↦ λ e. refl | Some item ↦ λ e. absurd (items_all IsNone index at below none key item e).1 ] refl in
-    (same_map nat_list_cmp_total same_key _ _ (λ q. gone q ∙ sym (get-empty order q)), same_map nat_list_cmp_total same_key _ _ (λ q. hash_absent index.entries q (gone q) ∙ sym (get-empty order q)))
+pub cleared : (index : IndexState EntryState) → IsKeyed (entries_of index) → (at : ℕ) → Below index at IsNone → IsNext index at None → (items_of index ≡ empty) × (hashes_of index ≡ empty)
+cleared index keyed at below none =
+    let gone : (key : List ℕ) → get (items_of index) key ≡ None = λ key. elim (get (items_of index) key) as (λ o. get (items_of index) key ≡ o → o ≡ None) [ None ↦ λ e. refl | Some item ↦ λ e. absurd (items_all IsNone index keyed at below none key item e).1 ] refl in
+    (same_map nat_list_cmp_total same_key _ _ (λ q. gone q ∙ sym (get-empty order q)), same_map nat_list_cmp_total same_key _ _ (λ q. hash_absent _ keyed q (gone q) ∙ sym (get-empty order q)))

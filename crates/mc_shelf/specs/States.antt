@@ -1,4 +1,4 @@
--- What contracts see of an entry, an index, a shelf and a desk.
+-- What contracts see of an entry, a shelf and a desk.
 use Rattle.std.specs.Prelude.{◌≡◌, ℕ, List, ◌++◌, Option, Some, None, decimal, refl}
 use Rattle.std.specs.Coded.{Coded, code_by, coded×, coded_ℕ, coded_list, coded_option}
 use Rattle.std.specs.Ordering.{nat_cmp}
@@ -66,19 +66,6 @@ hash_row e = (e.key, e.hash)
 -- hashes under keys
 abbrev pub Hashes : Type 0
 Hashes = FinMap (slice_cmp nat_cmp) ℕ
-
--- An index: its entries in the order of their places, for how many more there is room, and how many entries of an old table
--- are left to move.
-pub record IndexState : Type 0 where
-  pub entries : List EntryState
-  pub room : ℕ
-  pub left : ℕ
-
-abbrev pub coded_index : Coded IndexState
-coded_index =
-    code_by (List EntryState × (ℕ × ℕ)) (coded× (coded_list coded_entry_state) (coded× coded_ℕ coded_ℕ)) (λ s. (s.entries, (s.room, s.left)))
-    (λ p. record { entries = p.0; room = p.1.0; left = p.1.1 })
-    (λ _. refl)
 
 -- what a shelf holds: the greatest charge of an item, the items and the hashes under their keys, and the flush that is
 -- waiting or has come

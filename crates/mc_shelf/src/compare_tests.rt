@@ -1,19 +1,25 @@
 //! The store by shelves beside the plain store: the same steps, drawn at random, are answered
-//! alike. Where an allocation is refused, a store takes the step when it is asked again.
+//! alike, while tables grow between them. Where an allocation is refused, a store takes the step
+//! when it is asked again.
 
-ghost use Rattle.std.specs.Prelude.{◌≤◌, length};
+ghost use Rattle.std.specs.Prelude.{◌<◌, ◌≤◌, length};
 ghost use Rattle.mc_command.specs.Commands.{key_of};
 
 use crate::{Settings, Store};
 use mc_command::{Bytes, KeyStep, KeyTest, PlainStore, StepFault, Verb};
-use mc_hop::Fnv;
+use mc_hop::{Constant, Fnv, KeyHash};
 use mc_testing::{Dice, asked, is_same};
 use mc_time::Moment;
 use std::alloc::{AllocError, Global};
+use std::process::Abort;
 use std::test::*;
 
-/// One of eight keys.
+/// Letters and digits, each once: two that stand side by side make a key.
+const LETTERS: &[u8] = b"abcdefghijklmnopqrstuvwxyzABCDEFGHIJKLMNOPQRSTUVWXYZ0123456789";
+
+/// One of 64 keys, all different, of which a table of one hash can't take all.
 fn key_at(number: u64) -> &'static [u8]
+    requires { number < 64 }
     ensures { length result.now ≤ 250 }
 {
     match number {
@@ -23,8 +29,9 @@ fn key_at(number: u64) -> &'static [u8]
         3 => b"key of another shelf",
         4 => b"",
         5 => b"aa",
-        6 => b"ab",
-        _ => b"k",
+        6 => b"ba",
+        7 => b"k",
+        _ => &LETTERS[number as usize - 8..][..2],
     }
 }
 
@@ -68,15 +75,15 @@ fn verb_at(number: u64) -> Verb {
 fn step_of<'a>(dice: &mut Dice, bytes: &'a [u8]) -> KeyStep<'a>
     ensures { length (key_of result) ≤ 250 }
 {
-    let key = key_at(dice.roll(8));
+    let key = key_at(dice.roll(64));
     let block = block_at(bytes, dice.roll(40));
     let exptime = exptime_at(dice.roll(8));
     let number = dice.roll(1000);
-    let kind = dice.roll(20);
+    let kind = dice.roll(40);
     step_with(Bytes::of(key), Bytes::of(block), exptime, number, kind)
 }
 
-/// The step of that kind, 0 to 19.
+/// The step of that kind, 0 to 39.
 fn step_with<'a>(
     key: Bytes<'a>,
     block: Bytes<'a>,
@@ -116,9 +123,9 @@ fn step_with<'a>(
 }
 
 /// Takes a step in both stores, and compares the replies.
-fn is_answered_alike(
+fn is_answered_alike<K: KeyHash + Drop>(
     alloc: Global,
-    store: &mut Store<Fnv>,
+    store: &mut Store<K>,
     plain: &mut PlainStore,
     step: &KeyStep<'_>,
     now: Moment,
@@ -145,43 +152,76 @@ impl KeyTest for AllKeys {
 }
 
 /// Drops the dead of all shelves, and of the plain store.
-fn purge_both(store: &mut Store<Fnv>, plain: &mut PlainStore, now: Moment) {
+fn purge_both<K: KeyHash + Drop>(store: &mut Store<K>, plain: &mut PlainStore, now: Moment) {
     for shelf in 0..64 {
         store.purge(shelf, now);
     }
     plain.purge(now, &AllKeys);
 }
 
-/// The bytes that blocks are taken of, and both stores, of four pages.
-fn opened(alloc: Global) -> Result<(Vec<u8>, Store<Fnv>, PlainStore), AllocError> {
-    let mut bytes = Vec::new(alloc);
-    bytes.resize(600000, b'7')?;
-    let settings = Settings {
-        pages: 4,
-        greatest: 1048576,
-        shelves: 64,
-    };
-    let store = Store::new(alloc, settings, Fnv)?;
-    let plain = PlainStore::new(alloc, 4, 1048576)?;
-    Ok((bytes, store, plain))
+/// What is compared: a store and the plain store, of four pages, and the bytes that blocks are
+/// taken of.
+#[derive(Drop)]
+struct Pair<K: KeyHash + Drop> {
+    store: Store<K>,
+    plain: PlainStore,
+    bytes: Vec<u8>,
+}
+
+impl<K: KeyHash + Drop> Pair<K> {
+    fn open(alloc: Global, hasher: K) -> Result<Pair<K>, AllocError> {
+        let mut bytes = Vec::new(alloc);
+        bytes.resize(600000, b'7')?;
+        let settings = Settings {
+            pages: 4,
+            greatest: 1048576,
+            shelves: 64,
+        };
+        Ok(Pair {
+            store: Store::new(alloc, settings, hasher)?,
+            plain: PlainStore::new(alloc, 4, 1048576)?,
+            bytes,
+        })
+    }
+
+    /// Takes 4000 steps in both, and after each moves one entry of the first shelf's old table.
+    /// Answers whether any was moved.
+    fn compare(&mut self, rt: &impl Abort, alloc: Global) -> Result<bool, Fail> {
+        let mut dice = Dice::new(1);
+        let mut moved = false;
+        for turn in 0..4000 {
+            let now = Moment::from_seconds_at_most(1000 + turn / 20);
+            let step = step_of(&mut dice, &self.bytes);
+            let alike = is_answered_alike(alloc, &mut self.store, &mut self.plain, &step, now)?;
+            assert!(rt; alike, "turn {turn}");
+            moved |= self.store.grow(0, 1) > 0;
+            if turn % 500 == 0 {
+                purge_both(&mut self.store, &mut self.plain, now);
+            }
+        }
+        Ok(moved)
+    }
 }
 
 #[test]
 fn random_steps_are_answered_as_by_the_plain_store(rt: HostRuntime) -> Result<(), Fail> {
     let alloc = rt.alloc();
-    let (bytes, mut store, mut plain) = match opened(alloc) {
-        Err(_) => opened(alloc)?,
-        Ok(all) => all,
+    let mut pair = match Pair::open(alloc, Fnv) {
+        Err(_) => Pair::open(alloc, Fnv)?,
+        Ok(pair) => pair,
     };
-    let mut dice = Dice::new(1);
-    for turn in 0..4000 {
-        let now = Moment::from_seconds_at_most(1000 + turn / 20);
-        let step = step_of(&mut dice, &bytes);
-        let alike = is_answered_alike(alloc, &mut store, &mut plain, &step, now)?;
-        assert!(rt; alike, "turn {turn}");
-        if turn % 500 == 0 {
-            purge_both(&mut store, &mut plain, now);
-        }
-    }
+    pair.compare(&rt, alloc)?;
+    Ok(())
+}
+
+#[test]
+fn they_are_so_while_a_table_of_one_hash_grows(rt: HostRuntime) -> Result<(), Fail> {
+    let alloc = rt.alloc();
+    let mut pair = match Pair::open(alloc, Constant(0)) {
+        Err(_) => Pair::open(alloc, Constant(0))?,
+        Ok(pair) => pair,
+    };
+    let moved = pair.compare(&rt, alloc)?;
+    assert!(rt; moved, "no entry was moved");
     Ok(())
 }

@@ -1,7 +1,5 @@
 //! An item, and the hash of its key.
 
-ghost use Rattle.std.specs.Ordering.{nat_cmp};
-ghost use Rattle.std.specs.Cmp.Lexicographic.{slice_cmp};
 ghost use Rattle.std.specs.Prelude.{◌≡◌, ◌≤◌, length};
 ghost use Rattle.mc_slab.specs.Classes.{IsClass, class_holding};
 ghost use Rattle.mc_slab.specs.Chunks.{IsChunkOf, chunk_class};
@@ -13,7 +11,6 @@ use mc_hop::Keyed;
 use mc_item::{Item, Parts};
 use mc_slab::{Chunk, Class};
 use mc_time::{Expiry, Moment};
-use std::cmp::Ordering;
 use std::marker::Model;
 
 /// An item, with the hash of its key. It lies in a chunk of the class that its charge asks for.
@@ -80,13 +77,6 @@ impl Entry {
             unique: parts.unique,
             updated: parts.updated,
         });
-    }
-
-    /// How its key stands to another in the order of keys, byte by byte.
-    pub(crate) fn order_to(&self, key: &[u8]) -> Ordering
-        ensures { result ≡ slice_cmp nat_cmp self.now.key key.now }
-    {
-        self.key().cmp(key)
     }
 
     /// When its block was last written.

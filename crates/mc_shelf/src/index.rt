@@ -1,120 +1,90 @@
-//! Entries, found by their hashes and keys.
+//! Entries, found by their keys.
 
-ghost use Rattle.std.specs.Prelude.{◌≡◌, ℕ, ◌+◌, ◌-◌, ◌^◌, ◌<◌, ◌≤◌, List, [], length, min, nat_lt};
-ghost use Rattle.std.specs.Prelude.{Some, None, IfOk, IfSome, OnOk, OnErr, option_copied};
-ghost use Rattle.std.specs.FinMap.{get, len};
+ghost use Rattle.std.specs.Prelude.{◌≡◌, ℕ, ◌+◌, ◌-◌, ◌^◌, ◌<◌, ◌≤◌, List, min};
+ghost use Rattle.std.specs.Prelude.{Some, None, IfOk, IfSome, OnOk, option_copied};
+ghost use Rattle.std.specs.FinMap.{empty, get};
 ghost use Rattle.mc_hop.specs.Tables.{KeepsKey};
+ghost use Rattle.mc_grow.specs.Indexes.{IsFilled, IsNext, KeepsLower, entry_at, left};
 ghost use Rattle.mc_shelf.specs.States.{EntryState};
+ghost use Rattle.mc_shelf.specs.KeyMaps.{IsHashOf, IsKeyed, hash_in, key_in};
 ghost use Rattle.mc_shelf.specs.Places.{
-  items_of,
-  entry_at,
-  IsPlaceOf,
-  hash_in,
-  key_in,
-  IsFilled,
-  IsFound,
-  IsEntryOf,
-  IsGap,
-  IsSearched,
-  HasHash,
-  HoldsSame,
-  IsInserted,
-  IsRemoved,
   IsChanged,
-  numbered,
-  IsNext,
-  KeepsLower,
+  IsEntryOf,
+  IsKeyAt,
+  IsKeyFound,
+  IsRemoved,
+  KeyComes,
+  entries_of,
+  hashes_of,
+  items_of,
 };
 
 use crate::entry::Entry;
-use core::mem;
-use mc_hop::Keyed;
+pub(crate) use mc_grow::Place;
 use std::alloc::{AllocError, Global};
 use std::marker::Model;
 
-/// Where an entry stands in an index, until an entry comes or goes. Only the index knows what the number means.
-#[derive(Clone, Copy)]
-pub(crate) struct Place {
-    number: usize,
-}
+/// A new index has a table of 2^6 homes.
+const LEAST_EXPONENT: u32 = 6;
 
-/// Entries by their hashes and keys: today a list in the order of the keys, which has no old table.
+/// Entries by their keys, each with its key's hash: a growing index of entries by hash and key, in which no key stands with two
+/// hashes.
 ///
-/// Contracts see the entries in the order of their places, for how many more there is room, and how many entries of an old
-/// table are left to move.
+/// Contracts see what that index shows.
 #[derive(Drop)]
 pub(crate) struct Index {
-    list: Vec<Entry>,
+    entries: mc_grow::Index<Entry>,
 }
 
 impl Model for Index {
-    ghost use Rattle.std.specs.Prelude.{◌-◌, T, map, vec_len, vec_capacity};
-    ghost use Rattle.std.specs.Ordering.{nat_cmp};
-    ghost use Rattle.std.specs.Cmp.Lexicographic.{slice_cmp};
-    ghost use Rattle.std.specs.FinMap.{is_sorted};
-    ghost use Rattle.mc_shelf.specs.States.{IndexState, coded_index, row};
+    ghost use Rattle.mc_grow.specs.Indexes.{IndexState, coded_index};
+    ghost use Rattle.mc_shelf.specs.States.{EntryState, coded_entry_state};
+    ghost use Rattle.mc_shelf.specs.KeyMaps.{IsKeyed};
+    ghost use Rattle.mc_shelf.specs.Places.{entries_of};
 
-    ghost Value = { IndexState };
+    ghost Value = { IndexState EntryState };
 
-    ghost coded = { coded_index };
+    ghost coded = { coded_index coded_entry_state };
 
-    ghost view = { λ i. record {
-      entries = i.list.items;
-      room = vec_capacity i.list - vec_len i.list;
-      left = 0;
-    } };
+    ghost view = { λ i. i.entries };
 
-    ghost invariant = { λ i. T (is_sorted (slice_cmp nat_cmp) (map row i.list.items)) };
+    ghost invariant = { λ i. IsKeyed (entries_of i.entries) };
 }
 
 impl Index {
     /// Makes an index of no entries. The one error is a refused allocation.
     pub(crate) fn new(alloc: Global) -> Result<Index, AllocError>
-        ensures entries { IfOk result (λ index. index.entries ≡ []) }
-        ensures left { IfOk result (λ index. index.left ≡ 0) }
+        ensures items { IfOk result (λ index. items_of index ≡ empty) }
+        ensures hashes { IfOk result (λ index. hashes_of index ≡ empty) }
+        ensures left { IfOk result (λ index. left index ≡ 0) }
     {
         Ok(Index {
-            list: Vec::new(alloc),
+            entries: mc_grow::Index::new(alloc, LEAST_EXPONENT)?,
         })
     }
 
-    /// Finds the place of a key. `hash` is the hash that the index has with the key, where it has the key. It compares the
-    /// key with as many as the binary logarithm of the number of entries.
-    pub(crate) fn find(&self, _hash: u64, key: &[u8]) -> Option<Place>
-        requires { HasHash self.now.entries key.now _hash }
-        ensures { IsFound self.now key.now result }
+    /// Finds the place of a key. `hash` is the hash that the index has with the key, where it has the key.
+    pub(crate) fn find(&self, hash: u64, key: &[u8]) -> Option<Place>
+        requires { IsHashOf (entries_of self.now) key.now hash }
+        ensures { IsKeyFound self.now key.now result }
     {
-        match self.search(key) {
-            Ok(number) => Some(Place { number }),
-            Err(_) => None,
-        }
-    }
-
-    /// Finds where the entry of a key stands in the list, and where none has the key, where it would come.
-    fn search(&self, key: &[u8]) -> Result<usize, usize>
-        ensures { IsSearched self.now key.now result }
-    {
-        self.list.binary_search_by(|entry| entry.order_to(key))
+        self.entries.find(hash, key)
     }
 
     /// Finds the place of a key that was looked for before: `found` is what was found, and none only where no entry has the
-    /// key. Whatever the place is, the answer is right: it looks there first, which is all the cost where no entry has come
-    /// or gone since.
+    /// key. Whatever the place is, the answer is right: it looks there first, which is all the cost where the entry was found
+    /// there and has not moved since.
     pub(crate) fn find_again(&self, found: Option<Place>, hash: u64, key: &[u8]) -> Option<Place>
-        requires hash { HasHash self.now.entries key.now hash }
-        requires none { found ≡ None → get (items_of self.now.entries) key.now ≡ None }
-        ensures { IsFound self.now key.now result }
+        requires hash { IsHashOf (entries_of self.now) key.now hash }
+        requires none { found ≡ None → get (items_of self.now) key.now ≡ None }
+        ensures { IsKeyFound self.now key.now result }
     {
-        let place = found?;
-        match self.list.get(place.number) {
-            Some(entry) if entry.hash() == hash && entry.key() == key => Some(place),
-            _ => self.find(hash, key),
-        }
+        self.entries.find_again(found?, hash, key)
     }
 
     /// Lends the entry whose place a search has found.
     pub(crate) fn found(&self, found: Option<Place>) -> Option<&Entry>
-        ensures { (key : List ℕ) → IsFound self.now key found → IsEntryOf self.now key result }
+        ensures { (key : List ℕ) → IsKeyFound self.now key found → IsEntryOf self.now key result }
     {
         self.get(found?)
     }
@@ -123,100 +93,53 @@ impl Index {
     pub(crate) fn get(&self, place: Place) -> Option<&Entry>
         ensures { option_copied result ≡ entry_at self.now place }
     {
-        self.list.get(place.number)
+        self.entries.get(place)
     }
 
-    /// Answers how many entries there are.
-    pub(crate) fn len(&self) -> usize
-        ensures { result ≡ len (items_of self.now.entries) }
+    /// Makes room for one entry more, and begins a growth where one is due. The entries are as before, refused or not.
+    pub(crate) fn reserve(&mut self, alloc: Global) -> Result<(), AllocError>
+        ensures entries { entries_of self.new ≡ entries_of self.old }
+        ensures room { OnOk result (1 ≤ self.new.spare) }
     {
-        self.list.len()
+        self.entries.reserve(alloc)
     }
 
-    /// Answers how many entries of an old table are left to move: a list has no old table.
-    fn left(&self) -> usize
-        ensures none { self.now.left ≡ 0 }
-        ensures value { result ≡ self.now.left }
-    {
-        let _list = &self.list;
-        0
-    }
-
-    /// Answers whether entries of an old table are left to move.
-    pub(crate) fn is_growing(&self) -> bool
-        ensures { result ≡ nat_lt 0 self.now.left }
-    {
-        self.left() > 0
-    }
-
-    /// Makes room for one entry more. The entries are as before; refused, all is.
-    pub(crate) fn reserve(&mut self) -> Result<(), AllocError>
-        ensures same { HoldsSame self.old self.new }
-        ensures not_lowered { self.old.room ≤ self.new.room }
-        ensures room { OnOk result (1 ≤ self.new.room) }
-        ensures refused { OnErr result (self.new ≡ self.old) }
-    {
-        self.list.reserve(1)
-    }
-
-    /// Finds where the entry of a new key would come in the list.
-    fn gap(&self, key: &[u8]) -> usize
-        requires { get (items_of self.now.entries) key.now ≡ None }
-        ensures { IsGap self.now.entries key.now result }
-    {
-        match self.search(key) {
-            Ok(number) | Err(number) => number,
-        }
-    }
-
-    /// Puts in an entry of a new key, for which there is room, and answers its place. It takes no memory. The cost grows
-    /// with the number of entries.
+    /// Puts in an entry of a new key, for which there is room, and answers its place. It takes no memory.
     pub(crate) fn insert_reserved(&mut self, entry: Entry) -> Place
-        requires absent { get (items_of self.old.entries) entry.key ≡ None }
-        requires room { 1 ≤ self.old.room }
-        ensures inserted { IsInserted self.old self.new entry }
-        ensures place { IsPlaceOf self.new entry.key result }
-        ensures room { self.old.room ≤ self.new.room + 1 }
-        ensures left { self.new.left ≤ self.old.left }
+        requires absent { get (items_of self.old) entry.key ≡ None }
+        requires room { 1 ≤ self.old.spare }
+        ensures inserted { KeyComes self.old self.new entry }
+        ensures place { IsKeyAt self.new entry.key result }
+        ensures room { self.old.spare ≤ self.new.spare + 1 }
+        ensures left { left self.new ≡ left self.old }
     {
-        let number = self.gap(entry.key());
-        match self.list.insert(number, entry) {
-            Ok(()) => Place { number },
-            Err(_) => unreachable!(),
-        }
+        self.entries.insert_reserved(entry)
     }
 
     /// Changes the entry at a place by a closure that keeps its hash and its key, and hands out what the closure answers
     /// beside it. It takes no memory of its own.
     pub(crate) fn update<R, F: FnOnce(Entry) -> (Entry, R)>(&mut self, place: Place, change: F) -> R
-        requires filled { IsFilled self.old place }
+        requires found { (key : List ℕ) × IsKeyAt self.old key place }
         requires keeps { (entry : EntryState) → entry_at self.old place ≡ Some entry →
             KeepsKey hash_in key_in (F.pre change) (F.post change) entry }
-        ensures { (key : List ℕ) (at : IsPlaceOf self.old key place) → (pair : EntryState × R)
+        ensures { (key : List ℕ) (at : IsKeyAt self.old key place) → (pair : EntryState × R)
             × F.post change at.entry pair × (result ≡ pair.1)
             × IsChanged self.old self.new key pair.0.item }
     {
-        mem::replace_with(
-            &mut self.list[place.number],
-            change,
-            |entry, change|
-                requires { F.pre change entry }
-                ensures { F.post change entry result }
-            { change(entry) },
-        )
+        self.entries.update(place, change)
     }
 
-    /// Takes the entry at a place out. The cost grows with the number of the entries behind it.
+    /// Takes the entry at a place out. It takes no memory.
     pub(crate) fn remove(&mut self, place: Place) -> Entry
         requires { IsFilled self.old place }
         ensures there { entry_at self.old place ≡ Some result }
+        ensures item { get (items_of self.old) result.key ≡ Some result.item }
         ensures removed { IsRemoved self.old self.new result.key }
-        ensures numbers { (number : ℕ) → numbered self.old number ≡ Some result →
-            KeepsLower self.old self.new number }
-        ensures room { self.old.room ≤ self.new.room }
-        ensures left { self.new.left ≤ self.old.left }
+        ensures lower { KeepsLower self.old self.new place.number }
+        ensures room { self.old.spare ≤ self.new.spare }
+        ensures left { left self.new ≤ left self.old }
     {
-        self.list.remove(place.number)
+        self.entries.remove(place)
     }
 
     /// Finds the first entry whose number is at or above `at`, for a sweep over all entries: each has one number, and a
@@ -224,21 +147,21 @@ impl Index {
     /// removed the entry, at the number itself.
     pub(crate) fn filled_from(&self, at: usize) -> Option<(usize, Place)>
         ensures next { IsNext self.now at result }
+        ensures keyed { IsKeyed (entries_of self.now) }
         ensures fits { IfSome result (λ found. found.0 + 1 < 2 ^ 64) }
     {
-        // A list numbers its entries from its end, so that few move when a sweep removes one.
-        let number = self.list.len().checked_sub(at)?.checked_sub(1)?;
-        Some((at, Place { number }))
+        self.entries.filled_from(at)
     }
 
     /// Moves up to `n` entries of an old table, and answers how many it moved: as many as are left, where they are fewer.
-    /// The entries stay, and no memory is taken. The cost grows with `n`.
+    /// The entries stay, and no memory is taken. The cost grows with `n`, and at a growth's end with the entries that stand
+    /// in no table.
     pub(crate) fn move_some(&mut self, n: usize) -> usize
-        ensures moved { result ≡ min n self.old.left }
-        ensures left { self.new.left ≡ self.old.left - result }
-        ensures same { HoldsSame self.old self.new }
-        ensures room { self.old.room ≤ self.new.room }
+        ensures moved { result ≡ min n (left self.old) }
+        ensures left { left self.new ≡ left self.old - result }
+        ensures entries { entries_of self.new ≡ entries_of self.old }
+        ensures room { self.old.spare ≤ self.new.spare }
     {
-        n.min(self.left())
+        self.entries.move_some(n)
     }
 }

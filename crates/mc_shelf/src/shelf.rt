@@ -64,6 +64,7 @@ pub struct Shelf {
 
 impl Model for Shelf {
     ghost use Rattle.std.specs.Prelude.{◌≤◌};
+    ghost use Rattle.mc_grow.specs.Indexes.{left};
     ghost use Rattle.mc_shelf.specs.Places.{items_of, hashes_of};
     ghost use Rattle.mc_shelf.specs.States.{ShelfState, coded_shelf};
 
@@ -74,12 +75,12 @@ impl Model for Shelf {
     ghost view = { λ s. record {
       content = record {
         greatest = s.greatest;
-        items = items_of s.index.entries;
-        hashes = hashes_of s.index.entries;
+        items = items_of s.index;
+        hashes = hashes_of s.index;
         cut = s.cut;
       };
-      room = s.index.room;
-      left = s.index.left;
+      room = s.index.spare;
+      left = left s.index;
     } };
 
     ghost invariant = { λ s. s.greatest ≤ 1048576 };
@@ -129,7 +130,7 @@ impl Shelf {
     {
         let plan = self.plan(alloc, step, hash, now)?;
         counts_follow();
-        self.make_room(&plan, desk)?;
+        self.make_room(alloc, &plan, desk)?;
         self.apply(alloc, plan, step, desk)
     }
 
@@ -153,7 +154,7 @@ impl Shelf {
     {
         let plan = self.plan(alloc, step, hash, now)?;
         if plan.writes() && plan.place.is_none() {
-            self.index.reserve()?;
+            self.index.reserve(alloc)?;
         }
         Ok(plan)
     }
@@ -333,7 +334,7 @@ impl Shelf {
     }
 
     /// Makes room for the entry of a new key, where a plan can be taken that writes it.
-    fn make_room(&mut self, plan: &Plan<'_>, desk: &Desk) -> Result<(), AllocError>
+    fn make_room(&mut self, alloc: Global, plan: &Plan<'_>, desk: &Desk) -> Result<(), AllocError>
         requires { (step : Step) × (now : ℕ) × IsPlan plan.now self.old.content step now }
         ensures content { self.new.content ≡ self.old.content }
         ensures room { OnOk result (CanWrite plan.now.next desk.now →
@@ -342,7 +343,7 @@ impl Shelf {
         ensures slab { IsSlab desk.now.slab }
     {
         if self.wants_room(plan, desk) {
-            return self.index.reserve();
+            return self.index.reserve(alloc);
         }
         Ok(())
     }

@@ -357,8 +357,9 @@ fn a_chunk_that_is_not_left_is_told(rt: HostRuntime) -> Result<(), Fail> {
     Ok(())
 }
 
+/// A new table grows when it has 48 entries, or one that no bucket takes, and not for three.
 #[test]
-fn a_list_has_no_entry_to_move(rt: HostRuntime) -> Result<(), Fail> {
+fn three_entries_are_not_moved(rt: HostRuntime) -> Result<(), Fail> {
     let alloc = rt.alloc();
     let mut alone = Alone::open(alloc)?;
     tell(&rt, alloc, &mut alone, &three())?;

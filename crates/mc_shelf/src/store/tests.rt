@@ -5,8 +5,9 @@
 ghost use Rattle.std.specs.Prelude.{◌≡◌, ◌≤◌};
 
 use super::*;
-use mc_hop::Fnv;
-use mc_testing::{Ask, Row, Want, filled, first_unlike, set};
+use mc_command::Verb;
+use mc_hop::{Constant, Fnv};
+use mc_testing::{Ask, Row, Want, asked, filled, first_unlike, set, step_of, told_of};
 use std::process::Abort;
 use std::test::*;
 
@@ -14,13 +15,24 @@ use std::test::*;
 fn open(alloc: Global, pages: u32) -> Result<Store<Fnv>, AllocError>
     requires { (1 ≤ pages) × (pages ≤ 65536) }
 {
+    open_with(alloc, pages, Fnv)
+}
+
+/// The same, with a hasher.
+fn open_with<K: KeyHash + Drop + Copy>(
+    alloc: Global,
+    pages: u32,
+    hasher: K,
+) -> Result<Store<K>, AllocError>
+    requires { (1 ≤ pages) × (pages ≤ 65536) }
+{
     let settings = Settings {
         pages,
         greatest: 1048576,
         shelves: 64,
     };
-    match Store::new(alloc, settings, Fnv) {
-        Err(_) => Store::new(alloc, settings, Fnv),
+    match Store::new(alloc, settings, hasher) {
+        Err(_) => Store::new(alloc, settings, hasher),
         made => made,
     }
 }
@@ -154,15 +166,39 @@ fn a_store_of_parts_answers_as_before(rt: HostRuntime) -> Result<(), Fail> {
     answers(&rt, rt.alloc(), &mut store, &then)
 }
 
+/// The answer to what is asked of the key of one byte at 1000.
+fn answered(
+    store: &mut Store<Constant>,
+    alloc: Global,
+    key: u8,
+    ask: Ask<'_>,
+) -> &'static str {
+    let key = [key];
+    let step = step_of(&key, ask);
+    let now = Moment::from_seconds_at_most(1000);
+    told_of(&asked(store, alloc, &step, now))
+}
+
+/// Keys of one hash, of which a table takes 32, and the others are strays. The table of 64 homes
+/// grows before the 34th comes, since there is a stray, and that of 128 before the 38th. Each has
+/// 32 entries then, of which 8 are moved after each key.
 #[test]
-fn no_old_table_is_left_to_move(rt: HostRuntime) -> Result<(), Fail> {
-    let rows: [Row<'_>; 2] = [
-        set(1000, b"a", 0, b"x", "stored"),
-        (1000, b"a", Ask::Get, Want::Hit(1, b"x")),
-    ];
-    let mut store = open(rt.alloc(), 64)?;
-    answers(&rt, rt.alloc(), &mut store, &rows)?;
-    assert_eq!(rt; store.grow(12, 8), 0);
+fn entries_are_moved_while_a_table_grows(rt: HostRuntime) -> Result<(), Fail> {
+    let alloc = rt.alloc();
+    let mut store = open_with(alloc, 1, Constant(0))?;
+    for key in 1..41 {
+        let told = answered(&mut store, alloc, key, Ask::Store(Verb::Set, 0, b"x"));
+        assert!(rt; told == "stored", "{told}");
+        let moved = store.grow(0, 8);
+        let want = if key < 34 { 0 } else { 8 };
+        assert!(rt; moved == want, "{moved} were moved after key {key}");
+    }
+    for key in 1..41 {
+        let told = answered(&mut store, alloc, key, Ask::Get);
+        assert!(rt; told == "hit", "{told}");
+    }
     assert_eq!(rt; store.grow(64, 8), 0);
+    assert_eq!(rt; store.grow(0, 8), 8);
+    assert_eq!(rt; store.grow(0, 8), 0);
     Ok(())
 }

@@ -1,7 +1,11 @@
 use Rattle.std.proofs.Common.{subst}
-use Rattle.mc_shelf.specs.Places.{IsSearched}
-use Rattle.mc_shelf.proofs.IndexLemmas.{absent}
+use Rattle.mc_grow.specs.Indexes.{IsFound}
+use Rattle.mc_shelf.specs.KeyMaps.{IsKeyed, hash_in, key_in}
+use Rattle.mc_shelf.specs.Places.{entries_of}
+use Rattle.mc_shelf.proofs.IndexLemmas.{key_found}
 use Rattle.mc_shelf.proofs.index.Index.find.Goals as goal
 
-pub returns-in-Err : goal.returns-in-Err
-returns-in-Err c = absent c.args.self.now c.args.key.now c.in-Err.field-0 (subst (λ found. IsSearched c.args.self.now c.args.key.now found) c.in-Err.is c.search.ensures)
+pub returns : goal.returns
+returns c =
+    key_found c.args.self.now (subst (λ s. IsKeyed (entries_of s)) c.self.view_is c.self.invariant) c.args.hash c.args.key.now c.requires c.find.result
+    (subst (λ s. IsFound hash_in key_in s c.args.hash c.args.key.now c.find.result) c.self.view_is c.find.ensures)

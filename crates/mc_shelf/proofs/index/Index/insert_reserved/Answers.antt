@@ -1,15 +1,25 @@
-use Rattle.std.proofs.Common.{subst, sym}
-use Rattle.mc_shelf.proofs.IndexLemmas.{InOrder, inserted_order, inserted, inserted_place}
+use Rattle.std.proofs.Common.{◌≡◌, ◌∷◌, Some, None, subst, sym}
+use Rattle.std.specs.FinMap.{get}
+use Rattle.mc_grow.specs.Indexes.{IndexState}
+use Rattle.mc_shelf.specs.States.{EntryState}
+use Rattle.mc_shelf.specs.Places.{KeyComes, items_of}
+use Rattle.mc_shelf.proofs.KeyMapLemmas.{no_item_entry}
+use Rattle.mc_shelf.proofs.IndexLemmas.{came, came_keyed, key_at}
 use Rattle.mc_shelf.proofs.index.Index.insert_reserved.Goals as goal
+
+pub insert_reserved-requires-clause-new : goal.insert_reserved-requires-clause-new
+insert_reserved-requires-clause-new c =
+    no_item_entry _ c.self.invariant c.args.entry.key (subst (λ (s : IndexState EntryState). get (items_of s) c.args.entry.key ≡ None) (sym c.self.view_is) c.requires.absent) c.args.entry.hash
 
 pub invariant_of-self : goal.invariant_of-self
 invariant_of-self c =
-    subst InOrder (sym c.in-Ok.ensures.items) (inserted_order _ _ c.self.view_is c.self.invariant c.gap-number.result c.args.entry c.key.result.now c.key.ensures c.gap-number.ensures)
+    came_keyed c.self.inside.entries c.insert_reserved.new.self c.self.invariant c.args.entry (subst (λ (s : IndexState EntryState). get (items_of s) c.args.entry.key ≡ None) (sym c.self.view_is) c.requires.absent) c.insert_reserved.ensures.content
 
 pub returns-clause-inserted : goal.returns-clause-inserted
 returns-clause-inserted c =
-    inserted _ _ c.self.view_is c.self.invariant _ c.gap-number.result c.args.entry c.key.result.now c.key.ensures c.gap-number.ensures c.in-Ok.ensures.items
+    subst (λ (s : IndexState EntryState). KeyComes s c.insert_reserved.new.self c.args.entry) c.self.view_is
+    (came c.self.inside.entries c.insert_reserved.new.self c.self.invariant c.args.entry (subst (λ (s : IndexState EntryState). get (items_of s) c.args.entry.key ≡ None) (sym c.self.view_is) c.requires.absent) c.insert_reserved.ensures.content)
 
 pub returns-clause-place : goal.returns-clause-place
 returns-clause-place c =
-    inserted_place _ _ c.self.view_is c.self.invariant _ c.gap-number.result c.args.entry c.key.result.now c.key.ensures c.gap-number.ensures c.in-Ok.ensures.items
+    key_at c.insert_reserved.new.self (invariant_of-self c) c.args.entry.hash c.args.entry.key c.insert_reserved.result c.insert_reserved.ensures.place

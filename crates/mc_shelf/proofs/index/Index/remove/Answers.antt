@@ -1,19 +1,21 @@
-use Rattle.std.proofs.Common.{subst, sym}
-use Rattle.mc_shelf.proofs.IndexLemmas.{InOrder, entry_read, removed_order, removed, keeps_lower}
+use Rattle.std.proofs.Common.{◌≡◌, Some, subst}
+use Rattle.std.specs.FinMap.{get}
+use Rattle.mc_grow.specs.Indexes.{IndexState}
+use Rattle.mc_shelf.specs.States.{EntryState}
+use Rattle.mc_shelf.specs.Places.{IsRemoved, items_of}
+use Rattle.mc_shelf.proofs.IndexLemmas.{gone, gone_item, gone_keyed}
 use Rattle.mc_shelf.proofs.index.Index.remove.Goals as goal
 
 pub invariant_of-self : goal.invariant_of-self
 invariant_of-self c =
-    subst InOrder (sym c.remove.ensures.items)
-    (removed_order _ _ c.self.view_is c.self.invariant c.args.place c.remove.result (entry_read _ _ c.self.view_is c.requires.0 c.args.place c.requires.1 c.remove.result c.remove.ensures.value))
+    gone_keyed c.self.inside.entries c.remove.new.self c.self.invariant c.remove.result c.args.place c.remove.ensures.there c.remove.ensures.lower c.remove.ensures.removed
 
-pub returns-clause-there : goal.returns-clause-there
-returns-clause-there c = entry_read _ _ c.self.view_is c.requires.0 c.args.place c.requires.1 c.remove.result c.remove.ensures.value
+pub returns-clause-item : goal.returns-clause-item
+returns-clause-item c =
+    subst (λ (s : IndexState EntryState). get (items_of s) c.remove.result.key ≡ Some c.remove.result.item) c.self.view_is
+    (gone_item c.self.inside.entries c.remove.new.self c.self.invariant c.remove.result c.args.place c.remove.ensures.there c.remove.ensures.lower c.remove.ensures.removed)
 
 pub returns-clause-removed : goal.returns-clause-removed
 returns-clause-removed c =
-    removed _ _ c.self.view_is c.self.invariant _ c.args.place c.remove.result (entry_read _ _ c.self.view_is c.requires.0 c.args.place c.requires.1 c.remove.result c.remove.ensures.value) c.remove.ensures.items
-
-pub returns-clause-numbers : goal.returns-clause-numbers
-returns-clause-numbers c number numbers =
-    keeps_lower _ _ _ c.self.view_is c.self.invariant c.args.place c.remove.result number (entry_read _ _ c.self.view_is c.requires.0 c.args.place c.requires.1 c.remove.result c.remove.ensures.value) numbers c.remove.ensures.items
+    subst (λ (s : IndexState EntryState). IsRemoved s c.remove.new.self c.remove.result.key) c.self.view_is
+    (gone c.self.inside.entries c.remove.new.self c.self.invariant c.remove.result c.args.place c.remove.ensures.there c.remove.ensures.lower c.remove.ensures.removed)

@@ -2,7 +2,7 @@ use Rattle.std.proofs.Common.{arith, ap, subst, ◌∙◌}
 use Rattle.mc_shelf.specs.States.{ShelfState}
 use Rattle.mc_shelf.specs.Places.{items_of}
 use Rattle.mc_shelf.specs.Sweeps.{GivesFor}
-use Rattle.mc_shelf.proofs.SweepLemmas.{IsNone, below_removed, cleared, entry_gives, entry_out, gives_both, gives_none, out_after}
+use Rattle.mc_shelf.proofs.SweepLemmas.{IsNone, below_removed, cleared, entry_gives, entry_out, fewer_removed, gives_both, gives_none, out_after}
 use Rattle.mc_shelf.proofs.shelf.Shelf.clear.Goals as goal
 
 pub loop-number-init : goal.loop-number-init
@@ -10,7 +10,7 @@ loop-number-init c = record {
   most = c.self.invariant;
   greatest = ap (λ (s : ShelfState). s.content.greatest) c.self.view_is;
   cut = ap (λ (s : ShelfState). s.content.cut) c.self.view_is;
-  gives = subst (λ (s : ShelfState). GivesFor s.content.items (items_of c.self.inside.index.entries) c.args.desk.now c.args.desk.now) c.self.view_is (gives_none (items_of c.self.inside.index.entries) c.args.desk.now);
+  gives = subst (λ (s : ShelfState). GivesFor s.content.items (items_of c.self.inside.index) c.args.desk.now c.args.desk.now) c.self.view_is (gives_none (items_of c.self.inside.index) c.args.desk.now);
   below = λ k e lt there. absurd (omega arith);
 }
 
@@ -18,31 +18,29 @@ pub give-requires : goal.give-requires
 give-requires c =
     let inside = c.loop-number.self-inside in
     let first = c.in-Some.ensures.next in
-    let are = out_after c.args.self.now.content.items (items_of inside.index.entries) c.args.desk.now c.loop-number.desk c.loop-number.invariant.gives c.requires in
-    entry_out c.counts_follow.ensures.remove inside.greatest inside.cut inside.index c.remove-entry.new.self first.filled.0 c.in-Some.place first.filled.1 c.remove-entry.result c.remove-entry.ensures.there c.remove-entry.ensures.removed
+    let are = out_after c.args.self.now.content.items (items_of inside.index) c.args.desk.now c.loop-number.desk c.loop-number.invariant.gives c.requires in
+    entry_out c.counts_follow.ensures.remove inside.greatest inside.cut inside.index c.remove-entry.new.self c.remove-entry.result c.remove-entry.ensures.item c.remove-entry.ensures.removed
     c.loop-number.desk c.loop-number.desk c.into_chunk.result c.into_chunk.ensures.chunk c.into_chunk.ensures.is_class are
 
 pub loop-number-smaller : goal.loop-number-smaller
 loop-number-smaller c =
     let first = c.in-Some.ensures.next in
-    let keeps = c.remove-entry.ensures.numbers c.in-Some.number (first.same ∙ c.remove-entry.ensures.there) in
-    omega (arith, first.ahead, keeps.count)
+    fewer_removed IsNone c.loop-number.self-inside.index c.loop-number.at c.in-Some.number c.in-Some.place first c.remove-entry.new.self c.remove-entry.ensures.lower
 
 pub loop-number-preserved : goal.loop-number-preserved
 loop-number-preserved c =
     let inside = c.loop-number.self-inside in
     let held = c.loop-number.invariant in
     let first = c.in-Some.ensures.next in
-    let keeps = c.remove-entry.ensures.numbers c.in-Some.number (first.same ∙ c.remove-entry.ensures.there) in
-    let are = out_after c.args.self.now.content.items (items_of inside.index.entries) c.args.desk.now c.loop-number.desk held.gives c.requires in
+    let are = out_after c.args.self.now.content.items (items_of inside.index) c.args.desk.now c.loop-number.desk held.gives c.requires in
     record {
       most = held.most;
       greatest = held.greatest;
       cut = held.cut;
-      gives = gives_both c.args.self.now.content.items (items_of inside.index.entries) (items_of c.remove-entry.new.self.entries) c.args.desk.now c.loop-number.desk c.give.new.self held.gives
-          (entry_gives c.counts_follow.ensures.remove inside.greatest inside.cut inside.index c.remove-entry.new.self first.filled.0 c.in-Some.place first.filled.1 c.remove-entry.result c.remove-entry.ensures.there c.remove-entry.ensures.removed
+      gives = gives_both c.args.self.now.content.items (items_of inside.index) (items_of c.remove-entry.new.self) c.args.desk.now c.loop-number.desk c.give.new.self held.gives
+          (entry_gives c.counts_follow.ensures.remove inside.greatest inside.cut inside.index c.remove-entry.new.self c.remove-entry.result c.remove-entry.ensures.item c.remove-entry.ensures.removed
           c.loop-number.desk c.give.new.self c.into_chunk.result c.into_chunk.ensures.chunk c.into_chunk.ensures.is_class are c.give.ensures.given c.give.ensures.slab);
-      below = below_removed IsNone inside.index c.loop-number.at c.in-Some.number c.in-Some.place first held.below c.remove-entry.new.self keeps;
+      below = below_removed IsNone inside.index c.loop-number.at c.in-Some.number c.in-Some.place first held.below c.remove-entry.new.self c.remove-entry.ensures.lower;
     }
 
 pub invariant_of-self : goal.invariant_of-self
@@ -51,7 +49,7 @@ invariant_of-self c = c.loop-number.invariant.most
 pub returns-clause-shelf : goal.returns-clause-shelf
 returns-clause-shelf c =
     let held = c.loop-number.invariant in
-    let none = cleared c.loop-number.self-inside.index c.loop-number.at held.below c.in_default.ensures.next in
+    let none = cleared c.loop-number.self-inside.index c.in_default.ensures.keyed c.loop-number.at held.below c.in_default.ensures.next in
     λ i. record { greatest = held.greatest i; items = none.0 i; hashes = none.1 i; cut = held.cut i }
 
 pub returns-clause-desk : goal.returns-clause-desk

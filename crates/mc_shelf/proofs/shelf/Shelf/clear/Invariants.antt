@@ -1,5 +1,6 @@
 use Rattle.std.proofs.Common.{◌≡◌, ◌≤◌}
-use Rattle.mc_shelf.specs.Places.{count_from, items_of}
+use Rattle.mc_grow.specs.Indexes.{count_from}
+use Rattle.mc_shelf.specs.Places.{items_of}
 use Rattle.mc_shelf.specs.Sweeps.{GivesFor}
 use Rattle.mc_shelf.proofs.SweepLemmas.{Below, IsNone}
 use Rattle.mc_shelf.proofs.shelf.Shelf.clear.Given as goal
@@ -9,7 +10,7 @@ invariant-loop-number l = record {
   most : l.self-inside.greatest ≤ 1048576;
   greatest : l.self-inside.greatest ≡ l.fn.self.content.greatest;
   cut : l.self-inside.cut ≡ l.fn.self.content.cut;
-  gives : GivesFor l.fn.self.content.items (items_of l.self-inside.index.entries) l.fn.desk l.desk;
+  gives : GivesFor l.fn.self.content.items (items_of l.self-inside.index) l.fn.desk l.desk;
   below : Below l.self-inside.index l.at IsNone;
 }
 

@@ -1,5 +1,5 @@
 use Rattle.std.proofs.Common.{◌≤◌}
-use Rattle.mc_shelf.specs.Places.{count_from}
+use Rattle.mc_grow.specs.Indexes.{count_from}
 use Rattle.mc_shelf.proofs.ShelfLemmas.{content_of}
 use Rattle.mc_shelf.proofs.SweepLemmas.{Below, IsAlive, Swept}
 use Rattle.mc_shelf.proofs.shelf.Shelf.purge.Given as goal

@@ -3,7 +3,8 @@ use Rattle.std.specs.FinMap.{get}
 use Rattle.mc_command.specs.Commands.{key_of}
 use Rattle.mc_command.specs.Plain.{block_of}
 use Rattle.mc_shelf.specs.States.{EntryState, ShelfState}
-use Rattle.mc_shelf.specs.Places.{IsChanged, entry_at}
+use Rattle.mc_grow.specs.Indexes.{entry_at}
+use Rattle.mc_shelf.specs.Places.{IsChanged}
 use Rattle.mc_shelf.specs.Plans.{block_beside, block_in, drafted, made_block}
 use Rattle.mc_shelf.proofs.ShelfLemmas.{changed_put, inserted_put}
 use Rattle.mc_shelf.proofs.shelf.Shelf.put.Goals as goal

@@ -1,0 +1,5 @@
+pub mod MoveLemmas
+pub mod StrayLemmas
+pub mod PartLemmas
+pub mod CellLemmas
+pub mod ChangeLemmas

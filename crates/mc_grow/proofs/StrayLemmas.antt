@@ -1,0 +1,150 @@
+-- The strays in another order, and one of them taken out.
+use Rattle.std.proofs.Common.{◌≡◌, ℕ, zero, suc, ◌+◌, ◌-◌, ◌<◌, ◌≤◌, ◌↔◌, Bool, true, false, cond, List, [], ◌∷◌, ◌++◌, map, length, take, drop, set, Option, Some, None, get_or, refl, sym, ap, subst, ◌∙◌, arith, ⊎_elim}
+use Rattle.std.proofs.lemmas.Option.{none-some}
+use Rattle.std.proofs.lemmas.List.Sums.{sum_by-cons}
+use Rattle.std.proofs.lemmas.List.Sorted.{sum_by-IsPermutation, Contains-permutation, IsPermutation-sym}
+use Rattle.std.proofs.lemmas.List.{ext_get_or, get_or-map, get_or_push, get_or_append_left}
+use Rattle.std.proofs.lemmas.Bool.{cases_eq}
+use Rattle.mc_hop.specs.Links.{IsSwapped}
+use Rattle.std.specs.List.{sum_by, SwappedAt, swap_remove, Contains}
+use Rattle.std.specs.List.Sorted.{IsPermutation}
+use Rattle.std.specs.Ordering.{nat_cmp, eq_by_cmp}
+use Rattle.std.specs.Cmp.Lexicographic.{slice_cmp}
+use Rattle.std.specs.FinMap.{FinMap, get, insert}
+use Rattle.mc_hop.specs.Tables.{AreApart, HasEntry}
+use Rattle.mc_hop.specs.Contents.{AreDisjoint, content}
+use Rattle.mc_grow.specs.Moving.{ContentLaws, HoldsAll}
+use Rattle.mc_grow.proofs.MoveLemmas.{Map, same, same_key, same_self, same_Some, at_its_key, none_beside, none_before, disjoint_first, disjoint_less_second}
+
+abbrev head_of : List ℕ → ℕ
+head_of [] = 0
+head_of (x ∷ xs) = x
+
+abbrev tail_of : List ℕ → List ℕ
+tail_of [] = []
+tail_of (x ∷ xs) = xs
+
+module _ {X : Type 0} (hash_of : X → ℕ) (key_of : X → List ℕ) where
+  abbrev key : X → List ℕ
+  key x = hash_of x ∷ key_of x
+
+  -- how many entries of a list have a key
+  abbrev has : List ℕ → X → ℕ
+  has q x = cond (same q (key x)) 1 0
+
+  none_of : (xs : List X) (q : List ℕ) → ((p : ℕ) (y : X) → get_or (map Some xs) p None ≡ Some y → same q (key y) ≡ true → ⊥) → sum_by (has q) xs ≡ 0
+  none_of [] q absent = refl
+  none_of (x ∷ xs) q absent =
+      sum_by-cons (has q) x xs
+      ∙ elim (same q (key x)) as (λ b. same q (key x) ≡ b → cond b 1 0 + sum_by (has q) xs ≡ 0) [
+        | true ↦ λ e. absurd (absent 0 x refl e)
+        | false ↦ λ e. omega (arith, none_of xs q (λ p. absent (suc p)))
+      ] refl
+
+  once : (xs : List X) (q : List ℕ) → AreApart hash_of key_of (map Some xs) → sum_by (has q) xs ≤ 1
+  once [] q apart = omega arith
+  once (x ∷ xs) q apart =
+      subst (λ (n : ℕ). n ≤ 1) (sym (sum_by-cons (has q) x xs))
+      (elim (same q (key x)) as (λ b. same q (key x) ≡ b → cond b 1 0 + sum_by (has q) xs ≤ 1) [
+        | true ↦ λ e.
+            let none : sum_by (has q) xs ≡ 0 = none_of xs q (λ p y there f.
+            let is : key x ≡ key y = sym (same_key q (key x) e) ∙ same_key q (key y) f in
+            let places : 0 ≡ suc p = apart 0 (suc p) x y refl there (ap head_of is) (ap tail_of is) in
+            absurd (omega (arith, places))) in
+            omega (arith, none)
+        | false ↦ λ e. omega (arith, once xs q (λ p r y z e f h k. let l : suc p ≡ suc r = apart (suc p) (suc r) y z e f h k in omega (arith, l)))
+      ] refl)
+
+  at_least : (xs : List X) (p : ℕ) (y : X) → get_or (map Some xs) p None ≡ Some y → 1 ≤ sum_by (has (key y)) xs
+  at_least [] p y e = absurd (none-some y e)
+  at_least (x ∷ xs) zero y e =
+      let counted : has (key y) x ≡ 1 = ap (λ (z : X). cond (same (key y) (key z)) 1 0) (same_Some x y e) ∙ ap (λ (b : Bool). cond b 1 0) (same_self (key y)) in
+      omega (arith, sum_by-cons (has (key y)) x xs, counted)
+  at_least (x ∷ xs) (suc p) y e = omega (arith, sum_by-cons (has (key y)) x xs, at_least xs p y e)
+
+  twice : (x : X) (xs : List X) (p : ℕ) (y : X) → get_or (map Some xs) p None ≡ Some y → hash_of x ≡ hash_of y → key_of x ≡ key_of y → sum_by (has (key y)) (x ∷ xs) ≤ 1 → ⊥
+  twice x xs p y e h k most =
+      let is : key x ≡ key y = λ i. h i ∷ k i in
+      let counted : has (key y) x ≡ 1 = ap (λ (q : List ℕ). cond (same (key y) q) 1 0) is ∙ ap (λ (b : Bool). cond b 1 0) (same_self (key y)) in
+      omega (arith, most, sum_by-cons (has (key y)) x xs, counted, at_least xs p y e)
+
+  apart_by : (xs : List X) → ((q : List ℕ) → sum_by (has q) xs ≤ 1) → AreApart hash_of key_of (map Some xs)
+  apart_by [] most p r x y e f h k = absurd (none-some x e)
+  apart_by (z ∷ zs) most zero zero x y e f h k = refl
+  apart_by (z ∷ zs) most zero (suc r) x y e f h k = absurd (twice z zs r y f (ap hash_of (same_Some z x e) ∙ h) (ap key_of (same_Some z x e) ∙ k) (most (key y)))
+  apart_by (z ∷ zs) most (suc p) zero x y e f h k = absurd (twice z zs p x e (ap hash_of (same_Some z y f) ∙ sym h) (ap key_of (same_Some z y f) ∙ sym k) (most (key x)))
+  apart_by (z ∷ zs) most (suc p) (suc r) x y e f h k = ap suc (apart_by zs (λ q. omega (arith, most q, sum_by-cons (has q) z zs)) p r x y e f h k)
+
+  pub apart_permutation : (xs ys : List X) → IsPermutation xs ys → AreApart hash_of key_of (map Some xs) → AreApart hash_of key_of (map Some ys)
+  apart_permutation xs ys moves apart = apart_by ys (λ q. omega (arith, once xs q apart, sum_by-IsPermutation (has q) xs ys moves))
+
+-- an entry of a list is an entry of its buckets
+entry_to : {X : Type 0} (xs : List X) (p : ℕ) (y : X) → get_or (map Some xs) p None ≡ Some y → (p < length xs) × (get_or xs p y ≡ y)
+entry_to [] p y e = absurd (none-some y e)
+entry_to (x ∷ xs) zero y e = (omega arith, same_Some x y e)
+entry_to (x ∷ xs) (suc p) y e = let r = entry_to xs p y e in (omega (arith, r.0), r.1)
+
+entries_move : {X : Type 0} (xs ys : List X) → IsPermutation xs ys → (y : X) → HasEntry (map Some xs) y → HasEntry (map Some ys) y
+entries_move {X} xs ys moves y stands =
+    let here = entry_to xs stands.0 y stands.1 in
+    let there = Contains-permutation xs ys y moves (stands.0, here.0, here.1) in
+    (there.0, get_or-map Some ys there.0 y None there.1 ∙ ap Some there.2)
+
+module _ {X : Type 0} (hash_of : X → ℕ) (key_of : X → List ℕ) (laws : ContentLaws hash_of key_of) where
+  abbrev holds : List (Option X) → Map X
+  holds = content hash_of key_of
+
+  content_permutation : (xs ys : List X) → IsPermutation xs ys → AreApart hash_of key_of (map Some xs) → holds (map Some xs) ≡ holds (map Some ys)
+  content_permutation xs ys moves apart =
+      laws.alike (map Some xs) (map Some ys) apart (apart_permutation hash_of key_of xs ys moves apart) (λ y. (entries_move xs ys moves y, entries_move ys xs (IsPermutation-sym xs ys moves) y))
+
+  -- a stray is new to the table, and to the other strays
+  pub stray_is_new : (items : List (Option X)) (strays : List X) (x : X) → AreApart hash_of key_of (items ++ map Some strays) → get (holds (map Some strays)) (key hash_of key_of x) ≡ Some x → get (holds items) (key hash_of key_of x) ≡ None
+  stray_is_new items strays x apart stands =
+      none_before (holds items) (holds (map Some strays)) (key hash_of key_of x) x ((laws.apart items (map Some strays)).0 apart).2 stands
+
+  pub stray_stands : (strays rest : List X) (x : X) → IsPermutation strays (x ∷ rest) → AreApart hash_of key_of (map Some strays) → get (holds (map Some strays)) (key hash_of key_of x) ≡ Some x
+  stray_stands strays rest x moves apart =
+      ap (λ (m : Map X). get m (key hash_of key_of x)) (content_permutation strays (x ∷ rest) moves apart) ∙ at_its_key (holds (map Some rest)) (key hash_of key_of x) x
+
+  -- a stray goes to the table
+  pub stray_put : (items others : List (Option X)) (strays rest : List X) (x : X) → AreApart hash_of key_of (items ++ map Some strays) → IsPermutation strays (x ∷ rest) → AreApart hash_of key_of others → holds others ≡ insert (holds items) (key hash_of key_of x) x → HoldsAll hash_of key_of (items ++ map Some strays) (others ++ map Some rest)
+  stray_put items others strays rest x apart moves own put =
+      let parts = (laws.apart items (map Some strays)).0 apart in
+      let in_order = content_permutation strays (x ∷ rest) moves parts.1 in
+      let front = (laws.apart (Some x ∷ []) (map Some rest)).0 (apart_permutation hash_of key_of strays (x ∷ rest) moves parts.1) in
+      let gone : get (holds (map Some rest)) (key hash_of key_of x) ≡ None = none_beside (holds (Some x ∷ [])) (holds (map Some rest)) (key hash_of key_of x) x front.2 (at_its_key (holds []) (key hash_of key_of x) x) in
+      let beside : AreDisjoint (holds items) (insert (holds (map Some rest)) (key hash_of key_of x) x) = subst (λ (m : Map X). AreDisjoint (holds items) m) in_order parts.2 in
+      let fresh : get (holds items) (key hash_of key_of x) ≡ None = stray_is_new items strays x apart (stray_stands strays rest x moves parts.1) in
+      record {
+        same = laws.first items (map Some rest) others (key hash_of key_of x) x put
+            ∙ sym (laws.second items (map Some rest) (map Some strays) (key hash_of key_of x) x fresh in_order);
+        apart = (laws.apart others (map Some rest)).1 (own, front.1,
+            subst (λ (m : Map X). AreDisjoint m (holds (map Some rest))) (sym put)
+            (disjoint_first (holds items) (holds (map Some rest)) (key hash_of key_of x) x (disjoint_less_second (holds items) (holds (map Some rest)) (key hash_of key_of x) x beside gone) gone));
+      }
+
+-- a stray goes out, and comes back under its number
+pub put_back_again : {X : Type 0} (items old pushed new : List X) (at last : ℕ) (x : X) → at < length items → x ≡ get_or items at x → IsSwapped items old at → pushed ≡ old ++ (x ∷ []) → last ≡ length old → SwappedAt pushed new at last → length new ≡ length items → new ≡ items
+put_back_again items old pushed new at last x inside there out push ends swapped same_length =
+    ext_get_or x new items same_length (λ k below.
+    let in_items : k < length items = omega (arith, below, same_length) in
+    let x_is_last : get_or pushed last x ≡ x = ap (λ l. get_or l last x) push ∙ get_or_push old x x last (sym ends) in
+    ⊎_elim
+    (λ (e : k ≡ at). ap (λ n. get_or new n x) e ∙ swapped.0 x ∙ x_is_last ∙ there ∙ ap (λ n. get_or items n x) (sym e))
+    (λ (apart : k ≡ at → ⊥).
+    ⊎_elim
+    (λ (e : k ≡ last).
+    let before : at < length old = omega (arith, inside, out.shorter, ends, e, apart) in
+    let more : at + 1 < length items = omega (arith, before, out.shorter) in
+    let end : length items - 1 ≡ k = omega (arith, out.shorter, ends, e) in
+    ap (λ n. get_or new n x) e ∙ swapped.1 x ∙ ap (λ l. get_or l at x) push ∙ get_or_append_left old (x ∷ []) at x before ∙ out.last x more ∙ ap (λ n. get_or items n x) end)
+    (λ (other : k ≡ last → ⊥).
+    let before : k < length old = omega (arith, in_items, out.shorter, ends, other) in
+    swapped.2 k x apart other ∙ ap (λ l. get_or l k x) push ∙ get_or_append_left old (x ∷ []) k x before ∙ out.others k x apart (omega (arith, before, out.shorter)))
+    (cases_eq k last))
+    (cases_eq k at))
+
+-- what was not tried yet, when a stray of it goes out
+pub swapped_behind : {X : Type 0} (xs rest : List X) (at : ℕ) (x : X) → at < length xs → x ≡ get_or xs at x → rest ≡ swap_remove xs at x → (take at rest ≡ take at xs) × IsPermutation (drop at xs) (x ∷ drop at rest)
+swapped_behind xs rest at x inside there out = ?

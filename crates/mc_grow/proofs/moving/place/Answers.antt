@@ -1,0 +1,28 @@
+use Rattle.std.proofs.Common.{ℕ, List, ◌∷◌, ◌++◌, [], map, Some, inr, subst, ap, ◌∙◌}
+use Rattle.mc_hop.specs.Tables.{home_in}
+use Rattle.mc_grow.specs.Adding.{IsFull}
+use Rattle.mc_grow.proofs.MoveLemmas.{in_first, new_to_first, strayed}
+use Rattle.mc_grow.proofs.moving.place.Goals as goal
+
+pub add-requires : goal.add-requires
+add-requires g c =
+    (c.content_laws.ensures.absent c.args.table.now.items (g.T.Keyed.hash_of c.args.entry) (g.T.Keyed.key_of c.args.entry)).1
+    (new_to_first _ _ c.content_laws.ensures c.args.table.now.items (map Some c.args.strays.now.items) _ c.requires.new)
+
+pub returns-in-Ok-clause-content : goal.returns-in-Ok-clause-content
+returns-in-Ok-clause-content g c =
+    in_first _ _ c.content_laws.ensures c.args.table.now.items (map Some c.args.strays.now.items) c.add.new.table.items c.args.entry c.requires.apart c.requires.new
+    (record { come = c.in-Ok.ensures.put; apart = c.entries_are_apart.ensures })
+
+pub returns-clause-added : goal.returns-clause-added
+returns-clause-added g c =
+    inr (record {
+      same = c.in-Err.ensures.full.1;
+      full = subst (λ (k : ℕ). IsFull g.T.Keyed.hash_of k c.add.new.table.items (home_in k (g.T.Keyed.hash_of c.args.entry))) c.add.ensures.size.0 c.in-Err.ensures.full.2;
+      strays = c.push_reserved.ensures.items ∙ ap (λ (e : g.row.T.Denot). c.args.strays.now.items ++ (e ∷ [])) c.in-Err.ensures.full.0;
+    })
+
+pub returns-clause-content : goal.returns-clause-content
+returns-clause-content g c =
+    strayed _ _ c.content_laws.ensures c.args.table.now.items c.add.new.table.items c.args.strays.now.items c.push_reserved.new.self.items c.args.entry c.requires.apart c.requires.new
+    c.entries_are_apart-2.ensures c.in-Err.ensures.full.1 (c.push_reserved.ensures.items ∙ ap (λ (e : g.row.T.Denot). c.args.strays.now.items ++ (e ∷ [])) c.in-Err.ensures.full.0)

@@ -1,0 +1,16 @@
+use Rattle.std.proofs.Common.{◌≡◌, ◌+◌, ◌-◌, Option, Some, None, List, length, map, get_or, set, sym, ap, subst, refl, ◌∙◌, arith}
+use Rattle.std.proofs.lemmas.List.{map-set}
+use Rattle.mc_grow.proofs.PartLemmas.{put_back, stray_is, swapped}
+use Rattle.mc_grow.proofs.parts.update_stray.Goals as goal
+
+pub returns-clause-changed : goal.returns-clause-changed
+returns-clause-changed g c entry there =
+    let old = c.args.strays.now in
+    let is : c.swap_remove-entry.result ≡ entry = c.swap_remove-entry.ensures.value ∙ stray_is old.items c.args.at entry c.swap_remove-entry.result there in
+    let less = swapped old.ok.0 c.swap_remove-entry.new.self.ok.0 c.swap_remove-entry.ensures.len c.swap_remove-entry.ensures.by_index in
+    let whole = put_back old.items _ _ _ c.args.at (c.len-last.result - 1) c.change-entry.result.0 (omega (arith, c.requires.inside, old.ok.0)) (omega (arith, c.requires.inside, c.len-last.ensures, old.ok.0)) less c.push_reserved.ensures.items c.swap.ensures.by_index (omega (arith, c.swap.ensures.len, c.swap.new.self.ok.0, c.push_reserved.new.self.ok.0)) in
+    record {
+      given = c.change-entry.result.0;
+      called = subst (λ (e : g.row.T.Denot). g.F.FnOnce.post c.args.change (e, tt) c.change-entry.result) is c.change-entry.ensures;
+      changed = ap (map Some) whole ∙ map-set Some old.items c.args.at c.change-entry.result.0;
+    }

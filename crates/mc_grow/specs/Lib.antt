@@ -1,0 +1,4 @@
+pub mod Indexes
+pub mod Parts
+pub mod Adding
+pub mod Moving

@@ -1,0 +1,53 @@
+-- What moving entries from one place to another keeps, and what a try of one stray brings.
+use Rattle.std.specs.Prelude.{◌≡◌, ℕ, ◌+◌, ◌<◌, Bool, true, false, List, ◌∷◌, [], ◌++◌, ◌↔◌, Option, None, length, slice_index_or}
+use Rattle.std.specs.List.{swap_remove}
+use Rattle.std.specs.FinMap.{get, insert}
+use Rattle.std.specs.Option.{option_or}
+use Rattle.mc_hop.specs.Cells.{filled}
+use Rattle.mc_hop.specs.Contents.{AreDisjoint, content}
+use Rattle.mc_hop.specs.Tables.{AreApart, HasEntry, IsAbsent, home_in}
+use Rattle.mc_grow.specs.Adding.{IsAdded, IsFull, Side}
+
+-- the laws of the content of buckets that moves want, as `mc_hop` says them
+pub record ContentLaws {X : Type 0} (hash_of : X → ℕ) (key_of : X → List ℕ) : Type 0 where
+  pub absent : (items : List (Option X)) (hash : ℕ) (key : List ℕ) → IsAbsent hash_of key_of items hash key ↔ (get (content hash_of key_of items) (hash ∷ key) ≡ None)
+  pub alike : (items others : List (Option X)) → AreApart hash_of key_of items → AreApart hash_of key_of others → ((entry : X) → HasEntry items entry ↔ HasEntry others entry) → content hash_of key_of items ≡ content hash_of key_of others
+  pub none : (items : List (Option X)) → filled items ≡ 0 → content hash_of key_of items ≡ content hash_of key_of []
+  pub joined : (xs ys : List (Option X)) (key : List ℕ) → get (content hash_of key_of (xs ++ ys)) key ≡ option_or (get (content hash_of key_of xs) key) (get (content hash_of key_of ys) key)
+  pub parts : (xs ys zs others : List (Option X)) → content hash_of key_of xs ≡ content hash_of key_of zs → content hash_of key_of ys ≡ content hash_of key_of others → content hash_of key_of (xs ++ ys) ≡ content hash_of key_of (zs ++ others)
+  pub first : (xs ys zs : List (Option X)) (key : List ℕ) (entry : X) → content hash_of key_of zs ≡ insert (content hash_of key_of xs) key entry → content hash_of key_of (zs ++ ys) ≡ insert (content hash_of key_of (xs ++ ys)) key entry
+  pub second : (xs ys zs : List (Option X)) (key : List ℕ) (entry : X) → get (content hash_of key_of xs) key ≡ None → content hash_of key_of zs ≡ insert (content hash_of key_of ys) key entry → content hash_of key_of (xs ++ zs) ≡ insert (content hash_of key_of (xs ++ ys)) key entry
+  pub apart : (xs ys : List (Option X)) → AreApart hash_of key_of (xs ++ ys) ↔ (AreApart hash_of key_of xs × AreApart hash_of key_of ys × AreDisjoint (content hash_of key_of xs) (content hash_of key_of ys))
+
+-- the content is as it was, and no hash and key stands twice
+pub record HoldsAll {X : Type 0} (hash_of : X → ℕ) (key_of : X → List ℕ) (old new : List (Option X)) : Type 0 where
+  pub same : content hash_of key_of new ≡ content hash_of key_of old
+  pub apart : AreApart hash_of key_of new
+
+-- an entry has come to buckets
+pub record IsIn {X : Type 0} (hash_of : X → ℕ) (key_of : X → List ℕ) (x : X) (old new : List (Option X)) : Type 0 where
+  pub come : content hash_of key_of new ≡ insert (content hash_of key_of old) (hash_of x ∷ key_of x) x
+  pub apart : AreApart hash_of key_of new
+
+-- one entry was taken out of the old table, and added to the other by the rule
+pub record IsTaken {X : Type 0} (hash_of : X → ℕ) (key_of : X → List ℕ) (k : ℕ) (drained_old drained_new : List (Option X)) (old new : Side X) : Type 0 where
+  pub entry : X
+  pub taken : content hash_of key_of drained_old ≡ insert (content hash_of key_of drained_new) (hash_of entry ∷ key_of entry) entry
+  pub added : IsAdded hash_of key_of k entry old new
+
+-- what a try of a stray brings: the stray goes to the table, and the last stray takes its place, or it stays, as no bucket
+-- can be had near its home
+abbrev pub IsOutcome : {X : Type 0} → (X → ℕ) → (X → List ℕ) → ℕ → (at : ℕ) → X → Bool → (old new : Side X) → Type 0
+IsOutcome hash_of key_of k at entry true old new =
+    (content hash_of key_of new.items ≡ insert (content hash_of key_of old.items) (hash_of entry ∷ key_of entry) entry)
+    × (new.strays ≡ swap_remove old.strays at entry)
+IsOutcome hash_of key_of k at entry false old new =
+    (content hash_of key_of new.items ≡ content hash_of key_of old.items)
+    × IsFull hash_of k new.items (home_in k (hash_of entry)) × (new.strays ≡ old.strays)
+
+-- the stray of that number was tried
+pub record IsTried {X : Type 0} (hash_of : X → ℕ) (key_of : X → List ℕ) (k at : ℕ) (put : Bool) (old new : Side X) : Type 0 where
+  pub entry : X
+  pub inside : at < length old.strays
+  pub there : entry ≡ slice_index_or old.strays at entry
+  pub outcome : IsOutcome hash_of key_of k at entry put old new

@@ -1,0 +1,41 @@
+//! Adds an entry to one table.
+
+ghost use Rattle.std.specs.Prelude.{◌≡◌, ℕ, ◌^◌, ◌<◌, ◌∷◌, Some, None, IfOk, IfErr, length, slice_index_or};
+ghost use Rattle.std.specs.FinMap.{insert};
+ghost use Rattle.mc_hop.specs.Contents.{content};
+ghost use Rattle.mc_hop.specs.Tables.{IsAbsent, IsAt, home_in};
+ghost use Rattle.mc_grow.specs.Adding.{IsFull};
+
+use mc_displace::bring_near;
+use mc_hop::{content_has_each_entry, Hop, Keyed};
+
+/// Puts an entry of a new key into a bucket near its home, where one is empty or others can be moved to make it so. Answers the
+/// bucket, or gives the entry back where none can be had; the table's content is then as it was. It takes no memory.
+pub(crate) fn add<T: Keyed + Drop>(table: &mut Hop<T>, entry: T) -> Result<usize, T>
+    requires { IsAbsent T.hash_of T.key_of table.old.items (T.hash_of entry) (T.key_of entry) }
+    ensures size { (table.new.k ≡ table.old.k)
+        × (length table.new.items ≡ length table.old.items) }
+    ensures put { IfOk result (λ at. content T.hash_of T.key_of table.new.items
+        ≡ insert (content T.hash_of T.key_of table.old.items)
+        (T.hash_of entry ∷ T.key_of entry) entry) }
+    ensures place { IfOk result (λ at.
+        slice_index_or table.new.items at None ≡ Some entry) }
+    ensures inside { IfOk result (λ at. at < 2 ^ 25) }
+    ensures full { IfErr result (λ back. (back ≡ entry)
+        × (content T.hash_of T.key_of table.new.items ≡ content T.hash_of T.key_of table.old.items)
+        × IsFull T.hash_of table.new.k table.new.items (home_in table.new.k (T.hash_of entry))) }
+{
+    content_has_each_entry::<T>();
+    let _buckets = table.buckets();
+    let home = table.home_of(entry.hash());
+    let Some(free) = table.free_from(home) else {
+        return Err(entry);
+    };
+    match bring_near(table, home, free) {
+        Ok(at) => {
+            table.put_within(home, at, entry);
+            Ok(at)
+        }
+        Err(_) => Err(entry),
+    }
+}

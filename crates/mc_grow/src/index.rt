@@ -1,0 +1,277 @@
+//! An index that grows: two tables and strays.
+
+ghost use Rattle.std.specs.Prelude.{◌≡◌, ℕ, List, Option, ◌+◌, ◌-◌, ◌<◌, ◌≤◌, ◌^◌, ◌∷◌, Some, None, IfOk, IfSome, OnOk, OnErr};
+ghost use Rattle.std.specs.Prelude.{IsNone, option_copied, min, nat_lt, true, false, length};
+ghost use Rattle.std.specs.FinMap.{get, insert};
+ghost use Rattle.mc_hop.specs.Tables.{KeepsKey};
+ghost use Rattle.mc_grow.specs.Indexes.{IsNew, StandsAs, HasBegun, IsFilled, IsFound, IsNext, IsPlaceOf, IsUpdated};
+ghost use Rattle.mc_grow.specs.Parts.{IsFirstFilled, IsSpot, NoneFilledFrom};
+ghost use Rattle.mc_grow.specs.Indexes.{IsRemoved, cells, count, entry_at, holds, is_due, left, most_reads};
+ghost use Rattle.mc_grow.specs.Adding.{AreMoved, IsInserted};
+
+use crate::adding::add;
+use crate::parts::{Spot, drained_buckets, drained_entry, drained_len};
+use crate::parts::{filled_bucket, filled_drained, find_drained, find_stray};
+use crate::parts::{remove_drained, stray, update_drained, update_stray};
+use mc_hop::{Counts, Hop, Keyed, Uncounted};
+use mc_hop::{content_changes_at_one_key, content_has_each_entry};
+use std::alloc::{AllocError, Global};
+use std::marker::Model;
+
+/// Where an entry stands in an index, until one comes, goes or is moved. `Index::find_again` finds it then.
+#[derive(Clone, Copy)]
+pub struct Place {
+    number: usize,
+}
+
+/// Entries by their hashes and keys. They stand in a table, and while it grows in the old table too; an entry for which no bucket can
+/// be had near its home is a stray, in a list.
+///
+/// Contracts see the buckets of both tables and the strays, which together are one finite map (`holds`), whether a growth runs, and
+/// how many entries more may come before memory is asked for.
+#[derive(Drop)]
+pub struct Index<T: Keyed + Drop> {
+    draining: Option<Hop<T>>,
+    table: Hop<T>,
+    strays: Vec<T>,
+}
+
+impl<T: Keyed + Drop> Model for Index<T> {
+    ghost use Rattle.std.specs.Prelude.{◌+◌, ◌-◌, is_some, vec_capacity, vec_len};
+    ghost use Rattle.mc_hop.specs.Cells.{filled};
+    ghost use Rattle.mc_grow.specs.Indexes.{IndexState, coded_index};
+    ghost use Rattle.mc_grow.specs.Parts.{IsIndex, drained_items, room_in};
+
+    ghost Value = { IndexState T };
+
+    ghost coded = { coded_index T.code };
+
+    ghost view = { λ i. record {
+      k = i.table.k;
+      draining = drained_items i.draining;
+      table = i.table.items;
+      strays = i.strays.items;
+      growing = is_some i.draining;
+      spare = room_in (vec_capacity i.strays) - (vec_len i.strays + filled (drained_items i.draining));
+    } };
+
+    ghost invariant = { λ i. IsIndex T.hash_of T.key_of i.draining i.table i.strays.items (vec_capacity i.strays) };
+}
+
+impl<T: Keyed + Drop> Index<T> {
+    /// Makes an index of one table of 2^k homes, k from 6 to 24, with no entry. The one error is a refused allocation.
+    pub fn new(alloc: Global, k: u32) -> Result<Index<T>, AllocError>
+        requires { (6 ≤ k) × (k ≤ 24) }
+        ensures { IfOk result (IsNew k) }
+    {
+        Ok(Index {
+            draining: None,
+            table: Hop::new(alloc, k)?,
+            strays: Vec::new(alloc),
+        })
+    }
+
+    /// Finds the place of the entry of that hash and key. It reads at most 32 entries of each table, then the strays.
+    pub fn find(&self, hash: u64, key: &[u8]) -> Option<Place>
+        ensures { IsFound T.hash_of T.key_of self.now hash key.now result }
+    {
+        self.find_counted(hash, key, &mut Uncounted)
+    }
+
+    /// Finds the place as `find` does, by the same walk, and counts the entries that it reads.
+    pub fn find_counted<C: Counts>(&self, hash: u64, key: &[u8], reads: &mut C) -> Option<Place>
+        ensures found { IsFound T.hash_of T.key_of self.now hash key.now result }
+        ensures reads { C.count reads.new ≤ C.count reads.old + most_reads self.now }
+    {
+        content_has_each_entry::<T>();
+        let first = drained_buckets(&self.draining);
+        let second = first + self.table.buckets();
+        if let Some(at) = find_drained(&self.draining, hash, key, reads) {
+            return Some(Place { number: at });
+        }
+        if let Some(at) = self.table.find_counted(hash, key, reads) {
+            return Some(Place { number: first + at });
+        }
+        match find_stray(&self.strays, hash, key, reads) {
+            Some(at) => Some(Place {
+                number: second + at,
+            }),
+            None => None,
+        }
+    }
+
+    /// Finds the place as `find` does, whatever the place is that it is given: it looks there first, which is one read where
+    /// the entry was found there and has not moved since.
+    pub fn find_again(&self, place: Place, hash: u64, key: &[u8]) -> Option<Place>
+        ensures { IsFound T.hash_of T.key_of self.now hash key.now result }
+    {
+        content_has_each_entry::<T>();
+        let _ = &self.table;
+        match self.get(place) {
+            Some(entry) if entry.hash() == hash && entry.key() == key => Some(place),
+            _ => self.find(hash, key),
+        }
+    }
+
+    /// Says that one place alone is right for a hash and a key: searches that find it, find the same. It does nothing.
+    pub fn one_place_is_found(&self)
+        ensures { (hash : ℕ) (key : List ℕ) (one other : Option Place) →
+            IsFound T.hash_of T.key_of self.now hash key one →
+            IsFound T.hash_of T.key_of self.now hash key other → one ≡ other }
+    {
+        let _ = &self.strays;
+    }
+
+    /// Tells which part a place is in, and which of it.
+    fn spot(&self, place: Place) -> Spot
+        ensures { IsSpot (length self.now.draining) (length self.now.table) place.number result }
+    {
+        let first = drained_buckets(&self.draining);
+        let buckets = self.table.buckets();
+        if place.number < first {
+            Spot::Drained(place.number)
+        } else if place.number - first < buckets {
+            Spot::Table(place.number - first)
+        } else {
+            Spot::Stray(place.number - first - buckets)
+        }
+    }
+
+    /// Finds the first number at or above `at` that has an entry.
+    fn next_filled(&self, at: usize) -> Option<usize>
+        ensures found { IfSome result (IsFirstFilled (cells self.now) at) }
+        ensures none { IsNone result → NoneFilledFrom (cells self.now) at }
+        ensures small { IfSome result (λ number. number < 2 ^ 64 - 1) }
+    {
+        let first = drained_buckets(&self.draining);
+        let second = first + self.table.buckets();
+        if let Some(number) = filled_drained(&self.draining, at) {
+            return Some(number);
+        }
+        if let Some(number) = filled_bucket(&self.table, at.saturating_sub(first)) {
+            return Some(first + number);
+        }
+        let stray = at.saturating_sub(second);
+        if stray < self.strays.len() {
+            Some(second + stray)
+        } else {
+            None
+        }
+    }
+
+    /// Lends the entry at a place, where one stands there.
+    pub fn get(&self, place: Place) -> Option<&T>
+        ensures { option_copied result ≡ entry_at self.now place }
+    {
+        match self.spot(place) {
+            Spot::Drained(at) => drained_entry(&self.draining, at),
+            Spot::Table(at) => self.table.get(at),
+            Spot::Stray(at) => stray(&self.strays, at),
+        }
+    }
+
+    /// Changes the entry at a place by a closure that keeps its hash and its key, and hands out what the closure answers beside
+    /// it. It takes no memory of its own.
+    pub fn update<R, F: FnOnce(T) -> (T, R)>(&mut self, place: Place, change: F) -> R
+        requires filled { IsFilled self.old place }
+        requires keeps { (entry : T) → entry_at self.old place ≡ Some entry →
+            KeepsKey T.hash_of T.key_of (F.pre change) (F.post change) entry }
+        ensures { (entry : T) → entry_at self.old place ≡ Some entry →
+            IsUpdated T.hash_of T.key_of (F.post change) entry place self.old self.new result }
+    {
+        content_changes_at_one_key::<T>();
+        match self.spot(place) {
+            Spot::Drained(at) => update_drained(&mut self.draining, at, change),
+            Spot::Table(at) => self.table.update(at, change),
+            Spot::Stray(at) => update_stray(&mut self.strays, at, change),
+        }
+    }
+
+    /// Counts the entries.
+    pub fn len(&self) -> usize
+        ensures { result ≡ count self.now }
+    {
+        drained_len(&self.draining) + self.table.len() + self.strays.len()
+    }
+
+    /// Counts the entries of the old table, which are left to move.
+    pub fn left(&self) -> usize
+        ensures { result ≡ left self.now }
+    {
+        drained_len(&self.draining)
+    }
+
+    /// Answers whether a growth runs.
+    pub fn is_growing(&self) -> bool
+        ensures { result ≡ self.now.growing }
+    {
+        self.draining.is_some()
+    }
+
+    /// Finds the first entry whose number is at or above `at`, for a sweep over all entries: each place has one number, and a
+    /// removal changes no lower one. A sweep goes on at the number after it, and where it removed the entry, at the number
+    /// itself. The cost grows with the empty buckets that are passed.
+    pub fn filled_from(&self, at: usize) -> Option<(usize, Place)>
+        ensures { IsNext self.now at result }
+    {
+        let number = self.next_filled(at)?;
+        Some((number, Place { number }))
+    }
+
+    /// Takes the entry at a place out. It takes no memory.
+    pub fn remove(&mut self, place: Place) -> T
+        requires { IsFilled self.old place }
+        ensures { IsRemoved T.hash_of T.key_of place result self.old self.new }
+    {
+        content_has_each_entry::<T>();
+        content_changes_at_one_key::<T>();
+        match self.spot(place) {
+            Spot::Drained(at) => remove_drained(&mut self.draining, at),
+            Spot::Table(at) => self.table.remove(at),
+            Spot::Stray(at) => self.strays.swap_remove(at),
+        }
+    }
+
+    /// Makes room for one entry more, and begins a growth where one is due: a table of twice the homes, to which the entries of
+    /// the old one come by `move_some`. Room is made for all of them among the strays, so that no move takes memory. The content
+    /// is as it was; refused, all stands where it stood. An error is a refused allocation, or that strays and entries of the old
+    /// table would be more than 2^32.
+    pub fn reserve(&mut self, alloc: Global) -> Result<(), AllocError>
+        ensures room { OnOk result (1 ≤ self.new.spare) }
+        ensures begins { OnOk result (is_due self.old ≡ true → HasBegun self.old self.new) }
+        ensures stays { OnOk result (is_due self.old ≡ false → StandsAs self.old self.new) }
+        ensures refused { OnErr result (StandsAs self.old self.new) }
+        ensures content { holds T.hash_of T.key_of self.new ≡ holds T.hash_of T.key_of self.old }
+    {
+        unreachable!()
+    }
+
+    /// Puts in an entry of a new hash and key, for which there is room, and answers its place: in a bucket of the table near its home,
+    /// or among the strays where none can be had. It takes no memory.
+    pub fn insert_reserved(&mut self, entry: T) -> Place
+        requires new { get (holds T.hash_of T.key_of self.old) (T.hash_of entry ∷ T.key_of entry)
+            ≡ None }
+        requires room { 1 ≤ self.old.spare }
+        ensures content { holds T.hash_of T.key_of self.new ≡ insert
+            (holds T.hash_of T.key_of self.old) (T.hash_of entry ∷ T.key_of entry) entry }
+        ensures place { IsPlaceOf T.hash_of T.key_of self.new
+            (T.hash_of entry) (T.key_of entry) result }
+        ensures inserted { IsInserted T.hash_of T.key_of entry self.old self.new }
+        ensures room { self.old.spare ≤ self.new.spare + 1 }
+    {
+        unreachable!()
+    }
+
+    /// Moves up to `n` entries of the old table, and answers how many it moved: as many as are left, where they are fewer. When
+    /// none is left the old table is dropped, each stray is tried once in the table, and the growth is over. The content stays,
+    /// and no memory is taken. The cost grows with `n`, and at a growth's end with the strays.
+    pub fn move_some(&mut self, n: usize) -> usize
+        ensures moved { result ≡ min n (left self.old) }
+        ensures left { left self.new ≡ left self.old - result }
+        ensures content { holds T.hash_of T.key_of self.new ≡ holds T.hash_of T.key_of self.old }
+        ensures moves { AreMoved T.hash_of T.key_of result self.old self.new }
+        ensures room { self.old.spare ≤ self.new.spare }
+    {
+        unreachable!()
+    }
+}

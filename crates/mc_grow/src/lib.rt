@@ -1,0 +1,11 @@
+//! A growing index of entries: two hopscotch tables and a list of strays, as one finite map.
+#![tactic(auto)]
+
+mod adding;
+mod index;
+mod moving;
+mod parts;
+#[cfg(test)]
+mod tests;
+
+pub use index::{Index, Place};

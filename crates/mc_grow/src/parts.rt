@@ -1,0 +1,193 @@
+//! The parts of an index, each by itself: the old table that may be there, the table, and the strays.
+
+ghost use Rattle.std.specs.Prelude.{◌≡◌, ℕ, ◌+◌, ◌<◌, ◌≤◌, ◌^◌, Some, None, IfSome, IsNone, if◌then◌else◌, is_some, map, length, true, vec_len, vec_capacity};
+ghost use Rattle.std.specs.Prelude.{option_copied, slice_index_or, slice_set};
+ghost use Rattle.mc_hop.specs.Cells.{filled};
+ghost use Rattle.mc_hop.specs.Tables.{IsAbsent, IsAt, KeepsKey};
+ghost use Rattle.mc_grow.specs.Parts.{IsChanged, IsFirstFilled, NoneFilledFrom, drained_items};
+
+use mc_hop::{Counts, Hop, Keyed};
+
+/// Where the number of a place leads: a bucket of the old table or of the table, or a stray.
+#[derive(Clone, Copy)]
+pub(crate) enum Spot {
+    Drained(usize),
+    Table(usize),
+    Stray(usize),
+}
+
+/// Counts the buckets of an old table: at most 2^24 + 255, and none where there is no table.
+pub(crate) fn drained_buckets<T: Keyed + Drop>(draining: &Option<Hop<T>>) -> usize
+    ensures value { result ≡ length (drained_items draining.now) }
+    ensures most { result ≤ 2 ^ 24 + 255 }
+{
+    match draining {
+        Some(old) => old.buckets(),
+        None => 0,
+    }
+}
+
+/// Counts the entries of an old table: at most 2^24 + 255.
+pub(crate) fn drained_len<T: Keyed + Drop>(draining: &Option<Hop<T>>) -> usize
+    ensures value { result ≡ filled (drained_items draining.now) }
+    ensures most { result ≤ 2 ^ 24 + 255 }
+{
+    match draining {
+        Some(old) => old.len(),
+        None => 0,
+    }
+}
+
+/// Finds the bucket of an old table that has the entry of that hash and key. It reads at most 32 entries.
+pub(crate) fn find_drained<T: Keyed + Drop, C: Counts>(
+    draining: &Option<Hop<T>>,
+    hash: u64,
+    key: &[u8],
+    reads: &mut C,
+) -> Option<usize>
+    ensures found { IfSome result (λ at. (at < length (drained_items draining.now))
+        × IsAt T.hash_of T.key_of (drained_items draining.now) hash key.now at) }
+    ensures none { IsNone result →
+        IsAbsent T.hash_of T.key_of (drained_items draining.now) hash key.now }
+    ensures reads { C.count reads.new
+        ≤ C.count reads.old + (if is_some draining.now then 32 else 0) }
+{
+    match draining {
+        Some(old) => old.find_counted(hash, key, reads),
+        None => None,
+    }
+}
+
+/// Tells whether an entry has that hash and key. It is the one read of a stray that a search makes.
+fn has_key<T: Keyed + Drop, C: Counts>(entry: &T, hash: u64, key: &[u8], reads: &mut C) -> bool
+    ensures reads { C.count reads.new ≤ C.count reads.old + 1 }
+    ensures yes { result ≡ true →
+        (T.hash_of entry.now ≡ hash) × (T.key_of entry.now ≡ key.now) }
+    ensures no { T.hash_of entry.now ≡ hash → T.key_of entry.now ≡ key.now → result ≡ true }
+{
+    reads.tick();
+    entry.hash() == hash && entry.key() == key
+}
+
+/// Finds the stray of that hash and key. It reads each stray at most once.
+pub(crate) fn find_stray<T: Keyed + Drop, C: Counts>(
+    strays: &Vec<T>,
+    hash: u64,
+    key: &[u8],
+    reads: &mut C,
+) -> Option<usize>
+    ensures found { IfSome result (λ at. (at < length strays.now.items)
+        × IsAt T.hash_of T.key_of (map Some strays.now.items) hash key.now at) }
+    ensures none { IsNone result →
+        IsAbsent T.hash_of T.key_of (map Some strays.now.items) hash key.now }
+    ensures reads { C.count reads.new ≤ C.count reads.old + length strays.now.items }
+{
+    for at in 0..strays.len() {
+        if has_key(&strays[at], hash, key, reads) {
+            return Some(at);
+        }
+    }
+    None
+}
+
+/// Lends the entry of a bucket of an old table, where it has one.
+pub(crate) fn drained_entry<T: Keyed + Drop>(draining: &Option<Hop<T>>, at: usize) -> Option<&T>
+    requires { at < length (drained_items draining.now) }
+    ensures { option_copied result ≡ slice_index_or (drained_items draining.now) at None }
+{
+    match draining {
+        Some(old) => old.get(at),
+        None => None,
+    }
+}
+
+/// Lends a stray, where there is one of that number.
+pub(crate) fn stray<T: Drop>(strays: &Vec<T>, at: usize) -> Option<&T>
+    ensures { option_copied result ≡ slice_index_or (map Some strays.now.items) at None }
+{
+    strays.get(at)
+}
+
+/// Changes the entry of a bucket of an old table.
+pub(crate) fn update_drained<T: Keyed + Drop, R, F: FnOnce(T) -> (T, R)>(
+    draining: &mut Option<Hop<T>>,
+    at: usize,
+    change: F,
+) -> R
+    requires filled { is_some (slice_index_or (drained_items draining.old) at None) ≡ true }
+    requires keeps { (entry : T) → slice_index_or (drained_items draining.old) at None ≡ Some entry →
+        KeepsKey T.hash_of T.key_of (F.pre change) (F.post change) entry }
+    ensures changed { (entry : T) → slice_index_or (drained_items draining.old) at None ≡ Some entry →
+        IsChanged (F.post change) entry at
+        (drained_items draining.old) (drained_items draining.new) result }
+    ensures stays { is_some draining.new ≡ is_some draining.old }
+{
+    match draining {
+        Some(old) => old.update(at, change),
+        None => unreachable!(),
+    }
+}
+
+/// Changes a stray. It takes no memory of its own.
+pub(crate) fn update_stray<T: Drop, R, F: FnOnce(T) -> (T, R)>(
+    strays: &mut Vec<T>,
+    at: usize,
+    change: F,
+) -> R
+    requires inside { at < vec_len strays.old }
+    requires may { (entry : T) →
+        slice_index_or (map Some strays.old.items) at None ≡ Some entry → F.pre change entry }
+    ensures changed { (entry : T) →
+        slice_index_or (map Some strays.old.items) at None ≡ Some entry →
+        IsChanged (F.post change) entry at
+        (map Some strays.old.items) (map Some strays.new.items) result }
+    ensures capacity { vec_capacity strays.new ≡ vec_capacity strays.old }
+    ensures len { vec_len strays.new ≡ vec_len strays.old }
+{
+    let last = strays.len() - 1;
+    let entry = strays.swap_remove(at);
+    let (entry, answer) = change(entry);
+    strays.push_reserved(entry);
+    strays.swap(at, last);
+    answer
+}
+
+/// Takes the entry of a bucket of an old table out.
+pub(crate) fn remove_drained<T: Keyed + Drop>(draining: &mut Option<Hop<T>>, at: usize) -> T
+    requires { is_some (slice_index_or (drained_items draining.old) at None) ≡ true }
+    ensures here { slice_index_or (drained_items draining.old) at None ≡ Some result }
+    ensures removed { drained_items draining.new ≡ slice_set (drained_items draining.old) at None }
+    ensures stays { is_some draining.new ≡ is_some draining.old }
+{
+    match draining {
+        Some(old) => old.remove(at),
+        None => unreachable!(),
+    }
+}
+
+/// Finds the first bucket from that number on that has an entry. The cost grows with the empty buckets that are passed.
+pub(crate) fn filled_bucket<T: Keyed + Drop>(table: &Hop<T>, from: usize) -> Option<usize>
+    ensures found { IfSome result (IsFirstFilled table.now.items from) }
+    ensures none { IsNone result → NoneFilledFrom table.now.items from }
+{
+    for at in from..table.buckets() {
+        if table.get(at).is_some() {
+            return Some(at);
+        }
+    }
+    None
+}
+
+/// Finds the first bucket of an old table from that number on that has an entry.
+pub(crate) fn filled_drained<T: Keyed + Drop>(
+    draining: &Option<Hop<T>>,
+    from: usize,
+) -> Option<usize>
+    ensures found { IfSome result (IsFirstFilled (drained_items draining.now) from) }
+    ensures none { IsNone result → NoneFilledFrom (drained_items draining.now) from }
+{
+    match draining {
+        Some(old) => filled_bucket(old, from),
+        None => None,
+    }
+}
