@@ -112,6 +112,7 @@ pub(crate) fn move_entries<T: Keyed + Drop>(
         ≤ vec_len strays.old + filled draining.old.items }
     ensures capacity { vec_capacity strays.new ≡ vec_capacity strays.old }
 {
+    content_laws::<T>();
     for moved in 0..n {
         let Some(at) = draining.any_filled() else {
             return moved;
