@@ -62,11 +62,11 @@ both_none (Some x) b e f = e
 -- what one of two maps with no key in common has, the other has not
 pub none_beside : {X : Type 0} (m n : Map X) (k : List ℕ) (x : X) → AreDisjoint m n → get m k ≡ Some x → get n k ≡ None
 none_beside m n k x apart here =
-    elim (get n k) as (λ o. get n k ≡ o → o ≡ None) [ | None ↦ λ e. refl | (Some y) ↦ λ e. absurd (apart k x y here e) ] refl
+    elim (get n k) as (λ o. get n k ≡ o → o ≡ None) [ None ↦ λ e. refl | (Some y) ↦ λ e. absurd (apart k x y here e) ] refl
 
 pub none_before : {X : Type 0} (m n : Map X) (k : List ℕ) (x : X) → AreDisjoint m n → get n k ≡ Some x → get m k ≡ None
 none_before m n k x apart here =
-    elim (get m k) as (λ o. get m k ≡ o → o ≡ None) [ | None ↦ λ e. refl | (Some y) ↦ λ e. absurd (apart k y x e here) ] refl
+    elim (get m k) as (λ o. get m k ≡ o → o ≡ None) [ None ↦ λ e. refl | (Some y) ↦ λ e. absurd (apart k y x e here) ] refl
 
 pub disjoint_first : {X : Type 0} (m n : Map X) (k : List ℕ) (x : X) → AreDisjoint m n → get n k ≡ None → AreDisjoint (insert m k x) n
 disjoint_first m n k x apart none q y z here there =
@@ -160,8 +160,11 @@ module _ {X : Type 0} (hash_of : X → ℕ) (key_of : X → List ℕ) (laws : Co
       let parts = (laws.apart xs ys).0 apart in
       record {
         come = laws.first xs ys zs (key x) x come.come;
-        apart = (laws.apart zs ys).1 (come.apart, parts.1,
-            subst (λ (m : Map X). AreDisjoint m (holds ys)) (sym come.come) (disjoint_first (holds xs) (holds ys) (key x) x parts.2 (new_to_second xs ys (key x) new)));
+        apart = (laws.apart zs ys).1 (
+          come.apart,
+          parts.1,
+          subst (λ (m : Map X). AreDisjoint m (holds ys)) (sym come.come) (disjoint_first (holds xs) (holds ys) (key x) x parts.2 (new_to_second xs ys (key x) new)),
+        );
       }
 
   pub in_second : (xs ys zs : Cells) (x : X) → AreApart hash_of key_of (xs ++ ys) → get (holds (xs ++ ys)) (key x) ≡ None → IsIn hash_of key_of x ys zs → IsIn hash_of key_of x (xs ++ ys) (xs ++ zs)
@@ -169,8 +172,11 @@ module _ {X : Type 0} (hash_of : X → ℕ) (key_of : X → List ℕ) (laws : Co
       let parts = (laws.apart xs ys).0 apart in
       record {
         come = laws.second xs ys zs (key x) x (new_to_first xs ys (key x) new) come.come;
-        apart = (laws.apart xs zs).1 (parts.0, come.apart,
-            subst (λ (m : Map X). AreDisjoint (holds xs) m) (sym come.come) (disjoint_second (holds xs) (holds ys) (key x) x parts.2 (new_to_first xs ys (key x) new)));
+        apart = (laws.apart xs zs).1 (
+          parts.0,
+          come.apart,
+          subst (λ (m : Map X). AreDisjoint (holds xs) m) (sym come.come) (disjoint_second (holds xs) (holds ys) (key x) x parts.2 (new_to_first xs ys (key x) new)),
+        );
       }
 
   -- a part that holds what another did may stand in its place
@@ -219,8 +225,11 @@ module _ {X : Type 0} (hash_of : X → ℕ) (key_of : X → List ℕ) (laws : Co
       record {
         back = laws.first zs ys xs (key x) x out.back;
         gone = laws.joined zs ys (key x) ∙ both_none (get (holds zs) (key x)) (get (holds ys) (key x)) out.gone (new_to_other xs ys zs x apart out);
-        apart = (laws.apart zs ys).1 (out.apart, parts.1,
-            disjoint_less (holds zs) (holds ys) (key x) x (subst (λ (m : Map X). AreDisjoint m (holds ys)) out.back parts.2) out.gone);
+        apart = (laws.apart zs ys).1 (
+          out.apart,
+          parts.1,
+          disjoint_less (holds zs) (holds ys) (key x) x (subst (λ (m : Map X). AreDisjoint m (holds ys)) out.back parts.2) out.gone,
+        );
       }
 
   -- it goes from the first part to the second

@@ -123,9 +123,12 @@ module _ {X : Type 0} (hash_of : X → ℕ) (key_of : X → List ℕ) (laws : Co
       record {
         same = laws.first items (map Some rest) others (key hash_of key_of x) x put
             ∙ sym (laws.second items (map Some rest) (map Some strays) (key hash_of key_of x) x fresh in_order);
-        apart = (laws.apart others (map Some rest)).1 (own, front.1,
-            subst (λ (m : Map X). AreDisjoint m (holds (map Some rest))) (sym put)
-            (disjoint_first (holds items) (holds (map Some rest)) (key hash_of key_of x) x (disjoint_less_second (holds items) (holds (map Some rest)) (key hash_of key_of x) x beside gone) gone));
+        apart = (laws.apart others (map Some rest)).1 (
+          own,
+          front.1,
+          subst (λ (m : Map X). AreDisjoint m (holds (map Some rest))) (sym put)
+              (disjoint_first (holds items) (holds (map Some rest)) (key hash_of key_of x) x (disjoint_less_second (holds items) (holds (map Some rest)) (key hash_of key_of x) x beside gone) gone),
+        );
       }
 
 add-one : (n : ℕ) → suc n ≡ n + 1
@@ -156,10 +159,10 @@ put_back_again {X} items old pushed new at last x inside there out push ends swa
     let before : at < length old = omega (arith, inside, out.shorter, ends, e, apart) in
     let more : at + 1 < length items = omega (arith, before, out.shorter) in
     let end : length items - 1 ≡ k = omega (arith, out.shorter, ends, e) in
-    ap (λ (n : ℕ). get_or new n x) e ∙ swapped.1 x ∙ ap (λ (l : List X). get_or l at x) push ∙ get_or_append_left old (x ∷ []) at x before ∙ out.last x more ∙ ap (λ (n : ℕ). get_or items n x) end)
+    ap (λ (n : ℕ). get_or new n x) e ∙ swapped.1 x ∙ ap (λ (l : List X). get_or l at x) push ∙ get_or_append_left old (x ∷ []) x at before ∙ out.last x more ∙ ap (λ (n : ℕ). get_or items n x) end)
     (λ (other : k ≡ last → ⊥).
     let before : k < length old = omega (arith, in_items, out.shorter, ends, other) in
-    swapped.2 k x apart other ∙ ap (λ (l : List X). get_or l k x) push ∙ get_or_append_left old (x ∷ []) k x before ∙ out.others k x apart (omega (arith, before, out.shorter)))
+    swapped.2 k x apart other ∙ ap (λ (l : List X). get_or l k x) push ∙ get_or_append_left old (x ∷ []) x k before ∙ out.others k x apart (omega (arith, before, out.shorter)))
     (cases_eq k last))
     (cases_eq k at))
 
@@ -173,13 +176,12 @@ swapped_out {X} xs rest at x inside there out =
     let back : drop at xs ≡ x ∷ drop (at + 1) xs = drop-cons xs at x inside ∙ ap (λ (y : X). y ∷ drop (suc at) xs) (sym there) ∙ ap (λ (n : ℕ). x ∷ drop n xs) (add-one at) in
     let behind : drop at rest ≡ take m (end ∷ drop (at + 1) xs) = ap (drop at) is ∙ drop-take at m (set xs at end) ∙ ap (take m) (drop-set xs at end inside) in
     let many : length (x ∷ drop (at + 1) xs) - 1 ≡ m = omega (arith, length-drop (at + 1) xs) in
-    let last : get_or (x ∷ drop (at + 1) xs) m x ≡ end = ap (λ (l : List X). get_or l m x) (sym back) ∙ get_or-drop xs at m x ∙ ap (λ (n : ℕ). get_or xs n x) (sym ends) in
+    let last : get_or (x ∷ drop (at + 1) xs) m x ≡ end = ap (λ (l : List X). get_or l m x) (sym back) ∙ get_or-drop at xs m x ∙ ap (λ (n : ℕ). get_or xs n x) (sym ends) in
     let same : swap_remove (x ∷ drop (at + 1) xs) 0 x ≡ drop at rest =
-    ap (λ (n : ℕ). take n (get_or (x ∷ drop (at + 1) xs) n x ∷ drop (at + 1) xs)) many ∙ ap (λ (y : X). take m (y ∷ drop (at + 1) xs)) last ∙ sym behind in
-    (
+    ap (λ (n : ℕ). take n (get_or (x ∷ drop (at + 1) xs) n x ∷ drop (at + 1) xs)) many ∙ ap (λ (y : X). take m (y ∷ drop (at + 1) xs)) last ∙ sym behind in (
       ap (take at) is ∙ take-take at (at + m) (set xs at end) (omega arith) ∙ take-set xs at end,
       subst (λ (l : List X). IsPermutation l (x ∷ drop at rest)) (sym back)
-      (subst (λ (l : List X). IsPermutation (x ∷ drop (at + 1) xs) (x ∷ l)) same (IsPermutation-swap_remove (x ∷ drop (at + 1) xs) 0 x (omega arith) refl)),
+          (subst (λ (l : List X). IsPermutation (x ∷ drop (at + 1) xs) (x ∷ l)) same (IsPermutation-swap_remove (x ∷ drop (at + 1) xs) 0 x (omega arith) refl)),
     )
 
 module _ {X : Type 0} (hash_of : X → ℕ) (key_of : X → List ℕ) (laws : ContentLaws hash_of key_of) where
@@ -260,3 +262,9 @@ all_tried {X} hash_of key_of k turn kept start side so_far done =
       each = subst (λ (l : List X). IsPermutation start.strays l) (ap (λ (l : List X). so_far.tried ++ l) (drop_of_length-le side.strays ends) ∙ append-nil so_far.tried) so_far.each;
       added = subst (λ (l : List X). AreAdded hash_of key_of k so_far.tried (record start { strays = [] }) (record side { strays = l })) (take_all kept side.strays ends) so_far.added;
     }
+
+pub tried_more : {X : Type 0} (hash_of : X → ℕ) (key_of : X → List ℕ) (k k_now turn kept kept_now : ℕ) (put : Bool) (start side side_now : Side X) → TriedSoFar hash_of key_of k turn kept start side → IsTried hash_of key_of k_now kept put side side_now → k_now ≡ k → HoldsAll hash_of key_of (cells_of side) (cells_of side_now) → (put ≡ true → kept_now ≡ kept) → (put ≡ false → kept_now ≡ kept + 1) → TriedSoFar hash_of key_of k (turn + 1) kept_now start side_now
+tried_more hash_of key_of k k_now turn kept kept_now true start side side_now before one is held goes stays =
+    subst (λ (n : ℕ). TriedSoFar hash_of key_of k (turn + 1) n start side_now) (sym (goes refl)) (tried_put hash_of key_of k k_now turn kept start side side_now before one held)
+tried_more hash_of key_of k k_now turn kept kept_now false start side side_now before one is held goes stays =
+    subst (λ (n : ℕ). TriedSoFar hash_of key_of k (turn + 1) n start side_now) (sym (stays refl)) (tried_kept hash_of key_of k k_now turn kept start side side_now before one is held)
