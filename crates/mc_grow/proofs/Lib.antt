@@ -1,3 +1,4 @@
 pub mod MoveLemmas
 pub mod StrayLemmas
 pub mod PartLemmas
+pub mod IndexLemmas
