@@ -1,10 +1,14 @@
 -- What an index is after moves and inserts, by its parts.
-use Rattle.std.proofs.Common.{◌≡◌, ℕ, ◌<◌, true, false, true≢false, List, [], ◌∷◌, ◌++◌, map, Option, Some, refl, sym, ap, subst, ◌∙◌, arith}
+use Rattle.std.proofs.Common.{◌≡◌, ℕ, ◌<◌, true, false, true≢false, List, [], ◌∷◌, ◌++◌, map, Option, Some, None, ◌+◌, length, get_or, refl, sym, ap, subst, ◌∙◌, arith}
 use Rattle.std.specs.Prelude.{nat_lt}
 use Rattle.mc_hop.specs.Cells.{filled}
 use Rattle.mc_hop.specs.Contents.{content}
-use Rattle.mc_grow.specs.Indexes.{IndexState}
-use Rattle.mc_grow.specs.Moving.{ContentLaws}
+use Rattle.mc_grow.specs.Indexes.{IndexState, IsPlaceOf, cells}
+use Rattle.std.specs.FinMap.{get}
+use Rattle.mc_hop.specs.Tables.{AreApart}
+use Rattle.mc_grow.specs.Moving.{ContentLaws, IsIn}
+use Rattle.mc_grow.proofs.MoveLemmas.{Map, at_its_key, in_second}
+use Rattle.std.proofs.lemmas.List.{get_or-append-add}
 use Rattle.std.proofs.lemmas.Bool.{lt-ltb}
 use Rattle.mc_grow.specs.Adding.{AreAdded, AreMoved, AreTaken, AreTried, Side, side_of}
 use Rattle.mc_grow.specs.Adding.AreAdded.{none_added}
@@ -64,3 +68,19 @@ module _ {X : Type 0} (hash_of : X → ℕ) (key_of : X → List ℕ) where
   } where
     is_some_left : (m : ℕ) → (m ≡ 0 → ⊥) → nat_lt 0 m ≡ true
     is_some_left m some = lt-ltb 0 m (omega (arith, some))
+
+-- an entry has come to the table and the strays of an index
+module _ {X : Type 0} (hash_of : X → ℕ) (key_of : X → List ℕ) (laws : ContentLaws hash_of key_of) (drained old new : List (Option X)) (entry : X) (apart : AreApart hash_of key_of (drained ++ old)) (fresh : get (content hash_of key_of (drained ++ old)) (hash_of entry ∷ key_of entry) ≡ None) (come : IsIn hash_of key_of entry old new) where
+  pub all_apart : AreApart hash_of key_of (drained ++ new)
+  all_apart = (in_second hash_of key_of laws drained old new entry apart fresh come).apart
+
+  pub its_place : (index : IndexState X) → cells index ≡ drained ++ new → (buckets at : ℕ) → buckets ≡ length drained → get_or new at None ≡ Some entry → IsPlaceOf hash_of key_of index (hash_of entry) (key_of entry) (record { number = buckets + at })
+  its_place index is buckets at many there = record {
+    entry = entry;
+    there = ap (λ (l : List (Option X)). get_or l (buckets + at) None) is ∙ ap (λ (n : ℕ). get_or (drained ++ new) (n + at) None) many ∙ get_or-append-add drained new at None ∙ there;
+    same_hash = refl;
+    same_key = refl;
+    held = ap (λ (l : List (Option X)). get (content hash_of key_of l) (hash_of entry ∷ key_of entry)) is
+        ∙ ap (λ (m : Map X). get m (hash_of entry ∷ key_of entry)) (in_second hash_of key_of laws drained old new entry apart fresh come).come
+        ∙ at_its_key (content hash_of key_of (drained ++ old)) (hash_of entry ∷ key_of entry) entry;
+  }
