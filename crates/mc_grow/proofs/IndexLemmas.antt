@@ -1,13 +1,14 @@
 -- What an index is after moves and inserts, by its parts.
-use Rattle.std.proofs.Common.{◌≡◌, ℕ, ◌<◌, true, false, true≢false, List, [], ◌∷◌, ◌++◌, map, Option, Some, None, ◌+◌, length, get_or, refl, sym, ap, subst, ◌∙◌, arith}
+use Rattle.std.proofs.Common.{◌≡◌, ℕ, zero, suc, replicate, is_some, not, ◌&&◌, Bool, ◌≤◌, ◌<◌, true, false, true≢false, List, [], ◌∷◌, ◌++◌, map, Option, Some, None, ◌+◌, length, get_or, refl, sym, ap, subst, ◌∙◌, arith}
 use Rattle.std.specs.Prelude.{nat_lt}
 use Rattle.mc_hop.specs.Cells.{filled}
 use Rattle.mc_hop.specs.Contents.{content}
 use Rattle.mc_grow.specs.Indexes.{IndexState, IsPlaceOf, cells}
 use Rattle.std.specs.FinMap.{get}
-use Rattle.mc_hop.specs.Tables.{AreApart}
-use Rattle.mc_grow.specs.Moving.{ContentLaws, IsIn}
-use Rattle.mc_grow.proofs.MoveLemmas.{Map, at_its_key, in_second}
+use Rattle.mc_hop.specs.Tables.{AreApart, HopState}
+use Rattle.mc_grow.specs.Moving.{ContentLaws, HoldsAll, IsIn}
+use Rattle.mc_grow.specs.Parts.{drained_items}
+use Rattle.mc_grow.proofs.MoveLemmas.{Map, at_its_key, in_second, more_buckets}
 use Rattle.std.proofs.lemmas.List.{get_or-append-add}
 use Rattle.std.proofs.lemmas.Bool.{lt-ltb}
 use Rattle.mc_grow.specs.Adding.{AreAdded, AreMoved, AreTaken, AreTried, Side, side_of}
@@ -84,3 +85,33 @@ module _ {X : Type 0} (hash_of : X → ℕ) (key_of : X → List ℕ) (laws : Co
         ∙ ap (λ (m : Map X). get m (hash_of entry ∷ key_of entry)) (in_second hash_of key_of laws drained old new entry apart fresh come).come
         ∙ at_its_key (content hash_of key_of (drained ++ old)) (hash_of entry ∷ key_of entry) entry;
   }
+
+no_drained : {X : Type 0} (draining : Option (HopState X)) → is_some draining ≡ false → drained_items draining ≡ []
+no_drained None e = refl
+no_drained (Some table) e = absurd (true≢false e)
+
+filled_none : (X : Type 0) (n : ℕ) → filled {X = X} (replicate n None) ≡ 0
+filled_none X zero = refl
+filled_none X (suc n) = filled_none X n
+
+pub filled_most : {X : Type 0} (items : List (Option X)) → filled items ≤ length items
+filled_most [] = omega arith
+filled_most (None ∷ items) = omega (arith, filled_most items)
+filled_most (Some x ∷ items) = omega (arith, filled_most items)
+
+-- a growth is due only where none runs
+pub due_rests : (growing rest : Bool) → (not growing && rest) ≡ true → growing ≡ false
+due_rests true rest e = absurd (true≢false (sym e))
+due_rests false rest e = refl
+
+-- a growth begins: the content stays
+pub begun : {X : Type 0} (hash_of : X → ℕ) (key_of : X → List ℕ) (laws : ContentLaws hash_of key_of) (draining : Option (HopState X)) (table made drained now : HopState X) (strays strays_now : List X) (k n : ℕ) → is_some draining ≡ false → drained ≡ table → now ≡ made → made ≡ record { k = k; items = replicate n None } → AreApart hash_of key_of made.items → strays_now ≡ strays → AreApart hash_of key_of (drained_items draining ++ (table.items ++ map Some strays)) → HoldsAll hash_of key_of (drained_items draining ++ (table.items ++ map Some strays)) (drained.items ++ (now.items ++ map Some strays_now))
+begun {X} hash_of key_of laws draining table made drained now strays strays_now k n rests old_is new_is empty own same apart =
+    let nothing : filled made.items ≡ 0 = ap (λ (t : HopState X). filled t.items) empty ∙ filled_none X n in
+    let bare : drained_items draining ++ (table.items ++ map Some strays) ≡ table.items ++ map Some strays = ap (λ (l : List (Option X)). l ++ (table.items ++ map Some strays)) (no_drained draining rests) in
+    let whole : HoldsAll hash_of key_of (table.items ++ map Some strays) (table.items ++ (made.items ++ map Some strays)) =
+    more_buckets hash_of key_of laws table.items (map Some strays) made.items nothing own (subst (AreApart hash_of key_of) bare apart) in
+    let is : drained.items ++ (now.items ++ map Some strays_now) ≡ table.items ++ (made.items ++ map Some strays) =
+    λ i. (old_is i).items ++ ((new_is i).items ++ map Some (same i)) in
+    subst (λ (l : List (Option X)). HoldsAll hash_of key_of l (drained.items ++ (now.items ++ map Some strays_now))) (sym bare)
+    (subst (λ (l : List (Option X)). HoldsAll hash_of key_of (table.items ++ map Some strays) l) (sym is) whole)

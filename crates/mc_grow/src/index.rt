@@ -340,6 +340,7 @@ impl<T: Keyed + Drop> Index<T> {
     {
         content_laws::<T>();
         let table = Hop::new(alloc, self.table.exponent() + 1)?;
+        let _buckets = self.table.buckets();
         make_room(&mut self.strays, self.table.len() + 1)?;
         table.entries_are_apart();
         self.draining = Some(mem::replace(&mut self.table, table));
