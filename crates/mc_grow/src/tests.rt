@@ -29,14 +29,6 @@ impl Keyed for Mark {
     }
 }
 
-/// Room for one entry more, asked for again where memory is refused.
-fn reserve(index: &mut Index<Mark>, alloc: Global) -> Result<(), AllocError> {
-    match index.reserve(alloc) {
-        Err(_) => index.reserve(alloc),
-        made => made,
-    }
-}
-
 /// Puts in an entry of that hash, where none has it.
 fn add(index: &mut Index<Mark>, alloc: Global, hash: u64) -> Result<bool, AllocError> {
     match index.reserve(alloc) {
@@ -167,12 +159,12 @@ fn each_entry_is_changed_in_its_place(rt: HostRuntime) -> Result<(), Fail> {
 fn a_sweep_takes_each_entry_out(rt: HostRuntime) -> Result<(), Fail> {
     let mut index = growing(rt.alloc())?;
     let mut at = 0;
-    let mut hashes = 0;
+    let mut hashes = 0u64;
     for _turn in 0..MARKS {
         if let Some((number, place)) = index.filled_from(at) {
             at = number;
             let mark = index.remove(place);
-            hashes += mark.hash % 256;
+            hashes = mark.hash.wrapping_add(hashes);
         }
     }
     assert!(rt; hashes == 2211, "the hashes' sum is {hashes}");
