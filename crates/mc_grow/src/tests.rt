@@ -77,7 +77,10 @@ fn entries_stand_in_three_parts(rt: HostRuntime) -> Result<(), Fail> {
         let found = index.find(hash, b"k");
         assert!(rt; found.is_some(), "{hash} is not found");
     }
-    assert!(rt; index.find(67, b"k").is_none(), "one was found that isn't there");
+    assert!(rt;
+        index.find(67, b"k").is_none(),
+        "one was found that isn't there"
+    );
     Ok(())
 }
 
