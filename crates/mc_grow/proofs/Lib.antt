@@ -1,4 +1,6 @@
 pub mod MoveLemmas
 pub mod StrayLemmas
 pub mod PartLemmas
+pub mod CellLemmas
+pub mod ChangeLemmas
 pub mod IndexLemmas

@@ -3,7 +3,7 @@ use Rattle.std.specs.Prelude.{◌≡◌, ℕ, ◌+◌, ◌*◌, ◌-◌, ◌^◌
 use Rattle.std.specs.Coded.{Coded, code_by, coded×, coded_ℕ, coded_bool, coded_list, coded_option}
 use Rattle.std.specs.Ordering.{nat_cmp}
 use Rattle.std.specs.Cmp.Lexicographic.{slice_cmp}
-use Rattle.std.specs.FinMap.{FinMap, get, insert}
+use Rattle.std.specs.FinMap.{FinMap, get, insert, remove}
 use Rattle.mc_hop.specs.Cells.{filled}
 use Rattle.mc_hop.specs.Contents.{content}
 use Rattle.mc_grow.specs.declared.index.Place.{Place}
@@ -125,6 +125,17 @@ IsNext index at (Some (number, place)) = IsFirstFrom index at number place
 pub record KeepsLower {X : Type 0} (old new : IndexState X) (number : ℕ) : Type 0 where
   pub lower : (k : ℕ) → k < number → slice_index_or (cells new) k None ≡ slice_index_or (cells old) k None
   pub count : count_from old number ≡ count_from new number + 1
+
+-- the entry at a place was taken out: lower numbers stay, and there is no less room than before
+pub record IsRemoved {X : Type 0} (hash_of : X → ℕ) (key_of : X → List ℕ) (place : Place) (entry : X) (old new : IndexState X) : Type 0 where
+  pub there : entry_at old place ≡ Some entry
+  pub removed : holds hash_of key_of new ≡ remove (holds hash_of key_of old) (hash_of entry ∷ key_of entry)
+  pub lower : KeepsLower old new place.number
+  pub room : old.spare ≤ new.spare
+  pub less_left : left new ≤ left old
+  pub fewer : count old ≡ count new + 1
+  pub same_k : new.k ≡ old.k
+  pub same_growing : new.growing ≡ old.growing
 
 -- all stands where it stood
 abbrev pub StandsAs : {X : Type 0} → (old new : IndexState X) → Type 0

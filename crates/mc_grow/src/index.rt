@@ -2,17 +2,17 @@
 
 ghost use Rattle.std.specs.Prelude.{◌≡◌, ℕ, List, Option, ◌+◌, ◌-◌, ◌<◌, ◌≤◌, ◌^◌, ◌∷◌, Some, None, IfOk, IfSome, OnOk, OnErr};
 ghost use Rattle.std.specs.Prelude.{IsNone, option_copied, min, nat_lt, true, false, length};
-ghost use Rattle.std.specs.FinMap.{get, insert, remove};
+ghost use Rattle.std.specs.FinMap.{get, insert};
 ghost use Rattle.mc_hop.specs.Tables.{KeepsKey};
 ghost use Rattle.mc_grow.specs.Indexes.{IsNew, StandsAs, HasBegun, IsFilled, IsFound, IsNext, IsPlaceOf, IsUpdated};
 ghost use Rattle.mc_grow.specs.Parts.{IsFirstFilled, IsSpot, NoneFilledFrom};
-ghost use Rattle.mc_grow.specs.Indexes.{KeepsLower, count, entry_at, holds, is_due, left, most_reads};
+ghost use Rattle.mc_grow.specs.Indexes.{IsRemoved, cells, count, entry_at, holds, is_due, left, most_reads};
 ghost use Rattle.mc_grow.specs.Adding.{AreMoved, IsInserted};
 
 use crate::moving::{content_laws, make_room, move_entries, place, try_strays};
 use crate::parts::{
     Spot, drained_buckets, drained_entry, drained_len, filled_bucket, filled_drained, find_drained,
-    find_stray, remove_drained, update_drained, update_stray,
+    find_stray, remove_drained, stray, update_drained, update_stray,
 };
 use mc_hop::{Counts, Hop, Keyed, Uncounted, content_changes_at_one_key, content_has_each_entry};
 use std::alloc::{AllocError, Global};
@@ -109,6 +109,8 @@ impl<T: Keyed + Drop> Index<T> {
     pub fn find_again(&self, place: Place, hash: u64, key: &[u8]) -> Option<Place>
         ensures { IsFound T.hash_of T.key_of self.now hash key.now result }
     {
+        content_has_each_entry::<T>();
+        let _ = &self.table;
         match self.get(place) {
             Some(entry) if entry.hash() == hash && entry.key() == key => Some(place),
             _ => self.find(hash, key),
@@ -168,7 +170,7 @@ impl<T: Keyed + Drop> Index<T> {
         match self.spot(place) {
             Spot::Drained(at) => drained_entry(&self.draining, at),
             Spot::Table(at) => self.table.get(at),
-            Spot::Stray(at) => self.strays.get(at),
+            Spot::Stray(at) => stray(&self.strays, at),
         }
     }
 
@@ -223,15 +225,9 @@ impl<T: Keyed + Drop> Index<T> {
     /// Takes the entry at a place out. It takes no memory.
     pub fn remove(&mut self, place: Place) -> T
         requires { IsFilled self.old place }
-        ensures there { entry_at self.old place ≡ Some result }
-        ensures removed { holds T.hash_of T.key_of self.new
-            ≡ remove (holds T.hash_of T.key_of self.old) (T.hash_of result ∷ T.key_of result) }
-        ensures lower { KeepsLower self.old self.new place.number }
-        ensures room { self.old.spare ≤ self.new.spare }
-        ensures left { left self.new ≤ left self.old }
-        ensures fewer { count self.old ≡ count self.new + 1 }
-        ensures rest { (self.new.k ≡ self.old.k) × (self.new.growing ≡ self.old.growing) }
+        ensures { IsRemoved T.hash_of T.key_of place result self.old self.new }
     {
+        content_has_each_entry::<T>();
         content_changes_at_one_key::<T>();
         match self.spot(place) {
             Spot::Drained(at) => remove_drained(&mut self.draining, at),

@@ -27,9 +27,10 @@ pub(crate) fn drained_buckets<T: Keyed + Drop>(draining: &Option<Hop<T>>) -> usi
     }
 }
 
-/// Counts the entries of an old table.
+/// Counts the entries of an old table: at most 2^24 + 255.
 pub(crate) fn drained_len<T: Keyed + Drop>(draining: &Option<Hop<T>>) -> usize
-    ensures { result ≡ filled (drained_items draining.now) }
+    ensures value { result ≡ filled (drained_items draining.now) }
+    ensures most { result ≤ 2 ^ 24 + 255 }
 {
     match draining {
         Some(old) => old.len(),
@@ -98,6 +99,13 @@ pub(crate) fn drained_entry<T: Keyed + Drop>(draining: &Option<Hop<T>>, at: usiz
         Some(old) => old.get(at),
         None => None,
     }
+}
+
+/// Lends a stray, where there is one of that number.
+pub(crate) fn stray<T: Drop>(strays: &Vec<T>, at: usize) -> Option<&T>
+    ensures { option_copied result ≡ slice_index_or (map Some strays.now.items) at None }
+{
+    strays.get(at)
 }
 
 /// Changes the entry of a bucket of an old table.

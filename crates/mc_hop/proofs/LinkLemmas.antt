@@ -29,7 +29,7 @@ item-push xs y zero l = refl
 item-push xs y (suc i) l = get-push xs y i (omega (arith, l))
 
 -- at most as many numbers are used as there are, and fewer where one isn't
-used-le : (ats : List ℕ) → used ats ≤ length ats
+pub used-le : (ats : List ℕ) → used ats ≤ length ats
 used-le [] = omega arith
 used-le (zero ∷ ats) = omega (arith, used-le ats)
 used-le (suc i ∷ ats) = omega (arith, used-le ats)

@@ -108,7 +108,8 @@ impl<T: Drop> Cells<T> {
 
     /// How many of them have a value.
     pub fn count(&self) -> usize
-        ensures { result ≡ filled self.now.items }
+        ensures value { result ≡ filled self.now.items }
+        ensures most { result ≤ length self.now.items }
     {
         self.items.len()
     }

@@ -216,9 +216,10 @@ impl<T: Keyed + Drop> Hop<T> {
         self.cells.last_filled()
     }
 
-    /// Counts the entries.
+    /// Counts the entries: at most 2^24 + 255.
     pub fn len(&self) -> usize
-        ensures { result ≡ filled self.now.items }
+        ensures value { result ≡ filled self.now.items }
+        ensures most { result ≤ 2 ^ 24 + 255 }
     {
         self.cells.count()
     }
