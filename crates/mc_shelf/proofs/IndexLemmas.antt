@@ -9,7 +9,7 @@ use Rattle.mc_grow.specs.Indexes.{IndexState, IsFound, IsNew, IsPlaceOf, KeepsLo
 use Rattle.mc_grow.specs.declared.index.Place.{Place}
 use Rattle.mc_shelf.specs.States.{EntryState}
 use Rattle.mc_shelf.specs.KeyMaps.{IsHashOf, IsKeyed, StandsIn, hash_in, hashes_in, items_in, key_in}
-use Rattle.mc_shelf.specs.Places.{IsKeyAt, IsKeyFound, IsRemoved, KeyComes, entries_of, hashes_of, items_of}
+use Rattle.mc_shelf.specs.Places.{IsKeyAt, IsKeyFound, KeyGoes, KeyComes, entries_of, hashes_of, items_of}
 use Rattle.mc_shelf.proofs.KeyLemmas.{order, get_gone}
 use Rattle.mc_shelf.proofs.LabelLemmas.{own, own_key, same, same_itself, same_list}
 use Rattle.mc_shelf.proofs.KeyMapLemmas.{hash_absent, hash_there, hashes-empty, hashes-insert, hashes-remove, hashes-replace, found_hash, item_there, items-empty, items-insert, items-remove, keyed-empty, keyed-insert, keyed-remove, labelled-content, not_found}
@@ -146,5 +146,5 @@ module _ (old new : IndexState EntryState) (keyed : IsKeyed (entries_of old)) wh
     pub gone_keyed : IsKeyed (entries_of new)
     gone_keyed = subst IsKeyed (sym is) (keyed-remove _ keyed e held)
 
-    pub gone : IsRemoved old new e.key
+    pub gone : KeyGoes old new e.key
     gone = record { items = ap items_in is ∙ items-remove _ keyed e held; hashes = ap hashes_in is ∙ hashes-remove _ keyed e held }

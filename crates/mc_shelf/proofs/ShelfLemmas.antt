@@ -5,7 +5,7 @@ use Rattle.std.specs.FinMap.{get, insert, remove}
 use Rattle.mc_command.specs.Plain.{Entry, Items}
 use Rattle.mc_grow.specs.Indexes.{IndexState}
 use Rattle.mc_shelf.specs.States.{EntryState, ShelfContent, Hashes, IsHash}
-use Rattle.mc_shelf.specs.Places.{items_of, hashes_of, IsChanged, KeyComes, IsRemoved}
+use Rattle.mc_shelf.specs.Places.{items_of, hashes_of, IsChanged, KeyComes, KeyGoes}
 use Rattle.mc_shelf.specs.Plans.{IsDropped, IsPut, OthersStay}
 use Rattle.mc_shelf.proofs.KeyLemmas.{get_gone, get_gone_other, get_put, get_put_other}
 
@@ -47,7 +47,7 @@ module _ (greatest : ℕ) (cut : Option ℕ) (old : ShelfContent) (was : IndexSt
       }
 
   -- the key's entry was removed
-  pub removed_dropped : (gone : List ℕ) → gone ≡ key → IsRemoved was new gone → IsDropped key own old (content_of greatest cut new)
+  pub removed_dropped : (gone : List ℕ) → gone ≡ key → KeyGoes was new gone → IsDropped key own old (content_of greatest cut new)
   removed_dropped gone gone_is is =
       let items : items_of new ≡ remove (items_of was) key = is.items ∙ ap (remove (items_of was)) gone_is in
       let hashes : hashes_of new ≡ remove (hashes_of was) key = is.hashes ∙ ap (remove (hashes_of was)) gone_is in

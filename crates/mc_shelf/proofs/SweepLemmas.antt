@@ -17,7 +17,7 @@ use Rattle.mc_grow.specs.Indexes.{IndexState, IsFirstFrom, IsNext, KeepsLower, c
 use Rattle.mc_grow.specs.declared.index.Place.{Place}
 use Rattle.mc_shelf.specs.States.{EntryState, Hashes, ShelfContent, DeskState}
 use Rattle.mc_shelf.specs.KeyMaps.{IsKeyed}
-use Rattle.mc_shelf.specs.Places.{IsRemoved, entries_of, hashes_of, items_of}
+use Rattle.mc_shelf.specs.Places.{KeyGoes, entries_of, hashes_of, items_of}
 use Rattle.mc_shelf.specs.Plans.{is_gone, item_in}
 use Rattle.mc_shelf.specs.Sweeps.{GivesFor, IsPurged}
 use Rattle.mc_shelf.proofs.KeyLemmas.{order, same_key, get_gone, get_gone_other}
@@ -167,14 +167,14 @@ pub swept_none : (now : ℕ) (shelf : ShelfContent) (desk : DeskState) → Swept
 swept_none now shelf desk = record { greatest = refl; cut = refl; living_same = refl; gives = gives_none shelf.items desk; kept = λ key item there. (there, refl) }
 
 -- what a removal keeps
-kept_by : (was new : IndexState EntryState) (key : List ℕ) → IsRemoved was new key → (other : List ℕ) (item : Entry) → get (items_of new) other ≡ Some item → (get (items_of was) other ≡ Some item) × (get (hashes_of new) other ≡ get (hashes_of was) other)
+kept_by : (was new : IndexState EntryState) (key : List ℕ) → KeyGoes was new key → (other : List ℕ) (item : Entry) → get (items_of new) other ≡ Some item → (get (items_of was) other ≡ Some item) × (get (hashes_of new) other ≡ get (hashes_of was) other)
 kept_by was new key removed other item there =
     let apart : other ≢ key = λ same. none-some item (sym (ap (λ (k : List ℕ). get (items_of new) k) same ∙ ap (λ (m : Items). get m key) removed.items ∙ get_gone (items_of was) key) ∙ there) in (
       sym (ap (λ (m : Items). get m other) removed.items ∙ get_gone_other (items_of was) key other apart) ∙ there,
       ap (λ (m : Hashes). get m other) removed.hashes ∙ get_gone_other (hashes_of was) key other apart,
     )
 
-module _ (remove_counts : RemoveCounts) (greatest : ℕ) (cut : Option ℕ) (was new : IndexState EntryState) (entry : EntryState) (found : get (items_of was) entry.key ≡ Some entry.item) (removed : IsRemoved was new entry.key)
+module _ (remove_counts : RemoveCounts) (greatest : ℕ) (cut : Option ℕ) (was new : IndexState EntryState) (entry : EntryState) (found : get (items_of was) entry.key ≡ Some entry.item) (removed : KeyGoes was new entry.key)
     (desk desk' : DeskState) (chunk : List ℕ) (is_chunk : IsChunkOf (item_class entry.key entry.item) chunk) (is_class : IsClass (item_class entry.key entry.item))
     (are : (class : ℕ) → IsClass class → count_of (items_of was) class ≤ out_of desk.slab class) where
   -- its chunk is out

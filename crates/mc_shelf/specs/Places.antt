@@ -46,7 +46,7 @@ pub record KeyComes (old new : IndexState EntryState) (entry : EntryState) : Typ
   pub hashes : hashes_of new ≡ insert (hashes_of old) entry.key entry.hash
 
 -- the item and the hash under a key are gone
-pub record IsRemoved (old new : IndexState EntryState) (key : List ℕ) : Type 0 where
+pub record KeyGoes (old new : IndexState EntryState) (key : List ℕ) : Type 0 where
   pub items : items_of new ≡ remove (items_of old) key
   pub hashes : hashes_of new ≡ remove (hashes_of old) key
 

@@ -12,7 +12,7 @@ ghost use Rattle.mc_shelf.specs.Places.{
   IsEntryOf,
   IsKeyAt,
   IsKeyFound,
-  IsRemoved,
+  KeyGoes,
   KeyComes,
   entries_of,
   hashes_of,
@@ -134,7 +134,7 @@ impl Index {
         requires { IsFilled self.old place }
         ensures there { entry_at self.old place ≡ Some result }
         ensures item { get (items_of self.old) result.key ≡ Some result.item }
-        ensures removed { IsRemoved self.old self.new result.key }
+        ensures removed { KeyGoes self.old self.new result.key }
         ensures lower { KeepsLower self.old self.new place.number }
         ensures room { self.old.spare ≤ self.new.spare }
         ensures left { left self.new ≤ left self.old }

@@ -2,7 +2,7 @@ use Rattle.std.proofs.Common.{◌≡◌, Some, subst}
 use Rattle.std.specs.FinMap.{get}
 use Rattle.mc_grow.specs.Indexes.{IndexState}
 use Rattle.mc_shelf.specs.States.{EntryState}
-use Rattle.mc_shelf.specs.Places.{IsRemoved, items_of}
+use Rattle.mc_shelf.specs.Places.{KeyGoes, items_of}
 use Rattle.mc_shelf.proofs.IndexLemmas.{gone, gone_item, gone_keyed}
 use Rattle.mc_shelf.proofs.index.Index.remove.Goals as goal
 
@@ -17,5 +17,5 @@ returns-clause-item c =
 
 pub returns-clause-removed : goal.returns-clause-removed
 returns-clause-removed c =
-    subst (λ (s : IndexState EntryState). IsRemoved s c.remove.new.self c.remove.result.key) c.self.view_is
+    subst (λ (s : IndexState EntryState). KeyGoes s c.remove.new.self c.remove.result.key) c.self.view_is
     (gone c.self.inside.entries c.remove.new.self c.self.invariant c.remove.result c.args.place c.remove.ensures.there c.remove.ensures.lower c.remove.ensures.removed)
