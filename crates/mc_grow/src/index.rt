@@ -23,7 +23,7 @@ use std::mem;
 const SMALL_ROOM: usize = 64;
 
 /// Where an entry stands in an index, until one comes, goes or is moved. `Index::find_again` finds it then.
-#[derive(Clone, Copy)]
+#[derive(Clone, Copy, PartialEq, Eq)]
 pub struct Place {
     number: usize,
 }
