@@ -3,3 +3,4 @@ pub mod StrayLemmas
 pub mod PartLemmas
 pub mod CellLemmas
 pub mod ChangeLemmas
+pub mod IndexLemmas

@@ -1,5 +1,5 @@
 -- What the content of buckets is when an entry comes to a part of them, or goes from one part to another.
-use Rattle.std.proofs.Common.{◌≡◌, ℕ, zero, suc, ◌+◌, ◌↔◌, ◌⊎◌, inl, inr, Bool, true, false, cond, List, [], ◌∷◌, ◌++◌, map, Option, Some, None, get_or, set, refl, sym, ap, subst, ◌∙◌}
+use Rattle.std.proofs.Common.{◌≡◌, ℕ, zero, suc, ◌+◌, ◌↔◌, ◌⊎◌, inl, inr, Bool, true, false, cond, List, [], ◌∷◌, ◌++◌, map, Option, Some, None, get_or, set, is_some, true≢false, ◌≤◌, refl, sym, ap, subst, ◌∙◌, arith, length-append}
 use Rattle.std.proofs.lemmas.Option.{none-some}
 use Rattle.std.proofs.lemmas.List.{map-append, append_assoc, append-nil}
 use Rattle.std.proofs.lemmas.Cmp.{eq_by_cmp_equiv}
@@ -12,7 +12,9 @@ use Rattle.std.specs.FinMap.{FinMap, get, insert, get-empty, get-insert, nat_cmp
 use Rattle.mc_hop.specs.Cells.{filled}
 use Rattle.mc_hop.specs.Tables.{AreApart, HasEntry, IsAbsent}
 use Rattle.mc_hop.specs.Contents.{AreDisjoint, content}
-use Rattle.mc_grow.specs.Moving.{ContentLaws, HoldsAll, IsIn}
+use Rattle.mc_grow.specs.Moving.{ContentLaws, HoldsAll, IsIn, IsTaken}
+use Rattle.mc_grow.specs.Adding.{AreAdded, AreTaken, IsAdded, Side, cells_of}
+use Rattle.mc_grow.specs.Adding.AreAdded.{none_added, one_added}
 
 abbrev pub Map : Type 0 → Type 0
 Map X = FinMap (slice_cmp nat_cmp) X
@@ -60,11 +62,11 @@ both_none (Some x) b e f = e
 -- what one of two maps with no key in common has, the other has not
 pub none_beside : {X : Type 0} (m n : Map X) (k : List ℕ) (x : X) → AreDisjoint m n → get m k ≡ Some x → get n k ≡ None
 none_beside m n k x apart here =
-    elim (get n k) as (λ o. get n k ≡ o → o ≡ None) [ | None ↦ λ e. refl | (Some y) ↦ λ e. absurd (apart k x y here e) ] refl
+    elim (get n k) as (λ o. get n k ≡ o → o ≡ None) [ None ↦ λ e. refl | (Some y) ↦ λ e. absurd (apart k x y here e) ] refl
 
 pub none_before : {X : Type 0} (m n : Map X) (k : List ℕ) (x : X) → AreDisjoint m n → get n k ≡ Some x → get m k ≡ None
 none_before m n k x apart here =
-    elim (get m k) as (λ o. get m k ≡ o → o ≡ None) [ | None ↦ λ e. refl | (Some y) ↦ λ e. absurd (apart k y x e here) ] refl
+    elim (get m k) as (λ o. get m k ≡ o → o ≡ None) [ None ↦ λ e. refl | (Some y) ↦ λ e. absurd (apart k y x e here) ] refl
 
 pub disjoint_first : {X : Type 0} (m n : Map X) (k : List ℕ) (x : X) → AreDisjoint m n → get n k ≡ None → AreDisjoint (insert m k x) n
 disjoint_first m n k x apart none q y z here there =
@@ -101,6 +103,14 @@ pub record IsOut {X : Type 0} (hash_of : X → ℕ) (key_of : X → List ℕ) (x
   pub gone : get (content hash_of key_of new) (hash_of x ∷ key_of x) ≡ None
   pub apart : AreApart hash_of key_of new
 
+-- where a bucket has an entry, some have
+pub some_filled : {X : Type 0} (items : List (Option X)) (at : ℕ) → is_some (get_or items at None) ≡ true → 1 ≤ filled items
+some_filled [] at e = absurd (true≢false (sym e))
+some_filled (None ∷ items) zero e = absurd (true≢false (sym e))
+some_filled (Some y ∷ items) zero e = omega arith
+some_filled (None ∷ items) (suc at) e = some_filled items at e
+some_filled (Some y ∷ items) (suc at) e = omega arith
+
 -- a bucket less has an entry
 pub filled_less : {X : Type 0} (items : List (Option X)) (at : ℕ) (x : X) → get_or items at None ≡ Some x → filled items ≡ filled (set items at None) + 1
 filled_less [] at x e = absurd (none-some x e)
@@ -108,6 +118,19 @@ filled_less (None ∷ items) zero x e = absurd (none-some x e)
 filled_less (Some y ∷ items) zero x e = refl
 filled_less (None ∷ items) (suc at) x e = filled_less items at x e
 filled_less (Some y ∷ items) (suc at) x e = ap (λ (n : ℕ). n + 1) (filled_less items at x e)
+
+-- after so many moves of entries of an old table
+pub record MovedSoFar {X : Type 0} (hash_of : X → ℕ) (key_of : X → List ℕ) (k n : ℕ) (first drained : List (Option X)) (start side : Side X) : Type 0 where
+  pub taken : AreTaken hash_of key_of k n first drained start side
+  pub held : HoldsAll hash_of key_of (first ++ cells_of start) (drained ++ cells_of side)
+  pub left : filled drained + n ≡ filled first
+
+pub none_moved : {X : Type 0} (hash_of : X → ℕ) (key_of : X → List ℕ) (k : ℕ) (drained : List (Option X)) (side : Side X) → AreApart hash_of key_of (drained ++ cells_of side) → MovedSoFar hash_of key_of k 0 drained drained side side
+none_moved hash_of key_of k drained side apart = record {
+  taken = record { entries = []; many = refl; taken = refl; added = none_added side };
+  held = record { same = refl; apart = apart };
+  left = omega arith;
+}
 
 one_apart : {X : Type 0} (hash_of : X → ℕ) (key_of : X → List ℕ) (o : Option X) → AreApart hash_of key_of (o ∷ [])
 one_apart hash_of key_of o zero zero x y e f h k = refl
@@ -137,8 +160,11 @@ module _ {X : Type 0} (hash_of : X → ℕ) (key_of : X → List ℕ) (laws : Co
       let parts = (laws.apart xs ys).0 apart in
       record {
         come = laws.first xs ys zs (key x) x come.come;
-        apart = (laws.apart zs ys).1 (come.apart, parts.1,
-            subst (λ (m : Map X). AreDisjoint m (holds ys)) (sym come.come) (disjoint_first (holds xs) (holds ys) (key x) x parts.2 (new_to_second xs ys (key x) new)));
+        apart = (laws.apart zs ys).1 (
+          come.apart,
+          parts.1,
+          subst (λ (m : Map X). AreDisjoint m (holds ys)) (sym come.come) (disjoint_first (holds xs) (holds ys) (key x) x parts.2 (new_to_second xs ys (key x) new)),
+        );
       }
 
   pub in_second : (xs ys zs : Cells) (x : X) → AreApart hash_of key_of (xs ++ ys) → get (holds (xs ++ ys)) (key x) ≡ None → IsIn hash_of key_of x ys zs → IsIn hash_of key_of x (xs ++ ys) (xs ++ zs)
@@ -146,8 +172,11 @@ module _ {X : Type 0} (hash_of : X → ℕ) (key_of : X → List ℕ) (laws : Co
       let parts = (laws.apart xs ys).0 apart in
       record {
         come = laws.second xs ys zs (key x) x (new_to_first xs ys (key x) new) come.come;
-        apart = (laws.apart xs zs).1 (parts.0, come.apart,
-            subst (λ (m : Map X). AreDisjoint (holds xs) m) (sym come.come) (disjoint_second (holds xs) (holds ys) (key x) x parts.2 (new_to_first xs ys (key x) new)));
+        apart = (laws.apart xs zs).1 (
+          parts.0,
+          come.apart,
+          subst (λ (m : Map X). AreDisjoint (holds xs) m) (sym come.come) (disjoint_second (holds xs) (holds ys) (key x) x parts.2 (new_to_first xs ys (key x) new)),
+        );
       }
 
   -- a part that holds what another did may stand in its place
@@ -196,8 +225,11 @@ module _ {X : Type 0} (hash_of : X → ℕ) (key_of : X → List ℕ) (laws : Co
       record {
         back = laws.first zs ys xs (key x) x out.back;
         gone = laws.joined zs ys (key x) ∙ both_none (get (holds zs) (key x)) (get (holds ys) (key x)) out.gone (new_to_other xs ys zs x apart out);
-        apart = (laws.apart zs ys).1 (out.apart, parts.1,
-            disjoint_less (holds zs) (holds ys) (key x) x (subst (λ (m : Map X). AreDisjoint m (holds ys)) out.back parts.2) out.gone);
+        apart = (laws.apart zs ys).1 (
+          out.apart,
+          parts.1,
+          disjoint_less (holds zs) (holds ys) (key x) x (subst (λ (m : Map X). AreDisjoint m (holds ys)) out.back parts.2) out.gone,
+        );
       }
 
   -- it goes from the first part to the second
@@ -231,3 +263,15 @@ module _ {X : Type 0} (hash_of : X → ℕ) (key_of : X → List ℕ) (laws : Co
       ∙ ap holds (append_assoc (map Some entries) (Some x ∷ []) zs)
       ∙ laws.parts (map Some entries) (Some x ∷ zs) (map Some entries) xs refl (sym out)
       ∙ before
+
+  pub moved_more : (k n k_now : ℕ) (first drained drained_now : Cells) (start side side_now : Side X) → MovedSoFar hash_of key_of k n first drained start side → IsTaken hash_of key_of k_now drained drained_now side side_now → k_now ≡ k → filled drained ≡ filled drained_now + 1 → HoldsAll hash_of key_of (drained ++ cells_of side) (drained_now ++ cells_of side_now) → MovedSoFar hash_of key_of k (n + 1) first drained_now start side_now
+  moved_more k n k_now first drained drained_now start side side_now before one is fewer held = record {
+    taken = record {
+      entries = before.taken.entries ++ (one.entry ∷ []);
+      many = length-append before.taken.entries (one.entry ∷ []) ∙ ap (λ (m : ℕ). m + 1) before.taken.many;
+      taken = taken_more before.taken.entries drained drained_now first one.entry before.taken.taken one.taken;
+      added = one_added before.taken.entries one.entry start side side_now before.taken.added (subst (λ (m : ℕ). IsAdded hash_of key_of m one.entry side side_now) is one.added);
+    };
+    held = record { same = held.same ∙ before.held.same; apart = held.apart };
+    left = omega (arith, before.left, fewer);
+  }

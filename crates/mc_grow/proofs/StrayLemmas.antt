@@ -1,19 +1,23 @@
 -- The strays in another order, and one of them taken out.
-use Rattle.std.proofs.Common.{◌≡◌, ℕ, zero, suc, ◌+◌, ◌-◌, ◌<◌, ◌≤◌, ◌↔◌, Bool, true, false, cond, List, [], ◌∷◌, ◌++◌, map, length, take, drop, set, Option, Some, None, get_or, refl, sym, ap, subst, ◌∙◌, arith, ⊎_elim}
+use Rattle.std.proofs.Common.{◌≡◌, ◌≢◌, ℕ, zero, suc, ◌+◌, ◌-◌, ◌<◌, ◌≤◌, ◌↔◌, inl, inr, Bool, true, false, cond, List, [], ◌∷◌, ◌++◌, map, length, length-set, take, drop, set, Option, Some, None, get_or, refl, sym, ap, subst, ◌∙◌, arith, ⊎_elim}
 use Rattle.std.proofs.lemmas.Option.{none-some}
 use Rattle.std.proofs.lemmas.List.Sums.{sum_by-cons}
-use Rattle.std.proofs.lemmas.List.Sorted.{sum_by-IsPermutation, Contains-permutation, IsPermutation-sym}
-use Rattle.std.proofs.lemmas.List.{ext_get_or, get_or-map, get_or_push, get_or_append_left}
+use Rattle.std.proofs.lemmas.List.Sorted.{sum_by-IsPermutation, Contains-permutation, IsPermutation-append_right, IsPermutation-refl, IsPermutation-swap_remove, IsPermutation-sym, IsPermutation-trans}
+use Rattle.std.proofs.lemmas.List.{append_assoc, append-nil, length-drop, length-take, length-take-le, take-take, take_all, get_or-drop, drop-set, drop-take, take-set, ext_get_or, get_or-map, get_or_push, get_or_append_left}
 use Rattle.std.proofs.lemmas.Bool.{cases_eq}
+use Rattle.std.proofs.Math.Seq.{drop-cons, take-suc}
+use Rattle.std.proofs.Math.ListN.{drop_of_length-le}
 use Rattle.mc_hop.specs.Links.{IsSwapped}
 use Rattle.std.specs.List.{sum_by, SwappedAt, swap_remove, Contains}
 use Rattle.std.specs.List.Sorted.{IsPermutation}
 use Rattle.std.specs.Ordering.{nat_cmp, eq_by_cmp}
 use Rattle.std.specs.Cmp.Lexicographic.{slice_cmp}
 use Rattle.std.specs.FinMap.{FinMap, get, insert}
-use Rattle.mc_hop.specs.Tables.{AreApart, HasEntry}
+use Rattle.mc_hop.specs.Tables.{AreApart, HasEntry, home_in}
 use Rattle.mc_hop.specs.Contents.{AreDisjoint, content}
-use Rattle.mc_grow.specs.Moving.{ContentLaws, HoldsAll}
+use Rattle.mc_grow.specs.Moving.{ContentLaws, HoldsAll, IsTried}
+use Rattle.mc_grow.specs.Adding.{AreAdded, AreTried, IsFull, Side, cells_of}
+use Rattle.mc_grow.specs.Adding.AreAdded.{none_added, one_added}
 use Rattle.mc_grow.proofs.MoveLemmas.{Map, same, same_key, same_self, same_Some, at_its_key, none_beside, none_before, disjoint_first, disjoint_less_second}
 
 abbrev head_of : List ℕ → ℕ
@@ -119,32 +123,148 @@ module _ {X : Type 0} (hash_of : X → ℕ) (key_of : X → List ℕ) (laws : Co
       record {
         same = laws.first items (map Some rest) others (key hash_of key_of x) x put
             ∙ sym (laws.second items (map Some rest) (map Some strays) (key hash_of key_of x) x fresh in_order);
-        apart = (laws.apart others (map Some rest)).1 (own, front.1,
-            subst (λ (m : Map X). AreDisjoint m (holds (map Some rest))) (sym put)
-            (disjoint_first (holds items) (holds (map Some rest)) (key hash_of key_of x) x (disjoint_less_second (holds items) (holds (map Some rest)) (key hash_of key_of x) x beside gone) gone));
+        apart = (laws.apart others (map Some rest)).1 (
+          own,
+          front.1,
+          subst (λ (m : Map X). AreDisjoint m (holds (map Some rest))) (sym put)
+              (disjoint_first (holds items) (holds (map Some rest)) (key hash_of key_of x) x (disjoint_less_second (holds items) (holds (map Some rest)) (key hash_of key_of x) x beside gone) gone),
+        );
       }
+
+add-one : (n : ℕ) → suc n ≡ n + 1
+add-one n = omega arith
+
+-- what `swap_remove` says of each place
+pub swapped_by : {X : Type 0} (old new : List X) (at old_len new_len : ℕ) → old_len ≡ length old → new_len ≡ length new → new_len + 1 ≡ old_len → ((d : X) → at + 1 < old_len → get_or new at d ≡ get_or old (old_len - 1) d) × ((k : ℕ) (d : X) → k ≢ at → k + 1 < old_len → get_or new k d ≡ get_or old k d) → IsSwapped old new at
+swapped_by {X} old new at old_len new_len is are less by = record {
+  shorter = omega (arith, is, are, less);
+  last = λ d below. by.0 d (omega (arith, is, below)) ∙ ap (λ (n : ℕ). get_or old (n - 1) d) is;
+  others = λ k d apart below. by.1 k d apart (omega (arith, is, below));
+}
+
+pub same_read : {X : Type 0} (xs : List X) (at : ℕ) (x y : X) → x ≡ y → y ≡ get_or xs at y → x ≡ get_or xs at x
+same_read {X} xs at x y e read = e ∙ read ∙ ap (get_or xs at) (sym e)
 
 -- a stray goes out, and comes back under its number
 pub put_back_again : {X : Type 0} (items old pushed new : List X) (at last : ℕ) (x : X) → at < length items → x ≡ get_or items at x → IsSwapped items old at → pushed ≡ old ++ (x ∷ []) → last ≡ length old → SwappedAt pushed new at last → length new ≡ length items → new ≡ items
-put_back_again items old pushed new at last x inside there out push ends swapped same_length =
+put_back_again {X} items old pushed new at last x inside there out push ends swapped same_length =
     ext_get_or x new items same_length (λ k below.
     let in_items : k < length items = omega (arith, below, same_length) in
-    let x_is_last : get_or pushed last x ≡ x = ap (λ l. get_or l last x) push ∙ get_or_push old x x last (sym ends) in
+    let x_is_last : get_or pushed last x ≡ x = ap (λ (l : List X). get_or l last x) push ∙ get_or_push old x x last (sym ends) in
     ⊎_elim
-    (λ (e : k ≡ at). ap (λ n. get_or new n x) e ∙ swapped.0 x ∙ x_is_last ∙ there ∙ ap (λ n. get_or items n x) (sym e))
+    (λ (e : k ≡ at). ap (λ (n : ℕ). get_or new n x) e ∙ swapped.0 x ∙ x_is_last ∙ there ∙ ap (λ (n : ℕ). get_or items n x) (sym e))
     (λ (apart : k ≡ at → ⊥).
     ⊎_elim
     (λ (e : k ≡ last).
     let before : at < length old = omega (arith, inside, out.shorter, ends, e, apart) in
     let more : at + 1 < length items = omega (arith, before, out.shorter) in
     let end : length items - 1 ≡ k = omega (arith, out.shorter, ends, e) in
-    ap (λ n. get_or new n x) e ∙ swapped.1 x ∙ ap (λ l. get_or l at x) push ∙ get_or_append_left old (x ∷ []) at x before ∙ out.last x more ∙ ap (λ n. get_or items n x) end)
+    ap (λ (n : ℕ). get_or new n x) e ∙ swapped.1 x ∙ ap (λ (l : List X). get_or l at x) push ∙ get_or_append_left old (x ∷ []) x at before ∙ out.last x more ∙ ap (λ (n : ℕ). get_or items n x) end)
     (λ (other : k ≡ last → ⊥).
     let before : k < length old = omega (arith, in_items, out.shorter, ends, other) in
-    swapped.2 k x apart other ∙ ap (λ l. get_or l k x) push ∙ get_or_append_left old (x ∷ []) k x before ∙ out.others k x apart (omega (arith, before, out.shorter)))
+    swapped.2 k x apart other ∙ ap (λ (l : List X). get_or l k x) push ∙ get_or_append_left old (x ∷ []) x k before ∙ out.others k x apart (omega (arith, before, out.shorter)))
     (cases_eq k last))
     (cases_eq k at))
 
 -- what was not tried yet, when a stray of it goes out
-pub swapped_behind : {X : Type 0} (xs rest : List X) (at : ℕ) (x : X) → at < length xs → x ≡ get_or xs at x → rest ≡ swap_remove xs at x → (take at rest ≡ take at xs) × IsPermutation (drop at xs) (x ∷ drop at rest)
-swapped_behind xs rest at x inside there out = ?
+swapped_out : {X : Type 0} (xs rest : List X) (at : ℕ) (x : X) → at < length xs → x ≡ get_or xs at x → rest ≡ swap_remove xs at x → (take at rest ≡ take at xs) × IsPermutation (drop at xs) (x ∷ drop at rest)
+swapped_out {X} xs rest at x inside there out =
+    let m = length xs - (at + 1) in
+    let end : X = get_or xs (length xs - 1) x in
+    let ends : length xs - 1 ≡ at + m = omega (arith, inside) in
+    let is : rest ≡ take (at + m) (set xs at end) = out ∙ ap (λ (n : ℕ). take n (set xs at end)) ends in
+    let back : drop at xs ≡ x ∷ drop (at + 1) xs = drop-cons xs at x inside ∙ ap (λ (y : X). y ∷ drop (suc at) xs) (sym there) ∙ ap (λ (n : ℕ). x ∷ drop n xs) (add-one at) in
+    let behind : drop at rest ≡ take m (end ∷ drop (at + 1) xs) = ap (drop at) is ∙ drop-take at m (set xs at end) ∙ ap (take m) (drop-set xs at end inside) in
+    let many : length (x ∷ drop (at + 1) xs) - 1 ≡ m = omega (arith, length-drop (at + 1) xs) in
+    let last : get_or (x ∷ drop (at + 1) xs) m x ≡ end = ap (λ (l : List X). get_or l m x) (sym back) ∙ get_or-drop at xs m x ∙ ap (λ (n : ℕ). get_or xs n x) (sym ends) in
+    let same : swap_remove (x ∷ drop (at + 1) xs) 0 x ≡ drop at rest =
+    ap (λ (n : ℕ). take n (get_or (x ∷ drop (at + 1) xs) n x ∷ drop (at + 1) xs)) many ∙ ap (λ (y : X). take m (y ∷ drop (at + 1) xs)) last ∙ sym behind in (
+      ap (take at) is ∙ take-take at (at + m) (set xs at end) (omega arith) ∙ take-set xs at end,
+      subst (λ (l : List X). IsPermutation l (x ∷ drop at rest)) (sym back)
+          (subst (λ (l : List X). IsPermutation (x ∷ drop (at + 1) xs) (x ∷ l)) same (IsPermutation-swap_remove (x ∷ drop (at + 1) xs) 0 x (omega arith) refl)),
+    )
+
+module _ {X : Type 0} (hash_of : X → ℕ) (key_of : X → List ℕ) (laws : ContentLaws hash_of key_of) where
+  pub stray_at_is_new : (items : List (Option X)) (strays rest : List X) (at : ℕ) (x : X) → AreApart hash_of key_of (items ++ map Some strays) → at < length strays → x ≡ get_or strays at x → rest ≡ swap_remove strays at x → get (content hash_of key_of items) (hash_of x ∷ key_of x) ≡ None
+  stray_at_is_new items strays rest at x apart inside there out =
+      stray_is_new hash_of key_of laws items strays x apart
+      (stray_stands hash_of key_of laws strays (swap_remove strays at x) x (IsPermutation-swap_remove strays at x inside there) ((laws.apart items (map Some strays)).0 apart).1)
+
+  pub stray_put_at : (items others : List (Option X)) (strays rest : List X) (at : ℕ) (x : X) → AreApart hash_of key_of (items ++ map Some strays) → at < length strays → x ≡ get_or strays at x → rest ≡ swap_remove strays at x → AreApart hash_of key_of others → content hash_of key_of others ≡ insert (content hash_of key_of items) (hash_of x ∷ key_of x) x → HoldsAll hash_of key_of (items ++ map Some strays) (others ++ map Some rest)
+  stray_put_at items others strays rest at x apart inside there out own put =
+      stray_put hash_of key_of laws items others strays rest x apart (subst (λ (l : List X). IsPermutation strays (x ∷ l)) (sym out) (IsPermutation-swap_remove strays at x inside there)) own put
+
+-- after so many turns, of which some strays were kept
+pub record TriedSoFar {X : Type 0} (hash_of : X → ℕ) (key_of : X → List ℕ) (k turn kept : ℕ) (start side : Side X) : Type 0 where
+  pub tried : List X
+  pub each : IsPermutation start.strays (tried ++ drop kept side.strays)
+  pub many : turn + (length side.strays - kept) ≡ length start.strays
+  pub inside : kept ≤ length side.strays
+  pub added : AreAdded hash_of key_of k tried (record start { strays = [] }) (record side { strays = take kept side.strays })
+  pub held : HoldsAll hash_of key_of (cells_of start) (cells_of side)
+
+pub none_tried : {X : Type 0} (hash_of : X → ℕ) (key_of : X → List ℕ) (k : ℕ) (side : Side X) → AreApart hash_of key_of (cells_of side) → TriedSoFar hash_of key_of k 0 0 side side
+none_tried hash_of key_of k side apart = record {
+  tried = [];
+  each = IsPermutation-refl side.strays;
+  many = omega arith;
+  inside = omega arith;
+  added = none_added (record side { strays = [] });
+  held = record { same = refl; apart = apart };
+}
+
+pub tried_put : {X : Type 0} (hash_of : X → ℕ) (key_of : X → List ℕ) (k k_now turn kept : ℕ) (start side side_now : Side X) → TriedSoFar hash_of key_of k turn kept start side → IsTried hash_of key_of k_now kept true side side_now → HoldsAll hash_of key_of (cells_of side) (cells_of side_now) → TriedSoFar hash_of key_of k (turn + 1) kept start side_now
+tried_put {X} hash_of key_of k k_now turn kept start side side_now before one held =
+    let x = one.entry in
+    let out = swapped_out side.strays side_now.strays kept x one.inside one.there one.outcome.1 in
+    let fewer : length side_now.strays + 1 ≡ length side.strays = ap (λ (l : List X). length l + 1) one.outcome.1 ∙ shorter side.strays kept x one.inside in
+    record {
+      tried = before.tried ++ (x ∷ []);
+      each = IsPermutation-trans start.strays (before.tried ++ drop kept side.strays) ((before.tried ++ (x ∷ [])) ++ drop kept side_now.strays) before.each
+          (subst (λ (l : List X). IsPermutation (before.tried ++ drop kept side.strays) l) (sym (append_assoc before.tried (x ∷ []) (drop kept side_now.strays)))
+          (IsPermutation-append_right before.tried (drop kept side.strays) (x ∷ drop kept side_now.strays) out.1));
+      many = omega (arith, before.many, fewer, one.inside);
+      inside = omega (arith, fewer, one.inside);
+      added = one_added before.tried x (record start { strays = [] }) (record side { strays = take kept side.strays }) (record side_now { strays = take kept side_now.strays }) before.added
+          (inl (record { placed = one.outcome.0; strays = out.0 }));
+      held = record { same = held.same ∙ before.held.same; apart = held.apart };
+    } where
+      shorter : (xs : List X) (at : ℕ) (y : X) → at < length xs → length (swap_remove xs at y) + 1 ≡ length xs
+      shorter xs at y below = omega (arith, length-take (length xs - 1) (set xs at (get_or xs (length xs - 1) y)), length-set xs at (get_or xs (length xs - 1) y))
+
+pub tried_kept : {X : Type 0} (hash_of : X → ℕ) (key_of : X → List ℕ) (k k_now turn kept : ℕ) (start side side_now : Side X) → TriedSoFar hash_of key_of k turn kept start side → IsTried hash_of key_of k_now kept false side side_now → k_now ≡ k → HoldsAll hash_of key_of (cells_of side) (cells_of side_now) → TriedSoFar hash_of key_of k (turn + 1) (kept + 1) start side_now
+tried_kept {X} hash_of key_of k k_now turn kept start side side_now before one is held =
+    let x = one.entry in
+    let stays : side_now.strays ≡ side.strays = one.outcome.2 in
+    let front : drop kept side.strays ≡ x ∷ drop (kept + 1) side.strays = drop-cons side.strays kept x one.inside ∙ ap (λ (y : X). y ∷ drop (suc kept) side.strays) (sym one.there) ∙ ap (λ (n : ℕ). x ∷ drop n side.strays) (add-one kept) in
+    let taken : take (kept + 1) side.strays ≡ take kept side.strays ++ (x ∷ []) = ap (λ (n : ℕ). take n side.strays) (sym (add-one kept)) ∙ take-suc side.strays kept x one.inside ∙ ap (λ (y : X). take kept side.strays ++ (y ∷ [])) (sym one.there) in
+    record {
+      tried = before.tried ++ (x ∷ []);
+      each = subst (λ (l : List X). IsPermutation start.strays l)
+          (ap (λ (l : List X). before.tried ++ l) front ∙ sym (append_assoc before.tried (x ∷ []) (drop (kept + 1) side.strays)) ∙ ap (λ (l : List X). (before.tried ++ (x ∷ [])) ++ drop (kept + 1) l) (sym stays)) before.each;
+      many = omega (arith, before.many, ap length stays, one.inside);
+      inside = omega (arith, ap length stays, one.inside);
+      added = one_added before.tried x (record start { strays = [] }) (record side { strays = take kept side.strays }) (record side_now { strays = take (kept + 1) side_now.strays }) before.added
+          (inr (record {
+            same = one.outcome.0;
+            full = subst (λ (n : ℕ). IsFull hash_of n side_now.items (home_in n (hash_of x))) is one.outcome.1;
+            strays = ap (take (kept + 1)) stays ∙ taken;
+          }));
+      held = record { same = held.same ∙ before.held.same; apart = held.apart };
+    }
+
+-- when each had its turn, the strays that were kept are all
+pub all_tried : {X : Type 0} (hash_of : X → ℕ) (key_of : X → List ℕ) (k turn kept : ℕ) (start side : Side X) → TriedSoFar hash_of key_of k turn kept start side → length start.strays ≤ turn → AreTried hash_of key_of k start side
+all_tried {X} hash_of key_of k turn kept start side so_far done =
+    let ends : length side.strays ≤ kept = omega (arith, so_far.many, done) in
+    record {
+      tried = so_far.tried;
+      each = subst (λ (l : List X). IsPermutation start.strays l) (ap (λ (l : List X). so_far.tried ++ l) (drop_of_length-le side.strays ends) ∙ append-nil so_far.tried) so_far.each;
+      added = subst (λ (l : List X). AreAdded hash_of key_of k so_far.tried (record start { strays = [] }) (record side { strays = l })) (take_all kept side.strays ends) so_far.added;
+    }
+
+pub tried_more : {X : Type 0} (hash_of : X → ℕ) (key_of : X → List ℕ) (k k_now turn kept kept_now : ℕ) (put : Bool) (start side side_now : Side X) → TriedSoFar hash_of key_of k turn kept start side → IsTried hash_of key_of k_now kept put side side_now → k_now ≡ k → HoldsAll hash_of key_of (cells_of side) (cells_of side_now) → (put ≡ true → kept_now ≡ kept) → (put ≡ false → kept_now ≡ kept + 1) → TriedSoFar hash_of key_of k (turn + 1) kept_now start side_now
+tried_more hash_of key_of k k_now turn kept kept_now true start side side_now before one is held goes stays =
+    subst (λ (n : ℕ). TriedSoFar hash_of key_of k (turn + 1) n start side_now) (sym (goes refl)) (tried_put hash_of key_of k k_now turn kept start side side_now before one held)
+tried_more hash_of key_of k k_now turn kept kept_now false start side side_now before one is held goes stays =
+    subst (λ (n : ℕ). TriedSoFar hash_of key_of k (turn + 1) n start side_now) (sym (stays refl)) (tried_kept hash_of key_of k k_now turn kept start side side_now before one is held)

@@ -42,8 +42,8 @@ IsAdded hash_of key_of k entry old new =
 
 -- entries were added by the rule, one by one
 pub data AreAdded {X : Type 0} (hash_of : X → ℕ) (key_of : X → List ℕ) (k : ℕ) : List X → Side X → Side X → Type 0 where
-  none : (side : Side X) → AreAdded hash_of key_of k [] side side
-  more : (entries : List X) (entry : X) (first side last : Side X) → AreAdded hash_of key_of k entries first side → IsAdded hash_of key_of k entry side last → AreAdded hash_of key_of k (entries ++ (entry ∷ [])) first last
+  none_added : (side : Side X) → AreAdded hash_of key_of k [] side side
+  one_added : (entries : List X) (entry : X) (first side last : Side X) → AreAdded hash_of key_of k entries first side → IsAdded hash_of key_of k entry side last → AreAdded hash_of key_of k (entries ++ (entry ∷ [])) first last
 
 -- the table and the strays of an index
 abbrev pub side_of : {X : Type 0} → IndexState X → Side X

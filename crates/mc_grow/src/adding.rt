@@ -7,7 +7,7 @@ ghost use Rattle.mc_hop.specs.Tables.{IsAbsent, IsAt, home_in};
 ghost use Rattle.mc_grow.specs.Adding.{IsFull};
 
 use mc_displace::bring_near;
-use mc_hop::{content_has_each_entry, Hop, Keyed};
+use mc_hop::{Hop, Keyed, content_has_each_entry};
 
 /// Puts an entry of a new key into a bucket near its home, where one is empty or others can be moved to make it so. Answers the
 /// bucket, or gives the entry back where none can be had; the table's content is then as it was. It takes no memory.

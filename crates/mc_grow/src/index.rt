@@ -9,17 +9,21 @@ ghost use Rattle.mc_grow.specs.Parts.{IsFirstFilled, IsSpot, NoneFilledFrom};
 ghost use Rattle.mc_grow.specs.Indexes.{IsRemoved, cells, count, entry_at, holds, is_due, left, most_reads};
 ghost use Rattle.mc_grow.specs.Adding.{AreMoved, IsInserted};
 
-use crate::adding::add;
-use crate::parts::{Spot, drained_buckets, drained_entry, drained_len};
-use crate::parts::{filled_bucket, filled_drained, find_drained, find_stray};
-use crate::parts::{remove_drained, stray, update_drained, update_stray};
-use mc_hop::{Counts, Hop, Keyed, Uncounted};
-use mc_hop::{content_changes_at_one_key, content_has_each_entry};
+use crate::moving::{content_laws, make_room, move_entries, place, try_strays};
+use crate::parts::{
+    Spot, drained_buckets, drained_entry, drained_len, filled_bucket, filled_drained, find_drained,
+    find_stray, remove_drained, stray, update_drained, update_stray,
+};
+use mc_hop::{Counts, Hop, Keyed, Uncounted, content_changes_at_one_key, content_has_each_entry};
 use std::alloc::{AllocError, Global};
 use std::marker::Model;
+use std::mem;
+
+/// How many strays keep their room when a growth is over.
+const SMALL_ROOM: usize = 64;
 
 /// Where an entry stands in an index, until one comes, goes or is moved. `Index::find_again` finds it then.
-#[derive(Clone, Copy)]
+#[derive(Clone, Copy, PartialEq, Eq)]
 pub struct Place {
     number: usize,
 }
@@ -243,7 +247,13 @@ impl<T: Keyed + Drop> Index<T> {
         ensures refused { OnErr result (StandsAs self.old self.new) }
         ensures content { holds T.hash_of T.key_of self.new ≡ holds T.hash_of T.key_of self.old }
     {
-        unreachable!()
+        self.give_back_room(alloc);
+        if self.is_due() {
+            self.begin_growth(alloc)
+        } else {
+            let left = drained_len(&self.draining);
+            make_room(&mut self.strays, left + 1)
+        }
     }
 
     /// Puts in an entry of a new hash and key, for which there is room, and answers its place: in a bucket of the table near its home,
@@ -259,7 +269,12 @@ impl<T: Keyed + Drop> Index<T> {
         ensures inserted { IsInserted T.hash_of T.key_of entry self.old self.new }
         ensures room { self.old.spare ≤ self.new.spare + 1 }
     {
-        unreachable!()
+        content_laws::<T>();
+        let buckets = drained_buckets(&self.draining);
+        let at = place(&mut self.table, &mut self.strays, entry);
+        Place {
+            number: buckets + at,
+        }
     }
 
     /// Moves up to `n` entries of the old table, and answers how many it moved: as many as are left, where they are fewer. When
@@ -272,6 +287,59 @@ impl<T: Keyed + Drop> Index<T> {
         ensures moves { AreMoved T.hash_of T.key_of result self.old self.new }
         ensures room { self.old.spare ≤ self.new.spare }
     {
-        unreachable!()
+        content_laws::<T>();
+        let Some(mut draining) = self.draining.take() else {
+            return 0;
+        };
+        let moved = move_entries(&mut draining, &mut self.table, &mut self.strays, n);
+        if draining.len() == 0 {
+            try_strays(&mut self.table, &mut self.strays);
+        } else {
+            self.draining = Some(draining);
+        }
+        moved
+    }
+
+    /// Gives back the room among the strays that a growth left, where none runs and no stray stands.
+    fn give_back_room(&mut self, alloc: Global)
+        ensures { StandsAs self.old self.new }
+    {
+        if self.draining.is_none()
+            && self.strays.is_empty()
+            && self.strays.capacity() > SMALL_ROOM
+        {
+            self.strays = Vec::new(alloc);
+        }
+    }
+
+    /// Answers whether a growth is due before one entry more comes.
+    fn is_due(&self) -> bool
+        ensures { result ≡ is_due self.now }
+    {
+        let k = self.table.exponent();
+        if self.draining.is_some() || k >= 24 {
+            return false;
+        }
+        let homes = 1usize << k;
+        let entries = self.len().saturating_add(1).saturating_mul(4);
+        entries > 3 * homes || (!self.strays.is_empty() && entries >= homes)
+    }
+
+    /// Begins a growth: makes the table of twice the homes, and room among the strays for every entry of the old one and the one
+    /// to come.
+    fn begin_growth(&mut self, alloc: Global) -> Result<(), AllocError>
+        requires { is_due self.old ≡ true }
+        ensures room { OnOk result (1 ≤ self.new.spare) }
+        ensures begins { OnOk result (HasBegun self.old self.new) }
+        ensures refused { OnErr result (StandsAs self.old self.new) }
+        ensures content { holds T.hash_of T.key_of self.new ≡ holds T.hash_of T.key_of self.old }
+    {
+        content_laws::<T>();
+        let table = Hop::new(alloc, self.table.exponent() + 1)?;
+        let _buckets = self.table.buckets();
+        make_room(&mut self.strays, self.table.len() + 1)?;
+        table.entries_are_apart();
+        self.draining = Some(mem::replace(&mut self.table, table));
+        Ok(())
     }
 }

@@ -2,6 +2,8 @@
 #![tactic(auto)]
 
 mod adding;
+#[cfg(test)]
+mod growth_tests;
 mod index;
 mod moving;
 mod parts;

@@ -1,17 +1,19 @@
 //! Adds entries to a table and to the strays beside it.
 
 ghost use Rattle.std.specs.Prelude.{◌≡◌, ℕ, ◌+◌, ◌-◌, ◌^◌, ◌<◌, ◌≤◌, ◌∷◌, ◌++◌, Option, Some, None};
-ghost use Rattle.std.specs.Prelude.{List, is_some, length, min, true, false, slice_index_or, vec_len, vec_capacity};
+ghost use Rattle.std.specs.Prelude.{OnOk, List, is_some, length, min, true, false, slice_index_or, vec_len, vec_capacity};
 ghost use Rattle.mc_hop.specs.Links.{IsSwapped};
 ghost use Rattle.std.specs.FinMap.{get};
 ghost use Rattle.mc_hop.specs.Cells.{filled};
 ghost use Rattle.mc_hop.specs.Contents.{content};
 ghost use Rattle.mc_hop.specs.Tables.{AreApart};
 ghost use Rattle.mc_grow.specs.Adding.{IsAdded, AreTried, AreTaken, beside, cells_of};
+ghost use Rattle.mc_grow.specs.Parts.{room_in};
 ghost use Rattle.mc_grow.specs.Moving.{ContentLaws, HoldsAll, IsIn, IsTaken, IsTried};
 
 use crate::adding::add;
-use mc_hop::{content_has_each_entry, content_of_two_lists, Hop, Keyed};
+use mc_hop::{Hop, Keyed, content_has_each_entry, content_of_two_lists};
+use std::alloc::AllocError;
 
 /// Says the laws of the content of buckets in one. It does nothing.
 pub(crate) fn content_laws<T: Keyed + Drop>()
@@ -21,13 +23,26 @@ pub(crate) fn content_laws<T: Keyed + Drop>()
     content_of_two_lists::<T>();
 }
 
+/// The most strays and entries of an old table that an index has.
+const MOST_STRAYS: usize = 1 << 32;
+
+/// Makes room for so many strays more. An error is a refused allocation, or that they would be more than 2^32; the strays stay.
+pub(crate) fn make_room<T>(strays: &mut Vec<T>, more: usize) -> Result<(), AllocError>
+    ensures ok { OnOk result (vec_len strays.new + more ≤ room_in (vec_capacity strays.new)) }
+    ensures items { strays.new.items ≡ strays.old.items }
+    ensures len { vec_len strays.new ≡ vec_len strays.old }
+    ensures capacity { vec_capacity strays.old ≤ vec_capacity strays.new }
+{
+    let len = strays.len();
+    if len > MOST_STRAYS || more > MOST_STRAYS - len {
+        return Err(AllocError);
+    }
+    strays.reserve(more)
+}
+
 /// Adds an entry of a new key, to a bucket near its home or else to the strays, and answers its place among the buckets and the
 /// strays behind them. It takes no memory.
-pub(crate) fn place<T: Keyed + Drop>(
-    table: &mut Hop<T>,
-    strays: &mut Vec<T>,
-    entry: T,
-) -> usize
+pub(crate) fn place<T: Keyed + Drop>(table: &mut Hop<T>, strays: &mut Vec<T>, entry: T) -> usize
     requires apart { AreApart T.hash_of T.key_of (cells_of (beside table.old strays.old.items)) }
     requires new { get (content T.hash_of T.key_of (cells_of (beside table.old strays.old.items)))
         (T.hash_of entry ∷ T.key_of entry) ≡ None }
@@ -112,6 +127,7 @@ pub(crate) fn move_entries<T: Keyed + Drop>(
         ≤ vec_len strays.old + filled draining.old.items }
     ensures capacity { vec_capacity strays.new ≡ vec_capacity strays.old }
 {
+    content_laws::<T>();
     for moved in 0..n {
         let Some(at) = draining.any_filled() else {
             return moved;
@@ -130,6 +146,7 @@ fn try_stray<T: Keyed + Drop>(table: &mut Hop<T>, strays: &mut Vec<T>, at: usize
     ensures content { HoldsAll T.hash_of T.key_of (cells_of (beside table.old strays.old.items))
         (cells_of (beside table.new strays.new.items)) }
     ensures k { table.new.k ≡ table.old.k }
+    ensures room { vec_len strays.new ≤ vec_len strays.old }
     ensures capacity { vec_capacity strays.new ≡ vec_capacity strays.old }
 {
     content_laws::<T>();
@@ -151,6 +168,7 @@ fn put_back<T: Drop>(strays: &mut Vec<T>, at: usize, entry: T)
     requires room { vec_len strays.old < vec_capacity strays.old }
     ensures items { (items : List T) → at < length items → entry ≡ slice_index_or items at entry →
         IsSwapped items strays.old.items at → strays.new.items ≡ items }
+    ensures len { vec_len strays.new ≡ vec_len strays.old + 1 }
     ensures capacity { vec_capacity strays.new ≡ vec_capacity strays.old }
 {
     let last = strays.len();

@@ -29,14 +29,6 @@ impl Keyed for Mark {
     }
 }
 
-/// Room for one entry more, asked for again where memory is refused.
-fn reserve(index: &mut Index<Mark>, alloc: Global) -> Result<(), AllocError> {
-    match index.reserve(alloc) {
-        Err(_) => index.reserve(alloc),
-        made => made,
-    }
-}
-
 /// Puts in an entry of that hash, where none has it.
 fn add(index: &mut Index<Mark>, alloc: Global, hash: u64) -> Result<bool, AllocError> {
     match index.reserve(alloc) {
@@ -85,7 +77,10 @@ fn entries_stand_in_three_parts(rt: HostRuntime) -> Result<(), Fail> {
         let found = index.find(hash, b"k");
         assert!(rt; found.is_some(), "{hash} is not found");
     }
-    assert!(rt; index.find(67, b"k").is_none(), "one was found that isn't there");
+    assert!(rt;
+        index.find(67, b"k").is_none(),
+        "one was found that isn't there"
+    );
     Ok(())
 }
 
@@ -167,12 +162,12 @@ fn each_entry_is_changed_in_its_place(rt: HostRuntime) -> Result<(), Fail> {
 fn a_sweep_takes_each_entry_out(rt: HostRuntime) -> Result<(), Fail> {
     let mut index = growing(rt.alloc())?;
     let mut at = 0;
-    let mut hashes = 0;
+    let mut hashes = 0u64;
     for _turn in 0..MARKS {
         if let Some((number, place)) = index.filled_from(at) {
             at = number;
             let mark = index.remove(place);
-            hashes += mark.hash % 256;
+            hashes = mark.hash.wrapping_add(hashes);
         }
     }
     assert!(rt; hashes == 2211, "the hashes' sum is {hashes}");
