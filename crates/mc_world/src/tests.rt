@@ -4,9 +4,11 @@
 ghost use Rattle.std.specs.Prelude.{◌≤◌};
 
 use super::*;
+use crate::parts::Parts;
+use crate::sessions::Sessions;
 use mc_command::Bytes;
 use mc_hop::{Constant, Fnv, KeyHash};
-use mc_shelf::Settings;
+use mc_shelf::{Settings, Store};
 use mc_time::Moment;
 use std::alloc::{AllocError, Global};
 use std::process::Abort;
@@ -257,6 +259,40 @@ fn keys_of_one_hash_are_apart(rt: HostRuntime) -> Result<(), Fail> {
         let hit = format!(in alloc; "VALUE k{key:02} 0 2\r\n{key:02}\r\nEND\r\n")?;
         answers(&rt, alloc, &mut world, 1000, &get, &hit)?;
     }
+    Ok(())
+}
+
+fn happen(parts: &mut Parts<Constant>, alloc: Global, event: &Event<'_>) -> Result<(), AllocError> {
+    match parts.happen(alloc, event) {
+        Ok(()) => Ok(()),
+        Err(_) => Err(AllocError),
+    }
+}
+
+/// Of keys of one hash a table takes 32. That of 64 homes grows before the 34th comes, since the
+/// 33rd found no bucket.
+#[test]
+fn an_event_of_growth_moves_eight_entries(rt: HostRuntime) -> Result<(), Fail> {
+    let alloc = rt.alloc();
+    let settings = Settings {
+        pages: 1,
+        greatest: 1048576,
+        shelves: 64,
+    };
+    let mut parts = Parts {
+        store: Store::new(alloc, settings, Constant(0))?,
+        moment: Moment::from_seconds(1000),
+        sessions: Sessions::new(alloc),
+    };
+    happen(&mut parts, alloc, &Event::Open)?;
+    for key in 1..35 {
+        let set = format!(in alloc; "set k{key:02} 0 0 2\r\n{key:02}\r\n")?;
+        let piece = Bytes::of(set.as_bytes());
+        happen(&mut parts, alloc, &Event::Piece(1, piece))?;
+        happen(&mut parts, alloc, &Event::Turn(1))?;
+    }
+    happen(&mut parts, alloc, &Event::Grow(0))?;
+    assert_eq!(rt; parts.store.grow(0, 100), 24);
     Ok(())
 }
 
