@@ -20,8 +20,8 @@ abbrev pub HasHome : {X : Type 0} → (X → ℕ) → HopState X → (at home : 
 HasHome {X} hash_of table at home =
     (entry : X) → bucket_at table.items at ≡ Some entry → home_in table.k (hash_of entry) ≡ home
 
--- of a home and a place: the entry at the place can be moved, has that home, and is within 31 of the
--- empty bucket
+-- of a home and a place: the entry at the place can be moved, has that home, and is within 31 of
+-- the empty bucket
 abbrev pub CanMove : {X : Type 0} → (X → ℕ) → HopState X → (free : ℕ) → ℕ × ℕ → Type 0
 CanMove hash_of table free found =
     IsMovable hash_of table.k table.items free found.1

@@ -3,7 +3,8 @@
 ghost use Rattle.std.specs.Prelude.{◌≡◌, ◌+◌, ◌<◌, ◌≤◌, None, IfSome, IsNone, IfOk, IfErr, length};
 ghost use Rattle.mc_hop.specs.Tables.{bucket_at};
 ghost use Rattle.mc_hop.specs.Contents.{content};
-ghost use Rattle.mc_displace.specs.Moves.{IsMovable, CanMove, HasHome, NoneMovable, IsNear, IsStuck};
+ghost use Rattle.mc_displace.specs.Moves.{IsMovable, CanMove, HasHome, NoneMovable};
+ghost use Rattle.mc_displace.specs.Moves.{IsNear, IsStuck};
 
 use mc_hop::{Hop, Keyed, lowest};
 
@@ -41,8 +42,8 @@ fn shift<T: Keyed + Drop>(hop: &mut Hop<T>, home: usize, at: usize, free: usize)
     hop.put_within(home, free, entry);
 }
 
-/// Brings an empty bucket within 31 of a home by moving entries. The content is as it was. An error is
-/// the empty bucket where no entry can be moved into it.
+/// Brings an empty bucket within 31 of a home by moving entries. The content is as it was. An error
+/// is the empty bucket where no entry can be moved into it.
 pub fn bring_near<T: Keyed + Drop>(
     hop: &mut Hop<T>,
     home: usize,
