@@ -17,7 +17,7 @@ use Rattle.mc_world.proofs.StandLemmas.{stand_length}
 use Rattle.mc_world.proofs.FrontLemmas.{end_leaves, change_fronted, gives_up_fronted, takes_fronted}
 use Rattle.mc_world.proofs.WrittenLemmas.{Fronts, fronts, put_on, idle_written, closed_written, written_twice, was_written}
 use Rattle.mc_world.proofs.OnlyLemmas.{until_only}
-use Rattle.mc_world.proofs.ServeLemmas.{IsAt, is_at, runs_behind, told_behind, served_nothing, has_room, served_by}
+use Rattle.mc_world.proofs.ServeLemmas.{IsAt, is_at, runs_behind, told_behind, served_nothing, has_room, finds_idle, served_by}
 
 abbrev opens : Connection → Bool
 opens c = c.is_open
@@ -65,7 +65,7 @@ module _ {K : Type 0} {hash_of : K → List ℕ → ℕ} {may_give : ℕ → Typ
   -- a refused event is one of the session
   refusal_names : {old : WorldState K} {events : List Event} {written : List ℕ} {before : List Event} {event : Event} {brings : List ℕ} {calls : ℕ} → IsRefusal hash_of may_give n old events written before event brings calls → named event ≡ Some n
   refusal_names (refused_turn now gives room) = refl
-  refusal_names (refused_piece bytes) = refl
+  refusal_names (refused_piece bytes some idle) = refl
 
   -- what was served, and then some events and one that is refused
   until_behind : {first : WorldState K} {turns : ℕ} {read written : List ℕ} {now : WorldState K} (served : HasServed hash_of may_give n first turns read written now) (before : List Event) (decided : Bool) (event : Event) (new : WorldState K)
@@ -118,7 +118,7 @@ module _ {K : Type 0} {hash_of : K → List ℕ → ℕ} {may_give : ℕ → Typ
         calls = 0;
         decided = refused.decided;
         service = served.service;
-        refusal = refused_piece bytes;
+        refusal = refused_piece bytes some (finds_idle served (subst (λ (k : ℕ). IsIdle (numbered k old.sessions)) at idle));
         few = omega (arith, few);
         consumes = Consumes-trans r0 r1 r2 read bytes consumes loses;
         appends = appends;

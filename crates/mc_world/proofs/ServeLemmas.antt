@@ -4,11 +4,11 @@ use Rattle.std.proofs.Math.Nat.{mod-eq_of_lt}
 use Rattle.std.proofs.lemmas.Bool.{lt-ltb}
 use Rattle.mc_shelf.specs.declared.store.Settings.{Settings}
 use Rattle.mc_world.specs.Connections.{fresh}
-use Rattle.mc_world.specs.Worlds.{PlainWorld, WorldState, Happens, Runs, RunsIn, StandsAs, Told}
+use Rattle.mc_world.specs.Worlds.{PlainWorld, WorldState, numbered, IsIdle, Happens, Runs, RunsIn, StandsAs, Told}
 use Rattle.mc_session.specs.Exchanges as exchanges
 use Rattle.mc_session.specs.Exchanges.{Exchange}
 use Rattle.mc_world.specs.declared.seat.Seat.{Seat}
-use Rattle.mc_world.specs.Serving.{next_session, waiting, most_waiting, most_turns, with_written, with_front, shelf_of, turn_events, HasRoom, IsService, starts, turn, piece, write}
+use Rattle.mc_world.specs.Serving.{next_session, waiting, most_waiting, most_turns, with_written, with_front, shelf_of, turn_events, HasRoom, FindsIdle, IsService, starts, turn, piece, write}
 use Rattle.mc_world.specs.Rounds.{seat, one_more, in_world, Begins, HasServed}
 use Rattle.mc_world.specs.declared.event.Event.{Event}
 use Rattle.mc_world.specs.declared.event.Event.TheVariants.{Open, Piece, Turn}
@@ -23,7 +23,7 @@ service_opens starts = ([], refl)
 service_opens {n = n} {old = old} (turn {turns = turns} now gives room service) =
     let so_far = service_opens service in
     (so_far.0 ++ turn_events n (shelf_of turns old.settings.shelves) now, ap (λ (l : List Event). l ++ turn_events n (shelf_of turns old.settings.shelves) now) so_far.1)
-service_opens {n = n} (piece bytes service) =
+service_opens {n = n} (piece bytes idle service) =
     let so_far = service_opens service in
     (so_far.0 ++ Piece n bytes ∷ [], ap (λ (l : List Event). l ++ Piece n bytes ∷ []) so_far.1)
 service_opens (write bytes service) = service_opens service
@@ -106,6 +106,10 @@ module _ {K : Type 0} {hash_of : K → List ℕ → ℕ} {may_give : ℕ → Typ
   pub has_room : {turns : ℕ} {read written : List ℕ} {now : WorldState K} (served : HasServed hash_of may_give n first turns read written now) → waiting n now < most_waiting → HasRoom hash_of may_give n first served.events written
   has_room {now = now} served room = record { world = now; told = served.told; room = room }
 
+  -- a piece may come where no turn is due
+  pub finds_idle : {turns : ℕ} {read written : List ℕ} {now : WorldState K} (served : HasServed hash_of may_give n first turns read written now) → IsIdle (numbered n now.sessions) → FindsIdle hash_of may_give n first served.events written
+  finds_idle {now = now} served idle = record { world = now; told = served.told; idle = idle }
+
   -- a turn
   then_turned : {turns : ℕ} {read written : List ℕ} {old new : WorldState K} (now : ℕ) → may_give now → waiting n old < most_waiting → Told hash_of old (turn_events n (shelf_of turns old.settings.shelves) now) new → HasServed hash_of may_give n first turns read written old
       → HasServed hash_of may_give n first (turns + 1) read written new
@@ -132,13 +136,13 @@ module _ {K : Type 0} {hash_of : K → List ℕ → ℕ} {may_give : ℕ → Typ
   }
 
   -- a read
-  then_read : {turns : ℕ} {read written : List ℕ} {old new : WorldState K} (bytes : List ℕ) → Told hash_of old (Piece n bytes ∷ []) new → HasServed hash_of may_give n first turns read written old → HasServed hash_of may_give n first turns (read ++ bytes) written new
-  then_read {new = new} bytes told served = record {
+  then_read : {turns : ℕ} {read written : List ℕ} {old new : WorldState K} (bytes : List ℕ) → IsIdle (numbered n old.sessions) → Told hash_of old (Piece n bytes ∷ []) new → HasServed hash_of may_give n first turns read written old → HasServed hash_of may_give n first turns (read ++ bytes) written new
+  then_read {new = new} bytes idle told served = record {
     number = served.number;
     stands = served.stands;
     opens = served.opens;
     events = served.events ++ Piece n bytes ∷ [];
-    service = piece bytes served.service;
+    service = piece bytes (finds_idle served idle) served.service;
     told = told_behind served (Piece n bytes ∷ []) new told;
   }
 
@@ -154,7 +158,7 @@ module _ {K : Type 0} {hash_of : K → List ℕ → ℕ} {may_give : ℕ → Typ
       )
   served_by {after = after} (exchanges.piece {between = between} bytes exchange idle (same, told)) few begun =
       let (is, served) = served_by exchange few begun in
-      (same ∙ is, then_read bytes (subst (λ (s : Seat). Told hash_of between (Piece s.number bytes ∷ []) after) is told) served)
+      (same ∙ is, then_read bytes (subst (λ (s : Seat). IsIdle (numbered s.number between.sessions)) is idle) (subst (λ (s : Seat). Told hash_of between (Piece s.number bytes ∷ []) after) is told) served)
   served_by {after = after} (exchanges.write {between = between} bytes exchange writes) few begun =
       let (is, served) = served_by exchange few begun in
       let wrote = was_written writes in

@@ -147,10 +147,6 @@ idle_before : (bytes : List ℕ) (o : Option SessionState) → IsIdle o → IsId
 idle_before bytes None idle = idle
 idle_before bytes (Some s) idle = (idle.0, idle.1)
 
-idle_behind : (bytes : List ℕ) (o : Option SessionState) → IsIdle (mapped (before bytes) o) → IsIdle o
-idle_behind bytes None idle = idle
-idle_behind bytes (Some s) idle = (idle.0, idle.1)
-
 closed_before : (bytes : List ℕ) (o : Option SessionState) → IsClosed o → IsClosed (mapped (before bytes) o)
 closed_before bytes None is = is
 closed_before bytes (Some s) is = is
@@ -177,10 +173,3 @@ shut_number ss (suc m) some inside h = shut_at ss m (omega arith) h
 
 pub closed_written : {K : Type 0} (n : ℕ) (bytes : List ℕ) (w : WorldState K) → 1 ≤ n → n ≤ length w.sessions → open_session n w.sessions ≡ None → IsClosed (numbered n (with_written n bytes w).sessions)
 closed_written n bytes w some inside h = subst IsClosed (sym (numbered_written n bytes w)) (closed_before bytes (numbered n w.sessions) (shut_number w.sessions n some inside h))
-
--- a session stays idle while its output is sent
-pub idle_sent : {K : Type 0} (n k : ℕ) (w : WorldState K) → IsIdle (numbered n w.sessions) → IsIdle (numbered n (with_sent n k w).sessions)
-idle_sent n k w idle =
-    let part = take k (output_of (numbered n w.sessions)) in
-    idle_behind part (numbered n (with_sent n k w).sessions)
-    (subst IsIdle (numbered_written n part (with_sent n k w)) (subst (λ (v : WorldState _). IsIdle (numbered n v.sessions)) (written_sent n k w) idle))
