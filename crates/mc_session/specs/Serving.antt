@@ -3,7 +3,7 @@ use Rattle.std.specs.Prelude.{◌≡◌, ◌⊎◌, ◌+◌, ◌^◌, ◌<◌, �
 use Rattle.std.specs.Io.KnownBytes.{Appends, Consumes, IsAtEnd}
 use Rattle.mc_command.specs.declared.step.Steps.{Ghosts as Relations}
 use Rattle.mc_parse.specs.Units.{ProtocolUnit}
-use Rattle.mc_session.specs.declared.serving.TheConstants.{WRITE_AT}
+use Rattle.mc_session.specs.declared.rounds.TheConstants.{WRITE_AT}
 use Rattle.mc_session.specs.Turns.{SessionState, opened, fed, TakesTurn, DecidesStep, HoldsSame, NoTurnDue}
 
 -- the session with what was written of its output still in front

@@ -1,21 +1,23 @@
 -- What was served of a session until memory ran out, and the close of it.
-use Rattle.std.proofs.Common.{◌≡◌, ◌≢◌, ◌⊎◌, inl, inr, ℕ, ◌<◌, ◌≤◌, Bool, true, false, List, [], ◌∷◌, ◌++◌, Option, Some, None, Result, Ok, Err, OnOk, IfErr, refl, sym, ap, ◌∙◌, subst, arith, append-nil, if◌then◌else◌}
-use Rattle.std.specs.Io.KnownBytes.{Consumes, IsAtEnd}
+use Rattle.std.proofs.Common.{◌≡◌, ◌⊎◌, inl, inr, ℕ, ◌<◌, ◌≤◌, Bool, true, false, List, [], ◌∷◌, ◌++◌, Option, Some, None, Result, Ok, Err, OnOk, refl, sym, ap, ◌^◌, ◌∙◌, subst, arith, if◌then◌else◌}
+use Rattle.std.specs.Io.KnownBytes.{Appends, Consumes, IsAtEnd}
 use Rattle.std.proofs.KnownBytes.{Consumes-trans, Appends-trans}
+use Rattle.mc_session.specs.Exchanges as exchanges
+use Rattle.mc_session.specs.Exchanges.{Wrote, Exchanges, HasEnded, Refusal, no_turn, no_piece, FallsShort}
 use Rattle.mc_session.specs.declared.serving.ServeFault.{ServeFault}
-use Rattle.mc_session.specs.declared.serving.ServeFault.TheVariants.{NoMemory, Write}
 use Rattle.mc_world.specs.Connections.{Connection, ended}
-use Rattle.mc_world.specs.Worlds.{PlainWorld, WorldState, output_of, numbered, at_connection, open_session, IsIdle, IsClosed, StandsAs, Told, Refuses, RunsUntil, named, with_end, GivesUp}
-use Rattle.mc_world.specs.Serving.{Scene, scene, next_session, most_turns, with_written, with_front, IsRefusal, refused_turn, refused_piece, UntilRefused, write, Served, ServedAll}
-use Rattle.mc_world.specs.Rounds.{Writes, HasEnded, Begins, ReadsRefused, GivesRefused, HasServed, GoesOn, GoesFar, RunsShort}
+use Rattle.mc_world.specs.Worlds.{PlainWorld, WorldState, output_of, numbered, at_connection, open_session, IsIdle, IsClosed, StandsAs, Told, ToldUntil, Refuses, RunsUntil, named, with_end, GivesUp}
+use Rattle.mc_world.specs.declared.seat.Seat.{Seat}
+use Rattle.mc_world.specs.Serving.{scene, next_session, waiting, most_waiting, most_turns, with_written, with_front, IsRefusal, refused_turn, refused_piece, UntilRefused, write, Served, ServedAll}
+use Rattle.mc_world.specs.Rounds.{seat, in_world, Begins, HasServed}
 use Rattle.mc_world.specs.declared.event.Event.{Event}
 use Rattle.mc_world.specs.declared.event.Event.TheVariants.{Piece, Turn, Clock, Close}
 use Rattle.mc_world.proofs.UpdateLemmas.{at_number, if_opened, changed_opened, number_twice}
 use Rattle.mc_world.proofs.StandLemmas.{stand_length}
 use Rattle.mc_world.proofs.FrontLemmas.{end_leaves, change_fronted, gives_up_fronted, takes_fronted}
-use Rattle.mc_world.proofs.WrittenLemmas.{Fronts, fronts, put_on, idle_written, closed_written, written_twice}
+use Rattle.mc_world.proofs.WrittenLemmas.{Fronts, fronts, put_on, idle_written, closed_written, written_twice, was_written}
 use Rattle.mc_world.proofs.OnlyLemmas.{until_only}
-use Rattle.mc_world.proofs.ServeLemmas.{IsAt, is_at, runs_behind, told_behind, served_nothing, has_room}
+use Rattle.mc_world.proofs.ServeLemmas.{IsAt, is_at, runs_behind, told_behind, served_nothing, has_room, finds_idle, served_by}
 
 abbrev opens : Connection → Bool
 opens c = c.is_open
@@ -63,85 +65,72 @@ module _ {K : Type 0} {hash_of : K → List ℕ → ℕ} {may_give : ℕ → Typ
   -- a refused event is one of the session
   refusal_names : {old : WorldState K} {events : List Event} {written : List ℕ} {before : List Event} {event : Event} {brings : List ℕ} {calls : ℕ} → IsRefusal hash_of may_give n old events written before event brings calls → named event ≡ Some n
   refusal_names (refused_turn now gives room) = refl
-  refusal_names (refused_piece bytes) = refl
+  refusal_names (refused_piece bytes some idle) = refl
 
   -- what was served, and then some events and one that is refused
-  until_behind : {turns : ℕ} {first now : Scene K} (served : HasServed hash_of may_give n turns first now) (before : List Event) (decided : Bool) (event : Event) (new : WorldState K)
-      → ((plain : PlainWorld) → StandsAs plain now.world → RunsUntil hash_of now.world plain before decided event new)
-      → (plain : PlainWorld) → StandsAs plain first.world → RunsUntil hash_of first.world plain (served.events ++ before) decided event (with_written n served.written new)
-  until_behind {first = first} {now = now} served before decided event new each plain stands =
-      let here : IsAt hash_of n first.world plain served.events served.written now.world = is_at served plain stands in
+  until_behind : {first : WorldState K} {turns : ℕ} {read written : List ℕ} {now : WorldState K} (served : HasServed hash_of may_give n first turns read written now) (before : List Event) (decided : Bool) (event : Event) (new : WorldState K)
+      → ((plain : PlainWorld) → StandsAs plain now → RunsUntil hash_of now plain before decided event new)
+      → (plain : PlainWorld) → StandsAs plain first → RunsUntil hash_of first plain (served.events ++ before) decided event (with_written n written new)
+  until_behind {first = first} {written = written} {now = now} served before decided event new each plain stands =
+      let here : IsAt hash_of n first plain served.events written now = is_at served plain stands in
       let next = each here.plain here.stands in (
-        with_front n served.written next.0,
+        with_front n written next.0,
         runs_behind served plain here before next.0 next.1,
-        refuses_fronted hash_of n (hash_of first.world.hasher) first.world.settings.shelves served.written next.0 decided event new next.2,
+        refuses_fronted hash_of n (hash_of first.hasher) first.settings.shelves written next.0 decided event new next.2,
       )
 
-  -- a turn that memory ran out in
-  pub short_turn : {turns : ℕ} {old new : WorldState K} {reader writer : Option (List ℕ)} → turns < most_turns → GivesRefused hash_of may_give n old new → RunsShort hash_of may_give n turns (scene old reader writer) (scene new reader writer)
-  short_turn {turns = turns} {old = old} {new = new} {reader = reader} few refused = record {
-    goes = λ first served. record {
-      number = served.number;
-      until = record {
+  -- memory ran out behind what was served
+  short_of : {first : WorldState K} {turns : ℕ} {read written lost : List ℕ} {s : Seat} {old : WorldState K} {last : Seat} {new : WorldState K} {r0 r2 w0 w1 : Option (List ℕ)} (r1 : Option (List ℕ)) → turns ≤ most_turns → s ≡ seat n turns → HasServed hash_of may_give n first turns read written old
+      → Consumes r0 r1 read → Consumes r1 r2 lost → Appends w0 w1 written → Refusal (in_world hash_of) may_give turns s old last new lost → UntilRefused hash_of may_give n first r0 w0 (scene new r2 w1)
+  short_of {first = first} {turns = turns} {read = read} {written = written} {s = s} {old = old} {new = new} {r0 = r0} {r2 = r2} r1 few is served consumes loses appends (no_turn now fewer small gives (refused, told)) =
+      let at : s.number ≡ n = ap (λ (t : Seat). t.number) is in
+      record {
         events = served.events;
-        read = served.read;
-        written = served.written;
+        read = read;
+        written = written;
         turns = turns;
-        before = Clock refused.now ∷ [];
+        before = Clock now ∷ [];
         event = Turn n;
         brings = [];
         calls = 1;
-        decided = refused.refused.decided;
+        decided = refused.decided;
         service = served.service;
-        refusal = refused_turn refused.now refused.gives (has_room served refused.room);
-        few = omega (arith, few);
-        consumes = subst (Consumes first.reader reader) (sym (append-nil served.read)) served.consumes;
-        appends = served.appends;
-        told = until_behind served (Clock refused.now ∷ []) refused.refused.decided (Turn n) new
+        refusal = refused_turn now gives (has_room served (subst (λ (k : ℕ). waiting k old < most_waiting) at small));
+        few = omega (arith, fewer);
+        consumes = Consumes-trans r0 r1 r2 read [] consumes loses;
+        appends = appends;
+        told = until_behind served (Clock now ∷ []) refused.decided (Turn n) new
             (λ plain stands.
-            let moved : PlainWorld = record plain { now = refused.now } in
-            let only = until_only hash_of refused.refused (record old { moment = refused.now }) new (Turn n) refused.told in
+            let moved : PlainWorld = record plain { now = now } in
+            let only = until_only hash_of refused (record old { moment = now }) new (Turn n) (subst (λ (k : ℕ). ToldUntil hash_of refused (record old { moment = now }) (Turn k ∷ []) new) at told) in
             (moved, (moved, refl, refl), only.told moved (record { greatest = stands.greatest; state = stands.state; now = refl; sessions = stands.sessions })));
-      };
-    };
-  }
-
-  -- a read that memory ran out in
-  pub short_read : {turns : ℕ} {old new : WorldState K} {reader_old reader_new writer : Option (List ℕ)} → turns ≤ most_turns → ReadsRefused hash_of n old new reader_old reader_new → RunsShort hash_of may_give n turns (scene old reader_old writer) (scene new reader_new writer)
-  short_read {turns = turns} {old = old} {new = new} {reader_old = reader_old} {reader_new = reader_new} few refused = record {
-    goes = λ first served. record {
-      number = served.number;
-      until = record {
+      }
+  short_of {first = first} {turns = turns} {read = read} {written = written} {s = s} {old = old} {new = new} {r0 = r0} {r2 = r2} r1 few is served consumes loses appends (no_piece bytes some idle (refused, told)) =
+      let at : s.number ≡ n = ap (λ (t : Seat). t.number) is in
+      record {
         events = served.events;
-        read = served.read;
-        written = served.written;
+        read = read;
+        written = written;
         turns = turns;
         before = [];
-        event = Piece n refused.piece;
-        brings = refused.piece;
+        event = Piece n bytes;
+        brings = bytes;
         calls = 0;
-        decided = refused.refused.decided;
+        decided = refused.decided;
         service = served.service;
-        refusal = refused_piece refused.piece;
+        refusal = refused_piece bytes some (finds_idle served (subst (λ (k : ℕ). IsIdle (numbered k old.sessions)) at idle));
         few = omega (arith, few);
-        consumes = Consumes-trans first.reader reader_old reader_new served.read refused.piece served.consumes refused.consumes;
-        appends = served.appends;
-        told = until_behind served [] refused.refused.decided (Piece n refused.piece) new
+        consumes = Consumes-trans r0 r1 r2 read bytes consumes loses;
+        appends = appends;
+        told = until_behind served [] refused.decided (Piece n bytes) new
             (λ plain stands.
-            let only = until_only hash_of refused.refused old new (Piece n refused.piece) refused.told in
+            let only = until_only hash_of refused old new (Piece n bytes) (subst (λ (k : ℕ). ToldUntil hash_of refused old (Piece k bytes ∷ []) new) at told) in
             (plain, refl, only.told plain stands));
-      };
-    };
-  }
-
-  -- behind what was served
-  pub short_on : {turns more : ℕ} {old now new : Scene K} → GoesOn hash_of may_give n turns more old now → RunsShort hash_of may_give n more now new → RunsShort hash_of may_give n turns old new
-  short_on on short = record { goes = λ first served. short.goes first (on.goes first served) }
+      }
 
   -- the close of a session that is closed does nothing
-  pub until_closed : {first : Scene K} {old : WorldState K} {reader writer : Option (List ℕ)} (new : WorldState K) → UntilRefused hash_of may_give n first.world first.reader first.writer (scene old reader writer) → Told hash_of old (Close n ∷ []) new
-      → UntilRefused hash_of may_give n first.world first.reader first.writer (scene new reader writer)
-  until_closed {first = first} {old = old} new until told = record {
+  until_closed : {first old : WorldState K} {r0 r1 w0 w1 : Option (List ℕ)} (new : WorldState K) → UntilRefused hash_of may_give n first r0 w0 (scene old r1 w1) → Told hash_of old (Close n ∷ []) new → UntilRefused hash_of may_give n first r0 w0 (scene new r1 w1)
+  until_closed {old = old} new until told = record {
     events = until.events;
     read = until.read;
     written = until.written;
@@ -167,83 +156,80 @@ module _ {K : Type 0} {hash_of : K → List ℕ → ℕ} {may_give : ℕ → Typ
   }
 
   -- a session that isn't open at the end of what was served is closed
-  ended_closed : {turns : ℕ} {first now : Scene K} (served : HasServed hash_of may_give n turns first now) → open_session n now.world.sessions ≡ None → IsClosed (numbered n (with_written n served.written now.world).sessions)
-  ended_closed {first = first} {now = now} served none =
-      let here : IsAt hash_of n first.world served.stands.plain served.events served.written now.world = is_at served served.stands.plain served.stands.stands in
-      closed_written n served.written now.world here.opened.0 (omega (arith, here.opened.1, stand_length here.plain.connections now.world.sessions here.stands.sessions)) none
+  ended_closed : {first : WorldState K} {turns : ℕ} {read written : List ℕ} {now : WorldState K} (served : HasServed hash_of may_give n first turns read written now) → open_session n now.sessions ≡ None → IsClosed (numbered n (with_written n written now).sessions)
+  ended_closed {first = first} {written = written} {now = now} served none =
+      let here : IsAt hash_of n first served.stands.plain served.events written now = is_at served served.stands.plain served.stands.stands in
+      closed_written n written now here.opened.0 (omega (arith, here.opened.1, stand_length here.plain.connections now.sessions here.stands.sessions)) none
 
-  pub served_ended : {turns : ℕ} {first now : Scene K} (served : HasServed hash_of may_give n turns first now) → HasEnded n now.world now.reader → Ended n (with_written n served.written now.world) now.reader
-  served_ended served (inl none) = inl (ended_closed served none)
-  served_ended {now = now} served (inr (idle, end)) = inr (idle_written n served.written now.world idle, end)
+  served_ended : {first : WorldState K} {turns : ℕ} {read written : List ℕ} {now : WorldState K} (reader : Option (List ℕ)) (served : HasServed hash_of may_give n first turns read written now) → HasEnded (in_world hash_of) (seat n turns) now reader → Ended n (with_written n written now) reader
+  served_ended reader served (inl none) = inl (ended_closed served none)
+  served_ended {written = written} {now = now} reader served (inr (idle, end)) = inr (idle_written n written now idle, end)
 
--- The session that was opened first closes. What is said with its number is said with the next number of the first world.
-module _ {K : Type 0} {hash_of : K → List ℕ → ℕ} {may_give : ℕ → Type 0} {first : Scene K} where
-  pub closed_at : {turns : ℕ} {old : Scene K} (served : HasServed hash_of may_give (next_session first.world) turns first old) → turns ≤ most_turns → (new : WorldState K) → Told hash_of old.world (Close (next_session first.world) ∷ []) new → Served hash_of may_give first (scene new old.reader old.writer)
-  closed_at {turns = turns} served few new told = record {
-    came = record { events = served.events; read = served.read; written = served.written; turns = turns; service = served.service; few = few; consumes = served.consumes; appends = served.appends };
-    told = told_behind served (Close (next_session first.world) ∷ []) new told;
+-- A whole run: the worlds before it, after the rounds and after the close, and the seat after the rounds.
+pub record Ran {K : Type 0} (hash_of : K → List ℕ → ℕ) (may_give : ℕ → Type 0) (w0 w2 w3 : WorldState K) (s : Seat) (r0 r1 o0 o1 : Option (List ℕ)) : Type 0 where
+  pub turns : ℕ
+  pub read : List ℕ
+  pub written : List ℕ
+  pub few : turns ≤ most_turns
+  pub at : s ≡ seat (next_session w0) turns
+  pub served : HasServed hash_of may_give (next_session w0) w0 turns read written w2
+  pub closes : Told hash_of w2 (Close (next_session w0) ∷ []) w3
+  pub consumes : Consumes r0 r1 read
+  pub appends : Appends o0 o1 written
+
+module _ {K : Type 0} {hash_of : K → List ℕ → ℕ} {may_give : ℕ → Type 0} {w0 w2 w3 : WorldState K} {s : Seat} {r0 r1 o0 o1 : Option (List ℕ)} where
+  pub ran_of : {n : ℕ} {w1 : WorldState K} → Begins hash_of n w0 w1 → Told hash_of w2 (Close n ∷ []) w3 → Exchanges (in_world hash_of) may_give (2 ^ 40) (exchanges.scene (seat n 0) w1 r0 o0) (exchanges.scene s w2 r1 o1) → Ran hash_of may_give w0 w2 w3 s r0 r1 o0 o1
+  ran_of {w1 = w1} begins closes run =
+      let (begun, closed, ran) =
+      subst (λ (n : ℕ). Begins hash_of n w0 w1 × Told hash_of w2 (Close n ∷ []) w3 × Exchanges (in_world hash_of) may_give (2 ^ 40) (exchanges.scene (seat n 0) w1 r0 o0) (exchanges.scene s w2 r1 o1)) begins.number (begins, closes, run) in
+      let (is, served) = served_by ran.exchange ran.few (served_nothing begun) in
+      record { turns = ran.turns; read = ran.read; written = ran.written; few = ran.few; at = is; served = served; closes = closed; consumes = ran.consumes; appends = ran.appends }
+
+  pub ran_short : {n : ℕ} {w1 : WorldState K} → Begins hash_of n w0 w1 → Told hash_of w2 (Close n ∷ []) w3 → FallsShort (in_world hash_of) may_give (exchanges.scene (seat n 0) w1 r0 o0) (exchanges.scene s w2 r1 o1)
+      → UntilRefused hash_of may_give (next_session w0) w0 r0 o0 (scene w3 r1 o1)
+  ran_short {w1 = w1} begins closes run =
+      let (begun, closed, short) =
+      subst (λ (n : ℕ). Begins hash_of n w0 w1 × Told hash_of w2 (Close n ∷ []) w3 × FallsShort (in_world hash_of) may_give (exchanges.scene (seat n 0) w1 r0 o0) (exchanges.scene s w2 r1 o1)) begins.number (begins, closes, run) in
+      let ran = short.exchanges in
+      let (is, served) = served_by ran.exchange ran.few (served_nothing begun) in
+      until_closed w3 (short_of short.reader ran.few is served ran.consumes short.consumes ran.appends short.refusal) closed
+
+  abbrev pub ran_served : Ran hash_of may_give w0 w2 w3 s r0 r1 o0 o1 → Served hash_of may_give (scene w0 r0 o0) (scene w3 r1 o1)
+  ran_served ran = record {
+    came = record { events = ran.served.events; read = ran.read; written = ran.written; turns = ran.turns; service = ran.served.service; few = ran.few; consumes = ran.consumes; appends = ran.appends };
+    told = told_behind ran.served (Close (next_session w0) ∷ []) w3 ran.closes;
   }
 
-  wrote_at : {old new : WorldState K} {reader writer_old writer_new : Option (List ℕ)} → Served hash_of may_give first (scene old reader writer_old) → Writes (next_session first.world) old new writer_old writer_new → Served hash_of may_give first (scene new reader writer_new)
-  wrote_at {old = old} {new = new} {writer_old = writer_old} {writer_new = writer_new} served writes =
-      let came = served.came in
-      record {
-        came = record {
-          events = came.events;
-          read = came.read;
-          written = came.written ++ writes.part;
-          turns = came.turns;
-          service = write writes.part came.service;
-          few = came.few;
-          consumes = came.consumes;
-          appends = Appends-trans first.writer writer_old writer_new came.written writes.part came.appends writes.appends;
-        };
-        told = subst (λ (v : WorldState K). Told hash_of first.world (came.events ++ Close (next_session first.world) ∷ []) v) (ap (with_written (next_session first.world) came.written) writes.parts ∙ written_twice (next_session first.world) came.written writes.part new) served.told;
-      }
+  -- what was left was written behind the close, or a part of it
+  module _ {last : Seat} {w4 : WorldState K} {o2 : Option (List ℕ)} (ran : Ran hash_of may_give w0 w2 w3 s r0 r1 o0 o1) (wrote : Wrote (in_world hash_of) s w3 last w4 o1 o2) where
+    abbrev pub ran_and_wrote : Served hash_of may_give (scene w0 r0 o0) (scene w4 r1 o2)
+    ran_and_wrote =
+        let parts : w3 ≡ with_written (next_session w0) wrote.written w4 = subst (λ (t : Seat). w3 ≡ with_written t.number wrote.written w4) ran.at (was_written wrote.writes).1 in
+        record {
+          came = record {
+            events = ran.served.events;
+            read = ran.read;
+            written = ran.written ++ wrote.written;
+            turns = ran.turns;
+            service = write wrote.written ran.served.service;
+            few = ran.few;
+            consumes = ran.consumes;
+            appends = Appends-trans o0 o1 o2 ran.written wrote.written ran.appends wrote.appends;
+          };
+          told = subst (λ (v : WorldState K). Told hash_of w0 (ran.served.events ++ Close (next_session w0) ∷ []) v)
+              (ap (with_written (next_session w0) ran.written) parts ∙ written_twice (next_session w0) ran.written wrote.written w4) (ran_served ran).told;
+        }
 
--- the run before its first round
-first_of : {K : Type 0} {hash_of : K → List ℕ → ℕ} {may_give : ℕ → Type 0} {n : ℕ} {w0 w1 : WorldState K} {r w : Option (List ℕ)} → Begins hash_of n w0 w1 → HasServed hash_of may_give (next_session w0) 0 (scene w0 r w) (scene w1 r w)
-first_of {hash_of = hash_of} {w0 = w0} {w1 = w1} begins = let begun : Begins hash_of (next_session w0) w0 w1 = record { number = refl; stands = begins.stands; room = begins.room; told = begins.told } in served_nothing begun
+    pub ran_whole : HasEnded (in_world hash_of) s w2 r1 → output_of (numbered last.number w4.sessions) ≡ [] → ServedAll hash_of may_give (scene w0 r0 o0) (scene w4 r1 o2)
+    ran_whole ended all = record {
+      served = ran_and_wrote;
+      written = subst (λ (t : Seat). output_of (numbered t.number w4.sessions) ≡ []) ((was_written wrote.writes).0 ∙ ran.at) all;
+      last = with_written (next_session w0) ran.written w2;
+      until = ran.served.told;
+      ended = served_ended r1 ran.served (subst (λ (t : Seat). HasEnded (in_world hash_of) t w2 r1) ran.at ended);
+    }
 
--- A whole run: the worlds before it, after the opening, after the rounds and after the close.
-module _ {K : Type 0} {hash_of : K → List ℕ → ℕ} {may_give : ℕ → Type 0} {n : ℕ} {w0 w1 w2 w3 : WorldState K} {r r' w w' : Option (List ℕ)} (begins : Begins hash_of n w0 w1) (closes : Told hash_of w2 (Close n ∷ []) w3) where
-  far_of : GoesFar hash_of may_give n (scene w1 r w) (scene w2 r' w') → GoesFar hash_of may_give (next_session w0) (scene w1 r w) (scene w2 r' w')
-  far_of far = subst (λ (k : ℕ). GoesFar hash_of may_give k (scene w1 r w) (scene w2 r' w')) begins.number far
-
-  pub ran : GoesFar hash_of may_give n (scene w1 r w) (scene w2 r' w') → Served hash_of may_give (scene w0 r w) (scene w3 r' w')
-  ran goes = let far = far_of goes in closed_at (far.on.goes (scene w0 r w) (first_of begins)) far.few w3 (subst (λ (k : ℕ). Told hash_of w2 (Close k ∷ []) w3) begins.number closes)
-
-  pub ran_and_wrote : GoesFar hash_of may_give n (scene w1 r w) (scene w2 r' w') → {w4 : WorldState K} {w'' : Option (List ℕ)} → Writes n w3 w4 w' w'' → Served hash_of may_give (scene w0 r w) (scene w4 r' w'')
-  ran_and_wrote goes {w4 = w4} {w'' = w''} writes = wrote_at (ran goes) (subst (λ (k : ℕ). Writes k w3 w4 w' w'') begins.number writes)
-
-  pub ran_whole : GoesFar hash_of may_give n (scene w1 r w) (scene w2 r' w') → {w4 : WorldState K} {w'' : Option (List ℕ)} → Writes n w3 w4 w' w'' → HasEnded n w2 r' → output_of (numbered n w4.sessions) ≡ [] → ServedAll hash_of may_give (scene w0 r w) (scene w4 r' w'')
-  unfolding ran_and_wrote ran closed_at wrote_at
-  ran_whole goes {w4 = w4} {w'' = w''} writes ended all =
-      let far = far_of goes in
-      let served = far.on.goes (scene w0 r w) (first_of begins) in
-      record {
-        served = ran_and_wrote goes writes;
-        written = subst (λ (k : ℕ). output_of (numbered k w4.sessions) ≡ []) begins.number all;
-        last = with_written (next_session w0) served.written w2;
-        until = served.told;
-        ended = served_ended served (subst (λ (k : ℕ). HasEnded k w2 r') begins.number ended);
-      }
-
-  pub ran_short : RunsShort hash_of may_give n 0 (scene w1 r w) (scene w2 r' w') → UntilRefused hash_of may_give (next_session w0) w0 r w (scene w3 r' w')
-  ran_short short =
-      let until = (subst (λ (k : ℕ). RunsShort hash_of may_give k 0 (scene w1 r w) (scene w2 r' w')) begins.number short).goes (scene w0 r w) (first_of begins) in
-      until_closed w3 until.until (subst (λ (k : ℕ). Told hash_of w2 (Close k ∷ []) w3) begins.number closes)
-
--- what follows of an outcome where memory isn't short
-pub ok_follows : {T : Type 0} {A B : Type 0} (r : Result T ServeFault) → (r ≢ Err NoMemory → A) → (A → B) → OnOk r B
-ok_follows (Ok x) h f = f (h (λ is. cc))
-ok_follows (Err e) h f = tt
-
+-- what follows of an outcome
 pub all_follows : {T : Type 0} {A B : Type 0} (r : Result T ServeFault) → (A → B) → OnOk r A → OnOk r B
 all_follows (Ok x) f a = f a
 all_follows (Err e) f a = tt
-
--- no writing is short of memory
-pub writes_no_memory : {T : Type 0} (r : Result T ServeFault) → IfErr r (λ fault. fault ≡ Write) → r ≡ Err NoMemory → ⊥
-writes_no_memory (Ok x) fault is = cc
-writes_no_memory (Err f) fault is = let it : Write ≡ NoMemory = cc in cc

@@ -2,15 +2,15 @@
 use Rattle.std.proofs.Common.{◌≡◌, ℕ, zero, suc, ◌<◌, ◌≤◌, Bool, true, false, List, [], ◌∷◌, ◌++◌, length, take, drop, Option, Some, None, refl, sym, ap, ◌∙◌, subst, arith, append_assoc, if◌then◌else◌}
 use Rattle.std.specs.Bool.{MatchBool}
 use Rattle.std.specs.List.{slice_get}
-use Rattle.std.specs.Io.KnownBytes.{Appends, Keeps}
-use Rattle.std.proofs.KnownBytes.{Appends-nil, Appends-trans, Appends-kept}
 use Rattle.std.proofs.Math.Seq.{drop-append_seam}
 use Rattle.std.proofs.lemmas.List.{take-append-drop}
 use Rattle.mc_session.specs.Turns.{SessionState, sent}
 use Rattle.mc_world.specs.Connections.{Connection, IsRest, shut, Stands}
 use Rattle.mc_world.specs.Worlds.{PlainWorld, WorldState, numbered, if_open, changed, output_of, open_session, IsIdle, IsClosed, StandAll, StandsAs}
 use Rattle.mc_world.specs.Serving.{with_written, in_front, with_front}
-use Rattle.mc_world.specs.Rounds.{Writes}
+use Rattle.mc_session.specs.Exchanges.{Writes, nothing, front}
+use Rattle.mc_world.specs.declared.seat.Seat.{Seat}
+use Rattle.mc_world.specs.Rounds.{in_world, with_sent}
 use Rattle.mc_world.proofs.StandLemmas.{stand_numbered, changed_both, less, stand_sent}
 use Rattle.mc_world.proofs.UpdateLemmas.{update, at_number, mapped, changed_is, number_twice, number_nothing, number_get, changed_length}
 
@@ -121,7 +121,7 @@ sent_number : (k : ℕ) (ss : List SessionState) (n : ℕ) → at_number (at_num
 sent_number k ss zero = refl
 sent_number k ss (suc m) = sent_at k ss m
 
-written_sent : {K : Type 0} (n k : ℕ) (w : WorldState K) → w ≡ with_written n (take k (output_of (numbered n w.sessions))) (record w { sessions = changed n w.sessions (λ s. sent s k) (numbered n w.sessions) })
+written_sent : {K : Type 0} (n k : ℕ) (w : WorldState K) → w ≡ with_written n (take k (output_of (numbered n w.sessions))) (with_sent n k w)
 written_sent n k w =
     let part = take k (output_of (numbered n w.sessions)) in
     let rest = changed n w.sessions (λ s. sent s k) (numbered n w.sessions) in
@@ -130,34 +130,22 @@ written_sent n k w =
     ∙ ap (λ (l : List SessionState). at_number l n (before part)) (sym (changed_is n w.sessions (λ s. sent s k)))
     ∙ sym (changed_is n rest (before part)))
 
--- one part after another
-pub writes_more : {K : Type 0} (n : ℕ) (first mid last : WorldState K) (a b c : Option (List ℕ)) → Writes n first mid a b → Writes n mid last b c → Writes n first last a c
-writes_more n first mid last a b c one two = record {
-  part = one.part ++ two.part;
-  parts = one.parts ∙ ap (with_written n one.part) two.parts ∙ written_twice n one.part two.part last;
-  appends = Appends-trans a b c one.part two.part one.appends two.appends;
-}
-
--- no part
-pub writes_nothing : {K : Type 0} (n : ℕ) (w : WorldState K) (a : Option (List ℕ)) → Writes n w w a a
-writes_nothing n w a = record { part = []; parts = sym (written_nothing n w); appends = Appends-nil a }
-
--- a front of the output
-pub writes_front : {K : Type 0} (n k : ℕ) (w : WorldState K) (a b : Option (List ℕ)) → Appends a b (take k (output_of (numbered n w.sessions))) → Writes n w (record w { sessions = changed n w.sessions (λ s. sent s k) (numbered n w.sessions) }) a b
-writes_front n k w a b appends = record { part = take k (output_of (numbered n w.sessions)); parts = written_sent n k w; appends = appends }
-
--- a write that failed
-pub writes_kept : {K : Type 0} (n : ℕ) (w : WorldState K) (a b : Option (List ℕ)) → Keeps a b → Writes n w w a b
-writes_kept n w a b kept = record { part = []; parts = sym (written_nothing n w); appends = Appends-kept a a b [] (Appends-nil a) kept }
+-- what was written was the front of the session's output
+pub was_written : {K : Type 0} {hash_of : K → List ℕ → ℕ} {s : Seat} {old : WorldState K} {part : List ℕ} {last : Seat} {new : WorldState K} → Writes (in_world hash_of) s old part last new → (last ≡ s) × (old ≡ with_written s.number part new)
+was_written {s = s} {old = old} nothing = (refl, sym (written_nothing s.number old))
+was_written {s = s} {new = new} (front {written = written} {mid = mid} {between = between} k writes (same, is)) =
+    let so_far = was_written writes in
+    let part = take k (output_of (numbered mid.number between.sessions)) in (
+      same ∙ so_far.0,
+      so_far.1
+          ∙ ap (with_written s.number written) (written_sent mid.number k between ∙ ap (with_written mid.number part) (sym is) ∙ ap (λ (m : Seat). with_written m.number part new) so_far.0)
+          ∙ written_twice s.number written part new,
+    )
 
 -- they make a session no less idle or closed
 idle_before : (bytes : List ℕ) (o : Option SessionState) → IsIdle o → IsIdle (mapped (before bytes) o)
 idle_before bytes None idle = idle
 idle_before bytes (Some s) idle = (idle.0, idle.1)
-
-idle_behind : (bytes : List ℕ) (o : Option SessionState) → IsIdle (mapped (before bytes) o) → IsIdle o
-idle_behind bytes None idle = idle
-idle_behind bytes (Some s) idle = (idle.0, idle.1)
 
 closed_before : (bytes : List ℕ) (o : Option SessionState) → IsClosed o → IsClosed (mapped (before bytes) o)
 closed_before bytes None is = is
@@ -185,18 +173,3 @@ shut_number ss (suc m) some inside h = shut_at ss m (omega arith) h
 
 pub closed_written : {K : Type 0} (n : ℕ) (bytes : List ℕ) (w : WorldState K) → 1 ≤ n → n ≤ length w.sessions → open_session n w.sessions ≡ None → IsClosed (numbered n (with_written n bytes w).sessions)
 closed_written n bytes w some inside h = subst IsClosed (sym (numbered_written n bytes w)) (closed_before bytes (numbered n w.sessions) (shut_number w.sessions n some inside h))
-
--- a session stays idle while its output is written
-pub idle_wrote : {K : Type 0} (n : ℕ) (old new : WorldState K) (a b : Option (List ℕ)) → Writes n old new a b → IsIdle (numbered n old.sessions) → IsIdle (numbered n new.sessions)
-idle_wrote {K = K} n old new a b writes idle =
-    idle_behind writes.part (numbered n new.sessions)
-    (subst IsIdle (numbered_written n writes.part new) (subst (λ (w : WorldState K). IsIdle (numbered n w.sessions)) writes.parts idle))
-
--- the world after a write of so many bytes, and after one that failed
-pub wrote_front : {K : Type 0} (n k : ℕ) (old new last : WorldState K) (out : List ℕ) (a b : Option (List ℕ)) → last ≡ new → new ≡ record old { sessions = changed n old.sessions (λ s. sent s k) (numbered n old.sessions) }
-    → out ≡ output_of (numbered n old.sessions) → Appends a b (take k out) → Writes n old last a b
-wrote_front {K = K} n k old new last out a b same is there appends =
-    subst (λ (w : WorldState K). Writes n old w a b) (sym (same ∙ is)) (writes_front n k old a b (subst (λ (o : List ℕ). Appends a b (take k o)) there appends))
-
-pub wrote_none : {K : Type 0} (n : ℕ) (old last : WorldState K) (a b : Option (List ℕ)) → last ≡ old → Keeps a b → Writes n old last a b
-wrote_none {K = K} n old last a b same kept = subst (λ (w : WorldState K). Writes n old w a b) (sym same) (writes_kept n old a b kept)

@@ -65,10 +65,16 @@ module _ {K : Type 0} (hash_of : K → List ℕ → ℕ) (may_give : ℕ → Typ
     pub told : Told hash_of old events (with_written n written world)
     pub room : waiting n world < most_waiting
 
+  -- the same, but that the session is open and no turn of it is due
+  pub record FindsIdle (events : List Event) (written : List ℕ) : Type 0 where
+    pub world : WorldState K
+    pub told : Told hash_of old events (with_written n written world)
+    pub idle : IsIdle (numbered n world.sessions)
+
   -- The events that serve the session before it closes, the bytes that they bring, those that were
-  -- written meanwhile, and how many turns they are. It opens. Then pieces come and bytes are
-  -- written; and turns are taken, each at a moment that the clock may give, where less than 64 KiB
-  -- wait, and with growth of the next shelf behind it.
+  -- written meanwhile, and how many turns they are. It opens. Then pieces come, where no turn is
+  -- due, and bytes are written; and turns are taken, each at a moment that the clock may give, where
+  -- less than 64 KiB wait, and with growth of the next shelf behind it.
   pub data IsService : List Event → (read written : List ℕ) → (turns : ℕ) → Type 0 where
     starts : IsService (Open ∷ []) [] [] 0
     turn : {events : List Event} {read written : List ℕ} {turns : ℕ} (now : ℕ) → may_give now
@@ -76,7 +82,7 @@ module _ {K : Type 0} (hash_of : K → List ℕ → ℕ) (may_give : ℕ → Typ
         → IsService (events ++ turn_events n (shelf_of turns old.settings.shelves) now) read written
         (turns + 1)
     piece : {events : List Event} {read written : List ℕ} {turns : ℕ} (bytes : List ℕ)
-        → IsService events read written turns
+        → FindsIdle events written → IsService events read written turns
         → IsService (events ++ Piece n bytes ∷ []) (read ++ bytes) written turns
     write : {events : List Event} {read written : List ℕ} {turns : ℕ} (bytes : List ℕ)
         → IsService events read written turns
@@ -84,12 +90,13 @@ module _ {K : Type 0} (hash_of : K → List ℕ → ℕ) (may_give : ℕ → Typ
 
   -- The event that is refused memory, what comes just before it, the bytes that it brings, and how
   -- many turns it is: a turn behind its clock, taken where less than 64 KiB wait, or a piece that
-  -- was read.
+  -- was read where no turn was due.
   pub data IsRefusal (events : List Event) (written : List ℕ) : List Event → Event
       → (brings : List ℕ) → (calls : ℕ) → Type 0 where
     refused_turn : (now : ℕ) → may_give now → HasRoom events written
         → IsRefusal events written (Clock now ∷ []) (Turn n) [] 1
-    refused_piece : (bytes : List ℕ) → IsRefusal events written [] (Piece n bytes) bytes 0
+    refused_piece : (bytes : List ℕ) → 0 < length bytes → FindsIdle events written
+        → IsRefusal events written [] (Piece n bytes) bytes 0
 
   -- A session was served until memory ran out: what came before the refused event, and that event,
   -- which takes memory. Its step, if it is a turn, stands in the store and its text isn't told, or

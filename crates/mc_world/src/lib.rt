@@ -5,6 +5,7 @@
 mod event;
 mod laws;
 mod parts;
+mod seat;
 mod serving;
 #[cfg(test)]
 mod serving_tests;

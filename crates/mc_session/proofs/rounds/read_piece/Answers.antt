@@ -1,0 +1,19 @@
+use Rattle.std.proofs.Common.{◌≡◌, subst, take, arith}
+use Rattle.std.specs.Io.KnownBytes.{Consumes}
+use Rattle.mc_session.specs.Rounds.{read_piece, read_nothing}
+use Rattle.mc_session.proofs.ExchangeLemmas.{Consumes-kept}
+use Rattle.mc_session.proofs.rounds.read_piece.Goals as goal
+
+pub returns-in-Ok-eq0-clause-reads : goal.returns-in-Ok-eq0-clause-reads
+returns-in-Ok-eq0-clause-reads g c = λ _.
+    let none : c.in-Ok-eq0.field-0 ≡ 0 = omega arith in
+    read_nothing (subst (λ n. Consumes (g.R.Read.remaining c.args.reader.now) (g.R.Read.remaining c.read.new.self) (take n c.read.new.buf)) none c.in-Ok-eq0.ensures.bytes.0)
+
+pub returns-in-Ok-bring-clause-reads : goal.returns-in-Ok-bring-clause-reads
+returns-in-Ok-bring-clause-reads g c = λ _. read_piece c.split_at.result.0.now (rw c.split_at.ensures.front c.in-Ok.ensures.bytes.0) c.in-Ok-bring.ensures.ok
+
+pub returns-then-eq-clause-reads : goal.returns-then-eq-clause-reads
+returns-then-eq-clause-reads g c = λ _. read_nothing (Consumes-kept (g.R.Read.remaining c.args.reader.now) (g.R.Read.remaining c.read.new.self) c.in-Err.ensures.bytes)
+
+pub returns-else-eq-clause-reads : goal.returns-else-eq-clause-reads
+returns-else-eq-clause-reads g c = λ _. read_nothing (Consumes-kept (g.R.Read.remaining c.args.reader.now) (g.R.Read.remaining c.read.new.self) c.in-Err.ensures.bytes)

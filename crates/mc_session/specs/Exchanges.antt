@@ -1,0 +1,90 @@
+-- What is done with one end of a connection over a reader and a writer.
+use Rattle.std.specs.Prelude.{◌⊎◌, ℕ, ◌+◌, ◌^◌, ◌<◌, ◌≤◌, List, [], ◌++◌, length, take, Option}
+use Rattle.std.specs.Io.KnownBytes.{Appends, Consumes, IsAtEnd}
+use Rattle.mc_session.specs.declared.endpoint.Endpoint.{Ghosts as Relations}
+use Rattle.mc_session.specs.declared.rounds.TheConstants.{WRITE_AT}
+
+-- an endpoint, the store it stands in, what is left to be read, and what was written
+pub record Scene (E S : Type 0) : Type 0 where
+  pub endpoint : E
+  pub store : S
+  pub reader : Option (List ℕ)
+  pub writer : Option (List ℕ)
+
+abbrev pub scene : {E S : Type 0} → E → S → (reader writer : Option (List ℕ)) → Scene E S
+scene endpoint store reader writer =
+    record { endpoint = endpoint; store = store; reader = reader; writer = writer }
+
+module _ {E S : Type 0} (relations : Relations E S) where
+  -- these bytes of the output were written, a front of it after another
+  pub data Writes (first : E) (before : S) : List ℕ → E → S → Type 0 where
+    nothing : Writes first before [] first before
+    front : {written : List ℕ} {mid last : E} {between after : S} (n : ℕ)
+        → Writes first before written mid between → relations.sends n mid between last after
+        → Writes first before (written ++ take n (relations.waits mid between)) last after
+
+  -- what a call that writes does to an endpoint and a writer
+  pub record Wrote (old : E) (before : S) (new : E) (after : S)
+      (writer_old writer_new : Option (List ℕ)) : Type 0 where
+    pub written : List ℕ
+    pub writes : Writes old before written new after
+    pub appends : Appends writer_old writer_new written
+
+  -- nothing more is to come: it isn't open, or it is idle and the reader is at its end
+  abbrev pub HasEnded : E → S → (reader : Option (List ℕ)) → Type 0
+  HasEnded endpoint store reader = relations.is_closed endpoint store
+      ⊎ (relations.is_idle endpoint store × IsAtEnd reader)
+
+module _ {E S : Type 0} (relations : Relations E S) (may_give : ℕ → Type 0) where
+  -- What was done with an endpoint: how many turns were given, what was read and what was written.
+  -- Each turn was given at a moment that the clock may give, while less than 64 KiB of output were
+  -- waiting, and pieces came only while no turn was due.
+  pub data Exchange (first : E) (before : S) : (turns : ℕ) → (read written : List ℕ) → E → S
+      → Type 0 where
+    begins : Exchange first before 0 [] [] first before
+    turn : {turns : ℕ} {read written : List ℕ} {mid last : E} {between after : S} (now : ℕ)
+        → Exchange first before turns read written mid between
+        → length (relations.waits mid between) < WRITE_AT → may_give now
+        → relations.turns now mid between last after
+        → Exchange first before (turns + 1) read written last after
+    piece : {turns : ℕ} {read written : List ℕ} {mid last : E} {between after : S}
+        (bytes : List ℕ) → Exchange first before turns read written mid between
+        → relations.is_idle mid between → relations.takes bytes mid between last after
+        → Exchange first before turns (read ++ bytes) written last after
+    write : {turns : ℕ} {read written : List ℕ} {mid last : E} {between after : S}
+        (bytes : List ℕ) → Exchange first before turns read written mid between
+        → Writes relations mid between bytes last after
+        → Exchange first before turns read (written ++ bytes) last after
+
+  -- With so many turns at most: what was read came of the reader, and what was written went to the
+  -- writer.
+  pub record Exchanges (most : ℕ) (old new : Scene E S) : Type 0 where
+    pub turns : ℕ
+    pub few : turns ≤ most
+    pub read : List ℕ
+    pub written : List ℕ
+    pub exchange :
+        Exchange old.endpoint old.store turns read written new.endpoint new.store
+    pub consumes : Consumes old.reader new.reader read
+    pub appends : Appends old.writer new.writer written
+
+  -- What memory was refused for after so many turns, and what was read and is lost by it; no more
+  -- than 2^40 turns are given with the one that was refused.
+  pub data Refusal (turns : ℕ) (old : E) (before : S) (new : E) (after : S) : (lost : List ℕ)
+      → Type 0 where
+    no_turn : (now : ℕ) → turns < 2 ^ 40 → length (relations.waits old before) < WRITE_AT
+        → may_give now → relations.loses_turn now old before new after
+        → Refusal turns old before new after []
+    no_piece : (bytes : List ℕ) → 0 < length bytes → relations.is_idle old before
+        → relations.loses_piece bytes old before new after
+        → Refusal turns old before new after bytes
+
+  -- memory ran out: what was done until then, and what memory was refused for
+  pub record FallsShort (old new : Scene E S) : Type 0 where
+    pub last : E
+    pub between : S
+    pub reader : Option (List ℕ)
+    pub lost : List ℕ
+    pub exchanges : Exchanges (2 ^ 40) old (scene last between reader new.writer)
+    pub refusal : Refusal exchanges.turns last between new.endpoint new.store lost
+    pub consumes : Consumes reader new.reader lost

@@ -1,0 +1,200 @@
+//! The loop that serves an endpoint: turns, and the writes and reads that they ask for.
+
+ghost use Rattle.std.specs.Prelude.{◌≡◌, ◌≢◌, ◌<◌, ◌^◌, [], true, Ok, Err, OnOk, OnErr, IfOk, IfErr, IsFalse, length};
+ghost use Rattle.std.specs.Io.KnownBytes.{IsAtEnd};
+ghost use Rattle.mc_session.specs.Exchanges.{scene, Wrote, Exchanges, FallsShort, HasEnded};
+ghost use Rattle.mc_session.specs.Rounds.{Reads, LosesPiece, GoesOn, IsRefused};
+
+use crate::endpoint::Endpoint;
+use crate::serving::ServeFault;
+use crate::session::Turn;
+use mc_time::Clock;
+use std::alloc::Global;
+use std::io::{ErrorKind, Read, Write};
+
+/// The most turns in a run, with those that find none due.
+const TURNS: u64 = 1 << 40;
+
+/// The most bytes that are read at once.
+const PIECE: usize = 16384;
+
+/// Where so many bytes of output wait, they are written before the next turn.
+pub const WRITE_AT: usize = 65536;
+
+/// Makes a buffer for pieces of 16384 bytes. The one fault is want of memory.
+pub fn piece_buffer(alloc: Global) -> Result<Vec<u8>, ServeFault>
+    ensures ok { IfOk result (λ buffer. 0 < length buffer.items) }
+    ensures err { IfErr result (λ fault. fault ≡ ServeFault.NoMemory) }
+{
+    match vec![in alloc; 0; PIECE] {
+        Ok(buffer) => Ok(buffer),
+        Err(_) => Err(ServeFault::NoMemory),
+    }
+}
+
+/// Serves an endpoint: takes turns at the clock's moments, and reads pieces and writes the output
+/// as the turns ask for it, until the input ends or the endpoint closes. The output is written when
+/// no turn is due, and before a turn once `WRITE_AT` bytes of it wait. At the end some of it may
+/// still be waiting.
+///
+/// It fails with `Read` where the reader fails and after 2^40 turns, with `Write` where the writer
+/// fails or takes nothing, and with `NoMemory` where memory is refused for a piece or for a turn.
+pub fn serve_endpoint<R: Read, W: Write, S, E: Endpoint<S>, C: Clock>(
+    alloc: Global,
+    reader: &mut R,
+    writer: &mut W,
+    endpoint: &mut E,
+    store: &mut S,
+    clock: &C,
+    piece: &mut [u8],
+) -> Result<(), ServeFault>
+    requires { 0 < length piece.old }
+    ensures goes { result ≢ Err ServeFault.NoMemory →
+        Exchanges E.Endpoint (C.may_give clock.now) (2 ^ 40)
+        (scene endpoint.old store.old (R.remaining reader.old) (W.contents writer.old))
+        (scene endpoint.new store.new (R.remaining reader.new) (W.contents writer.new)) }
+    ensures ended { OnOk result
+        (HasEnded E.Endpoint endpoint.new store.new (R.remaining reader.new)) }
+    ensures memory { result ≡ Err ServeFault.NoMemory →
+        FallsShort E.Endpoint (C.may_give clock.now)
+        (scene endpoint.old store.old (R.remaining reader.old) (W.contents writer.old))
+        (scene endpoint.new store.new (R.remaining reader.new) (W.contents writer.new)) }
+{
+    for _turn in 0..TURNS {
+        match round(alloc, reader, writer, endpoint, store, clock, piece) {
+            Ok(true) => return Ok(()),
+            Ok(false) => {}
+            Err(fault) => return Err(fault),
+        }
+    }
+    Err(ServeFault::Read)
+}
+
+/// Takes one turn, with the writes and the read that it asks for. Returns whether nothing more is
+/// to come.
+fn round<R: Read, W: Write, S, E: Endpoint<S>, C: Clock>(
+    alloc: Global,
+    reader: &mut R,
+    writer: &mut W,
+    endpoint: &mut E,
+    store: &mut S,
+    clock: &C,
+    piece: &mut [u8],
+) -> Result<bool, ServeFault>
+    requires { 0 < length piece.old }
+    ensures goes { result ≢ Err ServeFault.NoMemory →
+        GoesOn E.Endpoint (C.may_give clock.now)
+        (scene endpoint.old store.old (R.remaining reader.old) (W.contents writer.old))
+        (scene endpoint.new store.new (R.remaining reader.new) (W.contents writer.new)) }
+    ensures end { result ≡ Ok true →
+        HasEnded E.Endpoint endpoint.new store.new (R.remaining reader.new) }
+    ensures memory { result ≡ Err ServeFault.NoMemory →
+        IsRefused E.Endpoint (C.may_give clock.now)
+        (scene endpoint.old store.old (R.remaining reader.old) (W.contents writer.old))
+        (scene endpoint.new store.new (R.remaining reader.new) (W.contents writer.new)) }
+{
+    write_much(writer, endpoint, store)?;
+    match endpoint.take_turn(alloc, store, clock.now()) {
+        Ok(Turn::Did) => Ok(false),
+        Ok(Turn::Closed) => Ok(true),
+        Ok(Turn::Idle) => {
+            write_out(writer, endpoint, store)?;
+            read_piece(alloc, reader, endpoint, store, piece)
+        }
+        Err(_) => Err(ServeFault::NoMemory),
+    }
+}
+
+/// Writes the output, where `WRITE_AT` bytes or more of it wait. At a failure what was not written
+/// is left.
+fn write_much<W: Write, S, E: Endpoint<S>>(
+    writer: &mut W,
+    endpoint: &mut E,
+    store: &mut S,
+) -> Result<(), ServeFault>
+    ensures wrote { Wrote E.Endpoint endpoint.old store.old endpoint.new store.new
+        (W.contents writer.old) (W.contents writer.new) }
+    ensures ok { OnOk result (length (E.waits endpoint.new store.new) < WRITE_AT) }
+    ensures err { IfErr result (λ fault. fault ≡ ServeFault.Write) }
+{
+    if is_full(endpoint, store) {
+        write_out(writer, endpoint, store)
+    } else {
+        Ok(())
+    }
+}
+
+/// Says whether so much output is waiting that it is written before the next turn.
+fn is_full<S, E: Endpoint<S>>(endpoint: &E, store: &S) -> bool
+    ensures { IsFalse result → length (E.waits endpoint.now store.now) < WRITE_AT }
+{
+    endpoint.output(store).len() >= WRITE_AT
+}
+
+/// Writes an endpoint's output. It fails with `Write` where the writer fails or takes nothing; then
+/// what was not written is left. A write that was interrupted is tried again.
+pub fn write_out<W: Write, S, E: Endpoint<S>>(
+    writer: &mut W,
+    endpoint: &mut E,
+    store: &mut S,
+) -> Result<(), ServeFault>
+    ensures wrote { Wrote E.Endpoint endpoint.old store.old endpoint.new store.new
+        (W.contents writer.old) (W.contents writer.new) }
+    ensures idle { E.is_idle endpoint.old store.old → E.is_idle endpoint.new store.new }
+    ensures ok { OnOk result (E.waits endpoint.new store.new ≡ []) }
+    ensures err { IfErr result (λ fault. fault ≡ ServeFault.Write) }
+{
+    for _ in 0..u64::MAX {
+        if endpoint.output(store).is_empty() {
+            return Ok(());
+        }
+        match writer.write(endpoint.output(store)) {
+            Ok(0) => return Err(ServeFault::Write),
+            Ok(written) => endpoint.wrote(store, written),
+            Err(error) => {
+                if error.kind() != ErrorKind::Interrupted {
+                    return Err(ServeFault::Write);
+                }
+            }
+        }
+    }
+    Err(ServeFault::Write)
+}
+
+/// Reads the next piece and brings it to the endpoint. Returns whether the input is at its end. A
+/// read that was interrupted brings nothing.
+fn read_piece<R: Read, S, E: Endpoint<S>>(
+    alloc: Global,
+    reader: &mut R,
+    endpoint: &mut E,
+    store: &mut S,
+    piece: &mut [u8],
+) -> Result<bool, ServeFault>
+    requires { 0 < length piece.old }
+    ensures reads { result ≢ Err ServeFault.NoMemory →
+        Reads E.Endpoint endpoint.old store.old (R.remaining reader.old) (R.remaining reader.new)
+        endpoint.new store.new }
+    ensures end { result ≡ Ok true → (endpoint.new ≡ endpoint.old) × (store.new ≡ store.old)
+        × IsAtEnd (R.remaining reader.new) }
+    ensures memory { result ≡ Err ServeFault.NoMemory →
+        LosesPiece E.Endpoint endpoint.old store.old
+        (R.remaining reader.old) (R.remaining reader.new) endpoint.new store.new }
+{
+    match reader.read(piece) {
+        Ok(0) => Ok(true),
+        Ok(len) => {
+            let (read, _) = piece.split_at(len);
+            match endpoint.bring(alloc, store, read) {
+                Ok(()) => Ok(false),
+                Err(_) => Err(ServeFault::NoMemory),
+            }
+        }
+        Err(error) => {
+            if error.kind() == ErrorKind::Interrupted {
+                Ok(false)
+            } else {
+                Err(ServeFault::Read)
+            }
+        }
+    }
+}
