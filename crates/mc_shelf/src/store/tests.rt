@@ -167,12 +167,7 @@ fn a_store_of_parts_answers_as_before(rt: HostRuntime) -> Result<(), Fail> {
 }
 
 /// The answer to what is asked of the key of one byte at 1000.
-fn answered(
-    store: &mut Store<Constant>,
-    alloc: Global,
-    key: u8,
-    ask: Ask<'_>,
-) -> &'static str {
+fn answered(store: &mut Store<Constant>, alloc: Global, key: u8, ask: Ask<'_>) -> &'static str {
     let key = [key];
     let step = step_of(&key, ask);
     let now = Moment::from_seconds_at_most(1000);
