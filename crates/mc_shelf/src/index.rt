@@ -164,8 +164,8 @@ impl Index {
     pub(crate) fn insert_reserved(&mut self, entry: Entry) -> Place
         requires absent { get (items_of self.old.entries) entry.key ≡ None }
         requires room { 1 ≤ self.old.room }
-        ensures inserted { IsInserted self.old self.new entry }
-        ensures place { IsPlaceOf self.new entry.key result }
+        ensures inserted { IsInserted self.old self.new entry.entry }
+        ensures place { IsPlaceOf self.new entry.entry.key result }
         ensures room { self.old.room ≤ self.new.room + 1 }
         ensures left { self.new.left ≤ self.old.left }
     {
@@ -181,8 +181,8 @@ impl Index {
         requires key { IsPlaceOf self.old entry.key place }
         requires hash { HasHash self.old.entries entry.key entry.hash }
         ensures old { entry_at self.old place ≡ Some result }
-        ensures new { entry_at self.new place ≡ Some entry }
-        ensures changed { IsChanged self.old self.new entry.key entry.item }
+        ensures new { entry_at self.new place ≡ Some entry.entry }
+        ensures changed { IsChanged self.old self.new entry.entry.key entry.entry.item }
     {
         mem::replace(&mut self.list[place.number], entry)
     }
@@ -218,6 +218,7 @@ impl Index {
         ensures { IsChanged self.old self.new parts.entry.key.now (entry_in 0 parts.entry).item }
     {
         self.list[place.number].rewrite(Parts {
+            hash: parts.hash,
             key: parts.key,
             first: parts.first,
             second: parts.second,

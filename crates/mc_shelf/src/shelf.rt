@@ -511,6 +511,7 @@ impl Shelf {
             self.index.rewrite(
                 place,
                 Parts {
+                    hash: write.hash,
                     key,
                     first: &[],
                     second: block,

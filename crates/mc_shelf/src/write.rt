@@ -92,9 +92,9 @@ impl Write {
         } }
     {
         Entry::write(
-            self.hash,
             chunk,
             Parts {
+                hash: self.hash,
                 key,
                 first,
                 second,
