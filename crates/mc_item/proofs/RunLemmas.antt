@@ -2,7 +2,7 @@
 use Rattle.std.proofs.Common.{◌≡◌, ℕ, ◌+◌, ◌^◌, ◌≤◌, List, ◌++◌, length, take, drop, refl, sym, ap, subst, ◌∙◌, append_assoc, arith}
 use Rattle.std.proofs.lemmas.List.{length-take-le, length-drop, take_at, drop_at, drop-drop, drop-take, take-append-drop}
 use Rattle.byteorder.specs.Numbers.{little_from-take}
-use Rattle.mc_slab.specs.Classes.{IsClass, class_holding, size_of}
+use Rattle.mc_slab.specs.Classes.{class_holding, size_of}
 use Rattle.mc_slab.specs.Chunks.{IsChunk, chunk_class}
 use Rattle.mc_item.specs.Items.{ItemState, IsItem, charge_of}
 use Rattle.mc_item.specs.Layout.{number_at, header_in, item_in, key_in, block_in, key_length_in, block_length_in, HoldsItem}
