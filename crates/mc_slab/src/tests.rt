@@ -35,6 +35,14 @@ fn give(rt: &impl Abort, slab: &mut Slab, chunk: Chunk) {
     slab.give(chunk);
 }
 
+/// A list with room for so many chunks. A run may refuse one allocation, so it is asked for twice.
+fn list_for(alloc: Global, count: u32) -> Result<Vec<Chunk>, Fail> {
+    match Vec::with_capacity(alloc, count as usize) {
+        Ok(list) => Ok(list),
+        Err(_) => Ok(Vec::with_capacity(alloc, count as usize)?),
+    }
+}
+
 /// Writes a number at both ends of the chunk.
 fn mark(chunk: &mut Chunk, number: u32) {
     let size = chunk.class().size() as usize;
@@ -57,7 +65,7 @@ fn fill_and_empty(
     class: Class,
     full: Account,
 ) -> Result<(), Fail> {
-    let mut held = Vec::new(alloc);
+    let mut held = list_for(alloc, full.out)?;
     for number in 0..full.out {
         let mut chunk = take(rt, alloc, slab, class)?;
         assert_eq!(rt; chunk.class().number(), class.number());
