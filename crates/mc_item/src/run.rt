@@ -73,7 +73,8 @@ pub(crate) fn write_item(chunk: &mut Chunk, header: Header, key: &[u8], first: &
 /// The block of the item in a chunk becomes the number's digits.
 pub(crate) fn write_number(chunk: &mut Chunk, number: u64, unique: u64, updated: Moment)
     requires item { HoldsItem chunk.old }
-    requires room { header_size + key_length_in chunk.old + length (decimal number) ≤ length chunk.old }
+    requires room { header_size + key_length_in chunk.old + length (decimal number)
+        ≤ length chunk.old }
     ensures value { item_in chunk.new ≡ record (item_in chunk.old) {
       block = decimal number;
       unique = unique;

@@ -33,7 +33,8 @@ impl Model for Run {
 
     ghost view = { λ r. record { class = r.class; count = r.count } };
 
-    ghost invariant = { λ r. IsClass r.class × (r.count * size_of r.class ≡ vec_capacity r.memory) };
+    ghost invariant = { λ r.
+        IsClass r.class × (r.count * size_of r.class ≡ vec_capacity r.memory) };
 }
 
 impl Run {
