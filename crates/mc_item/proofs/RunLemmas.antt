@@ -1,9 +1,8 @@
 -- What a run of bytes shows in which a header, a key and a block were written.
 use Rattle.std.proofs.Common.{◌≡◌, ℕ, ◌+◌, ◌^◌, ◌≤◌, List, ◌++◌, length, take, drop, refl, sym, ap, subst, ◌∙◌, append_assoc, arith}
 use Rattle.std.proofs.lemmas.List.{length-take-le, length-drop, take_at, drop_at, drop-drop, drop-take, take-append-drop}
-use Rattle.std.specs.List.{refill}
 use Rattle.byteorder.specs.Numbers.{little_from-take}
-use Rattle.mc_slab.specs.Classes.{IsClass, class_holding, size_of}
+use Rattle.mc_slab.specs.Classes.{class_holding, size_of}
 use Rattle.mc_slab.specs.Chunks.{IsChunk, chunk_class}
 use Rattle.mc_item.specs.Items.{ItemState, IsItem, charge_of}
 use Rattle.mc_item.specs.Layout.{number_at, header_in, item_in, key_in, block_in, key_length_in, block_length_in, HoldsItem}
@@ -17,7 +16,7 @@ number_at-take offset count more bytes within = rw (drop-take offset more bytes)
 -- the header is read from the first 48 bytes
 header_in-take : (bytes : List ℕ) → header_in (take 48 bytes) ≡ header_in bytes
 header_in-take bytes =
-    rw (number_at-take 0 4 48 bytes (omega arith), number_at-take 4 4 44 bytes (omega arith), number_at-take 8 8 40 bytes (omega arith), number_at-take 16 8 32 bytes (omega arith), number_at-take 24 8 24 bytes (omega arith), number_at-take 32 8 16 bytes (omega arith), number_at-take 40 8 8 bytes (omega arith)) refl
+    rw (number_at-take 0 8 48 bytes (omega arith), number_at-take 8 4 40 bytes (omega arith), number_at-take 12 4 36 bytes (omega arith), number_at-take 16 8 32 bytes (omega arith), number_at-take 24 8 24 bytes (omega arith), number_at-take 32 8 16 bytes (omega arith), number_at-take 40 4 8 bytes (omega arith), number_at-take 44 4 4 bytes (omega arith)) refl
 
 pub header_in-front : (xs ys : List ℕ) → take 48 xs ≡ take 48 ys → header_in xs ≡ header_in ys
 header_in-front xs ys same = sym (header_in-take xs) ∙ ap header_in same ∙ header_in-take ys
@@ -60,33 +59,26 @@ Lies-Begins header front key block bytes headed b from is k l = record {
 }
 
 -- the item that such a run shows
-pub item_in-Lies : (header : Header) (key block bytes old : List ℕ) → Lies header key block bytes → length bytes ≡ length old → item_in bytes ≡ record { key = key; flags = header.flags; expiry = header.expiry; block = block; unique = header.unique; updated = header.updated; class = chunk_class old }
+pub item_in-Lies : (header : Header) (key block bytes old : List ℕ) → Lies header key block bytes → length bytes ≡ length old → item_in bytes ≡ record { hash = header.hash; key = key; flags = header.flags; expiry = header.expiry; block = block; unique = header.unique; updated = header.updated; class = chunk_class old }
 item_in-Lies header key block bytes old lies same =
     let k : key_length_in bytes ≡ length key = ap (λ (h : Header). h.key_length) lies.header_is ∙ lies.key_length in
     let l : block_length_in bytes ≡ length block = ap (λ (h : Header). h.block_length) lies.header_is ∙ lies.block_length in
     let key_is : key_in bytes ≡ key = rw k lies.key_is in
     let block_is : block_in bytes ≡ block = rw (k, l) lies.block_is in
-    let item : Header → List ℕ → List ℕ → ℕ → ItemState = λ h a b class. record { key = a; flags = h.flags; expiry = h.expiry; block = b; unique = h.unique; updated = h.updated; class = class } in
+    let item : Header → List ℕ → List ℕ → ℕ → ItemState = λ h a b class. record { hash = h.hash; key = a; flags = h.flags; expiry = h.expiry; block = b; unique = h.unique; updated = h.updated; class = class } in
     let class : chunk_class bytes ≡ chunk_class old = ap class_holding same in
     ap (λ (h : Header). item h (key_in bytes) (block_in bytes) (chunk_class bytes)) lies.header_is
     ∙ ap (λ (a : List ℕ). item header a (block_in bytes) (chunk_class bytes)) key_is
     ∙ ap (λ (b : List ℕ). item header key b (chunk_class bytes)) block_is
     ∙ ap (λ (n : ℕ). item header key block n) class
 
--- what is as long as a chunk is one
-IsChunk-same : (bytes old : List ℕ) → length bytes ≡ length old → IsChunk old → IsChunk bytes
-IsChunk-same bytes old same chunk = record {
-  is_class = subst (λ (n : ℕ). IsClass (class_holding n)) (sym same) chunk.is_class;
-  size = subst (λ (n : ℕ). n ≡ size_of (class_holding n)) (sym same) chunk.size;
-}
-
 -- and it is one
-pub HoldsItem-Lies : (header : Header) (key block bytes old : List ℕ) → Lies header key block bytes → length bytes ≡ length old → IsChunk old → length key ≤ 250 → 48 + length key + length block ≤ length old → header.updated ≤ 2 ^ 62 → HoldsItem bytes
+pub HoldsItem-Lies : (header : Header) (key block bytes old : List ℕ) → Lies header key block bytes → length bytes ≡ length old → IsChunk bytes → length key ≤ 250 → 48 + length key + length block ≤ length old → header.updated ≤ 2 ^ 62 → HoldsItem bytes
 HoldsItem-Lies header key block bytes old lies same chunk short room latest =
     let k : key_length_in bytes ≡ length key = ap (λ (h : Header). h.key_length) lies.header_is ∙ lies.key_length in
     let l : block_length_in bytes ≡ length block = ap (λ (h : Header). h.block_length) lies.header_is ∙ lies.block_length in
     record {
-      chunk = IsChunk-same bytes old same chunk;
+      chunk = chunk;
       key = omega arith;
       room = omega arith;
       updated = subst (λ (h : Header). h.updated ≤ 2 ^ 62) (sym lies.header_is) latest;
@@ -126,9 +118,3 @@ room_in bytes size holds room =
     let key = length-key_in bytes holds in
     let same = holds.chunk.size in
     omega arith
-
--- a chunk whose bytes were all lent holds what was written in them
-pub HoldsItem-refill : (old lent new : List ℕ) → lent ≡ old → length new ≡ length lent → HoldsItem new → HoldsItem (refill (length old) old new)
-HoldsItem-refill old lent new same size holds =
-    let whole : refill (length old) old new ≡ new = take_at new (drop (length new) old) (length old) (size ∙ ap length same) in
-    subst HoldsItem (sym whole) holds

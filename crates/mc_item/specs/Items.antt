@@ -5,8 +5,9 @@ use Rattle.mc_time.specs.declared.expiry.Expiry.{Expiry}
 use Rattle.mc_time.specs.declared.expiry.Expiry.TheVariants.{Never, At}
 use Rattle.mc_slab.specs.Classes.{IsClass, size_of}
 
--- an item's key and what stands under it, and the class of the chunk that it lies in
+-- an item's key with its hash, what stands under it, and the class of the chunk that it lies in
 pub record ItemState : Type 0 where
+  pub hash : ℕ
   pub key : List ℕ
   pub flags : ℕ
   pub expiry : Expiry
@@ -51,8 +52,8 @@ coded_expiry = code_by (Option ℕ) (coded_option coded_ℕ) expiry_moment momen
 
 abbrev pub coded_item : Coded ItemState
 coded_item =
-    code_by (List ℕ × (ℕ × (Expiry × (List ℕ × (ℕ × (ℕ × ℕ))))))
-    (coded× (coded_list coded_ℕ) (coded× coded_ℕ (coded× coded_expiry (coded× (coded_list coded_ℕ) (coded× coded_ℕ (coded× coded_ℕ coded_ℕ))))))
-    (λ i. (i.key, (i.flags, (i.expiry, (i.block, (i.unique, (i.updated, i.class)))))))
-    (λ p. record { key = p.0; flags = p.1.0; expiry = p.1.1.0; block = p.1.1.1.0; unique = p.1.1.1.1.0; updated = p.1.1.1.1.1.0; class = p.1.1.1.1.1.1 })
+    code_by (ℕ × (List ℕ × (ℕ × (Expiry × (List ℕ × (ℕ × (ℕ × ℕ)))))))
+    (coded× coded_ℕ (coded× (coded_list coded_ℕ) (coded× coded_ℕ (coded× coded_expiry (coded× (coded_list coded_ℕ) (coded× coded_ℕ (coded× coded_ℕ coded_ℕ)))))))
+    (λ i. (i.hash, (i.key, (i.flags, (i.expiry, (i.block, (i.unique, (i.updated, i.class))))))))
+    (λ p. record { hash = p.0; key = p.1.0; flags = p.1.1.0; expiry = p.1.1.1.0; block = p.1.1.1.1.0; unique = p.1.1.1.1.1.0; updated = p.1.1.1.1.1.1.0; class = p.1.1.1.1.1.1.1 })
     (λ _. refl)

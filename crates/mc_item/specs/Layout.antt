@@ -3,13 +3,14 @@
 -- The header's numbers stand with their lowest byte first:
 --
 --   offset   bytes   number
---        0       4   flags
---        4       4   0 where the item never expires
---        8       8   otherwise the second at which it expires
---       16       8   unique
---       24       8   the second at which it was updated
---       32       8   the key's length
---       40       8   the block's length
+--        0       8   the key's hash
+--        8       4   flags
+--       12       4   0 where the item never expires
+--       16       8   otherwise the second at which it expires
+--       24       8   unique
+--       32       8   the second at which it was updated
+--       40       4   the key's length
+--       44       4   the block's length
 use Rattle.std.specs.Prelude.{ℕ, ◌+◌, ◌≤◌, ◌^◌, ◌==◌, List, length, take, drop, if◌then◌else◌}
 use Rattle.byteorder.specs.Endian.{little_number, little_bytes}
 use Rattle.mc_time.specs.declared.expiry.Expiry.{Expiry}
@@ -27,27 +28,31 @@ unfoldable pub number_bytes : ℕ → ℕ → List ℕ
 number_bytes count number = little_bytes count number
 
 -- each of the header's numbers
+abbrev pub hash_in : List ℕ → ℕ
+hash_in bytes = number_at 0 8 bytes
+
 abbrev pub flags_in : List ℕ → ℕ
-flags_in bytes = number_at 0 4 bytes
+flags_in bytes = number_at 8 4 bytes
 
 abbrev pub expiry_in : List ℕ → Expiry
-expiry_in bytes = if number_at 4 4 bytes == 0 then Never else At (number_at 8 8 bytes)
+expiry_in bytes = if number_at 12 4 bytes == 0 then Never else At (number_at 16 8 bytes)
 
 abbrev pub unique_in : List ℕ → ℕ
-unique_in bytes = number_at 16 8 bytes
+unique_in bytes = number_at 24 8 bytes
 
 abbrev pub updated_in : List ℕ → ℕ
-updated_in bytes = number_at 24 8 bytes
+updated_in bytes = number_at 32 8 bytes
 
 abbrev pub key_length_in : List ℕ → ℕ
-key_length_in bytes = number_at 32 8 bytes
+key_length_in bytes = number_at 40 4 bytes
 
 abbrev pub block_length_in : List ℕ → ℕ
-block_length_in bytes = number_at 40 8 bytes
+block_length_in bytes = number_at 44 4 bytes
 
 -- the header
 abbrev pub header_in : List ℕ → Header
 header_in bytes = record {
+  hash = hash_in bytes;
   flags = flags_in bytes;
   expiry = expiry_in bytes;
   unique = unique_in bytes;
@@ -75,6 +80,7 @@ block_in bytes = take (block_length_in bytes) (drop (header_size + key_length_in
 -- the item that lies in a chunk
 abbrev pub item_in : List ℕ → ItemState
 item_in chunk = record {
+  hash = hash_in chunk;
   key = key_in chunk;
   flags = flags_in chunk;
   expiry = expiry_in chunk;

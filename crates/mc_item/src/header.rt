@@ -9,30 +9,33 @@ use mc_time::{Expiry, Moment};
 /// How many bytes of an item's chunk come before its key.
 pub(crate) const HEADER: usize = 48;
 
-// Where the numbers of the header stand. The flags and whether the item expires have 4 bytes each, the others 8.
-const FLAGS: usize = 0;
+// Where the numbers of the header stand. The flags, whether the item expires and the lengths have 4 bytes each, the others 8.
+const HASH: usize = 0;
 
-const EXPIRES: usize = 4;
+const FLAGS: usize = 8;
 
-const EXPIRY: usize = 8;
+const EXPIRES: usize = 12;
 
-const UNIQUE: usize = 16;
+const EXPIRY: usize = 16;
 
-const UPDATED: usize = 24;
+const UNIQUE: usize = 24;
 
-const KEY_LENGTH: usize = 32;
+const UPDATED: usize = 32;
 
-const BLOCK_LENGTH: usize = 40;
+const KEY_LENGTH: usize = 40;
+
+const BLOCK_LENGTH: usize = 44;
 
 /// What stands before an item's key and block. The lengths are in bytes.
 #[derive(Clone, Copy)]
 pub(crate) struct Header {
+    pub hash: u64,
     pub flags: u32,
     pub expiry: Expiry,
     pub unique: u64,
     pub updated: Moment,
-    pub key_length: u64,
-    pub block_length: u64,
+    pub key_length: u32,
+    pub block_length: u32,
 }
 
 /// The number in 4 bytes from the offset on, lowest byte first.
@@ -69,6 +72,14 @@ fn put_u64(bytes: &mut [u8], offset: usize, number: u64)
     ensures behind { drop (offset + 8) bytes.new ≡ drop (offset + 8) bytes.old }
 {
     LittleEndian::write_u64(&mut bytes[offset..], number);
+}
+
+/// The hash of the key of the item in a chunk.
+pub(crate) fn hash_in(bytes: &[u8]) -> u64
+    requires { 48 ≤ length bytes.now }
+    ensures { result ≡ (header_in bytes.now).hash }
+{
+    read_u64(bytes, HASH)
 }
 
 /// The flags of the item in a chunk.
@@ -109,19 +120,19 @@ pub(crate) fn updated_in(bytes: &[u8]) -> Moment
 }
 
 /// How many bytes the key of the item in a chunk has.
-pub(crate) fn key_length_in(bytes: &[u8]) -> u64
+pub(crate) fn key_length_in(bytes: &[u8]) -> u32
     requires { 48 ≤ length bytes.now }
     ensures { result ≡ (header_in bytes.now).key_length }
 {
-    read_u64(bytes, KEY_LENGTH)
+    read_u32(bytes, KEY_LENGTH)
 }
 
 /// How many bytes the block of the item in a chunk has.
-pub(crate) fn block_length_in(bytes: &[u8]) -> u64
+pub(crate) fn block_length_in(bytes: &[u8]) -> u32
     requires { 48 ≤ length bytes.now }
     ensures { result ≡ (header_in bytes.now).block_length }
 {
-    read_u64(bytes, BLOCK_LENGTH)
+    read_u32(bytes, BLOCK_LENGTH)
 }
 
 /// The two numbers that stand for an expiry.
@@ -143,6 +154,7 @@ impl Header {
         ensures { result ≡ header_in bytes.now }
     {
         Header {
+            hash: hash_in(bytes),
             flags: flags_in(bytes),
             expiry: expiry_in(bytes),
             unique: unique_in(bytes),
@@ -152,20 +164,21 @@ impl Header {
         }
     }
 
-    /// Writes the header. What is behind it stays.
-    pub(crate) fn write(self, bytes: &mut [u8])
-        requires { 48 ≤ length bytes.old }
-        ensures value { header_in bytes.new ≡ self }
+    /// The bytes of the header.
+    pub(crate) fn bytes(self) -> [u8; 48]
+        ensures value { header_in result ≡ self }
         ensures latest { self.updated ≤ 2 ^ 62 }
-        ensures behind { drop 48 bytes.new ≡ drop 48 bytes.old }
     {
-        put_u32(bytes, FLAGS, self.flags);
+        let mut bytes = [0; HEADER];
         let (expires, moment) = numbers_of(self.expiry);
-        put_u32(bytes, EXPIRES, expires);
-        put_u64(bytes, EXPIRY, moment);
-        put_u64(bytes, UNIQUE, self.unique);
-        put_u64(bytes, UPDATED, self.updated.seconds());
-        put_u64(bytes, KEY_LENGTH, self.key_length);
-        put_u64(bytes, BLOCK_LENGTH, self.block_length);
+        put_u64(&mut bytes, HASH, self.hash);
+        put_u32(&mut bytes, FLAGS, self.flags);
+        put_u32(&mut bytes, EXPIRES, expires);
+        put_u64(&mut bytes, EXPIRY, moment);
+        put_u64(&mut bytes, UNIQUE, self.unique);
+        put_u64(&mut bytes, UPDATED, self.updated.seconds());
+        put_u32(&mut bytes, KEY_LENGTH, self.key_length);
+        put_u32(&mut bytes, BLOCK_LENGTH, self.block_length);
+        bytes
     }
 }

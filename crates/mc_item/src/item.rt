@@ -7,9 +7,10 @@ ghost use Rattle.mc_item.specs.Items.{IsItem, charge_of, header_size, longest_ke
 ghost use Rattle.mc_item.specs.Layout.{item_in};
 
 use crate::header::{
-    HEADER, Header, block_length_in, expiry_in, flags_in, key_length_in, unique_in, updated_in,
+    HEADER, Header, block_length_in, expiry_in, flags_in, hash_in, key_length_in, unique_in,
+    updated_in,
 };
-use crate::run::{write_expiry, write_item, write_number};
+use crate::run::{length_in, write_expiry, write_item, write_number};
 use mc_slab::{Chunk, Class};
 use mc_time::{Expiry, Moment};
 use std::marker::Model;
@@ -17,6 +18,8 @@ use std::marker::Model;
 /// What an item is made of. Its block is `first` followed by `second`.
 #[derive(Clone, Copy)]
 pub struct Parts<'a> {
+    /// The hash that the key is found by.
+    pub hash: u64,
     /// From 0 to 250 bytes.
     pub key: &'a [u8],
     /// The front of the block.
@@ -62,26 +65,28 @@ impl Item {
         requires room { header_size + length parts.key.now
             + length parts.first.now + length parts.second.now ≤ length chunk }
         ensures value { result ≡ record {
+          hash = parts.entry.hash;
           key = parts.entry.key.now;
           flags = parts.entry.flags;
           expiry = parts.entry.expiry;
           block = parts.entry.first.now ++ parts.entry.second.now;
           unique = parts.entry.unique;
           updated = parts.entry.updated;
-          class = chunk_class chunk;
+          class = chunk_class chunk.entry;
         } }
         ensures is_item { IsItem result }
     {
+        let bytes = chunk.bytes();
         let header = Header {
+            hash: parts.hash,
             flags: parts.flags,
             expiry: parts.expiry,
             unique: parts.unique,
             updated: parts.updated,
-            key_length: parts.key.len() as u64,
-            block_length: (parts.first.len() + parts.second.len()) as u64,
+            key_length: length_in(bytes, parts.key.len()),
+            block_length: length_in(bytes, parts.first.len() + parts.second.len()),
         };
-        let bytes = chunk.bytes_mut();
-        write_item(bytes, header, parts.key, parts.first, parts.second);
+        write_item(&mut chunk, header, parts.key, parts.first, parts.second);
         Item { chunk }
     }
 
@@ -91,6 +96,7 @@ impl Item {
         requires room { header_size + length parts.key.now
             + length parts.first.now + length parts.second.now ≤ size_of self.old.class }
         ensures value { self.new ≡ record {
+          hash = parts.entry.hash;
           key = parts.entry.key.now;
           flags = parts.entry.flags;
           expiry = parts.entry.expiry;
@@ -101,16 +107,18 @@ impl Item {
         } }
         ensures is_item { IsItem self.new }
     {
+        let bytes = self.chunk.bytes();
         let header = Header {
+            hash: parts.hash,
             flags: parts.flags,
             expiry: parts.expiry,
             unique: parts.unique,
             updated: parts.updated,
-            key_length: parts.key.len() as u64,
-            block_length: (parts.first.len() + parts.second.len()) as u64,
+            key_length: length_in(bytes, parts.key.len()),
+            block_length: length_in(bytes, parts.first.len() + parts.second.len()),
         };
         write_item(
-            self.chunk.bytes_mut(),
+            &mut self.chunk,
             header,
             parts.key,
             parts.first,
@@ -137,6 +145,13 @@ impl Item {
         let start = HEADER + key_length_in(bytes) as usize;
         let length = block_length_in(bytes) as usize;
         &bytes[start..start + length]
+    }
+
+    /// Reads the hash that came with its key.
+    pub fn hash(&self) -> u64
+        ensures { result ≡ self.now.hash }
+    {
+        hash_in(self.chunk.bytes())
     }
 
     /// Reads the flags that were stored with it.
@@ -173,7 +188,7 @@ impl Item {
         ensures is_item { IsItem self.now }
     {
         let bytes = self.chunk.bytes();
-        HEADER as u64 + key_length_in(bytes) + block_length_in(bytes)
+        HEADER as u64 + u64::from(key_length_in(bytes)) + u64::from(block_length_in(bytes))
     }
 
     /// Finds the class of its chunk.
@@ -185,7 +200,7 @@ impl Item {
     }
 
     /// Writes a number in place of its block: the decimal digits, with nothing before or behind
-    /// them. The key, the flags and the expiry stay. It takes no memory.
+    /// them. The key, its hash, the flags and the expiry stay. It takes no memory.
     pub fn rewrite_number(&mut self, number: u64, unique: u64, updated: Moment)
         requires room { header_size + length self.old.key + length (decimal number)
             ≤ size_of self.old.class }
@@ -196,7 +211,7 @@ impl Item {
         } }
         ensures is_item { IsItem self.new }
     {
-        write_number(self.chunk.bytes_mut(), number, unique, updated);
+        write_number(&mut self.chunk, number, unique, updated);
     }
 
     /// Sets its expiry. All else stays.
@@ -204,14 +219,14 @@ impl Item {
         ensures value { self.new ≡ record self.old { expiry = expiry } }
         ensures is_item { IsItem self.new }
     {
-        write_expiry(self.chunk.bytes_mut(), expiry);
+        write_expiry(&mut self.chunk, expiry);
     }
 
     /// Gives its chunk back, to be given to the slab or written anew.
     pub fn into_chunk(self) -> Chunk
-        ensures chunk { IsChunkOf self.class result }
-        ensures run { item_in result ≡ self }
-        ensures is_item { IsItem self }
+        ensures chunk { IsChunkOf self.entry.class result }
+        ensures run { item_in result ≡ self.entry }
+        ensures is_item { IsItem self.entry }
     {
         let Item { chunk } = self;
         chunk

@@ -25,6 +25,7 @@ fn chunk_for(rt: &impl Abort, alloc: Global, charge: u64) -> Result<Chunk, Fail>
 /// What an item has beside its key and its block.
 #[derive(Clone, Copy)]
 struct Numbers {
+    hash: u64,
     flags: u32,
     expiry: Expiry,
     unique: u64,
@@ -32,6 +33,7 @@ struct Numbers {
 }
 
 const ZEROS: Numbers = Numbers {
+    hash: 0,
     flags: 0,
     expiry: Expiry::Never,
     unique: 0,
@@ -51,6 +53,7 @@ fn item_of(
     assert!(rt; k <= 250 && f <= 1000 && s <= 1000);
     let chunk = chunk_for(rt, alloc, (48 + k + f + s) as u64)?;
     let parts = Parts {
+        hash: numbers.hash,
         key,
         first,
         second,
@@ -106,24 +109,27 @@ fn an_item_gives_back_its_parts(rt: HostRuntime) -> Result<(), Fail> {
 #[test]
 fn an_item_gives_back_its_numbers(rt: HostRuntime) -> Result<(), Fail> {
     let alloc = rt.alloc();
-    for (flags, expiry, unique, updated) in [
-        (0, Expiry::Never, 0, 0),
+    for (hash, flags, expiry, unique, updated) in [
+        (0, 0, Expiry::Never, 0, 0),
         (
+            18446744073709551615,
             4294967295,
             Expiry::At(0),
             18446744073709551615,
             4611686018427387904,
         ),
-        (1, Expiry::At(18446744073709551615), 4294967296, 1),
-        (16909060, Expiry::At(1), 1, 1700000000),
+        (1, 1, Expiry::At(18446744073709551615), 4294967296, 1),
+        (4294967296, 16909060, Expiry::At(1), 1, 1700000000),
     ] {
         let numbers = Numbers {
+            hash,
             flags,
             expiry,
             unique,
             updated,
         };
         let item = item_of(&rt, alloc, b"key", b"block", b"", numbers)?;
+        assert_eq!(rt; item.hash(), hash);
         assert_eq!(rt; item.flags(), flags);
         assert!(rt; item.expiry() == expiry);
         assert_eq!(rt; item.unique(), unique);
@@ -151,6 +157,7 @@ fn a_number_takes_the_place_of_a_block(rt: HostRuntime) -> Result<(), Fail> {
         (b"1", 18446744073709551615, b"18446744073709551615"),
     ] {
         let numbers = Numbers {
+            hash: 11,
             flags: 7,
             expiry: Expiry::At(5),
             ..ZEROS
@@ -159,6 +166,7 @@ fn a_number_takes_the_place_of_a_block(rt: HostRuntime) -> Result<(), Fail> {
         rewrite(&rt, &mut item, number);
         assert!(rt; item.block() == digits);
         assert!(rt; item.key() == b"number".as_slice());
+        assert_eq!(rt; item.hash(), 11);
         assert_eq!(rt; item.flags(), 7);
         assert_eq!(rt; item.unique(), 2);
         assert_eq!(rt; item.updated().seconds(), 9);
@@ -170,6 +178,7 @@ fn a_number_takes_the_place_of_a_block(rt: HostRuntime) -> Result<(), Fail> {
 fn an_expiry_is_set_alone(rt: HostRuntime) -> Result<(), Fail> {
     let alloc = rt.alloc();
     let numbers = Numbers {
+        hash: 11,
         flags: 7,
         expiry: Expiry::At(5),
         unique: 3,
@@ -184,6 +193,7 @@ fn an_expiry_is_set_alone(rt: HostRuntime) -> Result<(), Fail> {
         item.set_expiry(expiry);
         assert!(rt; item.expiry() == expiry);
         assert!(rt; item.block() == b"block".as_slice());
+        assert_eq!(rt; item.hash(), 11);
         assert_eq!(rt; item.unique(), 3);
         assert_eq!(rt; item.updated().seconds(), 4);
     }
@@ -193,6 +203,7 @@ fn an_expiry_is_set_alone(rt: HostRuntime) -> Result<(), Fail> {
 #[test]
 fn an_item_is_one_run_of_its_chunk(rt: HostRuntime) -> Result<(), Fail> {
     let numbers = Numbers {
+        hash: 0x4847464544434241,
         flags: 0x04030201,
         expiry: Expiry::At(0x1817161514131211),
         unique: 0x2827262524232221,
@@ -201,9 +212,10 @@ fn an_item_is_one_run_of_its_chunk(rt: HostRuntime) -> Result<(), Fail> {
     let item = item_of(&rt, rt.alloc(), b"key", b"blo", b"ck", numbers)?;
     let chunk = item.into_chunk();
     let run = [
-        1, 2, 3, 4, 1, 0, 0, 0, 0x11, 0x12, 0x13, 0x14, 0x15, 0x16, 0x17, 0x18, 0x21, 0x22, 0x23,
-        0x24, 0x25, 0x26, 0x27, 0x28, 0x31, 0x32, 0x33, 0x34, 0x35, 0x36, 0x37, 0x38, 3, 0, 0, 0,
-        0, 0, 0, 0, 5, 0, 0, 0, 0, 0, 0, 0, b'k', b'e', b'y', b'b', b'l', b'o', b'c', b'k',
+        0x41, 0x42, 0x43, 0x44, 0x45, 0x46, 0x47, 0x48, 1, 2, 3, 4, 1, 0, 0, 0, 0x11, 0x12, 0x13,
+        0x14, 0x15, 0x16, 0x17, 0x18, 0x21, 0x22, 0x23, 0x24, 0x25, 0x26, 0x27, 0x28, 0x31, 0x32,
+        0x33, 0x34, 0x35, 0x36, 0x37, 0x38, 3, 0, 0, 0, 5, 0, 0, 0, b'k', b'e', b'y', b'b', b'l',
+        b'o', b'c', b'k',
     ];
     assert_eq!(rt; chunk.bytes().len(), 96);
     let front: Vec<u8> = chunk.bytes().iter().take(56).copied().collect(rt.alloc())?;

@@ -129,7 +129,7 @@ impl Desk {
     pub(crate) fn give(&mut self, chunk: Chunk)
         requires { 0 < out_of self.old.slab (chunk_class chunk) }
         ensures given { self.new
-            ≡ record self.old { slab = given self.old.slab (chunk_class chunk) } }
+            ≡ record self.old { slab = given self.old.slab (chunk_class chunk.entry) } }
         ensures slab { IsSlab self.old.slab }
     {
         self.slab.give(chunk);

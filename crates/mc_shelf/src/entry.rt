@@ -1,4 +1,4 @@
-//! An item, and the hash of its key.
+//! An item as an index has it.
 
 ghost use Rattle.std.specs.Prelude.{◌≡◌, ◌≤◌, length};
 ghost use Rattle.mc_slab.specs.Classes.{IsClass, class_holding};
@@ -13,10 +13,9 @@ use mc_slab::{Chunk, Class};
 use mc_time::{Expiry, Moment};
 use std::marker::Model;
 
-/// An item, with the hash of its key. It lies in a chunk of the class that its charge asks for.
+/// An item, whose header has the hash of its key. It lies in a chunk of the class that its charge asks for.
 #[derive(Drop)]
 pub struct Entry {
-    hash: u64,
     item: Item,
 }
 
@@ -30,24 +29,24 @@ impl Model for Entry {
 
     ghost coded = { coded_entry_state };
 
-    ghost view = { λ e. record { hash = e.hash; key = e.item.key; item = entry_of e.item } };
+    ghost view = { λ e. record { hash = e.item.hash; key = e.item.key; item = entry_of e.item } };
 
     ghost invariant = { λ e. e.item.class ≡ class_holding (charge_of e.item) };
 }
 
 impl Entry {
     /// Writes the item of those parts into that chunk. It copies the key, of at most 250 bytes, and the block.
-    pub(crate) fn write(hash: u64, chunk: Chunk, parts: Parts<'_>) -> Entry
+    pub(crate) fn write(chunk: Chunk, parts: Parts<'_>) -> Entry
         requires key { length parts.key.now ≤ 250 }
         requires class { chunk_class chunk ≡ class_holding (charge_in parts) }
         requires room { charge_in parts ≤ length chunk }
-        ensures { result ≡ entry_in hash parts.entry }
+        ensures { result ≡ entry_in parts.entry.hash parts.entry }
     {
         Entry {
-            hash,
             item: Item::write(
                 chunk,
                 Parts {
+                    hash: parts.hash,
                     key: parts.key,
                     first: parts.first,
                     second: parts.second,
@@ -60,7 +59,7 @@ impl Entry {
         }
     }
 
-    /// Writes the item of other parts into its chunk, whose class the charge asks for. The key is its own.
+    /// Writes the item of other parts into its chunk, whose class the charge asks for. The key is its own, and its hash stays.
     pub(crate) fn rewrite(&mut self, parts: Parts<'_>)
         requires key { parts.key.now ≡ self.old.key }
         requires short { length parts.key.now ≤ 250 }
@@ -69,6 +68,7 @@ impl Entry {
     {
         self.lies_in_class();
         self.item.rewrite(Parts {
+            hash: self.item.hash(),
             key: parts.key,
             first: parts.first,
             second: parts.second,
@@ -122,8 +122,8 @@ impl Entry {
 
     /// Gives its chunk back.
     pub(crate) fn into_chunk(self) -> Chunk
-        ensures chunk { IsChunkOf (item_class self.key self.item) result }
-        ensures is_class { IsClass (item_class self.key self.item) }
+        ensures chunk { IsChunkOf (item_class self.entry.key self.entry.item) result }
+        ensures is_class { IsClass (item_class self.entry.key self.entry.item) }
     {
         self.item.into_chunk()
     }
@@ -136,7 +136,7 @@ impl Keyed for Entry {
 
     /// The hash that came with its key.
     fn hash(&self) -> u64 {
-        self.hash
+        self.item.hash()
     }
 
     /// Its key, from 0 to 250 bytes.

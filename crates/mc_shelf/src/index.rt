@@ -1,12 +1,13 @@
 //! Entries, found by their keys.
 
-ghost use Rattle.std.specs.Prelude.{◌≡◌, ℕ, ◌+◌, ◌-◌, ◌^◌, ◌<◌, ◌≤◌, List, min};
+ghost use Rattle.std.specs.Prelude.{◌≡◌, ℕ, ◌+◌, ◌-◌, ◌^◌, ◌<◌, ◌≤◌, List, length, min};
 ghost use Rattle.std.specs.Prelude.{Some, None, IfOk, IfSome, OnOk, option_copied};
 ghost use Rattle.std.specs.FinMap.{empty, get};
-ghost use Rattle.mc_hop.specs.Tables.{KeepsKey};
+ghost use Rattle.mc_slab.specs.Classes.{class_holding};
+ghost use Rattle.mc_command.specs.Plain.{charge, item_class};
+ghost use Rattle.mc_shelf.specs.Plans.{drafted};
 ghost use Rattle.mc_grow.specs.Indexes.{IsFilled, IsNext, KeepsLower, entry_at, left};
-ghost use Rattle.mc_shelf.specs.States.{EntryState};
-ghost use Rattle.mc_shelf.specs.KeyMaps.{IsHashOf, IsKeyed, hash_in, key_in};
+ghost use Rattle.mc_shelf.specs.KeyMaps.{IsHashOf, IsKeyed};
 ghost use Rattle.mc_shelf.specs.Places.{
   IsChanged,
   IsEntryOf,
@@ -20,7 +21,10 @@ ghost use Rattle.mc_shelf.specs.Places.{
 };
 
 use crate::entry::Entry;
+use crate::write::Write;
 pub(crate) use mc_grow::Place;
+use mc_item::Parts;
+use mc_time::Expiry;
 use std::alloc::{AllocError, Global};
 use std::marker::Model;
 
@@ -108,25 +112,72 @@ impl Index {
     pub(crate) fn insert_reserved(&mut self, entry: Entry) -> Place
         requires absent { get (items_of self.old) entry.key ≡ None }
         requires room { 1 ≤ self.old.spare }
-        ensures inserted { KeyComes self.old self.new entry }
-        ensures place { IsKeyAt self.new entry.key result }
+        ensures inserted { KeyComes self.old self.new entry.entry }
+        ensures place { IsKeyAt self.new entry.entry.key result }
         ensures room { self.old.spare ≤ self.new.spare + 1 }
         ensures left { left self.new ≡ left self.old }
     {
         self.entries.insert_reserved(entry)
     }
 
-    /// Changes the entry at a place by a closure that keeps its hash and its key, and hands out what the closure answers
-    /// beside it. It takes no memory of its own.
-    pub(crate) fn update<R, F: FnOnce(Entry) -> (Entry, R)>(&mut self, place: Place, change: F) -> R
-        requires found { (key : List ℕ) × IsKeyAt self.old key place }
-        requires keeps { (entry : EntryState) → entry_at self.old place ≡ Some entry →
-            KeepsKey hash_in key_in (F.pre change) (F.post change) entry }
-        ensures { (key : List ℕ) (at : IsKeyAt self.old key place) → (pair : EntryState × R)
-            × F.post change at.entry pair × (result ≡ pair.1)
-            × IsChanged self.old self.new key pair.0.item }
+    /// Sets the expiry of the item at a place. All else stays.
+    pub(crate) fn set_expiry(&mut self, place: Place, expiry: Expiry)
+        requires { (key : List ℕ) × IsKeyAt self.old key place }
+        ensures { (key : List ℕ) (at : IsKeyAt self.old key place) →
+            IsChanged self.old self.new key (record at.entry.item { expiry = expiry }) }
     {
-        self.entries.update(place, change)
+        self.entries.update(place, |mut entry| {
+            entry.set_expiry(expiry);
+            (entry, ())
+        });
+    }
+
+    /// Puts an entry in the place of the one of the same hash and key, and gives that back. It takes no memory.
+    pub(crate) fn replace(&mut self, place: Place, entry: Entry) -> Entry
+        requires key { IsKeyAt self.old entry.key place }
+        requires hash { IsHashOf (entries_of self.old) entry.key entry.hash }
+        ensures before { entry_at self.old place ≡ Some result }
+        ensures changed { IsChanged self.old self.new entry.entry.key entry.entry.item }
+    {
+        self.entries.update(place, |before| (entry, before))
+    }
+
+    /// Writes another block, with what a write brings beside it, into the chunk of the item at a place, whose class the charge
+    /// asks for. It takes no memory.
+    pub(crate) fn rewrite<'a>(
+        &mut self,
+        place: Place,
+        write: Write,
+        unique: u64,
+        key: &'a [u8],
+        block: &'a [u8],
+    )
+        requires key { IsKeyAt self.old key.now place }
+        requires short { length key.now ≤ 250 }
+        requires class { (at : IsKeyAt self.old key.now place) →
+            item_class key.now at.entry.item ≡ class_holding (charge key.now block.now) }
+        ensures { IsChanged self.old self.new key.now
+            (drafted write.draft block.now unique write.moment) }
+    {
+        let Write {
+            hash,
+            moment,
+            draft,
+            ..
+        } = write;
+        self.entries.update(place, |mut entry| {
+            entry.rewrite(Parts {
+                hash,
+                key,
+                first: &[],
+                second: block,
+                flags: draft.flags,
+                expiry: draft.expiry,
+                unique,
+                updated: moment,
+            });
+            (entry, ())
+        });
     }
 
     /// Takes the entry at a place out. It takes no memory.

@@ -387,10 +387,7 @@ impl Shelf {
             (record item { expiry = expiry }) }
     {
         if let Some(place) = self.index.find_again(place, hash, key) {
-            self.index.update(place, |mut entry| {
-                entry.set_expiry(expiry);
-                (entry, ())
-            });
+            self.index.set_expiry(place, expiry);
         }
     }
 

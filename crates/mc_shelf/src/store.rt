@@ -145,8 +145,9 @@ impl<K: KeyHash + Drop> Store<K> {
         ensures set_up { AreAlike self.old self.new }
     {
         if shelf < self.parts.settings.shelves {
-            let shelf = &mut self.parts.shelves[shelf as usize];
-            shelf.purge_part(now, &mut self.parts.desk);
+            let StoreParts { shelves, desk, .. } = &mut self.parts;
+            let shelf = &mut shelves[shelf as usize];
+            shelf.purge_part(now, desk);
         }
     }
 
@@ -186,15 +187,17 @@ impl<K: KeyHash + Drop> Store<K> {
         parts::steps_change_one_shelf();
         let hash = self.parts.hasher.hash(step.key());
         let at = hash % u64::from(self.parts.settings.shelves);
-        let shelf = &mut self.parts.shelves[at as usize];
-        shelf.step(alloc, step, hash, now, &mut self.parts.desk)
+        let StoreParts { shelves, desk, .. } = &mut self.parts;
+        let shelf = &mut shelves[at as usize];
+        shelf.step(alloc, step, hash, now, desk)
     }
 
     /// Flushes all shelves. It takes no memory.
     fn flush(&mut self, delay: u64, now: Moment) -> Reply
         ensures { TookStep self.old (KeyStep.Flush delay) now result self.new }
     {
-        parts::flush_parts(&mut self.parts.shelves, &mut self.parts.desk, delay, now);
+        let StoreParts { shelves, desk, .. } = &mut self.parts;
+        parts::flush_parts(shelves, desk, delay, now);
         Reply::Flushed
     }
 }

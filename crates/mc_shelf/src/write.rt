@@ -114,9 +114,9 @@ impl Write {
         } }
     {
         Entry::write(
-            self.hash,
             chunk,
             Parts {
+                hash: self.hash,
                 key,
                 first,
                 second,
@@ -217,7 +217,7 @@ impl Shelf {
     }
 
     /// Writes a block in the chunk of a key's item.
-    fn overwrite(&mut self, write: &Write, unique: u64, key: &[u8], block: &[u8])
+    fn overwrite<'a>(&mut self, write: &Write, unique: u64, key: &'a [u8], block: &'a [u8])
         requires key { length key.now ≤ 250 }
         requires known { IsKnown self.old.content key.now write.now.hash write.now.place }
         requires class { (item : Item) → get self.old.content.items key.now ≡ Some item →
@@ -226,21 +226,8 @@ impl Shelf {
             IsPut key.now write.now.hash self.old.content self.new.content
             (drafted write.now.draft block.now unique write.now.moment) }
     {
-        let Draft { flags, expiry, .. } = write.draft;
-        let updated = write.moment;
         if let Some(place) = self.index.find_again(write.place, write.hash, key) {
-            self.index.update(place, |mut entry| {
-                entry.rewrite(Parts {
-                    key,
-                    first: &[],
-                    second: block,
-                    flags,
-                    expiry,
-                    unique,
-                    updated,
-                });
-                (entry, ())
-            });
+            self.index.rewrite(place, *write, unique, key, block);
         }
     }
 
@@ -265,7 +252,7 @@ impl Shelf {
         let entry = write.entry_in(chunk, unique, step, old);
         match place {
             Some(place) => {
-                let old = self.index.update(place, |old| (entry, old));
+                let old = self.index.replace(place, entry);
                 desk.give(old.into_chunk());
             }
             None => {

@@ -1,5 +1,5 @@
 pub mod Classes
 pub mod Chunks
-pub mod ChunkLoans
+pub mod Runs
 pub mod Stocks
 pub mod Slabs

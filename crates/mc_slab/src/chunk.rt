@@ -1,19 +1,17 @@
 //! Chunks: blocks of memory of their class's length.
 
-ghost use Rattle.std.specs.Prelude.{◌≡◌, IfOk};
-ghost use Rattle.std.specs.Borrow.{sem};
-ghost use Rattle.mc_slab.specs.Classes.{size_of};
-ghost use Rattle.mc_slab.specs.Chunks.{chunk_class, IsChunk, IsChunkOf};
+ghost use Rattle.std.specs.Prelude.{◌≡◌, ◌+◌, ◌≤◌, length};
+ghost use Rattle.mc_slab.specs.Chunks.{IsChunk, IsChunkOf, with_part};
 
 use crate::class::{Class, class_of_size};
-use std::alloc::{AllocError, Global};
 use std::marker::Model;
 
 /// A block of its class's length. Contracts see it as its bytes. It is moved and never copied; one that is let go, and not
-/// given back to its slab, stays out in the slab's account for ever.
+/// given back to its slab, stays out in the slab's account for ever. Its memory stays with the process until the process
+/// ends, also where the chunk or its slab is dropped.
 #[derive(Drop)]
 pub struct Chunk {
-    bytes: Vec<u8>,
+    bytes: &'static mut [u8],
 }
 
 impl Model for Chunk {
@@ -22,22 +20,18 @@ impl Model for Chunk {
 
     ghost Value = { List ℕ };
 
-    ghost view = { λ c. c.bytes.items };
+    ghost view = { λ c. c.bytes.now };
 
-    ghost invariant = { λ c. IsChunk c.bytes.items };
+    ghost invariant = { λ c. IsChunk c.bytes.now };
 }
 
 impl Chunk {
-    ghost use Rattle.mc_slab.specs.ChunkLoans.{LendsBytes};
-
-    /// A chunk of the class, of zeros.
-    pub(crate) fn new(alloc: Global, class: Class) -> Result<Chunk, AllocError>
-        ensures { IfOk result (IsChunkOf class) }
+    /// The chunk of those bytes.
+    pub(crate) fn of(bytes: &'static mut [u8]) -> Chunk
+        requires { IsChunk bytes.old }
+        ensures { result ≡ bytes.entry.now }
     {
-        let size = class.size() as usize;
-        let mut bytes = Vec::with_capacity(alloc, size)?;
-        bytes.resize(size, 0)?;
-        Ok(Chunk { bytes })
+        Chunk { bytes }
     }
 
     /// Finds its class, by its length.
@@ -52,15 +46,23 @@ impl Chunk {
         ensures value { result.now ≡ self.now }
         ensures chunk { IsChunk self.now }
     {
-        self.bytes.as_slice()
+        self.bytes
     }
 
-    /// Lends its bytes, to be written.
-    pub fn bytes_mut(&mut self) -> &mut [u8]
-        ensures* writes_back { sem 𝓛 (LendsBytes self.entry result) }
-        ensures value { result.now ≡ self.old }
-        ensures chunk { IsChunk self.old }
+    /// Copies a part to the place `at`, counted in bytes from 0. All else stays.
+    pub fn write_at(&mut self, at: usize, part: &[u8])
+        requires { at + length part.now ≤ length self.old }
+        ensures value { self.new ≡ with_part self.old at part.now }
+        ensures chunk { IsChunk self.new }
     {
-        self.bytes.as_mut_slice()
+        write_part(self.bytes, at, part);
     }
+}
+
+/// Copies a part to a place.
+fn write_part(bytes: &mut [u8], at: usize, part: &[u8])
+    requires { at + length part.now ≤ length bytes.old }
+    ensures { bytes.new ≡ with_part bytes.old at part.now }
+{
+    bytes[at..at + part.len()].copy_from_slice(part);
 }

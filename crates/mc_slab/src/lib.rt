@@ -4,6 +4,7 @@
 mod chunk;
 mod class;
 mod laws;
+mod run;
 mod slab;
 mod stock;
 

@@ -53,8 +53,10 @@ impl From<AllocError> for TakeFault {
     }
 }
 
-/// The memory of a store: pages of 1048576 bytes, which go to a class of chunks one by one and stay with it. A page is made as
-/// allocations of its chunks, each with the allocator's overhead, all at once. Contracts see the limit of pages, and of each
+/// The memory of a store: pages of 1048576 bytes, which go to a class of chunks one by one and stay with it. The memory of a
+/// page is asked for at once, in runs of at most 32768 bytes or of one larger chunk, and each run is written, and cut into its
+/// chunks, when the first of them is taken. Runs that were cut are never given back: they stay with the process until it ends,
+/// also where the slab is dropped, and where all their chunks were given back. Contracts see the limit of pages, and of each
 /// class its pages and its chunks that are out.
 #[derive(Drop)]
 pub struct Slab {
@@ -89,7 +91,8 @@ impl Slab {
     }
 
     /// Takes a chunk of the class, of any content. A page goes to the class only where all its
-    /// chunks are out, and only that takes memory. Refused, the slab is as it was.
+    /// chunks are out, and only that takes memory. Refused, the slab is as it was, and what was had
+    /// of a page is free again.
     pub fn take(&mut self, alloc: Global, class: Class) -> Result<Chunk, TakeFault>
         ensures chunk { IfOk result (IsChunkOf class) }
         ensures taken { OnOk result (self.new ≡ taken self.old class) }
@@ -133,7 +136,7 @@ impl Slab {
     /// Takes a chunk back, of whose class one is out. It takes no memory.
     pub fn give(&mut self, chunk: Chunk)
         requires { 0 < out_of self.old (chunk_class chunk) }
-        ensures given { self.new ≡ given self.old (chunk_class chunk) }
+        ensures given { self.new ≡ given self.old (chunk_class chunk.entry) }
         ensures is_slab { IsSlab self.new }
     {
         let class = chunk.class();

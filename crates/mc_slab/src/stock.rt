@@ -1,6 +1,6 @@
 //! What one class has: its pages, its chunks that are out, and its free ones.
 
-ghost use Rattle.std.specs.Prelude.{◌≡◌, ◌+◌, ◌-◌, ◌*◌, ◌<◌, ◌≤◌, ◌↔◌, [], IsTrue, OnOk, OnErr, vec_len, vec_capacity};
+ghost use Rattle.std.specs.Prelude.{◌≡◌, ◌+◌, ◌-◌, ◌*◌, ◌<◌, ◌≤◌, ◌↔◌, IsTrue, OnOk, OnErr, vec_len, vec_capacity};
 ghost use Rattle.std.specs.List.{All};
 ghost use Rattle.mc_slab.specs.Classes.{IsClass, chunks_a_page};
 ghost use Rattle.mc_slab.specs.Chunks.{IsChunkOf};
@@ -8,6 +8,7 @@ ghost use Rattle.mc_slab.specs.Stocks.{all_chunks};
 
 use crate::chunk::Chunk;
 use crate::class::Class;
+use crate::run::Runs;
 use std::alloc::{AllocError, Global};
 use std::marker::Model;
 
@@ -20,13 +21,14 @@ pub struct Account {
     pub out: u32,
 }
 
-/// The pages of one class: how many it has, how many of their chunks are out, and the free ones.
+/// The pages of one class: how many it has, how many of their chunks are out, the free ones, and those that are to be cut.
 #[derive(Drop)]
 pub(crate) struct Stock {
     class: Class,
     pages: u32,
     out: u32,
     free: Vec<Chunk>,
+    uncut: Runs,
 }
 
 impl Model for Stock {
@@ -41,7 +43,7 @@ impl Model for Stock {
 
     ghost invariant = { λ s.
         IsStock (record { class = s.class; pages = s.pages; out = s.out })
-        s.free.items (vec_capacity s.free) };
+        s.free.items (vec_capacity s.free) s.uncut };
 }
 
 impl Stock {
@@ -55,6 +57,7 @@ impl Stock {
             pages: 0,
             out: 0,
             free: Vec::new(alloc),
+            uncut: Runs::new(alloc, class),
         }
     }
 
@@ -74,11 +77,11 @@ impl Stock {
         ensures value { IsTrue result ↔ (self.now.out ≡ all_chunks self.now) }
         ensures within { self.now.out ≤ all_chunks self.now }
     {
-        self.free.is_empty()
+        self.free.is_empty() && self.uncut.is_empty()
     }
 
-    /// One page more. Refused, the stock is as it was: a page is made whole, with room for its chunks among the free ones, or
-    /// not at all.
+    /// One page more. Refused, the stock is as it was: the memory of a page is had whole, with room for its chunks among the
+    /// free ones, or not at all.
     pub(crate) fn add_page(&mut self, alloc: Global) -> Result<(), AllocError>
         requires all_out { self.old.out ≡ all_chunks self.old }
         requires few { self.old.pages < 65536 }
@@ -89,7 +92,7 @@ impl Stock {
         // None is free here, so there is room for all: those that are out, and those of the new page.
         self.free
             .reserve_exact(self.out as usize + chunks as usize)?;
-        make_chunks(&mut self.free, alloc, self.class, chunks)?;
+        self.uncut.add_page(alloc)?;
         self.pages += 1;
         Ok(())
     }
@@ -100,7 +103,7 @@ impl Stock {
         ensures chunk { IsChunkOf self.old.class result }
         ensures out { self.new ≡ record self.old { out = self.old.out + 1 } }
     {
-        let chunk = self.free.pop().unwrap();
+        let chunk = take_free(&mut self.free, &mut self.uncut);
         self.out += 1;
         chunk
     }
@@ -116,28 +119,19 @@ impl Stock {
     }
 }
 
-/// Makes so many chunks of the class, for which there is room. Refused, it leaves none.
-fn make_chunks(
-    free: &mut Vec<Chunk>,
-    alloc: Global,
-    class: Class,
-    count: u32,
-) -> Result<(), AllocError>
-    requires none { free.old.items ≡ [] }
-    requires room { count ≤ vec_capacity free.old }
-    ensures made { OnOk result (vec_len free.new ≡ count) }
-    ensures chunks { All (IsChunkOf class) free.new.items }
-    ensures refused { OnErr result (free.new.items ≡ []) }
+/// Takes one of the free chunks. Where none is, those of a run are cut first, for which there is room.
+fn take_free(free: &mut Vec<Chunk>, uncut: &mut Runs) -> Chunk
+    requires chunks { All (IsChunkOf uncut.old.class) free.old.items }
+    requires some { 0 < vec_len free.old + uncut.old.count }
+    requires room { vec_len free.old + uncut.old.count ≤ vec_capacity free.old }
+    ensures chunk { IsChunkOf uncut.old.class result }
+    ensures chunks { All (IsChunkOf uncut.old.class) free.new.items }
+    ensures count { vec_len free.new + uncut.new.count + 1 ≡ vec_len free.old + uncut.old.count }
+    ensures class { uncut.new.class ≡ uncut.old.class }
     ensures capacity { vec_capacity free.new ≡ vec_capacity free.old }
 {
-    for _ in 0..count {
-        match Chunk::new(alloc, class) {
-            Ok(chunk) => free.push_reserved(chunk),
-            Err(refused) => {
-                free.clear();
-                return Err(refused);
-            }
-        }
+    if free.is_empty() {
+        uncut.cut_into(free);
     }
-    Ok(())
+    free.pop().unwrap()
 }

@@ -35,7 +35,29 @@ fn give(rt: &impl Abort, slab: &mut Slab, chunk: Chunk) {
     slab.give(chunk);
 }
 
-/// Takes every chunk of the class, writes to each, and finds the class full with that account, then gives all back.
+/// A list with room for so many chunks. A run may refuse one allocation, so it is asked for twice.
+fn list_for(alloc: Global, count: u32) -> Result<Vec<Chunk>, Fail> {
+    match Vec::with_capacity(alloc, count as usize) {
+        Ok(list) => Ok(list),
+        Err(_) => Ok(Vec::with_capacity(alloc, count as usize)?),
+    }
+}
+
+/// Writes a number at both ends of the chunk.
+fn mark(chunk: &mut Chunk, number: u32) {
+    let size = chunk.class().size() as usize;
+    chunk.write_at(0, &number.to_le_bytes());
+    chunk.write_at(size - 4, &number.to_le_bytes());
+}
+
+/// Whether the number stands at both ends of the chunk.
+fn is_marked(chunk: &Chunk, number: u32) -> bool {
+    let mark = number.to_le_bytes();
+    chunk.bytes().starts_with(&mark) && chunk.bytes().ends_with(&mark)
+}
+
+/// Takes every chunk of the class, writes its number at both ends of each, and finds the class full with that account and
+/// each number where it was written, then gives all back.
 fn fill_and_empty(
     rt: &impl Abort,
     alloc: Global,
@@ -43,20 +65,21 @@ fn fill_and_empty(
     class: Class,
     full: Account,
 ) -> Result<(), Fail> {
-    let mut held = Vec::new(alloc);
-    for _ in 0..full.out {
+    let mut held = list_for(alloc, full.out)?;
+    for number in 0..full.out {
         let mut chunk = take(rt, alloc, slab, class)?;
-        if let Some(first) = chunk.bytes_mut().first_mut() {
-            *first = 7;
-        }
         assert_eq!(rt; chunk.class().number(), class.number());
+        mark(&mut chunk, number);
         held.push(chunk)?;
     }
     assert!(rt; slab.account(class) == full);
     let refused = take(rt, alloc, slab, class).is_err();
     assert!(rt; refused);
+    let mut number = 0u32;
     for chunk in held {
+        assert!(rt; is_marked(&chunk, number));
         give(rt, slab, chunk);
+        number = number.wrapping_add(1);
     }
     Ok(())
 }
@@ -72,6 +95,18 @@ fn filling_and_emptying_leaves_the_same_account(rt: HostRuntime) -> Result<(), F
         let empty = Account { pages: 2, out: 0 };
         assert!(rt; slab.account(class) == empty);
         assert_eq!(rt; slab.pages_left(), 0);
+    }
+    Ok(())
+}
+
+#[test]
+fn chunks_of_a_page_lie_apart(rt: HostRuntime) -> Result<(), Fail> {
+    let alloc = rt.alloc();
+    // Pages of 33 runs of at most 341 chunks, of 38 runs of 2 or 1, and of 60 runs of 1.
+    for (size, out) in [(96, 10922), (13880, 75), (17352, 60)] {
+        let mut slab = slab_of(alloc, 1)?;
+        let class = class_of(size).expect(&rt, "a class");
+        fill_and_empty(&rt, alloc, &mut slab, class, Account { pages: 1, out })?;
     }
     Ok(())
 }

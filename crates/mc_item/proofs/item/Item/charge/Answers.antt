@@ -5,5 +5,5 @@ use Rattle.mc_item.proofs.item.Item.charge.Goals as goal
 
 pub returns-clause-value : goal.returns-clause-value
 returns-clause-value c =
-    rw (c.key_length_in.ensures, c.block_length_in.ensures, c.bytes-bytes.ensures.value)
+    rw (c.from.ensures, c.from-2.ensures, c.key_length_in.ensures, c.block_length_in.ensures, c.bytes-bytes.ensures.value)
     (sym (charge_of-item_in c.self.inside.chunk c.self.invariant) ∙ ap (λ (s : ItemState). charge_of s) c.self.view_is)

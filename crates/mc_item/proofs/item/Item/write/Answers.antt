@@ -1,8 +1,5 @@
-use Rattle.mc_item.proofs.RunLemmas.{HoldsItem-refill, IsItem-item_in}
+use Rattle.mc_item.proofs.RunLemmas.{IsItem-item_in}
 use Rattle.mc_item.proofs.item.Item.write.Goals as goal
 
-pub invariant_of-result : goal.invariant_of-result
-invariant_of-result c = HoldsItem-refill c.args.chunk c.bytes_mut-bytes.result.now c.write_item.new.bytes c.bytes_mut-bytes.ensures.value c.write_item.auto.bytes c.write_item.ensures.holds
-
 pub returns-clause-is_item : goal.returns-clause-is_item
-returns-clause-is_item c = IsItem-item_in _ (invariant_of-result c)
+returns-clause-is_item c = IsItem-item_in _ c.write_item.ensures.holds

@@ -1,0 +1,34 @@
+-- The memory of a class of which no chunk is cut yet. It lies in runs.
+use Rattle.std.specs.Prelude.{◌≡◌, ℕ, ◌/◌, ◌≤◌, List, max, refl}
+use Rattle.std.specs.Coded.{Coded, code_by, coded×, coded_ℕ}
+use Rattle.std.specs.List.{All, sum_by}
+use Rattle.mc_slab.specs.Classes.{size_of}
+
+-- what contracts see of a run, and of all runs of a class: the class, and how many chunks are to be cut
+pub record UncutState : Type 0 where
+  pub class : ℕ
+  pub count : ℕ
+
+-- how a proof stores it
+abbrev pub coded_uncut : Coded UncutState
+coded_uncut =
+    code_by (ℕ × ℕ) (coded× coded_ℕ coded_ℕ) (λ u. (u.class, u.count))
+    (λ p. record { class = p.0; count = p.1 })
+    (λ _. refl)
+
+-- how many chunks of the class a run has: as many as fit in 32768 bytes, and one where none does
+abbrev pub chunks_a_run : ℕ → ℕ
+chunks_a_run class = max (32768 / size_of class) 1
+
+-- how many chunks are to be cut of runs
+abbrev pub uncut : List UncutState → ℕ
+uncut runs = sum_by (λ run. run.count) runs
+
+-- a run of the class, which gives a chunk
+pub record IsRunOf (class : ℕ) (run : UncutState) : Type 0 where
+  pub same_class : run.class ≡ class
+  pub some : 1 ≤ run.count
+
+-- runs of the class, each of which gives a chunk
+abbrev pub AreRunsOf : ℕ → List UncutState → Type 0
+AreRunsOf class runs = All (IsRunOf class) runs
