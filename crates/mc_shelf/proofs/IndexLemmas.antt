@@ -5,11 +5,11 @@ use Rattle.std.proofs.lemmas.Option.{same_Some, none-some}
 use Rattle.std.specs.Cmp.Lexicographic.{nat_list_cmp_total}
 use Rattle.std.specs.FinMap.{empty, find, from_entries, get, get-from_entries, insert, remove}
 use Rattle.mc_hop.specs.Contents.{rows, content}
-use Rattle.mc_grow.specs.Indexes.{IndexState, IsFound, IsNew, IsPlaceOf, KeepsLower, cells, entry_at}
+use Rattle.mc_grow.specs.Indexes.{IndexState, IsFound, IsNew, IsPlaceOf, KeepsLower, cells, entry_at, left}
 use Rattle.mc_grow.specs.declared.index.Place.{Place}
 use Rattle.mc_shelf.specs.States.{EntryState}
 use Rattle.mc_shelf.specs.KeyMaps.{IsHashOf, IsKeyed, StandsIn, hash_in, hashes_in, items_in, key_in}
-use Rattle.mc_shelf.specs.Places.{IsKeyAt, IsKeyFound, KeyGoes, KeyComes, entries_of, hashes_of, items_of}
+use Rattle.mc_shelf.specs.Places.{IsChanged, IsKeyAt, IsKeyFound, KeyGoes, KeyComes, entries_of, hashes_of, items_of}
 use Rattle.mc_shelf.proofs.KeyLemmas.{order, get_gone}
 use Rattle.mc_shelf.proofs.LabelLemmas.{own, own_key, same, same_itself, same_list}
 use Rattle.mc_shelf.proofs.KeyMapLemmas.{hash_absent, hash_there, hashes-empty, hashes-insert, hashes-remove, hashes-replace, found_hash, item_there, items-empty, items-insert, items-remove, keyed-empty, keyed-insert, keyed-remove, labelled-content, not_found}
@@ -119,6 +119,15 @@ module _ (old new : IndexState EntryState) (keyed : IsKeyed (entries_of old)) wh
 
     pub same_hashes : hashes_of new ≡ hashes_of old
     same_hashes = ap hashes_in now ∙ hashes-replace _ keyed e given stood
+
+    pub changed : (key : List ℕ) → e.key ≡ key → new.spare ≡ old.spare → left new ≡ left old → IsChanged old new key given.item
+    changed key is_key spare rest =
+        record {
+          items = changed_items ∙ ap (λ k. insert (items_of old) k given.item) (same_key ∙ is_key);
+          hashes = same_hashes;
+          same_room = spare;
+          same_left = rest;
+        }
 
   -- an entry goes
   module _ (e : EntryState) (place : Place) (there : entry_at old place ≡ Some e) (keeps : KeepsLower old new place.number) (is : entries_of new ≡ remove (entries_of old) (e.hash ∷ e.key)) where

@@ -1,4 +1,4 @@
-use Rattle.std.proofs.Common.{◌≡◌, ap, subst, ◌∙◌, rules}
+use Rattle.std.proofs.Common.{◌≡◌, ap, subst, ◌∙◌}
 use Rattle.std.specs.FinMap.{get}
 use Rattle.mc_command.specs.Plain.{Entry}
 use Rattle.mc_shelf.specs.States.{ShelfState}
@@ -13,7 +13,5 @@ returns-in-Some c item found =
     let key = c.args.key.now in
     let at = c.in-Some.ensures in
     let same = there_item inside.index key c.in-Some.place at item (ap (λ (s : ShelfState). get s.content.items key) c.self.view_is ∙ found) in
-    let done = c.update.ensures key at in
-    let becomes : done.0.0.item ≡ record at.entry.item { expiry = c.args.expiry } = let met = done.1 in search rules in
-    changed_put inside.greatest inside.cut c.args.self.now.content inside.index (ap (λ (s : ShelfState). s.content) c.self.view_is) key c.args.hash c.update.new.self (record item { expiry = c.args.expiry }) c.requires.hash
-    (subst (λ (i : Entry). IsChanged inside.index c.update.new.self key i) (becomes ∙ ap (λ (i : Entry). record i { expiry = c.args.expiry }) same) done.3)
+    changed_put inside.greatest inside.cut c.args.self.now.content inside.index (ap (λ (s : ShelfState). s.content) c.self.view_is) key c.args.hash c.set_expiry.new.self (record item { expiry = c.args.expiry }) c.requires.hash
+    (subst (λ (i : Entry). IsChanged inside.index c.set_expiry.new.self key i) (ap (λ (i : Entry). record i { expiry = c.args.expiry }) same) (c.set_expiry.ensures key at))

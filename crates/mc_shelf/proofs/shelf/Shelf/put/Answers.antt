@@ -11,18 +11,12 @@ use Rattle.mc_shelf.proofs.shelf.Shelf.put.Goals as goal
 
 pub give-requires : goal.give-requires
 give-requires c =
-    let at = c.in-Some.ensures in
-    let done = c.update-old.ensures c.key.result.now at in
-    let was : c.update-old.result ≡ at.entry = let met = done.1 in let is = done.2 in search rules in
-    let there : entry_at c.self.inside.index c.in-Some.place ≡ Some c.update-old.result = at.there ∙ ap Some (sym was) in
+    let there : entry_at c.self.inside.index c.in-Some.place ≡ Some c.replace-old.result = c.replace-old.ensures.before in
     search rules
 
 pub returns-in-Some-clause-given : goal.returns-in-Some-clause-given
 returns-in-Some-clause-given c =
-    let at = c.in-Some.ensures in
-    let done = c.update-old.ensures c.key.result.now at in
-    let was : c.update-old.result ≡ at.entry = let met = done.1 in let is = done.2 in search rules in
-    let there : entry_at c.self.inside.index c.in-Some.place ≡ Some c.update-old.result = at.there ∙ ap Some (sym was) in
+    let there : entry_at c.self.inside.index c.in-Some.place ≡ Some c.replace-old.result = c.replace-old.ensures.before in
     search rules
 
 pub returns-in-Some-clause-put : goal.returns-in-Some-clause-put
@@ -35,10 +29,8 @@ returns-in-Some-clause-put c =
     let beside : c.block_in-old.result.now ≡ block_in (get old.items (key_of step)) = c.block_in-old.ensures.value ∙ ap block_in ((c.found.ensures c.key.result.now c.find_again-place.ensures).item ∙ ap (λ (s : ShelfState). get s.content.items c.key.result.now) c.self.view_is ∙ ap (λ (k : List ℕ). get old.items k) c.key.ensures) in
     let entry : c.entry_in-entry.result ≡ record { hash = write.hash; key = key_of step; item = item } =
     c.entry_in-entry.ensures ∙ ap (λ (l : List ℕ). record { hash = write.hash; key = key_of step; item = drafted write.draft (made_block write.draft.body (block_of step) l) c.args.unique write.moment }) beside in
-    let done = c.update-old.ensures c.key.result.now c.in-Some.ensures in
-    let new : done.0.0 ≡ c.entry_in-entry.result = let met = done.1 in search rules in
-    changed_put inside.greatest inside.cut old inside.index (ap (λ (s : ShelfState). s.content) c.self.view_is) (key_of step) write.hash c.update-old.new.self item c.requires.known.hash
-    (subst (λ (k : List ℕ). IsChanged inside.index c.update-old.new.self k item) c.key.ensures (subst (λ (e : EntryState). IsChanged inside.index c.update-old.new.self c.key.result.now e.item) (new ∙ entry) done.3))
+    changed_put inside.greatest inside.cut old inside.index (ap (λ (s : ShelfState). s.content) c.self.view_is) (key_of step) write.hash c.replace-old.new.self item c.requires.known.hash
+    (subst (λ (e : EntryState). IsChanged inside.index c.replace-old.new.self e.key e.item) entry c.replace-old.ensures.changed)
 
 pub returns-in-None-clause-put : goal.returns-in-None-clause-put
 returns-in-None-clause-put c =

@@ -1,0 +1,25 @@
+use Rattle.std.proofs.Common.{◌≡◌, Some, sym, ap, subst, rules}
+use Rattle.mc_command.specs.Plain.{Entry}
+use Rattle.mc_grow.specs.Indexes.{IndexState, entry_at}
+use Rattle.mc_shelf.specs.States.{EntryState}
+use Rattle.mc_shelf.specs.KeyMaps.{StandsIn}
+use Rattle.mc_shelf.specs.Places.{IsChanged, IsKeyAt, entries_of}
+use Rattle.mc_shelf.proofs.IndexLemmas.{changed, changed_keyed}
+use Rattle.mc_shelf.proofs.index.Index.set_expiry.Goals as goal
+
+pub invariant_of-self : goal.invariant_of-self
+invariant_of-self c =
+    let at : IsKeyAt c.self.inside.entries c.requires.0 c.args.place = subst (λ (s : IndexState EntryState). IsKeyAt s c.requires.0 c.args.place) (sym c.self.view_is) c.requires.1 in
+    let is = c.update.ensures at.entry at.there in
+    let becomes : is.given ≡ record at.entry { item = record at.entry.item { expiry = c.args.expiry } } = let met = is.called in search rules in
+    changed_keyed c.self.inside.entries c.update.new.self c.self.invariant at.entry is.given at.held (ap (λ (e : EntryState). e.hash) becomes) (ap (λ (e : EntryState). e.key) becomes) is.content
+
+pub returns : goal.returns
+returns c key found =
+    let there = subst (λ (s : IndexState EntryState). entry_at s c.args.place ≡ Some found.entry) (sym c.self.view_is) found.there in
+    let held = subst (λ (s : IndexState EntryState). StandsIn (entries_of s) found.entry) (sym c.self.view_is) found.held in
+    let is = c.update.ensures found.entry there in
+    let becomes : is.given ≡ record found.entry { item = record found.entry.item { expiry = c.args.expiry } } = let met = is.called in search rules in
+    let change = changed c.self.inside.entries c.update.new.self c.self.invariant found.entry is.given held (ap (λ (e : EntryState). e.hash) becomes) (ap (λ (e : EntryState). e.key) becomes) is.content key found.same_key is.same_spare is.same_left in
+    subst (λ (i : Entry). IsChanged c.args.self.now c.update.new.self key i) (ap (λ (e : EntryState). e.item) becomes)
+    (subst (λ (s : IndexState EntryState). IsChanged s c.update.new.self key is.given.item) c.self.view_is change)
