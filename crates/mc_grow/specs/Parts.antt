@@ -1,5 +1,5 @@
 -- What is true of the parts of each index.
-use Rattle.std.specs.Prelude.{◌≡◌, ℕ, ◌+◌, ◌<◌, ◌≤◌, List, [], ◌++◌, Option, Some, None, map, length, slice_index_or, slice_set, ◌^◌, min}
+use Rattle.std.specs.Prelude.{◌≡◌, ℕ, ◌+◌, ◌<◌, ◌≤◌, List, [], ◌++◌, Option, Some, None, map, length, slice_index_or, slice_set}
 use Rattle.mc_hop.specs.Cells.{filled}
 use Rattle.mc_hop.specs.Tables.{AreApart, HopState}
 use Rattle.mc_grow.specs.declared.parts.Spot.{Spot}
@@ -8,10 +8,6 @@ use Rattle.mc_grow.specs.declared.parts.Spot.{Spot}
 abbrev pub drained_items : {X : Type 0} → Option (HopState X) → List (Option X)
 drained_items None = []
 drained_items (Some table) = table.items
-
--- how many strays may stand in a list of that capacity: as many as it has room for, and at most 2^32
-abbrev pub room_in : ℕ → ℕ
-room_in capacity = min capacity (2 ^ 32)
 
 -- where a number leads, over so many buckets of the old table and so many of the table
 abbrev pub IsSpot : (old table number : ℕ) → Spot → Type 0
@@ -42,4 +38,4 @@ pub record IsChanged {X R : Type 0} (post : X → X × R → Type 0) (entry : X)
 -- No hash and key stands twice, and there is room for each entry of an old table among the strays.
 pub record IsIndex {X : Type 0} (hash_of : X → ℕ) (key_of : X → List ℕ) (old : Option (HopState X)) (table : HopState X) (strays : List X) (capacity : ℕ) : Type 0 where
   pub apart : AreApart hash_of key_of (drained_items old ++ (table.items ++ map Some strays))
-  pub has_room : length strays + filled (drained_items old) ≤ room_in capacity
+  pub has_room : length strays + filled (drained_items old) ≤ capacity

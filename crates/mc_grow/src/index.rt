@@ -9,7 +9,7 @@ ghost use Rattle.mc_grow.specs.Parts.{IsFirstFilled, IsSpot, NoneFilledFrom};
 ghost use Rattle.mc_grow.specs.Indexes.{IsRemoved, cells, count, entry_at, holds, is_due, left, most_reads};
 ghost use Rattle.mc_grow.specs.Adding.{AreMoved, IsInserted};
 
-use crate::moving::{content_laws, make_room, move_entries, place, try_strays};
+use crate::moving::{content_laws, move_entries, place, try_strays};
 use crate::parts::{
     Spot, drained_buckets, drained_entry, drained_len, filled_bucket, filled_drained, find_drained,
     find_stray, remove_drained, stray, update_drained, update_stray,
@@ -44,7 +44,7 @@ impl<T: Keyed + Drop> Model for Index<T> {
     ghost use Rattle.std.specs.Prelude.{◌+◌, ◌-◌, is_some, vec_capacity, vec_len};
     ghost use Rattle.mc_hop.specs.Cells.{filled};
     ghost use Rattle.mc_grow.specs.Indexes.{IndexState, coded_index};
-    ghost use Rattle.mc_grow.specs.Parts.{IsIndex, drained_items, room_in};
+    ghost use Rattle.mc_grow.specs.Parts.{IsIndex, drained_items};
 
     ghost Value = { IndexState T };
 
@@ -56,7 +56,7 @@ impl<T: Keyed + Drop> Model for Index<T> {
       table = i.table.items;
       strays = i.strays.items;
       growing = is_some i.draining;
-      spare = room_in (vec_capacity i.strays) - (vec_len i.strays + filled (drained_items i.draining));
+      spare = vec_capacity i.strays - (vec_len i.strays + filled (drained_items i.draining));
     } };
 
     ghost invariant = { λ i. IsIndex T.hash_of T.key_of i.draining i.table i.strays.items (vec_capacity i.strays) };
@@ -238,8 +238,7 @@ impl<T: Keyed + Drop> Index<T> {
 
     /// Makes room for one entry more, and begins a growth where one is due: a table of twice the homes, to which the entries of
     /// the old one come by `move_some`. Room is made for all of them among the strays, so that no move takes memory. The content
-    /// is as it was; refused, all stands where it stood. An error is a refused allocation, or that strays and entries of the old
-    /// table would be more than 2^32.
+    /// is as it was; refused, all stands where it stood. The one error is a refused allocation.
     pub fn reserve(&mut self, alloc: Global) -> Result<(), AllocError>
         ensures room { OnOk result (1 ≤ self.new.spare) }
         ensures begins { OnOk result (is_due self.old ≡ true → HasBegun self.old self.new) }
@@ -252,7 +251,7 @@ impl<T: Keyed + Drop> Index<T> {
             self.begin_growth(alloc)
         } else {
             let left = drained_len(&self.draining);
-            make_room(&mut self.strays, left + 1)
+            self.strays.reserve(left + 1)
         }
     }
 
@@ -337,7 +336,7 @@ impl<T: Keyed + Drop> Index<T> {
         content_laws::<T>();
         let table = Hop::new(alloc, self.table.exponent() + 1)?;
         let _buckets = self.table.buckets();
-        make_room(&mut self.strays, self.table.len() + 1)?;
+        self.strays.reserve(self.table.len() + 1)?;
         table.entries_are_apart();
         self.draining = Some(mem::replace(&mut self.table, table));
         Ok(())

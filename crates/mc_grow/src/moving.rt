@@ -1,19 +1,17 @@
 //! Adds entries to a table and to the strays beside it.
 
 ghost use Rattle.std.specs.Prelude.{◌≡◌, ℕ, ◌+◌, ◌-◌, ◌^◌, ◌<◌, ◌≤◌, ◌∷◌, ◌++◌, Option, Some, None};
-ghost use Rattle.std.specs.Prelude.{OnOk, List, is_some, length, min, true, false, slice_index_or, vec_len, vec_capacity};
+ghost use Rattle.std.specs.Prelude.{List, is_some, length, min, true, false, slice_index_or, vec_len, vec_capacity};
 ghost use Rattle.mc_hop.specs.Links.{IsSwapped};
 ghost use Rattle.std.specs.FinMap.{get};
 ghost use Rattle.mc_hop.specs.Cells.{filled};
 ghost use Rattle.mc_hop.specs.Contents.{content};
 ghost use Rattle.mc_hop.specs.Tables.{AreApart};
 ghost use Rattle.mc_grow.specs.Adding.{IsAdded, AreTried, AreTaken, beside, cells_of};
-ghost use Rattle.mc_grow.specs.Parts.{room_in};
 ghost use Rattle.mc_grow.specs.Moving.{ContentLaws, HoldsAll, IsIn, IsTaken, IsTried};
 
 use crate::adding::add;
 use mc_hop::{Hop, Keyed, content_has_each_entry, content_of_two_lists};
-use std::alloc::AllocError;
 
 /// Says the laws of the content of buckets in one. It does nothing.
 pub(crate) fn content_laws<T: Keyed + Drop>()
@@ -23,23 +21,6 @@ pub(crate) fn content_laws<T: Keyed + Drop>()
     content_of_two_lists::<T>();
 }
 
-/// The most strays and entries of an old table that an index has.
-const MOST_STRAYS: usize = 1 << 32;
-
-/// Makes room for so many strays more. An error is a refused allocation, or that they would be more than 2^32; the strays stay.
-pub(crate) fn make_room<T>(strays: &mut Vec<T>, more: usize) -> Result<(), AllocError>
-    ensures ok { OnOk result (vec_len strays.new + more ≤ room_in (vec_capacity strays.new)) }
-    ensures items { strays.new.items ≡ strays.old.items }
-    ensures len { vec_len strays.new ≡ vec_len strays.old }
-    ensures capacity { vec_capacity strays.old ≤ vec_capacity strays.new }
-{
-    let len = strays.len();
-    if len > MOST_STRAYS || more > MOST_STRAYS - len {
-        return Err(AllocError);
-    }
-    strays.reserve(more)
-}
-
 /// Adds an entry of a new key, to a bucket near its home or else to the strays, and answers its place among the buckets and the
 /// strays behind them. It takes no memory.
 pub(crate) fn place<T: Keyed + Drop>(table: &mut Hop<T>, strays: &mut Vec<T>, entry: T) -> usize
@@ -47,7 +28,6 @@ pub(crate) fn place<T: Keyed + Drop>(table: &mut Hop<T>, strays: &mut Vec<T>, en
     requires new { get (content T.hash_of T.key_of (cells_of (beside table.old strays.old.items)))
         (T.hash_of entry ∷ T.key_of entry) ≡ None }
     requires room { vec_len strays.old < vec_capacity strays.old }
-    requires most { vec_len strays.old < 2 ^ 32 }
     ensures added { IsAdded T.hash_of T.key_of table.old.k entry
         (beside table.old strays.old.items) (beside table.new strays.new.items) }
     ensures content { IsIn T.hash_of T.key_of entry (cells_of (beside table.old strays.old.items))
@@ -57,7 +37,7 @@ pub(crate) fn place<T: Keyed + Drop>(table: &mut Hop<T>, strays: &mut Vec<T>, en
     ensures k { table.new.k ≡ table.old.k }
     ensures room { vec_len strays.new ≤ vec_len strays.old + 1 }
     ensures capacity { vec_capacity strays.new ≡ vec_capacity strays.old }
-    ensures small { result < 2 ^ 33 }
+    ensures small { result < 2 ^ 63 + 2 ^ 25 }
     ensures buckets { length table.new.items ≡ length table.old.items }
 {
     content_laws::<T>();
@@ -85,7 +65,6 @@ fn move_one<T: Keyed + Drop>(
     requires apart { AreApart T.hash_of T.key_of
         (draining.old.items ++ cells_of (beside table.old strays.old.items)) }
     requires room { vec_len strays.old < vec_capacity strays.old }
-    requires most { vec_len strays.old < 2 ^ 32 }
     ensures taken { IsTaken T.hash_of T.key_of table.old.k draining.old.items draining.new.items
         (beside table.old strays.old.items) (beside table.new strays.new.items) }
     ensures left { filled draining.old.items ≡ filled draining.new.items + 1 }
@@ -113,7 +92,6 @@ pub(crate) fn move_entries<T: Keyed + Drop>(
     requires apart { AreApart T.hash_of T.key_of
         (draining.old.items ++ cells_of (beside table.old strays.old.items)) }
     requires room { vec_len strays.old + filled draining.old.items ≤ vec_capacity strays.old }
-    requires most { vec_len strays.old + filled draining.old.items ≤ 2 ^ 32 }
     ensures moved { result ≡ min n (filled draining.old.items) }
     ensures taken { AreTaken T.hash_of T.key_of table.old.k result
         draining.old.items draining.new.items

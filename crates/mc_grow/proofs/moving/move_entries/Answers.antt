@@ -14,9 +14,6 @@ loop-moved-init g c = record {
 pub move_one-requires-clause-room : goal.move_one-requires-clause-room
 move_one-requires-clause-room g c = omega (arith, c.loop-moved.invariant.room, c.loop-moved.invariant.capacity, c.requires.room, some_filled c.loop-moved.draining.items c.in-Some.at c.in-Some.ensures.found)
 
-pub move_one-requires-clause-most : goal.move_one-requires-clause-most
-move_one-requires-clause-most g c = omega (arith, c.loop-moved.invariant.room, c.requires.most, some_filled c.loop-moved.draining.items c.in-Some.at c.in-Some.ensures.found)
-
 pub loop-moved-preserved : goal.loop-moved-preserved
 loop-moved-preserved g c = record {
   moves = moved_more _ _ c.content_laws.ensures c.args.table.now.k c.loop-moved.moved c.loop-moved.table.k c.args.draining.now.items c.loop-moved.draining.items c.move_one.new.draining.items

@@ -4,7 +4,7 @@ use Rattle.mc_hop.specs.Cells.{filled}
 use Rattle.mc_hop.specs.Contents.{content}
 use Rattle.mc_grow.specs.Adding.{beside, cells_of}
 use Rattle.mc_grow.specs.Indexes.{IndexState, cells}
-use Rattle.mc_grow.specs.Parts.{drained_items, room_in}
+use Rattle.mc_grow.specs.Parts.{drained_items}
 use Rattle.mc_grow.proofs.IndexLemmas.{all_apart, its_place}
 use Rattle.mc_grow.proofs.index.Index.insert_reserved.Goals as goal
 
@@ -19,7 +19,7 @@ invariant_of-self g c =
     let spare = ap (λ (s : IndexState g.row.T.Denot). s.spare) c.self.view_is in
     record {
       apart = all_apart g.T.Keyed.hash_of g.T.Keyed.key_of c.content_laws.ensures (drained_items c.self.inside.draining) _ (cells_of (beside c.place-at.new.table c.place-at.new.strays.items)) c.args.entry c.self.invariant.apart fresh c.place-at.ensures.content;
-      has_room = subst (λ (n : ℕ). length c.place-at.new.strays.items + filled (drained_items c.self.inside.draining) ≤ room_in n) (sym c.place-at.ensures.capacity)
+      has_room = subst (λ (n : ℕ). length c.place-at.new.strays.items + filled (drained_items c.self.inside.draining) ≤ n) (sym c.place-at.ensures.capacity)
           (omega (arith, spare, c.requires.room, c.place-at.ensures.room, c.place-at.new.strays.ok.0, c.self.inside.strays.ok.0));
     }
 

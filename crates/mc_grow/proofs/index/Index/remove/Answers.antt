@@ -2,7 +2,7 @@ use Rattle.std.proofs.Common.{ℕ, ◌+◌, ◌≤◌, List, Option, None, is_so
 use Rattle.std.specs.Prelude.{vec_len}
 use Rattle.mc_hop.specs.Cells.{filled}
 use Rattle.mc_hop.specs.Tables.{AreApart, HopState}
-use Rattle.mc_grow.specs.Parts.{drained_items, room_in}
+use Rattle.mc_grow.specs.Parts.{drained_items}
 use Rattle.mc_grow.proofs.PartLemmas.{inside, swapped, stray_inside}
 use Rattle.mc_grow.proofs.CellLemmas.{all, cell_drained, cell_table, filled-taken, apart_taken}
 use Rattle.mc_grow.proofs.ChangeLemmas.{set_drained, set_table, removed, removed_stray, apart_shorter, in_drained, in_table, in_strays, number_drained, number_table, number_stray, same_number, more_room, one_stray_less, seen_removed}
@@ -84,4 +84,4 @@ returns-in-Stray g c =
     seen_removed c.self.view_is
     (removed_stray g.T.Keyed.hash_of g.T.Keyed.key_of i.strays.items _ c.in-Stray.at c.swap_remove.result c.args.place _ _ c.content_changes_at_one_key.ensures.taken c.content_has_each_entry.ensures.same
     swap (stray_inside _ _ _ (in_strays c.self.view_is c.in-Stray.at c.requires.1 c.in-Stray.ensures)) c.swap_remove.ensures.value c.self.invariant.apart refl refl (number_stray c.self.view_is c.in-Stray.at c.in-Stray.ensures) refl refl (same_number _)
-    (one_stray_less _ _ _ _ _ (ap room_in c.swap_remove.ensures.capacity) shorter))
+    (one_stray_less _ _ _ _ _ c.swap_remove.ensures.capacity shorter))

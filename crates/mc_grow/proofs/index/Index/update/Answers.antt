@@ -2,7 +2,7 @@ use Rattle.std.proofs.Common.{ℕ, ◌+◌, ◌-◌, Some, None, is_some, length
 use Rattle.std.specs.Prelude.{vec_len, vec_capacity}
 use Rattle.mc_hop.specs.Cells.{filled}
 use Rattle.mc_hop.specs.Tables.{AreApart, HopState}
-use Rattle.mc_grow.specs.Parts.{drained_items, room_in}
+use Rattle.mc_grow.specs.Parts.{drained_items}
 use Rattle.mc_grow.proofs.PartLemmas.{inside, stray_inside}
 use Rattle.mc_grow.proofs.CellLemmas.{all, cell_drained, cell_table, cell_stray, in_first, filled-changed, apart_changed}
 use Rattle.mc_grow.proofs.ChangeLemmas.{set_drained, set_table, set_stray, updated, in_drained, in_table, in_strays, number_drained, number_table, number_stray, seen_updated, seen_entry}
@@ -91,7 +91,7 @@ returns-in-Drained g c entry there =
     (keeps.same_hash (is.given, c.update_drained.result) is.called) (keeps.same_key (is.given, c.update_drained.result) is.called) is.called
     (set_drained (drained_items i.draining) i.table.items i.strays.items c.in-Drained.at c.args.place.number (Some is.given) spot.0 spot.1 is.changed)
     refl c.update_drained.ensures.stays (ap filled is.changed ∙ filled-changed _ c.in-Drained.at entry is.given here)
-    (ap (λ (n : ℕ). room_in (vec_capacity i.strays) - (vec_len i.strays + n)) (ap filled is.changed ∙ filled-changed _ c.in-Drained.at entry is.given here)))
+    (ap (λ (n : ℕ). vec_capacity i.strays - (vec_len i.strays + n)) (ap filled is.changed ∙ filled-changed _ c.in-Drained.at entry is.given here)))
 
 pub returns-in-Table : goal.returns-in-Table
 returns-in-Table g c entry there =
@@ -118,4 +118,4 @@ returns-in-Stray g c entry there =
     (updated g.T.Keyed.hash_of g.T.Keyed.key_of entry is.given c.args.place _ _ c.content_changes_at_one_key.ensures.replaced c.self.invariant.apart (seen_entry c.args.place (sym c.self.view_is) there)
     (keeps.same_hash (is.given, c.update_stray.result) is.called) (keeps.same_key (is.given, c.update_stray.result) is.called) is.called
     (set_stray (drained_items i.draining) i.table.items i.strays.items c.in-Stray.at c.args.place.number (Some is.given) _ spot is.changed)
-    refl refl refl (λ j. room_in (c.update_stray.ensures.capacity j) - (c.update_stray.ensures.len j + filled (drained_items i.draining))))
+    refl refl refl (λ j. c.update_stray.ensures.capacity j - (c.update_stray.ensures.len j + filled (drained_items i.draining))))
