@@ -1,8 +1,7 @@
 -- The shape of a command, and its steps.
 use Rattle.std.specs.Prelude.{◌≡◌, refl, ℕ, ℤ, Bool, true, false, IsTrue, List, [], ◌∷◌, map, length, drop, Option, Some, None, ◌≤◌, All}
 use Rattle.mc_command.specs.declared.command.Command.{Command}
-use Rattle.mc_command.specs.declared.command.Command.TheVariants.{Store, Cas, Get, GetTouch, Touch, Delete, Count, FlushAll, Query as QueryCommand, Quit}
-use Rattle.mc_command.specs.declared.command.Query.{Query}
+use Rattle.mc_command.specs.declared.command.Command.TheVariants.{Store, Cas, Get, GetTouch, Touch, Delete, Count, FlushAll, Version, Quit}
 use Rattle.mc_command.specs.declared.step.KeyStep.{KeyStep}
 use Rattle.mc_command.specs.declared.step.KeyStep.TheVariants.{Store as StoreStep, Cas as CasStep, Read as ReadStep, ReadTouch as ReadTouchStep, Touch as TouchStep, Delete as DeleteStep, Count as CountStep, Flush as FlushStep}
 
@@ -17,12 +16,12 @@ retrieval None keys with_unique = Get keys with_unique
 retrieval (Some exptime) keys with_unique = GetTouch exptime keys with_unique
 
 -- What a command asks for: one step, with a block behind its line or without, of which a quiet one's
--- reply isn't told; a step of each key of a retrieval; the text of a query, without a step; or the
--- end of the session.
+-- reply isn't told; a step of each key of a retrieval; the version, without a step; or the end of
+-- the session.
 pub data Shape : Type 0 where
   Single : KeyStep → (has_block quiet : Bool) → Shape
   Retrieval : (exptime : Option ℤ) → (keys : List (List ℕ)) → (with_unique : Bool) → Shape
-  Stepless : Query → Shape
+  TellsVersion : Shape
   Parting : Shape
 
 -- a command's shape
@@ -37,14 +36,14 @@ shape (Touch key exptime quiet) = Single (TouchStep key exptime) false quiet
 shape (Delete key quiet) = Single (DeleteStep key) false quiet
 shape (Count key up by quiet) = Single (CountStep key up by) false quiet
 shape (FlushAll delay quiet) = Single (FlushStep delay) false quiet
-shape (QueryCommand query) = Stepless query
+shape Version = TellsVersion
 shape Quit = Parting
 
 -- what a command of a shape asks of keys, in order
 abbrev pub steps_by : Shape → List KeyStep
 steps_by (Single step has_block quiet) = step ∷ []
 steps_by (Retrieval exptime keys with_unique) = map (λ key. read_step exptime key) keys
-steps_by (Stepless query) = []
+steps_by TellsVersion = []
 steps_by Parting = []
 
 -- what a command asks of keys, in order
@@ -55,7 +54,7 @@ steps command = steps_by (shape command)
 abbrev pub IsSingleBy : Shape → Type 0
 IsSingleBy (Single step has_block quiet) = Unit {0}
 IsSingleBy (Retrieval exptime keys with_unique) = ⊥
-IsSingleBy (Stepless query) = ⊥
+IsSingleBy TellsVersion = ⊥
 IsSingleBy Parting = ⊥
 
 -- a command that asks one step of one key, or of all
@@ -66,7 +65,7 @@ IsSingle command = IsSingleBy (shape command)
 abbrev pub HasBlockBy : Shape → Type 0
 HasBlockBy (Single step has_block quiet) = IsTrue has_block
 HasBlockBy (Retrieval exptime keys with_unique) = ⊥
-HasBlockBy (Stepless query) = ⊥
+HasBlockBy TellsVersion = ⊥
 HasBlockBy Parting = ⊥
 
 -- a block comes after its line
@@ -77,7 +76,7 @@ HasBlock command = HasBlockBy (shape command)
 abbrev pub is_quiet_by : Shape → Bool
 is_quiet_by (Single step has_block quiet) = quiet
 is_quiet_by (Retrieval exptime keys with_unique) = false
-is_quiet_by (Stepless query) = false
+is_quiet_by TellsVersion = false
 is_quiet_by Parting = false
 
 -- it ended in noreply
@@ -89,7 +88,7 @@ abbrev pub after_by : Shape → Command → ℕ → Command
 after_by (Single step has_block quiet) command taken = command
 after_by (Retrieval exptime keys with_unique) command taken =
     retrieval exptime (drop taken keys) with_unique
-after_by (Stepless query) command taken = command
+after_by TellsVersion command taken = command
 after_by Parting command taken = command
 
 -- what is left of a command after so many of its steps
@@ -101,7 +100,7 @@ abbrev pub shape_left : Shape → ℕ → Shape
 shape_left (Single step has_block quiet) taken = Single step has_block quiet
 shape_left (Retrieval exptime keys with_unique) taken =
     Retrieval exptime (drop taken keys) with_unique
-shape_left (Stepless query) taken = Stepless query
+shape_left TellsVersion taken = TellsVersion
 shape_left Parting taken = Parting
 
 -- a retrieval has the shape of one
@@ -115,7 +114,7 @@ after_by-shape : (its : Shape) (command : Command) (taken : ℕ) → shape comma
 after_by-shape (Single step has_block quiet) command taken is = is
 after_by-shape (Retrieval exptime keys with_unique) command taken is =
     retrieval-shape exptime (drop taken keys) with_unique
-after_by-shape (Stepless query) command taken is = is
+after_by-shape TellsVersion command taken is = is
 after_by-shape Parting command taken is = is
 
 -- what is left of a command has that shape

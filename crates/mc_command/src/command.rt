@@ -5,13 +5,6 @@ use crate::bytes::Bytes;
 use crate::keys::Keys;
 use crate::step::{KeyStep, Verb};
 
-/// A command that is answered a text of its own, and takes no step.
-#[derive(Clone, Copy, Debug, PartialEq, Eq)]
-pub enum Query {
-    /// version
-    Version,
-}
-
 /// A command whose keys and block lie in the input. A quiet one ended in `noreply`.
 #[derive(Drop)]
 pub enum Command<'a> {
@@ -67,18 +60,18 @@ pub enum Command<'a> {
         delay: u64,
         quiet: bool,
     },
-    Query(Query),
+    Version,
     Quit,
 }
 
-/// Counts the steps of a command: one a key for a retrieval, none for a query and quit, one for
+/// Counts the steps of a command: one a key for a retrieval, none for version and quit, one for
 /// every other.
 pub fn steps_of(command: &Command<'_>) -> usize
     ensures { result ≡ length (steps command.now) }
 {
     match command {
         Command::Get { keys, .. } | Command::GetTouch { keys, .. } => keys.len(),
-        Command::Query(_) | Command::Quit => 0,
+        Command::Version | Command::Quit => 0,
         _ => 1,
     }
 }
@@ -94,7 +87,7 @@ pub fn is_quiet(command: &Command<'_>) -> bool
         | Command::Delete { quiet, .. }
         | Command::Count { quiet, .. }
         | Command::FlushAll { quiet, .. } => *quiet,
-        Command::Get { .. } | Command::GetTouch { .. } | Command::Query(_) | Command::Quit => false,
+        Command::Get { .. } | Command::GetTouch { .. } | Command::Version | Command::Quit => false,
     }
 }
 
@@ -145,7 +138,7 @@ fn only_step<'a>(command: &Command<'a>) -> KeyStep<'a>
             by: *by,
         },
         Command::FlushAll { delay, .. } => KeyStep::Flush { delay: *delay },
-        Command::Get { .. } | Command::GetTouch { .. } | Command::Query(_) | Command::Quit =>
+        Command::Get { .. } | Command::GetTouch { .. } | Command::Version | Command::Quit =>
             unreachable!(),
     }
 }

@@ -15,7 +15,7 @@ use Rattle.mc_command.specs.declared.step.KeyStep.{KeyStep}
 use Rattle.mc_command.specs.declared.step.KeyStep.TheVariants.{Store as StoreStep, Cas as CasStep, Read as ReadStep, ReadTouch as ReadTouchStep, Touch as TouchStep, Delete as DeleteStep, Count as CountStep, Flush as FlushStep}
 use Rattle.mc_command.specs.declared.step.Verb.{Verb}
 use Rattle.mc_command.specs.declared.command.Command.{Command}
-use Rattle.mc_command.specs.declared.command.Command.TheVariants.{FlushAll, Query as QueryCommand, Quit}
+use Rattle.mc_command.specs.declared.command.Command.TheVariants.{FlushAll, Version, Quit}
 use Rattle.mc_command.specs.declared.fault.LineFault.{LineFault}
 use Rattle.mc_command.specs.declared.fault.LineFault.TheVariants.{Unknown, BadFormat, BadDelta, TooLarge}
 use Rattle.mc_parse.specs.declared.line.Line.{Line}
@@ -23,7 +23,7 @@ use Rattle.mc_parse.specs.declared.line.Line.TheVariants.{Bare, Block}
 use Rattle.mc_parse.specs.declared.line.Head.{Head}
 use Rattle.mc_parse.specs.declared.line.Head.TheVariants.{Store, Cas}
 use Rattle.mc_parse.specs.declared.name.Name.{Name}
-use Rattle.mc_parse.specs.declared.name.Name.TheVariants.{Store as StoreName, Cas as CasName, Get as GetName, GetTouch as GetTouchName, Touch as TouchName, Delete as DeleteName, Count as CountName, FlushAll as FlushName, Query as QueryName, Quit as QuitName}
+use Rattle.mc_parse.specs.declared.name.Name.TheVariants.{Store as StoreName, Cas as CasName, Get as GetName, GetTouch as GetTouchName, Touch as TouchName, Delete as DeleteName, Count as CountName, FlushAll as FlushName, Version as VersionName, Quit as QuitName}
 use Rattle.mc_parse.specs.Exptimes.{exptime_of, delay_of}
 use Rattle.mc_parse.specs.Lines.{◌>>=◌, formed, is_key, key_formed, keys_formed, ending, delete_ending, delayed, fitting, name_of, store_line, cas_line, get_line, get_touch_line, touch_line, delete_line, count_line, flush_line, lone_line, named_line, meaning, IsWord, IsKey, IsKeyed, HasKeys}
 use Rattle.mc_parse.specs.Units.{with_block}
@@ -182,7 +182,7 @@ module _ (P : List ℕ → Type 0) where
   named_line-of greatest DeleteName args held = delete_line-of args held
   named_line-of greatest (CountName up) args held = count_line-of up args held
   named_line-of greatest FlushName args held = flush_line-of args
-  named_line-of greatest (QueryName query) args held = lone_line-of (QueryCommand query) args (All-nil (IsKeyed P))
+  named_line-of greatest VersionName args held = lone_line-of Version args (All-nil (IsKeyed P))
   named_line-of greatest QuitName args held = lone_line-of Quit args (All-nil (IsKeyed P))
 
   -- what any line says

@@ -6,8 +6,7 @@ use Rattle.mc_command.specs.Words.{is_nonempty}
 use Rattle.mc_command.specs.Numbers.{number_up_to}
 use Rattle.mc_command.specs.Commands.{steps}
 use Rattle.mc_command.specs.declared.command.Command.{Command}
-use Rattle.mc_command.specs.declared.command.Command.TheVariants.{Get, GetTouch, Touch, Delete, Count, FlushAll, Query as QueryCommand, Quit}
-use Rattle.mc_command.specs.declared.command.Query.TheVariants.{Version}
+use Rattle.mc_command.specs.declared.command.Command.TheVariants.{Get, GetTouch, Touch, Delete, Count, FlushAll, Version, Quit}
 use Rattle.mc_command.specs.declared.step.Verb.{Verb}
 use Rattle.mc_command.specs.declared.step.Verb.TheVariants.{Set, Add, Replace, Append, Prepend}
 use Rattle.mc_command.specs.declared.step.KeyStep.{KeyStep}
@@ -19,7 +18,7 @@ use Rattle.mc_parse.specs.declared.line.Line.TheVariants.{Bare, Block}
 use Rattle.mc_parse.specs.declared.line.Head.{Head}
 use Rattle.mc_parse.specs.declared.line.Head.TheVariants.{Store, Cas}
 use Rattle.mc_parse.specs.declared.name.Name.{Name}
-use Rattle.mc_parse.specs.declared.name.Name.TheVariants.{Store as StoreName, Cas as CasName, Get as GetName, GetTouch as GetTouchName, Touch as TouchName, Delete as DeleteName, Count as CountName, FlushAll as FlushName, Query as QueryName, Quit as QuitName}
+use Rattle.mc_parse.specs.declared.name.Name.TheVariants.{Store as StoreName, Cas as CasName, Get as GetName, GetTouch as GetTouchName, Touch as TouchName, Delete as DeleteName, Count as CountName, FlushAll as FlushName, Version as VersionName, Quit as QuitName}
 use Rattle.mc_parse.specs.Exptimes.{exptime_of, delay_of}
 
 -- the command that a word names
@@ -40,7 +39,7 @@ name_of word =
     else if bytes_eq word (codes "incr") then Some (CountName true)
     else if bytes_eq word (codes "decr") then Some (CountName false)
     else if bytes_eq word (codes "flush_all") then Some FlushName
-    else if bytes_eq word (codes "version") then Some (QueryName Version)
+    else if bytes_eq word (codes "version") then Some VersionName
     else if bytes_eq word (codes "quit") then Some QuitName
     else None
 
@@ -173,7 +172,7 @@ named_line greatest TouchName args = touch_line args
 named_line greatest DeleteName args = delete_line args
 named_line greatest (CountName up) args = count_line up args
 named_line greatest FlushName args = flush_line args
-named_line greatest (QueryName query) args = lone_line (QueryCommand query) args
+named_line greatest VersionName args = lone_line Version args
 named_line greatest QuitName args = lone_line Quit args
 
 -- what the words of a line say, where a charge may be at most greatest

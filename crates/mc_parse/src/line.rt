@@ -78,7 +78,7 @@ pub fn line_of(greatest: u64, text: &[u8]) -> Result<Line<'_>, LineFault>
         Name::Delete => delete_line(args),
         Name::Count { up } => count_line(up, args),
         Name::FlushAll => flush_line(args),
-        Name::Query(query) => lone_line(Command::Query(query), args),
+        Name::Version => lone_line(Command::Version, args),
         Name::Quit => lone_line(Command::Quit, args),
     }
 }

@@ -1,7 +1,7 @@
 ghost use Rattle.std.specs.Prelude.{◌≡◌};
 ghost use Rattle.mc_parse.specs.Lines.{name_of};
 
-use mc_command::{Query, Verb};
+use mc_command::Verb;
 
 /// The commands as their first word names them.
 #[derive(Clone, Copy, Debug, PartialEq, Eq)]
@@ -18,7 +18,7 @@ pub enum Name {
     /// incr counts up, decr down
     Count { up: bool },
     FlushAll,
-    Query(Query),
+    Version,
     Quit,
 }
 
@@ -57,7 +57,7 @@ pub(crate) fn name_of(word: &[u8]) -> Option<Name>
     } else if word == b"flush_all".as_slice() {
         Name::FlushAll
     } else if word == b"version".as_slice() {
-        Name::Query(Query::Version)
+        Name::Version
     } else if word == b"quit".as_slice() {
         Name::Quit
     } else {

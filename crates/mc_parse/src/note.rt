@@ -7,7 +7,7 @@ ghost use Rattle.mc_parse.specs.declared.line.Line.TheVariants.{Bare, Block};
 
 use crate::line::{Head, Line};
 use crate::peek::{Peek, peek_said};
-use mc_command::{Bytes, Command, LineFault, Query, Verb, first_word_len, spaces_len};
+use mc_command::{Bytes, Command, LineFault, Verb, first_word_len, spaces_len};
 
 /// What a line other than a retrieval's says beside its key. It lends nothing, so it can be kept.
 #[derive(Clone, Copy)]
@@ -45,7 +45,7 @@ pub enum Said {
         delay: u64,
         quiet: bool,
     },
-    Query(Query),
+    Version,
     Quit,
 }
 
@@ -154,7 +154,7 @@ fn line_again(said: Said, key: &[u8]) -> Result<Line<'_>, LineFault>
         Said::Delete { quiet } => Ok(Line::Bare(Command::Delete { key, quiet })),
         Said::Count { up, by, quiet } => Ok(Line::Bare(Command::Count { key, up, by, quiet })),
         Said::FlushAll { delay, quiet } => Ok(Line::Bare(Command::FlushAll { delay, quiet })),
-        Said::Query(query) => Ok(Line::Bare(Command::Query(query))),
+        Said::Version => Ok(Line::Bare(Command::Version)),
         Said::Quit => Ok(Line::Bare(Command::Quit)),
     }
 }
@@ -246,7 +246,7 @@ fn kept_command(command: Command<'_>) -> Kept<'_>
         Command::Delete { key, quiet } => Kept::Keyed(Said::Delete { quiet }, key),
         Command::Count { key, up, by, quiet } => Kept::Keyed(Said::Count { up, by, quiet }, key),
         Command::FlushAll { delay, quiet } => keyless(Said::FlushAll { delay, quiet }),
-        Command::Query(query) => keyless(Said::Query(query)),
+        Command::Version => keyless(Said::Version),
         Command::Quit => keyless(Said::Quit),
         Command::Store { .. } | Command::Cas { .. } => unreachable!(),
     }

@@ -1,11 +1,11 @@
 ghost use Rattle.std.specs.Prelude.{◌≡◌, ◌++◌, ◌<◌, ◌+◌, length, codes, decimal, OnOk, OnErr};
 ghost use Rattle.mc_command.specs.Commands.{steps};
 ghost use Rattle.mc_reply.specs.Texts.{reply_text, fault_text, plain_text, long_text};
-ghost use Rattle.mc_reply.specs.Texts.{spent_text, query_text, said, HasNoRoom};
+ghost use Rattle.mc_reply.specs.Texts.{spent_text, said, HasNoRoom};
 
 use crate::numbers::Numbers;
 use crate::retrieval::write_retrieval;
-use mc_command::{Command, LineFault, Query, Reply, is_quiet};
+use mc_command::{Command, LineFault, Reply, is_quiet};
 use std::alloc::AllocError;
 
 /// Appends the text of the reply to step `at`, with `END` after the last key of a retrieval, and
@@ -92,7 +92,7 @@ fn fault_bytes(fault: &LineFault) -> &'static [u8]
     }
 }
 
-/// Appends the text of a query, and nothing for quit or a command with steps. It is refused as
+/// Appends the text of version, and nothing for quit or a command with steps. It is refused as
 /// `write` is.
 pub fn write_plain(command: &Command<'_>, out: &mut Vec<u8>) -> Result<(), AllocError>
     ensures ok { OnOk result (out.new.items ≡ out.old.items ++ plain_text command.now) }
@@ -100,17 +100,8 @@ pub fn write_plain(command: &Command<'_>, out: &mut Vec<u8>) -> Result<(), Alloc
     ensures full { OnErr result (HasNoRoom out.old (plain_text command.now)) }
 {
     match command {
-        Command::Query(query) => out.extend_from_slice(query_bytes(query)),
+        Command::Version => out.extend_from_slice(b"VERSION 1.6.0\r\n"),
         _ => Ok(()),
-    }
-}
-
-/// Returns what a query is answered.
-fn query_bytes(query: &Query) -> &'static [u8]
-    ensures { result.now ≡ query_text query.now }
-{
-    match query {
-        Query::Version => b"VERSION 1.6.0\r\n",
     }
 }
 
