@@ -1,18 +1,17 @@
 -- The places of an index, by its parts: the old table's buckets, the table's, and the strays.
-use Rattle.std.proofs.Common.{◌≡◌, ◌≢◌, ℕ, zero, suc, ◌+◌, ◌-◌, ◌<◌, ◌≤◌, ◌^◌, ◌⊎◌, inl, inr, List, [], ◌∷◌, ◌++◌, Option, Some, None, map, drop, length, length-set, get_or, set, refl, sym, ap, subst, ◌∙◌, arith, ⊎_elim}
+use Rattle.std.proofs.Common.{◌≡◌, ℕ, zero, suc, ◌+◌, ◌-◌, ◌<◌, ◌≤◌, ◌^◌, ◌⊎◌, inl, inr, List, [], ◌∷◌, ◌++◌, Option, Some, None, map, drop, length, length-set, get_or, set, refl, sym, ap, subst, ◌∙◌, arith, ⊎_elim}
 use Rattle.std.proofs.lemmas.Bool.{cases_eq, cases_lt}
 use Rattle.std.proofs.lemmas.Option.{none-some}
 use Rattle.std.proofs.Math.Seq.{drop-nil}
 use Rattle.std.specs.FinMap.{get}
 use Rattle.mc_hop.specs.Contents.{content}
-use Rattle.std.proofs.lemmas.List.{get_or_past, get_or_append_left, get_or-append-add, get_or-set_same, get_or-set_other, length-map, length-append, map-set}
+use Rattle.std.proofs.lemmas.List.{get_or_past, get_or_append_left, get_or-append-add, get_or-set_same, get_or-set_other, length-map}
 use Rattle.mc_hop.specs.Cells.{filled}
-use Rattle.mc_hop.specs.Links.{IsSwapped}
 use Rattle.mc_hop.specs.Tables.{AreApart, HasEntry, IsAt, IsAbsent}
 use Rattle.mc_grow.specs.declared.index.Place.{Place}
 use Rattle.mc_grow.specs.Indexes.{IndexState, IsFirstFrom, IsPlaceOf, cells}
 use Rattle.mc_grow.specs.Parts.{IsFirstFilled, NoneFilled, NoneFilledFrom}
-use Rattle.mc_grow.proofs.PartLemmas.{same_Some, inside, stray_inside, stray_is, stray_there}
+use Rattle.mc_grow.proofs.PartLemmas.{same_Some, inside}
 
 -- ---- how many have an entry
 

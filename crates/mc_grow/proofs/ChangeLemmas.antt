@@ -1,5 +1,5 @@
 -- An entry is changed, or taken out.
-use Rattle.std.proofs.Common.{◌≡◌, ◌≢◌, ℕ, zero, suc, ◌+◌, ◌-◌, ◌<◌, ◌≤◌, ◌⊎◌, ◌↔◌, inl, inr, List, [], ◌∷◌, ◌++◌, Option, Some, None, map, drop, length, length-set, get_or, set, refl, sym, ap, subst, ◌∙◌, arith, ⊎_elim}
+use Rattle.std.proofs.Common.{◌≡◌, ℕ, zero, suc, ◌+◌, ◌-◌, ◌<◌, ◌≤◌, ◌⊎◌, ◌↔◌, inl, inr, List, [], ◌∷◌, ◌++◌, Option, Some, None, map, drop, length, get_or, set, refl, sym, ap, subst, ◌∙◌, arith, ⊎_elim}
 use Rattle.std.proofs.lemmas.Bool.{cases_eq, cases_lt}
 use Rattle.std.proofs.lemmas.Option.{none-some}
 use Rattle.std.proofs.Math.Seq.{drop-append-add}
@@ -10,8 +10,8 @@ use Rattle.mc_hop.specs.Contents.{content}
 use Rattle.mc_hop.specs.Links.{IsSwapped}
 use Rattle.mc_hop.specs.Tables.{AreApart, HasEntry}
 use Rattle.mc_grow.specs.declared.index.Place.{Place}
-use Rattle.mc_grow.specs.Indexes.{IndexState, IsRemoved, IsUpdated, KeepsLower, cells, count, entry_at, left}
-use Rattle.mc_grow.proofs.PartLemmas.{same_Some, inside, stray_inside, stray_is, stray_there}
+use Rattle.mc_grow.specs.Indexes.{IndexState, IsRemoved, IsUpdated, cells, entry_at, left}
+use Rattle.mc_grow.proofs.PartLemmas.{inside, stray_inside, stray_is, stray_there}
 use Rattle.mc_grow.proofs.CellLemmas.{all, in_first, in_second, in_one, set_first, set_second, filled-append, filled-strays, filled-taken, filled-changed, drop-taken, was, apart_taken, cell_drained, cell_table, cell_stray}
 
 -- ---- one place of all

@@ -1,5 +1,5 @@
 -- What the content of buckets is when an entry comes to a part of them, or goes from one part to another.
-use Rattle.std.proofs.Common.{◌≡◌, ℕ, zero, suc, ◌+◌, ◌↔◌, ◌⊎◌, inl, inr, Bool, true, false, cond, List, [], ◌∷◌, ◌++◌, map, Option, Some, None, get_or, set, is_some, true≢false, ◌≤◌, refl, sym, ap, subst, ◌∙◌, arith, length-append}
+use Rattle.std.proofs.Common.{◌≡◌, ℕ, zero, suc, ◌+◌, ◌⊎◌, inl, inr, Bool, true, false, cond, List, [], ◌∷◌, ◌++◌, map, Option, Some, None, get_or, set, is_some, true≢false, ◌≤◌, refl, sym, ap, subst, ◌∙◌, arith, length-append}
 use Rattle.std.proofs.lemmas.Option.{none-some}
 use Rattle.std.proofs.lemmas.List.{map-append, append_assoc, append-nil}
 use Rattle.std.proofs.lemmas.Cmp.{eq_by_cmp_equiv}
@@ -10,10 +10,10 @@ use Rattle.std.specs.Option.{option_or}
 use Rattle.std.specs.Cmp.Lexicographic.{slice_cmp, nat_list_cmp_total}
 use Rattle.std.specs.FinMap.{FinMap, get, insert, get-empty, get-insert, nat_cmp-IsAntisymmetric, slice_cmp-IsAntisymmetric}
 use Rattle.mc_hop.specs.Cells.{filled}
-use Rattle.mc_hop.specs.Tables.{AreApart, HasEntry, IsAbsent}
+use Rattle.mc_hop.specs.Tables.{AreApart}
 use Rattle.mc_hop.specs.Contents.{AreDisjoint, content}
 use Rattle.mc_grow.specs.Moving.{ContentLaws, HoldsAll, IsIn, IsTaken}
-use Rattle.mc_grow.specs.Adding.{AreAdded, AreTaken, IsAdded, Side, cells_of}
+use Rattle.mc_grow.specs.Adding.{AreTaken, IsAdded, Side, cells_of}
 use Rattle.mc_grow.specs.Adding.AreAdded.{none_added, one_added}
 
 abbrev pub Map : Type 0 → Type 0

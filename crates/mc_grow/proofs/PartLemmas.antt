@@ -1,8 +1,8 @@
 -- The parts of an index: strays that are changed or taken out, and walks over buckets.
-use Rattle.std.proofs.Common.{◌≡◌, ◌≢◌, ℕ, zero, suc, ◌+◌, ◌-◌, ◌<◌, ◌≤◌, Bool, true, false, List, [], ◌∷◌, ◌++◌, Option, Some, None, map, length, length-set, get_or, set, refl, sym, ap, subst, ◌∙◌, arith, ⊎_elim}
+use Rattle.std.proofs.Common.{◌≡◌, ◌≢◌, ℕ, zero, suc, ◌+◌, ◌-◌, ◌<◌, ◌≤◌, Bool, true, false, List, [], ◌∷◌, ◌++◌, Option, Some, None, map, length, length-set, get_or, set, sym, ap, subst, ◌∙◌, arith, ⊎_elim}
 use Rattle.std.proofs.lemmas.Bool.{cases_eq, cases_lt, true≢false}
 use Rattle.std.proofs.lemmas.Option.{none-some}
-use Rattle.std.proofs.lemmas.List.{ext_get_or, get_or_past, get_or-map, get_or_append_left, get_or-append-add, get_or-set_same, get_or-set_other, map-set, length-map, length-append}
+use Rattle.std.proofs.lemmas.List.{ext_get_or, get_or_past, get_or-map, get_or_append_left, get_or-append-add, get_or-set_same, get_or-set_other, length-map, length-append}
 use Rattle.std.specs.List.{SwappedAt}
 use Rattle.mc_hop.specs.Links.{IsSwapped}
 use Rattle.mc_hop.specs.Tables.{IsAt}

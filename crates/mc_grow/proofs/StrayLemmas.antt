@@ -1,18 +1,16 @@
 -- The strays in another order, and one of them taken out.
-use Rattle.std.proofs.Common.{◌≡◌, ◌≢◌, ℕ, zero, suc, ◌+◌, ◌-◌, ◌<◌, ◌≤◌, ◌↔◌, inl, inr, Bool, true, false, cond, List, [], ◌∷◌, ◌++◌, map, length, length-set, take, drop, set, Option, Some, None, get_or, refl, sym, ap, subst, ◌∙◌, arith, ⊎_elim}
+use Rattle.std.proofs.Common.{◌≡◌, ◌≢◌, ℕ, zero, suc, ◌+◌, ◌-◌, ◌<◌, ◌≤◌, inl, inr, Bool, true, false, cond, List, [], ◌∷◌, ◌++◌, map, length, length-set, take, drop, set, Option, Some, None, get_or, refl, sym, ap, subst, ◌∙◌, arith, ⊎_elim}
 use Rattle.std.proofs.lemmas.Option.{none-some}
 use Rattle.std.proofs.lemmas.List.Sums.{sum_by-cons}
 use Rattle.std.proofs.lemmas.List.Sorted.{sum_by-IsPermutation, Contains-permutation, IsPermutation-append_right, IsPermutation-refl, IsPermutation-swap_remove, IsPermutation-sym, IsPermutation-trans}
-use Rattle.std.proofs.lemmas.List.{append_assoc, append-nil, length-drop, length-take, length-take-le, take-take, take_all, get_or-drop, drop-set, drop-take, take-set, ext_get_or, get_or-map, get_or_push, get_or_append_left}
+use Rattle.std.proofs.lemmas.List.{append_assoc, append-nil, length-drop, length-take, take-take, take_all, get_or-drop, drop-set, drop-take, take-set, ext_get_or, get_or-map, get_or_push, get_or_append_left}
 use Rattle.std.proofs.lemmas.Bool.{cases_eq}
 use Rattle.std.proofs.Math.Seq.{drop-cons, take-suc}
 use Rattle.std.proofs.Math.ListN.{drop_of_length-le}
 use Rattle.mc_hop.specs.Links.{IsSwapped}
-use Rattle.std.specs.List.{sum_by, SwappedAt, swap_remove, Contains}
+use Rattle.std.specs.List.{sum_by, SwappedAt, swap_remove}
 use Rattle.std.specs.List.Sorted.{IsPermutation}
-use Rattle.std.specs.Ordering.{nat_cmp, eq_by_cmp}
-use Rattle.std.specs.Cmp.Lexicographic.{slice_cmp}
-use Rattle.std.specs.FinMap.{FinMap, get, insert}
+use Rattle.std.specs.FinMap.{get, insert}
 use Rattle.mc_hop.specs.Tables.{AreApart, HasEntry, home_in}
 use Rattle.mc_hop.specs.Contents.{AreDisjoint, content}
 use Rattle.mc_grow.specs.Moving.{ContentLaws, HoldsAll, IsTried}

@@ -1,8 +1,6 @@
 -- How entries come to a table: into a bucket near their homes, or else among the strays.
-use Rattle.std.specs.Prelude.{◌≡◌, ℕ, ◌+◌, ◌<◌, ◌⊎◌, true, nat_lt, List, [], ◌∷◌, ◌++◌, Option, Some, None, map, length, IsPermutation}
-use Rattle.std.specs.Ordering.{nat_cmp}
-use Rattle.std.specs.Cmp.Lexicographic.{slice_cmp}
-use Rattle.std.specs.FinMap.{FinMap, insert}
+use Rattle.std.specs.Prelude.{◌≡◌, ℕ, ◌+◌, ◌<◌, ◌⊎◌, true, nat_lt, List, [], ◌∷◌, ◌++◌, Option, Some, map, length, IsPermutation}
+use Rattle.std.specs.FinMap.{insert}
 use Rattle.mc_hop.specs.Contents.{content}
 use Rattle.mc_hop.specs.Tables.{HopState, NoneFree, home_in}
 use Rattle.mc_displace.specs.Moves.{IsStuck}

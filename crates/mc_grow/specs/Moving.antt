@@ -1,5 +1,5 @@
 -- What moving entries from one place to another keeps, and what a try of one stray brings.
-use Rattle.std.specs.Prelude.{◌≡◌, ℕ, ◌+◌, ◌<◌, Bool, true, false, List, ◌∷◌, [], ◌++◌, ◌↔◌, Option, None, length, slice_index_or}
+use Rattle.std.specs.Prelude.{◌≡◌, ℕ, ◌<◌, Bool, true, false, List, ◌∷◌, [], ◌++◌, ◌↔◌, Option, None, length, slice_index_or}
 use Rattle.std.specs.List.{swap_remove}
 use Rattle.std.specs.FinMap.{get, insert}
 use Rattle.std.specs.Option.{option_or}

@@ -1,4 +1,3 @@
-use Rattle.std.proofs.Common.{map, Some, ◌++◌}
 use Rattle.mc_grow.specs.Adding.{beside, cells_of}
 use Rattle.mc_grow.proofs.MoveLemmas.{IsOut, filled_less, moved, new_to_other}
 use Rattle.mc_grow.proofs.moving.move_one.Goals as goal

@@ -1,4 +1,4 @@
-use Rattle.std.proofs.Common.{ℕ, List, ◌∷◌, ◌++◌, [], map, Some, inr, subst, ap, ◌∙◌}
+use Rattle.std.proofs.Common.{ℕ, ◌∷◌, ◌++◌, [], map, Some, inr, subst, ap, ◌∙◌}
 use Rattle.mc_hop.specs.Tables.{home_in}
 use Rattle.mc_grow.specs.Adding.{IsFull}
 use Rattle.mc_grow.proofs.MoveLemmas.{in_first, new_to_first, strayed}

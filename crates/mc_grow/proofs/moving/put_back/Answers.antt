@@ -1,4 +1,4 @@
-use Rattle.std.proofs.Common.{arith, length, length-append, ap, List, ◌++◌, ◌∷◌, []}
+use Rattle.std.proofs.Common.{arith}
 use Rattle.mc_grow.proofs.StrayLemmas.{put_back_again}
 use Rattle.mc_grow.proofs.moving.put_back.Goals as goal
 

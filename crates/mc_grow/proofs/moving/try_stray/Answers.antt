@@ -1,4 +1,4 @@
-use Rattle.std.proofs.Common.{◌≡◌, ◌<◌, ◌++◌, length, map, Some, ◌∷◌, ℕ, List, subst, ap, ◌∙◌, sym, arith}
+use Rattle.std.proofs.Common.{◌≡◌, ◌<◌, ◌++◌, length, map, Some, ℕ, List, subst, sym, arith}
 use Rattle.mc_hop.specs.Links.{IsSwapped}
 use Rattle.mc_hop.specs.Tables.{home_in}
 use Rattle.mc_grow.specs.Adding.{IsFull}

@@ -1,4 +1,4 @@
-use Rattle.std.proofs.Common.{Option, Some, sym, subst}
+use Rattle.std.proofs.Common.{Option, sym, subst}
 use Rattle.mc_hop.specs.Tables.{HopState, IsAbsent}
 use Rattle.mc_grow.specs.Parts.{drained_items}
 use Rattle.mc_grow.proofs.parts.find_drained.Goals as goal

@@ -1,4 +1,4 @@
-use Rattle.std.proofs.Common.{◌≡◌, ◌+◌, ◌-◌, Option, Some, None, List, length, map, get_or, set, sym, ap, subst, refl, ◌∙◌, arith}
+use Rattle.std.proofs.Common.{◌≡◌, ◌-◌, Some, map, ap, subst, ◌∙◌, arith}
 use Rattle.std.proofs.lemmas.List.{map-set}
 use Rattle.mc_grow.proofs.PartLemmas.{put_back, stray_is, swapped}
 use Rattle.mc_grow.proofs.parts.update_stray.Goals as goal

@@ -1,9 +1,8 @@
-use Rattle.std.proofs.Common.{◌≡◌, ◌+◌, ◌≤◌, ◌++◌, ℕ, List, map, Some, is_some, false, ap, sym, subst, ◌∙◌, length, arith}
+use Rattle.std.proofs.Common.{◌≡◌, ◌++◌, List, map, Some, is_some, false, ap, sym, subst, ◌∙◌, length, arith}
 use Rattle.mc_hop.specs.Cells.{filled}
-use Rattle.mc_hop.specs.Contents.{content}
 use Rattle.mc_hop.specs.Tables.{AreApart, HopState}
 use Rattle.mc_grow.specs.Indexes.{IndexState, holds}
-use Rattle.mc_grow.specs.Parts.{drained_items, room_in}
+use Rattle.mc_grow.specs.Parts.{drained_items}
 use Rattle.mc_grow.proofs.IndexLemmas.{begun, due_rests, filled_most}
 use Rattle.mc_grow.proofs.index.Index.begin_growth.Goals as goal
 

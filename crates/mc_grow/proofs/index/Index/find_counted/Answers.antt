@@ -1,7 +1,7 @@
-use Rattle.std.proofs.Common.{◌≡◌, ℕ, ◌+◌, ◌∷◌, List, Option, None, is_some, ap, sym, subst, ◌∙◌, arith}
+use Rattle.std.proofs.Common.{◌≡◌, ℕ, ◌+◌, ◌∷◌, None, is_some, ap, subst, arith}
 use Rattle.std.specs.FinMap.{get}
 use Rattle.mc_hop.specs.Tables.{IsAt}
-use Rattle.mc_grow.specs.Indexes.{IndexState, IsPlaceOf, cells, holds}
+use Rattle.mc_grow.specs.Indexes.{IndexState, IsPlaceOf, holds}
 use Rattle.mc_grow.specs.Parts.{drained_items}
 use Rattle.mc_grow.proofs.CellLemmas.{all, placed, at_drained, at_table, at_stray, absent_all}
 use Rattle.mc_grow.proofs.index.Index.find_counted.Goals as goal

@@ -1,5 +1,4 @@
-use Rattle.std.proofs.Common.{◌≡◌, ◌+◌, sym, ap, subst, ◌∙◌, arith}
-use Rattle.mc_hop.specs.Cells.{filled}
+use Rattle.std.proofs.Common.{◌≡◌, ◌+◌, subst, arith}
 use Rattle.mc_grow.specs.Indexes.{IndexState, count}
 use Rattle.mc_grow.proofs.CellLemmas.{count_parts}
 use Rattle.mc_grow.specs.Parts.{drained_items}

@@ -1,6 +1,6 @@
 use Rattle.std.proofs.Common.{ℕ, ◌+◌, is_some, ap, sym, subst, arith}
 use Rattle.mc_grow.specs.Indexes.{IndexState, cells}
-use Rattle.mc_grow.specs.Parts.{IsFirstFilled, NoneFilledFrom, drained_items}
+use Rattle.mc_grow.specs.Parts.{IsFirstFilled, drained_items}
 use Rattle.mc_grow.proofs.CellLemmas.{all, first_table, first_stray}
 use Rattle.mc_grow.proofs.index.Index.next_filled.Goals as goal
 

@@ -1,8 +1,7 @@
-use Rattle.std.proofs.Common.{◌≡◌, ℕ, ◌+◌, ◌-◌, ◌<◌, ◌≤◌, List, Option, Some, None, is_some, length, map, get_or, set, refl, sym, ap, subst, ◌∙◌, arith}
+use Rattle.std.proofs.Common.{ℕ, ◌+◌, ◌-◌, Some, None, is_some, length, get_or, refl, sym, ap, subst, ◌∙◌, arith}
 use Rattle.std.specs.Prelude.{vec_len, vec_capacity}
 use Rattle.mc_hop.specs.Cells.{filled}
 use Rattle.mc_hop.specs.Tables.{AreApart, HopState}
-use Rattle.mc_grow.specs.Indexes.{IndexState, entry_at}
 use Rattle.mc_grow.specs.Parts.{drained_items, room_in}
 use Rattle.mc_grow.proofs.PartLemmas.{inside, stray_inside}
 use Rattle.mc_grow.proofs.CellLemmas.{all, cell_drained, cell_table, cell_stray, in_first, filled-changed, apart_changed}
