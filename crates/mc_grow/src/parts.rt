@@ -115,9 +115,11 @@ pub(crate) fn update_drained<T: Keyed + Drop, R, F: FnOnce(T) -> (T, R)>(
     change: F,
 ) -> R
     requires filled { is_some (slice_index_or (drained_items draining.old) at None) ≡ true }
-    requires keeps { (entry : T) → slice_index_or (drained_items draining.old) at None ≡ Some entry →
+    requires keeps { (entry : T) →
+        slice_index_or (drained_items draining.old) at None ≡ Some entry →
         KeepsKey T.hash_of T.key_of (F.pre change) (F.post change) entry }
-    ensures changed { (entry : T) → slice_index_or (drained_items draining.old) at None ≡ Some entry →
+    ensures changed { (entry : T) →
+        slice_index_or (drained_items draining.old) at None ≡ Some entry →
         IsChanged (F.post change) entry at
         (drained_items draining.old) (drained_items draining.new) result }
     ensures stays { is_some draining.new ≡ is_some draining.old }
