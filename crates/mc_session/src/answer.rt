@@ -123,7 +123,7 @@ fn is_quit(command: &Command<'_>) -> bool
 {
     match command {
         Command::Quit => true,
-        Command::Query(_)
+        Command::Version
         | Command::Store { .. }
         | Command::Cas { .. }
         | Command::Get { .. }
