@@ -8,6 +8,8 @@ several runs of a fresh process. It is no test: nothing here fails for being slo
     bench/bench.py --worlds [--turns N] [--runs N]
 """
 import argparse
+import array
+import gc
 import os
 import shutil
 import socket
@@ -51,15 +53,17 @@ def stored(verb, name, block=VALUE, more=b""):
 
 
 def one_shelf(count, shelf=12, shelves=64):
-    """Keys of 32 bytes that are all of one shelf, by FNV-1a: only its lowest 6 bits are computed."""
+    """Keys of 32 bytes that are all of one shelf, by FNV-1a: the last byte makes the lowest 6 bits of the hash right."""
     found, number = [], 0
+    before_last = shelf * pow(0x33, -1, shelves) % shelves
     while len(found) < count:
-        name = key(number)
+        name = b"key-%027d" % number
         low = 0x25  # the lowest bits of the hash of no byte, and 0x33 those of the prime, modulo 64
         for byte in name:
             low = (low ^ byte) * 0x33 % shelves
-        if low == shelf:
-            found.append(name)
+        last = low ^ before_last | 0x40
+        if last != 0x7F:
+            found.append(name + bytes([last]))
         number += 1
     return found
 
@@ -189,6 +193,21 @@ class Server:
         before = self.processor()
         self.answer(data + b"version\r\n", VERSION)
         return self.processor() - before
+
+    def each_takes(self, sets_of):
+        """Sends sets one at a time, each when the one before was answered. Gives the nanoseconds that each took."""
+        took = array.array("Q")
+        clock = time.perf_counter_ns
+        gc.disable()
+        for it in sets_of:
+            before = clock()
+            self.send(it)
+            got = self.receive()
+            took.append(clock() - before)
+            if got != b"STORED\r\n":
+                sys.exit(f"a set was answered {got!r}")
+        gc.enable()
+        return took
 
     def processor(self):
         """The processor's seconds that its process has had."""
@@ -336,6 +355,29 @@ class Bench:
             print(f"{name:<41}{count:>9,}{server.cost(sets_of) / count * 1e9:>10.0f}", flush=True)
             server.stop()
 
+    def growing(self, count=4 * MEGA):
+        """How long each of many sets of new keys takes, one at a time, from what is sent to what comes back, while tables grow."""
+        print(f"\n{'one set at a time, microseconds':<33}{'sets':>11}{'median':>9}{'99.9 %':>9}{'99.99 %':>9}{'longest':>9}")
+        for name, server in [("memcached, over loopback", memcached()), ("mcserver, over pipes", Server([self.program, *ARGS]))]:
+            if server is None:
+                print(f"{name:<33}{'':>11}{'not installed':>15}")
+                continue
+            took = server.each_takes(stored(b"set", key(it * 7919 % count)) for it in range(count))
+            server.stop()
+            shown = sorted(took)
+            at = [shown[int(len(shown) * it)] / 1000 for it in (0.5, 0.999, 0.9999)]
+            print(f"{name:<33}{count:>11,}" + "".join(f"{it:>9.1f}" for it in (*at, shown[-1] / 1000)), flush=True)
+        print(f"\n{'the longest set as a shelf grows':<33}{'homes then':>11}{'items then':>11}{'microseconds':>14}")
+        server = Server([self.program, *ARGS])
+        took = server.each_takes(stored(b"set", it) for it in one_shelf(3 * 2**17 + 2**14))
+        server.stop()
+        # a table of so many homes is made when the one of half as many is filled to three quarters
+        for power in range(10, 21, 2):
+            first = 3 * 2 ** (power - 3)
+            window = took[first : first * 9 // 8]
+            longest = max(window)
+            print(f"{'':<33}{2**power:>11,}{first + window.index(longest):>11,}{longest / 1000:>14.1f}", flush=True)
+
     def refilled(self, times=100):
         """A store of 64 pages is filled to the refusal and emptied by deletes, again and again."""
         print(f"\n64 pages filled to the refusal and emptied {times} times\n")
@@ -430,6 +472,7 @@ def main():
         bench.resident()
         bench.standing()
         bench.hostile()
+        bench.growing()
         bench.refilled()
         worlds(given.turns, given.runs)
     return 0
