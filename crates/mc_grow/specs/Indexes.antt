@@ -148,8 +148,8 @@ is_due index =
     not index.growing && (nat_lt index.k 24 && (nat_lt (3 * 2 ^ index.k) (4 * (count index + 1))
     || (nat_lt 0 (length index.strays) && not (nat_lt (4 * (count index + 1)) (2 ^ index.k)))))
 
--- A growth lags: it runs, and with one entry more, more than three quarters of the table's homes would have one, were all of
--- them there.
+-- A growth lags: it runs, and by the load the next one would be due before one entry more comes: with that entry there are more
+-- than three for every four homes of the new table.
 abbrev pub lags : {X : Type 0} → IndexState X → Bool
 lags index = index.growing && nat_lt (3 * 2 ^ index.k) (4 * (count index + 1))
 

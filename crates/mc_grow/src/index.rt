@@ -213,8 +213,8 @@ impl<T: Keyed + Drop> Index<T> {
     }
 
     /// Answers whether a growth lags: it runs, and with one entry more there would be more than three for every four homes of
-    /// the new table. Were none running, that load would begin one. Who puts in entries calls `move_some` then: a table that
-    /// is full before the old one is empty makes strays, which every search reads.
+    /// the new table. Were none running, that load would begin one. Whoever puts in entries calls `move_some` then: where the
+    /// new table is full before the old one is empty, further entries are strays, which searches walk.
     pub fn lags(&self) -> bool
         ensures { result ≡ lags self.now }
     {

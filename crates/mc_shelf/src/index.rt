@@ -113,8 +113,8 @@ impl Index {
         self.entries.reserve(alloc)
     }
 
-    /// Moves entries of the old table where a growth lags: without it all keys of one shelf would fill the new table before the
-    /// old one is empty. It takes no memory.
+    /// Moves entries of the old table where a growth lags, so that it ends before the new table is full, also where no other
+    /// moves come. It takes no memory.
     fn catch_up(&mut self)
         ensures { entries_of self.new ≡ entries_of self.old }
     {
