@@ -6,7 +6,7 @@ ghost use Rattle.std.specs.FinMap.{get, insert};
 ghost use Rattle.mc_hop.specs.Tables.{KeepsKey};
 ghost use Rattle.mc_grow.specs.Indexes.{IsNew, StandsAs, HasBegun, IsFilled, IsFound, IsNext, IsPlaceOf, IsUpdated};
 ghost use Rattle.mc_grow.specs.Parts.{IsFirstFilled, IsSpot, NoneFilledFrom};
-ghost use Rattle.mc_grow.specs.Indexes.{IsRemoved, cells, count, entry_at, holds, is_due, left, most_reads};
+ghost use Rattle.mc_grow.specs.Indexes.{IsRemoved, cells, count, entry_at, holds, is_due, lags, left, most_reads};
 ghost use Rattle.mc_grow.specs.Adding.{AreMoved, IsInserted};
 
 use crate::moving::{content_laws, move_entries, place, try_strays};
@@ -210,6 +210,17 @@ impl<T: Keyed + Drop> Index<T> {
         ensures { result ≡ self.now.growing }
     {
         self.draining.is_some()
+    }
+
+    /// Answers whether a growth lags: it runs, and with one entry more there would be more than three for every four homes of
+    /// the new table. Were none running, that load would begin one. Whoever puts in entries calls `move_some` then: where the
+    /// new table is full before the old one is empty, further entries are strays, which searches walk.
+    pub fn lags(&self) -> bool
+        ensures { result ≡ lags self.now }
+    {
+        let homes = 1usize << self.table.exponent();
+        let entries = self.len().saturating_add(1).saturating_mul(4);
+        self.is_growing() && entries > 3 * homes
     }
 
     /// Finds the first entry whose number is at or above `at`, for a sweep over all entries: each place has one number, and a

@@ -5,6 +5,8 @@ mod adding;
 #[cfg(test)]
 mod growth_tests;
 mod index;
+#[cfg(test)]
+mod lag_tests;
 mod moving;
 mod parts;
 #[cfg(test)]

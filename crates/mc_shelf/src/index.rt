@@ -31,6 +31,9 @@ use std::marker::Model;
 /// A new index has a table of 2^6 homes.
 const LEAST_EXPONENT: u32 = 6;
 
+/// How many entries of an old table are moved before an entry comes to an index whose growth lags.
+const CATCH_UP: usize = 8;
+
 /// Entries by their keys, each with its key's hash: a growing index of entries by hash and key, in which no key stands with two
 /// hashes.
 ///
@@ -100,12 +103,24 @@ impl Index {
         self.entries.get(place)
     }
 
-    /// Makes room for one entry more, and begins a growth where one is due. The entries are as before, refused or not.
+    /// Makes room for one entry more, and begins a growth where one is due. A growth that lags moves 8 entries first. The
+    /// entries are as before, refused or not.
     pub(crate) fn reserve(&mut self, alloc: Global) -> Result<(), AllocError>
         ensures entries { entries_of self.new ≡ entries_of self.old }
         ensures room { OnOk result (1 ≤ self.new.spare) }
     {
+        self.catch_up();
         self.entries.reserve(alloc)
+    }
+
+    /// Moves entries of the old table where a growth lags, so that it ends before the new table is full, also where no other
+    /// moves come. It takes no memory.
+    fn catch_up(&mut self)
+        ensures { entries_of self.new ≡ entries_of self.old }
+    {
+        if self.entries.lags() {
+            let _ = self.entries.move_some(CATCH_UP);
+        }
     }
 
     /// Puts in an entry of a new key, for which there is room, and answers its place. It takes no memory.

@@ -135,7 +135,8 @@ impl Shelf {
     }
 
     /// Finds out what a step at a moment does. Copies the block of a hit, and makes room for the entry of a new key that is
-    /// to be written; nothing else takes memory. The shelf holds what it held, though a growth of its table may begin.
+    /// to be written; nothing else takes memory. The shelf holds what it held, though a growth of its table may begin,
+    /// and one that lags moves 8 entries.
     pub fn look<'a>(
         &mut self,
         alloc: Global,

@@ -2,6 +2,8 @@
 //! machine's state.
 
 #[cfg(test)]
+mod lag_tests;
+#[cfg(test)]
 mod tests;
 
 ghost use Rattle.std.specs.Prelude.{◌≡◌, ◌↔◌, ◌-◌, ◌≤◌, min, length, replicate, slice_index, slice_set, IfOk, OnErr, Err};
