@@ -9,6 +9,7 @@ mod index;
 mod parts;
 mod plan;
 mod shelf;
+mod soonest;
 mod store;
 #[cfg(test)]
 mod tests;

@@ -1,6 +1,6 @@
 //! The parts of a store: its shelves, and the desk that they share.
 
-ghost use Rattle.std.specs.Prelude.{◌≡◌, ◌==◌, ◌≤◌, ℕ, List, map, replicate, IfOk};
+ghost use Rattle.std.specs.Prelude.{◌≡◌, ◌==◌, ◌≤◌, ℕ, List, map, replicate, IfOk, false};
 ghost use Rattle.mc_command.specs.declared.step.KeyStep.{KeyStep};
 ghost use Rattle.mc_command.specs.declared.reply.Reply.{Reply};
 ghost use Rattle.mc_command.specs.Commands.{key_of};
@@ -10,6 +10,7 @@ ghost use Rattle.mc_command.specs.Laws.{IsOnKey};
 ghost use Rattle.mc_shelf.specs.States.{ShelfContent, DeskState, nothing_held};
 ghost use Rattle.mc_shelf.specs.Plans.{IsTaken, IsSettled};
 ghost use Rattle.mc_shelf.specs.Sweeps.{AreOut, GivesFor};
+ghost use Rattle.mc_shelf.specs.Deaths.{NoneIsDead};
 ghost use Rattle.mc_shelf.specs.Unions.{IsFlushed, lefts};
 ghost use Rattle.mc_shelf.specs.Parts.{
   shelf_of,
@@ -49,6 +50,19 @@ pub fn steps_change_one_shelf()
 }
 
 impl Shelf {
+    /// Answers whether an item may be dead at a moment. If not, none is, and where the shelf is a
+    /// part of a state, purging its part changes nothing, so that the desk isn't needed. It walks no
+    /// item.
+    pub fn may_have_dead(&self, now: Moment) -> bool
+        ensures none { result ≡ false →
+            NoneIsDead now self.now.content.cut self.now.content.items }
+        ensures part { result ≡ false → (hash_of : List ℕ → ℕ) (shelves at : ℕ) (state : Plain) →
+            IsShelfOf hash_of shelves state at self.now.content →
+            purged (λ key. shelf_of hash_of shelves key == at) now state ≡ state }
+    {
+        self.index.may_have_dead(self.cut, now)
+    }
+
     /// Drops the items that are dead at a moment, of a shelf that is with this desk a part of a
     /// state, and gives their chunks back: the state goes to the one purged of that shelf's dead.
     /// It takes no memory. The cost is that of one pass over the items.
