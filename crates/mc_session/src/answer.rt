@@ -5,7 +5,7 @@ ghost use Rattle.mc_parse.specs.Units.{Request, Fault, LongLine};
 ghost use Rattle.mc_parse.specs.Peeks.{unit_of};
 ghost use Rattle.mc_session.specs.Answers.{next_of, Tells, TakesFirst, DecidesFound};
 ghost use Rattle.mc_parse.specs.Streams.{is_quit};
-ghost use Rattle.mc_session.specs.Turns.{Answers, HoldsSame, turn_count};
+ghost use Rattle.mc_session.specs.Turns.{Answers, turn_count};
 ghost use Rattle.mc_reply.specs.Texts.{fault_text, long_text};
 
 use crate::after_turn::AfterTurn;
@@ -35,7 +35,7 @@ pub fn answer<S: Steps>(
         out.new.items)) }
     ensures err { OnErr result (out.new.items ≡ out.old.items) }
     ensures undecided { IfErr result (λ fault. IsFalse fault.decided →
-        HoldsSame S.Steps store.old store.new) }
+        S.same store.old store.new) }
     ensures due { OnErr result (unit_of found.entry ≡ None → ⊥) }
     ensures decided { IfErr result (λ fault. IsTrue fault.decided →
         DecidesFound S.Steps now (unit_of found.entry) store.old store.new) }
@@ -90,7 +90,7 @@ fn answer_command<S: Steps>(
         store.old store.new out.old.items out.new.items) }
     ensures err { OnErr result (out.new.items ≡ out.old.items) }
     ensures undecided { IfErr result (λ fault. IsFalse fault.decided →
-        HoldsSame S.Steps store.old store.new) }
+        S.same store.old store.new) }
     ensures decided { IfErr result (λ fault. IsTrue fault.decided →
         TakesFirst S.Steps now command.now store.old store.new) }
 {
@@ -149,7 +149,7 @@ fn answer_step<S: Steps>(
         × Answers S.Steps (Request command.now) 0 now store.old store.new text) }
     ensures err { OnErr result (out.new.items ≡ out.old.items) }
     ensures undecided { IfErr result (λ fault. IsFalse fault.decided →
-        HoldsSame S.Steps store.old store.new) }
+        S.same store.old store.new) }
     ensures decided { IfErr result (λ fault. IsTrue fault.decided →
         TakesFirst S.Steps now command.now store.old store.new) }
 {

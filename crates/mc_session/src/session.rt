@@ -75,7 +75,7 @@ impl Model for Session {
 impl Session {
     ghost use Rattle.std.specs.Prelude.{◌≡◌, ◌≤◌, ◌*◌, ◌↔◌, length, IsTrue, IsFalse, OnOk, OnErr, IfErr, Ok};
     ghost use Rattle.mc_session.specs.Turns.{TakesTurn, FindsNoTurn, FindsClosed, TurnIsDue, NoTurnDue};
-    ghost use Rattle.mc_session.specs.Turns.{DecidesStep, HoldsSame, opened, closed, fed, sent};
+    ghost use Rattle.mc_session.specs.Turns.{DecidesStep, opened, closed, fed, sent};
     ghost use Rattle.mc_session.specs.Answers.{gone_on, MayGoOn};
 
     /// Makes a session that was fed nothing, whose storage commands may charge at most `greatest`
@@ -126,7 +126,7 @@ impl Session {
         // What was not decided left the store with what it held; what was decided is the step of
         // the turn, whose text alone is missing.
         ensures undecided { IfErr result (λ fault. IsFalse fault.decided →
-            HoldsSame S.Steps store.old store.new) }
+            S.same store.old store.new) }
         ensures decided { IfErr result (λ fault. IsTrue fault.decided →
             DecidesStep S.Steps now self.old store.old store.new) }
     {
