@@ -12,6 +12,22 @@ pub struct Queue {
     taken: usize,
 }
 
+/// A text that knows how to append its bytes.
+pub trait Append {
+    ghost use Rattle.std.specs.Prelude.{◌≡◌, ◌++◌, ℕ, List, OnOk, OnErr};
+
+    /// It may be appended.
+    ghost can_append: { Self → Type 0 };
+    /// The bytes that it appends.
+    ghost bytes: { Self → List ℕ };
+
+    /// Appends its bytes to a buffer. Refused, the buffer is as it was.
+    fn append_to(&self, buffer: &mut Vec<u8>) -> Result<(), AllocError>
+        requires { can_append self.now }
+        ensures ok { OnOk result (buffer.new.items ≡ buffer.old.items ++ bytes self.now) }
+        ensures err { OnErr result (buffer.new.items ≡ buffer.old.items) };
+}
+
 impl Model for Queue {
     ghost use Rattle.std.specs.Prelude.{ℕ, List, drop, vec_capacity};
     ghost use Rattle.mc_parse.specs.Queues.{IsHalfFull};
@@ -25,7 +41,6 @@ impl Model for Queue {
 
 impl Queue {
     ghost use Rattle.std.specs.Prelude.{◌≡◌, ◌↔◌, ◌*◌, ◌≤◌, [], ◌++◌, drop, length, IsTrue, OnOk, OnErr};
-    ghost use Rattle.mc_parse.specs.Queues.{OnlyAppends, HasWritten};
 
     /// Makes a queue of no bytes. It takes no memory.
     pub fn new(alloc: Global) -> Queue
@@ -87,14 +102,13 @@ impl Queue {
         result
     }
 
-    /// Appends what a function appends to a buffer, and returns what it returns. It finds the bytes that weren't taken yet
-    /// at the buffer's end, and may do nothing with the buffer but append to it.
-    pub fn append_with<R, W: FnOnce(&mut Vec<u8>) -> R>(&mut self, write: W) -> R
-        requires callable { W.IsAlwaysCallable write }
-        requires appends { OnlyAppends W.FnOnce write }
-        ensures { HasWritten W.FnOnce write self.old self.new result }
+    /// Appends a text. Refused, the queue is as it was.
+    pub fn append<T: Append>(&mut self, text: &T) -> Result<(), AllocError>
+        requires { T.can_append text.now }
+        ensures ok { OnOk result (self.new ≡ self.old ++ T.bytes text.now) }
+        ensures err { OnErr result (self.new ≡ self.old) }
     {
-        let result = write(&mut self.buffer);
+        let result = text.append_to(&mut self.buffer);
         give_back(&mut self.buffer, self.alloc);
         result
     }

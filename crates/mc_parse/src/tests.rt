@@ -1,4 +1,4 @@
-ghost use Rattle.std.specs.Prelude.{◌≡◌, ◌++◌, OnOk, OnErr};
+ghost use Rattle.std.specs.Prelude.{◌≡◌, ◌∷◌, []};
 ghost use Rattle.std.specs.Option.{option_map};
 ghost use Rattle.mc_parse.specs.Peeks.{unit_of};
 
@@ -65,17 +65,18 @@ fn push_at_last(feed: &mut Feed, piece: &[u8]) -> Result<bool, AllocError> {
     Ok(is_same)
 }
 
-/// Appends a text through a function that writes to a buffer.
-fn append_text(queue: &mut Queue, text: &[u8]) -> Result<(), AllocError>
-    ensures ok { OnOk result (queue.new ≡ queue.old ++ text.now) }
-    ensures err { OnErr result (queue.new ≡ queue.old) }
-{
-    queue.append_with(
-        |out: &mut Vec<u8>| -> Result<(), AllocError>
-            ensures ok { OnOk result (out.new.items ≡ out.old.items ++ text.entry.now) }
-            ensures err { OnErr result (out.new.items ≡ out.old.items) }
-        { out.extend_from_slice(text) },
-    )
+/// A text of two bytes.
+#[derive(Drop)]
+struct Pair(u8, u8);
+
+impl Append for Pair {
+    ghost can_append = { λ _. Unit {0} };
+
+    ghost bytes = { λ pair. pair.0 ∷ pair.1 ∷ [] };
+
+    fn append_to(&self, buffer: &mut Vec<u8>) -> Result<(), AllocError> {
+        buffer.extend_from_slice(&[self.0, self.1])
+    }
 }
 
 /// Takes up to `n` bytes away. Says whether what is left is this, and what is held at most twice as much.
@@ -89,7 +90,7 @@ fn a_queue_takes_from_its_front(rt: HostRuntime) -> Result<(), AllocError> {
     let mut queue = Queue::new(rt.alloc());
     assert!(rt; queue.is_empty());
     queue.push(b"abcdef")?;
-    append_text(&mut queue, b"gh")?;
+    queue.append(&Pair(b'g', b'h'))?;
     let steps: [(usize, &[u8]); 5] = [
         (0, b"abcdefgh"),
         (3, b"defgh"),
