@@ -1,7 +1,7 @@
 -- How a queue keeps its bytes.
 use Rattle.std.specs.Prelude.{◌≡◌, ◌≤◌, ◌+◌, ℕ, List, length}
 
--- no more bytes were taken than are left, and a buffer of no bytes reserves at most 65536
-pub record IsHalfFull (taken : ℕ) (buffer : List ℕ) (capacity : ℕ) : Type 0 where
+-- no more bytes were taken than are left, and a buffer of no bytes reserves at most `kept`
+pub record IsHalfFull (kept taken : ℕ) (buffer : List ℕ) (capacity : ℕ) : Type 0 where
   pub half : taken + taken ≤ length buffer
-  pub small : length buffer ≡ 0 → capacity ≤ 65536
+  pub small : length buffer ≡ 0 → capacity ≤ kept

@@ -80,14 +80,14 @@ impl Append for Pair {
 }
 
 /// Takes up to `n` bytes away. Says whether what is left is this, and what is held at most twice as much.
-fn consume_to(queue: &mut Queue, n: usize, left: &[u8]) -> bool {
+fn consume_to(queue: &mut Queue<65536>, n: usize, left: &[u8]) -> bool {
     queue.consume(queue.len().min(n));
     queue.as_slice() == left && queue.len() == left.len() && queue.held() <= 2 * left.len()
 }
 
 #[test]
 fn a_queue_takes_from_its_front(rt: HostRuntime) -> Result<(), AllocError> {
-    let mut queue = Queue::new(rt.alloc());
+    let mut queue: Queue<65536> = Queue::new(rt.alloc());
     assert!(rt; queue.is_empty());
     queue.push(b"abcdef")?;
     queue.append(&Pair(b'g', b'h'))?;
@@ -107,7 +107,7 @@ fn a_queue_takes_from_its_front(rt: HostRuntime) -> Result<(), AllocError> {
 
 #[test]
 fn a_large_queue_gives_its_memory_back(rt: HostRuntime) -> Result<(), AllocError> {
-    let mut queue = Queue::new(rt.alloc());
+    let mut queue: Queue<65536> = Queue::new(rt.alloc());
     let piece = [b'x'; 8192];
     for _ in 0..16 {
         queue.push(&piece)?;

@@ -10,9 +10,9 @@ ghost use Rattle.mc_reply.specs.Texts.{fault_text, long_text};
 
 use crate::after_turn::AfterTurn;
 use crate::session::TurnFault;
-use crate::text::Text;
+use crate::text::{Output, Text};
 use mc_command::{Command, LineFault, StepFault, Steps, step_at, steps_of};
-use mc_parse::{Peek, Queue};
+use mc_parse::Peek;
 use mc_time::Moment;
 use std::alloc::Global;
 
@@ -24,7 +24,7 @@ pub fn answer<S: Steps>(
     found: Peek<'_>,
     store: &mut S,
     now: Moment,
-    out: &mut Queue,
+    out: &mut Output,
 ) -> Result<Option<AfterTurn>, TurnFault>
     requires { (command : Command) (len : ℕ) → unit_of found ≡ Some (Request command, len) →
         HasShortKeys command }
@@ -51,7 +51,7 @@ pub fn answer<S: Steps>(
 }
 
 /// Appends the text of a line that is too long.
-fn answer_too_long(out: &mut Queue) -> Result<AfterTurn, TurnFault>
+fn answer_too_long(out: &mut Output) -> Result<AfterTurn, TurnFault>
     ensures ok { IfOk result (λ next. (next ≡ next_of LongLine 0 65537)
         × (out.new ≡ out.old ++ long_text)) }
     ensures err { OnErr result (out.new ≡ out.old) }
@@ -62,7 +62,7 @@ fn answer_too_long(out: &mut Queue) -> Result<AfterTurn, TurnFault>
 }
 
 /// Appends the text of a line's fault.
-fn answer_fault(fault: LineFault, len: usize, out: &mut Queue) -> Result<AfterTurn, TurnFault>
+fn answer_fault(fault: LineFault, len: usize, out: &mut Output) -> Result<AfterTurn, TurnFault>
     ensures ok { IfOk result (λ next. (next ≡ next_of (Fault fault) 0 len)
         × (out.new ≡ out.old ++ fault_text fault)) }
     ensures err { OnErr result (out.new ≡ out.old) }
@@ -83,7 +83,7 @@ fn answer_command<S: Steps>(
     len: usize,
     store: &mut S,
     now: Moment,
-    out: &mut Queue,
+    out: &mut Output,
 ) -> Result<AfterTurn, TurnFault>
     requires { HasShortKeys command.now }
     ensures ok { IfOk result (λ next. Tells S.Steps now (Some (Request command.now, len)) next
@@ -141,7 +141,7 @@ fn answer_step<S: Steps>(
     command: &Command<'_>,
     store: &mut S,
     now: Moment,
-    out: &mut Queue,
+    out: &mut Output,
 ) -> Result<(), TurnFault>
     requires steps { 0 < length (steps command.now) }
     requires keys { HasShortKeys command.now }

@@ -4,8 +4,9 @@ ghost use Rattle.mc_session.specs.Turns.{SessionState};
 
 use crate::after_turn::AfterTurn;
 use crate::answer::answer;
+use crate::text::Output;
 use mc_command::Steps;
-use mc_parse::{Feed, Peek, Queue, no_spelling_begins_another};
+use mc_parse::{Feed, Peek, no_spelling_begins_another};
 use mc_time::Moment;
 use std::alloc::{AllocError, Global};
 use std::marker::Model;
@@ -47,7 +48,7 @@ pub struct Session {
     feed: Feed,
     /// How many turns of the first unit were taken.
     taken: usize,
-    out: Queue,
+    out: Output,
     is_open: bool,
 }
 
@@ -81,7 +82,7 @@ impl Session {
         Session {
             feed: Feed::new(alloc, greatest),
             taken: 0,
-            out: Queue::new(alloc),
+            out: Output::new(alloc),
             is_open: true,
         }
     }

@@ -1,9 +1,13 @@
 //! What turns are answered with.
 
 use mc_command::{Command, LineFault, Reply};
-use mc_parse::Append;
+use mc_parse::{Append, Queue};
 use mc_reply::{write, write_fault, write_plain, write_spent, write_too_long};
 use std::alloc::AllocError;
+
+/// The texts that are to be written. While there are none they take at most 131072 bytes of memory: an output
+/// that is written when it has 65536 bytes seldom takes more, so its memory isn't asked for anew each time.
+pub type Output = Queue<131072>;
 
 /// What a turn is answered with.
 #[derive(Drop)]
