@@ -73,8 +73,8 @@ module _ {X : Type 0} (hash_of : X → ℕ) (key_of : X → List ℕ) where
     is_some_left m some = lt-ltb 0 m (omega (arith, some))
 
 -- what is new to an index as contracts see it is new to its parts
-pub still_new : {X : Type 0} (hash_of : X → ℕ) (key_of : X → List ℕ) {v now : IndexState X} {key : List ℕ} → v ≡ now → get (holds hash_of key_of now) key ≡ None → get (holds hash_of key_of v) key ≡ None
-still_new {X} hash_of key_of {v} {now} {key} same none = ap (λ (s : IndexState X). get (holds hash_of key_of s) key) same ∙ none
+pub still_new : {X : Type 0} (hash_of : X → ℕ) (key_of : X → List ℕ) {v now : IndexState X} (key : List ℕ) → v ≡ now → get (holds hash_of key_of now) key ≡ None → get (holds hash_of key_of v) key ≡ None
+still_new {X} hash_of key_of {v} {now} key same none = ap (λ (s : IndexState X). get (holds hash_of key_of s) key) same ∙ none
 
 -- an entry has come to the table and the strays of an index
 module _ {X : Type 0} (hash_of : X → ℕ) (key_of : X → List ℕ) (laws : ContentLaws hash_of key_of) (drained old new : List (Option X)) (entry : X) (apart : AreApart hash_of key_of (drained ++ old)) (fresh : get (content hash_of key_of (drained ++ old)) (hash_of entry ∷ key_of entry) ≡ None) (come : IsIn hash_of key_of entry old new) where
@@ -108,25 +108,25 @@ module _ {X : Type 0} (hash_of : X → ℕ) (key_of : X → List ℕ) (laws : Co
   as_many old new apart held = sym (laws.many new held.apart) ∙ ap (λ (m : Map X). len m) held.same ∙ laws.many old apart
 
   -- of an index that nothing moved in, of one where some were left to move, and of one where a growth ended
-  pub as_many_stay : (old new : IndexState X) → new.draining ≡ old.draining → side_of new ≡ side_of old → count new ≡ count old
-  as_many_stay old new same_old same = λ i. filled (same_old i ++ cells_of (same i))
+  pub as_many_stay : (old : IndexState X) (drained : List (Option X)) (side : Side X) → drained ≡ old.draining → side ≡ side_of old → filled (drained ++ cells_of side) ≡ count old
+  as_many_stay old drained side same_old same = λ i. filled (same_old i ++ cells_of (same i))
 
-  module _ (old new : IndexState X) (first drained : List (Option X)) (start side : Side X) (drain : first ≡ old.draining) (beside : start ≡ side_of old) (apart : AreApart hash_of key_of (cells old)) (moved : HoldsAll hash_of key_of (first ++ cells_of start) (drained ++ cells_of side)) where
+  module _ (old : IndexState X) (first drained : List (Option X)) (start side : Side X) (drain : first ≡ old.draining) (beside : start ≡ side_of old) (apart : AreApart hash_of key_of (cells old)) (moved : HoldsAll hash_of key_of (first ++ cells_of start) (drained ++ cells_of side)) where
     was : first ++ cells_of start ≡ cells old
     was = λ i. drain i ++ cells_of (beside i)
 
     as_many_then : filled (drained ++ cells_of side) ≡ filled (first ++ cells_of start)
     as_many_then = as_many (first ++ cells_of start) (drained ++ cells_of side) (subst (AreApart hash_of key_of) (sym was) apart) moved
 
-    pub as_many_left : new.draining ≡ drained → side_of new ≡ side → count new ≡ count old
-    as_many_left left is = (λ i. filled (left i ++ cells_of (is i))) ∙ as_many_then ∙ ap filled was
+    pub as_many_left : (new : IndexState X) → new.draining ≡ drained → side_of new ≡ side → count new ≡ count old
+    as_many_left new left is = (λ i. filled (left i ++ cells_of (is i))) ∙ as_many_then ∙ ap filled was
 
-    pub as_many_at_the_end : (last : Side X) → filled drained ≡ 0 → HoldsAll hash_of key_of (cells_of side) (cells_of last) → new.draining ≡ [] → side_of new ≡ last → count new ≡ count old
-    as_many_at_the_end last empty tried none is =
+    pub as_many_at_the_end : (left : List (Option X)) (last : Side X) → left ≡ [] → filled drained ≡ 0 → HoldsAll hash_of key_of (cells_of side) (cells_of last) → filled (left ++ cells_of last) ≡ count old
+    as_many_at_the_end left last none empty tried =
         let own = ((laws.apart drained (cells_of side)).0 moved.apart).1 in
         let ends : filled (cells_of last) ≡ filled (drained ++ cells_of side) =
         omega (arith, as_many (cells_of side) (cells_of last) own tried, filled-append drained (cells_of side), empty) in
-        (λ i. filled (none i ++ cells_of (is i))) ∙ ends ∙ as_many_then ∙ ap filled was
+        ap (λ (d : List (Option X)). filled (d ++ cells_of last)) none ∙ ends ∙ as_many_then ∙ ap filled was
 
 no_drained : {X : Type 0} (draining : Option (HopState X)) → is_some draining ≡ false → drained_items draining ≡ []
 no_drained None e = refl

@@ -116,9 +116,7 @@ impl Pair {
         let found = self.find(key);
         let bytes = key.to_be_bytes();
         let again = match self.kept {
-            Some(kept) => self
-                .index
-                .find_again(kept, self.hashes.of(bytes), &bytes),
+            Some(kept) => self.index.find_again(kept, self.hashes.of(bytes), &bytes),
             None => found,
         };
         let count = match found {
@@ -152,7 +150,10 @@ fn random_steps_leave_what_a_map_has(rt: HostRuntime) -> Result<(), Fail> {
             let act = ACTS[dice.roll(8) as usize];
             let key = dice.roll(u64::from(KEYS)) as u16;
             let alike = pair.step(rt.alloc(), act, key)?;
-            assert!(rt; alike, "turn {turn} of {hashes:?}: key {key} stood in one alone");
+            assert!(rt;
+                alike,
+                "turn {turn} of {hashes:?}: key {key} stood in one alone"
+            );
             moves |= pair.index.move_some(dice.roll(3) as usize) > 0;
             let unlike = pair.first_unlike();
             let right = unlike.is_none() && pair.index.len() == pair.map.len();

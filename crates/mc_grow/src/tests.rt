@@ -65,7 +65,10 @@ fn places_are_found_again_after_a_removal(rt: HostRuntime) -> Result<(), Fail> {
             None => None,
         };
         assert!(rt; gone.is_none(), "{other} is still there");
-        assert!(rt; add(&mut index, rt.alloc(), other, KEY)?, "{other} stood there");
+        assert!(rt;
+            add(&mut index, rt.alloc(), other, KEY)?,
+            "{other} stood there"
+        );
     }
     assert!(rt; index.len() == 67, "{} entries", index.len());
     Ok(())

@@ -11,7 +11,7 @@ ghost use Rattle.mc_hop.specs.Tables.{AreApart, HasEntry, IsAbsent};
 use crate::hash::Keyed;
 
 /// Says what the content of buckets has: each bucket's entry under its hash and key, where no two have one hash and key, and nothing
-/// else, so that it has as many entries as there are buckets with one. It does nothing.
+/// else. It does nothing.
 pub fn content_has_each_entry<T: Keyed + Drop>()
     ensures found { (items : List (Option T)) (entry : T) →
         AreApart T.hash_of T.key_of items → HasEntry items entry →
@@ -28,7 +28,12 @@ pub fn content_has_each_entry<T: Keyed + Drop>()
         content T.hash_of T.key_of items ≡ content T.hash_of T.key_of others }
     ensures none { (items : List (Option T)) → filled items ≡ 0 →
         content T.hash_of T.key_of items ≡ content T.hash_of T.key_of [] }
-    ensures many { (items : List (Option T)) → AreApart T.hash_of T.key_of items →
+{}
+
+/// Says how many entries the content of buckets has, where no two have one hash and key: as many as there are buckets with one. It
+/// does nothing.
+pub fn content_counts_entries<T: Keyed + Drop>()
+    ensures { (items : List (Option T)) → AreApart T.hash_of T.key_of items →
         len (content T.hash_of T.key_of items) ≡ filled items }
 {}
 

@@ -38,17 +38,17 @@ pub fn marks_table(alloc: Global) -> Result<Hop<Mark>, AllocError> {
 /// Puts the mark of a new hash and key into the first empty bucket of the 32 from its home on, and
 /// tells whether it did.
 pub fn add_mark(table: &mut Hop<Mark>, hash: u64, key: [u8; 2]) -> bool {
-    let mark = Mark {
-        hash,
-        key,
-        count: 0,
-    };
-    if table.find(mark.hash(), mark.key()).is_some() {
+    if table.find(hash, &key).is_some() {
         return false;
     }
-    let home = table.home_of(mark.hash());
+    let home = table.home_of(hash);
     match table.free_from(home) {
         Some(at) if at - home < 32 => {
+            let mark = Mark {
+                hash,
+                key,
+                count: 0,
+            };
             table.put_within(home, at, mark);
             true
         }

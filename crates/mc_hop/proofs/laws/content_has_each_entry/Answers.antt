@@ -1,4 +1,4 @@
-use Rattle.mc_hop.proofs.LawLemmas.{entry_found, entry_there, entry_absent, same_entries, no_entries, many_entries}
+use Rattle.mc_hop.proofs.LawLemmas.{entry_found, entry_there, entry_absent, same_entries, no_entries}
 use Rattle.mc_hop.proofs.laws.content_has_each_entry.Goals as goal
 
 pub returns-clause-found : goal.returns-clause-found
@@ -15,6 +15,3 @@ returns-clause-same g c = same_entries g.T.Keyed.hash_of g.T.Keyed.key_of
 
 pub returns-clause-none : goal.returns-clause-none
 returns-clause-none g c = no_entries g.T.Keyed.hash_of g.T.Keyed.key_of
-
-pub returns-clause-many : goal.returns-clause-many
-returns-clause-many g c = many_entries g.T.Keyed.hash_of g.T.Keyed.key_of

@@ -46,18 +46,17 @@ returns-else-len-eq0-clause-moves g c =
 
 pub returns-in_default-clause-count : goal.returns-in_default-clause-count
 returns-in_default-clause-count g c =
-    as_many_stay g.T.Keyed.hash_of g.T.Keyed.key_of c.content_laws.ensures c.args.self.now _
+    as_many_stay g.T.Keyed.hash_of g.T.Keyed.key_of c.content_laws.ensures c.args.self.now _ (beside c.self.inside.table c.self.inside.strays.items)
     (ap drained_items c.take.ensures.after ∙ ap drained_items c.in_default.ensures.value ∙ ap (λ (s : IndexState g.row.T.Denot). s.draining) c.self.view_is)
     (ap side_of c.self.view_is)
 
 pub returns-then-len-eq0-clause-count : goal.returns-then-len-eq0-clause-count
 returns-then-len-eq0-clause-count g c =
-    as_many_at_the_end g.T.Keyed.hash_of g.T.Keyed.key_of c.content_laws.ensures c.args.self.now _
+    as_many_at_the_end g.T.Keyed.hash_of g.T.Keyed.key_of c.content_laws.ensures c.args.self.now
     c.in-Some.draining.items c.move_entries-moved.new.draining.items (beside c.self.inside.table c.self.inside.strays.items) (beside c.move_entries-moved.new.table c.move_entries-moved.new.strays.items)
     (ap drained_items c.in-Some.ensures.value ∙ ap (λ (s : IndexState g.row.T.Denot). s.draining) c.self.view_is) (ap side_of c.self.view_is)
     (subst (λ (s : IndexState g.row.T.Denot). AreApart g.T.Keyed.hash_of g.T.Keyed.key_of (cells s)) c.self.view_is c.self.invariant.apart) c.move_entries-moved.ensures.content
-    (beside c.try_strays.new.table c.try_strays.new.strays.items) (omega (arith, c.len.ensures, c.if-len-eq0.true)) c.try_strays.ensures.content
-    (ap drained_items c.take.ensures.after) refl
+    _ (beside c.try_strays.new.table c.try_strays.new.strays.items) (ap drained_items c.take.ensures.after) (omega (arith, c.len.ensures, c.if-len-eq0.true)) c.try_strays.ensures.content
 
 pub returns-else-len-eq0-clause-count : goal.returns-else-len-eq0-clause-count
 returns-else-len-eq0-clause-count g c =
@@ -66,8 +65,8 @@ returns-else-len-eq0-clause-count g c =
       | in-Some-1 w ↦ (_, w.self-is, refl, refl)
       | in-None-1 w ↦ (_, w.self-is, refl, refl)
     ] in
-    as_many_left g.T.Keyed.hash_of g.T.Keyed.key_of c.content_laws.ensures c.args.self.now c.match-self.self
+    as_many_left g.T.Keyed.hash_of g.T.Keyed.key_of c.content_laws.ensures c.args.self.now
     c.in-Some.draining.items c.move_entries-moved.new.draining.items (beside c.self.inside.table c.self.inside.strays.items) (beside c.move_entries-moved.new.table c.move_entries-moved.new.strays.items)
     (ap drained_items c.in-Some.ensures.value ∙ ap (λ (s : IndexState g.row.T.Denot). s.draining) c.self.view_is) (ap side_of c.self.view_is)
     (subst (λ (s : IndexState g.row.T.Denot). AreApart g.T.Keyed.hash_of g.T.Keyed.key_of (cells s)) c.self.view_is c.self.invariant.apart) c.move_entries-moved.ensures.content
-    (ap (λ (s : IndexState g.row.T.Denot). s.draining) new_is.1 ∙ new_is.2) (ap side_of new_is.1 ∙ new_is.3)
+    c.match-self.self (ap (λ (s : IndexState g.row.T.Denot). s.draining) new_is.1 ∙ new_is.2) (ap side_of new_is.1 ∙ new_is.3)
