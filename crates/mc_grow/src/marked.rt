@@ -63,6 +63,17 @@ pub(crate) fn counted(mark: Mark) -> (Mark, u64)
     (more, hash)
 }
 
+/// Counts the mark of that hash and key once more, and tells whether there was one.
+pub(crate) fn count_more(index: &mut Index<Mark>, hash: u64, key: [u8; 2]) -> bool {
+    match index.find(hash, &key) {
+        Some(place) => {
+            let _ = index.update(place, |mark| counted(mark));
+            true
+        }
+        None => false,
+    }
+}
+
 /// Returns the count of the mark at a place, if one stands there.
 pub(crate) fn count_at(index: &Index<Mark>, place: Place) -> Option<u32> {
     match index.get(place) {

@@ -2,7 +2,7 @@
 //! and all one. Where memory is refused a step asks again.
 
 use super::*;
-use crate::marked::{add, count_at, counted, opened, take};
+use crate::marked::{add, count_at, count_more, opened, take};
 use mc_hop::{Fnv, KeyHash};
 use mc_testing::{Dice, Mark};
 use std::alloc::{AllocError, Global};
@@ -89,25 +89,21 @@ impl Pair {
                 }
                 Ok(add(&mut self.index, alloc, hash, bytes)? != had)
             }
-            Act::Count => Ok(self.count(key)),
+            Act::Count => {
+                let had = match self.map.get_mut(&key) {
+                    Some(count) => {
+                        *count = count.saturating_add(1);
+                        true
+                    }
+                    None => false,
+                };
+                Ok(count_more(&mut self.index, hash, bytes) == had)
+            }
             Act::Take => Ok(take(&mut self.index, hash, bytes) == self.map.remove(&key).is_some()),
             Act::Look => {
                 self.kept = self.find(key);
                 Ok(self.kept.is_some() == self.map.contains_key(&key))
             }
-        }
-    }
-
-    /// Counts an entry once more in both, and tells whether both or none had one.
-    fn count(&mut self, key: u16) -> bool {
-        match (self.find(key), self.map.get_mut(&key)) {
-            (Some(place), Some(count)) => {
-                *count = count.saturating_add(1);
-                let _ = self.index.update(place, |mark| counted(mark));
-                true
-            }
-            (None, None) => true,
-            _ => false,
         }
     }
 
