@@ -277,6 +277,7 @@ impl<T: Keyed + Drop> Index<T> {
         ensures place { IsPlaceOf T.hash_of T.key_of self.new
             (T.hash_of entry) (T.key_of entry) result }
         ensures inserted { IsInserted T.hash_of T.key_of entry self.old self.new }
+        ensures count { count self.new ≡ count self.old + 1 }
         ensures room { self.old.spare ≤ self.new.spare + 1 }
     {
         content_laws::<T>();
@@ -294,6 +295,7 @@ impl<T: Keyed + Drop> Index<T> {
         ensures moved { result ≡ min n (left self.old) }
         ensures left { left self.new ≡ left self.old - result }
         ensures content { holds T.hash_of T.key_of self.new ≡ holds T.hash_of T.key_of self.old }
+        ensures count { count self.new ≡ count self.old }
         ensures moves { AreMoved T.hash_of T.key_of result self.old self.new }
         ensures room { self.old.spare ≤ self.new.spare }
     {

@@ -3,7 +3,7 @@
 ghost use Rattle.std.specs.Prelude.{◌≡◌, ℕ, List, [], ◌∷◌, ◌++◌, ◌<◌, ◌↔◌, Option, Some, None, length};
 ghost use Rattle.std.specs.Prelude.{slice_index_or, slice_set};
 ghost use Rattle.std.specs.Option.{option_or};
-ghost use Rattle.std.specs.FinMap.{get, insert, remove};
+ghost use Rattle.std.specs.FinMap.{get, insert, len, remove};
 ghost use Rattle.mc_hop.specs.Cells.{filled};
 ghost use Rattle.mc_hop.specs.Contents.{AreDisjoint, content};
 ghost use Rattle.mc_hop.specs.Tables.{AreApart, HasEntry, IsAbsent};
@@ -28,6 +28,13 @@ pub fn content_has_each_entry<T: Keyed + Drop>()
         content T.hash_of T.key_of items ≡ content T.hash_of T.key_of others }
     ensures none { (items : List (Option T)) → filled items ≡ 0 →
         content T.hash_of T.key_of items ≡ content T.hash_of T.key_of [] }
+{}
+
+/// Says how many entries the content of buckets has, where no two have one hash and key: as many as there are buckets with one. It
+/// does nothing.
+pub fn content_counts_entries<T: Keyed + Drop>()
+    ensures { (items : List (Option T)) → AreApart T.hash_of T.key_of items →
+        len (content T.hash_of T.key_of items) ≡ filled items }
 {}
 
 /// Says what a change of one bucket does to the content: an entry of a new key that is put into it, one that is taken out, or put
