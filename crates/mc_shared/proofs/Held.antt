@@ -4,7 +4,7 @@ use Rattle.atomic_table.specs.Table.{rest}
 use Rattle.mc_shared.specs.Bays.{Content}
 use Rattle.mc_shared.specs.Past.{Past, Lives}
 use Rattle.mc_shared.specs.View.{Knows}
-use Rattle.mc_shared.specs.Steps.{Slot, Mine, newcomer, met, next_name}
+use Rattle.mc_shared.specs.Steps.{Slot, Mine, holding, newcomer, met, next_name}
 use Rattle.mc_shared.proofs.NamedKept.{lives_start, lives_both}
 use Rattle.mc_shared.specs.Store.{holds_one, holds_two}
 
@@ -13,6 +13,10 @@ top_of xs x ys e = e ∙ ap (λ zs. x ∷ rest zs) (sym e)
 
 pub one_held : (me : Mine) (p : Past) (at : ℕ) (x : Content) → me ≡ holds_one p at x → ((y : Content) × (me.0.bays ≡ (at, y) ∷ rest me.0.bays)) × (me.1 ≡ (at, None) ∷ rest me.1)
 one_held me p at x e = ((x, top_of me.0.bays (at, x) [] (ap (λ m. m.0.bays) e)), top_of me.1 (at, None) [] (ap (λ m. m.1) e))
+
+-- a bay that was taken last is held
+pub taken_held : (me was : Mine) (b : ℕ) (x : Content) → me ≡ (holding was.0 b x, (b, None) ∷ was.1) → ((y : Content) × (me.0.bays ≡ (b, y) ∷ rest me.0.bays)) × (me.1 ≡ (b, None) ∷ rest me.1)
+taken_held me was b x e = ((x, top_of me.0.bays (b, x) was.0.bays (ap (λ m. m.0.bays) e)), top_of me.1 (b, None) was.1 (ap (λ m. m.1) e))
 
 -- a seat that was just made, and one that took in another's past
 pub new_rests : (me : Mine) (v : Knows) → me ≡ (newcomer v, []) → (me.1 ≡ []) × (me.0.bays ≡ []) × Lives me.0.past

@@ -1,7 +1,11 @@
 -- Held shelves, and the step that changes them all.
-use Rattle.std.proofs.Common.{◌≡◌, ℕ, zero, suc, ◌+◌, ◌≤◌, ◌<◌, None, Some, List, [], ◌∷◌, ◌++◌, length, slice_get, sym, refl, ap, ◌∙◌, subst, arith}
+use Rattle.std.proofs.Common.{◌≡◌, ◌==◌, Bool, true, false, ℕ, zero, suc, ◌+◌, ◌≤◌, ◌<◌, None, Some, List, [], ◌∷◌, ◌++◌, length, slice_get, sym, refl, ap, ◌∙◌, subst, arith}
 use Rattle.atomic_table.specs.Table.{rest}
-use Rattle.mc_command.specs.Plain.{Plain, flushed}
+use Rattle.std.specs.Prelude.{if◌then◌else◌, take, drop}
+use Rattle.std.proofs.Math.Seq.{take-append_seam}
+use Rattle.std.specs.FinMap.{empty}
+use Rattle.mc_time.specs.Death.{moment_named}
+use Rattle.mc_command.specs.Plain.{Plain, flushed, living}
 use Rattle.mc_command.specs.declared.step.KeyStep.TheVariants.{Flush}
 use Rattle.mc_command.specs.declared.reply.Reply.TheVariants.{Flushed}
 use Rattle.mc_shelf.specs.States.{ShelfState, DeskState}
@@ -73,9 +77,19 @@ none_else : (began : Start) (m : Plain) (xs : List ShelfState) (d : DeskState) (
 none_else began m xs d c (OfShelf f) all none fits = let l = fits.0 in let has = has_on 0 c xs [] (omega arith) (omega (arith, l, all)) in omega (arith, none, has)
 none_else began m xs d c (OfDesk k) all none fits = let one : holds_bay c (began.shelves, OfDesk d) ≡ 1 = ap (λ k. holds_bay k (began.shelves, OfDesk d)) fits.0 ∙ here began.shelves (OfDesk d) in omega (arith, none, one)
 
+-- a flush leaves the greatest charge and the limit, at once or later
 flushed_limits : (began : Start) (m : Plain) (delay now : ℕ) → KeepsLimits began m → KeepsLimits began (flushed delay m now)
-flushed_limits began m zero now keeps = record { greatest = keeps.greatest; limit = keeps.limit }
-flushed_limits began m (suc delay) now keeps = record { greatest = keeps.greatest; limit = keeps.limit }
+flushed_limits began m delay now keeps = record {
+  greatest = either_greatest (delay == 0) m (record m { items = empty; cut = None }) (record m { items = living m.items m.cut now; cut = Some (moment_named delay now) }) refl refl ∙ keeps.greatest;
+  limit = either_limit (delay == 0) m (record m { items = empty; cut = None }) (record m { items = living m.items m.cut now; cut = Some (moment_named delay now) }) refl refl ∙ keeps.limit;
+}
+  where
+    either_greatest : (now : Bool) (m a b : Plain) → a.greatest ≡ m.greatest → b.greatest ≡ m.greatest → (if now then a else b).greatest ≡ m.greatest
+    either_greatest true m a b e d = e
+    either_greatest false m a b e d = d
+    either_limit : (now : Bool) (m a b : Plain) → a.limit ≡ m.limit → b.limit ≡ m.limit → (if now then a else b).limit ≡ m.limit
+    either_limit true m a b e d = e
+    either_limit false m a b e d = d
 
 -- with all shelves held, the desk decides a flush
 pub flushes : (began : Start) (xs ys : List ShelfState) (d d' : DeskState) (delay now : ℕ) → length xs ≡ began.shelves → 0 < began.shelves → length ys ≡ length xs
@@ -105,6 +119,13 @@ without_top m p xs x is = ap without (is ∙ top p xs x)
 -- a shelf that was taken lies on top
 pub take_top : (m m' : Mine) (p : Past) (xs : List ShelfState) (x : ShelfState) (n : ℕ) → m ≡ holds_all p xs → n ≡ length xs → m' ≡ (holding m.0 n (OfShelf x.content), (n, None) ∷ m.1) → m' ≡ holds_all p (xs ++ x ∷ [])
 take_top m m' p xs x n is len got = got ∙ (λ i. (holding (is i).0 (len i) (OfShelf x.content), (len i, None) ∷ (is i).1)) ∙ sym (top p xs x)
+
+-- shelves that are written back as a whole
+pub written_back : {hash_of : List ℕ → ℕ} {state : Plain} {new : List ShelfState} {count len : ℕ} {desk : DeskState} (old : List ShelfState) → len ≡ count → ArePartsOf hash_of state new count desk
+    → ArePartsOf hash_of state (take len (new ++ drop (length new) old)) count desk
+written_back {hash_of} {state} {new} {count} {len} {desk} old all parts =
+    subst (λ (l : List ShelfState). ArePartsOf hash_of state l count desk)
+    (sym (ap (λ n. take n (new ++ drop (length new) old)) (all ∙ sym parts.number) ∙ take-append_seam new (drop (length new) old))) parts
 
 -- all shelves and the desk are the parts of some state
 pub held_parts : (began : Start) (xs : List ShelfState) (d : DeskState) (v : Knows) → v.bays ≡ (began.shelves, OfDesk d) ∷ stacked xs → length xs ≡ began.shelves → 0 < began.shelves → Fitted began v → (hash_of : List ℕ → ℕ) × (m : Plain) × (count : ℕ) × ArePartsOf hash_of m xs count d

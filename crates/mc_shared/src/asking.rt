@@ -2,7 +2,7 @@
 ghost use Rattle.std.specs.Prelude.{◌≡◌, ◌<◌, ◌≤◌, length, Err, IfOk, IfErr, OnErr};
 ghost use Rattle.mc_command.specs.Commands.{key_of};
 ghost use Rattle.mc_shared.specs.Asking.{AsksOnce};
-ghost use Rattle.mc_shared.specs.History.{start_of, Stepped, Purged};
+ghost use Rattle.mc_shared.specs.History.{start_of, shelf_in, Stepped, Purged};
 ghost use Rattle.mc_shared.specs.Past.{call};
 ghost use Rattle.mc_shared.specs.Steps.{entry_of, Agrees};
 ghost use Rattle.mc_shared.specs.Store.{IsSpentAfter};
@@ -69,7 +69,7 @@ impl<'a, R: Wait, K: KeyHash + Drop, G: Gate> Asking<'a, R, K, G> {
 
     /// The shelf of a key.
     pub fn shelf_of(&self, key: &[u8]) -> u32
-        ensures shelf { result ≡ (start_of K.hash_of self.now.began).shelf_of key.now }
+        ensures shelf { result ≡ shelf_in (start_of K.hash_of self.now.began) key.now }
         ensures inside { result < self.now.began.settings.shelves }
     {
         self.shared.shelf_of(key)

@@ -58,6 +58,7 @@ fn gather<K: KeyHash + Drop>(
 ) -> Result<(Vec<Shelf>, Desk), (usize, u64)>
     requires lives { Lives caller.old.me.0.past }
     requires table { (caller.old.table_id ≡ board.now.shared.table_id) × (board.now.shared.table_id.words ≡ board.now.shared.key.value.settings.shelves + 1) × (count ≡ board.now.shared.key.value.settings.shelves) }
+    requires some_shelf { 0 < board.now.shared.key.value.settings.shelves }
     requires room { (held.items ≡ []) × (count ≤ vec_capacity held) }
     requires free { caller.old.me ≡ resting caller.old.me.0.past }
     ensures ok { IfOk result (λ r. (vec_len r.0 ≡ count) × Gathered (start_of K.hash_of board.now.shared.key.value) caller.old.me.0.past r.0.items r.1) }

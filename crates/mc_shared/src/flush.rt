@@ -1,7 +1,9 @@
 //! All shelves are held at once.
-ghost use Rattle.std.specs.Prelude.{◌≡◌, ◌+◌, ◌<◌, ◌≤◌, [], ◌∷◌, length, None, vec_len, vec_capacity, IfOk, OnErr};
+ghost use Rattle.std.specs.Prelude.{ℕ, List, ◌≡◌, ◌+◌, ◌<◌, ◌≤◌, [], ◌∷◌, length, None, vec_len, vec_capacity, IfOk, OnErr};
 ghost use Rattle.mc_command.specs.declared.step.KeyStep.{KeyStep as Step};
 ghost use Rattle.mc_command.specs.declared.reply.Reply.{Reply as Told};
+ghost use Rattle.mc_command.specs.Plain.{Plain, flushed};
+ghost use Rattle.mc_shelf.specs.Parts.{ArePartsOf};
 ghost use Rattle.mc_shared.specs.History.{start_of, Stepped};
 ghost use Rattle.mc_shared.specs.Past.{Lives};
 ghost use Rattle.mc_shared.specs.Steps.{IsAt, holding, decided_by, Agrees, Fitted, Decides};
@@ -122,6 +124,18 @@ fn decide_flush<K: KeyHash + Drop>(
     decide_flush_as::<Brand, K>(board, caller, bay, desk, held, delay, now);
 }
 
+/// Flushes shelves that are with the desk the parts of a state.
+fn flush_held(held: &mut Vec<Shelf>, desk: &mut Desk, delay: u64, now: Moment)
+    requires { (hash_of : List ℕ → ℕ) × (state : Plain) × (count : ℕ)
+        × ArePartsOf hash_of state held.old.items count desk.old }
+    ensures count { vec_len held.new ≡ vec_len held.old }
+    ensures parts { (hash_of : List ℕ → ℕ) (state : Plain) (count : ℕ) →
+        ArePartsOf hash_of state held.old.items count desk.old →
+        ArePartsOf hash_of (flushed delay state now) held.new.items count desk.new }
+{
+    flush_parts(held.as_mut_slice(), desk, delay, now);
+}
+
 /// A flush, for which all shelves and the desk are held at once.
 fn flush_by<K: KeyHash + Drop, R: Wait>(
     rt: &R,
@@ -143,7 +157,7 @@ fn flush_by<K: KeyHash + Drop, R: Wait>(
     let desk = desk_from(take_waiting(rt, board, caller, count), count);
     let mut held = held;
     let mut desk = desk;
-    flush_parts(held.as_mut_slice(), &mut desk, delay, now);
+    flush_held(&mut held, &mut desk, delay, now);
     decide_flush(board, caller, count, desk, &held, delay, now);
     give_all(board, caller, held);
 }

@@ -7,7 +7,7 @@ ghost use Rattle.mc_command.specs.Laws.{IsOnKey};
 ghost use Rattle.mc_shelf.specs.Plans.{IsPlan, HasRoom, wants_desk};
 ghost use Rattle.mc_shelf.specs.States.{IsHash};
 ghost use Rattle.mc_shelf.specs.Parts.{shelf_of};
-ghost use Rattle.mc_shared.specs.History.{start_of};
+ghost use Rattle.mc_shared.specs.History.{start_of, shelf_in};
 ghost use Rattle.mc_shared.specs.Past.{start, spent, made, both, Lives, Whole};
 ghost use Rattle.mc_shared.specs.Steps.{next_name, IsAt, Agrees, Fitted};
 ghost use Rattle.mc_shared.specs.Store.{resting, holds_one, holds_two, with_call, told_of, May, Refuses};
@@ -21,7 +21,7 @@ use crate::steps::{decide_at_desk, decide_at_shelf, fork, give, look, meet, take
 use atomic_table::Table;
 use mc_command::{KeyStep, Reply, StepFault};
 use mc_hop::KeyHash;
-use mc_shelf::{Desk, Plan, Settings, Shelf, Store, StoreParts, steps_change_one_shelf};
+use mc_shelf::{Desk, Plan, Settings, Shelf, Store, StoreParts, refusals_are_plain, steps_change_one_shelf};
 use mc_time::Moment;
 use std::alloc::{AllocError, Global};
 use std::marker::Model;
@@ -37,6 +37,7 @@ pub struct Shared<K: KeyHash + Drop> {
 
 impl<K: KeyHash + Drop> Model for Shared<K> {
     ghost use Rattle.std.specs.Prelude.{◌≡◌, ◌+◌, ◌<◌};
+    ghost use Rattle.mc_shelf.specs.Stores.{IsSetUp};
     ghost use Rattle.mc_shared.specs.Shown.{SharedState, coded_shared};
 
     ghost Value = { SharedState K };
@@ -45,7 +46,7 @@ impl<K: KeyHash + Drop> Model for Shared<K> {
 
     ghost view = { λ s. record { table = s.board.shared.table_id; began = s.board.shared.key.value } };
 
-    ghost invariant = { λ s. (s.board.shared.table_id.words ≡ s.settings.shelves + 1) × (s.board.shared.key.value.settings ≡ s.settings) × (s.board.shared.key.value.hasher ≡ s.hasher) × (0 < s.settings.shelves) };
+    ghost invariant = { λ s. (s.board.shared.table_id.words ≡ s.settings.shelves + 1) × (s.board.shared.key.value.settings ≡ s.settings) × (s.board.shared.key.value.hasher ≡ s.hasher) × IsSetUp s.settings s.board.shared.key.value.plain × (0 < s.settings.shelves) };
 }
 
 /// Who makes calls. It holds no bay between calls. Contracts see whose it is, and its past.
@@ -134,7 +135,7 @@ impl<K: KeyHash + Drop> Shared<K> {
 
     /// The shelf of a key.
     pub fn shelf_of(&self, key: &[u8]) -> u32
-        ensures shelf { result ≡ (start_of K.hash_of self.now.began).shelf_of key.now }
+        ensures shelf { result ≡ shelf_in (start_of K.hash_of self.now.began) key.now }
         ensures inside { result < self.now.began.settings.shelves }
     {
         (self.hasher.hash(key) % u64::from(self.settings.shelves)) as u32
@@ -248,10 +249,10 @@ pub(crate) fn step_at_shelf<K: KeyHash + Drop>(
     requires table { (caller.old.table_id ≡ board.now.shared.table_id) × (board.now.shared.table_id.words ≡ board.now.shared.key.value.settings.shelves + 1) × (at < board.now.shared.key.value.settings.shelves) }
     requires lives { Lives caller.old.me.0.past }
     requires held { caller.old.me ≡ holds_one caller.old.me.0.past at (OfShelf shelf.content) }
-    requires plan { IsPlan plan.entry shelf.content step.now now }
-    requires room { HasRoom plan.entry shelf step.now }
-    requires hash { plan.entry.hash ≡ K.hash_of board.now.shared.key.value.hasher (key_of step.now) }
-    requires no_desk { wants_desk plan.entry.next ≡ false }
+    requires plan { IsPlan plan shelf.content step.now now }
+    requires room { HasRoom plan shelf step.now }
+    requires hash { plan.hash ≡ K.hash_of board.now.shared.key.value.hasher (key_of step.now) }
+    requires no_desk { wants_desk plan.next ≡ false }
     requires own { K.hash_of board.now.shared.key.value.hasher (key_of step.now) % board.now.shared.key.value.settings.shelves ≡ at }
     ensures seat { (caller.new.table_id ≡ caller.old.table_id) × (caller.new.id ≡ caller.old.id) }
     ensures done { (caller.new.me ≡ resting (with_call caller.old.me.0.past step.now now result)) × Agrees (start_of K.hash_of board.now.shared.key.value) caller.new.me.0.past }
@@ -277,10 +278,10 @@ fn step_at_desk<K: KeyHash + Drop>(
     requires table { (caller.old.table_id ≡ board.now.shared.table_id) × (board.now.shared.table_id.words ≡ board.now.shared.key.value.settings.shelves + 1) × (bays.0 < board.now.shared.key.value.settings.shelves) × (bays.1 ≡ board.now.shared.key.value.settings.shelves) }
     requires lives { Lives caller.old.me.0.past }
     requires held { caller.old.me ≡ holds_one caller.old.me.0.past bays.0 (OfShelf shelf.content) }
-    requires plan { IsPlan plan.entry shelf.content step.now now }
-    requires room { HasRoom plan.entry shelf step.now }
-    requires hash { plan.entry.hash ≡ K.hash_of board.now.shared.key.value.hasher (key_of step.now) }
-    requires desk { wants_desk plan.entry.next ≡ true }
+    requires plan { IsPlan plan shelf.content step.now now }
+    requires room { HasRoom plan shelf step.now }
+    requires hash { plan.hash ≡ K.hash_of board.now.shared.key.value.hasher (key_of step.now) }
+    requires desk { wants_desk plan.next ≡ true }
     requires key { length (key_of step.now) ≤ 250 }
     requires own { K.hash_of board.now.shared.key.value.hasher (key_of step.now) % board.now.shared.key.value.settings.shelves ≡ bays.0 }
     ensures seat { (caller.new.table_id ≡ caller.old.table_id) × (caller.new.id ≡ caller.old.id) }
@@ -317,10 +318,10 @@ pub(crate) fn apply_at_desk<K: KeyHash + Drop>(
     requires lives { Lives caller.old.me.0.past }
     requires held { caller.old.me ≡ holds_two caller.old.me.0.past bays.1 (OfDesk desk) bays.0 (OfShelf shelf.content) }
     requires fits { Fitted (start_of K.hash_of board.now.shared.key.value) caller.old.me.0 }
-    requires plan { IsPlan plan.entry shelf.content step.now now }
-    requires room { HasRoom plan.entry shelf step.now }
-    requires hash { plan.entry.hash ≡ K.hash_of board.now.shared.key.value.hasher (key_of step.now) }
-    requires desk { wants_desk plan.entry.next ≡ true }
+    requires plan { IsPlan plan shelf.content step.now now }
+    requires room { HasRoom plan shelf step.now }
+    requires hash { plan.hash ≡ K.hash_of board.now.shared.key.value.hasher (key_of step.now) }
+    requires desk { wants_desk plan.next ≡ true }
     requires key { length (key_of step.now) ≤ 250 }
     requires own { K.hash_of board.now.shared.key.value.hasher (key_of step.now) % board.now.shared.key.value.settings.shelves ≡ bays.0 }
     ensures seat { (caller.new.table_id ≡ caller.old.table_id) × (caller.new.id ≡ caller.old.id) }
@@ -329,6 +330,7 @@ pub(crate) fn apply_at_desk<K: KeyHash + Drop>(
     ensures fault { IfErr result (λ e. Refuses (start_of K.hash_of board.now.shared.key.value) caller.old.me.0.past step.now now e) }
 {
     steps_change_one_shelf();
+    refusals_are_plain();
     let mut shelf = shelf;
     let mut desk = desk;
     match shelf.apply(alloc, plan, step, &mut desk) {

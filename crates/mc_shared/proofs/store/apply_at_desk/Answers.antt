@@ -31,3 +31,6 @@ decide_at_desk-requires-clause-right g c =
 
 pub decide_at_desk-requires-clause-held : goal.decide_at_desk-requires-clause-held
 decide_at_desk-requires-clause-held g c = two_held c.args.caller.now.me c.args.caller.now.me.0.past c.args.bays.1 (OfDesk c.args.desk) c.args.bays.0 (OfShelf c.args.shelf.content) c.requires.held
+
+pub returns-in-Err-clause-fault : goal.returns-in-Err-clause-fault
+returns-in-Err-clause-fault g c = ?
