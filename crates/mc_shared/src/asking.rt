@@ -102,13 +102,10 @@ impl<'a, R: Wait, K: KeyHash + Drop, G: Gate> Steps for Asking<'a, R, K, G> {
 
     fn step(&mut self, alloc: Global, step: &KeyStep<'_>, now: Moment) -> Result<Reply, StepFault> {
         match step {
-            KeyStep::Flush { delay } => Ok(self.shared.flush(
-                self.rt,
-                alloc,
-                &mut self.caller,
-                *delay,
-                now,
-            )?),
+            KeyStep::Flush { delay } => Ok(
+                self.shared
+                    .flush(self.rt, alloc, &mut self.caller, *delay, now)?,
+            ),
             _ => {
                 self.shared
                     .step_at(self.rt, alloc, &mut self.caller, step, now, self.gate)

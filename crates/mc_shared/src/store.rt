@@ -21,7 +21,9 @@ use crate::steps::{decide_at_desk, decide_at_shelf, fork, give, look, meet, take
 use atomic_table::Table;
 use mc_command::{KeyStep, Reply, StepFault};
 use mc_hop::KeyHash;
-use mc_shelf::{Desk, Plan, Settings, Shelf, Store, StoreParts, refusals_are_plain, steps_change_one_shelf};
+use mc_shelf::{
+    Desk, Plan, Settings, Shelf, Store, StoreParts, refusals_are_plain, steps_change_one_shelf,
+};
 use mc_time::Moment;
 use std::alloc::{AllocError, Global};
 use std::marker::Model;
