@@ -1,6 +1,6 @@
 //! The parts of a store: its shelves, and the desk that they share.
 
-ghost use Rattle.std.specs.Prelude.{◌≡◌, ◌==◌, ◌≤◌, ℕ, List, map, replicate, IfOk, false};
+ghost use Rattle.std.specs.Prelude.{◌≡◌, ◌==◌, ◌≤◌, ℕ, List, map, replicate, true, false, IfOk};
 ghost use Rattle.mc_command.specs.declared.step.KeyStep.{KeyStep};
 ghost use Rattle.mc_command.specs.declared.reply.Reply.{Reply};
 ghost use Rattle.mc_command.specs.Commands.{key_of};
@@ -8,7 +8,17 @@ ghost use Rattle.mc_command.specs.Plain.{Plain, flushed};
 ghost use Rattle.mc_command.specs.Purge.{purged};
 ghost use Rattle.mc_command.specs.Laws.{IsOnKey};
 ghost use Rattle.mc_shelf.specs.States.{ShelfContent, DeskState, nothing_held};
-ghost use Rattle.mc_shelf.specs.Plans.{IsTaken, IsSettled};
+ghost use Rattle.mc_slab.specs.Slabs.{IsSlab};
+ghost use Rattle.mc_shelf.specs.Plans.{
+  IsTaken,
+  IsSettled,
+  IsSpent,
+  MayWantMemory,
+  NeedsPage,
+  has_no_number,
+  next_of,
+  writes,
+};
 ghost use Rattle.mc_shelf.specs.Sweeps.{AreOut, GivesFor};
 ghost use Rattle.mc_shelf.specs.Deaths.{NoneIsDead};
 ghost use Rattle.mc_shelf.specs.Unions.{IsFlushed, lefts};
@@ -47,6 +57,20 @@ pub fn steps_change_one_shelf()
 {
     other_keys_stay();
     pages_stay();
+}
+
+/// States where a step that writes is refused at the desk. With the unique numbers spent, the plain
+/// machine is out of numbers too, in each state that stands for the shelf and the desk; and where
+/// the write needs a page, its answer is one that memory may be refused for.
+pub fn refusals_are_plain()
+    ensures spent { (step : KeyStep) (now : ℕ) (shelf : ShelfContent) (desk : DeskState) →
+        IsOnKey step → writes (next_of shelf step now) ≡ true → has_no_number desk →
+        IsSpent step now shelf desk }
+    ensures page { (step : KeyStep) (now : ℕ) (shelf : ShelfContent) (desk : DeskState) →
+        IsOnKey step → IsSlab desk.slab → shelf.greatest ≤ 1048576 →
+        NeedsPage (next_of shelf step now) desk → MayWantMemory step now shelf desk }
+{
+    counts_follow();
 }
 
 impl Shelf {
