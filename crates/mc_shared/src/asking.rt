@@ -94,11 +94,15 @@ impl<'a, R: Wait, K: KeyHash + Drop, G: Gate> Asking<'a, R, K, G> {
 }
 
 impl<'a, R: Wait, K: KeyHash + Drop, G: Gate> Steps for Asking<'a, R, K, G> {
+    ghost use Rattle.std.specs.Prelude.{◌≡◌, refl};
+
     ghost took = { λ old step now reply new. AsksOnce (start_of K.hash_of old.began) (Stepped step now reply) old new };
 
     ghost spent = { λ old step now. IsSpentAfter (start_of K.hash_of old.began) old.past step now };
 
     ghost same = { λ old new. new ≡ old };
+
+    ghost holds_itself = { λ _. refl };
 
     fn step(&mut self, alloc: Global, step: &KeyStep<'_>, now: Moment) -> Result<Reply, StepFault> {
         match step {
