@@ -1,11 +1,10 @@
 -- What the content of buckets has.
-use Rattle.std.proofs.Common.{◌≡◌, ℕ, zero, suc, ◌+◌, ◌-◌, ◌<◌, ◌≤◌, ◌↔◌, ◌⊎◌, inl, inr, Bool, true, false, cond, List, [], ◌∷◌, ◌++◌, Option, Some, None, is_some, length, get_or, set, refl, sym, ap, subst, ◌∙◌, arith, ⊎_elim}
+use Rattle.std.proofs.Common.{◌≡◌, ℕ, zero, suc, ◌+◌, ◌<◌, ◌↔◌, ◌⊎◌, inl, inr, Bool, true, false, cond, List, [], ◌∷◌, ◌++◌, Option, Some, None, is_some, length, get_or, set, refl, sym, ap, ◌∙◌, arith, ⊎_elim}
 use Rattle.std.proofs.lemmas.Option.{none-some}
 use Rattle.std.proofs.lemmas.List.{get_or_append_left, get_or-append-add}
 use Rattle.std.proofs.lemmas.Cmp.{eq_by_cmp_equiv}
-use Rattle.std.specs.Ordering.{nat_cmp}
 use Rattle.std.specs.Option.{option_or}
-use Rattle.std.specs.Cmp.Lexicographic.{slice_cmp, nat_list_cmp_total}
+use Rattle.std.specs.Cmp.Lexicographic.{nat_list_cmp_total}
 use Rattle.std.specs.FinMap.{FinMap, get, insert, remove, len, len-empty, len-insert, from_entries, get-insert, get-from_entries, same_map, nat_cmp-IsAntisymmetric, slice_cmp-IsAntisymmetric}
 use Rattle.mc_hop.specs.Cells.{filled}
 use Rattle.mc_hop.specs.Tables.{AreApart, HasEntry, IsAbsent}
@@ -210,3 +209,10 @@ module _ {X : Type 0} (hash_of : X → ℕ) (key_of : X → List ℕ) where
 
   pub are_apart : (xs ys : List (Option X)) → AreApart hash_of key_of (xs ++ ys) ↔ (AreApart hash_of key_of xs × AreApart hash_of key_of ys × AreDisjoint (map_of xs) (map_of ys))
   are_apart xs ys = (apart_parts xs ys, apart_joined xs ys)
+
+-- the clauses of the laws, but for those that go both ways
+pub ruleset entry_rules = (entry_found, entry_there, same_entries, no_entries)
+
+pub ruleset change_rules = (change_put, change_taken, change_back, change_replaced)
+
+pub ruleset list_rules = (get_joined, joined_parts, joined_first, joined_second)
