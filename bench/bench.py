@@ -6,6 +6,7 @@ several runs of a fresh process. It is no test: nothing here fails for being slo
 
     bench/bench.py [--program PATH] [--runs N] [--commands N] [--only WORD]
     bench/bench.py --worlds [--turns N] [--runs N]
+    bench/bench.py --flushes [--program PATH]
 """
 import argparse
 import array
@@ -35,6 +36,7 @@ WORLDS = f"{ROOT}/crates/mc_bench/out/mc_bench"
 SESSIONS = [1, 100, 10_000]
 # how many items stand while a command's cost is taken, and their memory
 STANDING = [10_000, 100_000, 1_000_000, 4_000_000]
+FLUSHED = [10_000, 100_000, 700_000]
 RESIDENT = [100_000, 1_000_000, 4_000_000]
 # what mcserver says last, and of an item that finds no chunk
 VERSION = b"VERSION 1.6.0\r\n"
@@ -378,6 +380,20 @@ class Bench:
             longest = max(window)
             print(f"{'':<33}{2**power:>11,}{first + window.index(longest):>11,}{longest / 1000:>14.1f}", flush=True)
 
+    def flushed(self, lines=1000):
+        """What a flush with a delay costs while so many items stand, none of which is dead, and one at once of no items."""
+        print(f"\n{'flushes':<33}{'lines':>7}{'us a line':>12}  (of the processor's time)")
+        told = b"OK\r\n" * lines + VERSION
+        for line, count in [(b"flush_all", 0), *((b"flush_all 100", it) for it in FLUSHED)]:
+            server = Server([self.program, *ARGS])
+            server.answer(b"".join(stored(b"set", key(it), more=b" noreply") for it in range(count)) + b"version\r\n", VERSION)
+            before = server.processor()
+            if server.answer((line + b"\r\n") * lines + b"version\r\n", VERSION) != told:
+                sys.exit("a flush was answered otherwise")
+            seconds = server.processor() - before
+            print(f"{line.decode() + f', {count:,} items':<33}{lines:>7,}{seconds / lines * 1e6:>12.1f}", flush=True)
+            server.stop()
+
     def refilled(self, times=100):
         """A store of 64 pages is filled to the refusal and emptied by deletes, again and again."""
         print(f"\n64 pages filled to the refusal and emptied {times} times\n")
@@ -459,12 +475,16 @@ def main():
     parser.add_argument("--commands", type=int, default=100_000, help="the least number; twice and four times it are measured too")
     parser.add_argument("--only", default="", metavar="WORD", help="the commands whose names have this word, and nothing else")
     parser.add_argument("--worlds", action="store_true", help="worlds of many sessions, and nothing else")
+    parser.add_argument("--flushes", action="store_true", help="flushes of stores of many items, and nothing else")
     parser.add_argument("--turns", type=int, default=4_000_000, help="how many turns the sessions of a world take in all")
     given = parser.parse_args()
     if given.worlds:
         worlds(given.turns, given.runs)
         return 0
     bench = Bench(os.path.abspath(given.program), given.runs)
+    if given.flushes:
+        bench.flushed()
+        return 0
     bench.rates([given.commands * it for it in (1, 2, 4)], given.only)
     if not given.only:
         bench.lines(2 * given.commands)
@@ -473,6 +493,7 @@ def main():
         bench.standing()
         bench.hostile()
         bench.growing()
+        bench.flushed()
         bench.refilled()
         worlds(given.turns, given.runs)
     return 0
