@@ -23,4 +23,4 @@ decide_at_shelf-requires-clause-right g c =
     subst (λ (bays : List (ℕ × Content)). Decides began bays c.args.at (OfShelf new) (Stepped step c.args.now reply) []) (sym (ap (λ m. m.0.bays) c.requires.held))
     (settles began c.args.at old new step c.args.now reply
     (λ m part. c.steps_change_one_shelf.ensures.settled began.hash_of began.shelves c.args.at m step c.args.now reply old new c.requires.plan.on_key c.requires.own part settled)
-    c.requires.table.2)
+    c.requires.shelf)
