@@ -86,7 +86,11 @@ desk_slot desk = Some (Desk desk)
 
 -- a seat that holds two bays, the first of them taken last
 abbrev pub holds_two : Past → ℕ → Content → ℕ → Content → Mine
-holds_two p b y at x = (record { past = p; bays = (b, y) ∷ (at, x) ∷ [] }, (b, None) ∷ (at, None) ∷ [])
+holds_two p b y at x = (
+  record { past = p; bays = (b, y) ∷ (at, x) ∷ [] },
+  (b, None) ∷ (at, None) ∷
+      [],
+)
 
 -- Why a step was not taken: memory was refused, which a flush of all shelves takes too, or the
 -- numbers are spent; each only after some such history.
