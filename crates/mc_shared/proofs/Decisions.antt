@@ -1,11 +1,16 @@
 -- Which decisions are the plain machine's: those that take a state on by one shelf and the desk.
-use Rattle.std.proofs.Common.{◌≡◌, ◌≢◌, ℕ, ◌+◌, ◌<◌, List, [], ◌∷◌, Result, Ok, Err, sym, refl, ap, ◌∙◌, subst, arith}
-use Rattle.mc_command.specs.Plain.{Plain}
+use Rattle.std.proofs.Common.{◌≡◌, ◌≢◌, inl, inr, Bool, true, false, true≢false, Option, ℕ, ◌+◌, ◌<◌, List, [], ◌∷◌, Result, Ok, Err, sym, refl, ap, ◌∙◌, subst, arith}
+use Rattle.mc_command.specs.Plain.{Plain, Entry as Item, alive, row_of}
 use Rattle.mc_command.specs.declared.step.KeyStep.{KeyStep}
 use Rattle.mc_command.specs.declared.reply.Reply.{Reply}
 use Rattle.mc_shelf.specs.States.{ShelfContent, DeskState, IsHash, IsAt, CanStand}
 use Rattle.mc_command.specs.Commands.{key_of}
-use Rattle.mc_shelf.specs.Plans.{IsSpent}
+use Rattle.std.specs.FinMap.{get}
+use Rattle.mc_command.specs.Laws.{IsOnKey}
+use Rattle.mc_command.specs.declared.row.Row.{Row}
+use Rattle.mc_command.specs.declared.row.Row.TheVariants.{Refuses as RefusesIt, Reads, Touches, Deletes, Writes}
+use Rattle.mc_shelf.specs.declared.plan.Next.{Next}
+use Rattle.mc_shelf.specs.Plans.{IsSpent, LookTakesMemory, NeedsPage, is_gone, next_by, next_of, row_at, writes}
 use Rattle.mc_shelf.specs.Parts.{IsShelfOf, IsDeskOf, GoesTo, GoesByStep, GoesWithoutDesk}
 use Rattle.mc_shared.specs.Bays.{Content, OfShelf, OfDesk}
 use Rattle.mc_shared.specs.Sums.{total}
@@ -16,7 +21,7 @@ use Rattle.mc_shared.specs.Steps.{Decides, Fitted}
 use Rattle.mc_command.specs.declared.step.StepFault.{StepFault}
 use Rattle.mc_command.specs.declared.step.StepFault.TheVariants.{NoMemory, NumbersSpent}
 use Rattle.mc_shared.specs.Past.{Past}
-use Rattle.mc_shared.specs.Store.{IsSpentAfter, Refuses}
+use Rattle.mc_shared.specs.Store.{IsSpentAfter, MayTakeMemory, WantsMemoryAfter, Refuses, May, told_of}
 use Rattle.mc_shared.proofs.StockedKept.{here}
 
 -- a bay that isn't held is another than one that is
@@ -180,9 +185,59 @@ spent_after start at f d step now own v is fitted spent =
       spent = spent m (stands start m at f d (key_of step) own fits.1.0.1 fits.0.1);
     }
 
+-- ---- want of memory
+
+-- what writes is of a row that writes
+writes_row : (dead : Bool) (greatest : ℕ) (step : KeyStep) (item : Option Item) (row : Row)
+    → writes (next_by dead greatest step item row) ≡ true → MayTakeMemory row
+writes_row true greatest step item (RefusesIt refusal) e = absurd (true≢false (sym e))
+writes_row false greatest step item (RefusesIt refusal) e = absurd (true≢false (sym e))
+writes_row dead greatest step item (Reads expiry) e = tt
+writes_row dead greatest step item (Touches expiry) e = absurd (true≢false (sym e))
+writes_row dead greatest step item Deletes e = absurd (true≢false (sym e))
+writes_row dead greatest step item (Writes draft) e = tt
+
+pub writes_take : (f : ShelfContent) (step : KeyStep) (now : ℕ)
+    → writes (next_of f step now) ≡ true → MayTakeMemory (row_at f step now)
+writes_take f step now e =
+    writes_row (is_gone f.cut now (get f.items (key_of step))) f.greatest step
+    (alive f.cut now (get f.items (key_of step))) (row_at f step now) e
+
+pub look_takes : (f : ShelfContent) (step : KeyStep) (now : ℕ) → LookTakesMemory step now f
+    → MayTakeMemory (row_at f step now)
+look_takes f step now (inl reads) = subst MayTakeMemory (sym reads.1) tt
+look_takes f step now (inr writes_new) = writes_take f step now writes_new.1
+
+pub page_takes : (f : ShelfContent) (step : KeyStep) (now : ℕ) (next : Next) (desk : DeskState)
+    → next ≡ next_of f step now → NeedsPage next desk → MayTakeMemory (row_at f step now)
+page_takes f step now next desk is needs =
+    writes_take f step now (ap writes (sym is ∙ needs.writes_it))
+
+-- where a shelf that is held finds such a row, the state does after some history
+pub wants_after : (start : Start) (at : ℕ) (f : ShelfContent) (step : KeyStep) (now : ℕ)
+    → shelf_in start (key_of step) ≡ at → (v : Knows)
+    → ((m : Plain) → AllFit start m v.bays → IsShelfOf start.hash_of start.shelves m at f)
+    → Fitted start v → MayTakeMemory (row_at f step now) → WantsMemoryAfter start v.past step now
+wants_after start at f step now own v part fitted takes =
+    let m : Plain = after start start.plain fitted.log in
+    let is = part m fitted.fits in
+    record {
+      log = fitted.log;
+      legal = fitted.legal;
+      keeps = fitted.keeps;
+      wants = subst (λ item. MayTakeMemory (row_of step now item))
+          (λ i. alive (is.cut i) now (is.items (key_of step) own i)) takes;
+    }
+
 -- what is told of a fault
 pub refuses : (start : Start) (p : Past) (step : KeyStep) (now : ℕ) (result : Result Reply StepFault)
     (fault : StepFault) → result ≡ Err fault
+    → (result ≡ Err NoMemory → WantsMemoryAfter start p step now)
     → (result ≡ Err NumbersSpent → IsSpentAfter start p step now) → Refuses start p step now fault
-refuses start p step now result NoMemory is spent = tt
-refuses start p step now result NumbersSpent is spent = spent is
+refuses start p step now result NoMemory is wants spent = λ _. wants is
+refuses start p step now result NumbersSpent is wants spent = spent is
+
+pub tells : (start : Start) (p : Past) (step : KeyStep) (now : ℕ) (fault : StepFault)
+    → IsOnKey step → Refuses start p step now fault → May start p step now (told_of fault)
+tells start p step now NoMemory on refused = refused on
+tells start p step now NumbersSpent on refused = refused

@@ -8,7 +8,8 @@ use Rattle.mc_shared.specs.Past.{Past, KeptBy}
 use Rattle.mc_shared.specs.Rule.{KeepsLimits}
 
 -- all shelves and the desk are the parts of the state after a legal history that keeps the past
-pub record Gathered (began : Start) (p : Past) (shelves : List ShelfState) (desk : DeskState) : Type 0 where
+pub record Gathered (began : Start) (p : Past) (shelves : List ShelfState) (desk : DeskState) : Type
+    0 where
   pub log : List Entry
   pub legal : IsLegal began began.plain log
   pub keeps : KeptBy log p

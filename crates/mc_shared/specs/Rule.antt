@@ -41,7 +41,8 @@ pub record Story (start : Start) (log : List Entry) (views : List Knows) : Type 
   pub legal : IsLegal start start.plain log
   pub ordered : (id : ℕ) (v : Knows) → get_elem? views id ≡ some v → Ordered log v.past
   pub balanced : (h : Entry → ℕ) → total h log ≡ total (λ v. total h (held v.past)) views
-  pub known : (g : Name → ℕ) → total (λ v. total g (callers v.past)) views ≡ g [] + total (λ v. total g (makes v.past)) views
+  pub known : (g : Name → ℕ) → total (λ v. total g (callers v.past)) views ≡ g [] + total
+      (λ v. total g (makes v.past)) views
 
 -- who is who: each caller is held by one past, and only who lives holds a bay
 pub record Named (log : List Entry) (views : List Knows) : Type 0 where
@@ -51,12 +52,14 @@ pub record Named (log : List Entry) (views : List Knows) : Type 0 where
   pub idle : (id : ℕ) (v : Knows) → get_elem? views id ≡ some v → Lives v.past ⊎ (v.bays ≡ [])
 
 -- the bays, against the state: those below the number of shelves, and the desk
-pub record Stocked (start : Start) (m : Plain) (words : List ℕ) (homes : List (mathlib.Core.Option.Option (Option Bay))) (views : List Knows) : Type 0 where
+pub record Stocked (start : Start) (m : Plain) (words : List ℕ)
+    (homes : List (mathlib.Core.Option.Option (Option Bay))) (views : List Knows) : Type 0 where
   pub wide : length words ≡ start.shelves + 1
   pub deep : length homes ≡ start.shelves + 1
   pub low : (b : ℕ) → b < start.shelves + 1 → slice_index words b ≤ 1
   pub taken : (b : ℕ) → b < start.shelves + 1 → total (times b) views ≡ slice_index words b
-  pub home : (b : ℕ) → b < start.shelves + 1 → slice_index words b ≡ 0 → (x : Bay) × (get_elem? homes b ≡ some (some (Some x))) × Fits start m b (content_of x)
+  pub home : (b : ℕ) → b < start.shelves + 1 → slice_index words b ≡ 0 → (x : Bay)
+      × (get_elem? homes b ≡ some (some (Some x))) × Fits start m b (content_of x)
   pub limits : KeepsLimits start m
   pub out : (id : ℕ) (v : Knows) → get_elem? views id ≡ some v → AllFit start m v.bays
 
@@ -67,5 +70,6 @@ pub record Kept (start : Start) (s : State (Option Bay) Knows) : Type 0 where
   pub stocked : Stocked start (after start start.plain log) s.words s.homes s.views
 
 -- the rule of a table whose key is what the store began with
-abbrev pub KeptFrom : {K : Type 0} → (K → List ℕ → ℕ) → StoreState K → State (Option Bay) Knows → Type 0
+abbrev pub KeptFrom : {K : Type 0} → (K → List ℕ → ℕ) → StoreState K → State (Option Bay) Knows
+    → Type 0
 KeptFrom hash_of store = Kept (start_of hash_of store)

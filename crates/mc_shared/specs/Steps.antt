@@ -48,7 +48,10 @@ without m = (record { past = m.0.past; bays = rest m.0.bays }, rest m.1)
 
 -- the same with a decision, where these bays are still held, with this content
 abbrev pub decided_by : Mine → What → List (ℕ × Content) → Mine
-decided_by m what bays = (record { past = call m.0.past (entry_of m.0.past what); bays = bays }, rest m.1)
+decided_by m what bays = (
+  record { past = call m.0.past (entry_of m.0.past what); bays = bays },
+  rest m.1,
+)
 
 -- there is a legal history that keeps the past
 pub record Agrees (start : Start) (p : Past) : Type 0 where
@@ -66,7 +69,10 @@ pub record Fitted (start : Start) (v : Knows) : Type 0 where
 
 -- the word was 0, and the bay is held from then on; or it was 1
 abbrev pub took : Start → Step Slot → Mine → ℕ → Mine → Type 0
-took began st m n m' = (n ≡ 0 → (x : Bay) × IsAt began.shelves st.word x × (m' ≡ (holding m.0 st.word (content_of x), (st.word, Some x) ∷ m.1)) × Fitted began (holding m.0 st.word (content_of x))) × (n ≢ 0 → (n ≡ 1) × (m' ≡ m) × (Whole m.0.past → 1 ≤ times st.word m.0))
+took began st m n m' = (n ≡ 0 → (x : Bay) × IsAt began.shelves st.word x
+    × (m' ≡ (holding m.0 st.word (content_of x), (st.word, Some x) ∷ m.1))
+    × Fitted began (holding m.0 st.word (content_of x)))
+    × (n ≢ 0 → (n ≡ 1) × (m' ≡ m) × (Whole m.0.past → 1 ≤ times st.word m.0))
 
 abbrev pub gave : Start → Step Slot → Mine → ℕ → Mine → Type 0
 gave began st m n m' = (m' ≡ without m) × Fitted began m.0
@@ -84,14 +90,18 @@ HasTaken began m b x m' =
 abbrev pub HasDecided : Start → Mine → What → List (ℕ × Content) → Mine → Type 0
 HasDecided began m what still m' = (m' ≡ decided_by m what still) × Agrees began m'.0.past
 
--- Whatever the state is, if what is held fits it: the decision is the plain machine's, what is given back and what is still held fit the state after it, and so does each bay that is not held
-pub record Decides (start : Start) (bays : List (ℕ × Content)) (b : ℕ) (y : Content) (what : What) (still : List (ℕ × Content)) : Type 0 where
+-- Whatever the state is, if what is held fits it: the decision is the plain machine's, what is
+-- given back and what is still held fit the state after it, and so does each bay that is not held
+pub record Decides (start : Start) (bays : List (ℕ × Content)) (b : ℕ) (y : Content) (what : What)
+    (still : List (ℕ × Content)) : Type 0 where
   pub places : (c : ℕ) → total (holds_bay c) still ≡ total (holds_bay c) (rest bays)
   pub right : (m : Plain) → AllFit start m bays → IsRight m what
-  pub limits : (m : Plain) → AllFit start m bays → KeepsLimits start m → KeepsLimits start (next start m what)
+  pub limits : (m : Plain) → AllFit start m bays → KeepsLimits start m
+      → KeepsLimits start (next start m what)
   pub given : (m : Plain) → AllFit start m bays → Fits start (next start m what) b y
   pub kept : (m : Plain) → AllFit start m bays → AllFit start (next start m what) still
-  pub others : (m : Plain) → AllFit start m bays → (c : ℕ) (z : Content) → total (holds_bay c) bays ≡ 0 → Fits start m c z → Fits start (next start m what) c z
+  pub others : (m : Plain) → AllFit start m bays → (c : ℕ) (z : Content)
+      → total (holds_bay c) bays ≡ 0 → Fits start m c z → Fits start (next start m what) c z
 
 -- the next name that a caller gives: how many it has made, before its own
 abbrev pub next_name : Past → Name

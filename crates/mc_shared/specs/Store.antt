@@ -5,7 +5,10 @@ use Rattle.mc_command.specs.declared.reply.Reply.{Reply}
 use Rattle.mc_command.specs.declared.step.StepFault.{StepFault}
 use Rattle.mc_command.specs.declared.step.StepFault.TheVariants.{NoMemory as OutOfMemory, NumbersSpent as OutOfNumbers}
 use Rattle.mc_command.specs.Commands.{key_of}
-use Rattle.mc_command.specs.Plain.{Spent, plain}
+use Rattle.mc_command.specs.declared.row.Row.{Row}
+use Rattle.mc_command.specs.declared.row.Row.TheVariants.{Refuses as RefusesIt, Reads, Touches, Deletes, Writes}
+use Rattle.mc_command.specs.Laws.{IsOnKey}
+use Rattle.mc_command.specs.Plain.{Spent, plain, row_of, standing}
 use Rattle.mc_shelf.specs.States.{ShelfState, DeskState}
 use Rattle.mc_shared.specs.declared.bay.Bay.TheVariants.{Shelf, Desk}
 use Rattle.mc_shared.specs.Bays.{Content}
@@ -44,10 +47,29 @@ pub record IsSpentAfter (began : Start) (p : Past) (step : KeyStep) (now : ℕ) 
   pub keeps : KeptBy log p
   pub spent : plain (after began began.plain log) step now ≡ Spent
 
--- A bay is busy only where its word was 1, which it is not where the past is whole. The bay is the key's shelf or the desk.
+-- memory may be wanted of a row that reads an item or writes one, and of no other
+abbrev pub MayTakeMemory : Row → Type 0
+MayTakeMemory (RefusesIt refusal) = ⊥
+MayTakeMemory (Reads expiry) = Unit {0}
+MayTakeMemory (Touches expiry) = ⊥
+MayTakeMemory Deletes = ⊥
+MayTakeMemory (Writes draft) = Unit {0}
+
+-- a step reads or writes an item after some legal history that keeps the past
+pub record WantsMemoryAfter (began : Start) (p : Past) (step : KeyStep) (now : ℕ) : Type 0 where
+  pub log : List Entry
+  pub legal : IsLegal began began.plain log
+  pub keeps : KeptBy log p
+  pub wants : MayTakeMemory
+      (row_of step now (standing (after began began.plain log) (key_of step) now))
+
+-- Why a step was tried and not taken. A bay is busy only where its word was 1, which it is not
+-- where the past is whole, and is the key's shelf or the desk.
 abbrev pub May : Start → Past → KeyStep → ℕ → TryFault → Type 0
-May began p step now (Busy bay word) = (word ≡ 1) × (Whole p → ⊥) × ((bay ≡ shelf_in began (key_of step)) ⊎ (bay ≡ began.shelves))
-May began p step now NoMemory = Unit {0}
+May began p step now (Busy bay word) =
+    (word ≡ 1) × (Whole p → ⊥)
+    × ((bay ≡ shelf_in began (key_of step)) ⊎ (bay ≡ began.shelves))
+May began p step now NoMemory = WantsMemoryAfter began p step now
 May began p step now NumbersSpent = IsSpentAfter began p step now
 
 -- what a caller is told of a shelf's fault
@@ -64,9 +86,14 @@ desk_slot desk = Some (Desk desk)
 
 -- a seat that holds two bays, the first of them taken last
 abbrev pub holds_two : Past → ℕ → Content → ℕ → Content → Mine
-holds_two p b y at x = (record { past = p; bays = (b, y) ∷ (at, x) ∷ [] }, (b, None) ∷ (at, None) ∷ [])
+holds_two p b y at x = (
+  record { past = p; bays = (b, y) ∷ (at, x) ∷ [] },
+  (b, None) ∷ (at, None) ∷
+      [],
+)
 
--- numbers are spent only after some such history
+-- Why a step was not taken: memory was refused, which a flush of all shelves takes too, or the
+-- numbers are spent; each only after some such history.
 abbrev pub Refuses : Start → Past → KeyStep → ℕ → StepFault → Type 0
-Refuses began p step now OutOfMemory = Unit {0}
+Refuses began p step now OutOfMemory = IsOnKey step → WantsMemoryAfter began p step now
 Refuses began p step now OutOfNumbers = IsSpentAfter began p step now

@@ -1,4 +1,5 @@
--- What a seat knows: a past, and the bays that it holds, each with the content that its home would have.
+-- What a seat knows: a past, and the bays that it holds, each with the content that its home would
+-- have.
 use Rattle.std.specs.Prelude.{◌≡◌, ℕ, List, [], refl}
 use mathlib.Core.Logic.{inl, inr, ◌⊎◌}
 use Rattle.std.specs.Coded.{Coded, code_by, coded×, coded⊎, coded_ℕ, coded_list}
@@ -26,10 +27,13 @@ what_same (Stepped step now reply) = refl
 what_same (Purged shelf now) = refl
 
 abbrev pub what_code : Coded What
-what_code = code_by _ (coded⊎ (coded× (step_row record { mir = static; lft = [] }).coded (coded× coded_ℕ reply_row.coded)) (coded× coded_ℕ coded_ℕ)) what_parts what_made what_same
+what_code = code_by _ (coded⊎ (coded× (step_row record { mir = static; lft = [] }).coded
+    (coded× coded_ℕ reply_row.coded)) (coded× coded_ℕ coded_ℕ)) what_parts what_made what_same
 
 abbrev pub entry_code : Coded Entry
-entry_code = code_by _ (coded× (coded_list coded_ℕ) (coded× coded_ℕ what_code)) (λ e. (e.by, (e.number, e.what))) (λ p. record { by = p.0; number = p.1.0; what = p.1.1 }) (λ _. refl)
+entry_code = code_by _ (coded× (coded_list coded_ℕ) (coded× coded_ℕ what_code))
+    (λ e. (e.by, (e.number, e.what))) (λ p. record { by = p.0; number = p.1.0; what = p.1.1 })
+    (λ _. refl)
 
 abbrev name_code : Coded Name
 name_code = coded_list coded_ℕ
@@ -51,10 +55,14 @@ g_tail _ = gnil
 
 pub past_inj : (x y : Past) → past_gv x ≡ past_gv y → x ≡ y
 past_inj spent spent e = refl
-past_inj (start c p) (start d q) e = λ i. start (name_code.inj c d (ap (λ g. g_head (g_tail g)) e) i) (past_inj p q (ap (λ g. g_tail (g_tail g)) e) i)
-past_inj (call p c) (call q d) e = λ i. call (past_inj p q (ap (λ g. g_tail (g_tail g)) e) i) (entry_code.inj c d (ap (λ g. g_head (g_tail g)) e) i)
-past_inj (made p c) (made q d) e = λ i. made (past_inj p q (ap (λ g. g_tail (g_tail g)) e) i) (name_code.inj c d (ap (λ g. g_head (g_tail g)) e) i)
-past_inj (both p c) (both q d) e = λ i. both (past_inj p q (ap (λ g. g_head (g_tail g)) e) i) (past_inj c d (ap (λ g. g_tail (g_tail g)) e) i)
+past_inj (start c p) (start d q) e = λ i. start (name_code.inj c d (ap (λ g. g_head (g_tail g)) e)
+    i) (past_inj p q (ap (λ g. g_tail (g_tail g)) e) i)
+past_inj (call p c) (call q d) e = λ i. call (past_inj p q (ap (λ g. g_tail (g_tail g)) e) i)
+    (entry_code.inj c d (ap (λ g. g_head (g_tail g)) e) i)
+past_inj (made p c) (made q d) e = λ i. made (past_inj p q (ap (λ g. g_tail (g_tail g)) e) i)
+    (name_code.inj c d (ap (λ g. g_head (g_tail g)) e) i)
+past_inj (both p c) (both q d) e = λ i. both (past_inj p q (ap (λ g. g_head (g_tail g)) e) i)
+    (past_inj c d (ap (λ g. g_tail (g_tail g)) e) i)
 past_inj x y e = absurd (cc e)
 
 abbrev pub past_code : Coded Past
@@ -65,7 +73,8 @@ pub record Knows : Type 0 where
   pub bays : List (ℕ × Content)
 
 abbrev pub knows_code : Coded Knows
-knows_code = code_by _ (coded× past_code (coded_list (coded× coded_ℕ content_code))) (λ k. (k.past, k.bays)) (λ p. record { past = p.0; bays = p.1 }) (λ _. refl)
+knows_code = code_by _ (coded× past_code (coded_list (coded× coded_ℕ content_code)))
+    (λ k. (k.past, k.bays)) (λ p. record { past = p.0; bays = p.1 }) (λ _. refl)
 
 abbrev pub starting : Knows
 starting = record { past = start [] spent; bays = [] }

@@ -16,7 +16,8 @@ use std::alloc::Global;
 use std::marker::Model;
 use std::sync::Wait;
 
-/// A caller with its store, its gate and leave to wait. Contracts see whose it is, what the store began with, and the past.
+/// A caller with its store, its gate and leave to wait. Contracts see whose it is, what the store
+/// began with, and the past.
 #[derive(Drop)]
 pub struct Asking<'a, R: Wait, K: KeyHash + Drop, G: Gate> {
     rt: &'a R,
@@ -44,7 +45,7 @@ impl<'a, R: Wait, K: KeyHash + Drop, G: Gate> Model for Asking<'a, R, K, G> {
 }
 
 impl<'a, R: Wait, K: KeyHash + Drop, G: Gate> Asking<'a, R, K, G> {
-    /// The caller asks the store.
+    /// Makes of a caller one that asks its store, with a gate and leave to wait.
     pub fn new(rt: &'a R, shared: &'a Shared<K>, caller: Caller, gate: &'a G) -> Asking<'a, R, K, G>
         requires own { caller.table ≡ shared.now.table }
         ensures { result ≡ record {
@@ -62,7 +63,7 @@ impl<'a, R: Wait, K: KeyHash + Drop, G: Gate> Asking<'a, R, K, G> {
         }
     }
 
-    /// The caller is given back.
+    /// Gives the caller back, with its past.
     pub fn into_caller(self) -> Caller
         ensures { (result.table ≡ self.entry.table) × (result.past ≡ self.entry.past) }
     {
@@ -70,14 +71,14 @@ impl<'a, R: Wait, K: KeyHash + Drop, G: Gate> Asking<'a, R, K, G> {
         caller
     }
 
-    /// How many shelves the store has.
+    /// Tells how many shelves the store has.
     pub fn shelves(&self) -> u32
         ensures { result ≡ self.now.began.settings.shelves }
     {
         self.shared.shelves()
     }
 
-    /// The shelf of a key.
+    /// Tells the shelf of a key.
     pub fn shelf_of(&self, key: &[u8]) -> u32
         ensures shelf { result ≡ shelf_in (start_of K.hash_of self.now.began) key.now }
         ensures inside { result < self.now.began.settings.shelves }
@@ -85,7 +86,7 @@ impl<'a, R: Wait, K: KeyHash + Drop, G: Gate> Asking<'a, R, K, G> {
         self.shared.shelf_of(key)
     }
 
-    /// Up to `n` entries of a shelf move in its index; answers how many did.
+    /// Moves up to `n` entries of a shelf's old table, and answers how many it moved.
     pub fn grow(&mut self, shelf: u32, n: usize) -> usize
         requires { shelf < self.old.began.settings.shelves }
         ensures same { self.new ≡ self.old }
@@ -94,7 +95,7 @@ impl<'a, R: Wait, K: KeyHash + Drop, G: Gate> Asking<'a, R, K, G> {
         self.shared.grow(self.rt, &mut self.caller, shelf, n)
     }
 
-    /// Drops the dead items of a shelf.
+    /// Drops the items of a shelf that are dead at a moment.
     pub fn tidy(&mut self, shelf: u32, now: Moment)
         requires { shelf < self.old.began.settings.shelves }
         ensures { AsksOnce (start_of K.hash_of self.old.began) (Purged shelf now) self.old

@@ -1,6 +1,7 @@
-//! What lies in the slots.
+//! What lies in the slots of the table.
 use mc_shelf::{Desk, Shelf};
 
+/// What a bay has: one of the shelves, or the desk that they share.
 #[derive(Drop)]
 pub enum Bay {
     Shelf(Shelf),

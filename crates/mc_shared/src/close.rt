@@ -83,7 +83,9 @@ fn gather<K: KeyHash + Drop>(
 }
 
 impl<K: KeyHash + Drop> Shared<K> {
-    /// A store of one thread whose state is that after a legal history that keeps the caller's past.
+    /// Closes the store, and gives one of one thread with the state after a legal history that
+    /// keeps the caller's past. What other callers hold isn't waited for: a bay that is held
+    /// refuses it.
     pub fn close(self, alloc: Global, caller: Caller) -> Result<Store<K>, CloseFault<K>>
         requires { caller.table ≡ self.table }
         ensures set_up { IfOk result (λ store. (store.settings ≡ self.began.settings)

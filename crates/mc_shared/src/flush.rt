@@ -197,7 +197,10 @@ fn flush_by<K: KeyHash + Drop, R: Wait>(
 }
 
 impl<K: KeyHash + Drop> Shared<K> {
-    /// Flushes. All shelves are held and then the desk, which decides. The one error is a refused allocation.
+    /// Flushes, all items at once or what stands by then after a delay in seconds, which is read as
+    /// an exptime is. It waits for what others hold: all shelves are held in their order, and then
+    /// the desk, so the flush is one step. The one error is a refused allocation, and the caller's
+    /// past then stays. The cost is that of one pass over all items.
     pub fn flush<R: Wait>(
         &self,
         rt: &R,

@@ -89,7 +89,8 @@ impl Model for Caller {
 }
 
 impl<K: KeyHash + Drop> Shared<K> {
-    /// A shared store that begins with a store's state, and its first caller. Refused, the store is dropped.
+    /// Makes a shared store that begins with a store's state, and its first caller. The one error
+    /// is a refused allocation; the store is then dropped.
     pub fn over(alloc: Global, store: Store<K>) -> Result<(Shared<K>, Caller), AllocError>
         ensures { IfOk result (λ r. (r.0.began ≡ store) × (r.1.table ≡ r.0.table)
             × (r.1.past ≡ start [] spent)) }
@@ -116,7 +117,8 @@ impl<K: KeyHash + Drop> Shared<K> {
         }
     }
 
-    /// Makes a shared store of no items, and its first caller. The one error is a refused allocation.
+    /// Makes a shared store of no items, and its first caller. The one error is a refused
+    /// allocation.
     pub fn new(
         alloc: Global,
         settings: Settings,
@@ -135,7 +137,8 @@ impl<K: KeyHash + Drop> Shared<K> {
         Shared::over(alloc, Store::new(alloc, settings, hasher)?)
     }
 
-    /// A new caller, whose calls stand after all that its maker then had.
+    /// Makes a new caller, which has made no call. Its calls stand after all that its maker had
+    /// made or seen until then. It always succeeds and takes no memory.
     pub fn caller(&self, maker: &mut Caller) -> Caller
         requires { maker.old.table ≡ self.now.table }
         ensures kept { (maker.new.table ≡ maker.old.table)
@@ -148,7 +151,8 @@ impl<K: KeyHash + Drop> Shared<K> {
         }
     }
 
-    /// From then on the calls of the one stand after all that both made.
+    /// Joins a caller into another: from then on the other's calls stand after all that both made.
+    /// It takes no memory.
     pub fn join(&self, into: &mut Caller, from: Caller)
         requires { (into.old.table ≡ self.now.table) × (from.table ≡ self.now.table) }
         ensures past { (into.new.table ≡ into.old.table)
@@ -160,14 +164,14 @@ impl<K: KeyHash + Drop> Shared<K> {
         look(&self.board, &mut into.seat);
     }
 
-    /// The greatest charge of an item.
+    /// Tells the greatest charge of an item, in bytes.
     pub fn greatest(&self) -> u64
         ensures { result ≡ self.now.began.settings.greatest }
     {
         self.settings.greatest
     }
 
-    /// How many shelves it has.
+    /// Tells how many shelves it has, which is one at least.
     pub fn shelves(&self) -> u32
         ensures count { result ≡ self.now.began.settings.shelves }
         ensures some { 0 < result }
@@ -175,7 +179,7 @@ impl<K: KeyHash + Drop> Shared<K> {
         self.settings.shelves
     }
 
-    /// The shelf of a key.
+    /// Tells the shelf of a key, which is its hash modulo the number of shelves.
     pub fn shelf_of(&self, key: &[u8]) -> u32
         ensures shelf { result ≡ shelf_in (start_of K.hash_of self.now.began) key.now }
         ensures inside { result < self.now.began.settings.shelves }
@@ -183,7 +187,9 @@ impl<K: KeyHash + Drop> Shared<K> {
         (self.hasher.hash(key) % u64::from(self.settings.shelves)) as u32
     }
 
-    /// A step on one key, where nobody holds what it needs. Where it isn't taken, nothing is decided and no bay is held.
+    /// Tries a step on one key, and waits for nobody. The key's shelf and, where the step needs it,
+    /// the desk are held while it is taken. Where it isn't taken, the caller's past stays, nothing
+    /// is decided and no bay is held.
     pub fn try_step(
         &self,
         alloc: Global,
@@ -319,7 +325,8 @@ pub(crate) fn step_at_shelf<K: KeyHash + Drop>(
     reply
 }
 
-/// A step that the desk decides, with the key's shelf held. Where it isn't taken, both go back as they were.
+/// A step that the desk decides, with the key's shelf held. Where it isn't taken, both go back as
+/// they were.
 fn step_at_desk<K: KeyHash + Drop>(
     board: &Board<K>,
     alloc: Global,
@@ -363,7 +370,8 @@ fn step_at_desk<K: KeyHash + Drop>(
     }
 }
 
-/// A step that the desk decides, with the key's shelf and the desk held. Both go back, as they were where it isn't taken.
+/// A step that the desk decides, with the key's shelf and the desk held. Both go back, as they were
+/// where it isn't taken.
 pub(crate) fn apply_at_desk<K: KeyHash + Drop>(
     board: &Board<K>,
     alloc: Global,

@@ -131,7 +131,8 @@ fn grow_by<K: KeyHash + Drop, R: Wait>(
 }
 
 impl<K: KeyHash + Drop> Shared<K> {
-    /// Drops the dead items of a shelf. It takes no memory.
+    /// Drops the items of a shelf that are dead at a moment. It waits for the shelf and the desk,
+    /// and takes no memory. The cost is that of one pass over the shelf's items.
     pub fn tidy<R: Wait>(&self, rt: &R, caller: &mut Caller, shelf: u32, now: Moment)
         requires own { caller.old.table ≡ self.now.table }
         requires shelf { shelf < self.now.began.settings.shelves }
@@ -151,7 +152,8 @@ impl<K: KeyHash + Drop> Shared<K> {
         );
     }
 
-    /// Up to `n` entries of a shelf move in its index; answers how many did. It takes no memory.
+    /// Moves up to `n` entries of a shelf's old table, and answers how many it moved. It waits for
+    /// the shelf. Nothing is decided, and no memory is taken. The cost grows with `n`.
     pub fn grow<R: Wait>(&self, rt: &R, caller: &mut Caller, shelf: u32, n: usize) -> usize
         requires own { caller.old.table ≡ self.now.table }
         requires shelf { shelf < self.now.began.settings.shelves }

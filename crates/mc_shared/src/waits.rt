@@ -97,7 +97,8 @@ impl<K: KeyHash + Drop> Shared<K> {
         self.step_at(rt, alloc, caller, step, now, &NoGate)
     }
 
-    /// Takes a step. It waits for what others hold, and calls the gate once while the key's shelf is
+    /// Takes a step. It waits for what others hold, and calls the gate once while the key's shelf
+    /// is
     /// held; a flush calls no gate. Where it isn't taken, nothing is decided and no bay is held.
     pub fn step_at<R: Wait, G: Gate>(
         &self,

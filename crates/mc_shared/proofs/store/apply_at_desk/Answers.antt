@@ -3,8 +3,9 @@ use Rattle.mc_command.specs.Commands.{key_of}
 use Rattle.mc_shelf.specs.Plans.{IsPlan, IsTaken, writes}
 use Rattle.mc_shared.specs.Bays.{Content, OfShelf, OfDesk}
 use Rattle.mc_shared.specs.History.{start_of, Stepped}
+use Rattle.mc_shared.specs.Rule.{AllFit}
 use Rattle.mc_shared.specs.Steps.{Decides}
-use Rattle.mc_shared.proofs.Decisions.{applies_step, can_stand, refuses, spent_after}
+use Rattle.mc_shared.proofs.Decisions.{applies_step, can_stand, page_takes, refuses, spent_after, wants_after}
 use Rattle.mc_shared.proofs.Held.{two_held}
 use Rattle.mc_shared.proofs.store.apply_at_desk.Goals as goal
 
@@ -40,6 +41,10 @@ returns-in-Err-clause-fault g c =
     let desk = c.args.desk in
     let bays = ap (λ n. n.0.bays) c.requires.held ∙ (λ i. (c.requires.desk_bay i, OfDesk desk) ∷ (c.args.bays.0, OfShelf shelf) ∷ []) in
     refuses began c.args.caller.now.me.0.past step c.args.now (Err c.in-Err.fault) c.in-Err.fault refl
+    (λ e.
+    wants_after began c.args.bays.0 shelf step c.args.now c.requires.own c.args.caller.now.me.0
+    (λ m fits. (subst (AllFit began m) bays fits).1.0.1) c.requires.fits
+    (page_takes shelf step c.args.now c.args.plan.next desk c.requires.plan.next (c.in-Err.ensures.refused e)))
     (λ e.
     let both = c.in-Err.ensures.spent.0 e in
     spent_after began c.args.bays.0 shelf desk step c.args.now c.requires.own c.args.caller.now.me.0 bays c.requires.fits
