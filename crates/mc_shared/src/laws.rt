@@ -1,0 +1,88 @@
+//! Laws of the shared store, each the contract of a function that does nothing.
+//!
+//! They speak of every legal history that keeps a caller's past; that there is one is what each
+//! call promises. So they tell what callers read of one another, whichever history it was.
+
+ghost use Rattle.std.specs.Prelude.{◌≡◌, ◌<◌, ◌⊎◌, ℕ, List, [], ◌∷◌, ◌++◌, Some};
+ghost use Rattle.mc_command.specs.declared.step.KeyStep.{KeyStep};
+ghost use Rattle.mc_command.specs.declared.reply.Reply.{Reply};
+ghost use Rattle.mc_command.specs.Commands.{key_of};
+ghost use Rattle.mc_command.specs.Plain.{Entry as Item};
+ghost use Rattle.mc_shared.specs.History.{Start, What, Stepped, Entry, after, IsLegal};
+ghost use Rattle.mc_shared.specs.Past.{Past, spent, call, held, KeptBy};
+ghost use Rattle.mc_shared.specs.Past as past;
+ghost use Rattle.mc_shared.specs.Steps.{entry_of, Agrees};
+ghost use Rattle.mc_shared.specs.Store.{with_call};
+ghost use Rattle.mc_shared.specs.Laws.{StandsIn, StandsBefore, Has, IsWithin, WentOn, IsAlone, Call, with_calls, PlainAnswers, MayChange, IsTold, ReadsLatest, read_of, item_given, HasItem, IsWrittenIn};
+
+use mc_command::{flushes_empty, other_keys_stay};
+
+/// States that calls stand in the history as they were made: what a caller's past had when it made
+/// a call stands before that call. So a caller's own calls stand in their order, what a maker had
+/// done before it made a caller stands before all that this one does, and what was joined stands
+/// before all that follows the join.
+pub fn calls_keep_their_order()
+    ensures stands { (log : List Entry) (p : Past) (e : Entry) →
+        KeptBy log p → Has p e → StandsIn log e }
+    ensures order { (log : List Entry) (p q r : Past) (e first : Entry) →
+        KeptBy log r → IsWithin (call q e) r → IsWithin p q → Has p first →
+        StandsBefore log first e }
+    ensures numbers { (p q : Past) (first second : What) →
+        WentOn (call p (entry_of p first)) q →
+        ((entry_of q second).by ≡ (entry_of p first).by)
+        × ((entry_of p first).number < (entry_of q second).number) }
+{}
+
+/// States what a caller reads of what it knows: its own calls, those that its maker had before it
+/// made it, and those of the callers that were joined into it. A read is told what one entry left,
+/// and every entry of the caller's past that may have changed the key's item is that one or stands
+/// before it. So a write that a caller knows is read, or something later is; and of two such writes
+/// the later is read, or something later still.
+///
+/// An item that was stored as it was given is told as it was given, under its own unique number, or
+/// a miss once it is dead. After a delete a read is told a miss.
+pub fn a_caller_reads_what_it_knows()
+    ensures latest { (began : Start) (log : List Entry) (p : Past) (key : List ℕ) (now : ℕ)
+        (reply : Reply) (known : Entry) →
+        IsLegal began began.plain log → KeptBy log (with_call p (KeyStep.Read key) now reply) →
+        Has p known → MayChange began key known.what →
+        ReadsLatest began log p key now reply (entry_of p (Stepped (KeyStep.Read key) now reply)) }
+    ensures given { (began : Start) (log : List Entry) (key : List ℕ) (now : ℕ) (reply : Reply)
+        (last read : Entry) (step : KeyStep) (then : ℕ) (item : Item) →
+        IsLegal began began.plain log → (told : IsTold began log key now reply last read) →
+        last.what ≡ Stepped step then Reply.Stored →
+        item_given step then (after began began.plain told.places.before).next_unique ≡ Some item →
+        reply ≡ read_of began (told.places.before ++ last ∷ told.places.between) now (Some item) }
+    ensures deleted { (began : Start) (log : List Entry) (key : List ℕ) (now : ℕ) (reply : Reply)
+        (last read : Entry) (then : ℕ) (other : Reply) →
+        IsLegal began began.plain log → IsTold began log key now reply last read →
+        last.what ≡ Stepped (KeyStep.Delete key) then other → reply ≡ Reply.Miss }
+{
+    other_keys_stay();
+}
+
+/// States that the first caller, while it is alone, has a plain store: every history that keeps its
+/// past has its calls, in their order, and nothing else; so each reply is the plain machine's, from
+/// the state that the store began with.
+pub fn a_caller_alone_has_a_plain_store()
+    ensures history { (log : List Entry) (p : Past) → IsAlone p → KeptBy log p → log ≡ held p }
+    ensures legal { (began : Start) (p : Past) →
+        IsAlone p → Agrees began p → IsLegal began began.plain (held p) }
+    ensures replies { (began : Start) (calls : List Call) →
+        Agrees began (with_calls (past.start [] spent) calls) → PlainAnswers began.plain calls }
+{}
+
+/// States that nothing is told that no one stored: an item that a read hits was under the key when
+/// the store began, or one of the entries before the read wrote it, with the unique number that
+/// that entry drew.
+pub fn nothing_is_made_up()
+    ensures { (began : Start) (log front rest : List Entry) (read : Entry) (step : KeyStep)
+        (now flags unique : ℕ) (block : List ℕ) →
+        IsLegal began began.plain log → log ≡ front ++ read ∷ rest →
+        read.what ≡ Stepped step now (Reply.Hit flags unique block) →
+        HasItem began.plain (key_of step) flags unique block
+        ⊎ IsWrittenIn began front (key_of step) flags unique block }
+{
+    other_keys_stay();
+    flushes_empty();
+}
