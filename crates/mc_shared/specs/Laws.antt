@@ -1,7 +1,6 @@
 -- What the laws of a shared store speak of.
 use Rattle.std.specs.Prelude.{◌≡◌, ℕ, ◌⊎◌, List, [], ◌∷◌, ◌++◌, Option, Some, None}
 use Rattle.std.specs.FinMap.{get}
-use Rattle.std.specs.List.{All}
 use Rattle.mc_time.specs.Death.{expiry_of}
 use Rattle.mc_command.specs.declared.step.Verb.TheVariants.{Append, Prepend}
 use Rattle.mc_command.specs.declared.step.KeyStep.{KeyStep}
@@ -103,7 +102,7 @@ pub record IsTold (began : Start) (log : List Entry) (key : List ℕ) (now : ℕ
     (last read : Entry) : Type 0 where
   pub places : StandsBefore log last read
   pub changes : MayChange began key last.what
-  pub spared : All (λ e. MayChange began key e.what → ⊥) places.between
+  pub spared : (e : Entry) → StandsIn places.between e → MayChange began key e.what → ⊥
   pub told : reply ≡ read_of began (places.before ++ last ∷ places.between) now
       (item_after began (places.before ++ last ∷ []) key)
 
