@@ -59,7 +59,7 @@ module _ (flags unique : ℕ) (block : List ℕ) where
   Stands item key old = (i : Item) → item ≡ Some i → get old.items key ≡ Some i
 
   -- the content was there, or the step wrote it
-  abbrev Traces : Plain → KeyStep → ℕ → Outcome → Type 0
+  abbrev pub Traces : Plain → KeyStep → ℕ → Outcome → Type 0
   Traces old step now (Answered reply new) = HasItem new (key_of step) flags unique block → HasItem old (key_of step) flags unique block ⊎ (Wrote (key_of step) (Stepped step now reply) × (unique ≡ old.next_unique))
   Traces old step now Spent = Unit {0}
 

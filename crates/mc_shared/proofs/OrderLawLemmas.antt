@@ -74,7 +74,7 @@ pub keeps_all : (log : List Entry) (p : Past) (e : Entry) → KeptBy log p → H
 keeps_all log p e kept has = stands_in p log e kept.ordered has
 
 -- ---- numbers
-one_name : (c : Name) → same c c ≡ 1
+pub one_name : (c : Name) → same c c ≡ 1
 one_name [] = refl
 one_name (x ∷ xs) = ap (λ b. cond b (same xs xs) 0) (eq-eqb x x refl) ∙ one_name xs
 

@@ -15,7 +15,7 @@ ghost use Rattle.mc_shared.specs.Steps.{entry_of, Agrees};
 ghost use Rattle.mc_shared.specs.Store.{with_call};
 ghost use Rattle.mc_shared.specs.Laws.{StandsIn, StandsBefore, Has, IsWithin, WentOn, IsAlone, Call, with_calls, PlainAnswers, MayChange, IsTold, ReadsLatest, read_of, item_given, HasItem, IsWrittenIn};
 
-use mc_command::{flushes_empty, other_keys_stay};
+use mc_command::other_keys_stay;
 
 /// States that calls stand in the history as they were made: what a caller's past had when it made
 /// a call stands before that call. So a caller's own calls stand in their order, what a maker had
@@ -84,5 +84,4 @@ pub fn nothing_is_made_up()
         ⊎ IsWrittenIn began front (key_of step) flags unique block }
 {
     other_keys_stay();
-    flushes_empty();
 }
