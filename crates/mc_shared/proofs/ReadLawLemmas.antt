@@ -27,7 +27,7 @@ abbrev pub OthersStay : Type 0
 OthersStay = (old new : Plain) (step : KeyStep) (now : ℕ) (reply : Reply) (other : List ℕ) → IsOnKey step → plain old step now ≡ Answered reply new → other ≢ key_of step → get new.items other ≡ get old.items other
 
 -- ---- keys
-same_keys : (c d : List ℕ) → same c d ≢ 0 → c ≡ d
+pub same_keys : (c d : List ℕ) → same c d ≢ 0 → c ≡ d
 same_keys [] [] h = refl
 same_keys [] (y ∷ ys) h = absurd (h refl)
 same_keys (x ∷ xs) [] h = absurd (h refl)
@@ -56,7 +56,7 @@ module _ (began : Start) where
   after_parts m [] ys = refl
   after_parts m (x ∷ xs) ys = after_parts (next began m x.what) xs ys
 
-stands_behind : (x e : Entry) (es : List Entry) → StandsIn es e → StandsIn (x ∷ es) e
+pub stands_behind : (x e : Entry) (es : List Entry) → StandsIn es e → StandsIn (x ∷ es) e
 stands_behind x e es s = (x ∷ s.0, s.1, ap (λ ys. x ∷ ys) s.2)
 
 heads : (x y : Entry) (xs ys : List Entry) → x ∷ xs ≡ y ∷ ys → x ≡ y
@@ -70,18 +70,18 @@ first_parts : (x e : Entry) (es before rest : List Entry) → x ∷ es ≡ befor
 first_parts x e es [] rest is = inl (sym (heads x e es rest is))
 first_parts x e es (y ∷ before) rest is = inr (before, rest, tails x y es (before ++ e ∷ rest) is)
 
-first_or_behind : (x e : Entry) (es : List Entry) → StandsIn (x ∷ es) e → (e ≡ x) ⊎ StandsIn es e
+pub first_or_behind : (x e : Entry) (es : List Entry) → StandsIn (x ∷ es) e → (e ≡ x) ⊎ StandsIn es e
 first_or_behind x e es s = first_parts x e es s.0 s.1 s.2
 
 no_parts : (e : Entry) (before rest : List Entry) → [] ≡ before ++ e ∷ rest → ⊥
 no_parts e [] rest is = cc is
 no_parts e (x ∷ before) rest is = cc is
 
-none_stands : (e : Entry) → StandsIn [] e → ⊥
+pub none_stands : (e : Entry) → StandsIn [] e → ⊥
 none_stands e s = no_parts e s.0 s.1 s.2
 
 -- what stands in a list stands before one of its places, at it, or behind it
-around : (before : List Entry) (at : Entry) (behind : List Entry) (e : Entry) → StandsIn (before ++ at ∷ behind) e → StandsIn before e ⊎ ((e ≡ at) ⊎ StandsIn behind e)
+pub around : (before : List Entry) (at : Entry) (behind : List Entry) (e : Entry) → StandsIn (before ++ at ∷ behind) e → StandsIn before e ⊎ ((e ≡ at) ⊎ StandsIn behind e)
 around [] at behind e s = inr (first_or_behind at e behind s)
 around (x ∷ before) at behind e s = ⊎_elim
     (λ (is : e ≡ x). inl ([], before, ap (λ y. y ∷ before) (sym is)))

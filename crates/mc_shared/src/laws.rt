@@ -3,13 +3,13 @@
 //! They speak of every legal history that keeps a caller's past; that there is one is what each
 //! call promises. So they tell what callers read of one another, whichever history it was.
 
-ghost use Rattle.std.specs.Prelude.{◌≡◌, ◌<◌, ◌⊎◌, ℕ, List, [], ◌∷◌, ◌++◌, Some};
+ghost use Rattle.std.specs.Prelude.{◌≡◌, ◌<◌, ◌≤◌, ◌⊎◌, ℕ, List, [], ◌∷◌, ◌++◌, Some};
 ghost use Rattle.mc_command.specs.declared.step.KeyStep.{KeyStep};
 ghost use Rattle.mc_command.specs.declared.reply.Reply.{Reply};
 ghost use Rattle.mc_command.specs.Commands.{key_of};
 ghost use Rattle.mc_command.specs.Plain.{Entry as Item};
 ghost use Rattle.mc_shared.specs.History.{Start, What, Stepped, Entry, after, IsLegal};
-ghost use Rattle.mc_shared.specs.Past.{Past, spent, call, held, KeptBy};
+ghost use Rattle.mc_shared.specs.Past.{Past, spent, call, held, callers, times, Whole, KeptBy};
 ghost use Rattle.mc_shared.specs.Past as past;
 ghost use Rattle.mc_shared.specs.Steps.{entry_of, Agrees};
 ghost use Rattle.mc_shared.specs.Store.{with_call};
@@ -31,6 +31,19 @@ pub fn calls_keep_their_order()
         WentOn (call p (entry_of p first)) q →
         ((entry_of q second).by ≡ (entry_of p first).by)
         × ((entry_of p first).number < (entry_of q second).number) }
+{}
+
+/// States that a history has of a caller what the past that holds it has, and nothing else: no
+/// entry stands twice, each entry of a caller that a past holds is held by that past, and where the
+/// past is whole each entry at all. So a step takes effect once, and where it isn't taken, never.
+pub fn a_history_has_nothing_else()
+    ensures once { (log : List Entry) (p : Past) (first second : Entry) →
+        KeptBy log p → StandsBefore log first second → first.by ≡ second.by →
+        first.number ≡ second.number → ⊥ }
+    ensures own { (log : List Entry) (p : Past) (e : Entry) →
+        KeptBy log p → 1 ≤ times e.by (callers p) → StandsIn log e → StandsIn (held p) e }
+    ensures whole { (log : List Entry) (p : Past) (e : Entry) →
+        KeptBy log p → Whole p → StandsIn log e → StandsIn (held p) e }
 {}
 
 /// States what a caller reads of what it knows: its own calls, those that its maker had before it
