@@ -31,7 +31,7 @@ order = slice_cmp nat_cmp
 pub exact_order : IsAntisymmetric (slice_cmp nat_cmp)
 exact_order = slice_cmp-IsAntisymmetric nat_cmp-IsAntisymmetric
 
-get_put : (items : Items) (key : List ℕ) (item : Item) → get (insert items key item) key ≡ Some item
+pub get_put : (items : Items) (key : List ℕ) (item : Item) → get (insert items key item) key ≡ Some item
 get_put items key item = get-insert nat_list_cmp_total items key item key ∙ ap (λ r. cond (is_eq r) (Some item) (get items key)) (tied_itself nat_list_cmp_total key)
 
 get_gone : (items : Items) (key : List ℕ) → get (remove items key) key ≡ None
@@ -48,7 +48,7 @@ pub kept_was : {A : Type 0} (b : Bool) (o : Option A) (x : A) → cond b o None 
 kept_was true o x e = e
 kept_was false o x e = absurd (none_some x e)
 
-alive_was : (cut : Option ℕ) (now : ℕ) (o : Option Item) (i : Item) → alive cut now o ≡ Some i → o ≡ Some i
+pub alive_was : (cut : Option ℕ) (now : ℕ) (o : Option Item) (i : Item) → alive cut now o ≡ Some i → o ≡ Some i
 alive_was cut now None i e = e
 alive_was cut now (Some x) i e = elim (is_dead x.expiry x.updated cut now) as (λ b. cond b None (Some x) ≡ Some i → Some x ≡ Some i) [ true ↦ λ h. absurd (none_some i h) | false ↦ λ h. h ] e
 
@@ -75,7 +75,7 @@ module _ (flags unique : ℕ) (block : List ℕ) where
       let is : put ≡ h.0 = some_is put h.0 (sym (get_put old.items key put) ∙ h.1) in
       (i, stands i refl, ap (λ (x : Item). x.flags) is ∙ h.2, ap (λ (x : Item). x.unique) is ∙ h.3, ap (λ (x : Item). x.block) is ∙ h.4)
 
-  found_next : (item : Option Item) (key : List ℕ) (old : Plain) → (without_dead item key old).next_unique ≡ old.next_unique
+  pub found_next : (item : Option Item) (key : List ℕ) (old : Plain) → (without_dead item key old).next_unique ≡ old.next_unique
   found_next None key old = refl
   found_next (Some i) key old = refl
 
@@ -84,7 +84,7 @@ module _ (flags unique : ℕ) (block : List ℕ) where
       let put : Item = record { flags = f; expiry = expiry; block = b; unique = m.next_unique; updated = now } in
       sym (ap (λ (x : Item). x.unique) (some_is put h.0 (sym (get_put m.items key put) ∙ h.1)) ∙ h.3)
 
-  paged_next : (b : Bool) (more old : Plain) → more.next_unique ≡ old.next_unique → (cond b more old).next_unique ≡ old.next_unique
+  pub paged_next : (b : Bool) (more old : Plain) → more.next_unique ≡ old.next_unique → (cond b more old).next_unique ≡ old.next_unique
   paged_next true more old e = e
   paged_next false more old e = refl
 

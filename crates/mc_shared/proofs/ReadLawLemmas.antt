@@ -48,11 +48,11 @@ may_or_not began key (Purged shelf now) = dite (ℕ_discrete (shelf_in began key
 
 -- ---- fronts of a history
 module _ (began : Start) where
-  legal_parts : (m : Plain) (xs ys : List Entry) → IsLegal began m (xs ++ ys) → IsLegal began m xs × IsLegal began (after began m xs) ys
+  pub legal_parts : (m : Plain) (xs ys : List Entry) → IsLegal began m (xs ++ ys) → IsLegal began m xs × IsLegal began (after began m xs) ys
   legal_parts m [] ys legal = (tt, legal)
   legal_parts m (x ∷ xs) ys legal = let more = legal_parts (next began m x.what) xs ys legal.1 in ((legal.0, more.0), more.1)
 
-  after_parts : (m : Plain) (xs ys : List Entry) → after began m (xs ++ ys) ≡ after began (after began m xs) ys
+  pub after_parts : (m : Plain) (xs ys : List Entry) → after began m (xs ++ ys) ≡ after began (after began m xs) ys
   after_parts m [] ys = refl
   after_parts m (x ∷ xs) ys = after_parts (next began m x.what) xs ys
 
@@ -233,7 +233,7 @@ told_deleted began log key now reply last read then other legal told is =
 -- ---- what a hit tells was written
 module _ (others_stay : OthersStay) (began : Start) (key : List ℕ) (flags unique : ℕ) (block : List ℕ) where
   -- the content was there before what was decided, or that wrote it
-  abbrev Was : Plain → What → Type 0
+  abbrev pub Was : Plain → What → Type 0
   Was m what = HasItem m key flags unique block ⊎ (Wrote key what × (unique ≡ m.next_unique))
 
   here_was : (m new : Plain) (step : KeyStep) (now : ℕ) (reply : Reply) → stepped m step now ≡ Answered reply new → key_of step ≡ key → HasItem new key flags unique block → Was m (Stepped step now reply)
@@ -263,7 +263,7 @@ module _ (others_stay : OthersStay) (began : Start) (key : List ℕ) (flags uniq
       inl (h.0, flushed_was (eqb delay 0) m _ _ h.0 refl (kept_item m.items (λ k. is_some (alive m.cut now (get m.items k))) h.0) left, h.2, h.3, h.4)
   was m new step now reply is h = on_key_was m new step now reply tt is is h
 
-  decided_was : (m : Plain) (what : What) → IsRight m what → HasItem (next began m what) key flags unique block → Was m what
+  pub decided_was : (m : Plain) (what : What) → IsRight m what → HasItem (next began m what) key flags unique block → Was m what
   decided_was m (Stepped step now reply) right h = was m right.0 step now reply right.1 (subst (λ o. HasItem (left_by m o) key flags unique block) right.1 h)
   decided_was m (Purged shelf now) right h = inl (h.0, kept_item m.items (λ k. not (eqb (shelf_in began k) shelf) || is_some (alive m.cut now (get m.items k))) h.0 h.1, h.2, h.3, h.4)
 

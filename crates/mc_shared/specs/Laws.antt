@@ -1,5 +1,5 @@
 -- What the laws of a shared store speak of.
-use Rattle.std.specs.Prelude.{◌≡◌, ℕ, ◌⊎◌, List, [], ◌∷◌, ◌++◌, Option, Some, None}
+use Rattle.std.specs.Prelude.{◌≡◌, ℕ, ◌<◌, ◌⊎◌, List, [], ◌∷◌, ◌++◌, Option, Some, None}
 use Rattle.std.specs.FinMap.{get}
 use Rattle.mc_time.specs.Death.{expiry_of}
 use Rattle.mc_command.specs.declared.step.Verb.TheVariants.{Append, Prepend}
@@ -145,6 +145,11 @@ abbrev pub Wrote : List ℕ → What → Type 0
 Wrote key (Stepped step now Stored) = key_of step ≡ key
 Wrote key (Stepped step now (Number number)) = key_of step ≡ key
 Wrote key what = ⊥
+
+-- the unique number of each item was drawn: it is below the next one
+abbrev pub HasDrawnNumbers : Plain → Type 0
+HasDrawnNumbers m =
+    (key : List ℕ) (item : Item) → get m.items key ≡ Some item → item.unique < m.next_unique
 
 -- one of some entries wrote a key, drew this unique number, and left this content under it
 pub record IsWrittenIn (began : Start) (log : List Entry) (key : List ℕ) (flags unique : ℕ)

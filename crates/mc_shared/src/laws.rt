@@ -3,7 +3,7 @@
 //! They speak of every legal history that keeps a caller's past; that there is one is what each
 //! call promises. So they tell what callers read of one another, whichever history it was.
 
-ghost use Rattle.std.specs.Prelude.{◌≡◌, ◌<◌, ◌≤◌, ◌⊎◌, ℕ, List, [], ◌∷◌, ◌++◌, Some};
+ghost use Rattle.std.specs.Prelude.{◌≡◌, ◌<◌, ◌≤◌, ◌⊎◌, ℕ, ℤ, List, [], ◌∷◌, ◌++◌, Some};
 ghost use Rattle.mc_command.specs.declared.step.KeyStep.{KeyStep};
 ghost use Rattle.mc_command.specs.declared.reply.Reply.{Reply};
 ghost use Rattle.mc_command.specs.Commands.{key_of};
@@ -13,7 +13,7 @@ ghost use Rattle.mc_shared.specs.Past.{Past, spent, call, held, callers, times, 
 ghost use Rattle.mc_shared.specs.Past as past;
 ghost use Rattle.mc_shared.specs.Steps.{entry_of, Agrees};
 ghost use Rattle.mc_shared.specs.Store.{with_call};
-ghost use Rattle.mc_shared.specs.Laws.{StandsIn, StandsBefore, Has, IsWithin, WentOn, IsAlone, Call, with_calls, PlainAnswers, MayChange, IsTold, ReadsLatest, read_of, item_given, HasItem, IsWrittenIn};
+ghost use Rattle.mc_shared.specs.Laws.{StandsIn, StandsBefore, Has, IsWithin, WentOn, IsAlone, Call, with_calls, PlainAnswers, MayChange, IsTold, ReadsLatest, read_of, item_given, HasItem, Wrote, HasDrawnNumbers, IsWrittenIn};
 
 use mc_command::other_keys_stay;
 
@@ -95,6 +95,20 @@ pub fn nothing_is_made_up()
         read.what ≡ Stepped step now (Reply.Hit flags unique block) →
         HasItem began.plain (key_of step) flags unique block
         ⊎ IsWrittenIn began front (key_of step) flags unique block }
+{
+    other_keys_stay();
+}
+
+/// States what a cas is for: one that was answered Stored wrote over the very item that a retrieval
+/// told with the cas's unique number. No entry between the two wrote the key.
+pub fn a_cas_is_of_what_was_read()
+    ensures { (began : Start) (log : List Entry) (read cas other : Entry) (step : KeyStep)
+        (then now flags unique more : ℕ) (exptime : ℤ) (block brought : List ℕ) →
+        HasDrawnNumbers began.plain → IsLegal began began.plain log →
+        (places : StandsBefore log read cas) →
+        read.what ≡ Stepped step then (Reply.Hit flags unique block) →
+        cas.what ≡ Stepped (KeyStep.Cas (key_of step) more exptime brought unique) now Reply.Stored →
+        StandsIn places.between other → Wrote (key_of step) other.what → ⊥ }
 {
     other_keys_stay();
 }
