@@ -25,9 +25,6 @@ use Rattle.mc_shared.specs.History.{Stepped}
 use Rattle.mc_shared.specs.Laws.{HasItem, Wrote, item_given}
 
 -- ---- maps under keys
-order : List ℕ → List ℕ → Ordering
-order = slice_cmp nat_cmp
-
 pub exact_order : IsAntisymmetric (slice_cmp nat_cmp)
 exact_order = slice_cmp-IsAntisymmetric nat_cmp-IsAntisymmetric
 

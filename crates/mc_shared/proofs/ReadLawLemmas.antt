@@ -1,5 +1,5 @@
 -- What a read is told, by the entries before it.
-use Rattle.std.proofs.Common.{◌≡◌, ◌≢◌, ◌⊎◌, inl, inr, ⊎_elim, ℕ, ◌+◌, ◌≤◌, Bool, true, false, cond, eqb, List, [], ◌∷◌, ◌++◌, Option, Some, None, sym, refl, ap, ◌∙◌, subst, arith, eq-eqb, ne_eqb}
+use Rattle.std.proofs.Common.{◌≡◌, ◌≢◌, ◌⊎◌, inl, inr, ⊎_elim, ℕ, ◌+◌, ◌≤◌, Bool, true, false, cond, eqb, List, [], ◌∷◌, ◌++◌, Option, Some, None, sym, refl, ap, ◌∙◌, subst, arith, append_assoc, eq-eqb, ne_eqb}
 use Rattle.std.specs.Prelude.{is_some, not, ◌||◌}
 use Rattle.std.specs.Ordering.{nat_cmp}
 use Rattle.std.specs.Cmp.Lexicographic.{slice_cmp}
@@ -18,7 +18,7 @@ use Rattle.mc_shared.specs.History.{Start, What, Stepped, Purged, Entry, shelf_i
 use Rattle.mc_shared.specs.Past.{Past, call, same, Ordered, KeptBy}
 use Rattle.mc_shared.specs.Steps.{entry_of}
 use Rattle.mc_shared.specs.Store.{with_call}
-use Rattle.mc_shared.specs.Laws.{StandsIn, StandsBefore, Has, MayChange, IsTold, ReadsLatest, item_after, read_of, item_given, HasItem, Wrote, IsWrittenIn}
+use Rattle.mc_shared.specs.Laws.{StandsIn, StandsBefore, Has, MayChange, IsTold, ReadsLatest, ReadsWrite, item_after, read_of, item_given, HasItem, Wrote, IsWrittenIn}
 use Rattle.mc_shared.proofs.OrderLawLemmas.{one_name, stands_in}
 use Rattle.mc_shared.proofs.KeyLawLemmas.{exact_order, none_some, kept_was, Traces, stepped_traces, hit_shows, read_told, hit_leaves, deleted_drops, given_left}
 
@@ -229,6 +229,35 @@ told_deleted began log key now reply last read then other legal told is =
     told_item began log key now reply last read told None
     (left_at began log key now reply last read told.places.before (Stepped (Delete key) then other) is
     ∙ ap (λ o. get (left_by m o).items key) right.1 ∙ deleted_drops m right.0 key then other right.1)
+
+-- a step on a key that stored may change that key's item
+may_stored : (began : Start) (step : KeyStep) (then : ℕ) → IsOnKey step → MayChange began (key_of step) (Stepped step then Stored)
+may_stored began (Flush delay) then on = absurd on
+may_stored began step then on = refl
+
+pub write_read : OthersStay → (began : Start) (log : List Entry) (p : Past) (now : ℕ) (reply : Reply) (step : KeyStep) (then : ℕ) (write : Entry)
+    → IsLegal began began.plain log → KeptBy log (with_call p (Read (key_of step)) now reply) → Has p write → write.what ≡ Stepped step then Stored → IsOnKey step
+    → ReadsWrite began log now reply step then write (entry_of p (Stepped (Read (key_of step)) now reply))
+write_read stay began log p now reply step then write legal kept has stored on =
+    let key : List ℕ = key_of step in
+    let read : Entry = entry_of p (Stepped (Read key) now reply) in
+    let may = subst (MayChange began key) (sym stored) (may_stored began step then on) in
+    let r = read_latest stay began log p key now reply write legal kept has may in
+    let places = r.is_told.places in
+    ⊎_elim
+    (λ (is : write ≡ r.last).
+    let told = subst (λ (e : Entry). IsTold began log key now reply e read) (sym is) r.is_told in
+    record { places = told.places; told = inl (λ item gives. told_given began log key now reply write read step then item legal told stored gives) })
+    (λ (s : StandsIn places.before write). record {
+      places = record {
+        before = s.0;
+        between = s.1 ++ r.last ∷ places.between;
+        rest = places.rest;
+        is = places.is ∙ ap (λ es. (es ++ r.last ∷ places.between) ++ read ∷ places.rest) s.2 ∙ ap (λ es. es ++ read ∷ places.rest) (append_assoc s.0 (write ∷ s.1) (r.last ∷ places.between));
+      };
+      told = inr (r.last, (s.1, places.between, refl), r.is_told.changes);
+    })
+    (r.latest write has may)
 
 -- ---- what a hit tells was written
 module _ (others_stay : OthersStay) (began : Start) (key : List ℕ) (flags unique : ℕ) (block : List ℕ) where

@@ -135,6 +135,17 @@ item_given (Cas key flags exptime block known) now unique = Some (record {
 })
 item_given step now unique = None
 
+-- A step's write stands before a read of its key, and the read is told the item that the step gave,
+-- or a miss once it is dead; or an entry between the two may have changed it.
+pub record ReadsWrite (began : Start) (log : List Entry) (now : ℕ) (reply : Reply)
+    (step : KeyStep) (then : ℕ) (write read : Entry) : Type 0 where
+  pub places : StandsBefore log write read
+  pub told : ((item : Item)
+      → item_given step then (after began began.plain places.before).next_unique ≡ Some item
+      → reply ≡ read_of began (places.before ++ write ∷ places.between) now (Some item))
+      ⊎ ((other : Entry) × StandsIn places.between other
+      × MayChange began (key_of step) other.what)
+
 -- an item with this content is under a key
 abbrev pub HasItem : Plain → List ℕ → (flags unique : ℕ) → (block : List ℕ) → Type 0
 HasItem m key flags unique block = (item : Item) × (get m.items key ≡ Some item)

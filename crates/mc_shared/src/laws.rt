@@ -7,13 +7,14 @@ ghost use Rattle.std.specs.Prelude.{◌≡◌, ◌<◌, ◌≤◌, ◌⊎◌, �
 ghost use Rattle.mc_command.specs.declared.step.KeyStep.{KeyStep};
 ghost use Rattle.mc_command.specs.declared.reply.Reply.{Reply};
 ghost use Rattle.mc_command.specs.Commands.{key_of};
+ghost use Rattle.mc_command.specs.Laws.{IsOnKey};
 ghost use Rattle.mc_command.specs.Plain.{Entry as Item};
 ghost use Rattle.mc_shared.specs.History.{Start, What, Stepped, Entry, after, IsLegal};
 ghost use Rattle.mc_shared.specs.Past.{Past, spent, call, held, callers, times, Whole, KeptBy};
 ghost use Rattle.mc_shared.specs.Past as past;
 ghost use Rattle.mc_shared.specs.Steps.{entry_of, Agrees};
 ghost use Rattle.mc_shared.specs.Store.{with_call};
-ghost use Rattle.mc_shared.specs.Laws.{StandsIn, StandsBefore, Has, IsWithin, WentOn, IsAlone, Call, with_calls, PlainAnswers, MayChange, IsTold, ReadsLatest, read_of, item_given, HasItem, Wrote, HasDrawnNumbers, IsWrittenIn};
+ghost use Rattle.mc_shared.specs.Laws.{StandsIn, StandsBefore, Has, IsWithin, WentOn, IsAlone, Call, with_calls, PlainAnswers, MayChange, IsTold, ReadsLatest, ReadsWrite, read_of, item_given, HasItem, Wrote, HasDrawnNumbers, IsWrittenIn};
 
 use mc_command::other_keys_stay;
 
@@ -45,6 +46,23 @@ pub fn a_history_has_nothing_else()
     ensures whole { (log : List Entry) (p : Past) (e : Entry) →
         KeptBy log p → Whole p → StandsIn log e → StandsIn (held p) e }
 {}
+
+/// States that a caller reads what it knows to be stored: its own writes, those of its maker before
+/// it was made, and those of callers that were joined into it. Where a write was answered Stored, a
+/// read of its key that follows is told what was stored, or a miss once that is dead; or else
+/// another entry stands between the two that may have changed the key's item: a step on that key,
+/// a flush, or a purge of the key's shelf.
+pub fn a_known_write_is_read()
+    ensures { (began : Start) (log : List Entry) (p : Past) (now : ℕ) (reply : Reply)
+        (step : KeyStep) (then : ℕ) (write : Entry) →
+        IsLegal began began.plain log →
+        KeptBy log (with_call p (KeyStep.Read (key_of step)) now reply) →
+        Has p write → write.what ≡ Stepped step then Reply.Stored → IsOnKey step →
+        ReadsWrite began log now reply step then write
+        (entry_of p (Stepped (KeyStep.Read (key_of step)) now reply)) }
+{
+    other_keys_stay();
+}
 
 /// States what a caller reads of what it knows: its own calls, those that its maker had before it
 /// made it, and those of the callers that were joined into it. A read is told what one entry left,
