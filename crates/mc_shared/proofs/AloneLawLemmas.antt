@@ -1,8 +1,8 @@
 -- A caller that is alone: the history is its calls.
-use Rattle.std.proofs.Common.{◌≡◌, ℕ, ◌+◌, ◌≤◌, List, [], ◌∷◌, ◌++◌, sym, refl, ap, ◌∙◌, subst, arith}
-use Rattle.mc_command.specs.Plain.{Plain, plain, Answered}
+use Rattle.std.proofs.Common.{◌≡◌, ℕ, ◌≤◌, List, [], ◌∷◌, ◌++◌, refl, ap, ◌∙◌, subst, arith}
+use Rattle.mc_command.specs.Plain.{Plain}
 use Rattle.mc_shared.specs.Sums.{total}
-use Rattle.mc_shared.specs.History.{Start, Name, Stepped, Entry, left_by, next, IsRight, after, IsLegal}
+use Rattle.mc_shared.specs.History.{Start, Stepped, Entry, left_by, next, IsRight, after, IsLegal}
 use Rattle.mc_shared.specs.Past.{Past, spent, start, call, made, both, held, callers, makes, same, times, Ordered, Whole, KeptBy}
 use Rattle.mc_shared.specs.Steps.{entry_of, Agrees}
 use Rattle.mc_shared.specs.Store.{with_call}

@@ -1,5 +1,5 @@
 -- Unique numbers are drawn in the history's order.
-use Rattle.std.proofs.Common.{◌≡◌, ◌≢◌, ◌⊎◌, inl, inr, ⊎_elim, ℕ, ℤ, ◌+◌, ◌≤◌, ◌<◌, Bool, true, false, cond, eqb, ltb, List, [], ◌∷◌, ◌++◌, Option, Some, None, sym, refl, ap, ◌∙◌, subst, arith, ne_eqb}
+use Rattle.std.proofs.Common.{◌≡◌, ⊎_elim, ℕ, ℤ, ◌+◌, ◌≤◌, ◌<◌, Bool, true, false, cond, eqb, ltb, List, [], ◌∷◌, ◌++◌, Option, Some, None, sym, refl, ap, ◌∙◌, subst, arith, ne_eqb}
 use Rattle.std.specs.FinMap.{get}
 use mathlib.Core.Logic.{dite}
 use native.Mathlib.Decide.{ℕ_discrete}
@@ -13,7 +13,7 @@ use Rattle.mc_command.specs.declared.row.Refusal.TheVariants as refusal
 use Rattle.mc_command.specs.declared.reply.Reply.{Reply}
 use Rattle.mc_command.specs.declared.reply.Reply.TheVariants.{Stored, Number, Hit, TooLarge, NoChunk}
 use Rattle.mc_command.specs.Commands.{key_of}
-use Rattle.mc_command.specs.Plain.{Plain, Outcome, Answered, Spent, plain, stepped, changed, row_of, cas_row, given, written, with_chunk, has_room, block_class, charge, count_of, chunks_of, without_dead, expiring, perhaps_expiring, keeps_chunk, write_reply, written_block, block_of, standing, flushed}
+use Rattle.mc_command.specs.Plain.{Plain, Outcome, Answered, Spent, plain, stepped, changed, row_of, cas_row, given, written, with_chunk, has_room, block_class, charge, count_of, chunks_of, without_dead, expiring, perhaps_expiring, keeps_chunk, write_reply, written_block, block_of, standing}
 use Rattle.mc_command.specs.Plain.{Entry as Item}
 use Rattle.mc_shared.specs.History.{Start, What, Stepped, Purged, Entry, left_by, next, IsRight, after, IsLegal}
 use Rattle.mc_shared.specs.Laws.{StandsIn, StandsBefore, HasItem, Wrote, HasDrawnNumbers}
@@ -142,10 +142,13 @@ module _ (began : Start) (key : List ℕ) where
 
     above : (n : ℕ) (m : Plain) (what : What) → IsRight m what → Above n m → Above n (next began m what)
     unfolding Above
-    above n m what right high = let up = never_falls m what right in let least = high.0 in (omega (arith, up, least), λ i is. ⊎_elim
-        (λ (h : HasItem m key i.flags i.unique i.block). let was = high.1 h.0 h.1 in let number = h.3 in omega (arith, was, number))
-        (λ (w : Wrote key what × (i.unique ≡ m.next_unique)). let number = w.1 in omega (arith, least, number))
-        (decided_was others_stay began key i.flags i.unique i.block m what right (i, is, refl, refl, refl)))
+    above n m what right high = let up = never_falls m what right in let least = high.0 in (
+      omega (arith, up, least),
+      λ i is. ⊎_elim
+          (λ (h : HasItem m key i.flags i.unique i.block). let was = high.1 h.0 h.1 in let number = h.3 in omega (arith, was, number))
+          (λ (w : Wrote key what × (i.unique ≡ m.next_unique)). let number = w.1 in omega (arith, least, number))
+          (decided_was others_stay began key i.flags i.unique i.block m what right (i, is, refl, refl, refl)),
+    )
 
     all_below : (m : Plain) (es : List Entry) → IsLegal began m es → Below m → Below (after began m es)
     all_below m [] legal low = low

@@ -1,13 +1,11 @@
 -- What a step on a key leaves under it.
-use Rattle.std.proofs.Common.{◌≡◌, ◌≢◌, ◌⊎◌, inl, inr, ⊎_elim, ℕ, ◌+◌, Bool, true, false, cond, eqb, ltb, List, [], ◌∷◌, Option, Some, None, Ordering, Less, Equal, Greater, nat_cmp, is_eq, sym, refl, ap, ◌∙◌, subst, ℤ, arith, eq-eqb, ne_eqb}
-use Rattle.std.specs.Prelude.{is_some, not, ◌||◌}
+use Rattle.std.proofs.Common.{◌≡◌, ◌⊎◌, inl, inr, ℕ, Bool, true, false, cond, eqb, ltb, List, [], Option, Some, None, nat_cmp, is_eq, sym, refl, ap, ◌∙◌, subst, ℤ}
 use Rattle.std.specs.Cmp.{tied_itself}
 use Rattle.std.specs.Cmp.Lexicographic.{slice_cmp, nat_list_cmp_total}
-use Rattle.std.specs.FinMap.{FinMap, IsAntisymmetric, nat_cmp-IsAntisymmetric, slice_cmp-IsAntisymmetric, get, insert, remove, retain_keys, get-insert, get-remove, get-retain_keys}
+use Rattle.std.specs.FinMap.{IsAntisymmetric, nat_cmp-IsAntisymmetric, slice_cmp-IsAntisymmetric, get, insert, remove, get-insert, get-remove}
 use Rattle.mc_time.specs.declared.expiry.Expiry.{Expiry}
 use Rattle.mc_time.specs.Death.{expiry_of, is_dead}
-use Rattle.mc_command.specs.declared.step.Verb.{Verb}
-use Rattle.mc_command.specs.declared.step.Verb.TheVariants.{Set, Add, Replace, Append, Prepend}
+use Rattle.mc_command.specs.declared.step.Verb.TheVariants.{Set, Add, Replace}
 use Rattle.mc_command.specs.declared.step.KeyStep.{KeyStep}
 use Rattle.mc_command.specs.declared.step.KeyStep.TheVariants.{Store, Cas, Read, ReadTouch, Touch, Delete, Count, Flush}
 use Rattle.mc_command.specs.declared.row.Row.{Row}
@@ -16,11 +14,10 @@ use Rattle.mc_command.specs.declared.row.Refusal.TheVariants as refusal
 use Rattle.mc_command.specs.declared.row.Body.{Body}
 use Rattle.mc_command.specs.declared.row.Body.TheVariants.{Given, Appended, Prepended, Counted}
 use Rattle.mc_command.specs.declared.reply.Reply.{Reply}
-use Rattle.mc_command.specs.declared.reply.Reply.TheVariants.{Stored, Hit, Miss, TooLarge, NoChunk}
+use Rattle.mc_command.specs.declared.reply.Reply.TheVariants.{Stored, Hit, TooLarge, NoChunk}
 use Rattle.mc_command.specs.Commands.{key_of}
-use Rattle.mc_command.specs.Plain.{Plain, Items, Outcome, Answered, Spent, plain, stepped, changed, row_of, given, store_row, cas_row, read_row, delete_row, wrote, write_reply, written, with_chunk, has_room, block_class, charge, count_of, chunks_of, without_dead, expiring, perhaps_expiring, keeps_chunk, written_block, block_of, standing, alive, living, flushed, hit_of}
+use Rattle.mc_command.specs.Plain.{Plain, Items, Outcome, Answered, Spent, plain, stepped, changed, row_of, given, store_row, cas_row, read_row, delete_row, wrote, write_reply, written, with_chunk, has_room, block_class, charge, count_of, chunks_of, without_dead, expiring, keeps_chunk, written_block, block_of, standing, alive, hit_of}
 use Rattle.mc_command.specs.Plain.{Entry as Item}
-use Rattle.mc_command.specs.Laws.{IsOnKey}
 use Rattle.mc_shared.specs.History.{Stepped}
 use Rattle.mc_shared.specs.Laws.{HasItem, Wrote, item_given}
 

@@ -1,9 +1,9 @@
 -- What a history that keeps a past has beside it.
-use Rattle.std.proofs.Common.{◌≡◌, ◌≢◌, ◌⊎◌, inl, inr, ⊎_elim, ℕ, ◌+◌, ◌≤◌, List, [], ◌∷◌, ◌++◌, sym, refl, ap, ◌∙◌, subst, arith}
+use Rattle.std.proofs.Common.{◌≡◌, ◌≢◌, ◌⊎◌, inl, inr, ⊎_elim, ℕ, ◌≤◌, List, [], ◌∷◌, ◌++◌, sym, refl, ap, subst, arith}
 use mathlib.Core.Logic.{dite}
 use native.Mathlib.Decide.{ℕ_discrete}
 use Rattle.mc_shared.specs.Sums.{total}
-use Rattle.mc_shared.specs.History.{Name, Entry}
+use Rattle.mc_shared.specs.History.{Entry}
 use Rattle.mc_shared.specs.Past.{Past, spent, start, call, made, both, held, callers, times, same, numbered, Whole, KeptBy}
 use Rattle.mc_shared.specs.Laws.{StandsIn, StandsBefore, Has}
 use Rattle.mc_shared.proofs.OrderLawLemmas.{one_name, sum_append, stands_in}

@@ -1,5 +1,5 @@
 -- What a read is told, by the entries before it.
-use Rattle.std.proofs.Common.{◌≡◌, ◌≢◌, ◌⊎◌, inl, inr, ⊎_elim, ℕ, ◌+◌, ◌≤◌, Bool, true, false, cond, eqb, List, [], ◌∷◌, ◌++◌, Option, Some, None, sym, refl, ap, ◌∙◌, subst, arith, append_assoc, eq-eqb, ne_eqb}
+use Rattle.std.proofs.Common.{◌≡◌, ◌≢◌, ◌⊎◌, inl, inr, ⊎_elim, ℕ, Bool, true, false, cond, eqb, List, [], ◌∷◌, ◌++◌, Option, Some, None, sym, refl, ap, ◌∙◌, subst, arith, append_assoc, eq-eqb, ne_eqb}
 use Rattle.std.specs.Prelude.{is_some, not, ◌||◌}
 use Rattle.std.specs.Ordering.{nat_cmp}
 use Rattle.std.specs.Cmp.Lexicographic.{slice_cmp}
@@ -7,18 +7,18 @@ use Rattle.std.specs.FinMap.{get, empty, retain_keys, get-empty, get-retain_keys
 use mathlib.Core.Logic.{dite}
 use native.Mathlib.Decide.{ℕ_discrete}
 use Rattle.mc_command.specs.declared.step.KeyStep.{KeyStep}
-use Rattle.mc_command.specs.declared.step.KeyStep.TheVariants.{Store, Cas, Read, ReadTouch, Touch, Delete, Count, Flush}
+use Rattle.mc_command.specs.declared.step.KeyStep.TheVariants.{Read, Delete, Flush}
 use Rattle.mc_command.specs.declared.reply.Reply.{Reply}
 use Rattle.mc_command.specs.declared.reply.Reply.TheVariants.{Stored, Hit, Miss}
 use Rattle.mc_command.specs.Commands.{key_of}
-use Rattle.mc_command.specs.Plain.{Plain, Items, Answered, plain, stepped, alive, living, flushed, hit_of}
+use Rattle.mc_command.specs.Plain.{Plain, Items, Answered, plain, stepped, alive, flushed}
 use Rattle.mc_command.specs.Plain.{Entry as Item}
 use Rattle.mc_command.specs.Laws.{IsOnKey}
 use Rattle.mc_shared.specs.History.{Start, What, Stepped, Purged, Entry, shelf_in, left_by, next, IsRight, after, IsLegal}
-use Rattle.mc_shared.specs.Past.{Past, call, same, Ordered, KeptBy}
+use Rattle.mc_shared.specs.Past.{Past, same, Ordered, KeptBy}
 use Rattle.mc_shared.specs.Steps.{entry_of}
 use Rattle.mc_shared.specs.Store.{with_call}
-use Rattle.mc_shared.specs.Laws.{StandsIn, StandsBefore, Has, MayChange, IsTold, ReadsLatest, ReadsWrite, item_after, read_of, item_given, HasItem, Wrote, IsWrittenIn}
+use Rattle.mc_shared.specs.Laws.{StandsIn, Has, MayChange, IsTold, ReadsLatest, ReadsWrite, item_after, read_of, item_given, HasItem, Wrote, IsWrittenIn}
 use Rattle.mc_shared.proofs.OrderLawLemmas.{one_name, stands_in}
 use Rattle.mc_shared.proofs.KeyLawLemmas.{exact_order, none_some, kept_was, Traces, stepped_traces, hit_shows, read_told, hit_leaves, deleted_drops, given_left}
 
