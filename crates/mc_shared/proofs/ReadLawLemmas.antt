@@ -40,7 +40,7 @@ one_or_other c d = dite (ℕ_discrete (same c d) 0)
     (λ none. inr (λ is. let one : same c d ≡ 1 = subst (λ x. same c x ≡ 1) is (one_name c) in absurd (omega (arith, one, none))))
     (λ some. inl (same_keys c d some))
 
-may_or_not : (began : Start) (key : List ℕ) (what : What) → MayChange began key what ⊎ (MayChange began key what → ⊥)
+pub may_or_not : (began : Start) (key : List ℕ) (what : What) → MayChange began key what ⊎ (MayChange began key what → ⊥)
 may_or_not began key (Stepped (Flush delay) now reply) = inl tt
 may_or_not began key (Stepped (Read other) now (Hit flags unique block)) = inr (λ h. h)
 may_or_not began key (Stepped step now reply) = one_or_other (key_of step) key
@@ -101,7 +101,7 @@ module _ (others_stay : OthersStay) (began : Start) (key : List ℕ) where
   unfolding kept_in
   purged_is m shelf now = get-retain_keys m.items (kept_in shelf now m) key (λ x h. ap (kept_in shelf now m) (sym (exact_order key x h)))
 
-  spares : (m : Plain) (what : What) → IsRight m what → (MayChange began key what → ⊥) → get (next began m what).items key ≡ get m.items key
+  pub spares : (m : Plain) (what : What) → IsRight m what → (MayChange began key what → ⊥) → get (next began m what).items key ≡ get m.items key
   unfolding kept_in
   spares m (Stepped (Flush delay) now reply) right not_may = absurd (not_may tt)
   spares m (Stepped (Read other) now (Hit flags unique block)) right not_may = ⊎_elim

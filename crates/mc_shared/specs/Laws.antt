@@ -1,17 +1,17 @@
 -- What the laws of a shared store speak of.
-use Rattle.std.specs.Prelude.{◌≡◌, ℕ, ◌<◌, ◌⊎◌, List, [], ◌∷◌, ◌++◌, Option, Some, None}
+use Rattle.std.specs.Prelude.{◌≡◌, ℕ, ◌*◌, ◌<◌, ◌⊎◌, true, List, [], ◌∷◌, ◌++◌, Option, Some, None}
 use Rattle.std.specs.FinMap.{get}
 use Rattle.mc_time.specs.Death.{expiry_of}
 use Rattle.mc_command.specs.declared.step.Verb.TheVariants.{Append, Prepend}
 use Rattle.mc_command.specs.declared.step.KeyStep.{KeyStep}
-use Rattle.mc_command.specs.declared.step.KeyStep.TheVariants.{Store, Cas, Read, Flush}
+use Rattle.mc_command.specs.declared.step.KeyStep.TheVariants.{Store, Cas, Read, Count, Flush}
 use Rattle.mc_command.specs.declared.reply.Reply.{Reply}
 use Rattle.mc_command.specs.declared.reply.Reply.TheVariants.{Stored, Hit, Number}
 use Rattle.mc_command.specs.Commands.{key_of}
-use Rattle.mc_command.specs.Plain.{Plain, plain, alive, hit_of, Answered}
+use Rattle.mc_command.specs.Plain.{Plain, plain, alive, hit_of, number_of, Answered}
 use Rattle.mc_command.specs.Plain.{Entry as Item}
 use Rattle.mc_shared.specs.History.{Start, What, Stepped, Purged, Entry, shelf_in, after}
-use Rattle.mc_shared.specs.Past.{Past, spent, start, call, made, both}
+use Rattle.mc_shared.specs.Past.{Past, spent, start, call, made, both, same}
 use Rattle.mc_shared.specs.Store.{with_call}
 
 -- ---- where entries stand
@@ -172,3 +172,22 @@ pub record IsWrittenIn (began : Start) (log : List Entry) (key : List ℕ) (flag
   pub wrote : Wrote key write.what
   pub drew : unique ≡ (after began began.plain before).next_unique
   pub left : HasItem (after began began.plain (before ++ write ∷ [])) key flags unique block
+
+-- the item under a key is a number
+abbrev pub IsNumber : Plain → List ℕ → ℕ → Type 0
+IsNumber m key number =
+    (item : Item) × (get m.items key ≡ Some item) × (number_of item.block ≡ Some number)
+
+-- an incr of a key that was told a number
+abbrev pub IsCount : List ℕ → What → Type 0
+IsCount key (Stepped (Count other true by) now (Number number)) = other ≡ key
+IsCount key what = ⊥
+
+-- by how much a decision counts a key's number up
+abbrev pub counts_by : List ℕ → What → ℕ
+counts_by key (Stepped (Count other true by) now (Number number)) = same other key * by
+counts_by key what = 0
+
+-- by how much an entry does
+abbrev pub counts_up : List ℕ → Entry → ℕ
+counts_up key e = counts_by key e.what

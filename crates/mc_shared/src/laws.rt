@@ -3,18 +3,19 @@
 //! They speak of every legal history that keeps a caller's past; that there is one is what each
 //! call promises. So they tell what callers read of one another, whichever history it was.
 
-ghost use Rattle.std.specs.Prelude.{◌≡◌, ◌<◌, ◌≤◌, ◌⊎◌, ℕ, ℤ, List, [], ◌∷◌, ◌++◌, Some};
+ghost use Rattle.std.specs.Prelude.{◌≡◌, ◌+◌, ◌%◌, ◌^◌, ◌<◌, ◌≤◌, ◌⊎◌, ℕ, ℤ, List, [], ◌∷◌, ◌++◌, Some};
 ghost use Rattle.mc_command.specs.declared.step.KeyStep.{KeyStep};
 ghost use Rattle.mc_command.specs.declared.reply.Reply.{Reply};
 ghost use Rattle.mc_command.specs.Commands.{key_of};
 ghost use Rattle.mc_command.specs.Laws.{IsOnKey};
 ghost use Rattle.mc_command.specs.Plain.{Entry as Item};
+ghost use Rattle.mc_shared.specs.Sums.{total};
 ghost use Rattle.mc_shared.specs.History.{Start, What, Stepped, Entry, after, IsLegal};
 ghost use Rattle.mc_shared.specs.Past.{Past, spent, call, held, callers, times, Whole, KeptBy};
 ghost use Rattle.mc_shared.specs.Past as past;
 ghost use Rattle.mc_shared.specs.Steps.{entry_of, Agrees};
 ghost use Rattle.mc_shared.specs.Store.{with_call};
-ghost use Rattle.mc_shared.specs.Laws.{StandsIn, StandsBefore, Has, IsWithin, WentOn, IsAlone, Call, with_calls, PlainAnswers, MayChange, IsTold, ReadsLatest, ReadsWrite, read_of, item_given, HasItem, Wrote, HasDrawnNumbers, IsWrittenIn};
+ghost use Rattle.mc_shared.specs.Laws.{StandsIn, StandsBefore, Has, IsWithin, WentOn, IsAlone, Call, with_calls, PlainAnswers, MayChange, IsTold, ReadsLatest, ReadsWrite, read_of, item_given, HasItem, Wrote, HasDrawnNumbers, IsWrittenIn, IsNumber, IsCount, counts_up};
 
 use mc_command::other_keys_stay;
 
@@ -127,6 +128,25 @@ pub fn a_cas_is_of_what_was_read()
         read.what ≡ Stepped step then (Reply.Hit flags unique block) →
         cas.what ≡ Stepped (KeyStep.Cas (key_of step) more exptime brought unique) now Reply.Stored →
         StandsIn places.between other → Wrote (key_of step) other.what → ⊥ }
+{
+    other_keys_stay();
+}
+
+/// States that no count is lost. Where a key's item is a number, and from then on each entry that
+/// may change it is an incr that was told a number, it grows by what they counted, each count once,
+/// and wraps at 2^64. So once all callers are joined it is the first number and all their counts.
+pub fn no_count_is_lost()
+    ensures counted { (began : Start) (front log : List Entry) (key : List ℕ) (n : ℕ) →
+        IsLegal began began.plain (front ++ log) →
+        IsNumber (after began began.plain front) key n →
+        ((e : Entry) → StandsIn log e → MayChange began key e.what → IsCount key e.what) →
+        IsNumber (after began began.plain (front ++ log)) key
+        ((n + total (counts_up key) log) % (2 ^ 64)) }
+    ensures whole { (began : Start) (log : List Entry) (p : Past) (key : List ℕ) (n : ℕ) →
+        IsLegal began began.plain log → KeptBy log p → Whole p → IsNumber began.plain key n →
+        ((e : Entry) → StandsIn (held p) e → MayChange began key e.what → IsCount key e.what) →
+        IsNumber (after began began.plain log) key
+        ((n + total (counts_up key) (held p)) % (2 ^ 64)) }
 {
     other_keys_stay();
 }
