@@ -1,6 +1,8 @@
 -- Unique numbers are drawn in the history's order.
 use Rattle.std.proofs.Common.{◌≡◌, ⊎_elim, ℕ, ℤ, ◌+◌, ◌≤◌, ◌<◌, Bool, true, false, cond, eqb, ltb, List, [], ◌∷◌, ◌++◌, Option, Some, None, sym, refl, ap, ◌∙◌, subst, arith, ne_eqb}
-use Rattle.std.specs.FinMap.{get}
+use Rattle.std.specs.FinMap.{get, get-empty}
+use Rattle.std.specs.Ordering.{nat_cmp}
+use Rattle.std.specs.Cmp.Lexicographic.{slice_cmp}
 use mathlib.Core.Logic.{dite}
 use native.Mathlib.Decide.{ℕ_discrete}
 use Rattle.mc_time.specs.declared.expiry.Expiry.{Expiry}
@@ -13,11 +15,11 @@ use Rattle.mc_command.specs.declared.row.Refusal.TheVariants as refusal
 use Rattle.mc_command.specs.declared.reply.Reply.{Reply}
 use Rattle.mc_command.specs.declared.reply.Reply.TheVariants.{Stored, Number, Hit, TooLarge, NoChunk}
 use Rattle.mc_command.specs.Commands.{key_of}
-use Rattle.mc_command.specs.Plain.{Plain, Outcome, Answered, Spent, plain, stepped, changed, row_of, cas_row, given, written, with_chunk, has_room, block_class, charge, count_of, chunks_of, without_dead, expiring, perhaps_expiring, keeps_chunk, write_reply, written_block, block_of, standing}
+use Rattle.mc_command.specs.Plain.{Plain, opening, Outcome, Answered, Spent, plain, stepped, changed, row_of, cas_row, given, written, with_chunk, has_room, block_class, charge, count_of, chunks_of, without_dead, expiring, perhaps_expiring, keeps_chunk, write_reply, written_block, block_of, standing}
 use Rattle.mc_command.specs.Plain.{Entry as Item}
 use Rattle.mc_shared.specs.History.{Start, What, Stepped, Purged, Entry, left_by, next, IsRight, after, IsLegal}
 use Rattle.mc_shared.specs.Laws.{StandsIn, StandsBefore, HasItem, Wrote, HasDrawnNumbers}
-use Rattle.mc_shared.proofs.KeyLawLemmas.{get_put, some_is, alive_was, hit_shows, found_next, paged_next}
+use Rattle.mc_shared.proofs.KeyLawLemmas.{none_some, get_put, some_is, alive_was, hit_shows, found_next, paged_next}
 use Rattle.mc_shared.proofs.ReadLawLemmas.{OthersStay, legal_parts, after_parts, decided_was}
 
 -- ---- the next unique number after a step
@@ -223,3 +225,11 @@ cas_is_of_read stay began log read cas other step then now flags unique more exp
     let least = high.1 met_item.0 (sym (ap (λ (s : Plain). get s.items key) at_cas) ∙ met_item.1) in
     let its = met_item.2 in
     omega (arith, low, number, up, least, its)
+
+-- ---- numbers are drawn in every store
+pub new_drawn : (limit greatest : ℕ) → HasDrawnNumbers (opening limit greatest)
+new_drawn limit greatest key item is = absurd (none_some item (sym (get-empty (slice_cmp nat_cmp) key) ∙ is))
+
+pub drawn_stay : OthersStay → (began : Start) (log : List Entry) → HasDrawnNumbers began.plain → IsLegal began began.plain log → HasDrawnNumbers (after began began.plain log)
+unfolding Below
+drawn_stay stay began log drawn legal key = all_below began key stay began.plain log legal (drawn key)

@@ -8,6 +8,7 @@ ghost use Rattle.mc_command.specs.declared.step.KeyStep.{KeyStep};
 ghost use Rattle.mc_command.specs.declared.reply.Reply.{Reply};
 ghost use Rattle.mc_command.specs.Commands.{key_of};
 ghost use Rattle.mc_command.specs.Laws.{IsOnKey};
+ghost use Rattle.mc_command.specs.Plain.{opening};
 ghost use Rattle.mc_command.specs.Plain.{Entry as Item};
 ghost use Rattle.mc_shared.specs.Sums.{total};
 ghost use Rattle.mc_shared.specs.History.{Start, What, Stepped, Entry, after, IsLegal};
@@ -119,9 +120,14 @@ pub fn nothing_is_made_up()
 }
 
 /// States what a cas is for: one that was answered Stored wrote over the very item that a retrieval
-/// told with the cas's unique number. No entry between the two wrote the key.
+/// told with the cas's unique number: no entry between the two wrote the key. That holds where the
+/// number of each item was drawn, which it was in a new store, and stays so.
 pub fn a_cas_is_of_what_was_read()
-    ensures { (began : Start) (log : List Entry) (read cas other : Entry) (step : KeyStep)
+    ensures new { (pages greatest : ℕ) → HasDrawnNumbers (opening pages greatest) }
+    ensures stays { (began : Start) (log : List Entry) →
+        HasDrawnNumbers began.plain → IsLegal began began.plain log →
+        HasDrawnNumbers (after began began.plain log) }
+    ensures unwritten { (began : Start) (log : List Entry) (read cas other : Entry) (step : KeyStep)
         (then now flags unique more : ℕ) (exptime : ℤ) (block brought : List ℕ) →
         HasDrawnNumbers began.plain → IsLegal began began.plain log →
         (places : StandsBefore log read cas) →
