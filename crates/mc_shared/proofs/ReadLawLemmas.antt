@@ -1,5 +1,5 @@
 -- What a read is told, by the entries before it.
-use Rattle.std.proofs.Common.{◌≡◌, ◌≢◌, ◌⊎◌, inl, inr, ⊎_elim, ℕ, Bool, true, false, cond, eqb, List, [], ◌∷◌, ◌++◌, Option, Some, None, sym, refl, ap, ◌∙◌, subst, arith, append_assoc, eq-eqb, ne_eqb}
+use Rattle.std.proofs.Common.{◌≡◌, ◌≢◌, ◌⊎◌, inl, inr, ⊎_elim, ℕ, Bool, true, false, cond, eqb, List, [], ◌∷◌, ◌++◌, Some, None, sym, refl, ap, ◌∙◌, subst, arith, append_assoc, eq-eqb, ne_eqb}
 use Rattle.std.specs.Prelude.{is_some, not, ◌||◌}
 use Rattle.std.specs.Ordering.{nat_cmp}
 use Rattle.std.specs.Cmp.Lexicographic.{slice_cmp}
@@ -9,7 +9,7 @@ use native.Mathlib.Decide.{ℕ_discrete}
 use Rattle.mc_command.specs.declared.step.KeyStep.{KeyStep}
 use Rattle.mc_command.specs.declared.step.KeyStep.TheVariants.{Read, Delete, Flush}
 use Rattle.mc_command.specs.declared.reply.Reply.{Reply}
-use Rattle.mc_command.specs.declared.reply.Reply.TheVariants.{Stored, Hit, Miss}
+use Rattle.mc_command.specs.declared.reply.Reply.TheVariants.{Stored, Hit}
 use Rattle.mc_command.specs.Commands.{key_of}
 use Rattle.mc_command.specs.Plain.{Plain, Items, Answered, plain, stepped, alive, flushed}
 use Rattle.mc_command.specs.Plain.{Entry as Item}
@@ -18,7 +18,7 @@ use Rattle.mc_shared.specs.History.{Start, What, Stepped, Purged, Entry, shelf_i
 use Rattle.mc_shared.specs.Past.{Past, same, Ordered, KeptBy}
 use Rattle.mc_shared.specs.Steps.{entry_of}
 use Rattle.mc_shared.specs.Store.{with_call}
-use Rattle.mc_shared.specs.Laws.{StandsIn, Has, MayChange, IsTold, ReadsLatest, ReadsWrite, item_after, read_of, item_given, HasItem, Wrote, IsWrittenIn}
+use Rattle.mc_shared.specs.Laws.{StandsIn, StandsBefore, Has, MayChange, IsTold, ReadsLatest, ReadsWrite, item_after, read_of, item_given, HasItem, Wrote, IsWrittenIn}
 use Rattle.mc_shared.proofs.OrderLawLemmas.{one_name, stands_in}
 use Rattle.mc_shared.proofs.KeyLawLemmas.{exact_order, none_some, kept_was, Traces, stepped_traces, hit_shows, read_told, hit_leaves, deleted_drops, given_left}
 
@@ -190,45 +190,41 @@ pub read_latest : OthersStay → (began : Start) (log : List Entry) (p : Past) (
     → ReadsLatest began log p key now reply (entry_of p (Stepped (Read key) now reply))
 read_latest stay began log p key now reply known = reads_latest stay began key log p now reply known
 
-module _ (began : Start) (log : List Entry) (key : List ℕ) (now : ℕ) (reply : Reply) (last read : Entry) where
-  -- the last entry's step, and the item that it left
-  right_at : IsLegal began began.plain log → (told : IsTold began log key now reply last read) → IsRight (after began began.plain told.places.before) last.what
-  right_at legal told =
-      let places = told.places in
-      let fronts = legal_parts began began.plain (places.before ++ last ∷ places.between) (read ∷ places.rest) (subst (IsLegal began began.plain) places.is legal) in
-      (legal_parts began began.plain places.before (last ∷ places.between) fronts.0).1.0
+-- ---- what an entry left
+module _ (began : Start) (before behind : List Entry) (e : Entry) (legal : IsLegal began began.plain (before ++ e ∷ behind)) where
+  there : Plain
+  there = after began began.plain before
 
-  left_at : (before : List Entry) (what : What) → last.what ≡ what → item_after began (before ++ last ∷ []) key ≡ get (next began (after began began.plain before) what).items key
-  left_at before what is = ap (λ (s : Plain). get s.items key) (after_parts began began.plain before (last ∷ [])) ∙ ap (λ w. get (next began (after began began.plain before) w).items key) is
+  decided_right : (what : What) → e.what ≡ what → IsRight there what
+  unfolding there
+  decided_right what is = subst (IsRight (after began began.plain before)) is (legal_parts began began.plain before (e ∷ behind) legal).1.0
 
-  told_item : (told : IsTold began log key now reply last read) (item : Option Item) → item_after began (told.places.before ++ last ∷ []) key ≡ item → reply ≡ read_of began (told.places.before ++ last ∷ told.places.between) now item
-  told_item told item is = told.told ∙ ap (read_of began (told.places.before ++ last ∷ told.places.between) now) is
+  left_at : (what : What) (key : List ℕ) → e.what ≡ what → item_after began (before ++ e ∷ []) key ≡ get (next began there what).items key
+  unfolding there
+  left_at what key is = ap (λ (s : Plain). get s.items key) (after_parts began began.plain before (e ∷ [])) ∙ ap (λ w. get (next began (after began began.plain before) w).items key) is
 
-given_key : (began : Start) (key : List ℕ) (step : KeyStep) (then unique : ℕ) (item : Item) → item_given step then unique ≡ Some item → MayChange began key (Stepped step then Stored) → key_of step ≡ key
-given_key began key (Flush delay) then unique item e may = absurd (none_some item e)
-given_key began key step then unique item e may = may
+  given_at : (step : KeyStep) (then : ℕ) (item : Item) → e.what ≡ Stepped step then Stored → item_given step then (after began began.plain before).next_unique ≡ Some item → item_after began (before ++ e ∷ []) (key_of step) ≡ Some item
+  unfolding there
+  given_at step then item is gives =
+      let right = decided_right (Stepped step then Stored) is in
+      left_at (Stepped step then Stored) (key_of step) is ∙ ap (λ o. get (left_by (after began began.plain before) o).items (key_of step)) right.1
+      ∙ given_left step then item (after began began.plain before) right.0 gives right.1
 
-pub told_given : (began : Start) (log : List Entry) (key : List ℕ) (now : ℕ) (reply : Reply) (last read : Entry) (step : KeyStep) (then : ℕ) (item : Item)
-    → IsLegal began began.plain log → (told : IsTold began log key now reply last read) → last.what ≡ Stepped step then Stored
-    → item_given step then (after began began.plain told.places.before).next_unique ≡ Some item
-    → reply ≡ read_of began (told.places.before ++ last ∷ told.places.between) now (Some item)
-told_given began log key now reply last read step then item legal told is gives =
-    let m : Plain = after began began.plain told.places.before in
-    let right = subst (IsRight m) is (right_at began log key now reply last read legal told) in
-    let same_key : key_of step ≡ key = given_key began key step then m.next_unique item gives (subst (MayChange began key) is told.changes) in
-    told_item began log key now reply last read told (Some item)
-    (left_at began log key now reply last read told.places.before (Stepped step then Stored) is
-    ∙ ap (λ o. get (left_by m o).items key) right.1
-    ∙ subst (λ k. get right.0.items k ≡ Some item) same_key (given_left step then item m right.0 gives right.1))
+  dropped_at : (key : List ℕ) (then : ℕ) (reply : Reply) → e.what ≡ Stepped (Delete key) then reply → item_after began (before ++ e ∷ []) key ≡ None
+  unfolding there
+  dropped_at key then reply is =
+      let right = decided_right (Stepped (Delete key) then reply) is in
+      left_at (Stepped (Delete key) then reply) key is ∙ ap (λ o. get (left_by (after began began.plain before) o).items key) right.1
+      ∙ deleted_drops (after began began.plain before) right.0 key then reply right.1
 
-pub told_deleted : (began : Start) (log : List Entry) (key : List ℕ) (now : ℕ) (reply : Reply) (last read : Entry) (then : ℕ) (other : Reply)
-    → IsLegal began began.plain log → IsTold began log key now reply last read → last.what ≡ Stepped (Delete key) then other → reply ≡ Miss
-told_deleted began log key now reply last read then other legal told is =
-    let m : Plain = after began began.plain told.places.before in
-    let right = subst (IsRight m) is (right_at began log key now reply last read legal told) in
-    told_item began log key now reply last read told None
-    (left_at began log key now reply last read told.places.before (Stepped (Delete key) then other) is
-    ∙ ap (λ o. get (left_by m o).items key) right.1 ∙ deleted_drops m right.0 key then other right.1)
+pub given_is_left : (began : Start) (log before behind : List Entry) (write : Entry) (step : KeyStep) (then : ℕ) (item : Item)
+    → IsLegal began began.plain log → log ≡ before ++ write ∷ behind → write.what ≡ Stepped step then Stored → item_given step then (after began began.plain before).next_unique ≡ Some item
+    → item_after began (before ++ write ∷ []) (key_of step) ≡ Some item
+given_is_left began log before behind write step then item legal is = given_at began before behind write (subst (IsLegal began began.plain) is legal) step then item
+
+pub deleted_is_gone : (began : Start) (log before behind : List Entry) (e : Entry) (key : List ℕ) (then : ℕ) (reply : Reply)
+    → IsLegal began began.plain log → log ≡ before ++ e ∷ behind → e.what ≡ Stepped (Delete key) then reply → item_after began (before ++ e ∷ []) key ≡ None
+deleted_is_gone began log before behind e key then reply legal is = dropped_at began before behind e (subst (IsLegal began began.plain) is legal) key then reply
 
 -- a step on a key that stored may change that key's item
 may_stored : (began : Start) (step : KeyStep) (then : ℕ) → IsOnKey step → MayChange began (key_of step) (Stepped step then Stored)
@@ -244,19 +240,20 @@ write_read stay began log p now reply step then write legal kept has stored on =
     let may = subst (MayChange began key) (sym stored) (may_stored began step then on) in
     let r = read_latest stay began log p key now reply write legal kept has may in
     let places = r.is_told.places in
+    let gives : (w : StandsBefore log write read) (item : Item) → item_given step then (after began began.plain w.before).next_unique ≡ Some item → item_after began (w.before ++ write ∷ []) key ≡ Some item =
+    λ w item. given_at began w.before w.between write (legal_parts began began.plain (w.before ++ write ∷ w.between) (read ∷ w.rest) (subst (IsLegal began began.plain) w.is legal)).0 step then item stored in
     ⊎_elim
     (λ (is : write ≡ r.last).
     let told = subst (λ (e : Entry). IsTold began log key now reply e read) (sym is) r.is_told in
-    record { places = told.places; told = inl (λ item gives. told_given began log key now reply write read step then item legal told stored gives) })
-    (λ (s : StandsIn places.before write). record {
-      places = record {
-        before = s.0;
-        between = s.1 ++ r.last ∷ places.between;
-        rest = places.rest;
-        is = places.is ∙ ap (λ es. (es ++ r.last ∷ places.between) ++ read ∷ places.rest) s.2 ∙ ap (λ es. es ++ read ∷ places.rest) (append_assoc s.0 (write ∷ s.1) (r.last ∷ places.between));
-      };
-      told = inr (r.last, (s.1, places.between, refl), r.is_told.changes);
-    })
+    record { places = told.places; given = gives told.places; told = inl told.told })
+    (λ (s : StandsIn places.before write).
+    let stands : StandsBefore log write read = record {
+      before = s.0;
+      between = s.1 ++ r.last ∷ places.between;
+      rest = places.rest;
+      is = places.is ∙ ap (λ es. (es ++ r.last ∷ places.between) ++ read ∷ places.rest) s.2 ∙ ap (λ es. es ++ read ∷ places.rest) (append_assoc s.0 (write ∷ s.1) (r.last ∷ places.between));
+    } in
+    record { places = stands; given = gives stands; told = inr (r.last, (s.1, places.between, refl), r.is_told.changes) })
     (r.latest write has may)
 
 -- ---- what a hit tells was written

@@ -135,14 +135,17 @@ item_given (Cas key flags exptime block known) now unique = Some (record {
 })
 item_given step now unique = None
 
--- A step's write stands before a read of its key, and the read is told the item that the step gave,
--- or a miss once it is dead; or an entry between the two may have changed it.
+-- A write stands before a read of its key, and the read is told the item that it left, which is the
+-- one that the step gave, or a miss once that is dead; or an entry between the two may have changed
+-- it.
 pub record ReadsWrite (began : Start) (log : List Entry) (now : ℕ) (reply : Reply)
     (step : KeyStep) (then : ℕ) (write read : Entry) : Type 0 where
   pub places : StandsBefore log write read
-  pub told : ((item : Item)
+  pub given : (item : Item)
       → item_given step then (after began began.plain places.before).next_unique ≡ Some item
-      → reply ≡ read_of began (places.before ++ write ∷ places.between) now (Some item))
+      → item_after began (places.before ++ write ∷ []) (key_of step) ≡ Some item
+  pub told : (reply ≡ read_of began (places.before ++ write ∷ places.between) now
+      (item_after began (places.before ++ write ∷ []) (key_of step)))
       ⊎ ((other : Entry) × StandsIn places.between other
       × MayChange began (key_of step) other.what)
 

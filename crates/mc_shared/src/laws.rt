@@ -3,7 +3,7 @@
 //! They speak of every legal history that keeps a caller's past; that there is one is what each
 //! call promises. So they tell what callers read of one another, whichever history it was.
 
-ghost use Rattle.std.specs.Prelude.{◌≡◌, ◌+◌, ◌%◌, ◌^◌, ◌<◌, ◌≤◌, ◌⊎◌, ℕ, ℤ, List, [], ◌∷◌, ◌++◌, Some};
+ghost use Rattle.std.specs.Prelude.{◌≡◌, ◌+◌, ◌%◌, ◌^◌, ◌<◌, ◌≤◌, ◌⊎◌, ℕ, ℤ, List, [], ◌∷◌, ◌++◌, Some, None};
 ghost use Rattle.mc_command.specs.declared.step.KeyStep.{KeyStep};
 ghost use Rattle.mc_command.specs.declared.reply.Reply.{Reply};
 ghost use Rattle.mc_command.specs.Commands.{key_of};
@@ -16,7 +16,7 @@ ghost use Rattle.mc_shared.specs.Past.{Past, spent, call, held, callers, times, 
 ghost use Rattle.mc_shared.specs.Past as past;
 ghost use Rattle.mc_shared.specs.Steps.{entry_of, Agrees};
 ghost use Rattle.mc_shared.specs.Store.{with_call};
-ghost use Rattle.mc_shared.specs.Laws.{StandsIn, StandsBefore, Has, IsWithin, WentOn, IsAlone, Call, with_calls, PlainAnswers, MayChange, IsTold, ReadsLatest, ReadsWrite, read_of, item_given, HasItem, Wrote, HasDrawnNumbers, IsWrittenIn, IsNumber, IsCount, counts_up};
+ghost use Rattle.mc_shared.specs.Laws.{StandsIn, StandsBefore, Has, IsWithin, WentOn, IsAlone, Call, with_calls, PlainAnswers, MayChange, ReadsLatest, ReadsWrite, item_after, item_given, HasItem, Wrote, HasDrawnNumbers, IsWrittenIn, IsNumber, IsCount, counts_up};
 
 use mc_command::other_keys_stay;
 
@@ -51,7 +51,7 @@ pub fn a_history_has_nothing_else()
 
 /// States that a caller reads what it knows to be stored: its own writes, those of its maker before
 /// it was made, and those of callers that were joined into it. Where a write was answered Stored, a
-/// read of its key that follows is told what was stored, or a miss once that is dead; or else
+/// read of its key that follows is told what that write left, or a miss once that is dead; or else
 /// another entry stands between the two that may have changed the key's item: a step on that key,
 /// a flush, or a purge of the key's shelf.
 pub fn a_known_write_is_read()
@@ -72,24 +72,25 @@ pub fn a_known_write_is_read()
 /// before it. So a write that a caller knows is read, or something later is; and of two such writes
 /// the later is read, or something later still.
 ///
-/// An item that was stored as it was given is told as it was given, under its own unique number, or
-/// a miss once it is dead. After a delete a read is told a miss.
+/// What an entry left under a key is the item that it stored as it was given, with the unique number
+/// that it drew; of a delete it is nothing.
 pub fn a_caller_reads_what_it_knows()
     ensures latest { (began : Start) (log : List Entry) (p : Past) (key : List ℕ) (now : ℕ)
         (reply : Reply) (known : Entry) →
         IsLegal began began.plain log → KeptBy log (with_call p (KeyStep.Read key) now reply) →
         Has p known → MayChange began key known.what →
         ReadsLatest began log p key now reply (entry_of p (Stepped (KeyStep.Read key) now reply)) }
-    ensures given { (began : Start) (log : List Entry) (key : List ℕ) (now : ℕ) (reply : Reply)
-        (last read : Entry) (step : KeyStep) (then : ℕ) (item : Item) →
-        IsLegal began began.plain log → (told : IsTold began log key now reply last read) →
-        last.what ≡ Stepped step then Reply.Stored →
-        item_given step then (after began began.plain told.places.before).next_unique ≡ Some item →
-        reply ≡ read_of began (told.places.before ++ last ∷ told.places.between) now (Some item) }
-    ensures deleted { (began : Start) (log : List Entry) (key : List ℕ) (now : ℕ) (reply : Reply)
-        (last read : Entry) (then : ℕ) (other : Reply) →
-        IsLegal began began.plain log → IsTold began log key now reply last read →
-        last.what ≡ Stepped (KeyStep.Delete key) then other → reply ≡ Reply.Miss }
+    ensures given { (began : Start) (log before rest : List Entry) (write : Entry)
+        (step : KeyStep) (then : ℕ) (item : Item) →
+        IsLegal began began.plain log → log ≡ before ++ write ∷ rest →
+        write.what ≡ Stepped step then Reply.Stored →
+        item_given step then (after began began.plain before).next_unique ≡ Some item →
+        item_after began (before ++ write ∷ []) (key_of step) ≡ Some item }
+    ensures deleted { (began : Start) (log before rest : List Entry) (delete : Entry)
+        (key : List ℕ) (then : ℕ) (reply : Reply) →
+        IsLegal began began.plain log → log ≡ before ++ delete ∷ rest →
+        delete.what ≡ Stepped (KeyStep.Delete key) then reply →
+        item_after began (before ++ delete ∷ []) key ≡ None }
 {
     other_keys_stay();
 }
