@@ -32,6 +32,7 @@ that were drawn before it, whatever their keys.
 import sys
 from bisect import bisect_left
 from collections import defaultdict
+from functools import lru_cache
 from typing import NamedTuple, Optional
 from urllib.parse import unquote_to_bytes
 
@@ -99,6 +100,7 @@ class State(NamedTuple):
 # ---- the record
 
 
+@lru_cache(maxsize=None)
 def block_of(word):
     if not word.startswith("="):
         raise NotARecord(f"a block stands behind '=': {word}")
@@ -458,24 +460,39 @@ RIGHT = {
     "another may read before the write or after it": "a 0 set k 0 0 =x STORED\nb 0 get k MISS\nb 1 get k HIT 0 1 =x",
     "a reader that never caught up": "a 0 set k 0 0 =x STORED\nb 0 get k MISS\nb 1 get k MISS",
     "one of two adds": "a 0 add k 0 0 =x STORED\nb 0 add k 0 0 =y NOT_STORED\nb 1 get k HIT 0 1 =x",
-    "counts of two callers": "a 0 set k 0 0 =0 STORED\na 1 made b\na 2 incr k 1 NUMBER 2\nb 0 incr k 1 NUMBER 1\nb 1 incr k 1 NUMBER 3",
+    "counts of two callers":
+    "a 0 set k 0 0 =0 STORED\na 1 made b\na 2 incr k 1 NUMBER 2\nb 0 incr k 1 NUMBER 1\n"
+    "b 1 incr k 1 NUMBER 3",
     "one of two cas of one number": "a 0 set k 0 0 =x STORED\na 1 get k HIT 0 7 =x\na 2 made b\n"
     "a 3 cas k 0 0 7 =y EXISTS\nb 0 cas k 0 0 7 =z STORED\na 4 get k HIT 0 9 =z",
-    "appended in either order": "a 0 set k 0 0 =x STORED\na 1 made b\na 2 append k 9 0 =y STORED\nb 0 append k 9 0 =z STORED\na 3 joined b\na 4 get k HIT 0 5 =xzy",
+    "appended in either order":
+    "a 0 set k 0 0 =x STORED\na 1 made b\na 2 append k 9 0 =y STORED\nb 0 append k 9 0 =z STORED\n"
+    "a 3 joined b\na 4 get k HIT 0 5 =xzy",
     "prepended": "a 0 set k 0 0 =x STORED\na 1 prepend k 0 0 =%20 STORED\na 2 get k HIT 0 2 =%20x",
-    "counts wrap and stop": "a 0 set k 0 0 =18446744073709551615 STORED\na 1 incr k 2 NUMBER 1\na 2 decr k 3 NUMBER 0",
+    "counts wrap and stop":
+    "a 0 set k 0 0 =18446744073709551615 STORED\na 1 incr k 2 NUMBER 1\na 2 decr k 3 NUMBER 0",
     "a number with spaces behind it": "a 0 set k 0 0 =7%20%20 STORED\na 1 incr k 1 NUMBER 8\na 2 get k HIT 0 - =8",
     "no number": "a 0 set k 0 0 =7x STORED\na 1 incr k 1 NOT_NUMERIC\na 2 get k HIT 0 1 =7x",
-    "over at once": "a 0 set k 0 -1 =x STORED\na 1 get k MISS\na 2 set k 0 0 =y STORED\na 3 touch k -1 TOUCHED\na 4 touch k 0 NOT_FOUND",
+    "over at once":
+    "a 0 set k 0 -1 =x STORED\na 1 get k MISS\na 2 set k 0 0 =y STORED\na 3 touch k -1 TOUCHED\n"
+    "a 4 touch k 0 NOT_FOUND",
     "told and then over": "a 0 set k 0 0 =x STORED\na 1 gat k -1 HIT 0 1 =x\na 2 gat k 0 MISS",
     "deleted by one of two": "a 0 set k 0 0 =x STORED\na 1 made b\na 2 delete k DELETED\nb 0 delete k NOT_FOUND",
-    "replaced only where something stands": "a 0 replace k 0 0 =x NOT_STORED\na 1 set k 0 0 =y STORED\na 2 replace k 1 0 =z STORED\na 3 get k HIT 1 2 =z",
+    "replaced only where something stands":
+    "a 0 replace k 0 0 =x NOT_STORED\na 1 set k 0 0 =y STORED\na 2 replace k 1 0 =z STORED\n"
+    "a 3 get k HIT 1 2 =z",
     "no cas of nothing": "a 0 cas k 0 0 1 =x NOT_FOUND",
-    "flushed between two reads": "a 0 set k 0 0 =x STORED\na 1 set l 0 0 =y STORED\na 2 made b\na 3 get k HIT 0 1 =x\na 4 get k MISS\na 5 get l MISS\nb 0 flush FLUSHED",
-    "a write that found no room": "a 0 set k 0 0 =x STORED\na 1 set k 0 0 =y NO_CHUNK\na 2 get k HIT 0 1 =x\na 3 append k 0 0 =z TOO_LARGE\na 4 get k HIT 0 1 =x",
-    "one content written twice": "a 0 set k 0 0 =x STORED\nb 0 set k 0 0 =x STORED\nc 0 get k HIT 0 3 =x\nc 1 get k HIT 0 4 =x",
+    "flushed between two reads":
+    "a 0 set k 0 0 =x STORED\na 1 set l 0 0 =y STORED\na 2 made b\na 3 get k HIT 0 1 =x\n"
+    "a 4 get k MISS\na 5 get l MISS\nb 0 flush FLUSHED",
+    "a write that found no room":
+    "a 0 set k 0 0 =x STORED\na 1 set k 0 0 =y NO_CHUNK\na 2 get k HIT 0 1 =x\n"
+    "a 3 append k 0 0 =z TOO_LARGE\na 4 get k HIT 0 1 =x",
+    "one content written twice":
+    "a 0 set k 0 0 =x STORED\nb 0 set k 0 0 =x STORED\nc 0 get k HIT 0 3 =x\nc 1 get k HIT 0 4 =x",
     "a write of the joined is read": "a 0 made b\nb 0 set k 0 0 =x STORED\na 1 joined b\na 2 get k HIT 0 1 =x",
-    "numbers of two keys": "a 0 set k 0 0 =x STORED\na 1 set l 0 0 =y STORED\nb 0 get l HIT 0 2 =y\nb 1 get k HIT 0 1 =x",
+    "numbers of two keys":
+    "a 0 set k 0 0 =x STORED\na 1 set l 0 0 =y STORED\nb 0 get l HIT 0 2 =y\nb 1 get k HIT 0 1 =x",
 }
 WRONG = {
     "what no one stored": "a 0 set k 0 0 =x STORED\nb 0 get k HIT 0 1 =y",
@@ -483,10 +500,15 @@ WRONG = {
     "a write that is lost": "a 0 set k 0 0 =x STORED\na 1 get k MISS",
     "two adds": "a 0 add k 0 0 =x STORED\nb 0 add k 0 0 =y STORED",
     "a count that is lost": "a 0 set k 0 0 =0 STORED\na 1 made b\na 2 incr k 1 NUMBER 1\nb 0 incr k 1 NUMBER 1",
-    "two cas of one number": "a 0 set k 0 0 =x STORED\na 1 get k HIT 0 7 =x\na 2 made b\na 3 cas k 0 0 7 =y STORED\nb 0 cas k 0 0 7 =z STORED",
-    "a cas that met its number and says it didn't": "a 0 set k 0 0 =x STORED\na 1 get k HIT 0 7 =x\na 2 cas k 0 0 7 =y EXISTS",
-    "the old after the new": "a 0 set k 0 0 =x STORED\na 1 set k 0 0 =y STORED\nb 0 get k HIT 0 2 =y\nb 1 get k HIT 0 1 =x",
-    "two readers that saw two orders": "a 0 set k 0 0 =x STORED\nb 0 set k 0 0 =y STORED\nc 0 get k HIT 0 - =x\nc 1 get k HIT 0 - =y\n"
+    "two cas of one number":
+    "a 0 set k 0 0 =x STORED\na 1 get k HIT 0 7 =x\na 2 made b\na 3 cas k 0 0 7 =y STORED\n"
+    "b 0 cas k 0 0 7 =z STORED",
+    "a cas that met its number and says it didn't":
+    "a 0 set k 0 0 =x STORED\na 1 get k HIT 0 7 =x\na 2 cas k 0 0 7 =y EXISTS",
+    "the old after the new":
+    "a 0 set k 0 0 =x STORED\na 1 set k 0 0 =y STORED\nb 0 get k HIT 0 2 =y\nb 1 get k HIT 0 1 =x",
+    "two readers that saw two orders":
+    "a 0 set k 0 0 =x STORED\nb 0 set k 0 0 =y STORED\nc 0 get k HIT 0 - =x\nc 1 get k HIT 0 - =y\n"
     "d 0 get k HIT 0 - =y\nd 1 get k HIT 0 - =x",
     "a write of the joined is missed": "a 0 made b\nb 0 set k 0 0 =x STORED\na 1 joined b\na 2 get k MISS",
     "a write of the maker is missed": "a 0 set k 0 0 =x STORED\na 1 made b\nb 0 get k MISS",
@@ -494,10 +516,14 @@ WRONG = {
     "touched where nothing stands": "a 0 touch k 0 TOUCHED",
     "counted where nothing stands": "a 0 incr k 1 NUMBER 1",
     "counted below 0": "a 0 set k 0 0 =1 STORED\na 1 decr k 2 NUMBER 18446744073709551615",
-    "one number of two keys": "a 0 set k 0 0 =x STORED\na 1 set l 0 0 =y STORED\na 2 get k HIT 0 1 =x\na 3 get l HIT 0 1 =y",
-    "one number of two contents": "a 0 set k 0 0 =x STORED\na 1 get k HIT 0 1 =x\na 2 set k 0 0 =y STORED\na 3 get k HIT 0 1 =y",
-    "numbers of two keys that fall": "a 0 set k 0 0 =x STORED\na 1 set l 0 0 =y STORED\nb 0 get l HIT 0 1 =y\nb 1 get k HIT 0 2 =x",
-    "a number that changes while nothing is written": "a 0 set k 0 0 =x STORED\na 1 get k HIT 0 1 =x\na 2 get k HIT 0 2 =x",
+    "one number of two keys":
+    "a 0 set k 0 0 =x STORED\na 1 set l 0 0 =y STORED\na 2 get k HIT 0 1 =x\na 3 get l HIT 0 1 =y",
+    "one number of two contents":
+    "a 0 set k 0 0 =x STORED\na 1 get k HIT 0 1 =x\na 2 set k 0 0 =y STORED\na 3 get k HIT 0 1 =y",
+    "numbers of two keys that fall":
+    "a 0 set k 0 0 =x STORED\na 1 set l 0 0 =y STORED\nb 0 get l HIT 0 1 =y\nb 1 get k HIT 0 2 =x",
+    "a number that changes while nothing is written":
+    "a 0 set k 0 0 =x STORED\na 1 get k HIT 0 1 =x\na 2 get k HIT 0 2 =x",
     "appended twice by one call": "a 0 set k 0 0 =x STORED\na 1 append k 0 0 =y STORED\na 2 get k HIT 0 2 =xyy",
     "a refused write that was written": "a 0 set k 0 0 =x STORED\na 1 set k 0 0 =y NO_CHUNK\na 2 get k HIT 0 2 =y",
     "what was flushed is read": "a 0 set k 0 0 =x STORED\na 1 flush FLUSHED\na 2 get k HIT 0 1 =x",
