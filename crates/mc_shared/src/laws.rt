@@ -1,0 +1,159 @@
+//! Laws of the shared store, each the contract of a function that does nothing.
+//!
+//! They speak of every legal history that keeps a caller's past; that there is one is what each
+//! call promises. So they tell what callers read of one another, whichever history it was.
+
+ghost use Rattle.std.specs.Prelude.{◌≡◌, ◌+◌, ◌%◌, ◌^◌, ◌<◌, ◌≤◌, ◌⊎◌, ℕ, ℤ, List, [], ◌∷◌, ◌++◌, Some, None};
+ghost use Rattle.mc_command.specs.declared.step.KeyStep.{KeyStep};
+ghost use Rattle.mc_command.specs.declared.reply.Reply.{Reply};
+ghost use Rattle.mc_command.specs.Commands.{key_of};
+ghost use Rattle.mc_command.specs.Laws.{IsOnKey};
+ghost use Rattle.mc_command.specs.Plain.{opening};
+ghost use Rattle.mc_command.specs.Plain.{Entry as Item};
+ghost use Rattle.mc_shared.specs.Sums.{total};
+ghost use Rattle.mc_shared.specs.History.{Start, What, Stepped, Entry, after, IsLegal};
+ghost use Rattle.mc_shared.specs.Past.{Past, spent, call, held, callers, times, Whole, KeptBy};
+ghost use Rattle.mc_shared.specs.Past as past;
+ghost use Rattle.mc_shared.specs.Steps.{entry_of, Agrees};
+ghost use Rattle.mc_shared.specs.Store.{with_call};
+ghost use Rattle.mc_shared.specs.Laws.{StandsIn, StandsBefore, Has, IsWithin, WentOn, IsAlone, Call, with_calls, PlainAnswers, MayChange, ReadsLatest, ReadsWrite, item_after, item_given, HasItem, Wrote, HasDrawnNumbers, IsWrittenIn, IsNumber, IsCount, counts_up};
+
+use mc_command::other_keys_stay;
+
+/// States that calls stand in the history as they were made: what a caller's past had when it made
+/// a call stands before that call. So a caller's own calls stand in their order, what a maker had
+/// done before it made a caller stands before all that this one does, and what was joined stands
+/// before all that follows the join.
+pub fn calls_keep_their_order()
+    ensures stands { (log : List Entry) (p : Past) (e : Entry) →
+        KeptBy log p → Has p e → StandsIn log e }
+    ensures order { (log : List Entry) (p q r : Past) (e first : Entry) →
+        KeptBy log r → IsWithin (call q e) r → IsWithin p q → Has p first →
+        StandsBefore log first e }
+    ensures numbers { (p q : Past) (first second : What) →
+        WentOn (call p (entry_of p first)) q →
+        ((entry_of q second).by ≡ (entry_of p first).by)
+        × ((entry_of p first).number < (entry_of q second).number) }
+{}
+
+/// States that a history has of a caller what the past that holds it has, and nothing else: no
+/// entry stands twice, each entry of a caller that a past holds is held by that past, and where the
+/// past is whole each entry at all. So a step takes effect once, and where it isn't taken, never.
+pub fn a_history_has_nothing_else()
+    ensures once { (log : List Entry) (p : Past) (first second : Entry) →
+        KeptBy log p → StandsBefore log first second → first.by ≡ second.by →
+        first.number ≡ second.number → ⊥ }
+    ensures own { (log : List Entry) (p : Past) (e : Entry) →
+        KeptBy log p → 1 ≤ times e.by (callers p) → StandsIn log e → StandsIn (held p) e }
+    ensures whole { (log : List Entry) (p : Past) (e : Entry) →
+        KeptBy log p → Whole p → StandsIn log e → StandsIn (held p) e }
+{}
+
+/// States that a caller reads what it knows to be stored: its own writes, those of its maker before
+/// it was made, and those of callers that were joined into it. Where a write was answered Stored, a
+/// read of its key that follows is told what that write left, or a miss once that is dead; or else
+/// another entry stands between the two that may have changed the key's item: a step on that key,
+/// a flush, or a purge of the key's shelf.
+pub fn a_known_write_is_read()
+    ensures { (began : Start) (log : List Entry) (p : Past) (now : ℕ) (reply : Reply)
+        (step : KeyStep) (then : ℕ) (write : Entry) →
+        IsLegal began began.plain log →
+        KeptBy log (with_call p (KeyStep.Read (key_of step)) now reply) →
+        Has p write → write.what ≡ Stepped step then Reply.Stored → IsOnKey step →
+        ReadsWrite began log now reply step then write
+        (entry_of p (Stepped (KeyStep.Read (key_of step)) now reply)) }
+{
+    other_keys_stay();
+}
+
+/// States what a caller reads of what it knows: its own calls, those that its maker had before it
+/// made it, and those of the callers that were joined into it. A read is told what one entry left,
+/// and every entry of the caller's past that may have changed the key's item is that one or stands
+/// before it. So a write that a caller knows is read, or something later is; and of two such writes
+/// the later is read, or something later still.
+///
+/// What an entry left under a key is the item that it stored as it was given, with the unique number
+/// that it drew; of a delete it is nothing.
+pub fn a_caller_reads_what_it_knows()
+    ensures latest { (began : Start) (log : List Entry) (p : Past) (key : List ℕ) (now : ℕ)
+        (reply : Reply) (known : Entry) →
+        IsLegal began began.plain log → KeptBy log (with_call p (KeyStep.Read key) now reply) →
+        Has p known → MayChange began key known.what →
+        ReadsLatest began log p key now reply (entry_of p (Stepped (KeyStep.Read key) now reply)) }
+    ensures given { (began : Start) (log before rest : List Entry) (write : Entry)
+        (step : KeyStep) (then : ℕ) (item : Item) →
+        IsLegal began began.plain log → log ≡ before ++ write ∷ rest →
+        write.what ≡ Stepped step then Reply.Stored →
+        item_given step then (after began began.plain before).next_unique ≡ Some item →
+        item_after began (before ++ write ∷ []) (key_of step) ≡ Some item }
+    ensures deleted { (began : Start) (log before rest : List Entry) (delete : Entry)
+        (key : List ℕ) (then : ℕ) (reply : Reply) →
+        IsLegal began began.plain log → log ≡ before ++ delete ∷ rest →
+        delete.what ≡ Stepped (KeyStep.Delete key) then reply →
+        item_after began (before ++ delete ∷ []) key ≡ None }
+{
+    other_keys_stay();
+}
+
+/// States that the first caller, while it is alone, has a plain store: every history that keeps its
+/// past has its calls, in their order, and nothing else; so each reply is the plain machine's, from
+/// the state that the store began with.
+pub fn a_caller_alone_has_a_plain_store()
+    ensures history { (log : List Entry) (p : Past) → IsAlone p → KeptBy log p → log ≡ held p }
+    ensures legal { (began : Start) (p : Past) →
+        IsAlone p → Agrees began p → IsLegal began began.plain (held p) }
+    ensures replies { (began : Start) (calls : List Call) →
+        Agrees began (with_calls (past.start [] spent) calls) → PlainAnswers began.plain calls }
+{}
+
+/// States that nothing is told that no one stored: an item that a read hits was under the key when
+/// the store began, or one of the entries before the read wrote it, with the unique number that
+/// that entry drew.
+pub fn nothing_is_made_up()
+    ensures { (began : Start) (log front rest : List Entry) (read : Entry) (step : KeyStep)
+        (now flags unique : ℕ) (block : List ℕ) →
+        IsLegal began began.plain log → log ≡ front ++ read ∷ rest →
+        read.what ≡ Stepped step now (Reply.Hit flags unique block) →
+        HasItem began.plain (key_of step) flags unique block
+        ⊎ IsWrittenIn began front (key_of step) flags unique block }
+{
+    other_keys_stay();
+}
+
+/// States what a cas is for: one that was answered Stored wrote over the very item that a retrieval
+/// told with the cas's unique number: no entry between the two wrote the key. That holds where the
+/// number of each item was drawn, which it was in a new store, and stays so.
+pub fn a_cas_is_of_what_was_read()
+    ensures new { (pages greatest : ℕ) → HasDrawnNumbers (opening pages greatest) }
+    ensures stays { (began : Start) (log : List Entry) →
+        HasDrawnNumbers began.plain → IsLegal began began.plain log →
+        HasDrawnNumbers (after began began.plain log) }
+    ensures unwritten { (began : Start) (log : List Entry) (read cas other : Entry) (step : KeyStep)
+        (then now flags unique more : ℕ) (exptime : ℤ) (block brought : List ℕ) →
+        HasDrawnNumbers began.plain → IsLegal began began.plain log →
+        (places : StandsBefore log read cas) →
+        read.what ≡ Stepped step then (Reply.Hit flags unique block) →
+        cas.what ≡ Stepped (KeyStep.Cas (key_of step) more exptime brought unique) now Reply.Stored →
+        StandsIn places.between other → Wrote (key_of step) other.what → ⊥ }
+{
+    other_keys_stay();
+}
+
+/// States that no count is lost. Where a key's item is a number, and from then on each entry that
+/// may change it is an incr that was told a number, it grows by what they counted, each count once,
+/// and wraps at 2^64. So once all callers are joined it is the first number and all their counts.
+pub fn no_count_is_lost()
+    ensures counted { (began : Start) (front log : List Entry) (key : List ℕ) (n : ℕ) →
+        IsLegal began began.plain (front ++ log) →
+        IsNumber (after began began.plain front) key n →
+        ((e : Entry) → StandsIn log e → MayChange began key e.what → IsCount key e.what) →
+        IsNumber (after began began.plain (front ++ log)) key
+        ((n + total (counts_up key) log) % (2 ^ 64)) }
+    ensures whole { (began : Start) (log : List Entry) (p : Past) (key : List ℕ) (n : ℕ) →
+        IsLegal began began.plain log → KeptBy log p → Whole p → IsNumber began.plain key n →
+        ((e : Entry) → StandsIn (held p) e → MayChange began key e.what → IsCount key e.what) →
+        IsNumber (after began began.plain log) key
+        ((n + total (counts_up key) (held p)) % (2 ^ 64)) }
+{
+    other_keys_stay();
+}

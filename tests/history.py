@@ -1,0 +1,569 @@
+"""Checks a recorded run of many callers of one store: is there an order of their calls that explains every reply?
+
+    python3 tests/history.py FILE          "-" reads standard input; status 0 explained, 1 not, 2 given up or not a record
+    python3 tests/history.py --selftest
+
+A record has a line for each call that was taken, in any order of the lines, its words apart by single spaces:
+
+    CALLER NUMBER VERB ARGUMENTS.. REPLY..
+
+The numbers of a caller's lines rise in the order in which it made the calls. Keys are words, flags, exptimes and numbers
+are decimal. A block is written behind "=", each space and "%" in it as "%20" and "%25"; "=" alone is the empty block.
+
+    set add replace append prepend    KEY FLAGS EXPTIME =BLOCK           STORED, NOT_STORED, TOO_LARGE, NO_CHUNK
+    cas                               KEY FLAGS EXPTIME UNIQUE =BLOCK    STORED, EXISTS, NOT_FOUND, TOO_LARGE, NO_CHUNK
+    get                               KEY                                HIT FLAGS UNIQUE =BLOCK, MISS
+    gat                               KEY EXPTIME                        HIT FLAGS UNIQUE =BLOCK, MISS
+    touch                             KEY EXPTIME                        TOUCHED, NOT_FOUND
+    delete                            KEY                                DELETED, NOT_FOUND
+    incr decr                         KEY DELTA                          NUMBER VALUE, NOT_FOUND, NOT_NUMERIC, TOO_LARGE, NO_CHUNK
+    flush                                                                FLUSHED
+    made joined                       OTHER
+
+"made" says that the caller made another, whose calls stand after all that this one had done; "joined" that all calls of the
+other stand before those that follow. A UNIQUE of "-" in a reply wasn't told. The store began with no items, and its clock
+stands: an exptime below 0 is over at once, and no other ever. Calls that were refused (a bay was busy, memory ran short,
+numbers were spent) changed nothing and are left out.
+
+For each key by itself the search goes through the orders of the calls on it that keep each caller's own order and what was
+made and joined. That the orders of two keys agree is asked of the unique numbers alone: a write draws a number above all
+that were drawn before it, whatever their keys.
+"""
+import sys
+from bisect import bisect_left
+from collections import defaultdict
+from functools import lru_cache
+from typing import NamedTuple, Optional
+from urllib.parse import unquote_to_bytes
+
+# So many states of one key are searched at most.
+MOST_STATES = 5_000_000
+LIMIT = 2**64
+
+STORES = ("set", "add", "replace", "append", "prepend")
+# How many arguments stand behind a verb.
+ARGUMENTS = {"cas": 5, "get": 1, "gat": 2, "touch": 2, "delete": 1, "incr": 2, "decr": 2, "flush": 0, "made": 1, "joined": 1}
+ARGUMENTS.update(dict.fromkeys(STORES, 4))
+# A write with such a reply was refused, and changed nothing.
+REFUSED = ("TOO_LARGE", "NO_CHUNK")
+
+
+class NotARecord(Exception):
+    """A line that says nothing, or lines that no run could have left."""
+
+
+class Call(NamedTuple):
+    """One line of the record."""
+
+    caller: str
+    number: int
+    verb: str
+    arguments: tuple
+    reply: tuple
+
+    def key(self):
+        return self.arguments[0] if self.verb not in ("flush", "made", "joined") else None
+
+    def told(self):
+        """The content and number of a hit, if the reply is one."""
+        if self.reply[0] != "HIT":
+            return None
+        flags, unique, block = self.reply[1:]
+        return int(flags), None if unique == "-" else int(unique), block_of(block)
+
+    def stored(self):
+        """The flags and block that the call stored as they were given, if it did."""
+        if self.reply != ("STORED",) or self.verb in ("append", "prepend"):
+            return None
+        return int(self.arguments[1]), block_of(self.arguments[-1])
+
+    def __str__(self):
+        return " ".join([self.caller, str(self.number), self.verb, *self.arguments, *self.reply])
+
+
+class Item(NamedTuple):
+    """What stands under the key. A number that isn't known yet is above the floor."""
+
+    flags: int
+    block: bytes
+    unique: Optional[int]
+    floor: int
+
+
+class State(NamedTuple):
+    """The key's item, and the least that the last number drawn can have been."""
+
+    item: Optional[Item]
+    drawn: int
+
+
+# ---- the record
+
+
+@lru_cache(maxsize=None)
+def block_of(word):
+    if not word.startswith("="):
+        raise NotARecord(f"a block stands behind '=': {word}")
+    return unquote_to_bytes(word[1:])
+
+
+def read_call(line):
+    words = line.split(" ")
+    if len(words) < 3 or words[2] not in ARGUMENTS or not words[1].isdigit():
+        raise NotARecord(f"no call: {line}")
+    caller, number, verb = words[0], int(words[1]), words[2]
+    count = ARGUMENTS[verb]
+    arguments, reply = words[3 : 3 + count], words[3 + count :]
+    wanted = 0 if verb in ("made", "joined") else {"HIT": 4, "NUMBER": 2}.get(reply[0] if reply else "", 1)
+    if len(arguments) < count or len(reply) != wanted:
+        raise NotARecord(f"arguments or a reply are missing: {line}")
+    return Call(caller, number, verb, tuple(arguments), tuple(reply) or ("",))
+
+
+def read_record(text):
+    """The calls of each caller, in its own order."""
+    callers = defaultdict(list)
+    for line in text.splitlines():
+        if line:
+            call = read_call(line)
+            callers[call.caller].append(call)
+    for caller, calls in callers.items():
+        calls.sort(key=lambda call: call.number)
+        if len({call.number for call in calls}) < len(calls):
+            raise NotARecord(f"{caller} has two calls of one number")
+    return dict(callers)
+
+
+class Known(NamedTuple):
+    """What stands before a call in every order: of each caller, how many of its lines."""
+
+    before: dict
+
+    def joined(self, other):
+        names = self.before.keys() | other.before.keys()
+        return Known({name: max(self.before.get(name, 0), other.before.get(name, 0)) for name in names})
+
+    def further(self, caller):
+        return Known({**self.before, caller: self.before.get(caller, 0) + 1})
+
+
+def order_of(callers):
+    """All calls, each behind what stands before it in every order, and with what that is."""
+    makers = {call.arguments[0] for calls in callers.values() for call in calls if call.verb == "made"}
+    known = {name: Known({}) for name in callers if name not in makers}
+    taken = dict.fromkeys(callers, 0)
+    ordered = []
+    moved = True
+    while moved:
+        moved = False
+        for name, calls in callers.items():
+            while name in known and taken[name] < len(calls):
+                call = calls[taken[name]]
+                other = call.arguments[0] if call.verb in ("made", "joined") else None
+                if call.verb == "joined" and taken.get(other, 0) < len(callers.get(other, [])):
+                    break
+                ordered.append((call, known[name]))
+                taken[name] += 1
+                moved = True
+                known[name] = known[name].further(name)
+                if call.verb == "made":
+                    known[other] = known[name]
+                if call.verb == "joined":
+                    known[name] = known[name].joined(known.get(other, Known({})))
+    if len(ordered) < sum(map(len, callers.values())):
+        raise NotARecord("what was made and joined goes in a circle, or a caller was made after it was joined")
+    return ordered
+
+
+# ---- unique numbers
+
+
+def tell_numbers(ordered):
+    """The contents that hits told: of each number its key, flags and block; and what is wrong with them."""
+    told = {}
+    for call, _ in ordered:
+        hit = call.told()
+        if hit and hit[1] is not None:
+            content = (call.key(), hit[0], hit[2])
+            if told.setdefault(hit[1], content) != content:
+                return told, f"the number {hit[1]} is told of two contents: {call}"
+    return told, None
+
+
+def number_writes(ordered, told):
+    """The numbers of the writes that alone can have drawn them."""
+    givers, others = defaultdict(list), defaultdict(int)
+    for call, _ in ordered:
+        if call.stored():
+            givers[(call.key(), *call.stored())].append(call)
+        elif call.reply[0] in ("STORED", "NUMBER"):
+            others[call.key()] += 1
+    counts = defaultdict(int)
+    for content in told.values():
+        counts[content] += 1
+    numbers = {}
+    for unique, content in told.items():
+        if len(givers[content]) == 1 and counts[content] == 1 and not others[content[0]]:
+            numbers[givers[content][0]] = unique
+    return numbers
+
+
+def late_draw(ordered, numbers):
+    """A write whose number isn't above one that was drawn before it in every order, if there is one."""
+    # Of each caller, after each of its lines: the greatest number that it knows to be drawn.
+    greatest = defaultdict(list)
+    for call, known in ordered:
+        before = max((greatest[name][count - 1] for name, count in known.before.items() if count), default=0)
+        unique = numbers.get(call)
+        if unique is not None and unique <= before:
+            return f"the number {unique} was drawn when {before} was drawn already: {call}"
+        hit = call.told()
+        seen = hit[1] if hit and hit[1] is not None else 0
+        greatest[call.caller].append(max(before, unique or 0, seen))
+    return None
+
+
+# ---- the protocol's rules of one key
+
+
+def number_of(block):
+    """The number that a block is: 1 to 20 digits below 2^64, and spaces behind them."""
+    digits = block.rstrip(b" ")
+    if not 1 <= len(digits) <= 20 or not digits.isdigit() or int(digits) >= LIMIT:
+        return None
+    return int(digits)
+
+
+class Rules:
+    """How a call changes the state, if its reply is right there. None where it isn't."""
+
+    def __init__(self, numbers):
+        self.numbers = numbers
+        self.owned = set(numbers.values())
+
+    def step(self, call, state):
+        if call.verb == "flush":
+            return State(None, state.drawn) if call.reply == ("FLUSHED",) else None
+        if call.verb in STORES:
+            return self.store(call, state)
+        return getattr(self, call.verb)(call, state)
+
+    def write(self, call, state, flags, block, reply, over=False):
+        """A write, refused or not. One that is over at once leaves nothing."""
+        if call.reply[0] in REFUSED:
+            return state
+        if call.reply != reply:
+            return None
+        unique = self.numbers.get(call)
+        if unique is not None and unique <= state.drawn:
+            return None
+        drawn = state.drawn + 1 if unique is None else unique
+        return State(None if over else Item(flags, block, unique, state.drawn), drawn)
+
+    @staticmethod
+    def refusal(call, state, reply):
+        return state if call.reply == (reply,) else None
+
+    def store(self, call, state):
+        _, flags, exptime, word = call.arguments
+        item, block, over = state.item, block_of(word), int(exptime) < 0
+        if call.verb == "add" and item or call.verb in ("replace", "append", "prepend") and not item:
+            return self.refusal(call, state, "NOT_STORED")
+        if call.verb == "append":
+            return self.write(call, state, item.flags, item.block + block, ("STORED",))
+        if call.verb == "prepend":
+            return self.write(call, state, item.flags, block + item.block, ("STORED",))
+        return self.write(call, state, int(flags), block, ("STORED",), over)
+
+    def cas(self, call, state):
+        _, flags, exptime, unique, word = call.arguments
+        if not state.item:
+            return self.refusal(call, state, "NOT_FOUND")
+        met = self.learn(state, int(unique))
+        if call.reply == ("EXISTS",):
+            return state if met is None or state.item.unique is None else None
+        if met is None:
+            return None
+        return self.write(call, met, int(flags), block_of(word), ("STORED",), int(exptime) < 0)
+
+    def learn(self, state, unique):
+        """The state where the item has this number, if it can have it."""
+        item = state.item
+        if item.unique == unique:
+            return state
+        if item.unique is not None or unique <= item.floor or unique in self.owned:
+            return None
+        return State(item._replace(unique=unique), max(state.drawn, unique))
+
+    def get(self, call, state):
+        hit = call.told()
+        if not state.item or not hit:
+            return state if not state.item and call.reply == ("MISS",) else None
+        flags, unique, block = hit
+        if (flags, block) != (state.item.flags, state.item.block):
+            return None
+        return state if unique is None else self.learn(state, unique)
+
+    def gat(self, call, state):
+        found = self.get(call, state)
+        return found and self.expiring(call, found)
+
+    @staticmethod
+    def expiring(call, state):
+        return State(None, state.drawn) if int(call.arguments[1]) < 0 else state
+
+    def touch(self, call, state):
+        if not state.item:
+            return self.refusal(call, state, "NOT_FOUND")
+        return self.expiring(call, state) if call.reply == ("TOUCHED",) else None
+
+    def delete(self, call, state):
+        if not state.item:
+            return self.refusal(call, state, "NOT_FOUND")
+        return State(None, state.drawn) if call.reply == ("DELETED",) else None
+
+    def incr(self, call, state):
+        return self.count(call, state, lambda number, delta: (number + delta) % LIMIT)
+
+    def decr(self, call, state):
+        return self.count(call, state, lambda number, delta: max(0, number - delta))
+
+    def count(self, call, state, counted):
+        if not state.item:
+            return self.refusal(call, state, "NOT_FOUND")
+        number = number_of(state.item.block)
+        if number is None:
+            return self.refusal(call, state, "NOT_NUMERIC")
+        new = str(counted(number, int(call.arguments[1])))
+        return self.write(call, state, state.item.flags, new.encode(), ("NUMBER", new))
+
+
+# ---- the search
+
+
+class Lane(NamedTuple):
+    """A caller's calls on one key, each with how many calls of the other lanes stand before it."""
+
+    calls: list
+    needs: list
+
+
+def lanes_of(ordered, key):
+    """The lanes of a key, and of the flushes, which change every key."""
+    names, places, own = {}, defaultdict(list), defaultdict(int)
+    for call, known in ordered:
+        line = own[call.caller]
+        own[call.caller] += 1
+        if call.verb == "flush" or call.key() == key:
+            names.setdefault(call.caller, len(names))
+            places[call.caller].append((line, call, known))
+    lines = {name: [line for line, _, _ in places[name]] for name in names}
+    lanes = []
+    for name in names:
+        needs = [[bisect_left(lines[other], known.before.get(other, 0)) for other in names] for _, _, known in places[name]]
+        lanes.append(Lane([call for _, call, _ in places[name]], needs))
+    return lanes
+
+
+class Search:
+    """A search, depth first, through the orders of the calls of a key; a state is tried once."""
+
+    def __init__(self, lanes, numbers):
+        self.lanes = lanes
+        self.rules = Rules(numbers)
+        # The writes whose numbers are known come in the order of these.
+        self.draws = sorted(numbers[call] for lane in lanes for call in lane.calls if call in numbers)
+        self.numbers = numbers
+        self.furthest = (0,) * len(lanes)
+
+    def ready(self, places):
+        for at, lane in enumerate(self.lanes):
+            if places[at] < len(lane.calls):
+                needs = lane.needs[places[at]]
+                if all(place >= need for place, need in zip(places, needs)):
+                    yield at, lane.calls[places[at]]
+
+    def passed(self, places, state):
+        """The places after all calls that are explained here and change nothing: these can wait for no other."""
+        moved = True
+        while moved:
+            moved = False
+            for at, call in self.ready(places):
+                if self.rules.step(call, state) == state:
+                    places = places[:at] + (places[at] + 1,) + places[at + 1 :]
+                    moved = True
+                    break
+        return places
+
+    def nexts(self, places, state, drawn):
+        for at, call in self.ready(places):
+            unique = self.numbers.get(call)
+            if unique is not None and unique != self.draws[drawn]:
+                continue
+            new = self.rules.step(call, state)
+            if new is not None:
+                yield places[:at] + (places[at] + 1,) + places[at + 1 :], new, drawn + (unique is not None)
+
+    def run(self):
+        """Whether an order explains the calls; None where the search was given up."""
+        ends = tuple(len(lane.calls) for lane in self.lanes)
+        stack = [((0,) * len(self.lanes), State(None, 0), 0)]
+        tried = set()
+        while stack:
+            places, state, drawn = stack.pop()
+            places = self.passed(places, state)
+            if places == ends:
+                return True
+            if sum(places) > sum(self.furthest):
+                self.furthest = places
+            if (places, state) in tried:
+                continue
+            if len(tried) == MOST_STATES:
+                return None
+            tried.add((places, state))
+            stack.extend(self.nexts(places, state, drawn))
+        return False
+
+    def waiting(self):
+        """The calls that no order got past, of the longest that was found."""
+        return [str(call) for _, call in self.ready(self.furthest)]
+
+
+def check(text):
+    """The verdict of a record: True, False or None where it was given up; and why."""
+    callers = read_record(text)
+    ordered = order_of(callers)
+    told, fault = tell_numbers(ordered)
+    numbers = number_writes(ordered, told)
+    fault = fault or late_draw(ordered, numbers)
+    if fault:
+        return False, fault
+    keys = sorted({call.key() for call, _ in ordered if call.key() is not None})
+    given_up = None
+    for key in keys:
+        search = Search(lanes_of(ordered, key), numbers)
+        found = search.run()
+        if found is False:
+            return False, f"no order explains the key {key}; of the next calls none can come:\n" + "\n".join(search.waiting())
+        if found is None:
+            given_up = f"the search for the key {key} was given up"
+    if given_up:
+        return None, given_up
+    return True, f"{len(ordered)} lines of {len(callers)} callers on {len(keys)} keys are explained"
+
+
+# ---- the checker's own test: small runs whose verdict is plain
+
+RIGHT = {
+    "nothing happened": "",
+    "a caller reads its own write": "a 0 set k 5 0 =x STORED\na 1 get k HIT 5 1 =x",
+    "another may read before the write or after it": "a 0 set k 0 0 =x STORED\nb 0 get k MISS\nb 1 get k HIT 0 1 =x",
+    "a reader that never caught up": "a 0 set k 0 0 =x STORED\nb 0 get k MISS\nb 1 get k MISS",
+    "one of two adds": "a 0 add k 0 0 =x STORED\nb 0 add k 0 0 =y NOT_STORED\nb 1 get k HIT 0 1 =x",
+    "counts of two callers":
+    "a 0 set k 0 0 =0 STORED\na 1 made b\na 2 incr k 1 NUMBER 2\nb 0 incr k 1 NUMBER 1\n"
+    "b 1 incr k 1 NUMBER 3",
+    "one of two cas of one number": "a 0 set k 0 0 =x STORED\na 1 get k HIT 0 7 =x\na 2 made b\n"
+    "a 3 cas k 0 0 7 =y EXISTS\nb 0 cas k 0 0 7 =z STORED\na 4 get k HIT 0 9 =z",
+    "appended in either order":
+    "a 0 set k 0 0 =x STORED\na 1 made b\na 2 append k 9 0 =y STORED\nb 0 append k 9 0 =z STORED\n"
+    "a 3 joined b\na 4 get k HIT 0 5 =xzy",
+    "prepended": "a 0 set k 0 0 =x STORED\na 1 prepend k 0 0 =%20 STORED\na 2 get k HIT 0 2 =%20x",
+    "counts wrap and stop":
+    "a 0 set k 0 0 =18446744073709551615 STORED\na 1 incr k 2 NUMBER 1\na 2 decr k 3 NUMBER 0",
+    "a number with spaces behind it": "a 0 set k 0 0 =7%20%20 STORED\na 1 incr k 1 NUMBER 8\na 2 get k HIT 0 - =8",
+    "no number": "a 0 set k 0 0 =7x STORED\na 1 incr k 1 NOT_NUMERIC\na 2 get k HIT 0 1 =7x",
+    "over at once":
+    "a 0 set k 0 -1 =x STORED\na 1 get k MISS\na 2 set k 0 0 =y STORED\na 3 touch k -1 TOUCHED\n"
+    "a 4 touch k 0 NOT_FOUND",
+    "told and then over": "a 0 set k 0 0 =x STORED\na 1 gat k -1 HIT 0 1 =x\na 2 gat k 0 MISS",
+    "deleted by one of two": "a 0 set k 0 0 =x STORED\na 1 made b\na 2 delete k DELETED\nb 0 delete k NOT_FOUND",
+    "replaced only where something stands":
+    "a 0 replace k 0 0 =x NOT_STORED\na 1 set k 0 0 =y STORED\na 2 replace k 1 0 =z STORED\n"
+    "a 3 get k HIT 1 2 =z",
+    "no cas of nothing": "a 0 cas k 0 0 1 =x NOT_FOUND",
+    "flushed between two reads":
+    "a 0 set k 0 0 =x STORED\na 1 set l 0 0 =y STORED\na 2 made b\na 3 get k HIT 0 1 =x\n"
+    "a 4 get k MISS\na 5 get l MISS\nb 0 flush FLUSHED",
+    "a write that found no room":
+    "a 0 set k 0 0 =x STORED\na 1 set k 0 0 =y NO_CHUNK\na 2 get k HIT 0 1 =x\n"
+    "a 3 append k 0 0 =z TOO_LARGE\na 4 get k HIT 0 1 =x",
+    "one content written twice":
+    "a 0 set k 0 0 =x STORED\nb 0 set k 0 0 =x STORED\nc 0 get k HIT 0 3 =x\nc 1 get k HIT 0 4 =x",
+    "a write of the joined is read": "a 0 made b\nb 0 set k 0 0 =x STORED\na 1 joined b\na 2 get k HIT 0 1 =x",
+    "numbers of two keys":
+    "a 0 set k 0 0 =x STORED\na 1 set l 0 0 =y STORED\nb 0 get l HIT 0 2 =y\nb 1 get k HIT 0 1 =x",
+}
+WRONG = {
+    "what no one stored": "a 0 set k 0 0 =x STORED\nb 0 get k HIT 0 1 =y",
+    "other flags": "a 0 set k 5 0 =x STORED\na 1 get k HIT 6 1 =x",
+    "a write that is lost": "a 0 set k 0 0 =x STORED\na 1 get k MISS",
+    "two adds": "a 0 add k 0 0 =x STORED\nb 0 add k 0 0 =y STORED",
+    "a count that is lost": "a 0 set k 0 0 =0 STORED\na 1 made b\na 2 incr k 1 NUMBER 1\nb 0 incr k 1 NUMBER 1",
+    "two cas of one number":
+    "a 0 set k 0 0 =x STORED\na 1 get k HIT 0 7 =x\na 2 made b\na 3 cas k 0 0 7 =y STORED\n"
+    "b 0 cas k 0 0 7 =z STORED",
+    "a cas that met its number and says it didn't":
+    "a 0 set k 0 0 =x STORED\na 1 get k HIT 0 7 =x\na 2 cas k 0 0 7 =y EXISTS",
+    "the old after the new":
+    "a 0 set k 0 0 =x STORED\na 1 set k 0 0 =y STORED\nb 0 get k HIT 0 2 =y\nb 1 get k HIT 0 1 =x",
+    "two readers that saw two orders":
+    "a 0 set k 0 0 =x STORED\nb 0 set k 0 0 =y STORED\nc 0 get k HIT 0 - =x\nc 1 get k HIT 0 - =y\n"
+    "d 0 get k HIT 0 - =y\nd 1 get k HIT 0 - =x",
+    "a write of the joined is missed": "a 0 made b\nb 0 set k 0 0 =x STORED\na 1 joined b\na 2 get k MISS",
+    "a write of the maker is missed": "a 0 set k 0 0 =x STORED\na 1 made b\nb 0 get k MISS",
+    "deleted twice": "a 0 set k 0 0 =x STORED\na 1 made b\na 2 delete k DELETED\nb 0 delete k DELETED",
+    "touched where nothing stands": "a 0 touch k 0 TOUCHED",
+    "counted where nothing stands": "a 0 incr k 1 NUMBER 1",
+    "counted below 0": "a 0 set k 0 0 =1 STORED\na 1 decr k 2 NUMBER 18446744073709551615",
+    "one number of two keys":
+    "a 0 set k 0 0 =x STORED\na 1 set l 0 0 =y STORED\na 2 get k HIT 0 1 =x\na 3 get l HIT 0 1 =y",
+    "one number of two contents":
+    "a 0 set k 0 0 =x STORED\na 1 get k HIT 0 1 =x\na 2 set k 0 0 =y STORED\na 3 get k HIT 0 1 =y",
+    "numbers of two keys that fall":
+    "a 0 set k 0 0 =x STORED\na 1 set l 0 0 =y STORED\nb 0 get l HIT 0 1 =y\nb 1 get k HIT 0 2 =x",
+    "a number that changes while nothing is written":
+    "a 0 set k 0 0 =x STORED\na 1 get k HIT 0 1 =x\na 2 get k HIT 0 2 =x",
+    "appended twice by one call": "a 0 set k 0 0 =x STORED\na 1 append k 0 0 =y STORED\na 2 get k HIT 0 2 =xyy",
+    "a refused write that was written": "a 0 set k 0 0 =x STORED\na 1 set k 0 0 =y NO_CHUNK\na 2 get k HIT 0 2 =y",
+    "what was flushed is read": "a 0 set k 0 0 =x STORED\na 1 flush FLUSHED\na 2 get k HIT 0 1 =x",
+    "a flush that no one gave": "a 0 set k 0 0 =x STORED\nb 0 get k HIT 0 1 =x\nb 1 get k MISS",
+    "told after it was over": "a 0 set k 0 0 =x STORED\na 1 gat k -1 HIT 0 1 =x\na 2 get k HIT 0 1 =x",
+}
+NO_RECORD = ["a 0 peek k MISS", "a 0 get k", "a 0 get k HIT 0 1", "a b get k MISS", "a 0 get k MISS\na 0 get k MISS", "a 0 joined b\nb 0 joined a"]
+
+
+def selftest():
+    failed = []
+    for wanted, runs in ((True, RIGHT), (False, WRONG)):
+        for name, text in runs.items():
+            verdict, why = check(text)
+            if verdict is not wanted:
+                failed.append(f"{name}: {verdict}, {why}")
+    for text in NO_RECORD:
+        try:
+            check(text)
+            failed.append(f"read as a record: {text}")
+        except NotARecord:
+            pass
+    print("\n".join(failed) or f"{len(RIGHT)} runs are explained, {len(WRONG)} are not, {len(NO_RECORD)} are no records")
+    return 1 if failed else 0
+
+
+def main(words):
+    if words == ["--selftest"]:
+        return selftest()
+    if len(words) != 1:
+        print(__doc__)
+        return 2
+    try:
+        with sys.stdin if words[0] == "-" else open(words[0], encoding="ascii") as file:
+            verdict, why = check(file.read())
+    except (NotARecord, ValueError, OSError) as fault:
+        verdict, why = None, str(fault)
+    print(why)
+    return {True: 0, False: 1, None: 2}[verdict]
+
+
+if __name__ == "__main__":
+    sys.exit(main(sys.argv[1:]))
