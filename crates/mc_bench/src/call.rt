@@ -1,0 +1,256 @@
+//! Calls as they are drawn, and as they are told.
+ghost use Rattle.std.specs.Prelude.{◌≤◌, length, IfSome};
+ghost use Rattle.mc_command.specs.Commands.{key_of};
+
+use mc_command::{Bytes, KeyStep, Reply, Verb};
+use mc_testing::Dice;
+use std::alloc::{AllocError, Global};
+
+/// How many keys the calls are on.
+pub const KEYS: usize = 8;
+
+/// What is called.
+#[derive(Clone, Copy)]
+pub enum Word {
+    Set,
+    Add,
+    Replace,
+    Append,
+    Prepend,
+    Cas,
+    Get,
+    Gat,
+    Touch,
+    Delete,
+    Incr,
+    Decr,
+    Flush,
+    Tidy,
+}
+
+/// A call. What its word doesn't take is there all the same, and means nothing.
+#[derive(Drop)]
+pub struct Call {
+    pub word: Word,
+    /// Which of the keys.
+    pub key: usize,
+    pub flags: u32,
+    pub exptime: i64,
+    /// A unique number, how far a number is counted, or a delay in seconds.
+    pub number: u64,
+    pub block: String,
+}
+
+/// Draws a call. Its block is a text of its caller and turn, or one of a few; its number may be what its caller has seen of the key.
+pub fn drawn(
+    alloc: Global,
+    dice: &mut Dice,
+    turn: u64,
+    seen: &[u64; KEYS],
+) -> Result<Call, AllocError> {
+    let word = word_drawn(dice);
+    let key = dice.roll(KEYS as u64) as usize;
+    let number = match word {
+        Word::Cas if dice.roll(4) > 0 => seen[key],
+        Word::Flush => dice.roll(2) * 100,
+        _ => dice.roll(200),
+    };
+    let flags = dice.roll(1 << 32) as u32;
+    let exptime = exptime_drawn(dice);
+    let block = block_drawn(alloc, dice, turn)?;
+    Ok(Call {
+        word,
+        key,
+        flags,
+        exptime,
+        number,
+        block,
+    })
+}
+
+/// Draws what is called.
+fn word_drawn(dice: &mut Dice) -> Word {
+    match dice.roll(200) {
+        0..=27 => Word::Set,
+        28..=41 => Word::Add,
+        42..=55 => Word::Replace,
+        56..=67 => Word::Append,
+        68..=79 => Word::Prepend,
+        80..=107 => Word::Cas,
+        108..=147 => Word::Get,
+        148..=157 => Word::Gat,
+        158..=165 => Word::Touch,
+        166..=177 => Word::Delete,
+        178..=187 => Word::Incr,
+        188..=197 => Word::Decr,
+        198 => Word::Flush,
+        _ => Word::Tidy,
+    }
+}
+
+/// Draws an exptime: mostly none, seldom one that is past, and else one that never comes.
+fn exptime_drawn(dice: &mut Dice) -> i64 {
+    match dice.roll(20) {
+        0 => -1,
+        1..=4 => 100,
+        _ => 0,
+    }
+}
+
+/// Draws a block.
+fn block_drawn(alloc: Global, dice: &mut Dice, turn: u64) -> Result<String, AllocError> {
+    match dice.roll(8) {
+        0 => format!(in alloc; ""),
+        1 => format!(in alloc; "18446744073709551615"),
+        2..=4 => format!(in alloc; "{turn}"),
+        _ => format!(in alloc; "{turn}x"),
+    }
+}
+
+impl Call {
+    /// The key that is called for.
+    pub fn key(&self) -> &'static str
+        ensures { length result.now ≤ 250 }
+    {
+        match self.key {
+            0 => "a",
+            1 => "b",
+            2 => "c",
+            3 => "d",
+            4 => "e",
+            5 => "f",
+            6 => "g",
+            _ => "h",
+        }
+    }
+
+    /// The step that it asks for. To tidy is none.
+    pub fn step(&self) -> Option<KeyStep<'_>>
+        ensures { IfSome result (λ step. length (key_of step) ≤ 250) }
+    {
+        let key = Bytes::of(self.key().as_bytes());
+        let exptime = self.exptime;
+        Some(match self.word {
+            Word::Set => self.stores(Verb::Set),
+            Word::Add => self.stores(Verb::Add),
+            Word::Replace => self.stores(Verb::Replace),
+            Word::Append => self.stores(Verb::Append),
+            Word::Prepend => self.stores(Verb::Prepend),
+            Word::Cas => KeyStep::Cas {
+                key,
+                flags: self.flags,
+                exptime,
+                block: Bytes::of(self.block.as_bytes()),
+                unique: self.number,
+            },
+            Word::Get => KeyStep::Read { key },
+            Word::Gat => KeyStep::ReadTouch { key, exptime },
+            Word::Touch => KeyStep::Touch { key, exptime },
+            Word::Delete => KeyStep::Delete { key },
+            Word::Incr => self.counts(true),
+            Word::Decr => self.counts(false),
+            Word::Flush => KeyStep::Flush { delay: self.number },
+            Word::Tidy => return None,
+        })
+    }
+
+    /// The step of a word that stores.
+    fn stores(&self, verb: Verb) -> KeyStep<'_>
+        ensures { length (key_of result) ≤ 250 }
+    {
+        KeyStep::Store {
+            verb,
+            key: Bytes::of(self.key().as_bytes()),
+            flags: self.flags,
+            exptime: self.exptime,
+            block: Bytes::of(self.block.as_bytes()),
+        }
+    }
+
+    /// The step of a word that counts.
+    fn counts(&self, up: bool) -> KeyStep<'_>
+        ensures { length (key_of result) ≤ 250 }
+    {
+        KeyStep::Count {
+            key: Bytes::of(self.key().as_bytes()),
+            up,
+            by: self.number,
+        }
+    }
+
+    /// Writes the call and what it was answered, where it was, into one line.
+    pub fn tell(
+        &self,
+        told: &mut String,
+        caller: u64,
+        turn: u64,
+        reply: Option<&Reply>,
+    ) -> Result<(), AllocError> {
+        let (word, key) = (name_of(self.word), self.key());
+        let (flags, exptime, number) = (self.flags, self.exptime, self.number);
+        write!(told, "{caller} {turn} {word} {key} {flags} {exptime} {number} ")?;
+        hex(told, self.block.as_bytes())?;
+        match reply {
+            Some(reply) => tell_reply(told, reply),
+            None => writeln!(told),
+        }
+    }
+}
+
+/// Names what is called.
+fn name_of(word: Word) -> &'static str {
+    match word {
+        Word::Set => "set",
+        Word::Add => "add",
+        Word::Replace => "replace",
+        Word::Append => "append",
+        Word::Prepend => "prepend",
+        Word::Cas => "cas",
+        Word::Get => "get",
+        Word::Gat => "gat",
+        Word::Touch => "touch",
+        Word::Delete => "delete",
+        Word::Incr => "incr",
+        Word::Decr => "decr",
+        Word::Flush => "flush",
+        Word::Tidy => "tidy",
+    }
+}
+
+/// Writes a reply.
+fn tell_reply(told: &mut String, reply: &Reply) -> Result<(), AllocError> {
+    match reply {
+        Reply::Hit {
+            flags,
+            unique,
+            block,
+        } => {
+            write!(told, " HIT {flags} {unique} ")?;
+            hex(told, block.bytes())?;
+            writeln!(told)
+        }
+        Reply::Number(number) => writeln!(told, " NUMBER {number}"),
+        Reply::Stored => writeln!(told, " STORED"),
+        Reply::NotStored => writeln!(told, " NOT_STORED"),
+        Reply::Exists => writeln!(told, " EXISTS"),
+        Reply::NotFound => writeln!(told, " NOT_FOUND"),
+        Reply::Miss => writeln!(told, " MISS"),
+        Reply::Touched => writeln!(told, " TOUCHED"),
+        Reply::Deleted => writeln!(told, " DELETED"),
+        Reply::NotNumeric => writeln!(told, " NOT_NUMERIC"),
+        Reply::TooLarge => writeln!(told, " TOO_LARGE"),
+        Reply::NoChunk => writeln!(told, " NO_CHUNK"),
+        Reply::Flushed => writeln!(told, " FLUSHED"),
+    }
+}
+
+/// Writes bytes in hexadecimal digits, and of no byte a `-`.
+fn hex(told: &mut String, bytes: &[u8]) -> Result<(), AllocError> {
+    if bytes.is_empty() {
+        return write!(told, "-");
+    }
+    for byte in bytes {
+        write!(told, "{byte:02x}")?;
+    }
+    Ok(())
+}
