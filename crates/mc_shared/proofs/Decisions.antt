@@ -1,9 +1,11 @@
 -- Which decisions are the plain machine's: those that take a state on by one shelf and the desk.
-use Rattle.std.proofs.Common.{◌≡◌, ◌≢◌, ℕ, ◌+◌, ◌<◌, List, [], ◌∷◌, sym, refl, ap, ◌∙◌, subst, arith}
+use Rattle.std.proofs.Common.{◌≡◌, ◌≢◌, ℕ, ◌+◌, ◌<◌, List, [], ◌∷◌, Result, Ok, Err, sym, refl, ap, ◌∙◌, subst, arith}
 use Rattle.mc_command.specs.Plain.{Plain}
 use Rattle.mc_command.specs.declared.step.KeyStep.{KeyStep}
 use Rattle.mc_command.specs.declared.reply.Reply.{Reply}
 use Rattle.mc_shelf.specs.States.{ShelfContent, DeskState, IsHash, IsAt, CanStand}
+use Rattle.mc_command.specs.Commands.{key_of}
+use Rattle.mc_shelf.specs.Plans.{IsSpent}
 use Rattle.mc_shelf.specs.Parts.{IsShelfOf, IsDeskOf, GoesTo, GoesByStep, GoesWithoutDesk}
 use Rattle.mc_shared.specs.Bays.{Content, OfShelf, OfDesk}
 use Rattle.mc_shared.specs.Sums.{total}
@@ -11,6 +13,10 @@ use Rattle.mc_shared.specs.History.{Start, What, Stepped, shelf_in, left_by, nex
 use Rattle.mc_shared.specs.Rule.{Fits, AllFit, KeepsLimits, holds_bay}
 use Rattle.mc_shared.specs.View.{Knows}
 use Rattle.mc_shared.specs.Steps.{Decides, Fitted}
+use Rattle.mc_command.specs.declared.step.StepFault.{StepFault}
+use Rattle.mc_command.specs.declared.step.StepFault.TheVariants.{NoMemory, NumbersSpent}
+use Rattle.mc_shared.specs.Past.{Past}
+use Rattle.mc_shared.specs.Store.{IsSpentAfter, Refuses}
 use Rattle.mc_shared.proofs.StockedKept.{here}
 
 -- a bay that isn't held is another than one that is
@@ -135,7 +141,7 @@ pub can_stand : (start : Start) (at : ℕ) (f : ShelfContent) (d : DeskState) (k
 can_stand start at f d key own v is fitted =
     let m : Plain = after start start.plain fitted.log in
     let fits : AllFit start m ((start.shelves, OfDesk d) ∷ (at, OfShelf f) ∷ []) =
-        subst (AllFit start m) is fitted.fits in
+    subst (AllFit start m) is fitted.fits in
     record { plain = m; stands = stands start m at f d key own fits.1.0.1 fits.0.1 }
 
 -- they are parts of some state
@@ -146,7 +152,7 @@ pub part_held : (start : Start) (at : ℕ) (f : ShelfContent) (d : DeskState) (v
 part_held start at f d v is fitted =
     let m : Plain = after start start.plain fitted.log in
     let fits : AllFit start m ((start.shelves, OfDesk d) ∷ (at, OfShelf f) ∷ []) =
-        subst (AllFit start m) is fitted.fits in
+    subst (AllFit start m) is fitted.fits in
     (start.hash_of, start.shelves, at, m, fits.1.0.1, fits.0.1)
 
 -- a shelf that is held has each of its keys with the key's hash
@@ -157,3 +163,26 @@ held_hash start at f below v is fitted =
     let m : Plain = after start start.plain fitted.log in
     let fits : AllFit start m ((at, OfShelf f) ∷ below) = subst (AllFit start m) is fitted.fits in
     fits.0.1.hashes
+
+-- where the numbers of a shelf and a desk that are held are spent, they are after some history
+pub spent_after : (start : Start) (at : ℕ) (f : ShelfContent) (d : DeskState) (step : KeyStep)
+    (now : ℕ) → shelf_in start (key_of step) ≡ at → (v : Knows)
+    → v.bays ≡ (start.shelves, OfDesk d) ∷ (at, OfShelf f) ∷ [] → Fitted start v
+    → IsSpent step now f d → IsSpentAfter start v.past step now
+spent_after start at f d step now own v is fitted spent =
+    let m : Plain = after start start.plain fitted.log in
+    let fits : AllFit start m ((start.shelves, OfDesk d) ∷ (at, OfShelf f) ∷ []) =
+    subst (AllFit start m) is fitted.fits in
+    record {
+      log = fitted.log;
+      legal = fitted.legal;
+      keeps = fitted.keeps;
+      spent = spent m (stands start m at f d (key_of step) own fits.1.0.1 fits.0.1);
+    }
+
+-- what is told of a fault
+pub refuses : (start : Start) (p : Past) (step : KeyStep) (now : ℕ) (result : Result Reply StepFault)
+    (fault : StepFault) → result ≡ Err fault
+    → (result ≡ Err NumbersSpent → IsSpentAfter start p step now) → Refuses start p step now fault
+refuses start p step now result NoMemory is spent = tt
+refuses start p step now result NumbersSpent is spent = spent is

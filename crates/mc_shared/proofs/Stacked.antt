@@ -87,6 +87,7 @@ flushed_limits began m delay now keeps = record {
     either_greatest : (now : Bool) (m a b : Plain) → a.greatest ≡ m.greatest → b.greatest ≡ m.greatest → (if now then a else b).greatest ≡ m.greatest
     either_greatest true m a b e d = e
     either_greatest false m a b e d = d
+
     either_limit : (now : Bool) (m a b : Plain) → a.limit ≡ m.limit → b.limit ≡ m.limit → (if now then a else b).limit ≡ m.limit
     either_limit true m a b e d = e
     either_limit false m a b e d = d

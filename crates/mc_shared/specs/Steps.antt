@@ -1,6 +1,7 @@
 -- What each atomic step tells.
-use Rattle.std.specs.Prelude.{◌≡◌, ◌≢◌, ℕ, ◌<◌, ◌≤◌, List, [], ◌∷◌, Option, Some, None}
+use Rattle.std.specs.Prelude.{◌≡◌, ◌≢◌, ℕ, ◌+◌, ◌<◌, ◌≤◌, List, [], ◌∷◌, Option, Some, None}
 use Rattle.mc_command.specs.Plain.{Plain, opening}
+use Rattle.atomic_table.specs.Seated.{TableId}
 use Rattle.atomic_table.specs.Table.{Me, Step, rest}
 use Rattle.mc_shared.specs.declared.bay.Bay.{Bay}
 use Rattle.mc_shared.specs.declared.bay.Bay.TheVariants.{Shelf, Desk}
@@ -27,6 +28,19 @@ holding v b x = record { past = v.past; bays = (b, x) ∷ v.bays }
 
 abbrev pub entry_of : Past → What → Entry
 entry_of p what = record { by = name_of p; number = count_calls (name_of p) (held p); what = what }
+
+-- a seat of a table of so many shelves and the desk
+abbrev pub IsSeatOf : (seat table : TableId) → (shelves : ℕ) → Type 0
+IsSeatOf seat table shelves = (seat ≡ table) × (table.words ≡ shelves + 1)
+
+-- the seat took this bay last, and has its content; its slot is empty
+abbrev pub HoldsThis : Mine → ℕ → Content → Type 0
+HoldsThis m b x = (m.0.bays ≡ (b, x) ∷ rest m.0.bays) × (m.1 ≡ (b, None) ∷ rest m.1)
+
+-- the seat took this bay last
+abbrev pub HoldsLast : Mine → ℕ → Type 0
+HoldsLast m b =
+    ((x : Content) × (m.0.bays ≡ (b, x) ∷ rest m.0.bays)) × (m.1 ≡ (b, None) ∷ rest m.1)
 
 -- after the last bay taken was given back
 abbrev pub without : Mine → Mine
@@ -59,6 +73,16 @@ gave began st m n m' = (m' ≡ without m) × Fitted began m.0
 
 abbrev pub decided : Start → What → List (ℕ × Content) → Step Slot → Mine → ℕ → Mine → Type 0
 decided began what bays st m n m' = (m' ≡ decided_by m what bays) × Agrees began m'.0.past
+
+-- the bay is held from then on with its content, and all that is held fits some such history
+abbrev pub HasTaken : Start → Mine → ℕ → Bay → Mine → Type 0
+HasTaken began m b x m' =
+    IsAt began.shelves b x × (m' ≡ (holding m.0 b (content_of x), (b, None) ∷ m.1))
+    × Fitted began (holding m.0 b (content_of x))
+
+-- the last bay taken was given back with a decision, and these are still held
+abbrev pub HasDecided : Start → Mine → What → List (ℕ × Content) → Mine → Type 0
+HasDecided began m what still m' = (m' ≡ decided_by m what still) × Agrees began m'.0.past
 
 -- Whatever the state is, if what is held fits it: the decision is the plain machine's, what is given back and what is still held fit the state after it, and so does each bay that is not held
 pub record Decides (start : Start) (bays : List (ℕ × Content)) (b : ℕ) (y : Content) (what : What) (still : List (ℕ × Content)) : Type 0 where

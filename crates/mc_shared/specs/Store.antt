@@ -13,7 +13,7 @@ use Rattle.mc_shared.specs.declared.fault.TryFault.{TryFault}
 use Rattle.mc_shared.specs.declared.fault.TryFault.TheVariants.{Busy, NoMemory, NumbersSpent}
 use Rattle.mc_shared.specs.History.{Start, Entry, Stepped, shelf_in, after, IsLegal}
 use Rattle.mc_shared.specs.Past.{Past, call, Whole, KeptBy}
-use Rattle.mc_shared.specs.Steps.{Slot, Mine, entry_of}
+use Rattle.mc_shared.specs.Steps.{Slot, Mine, Agrees, entry_of}
 
 -- a seat with this past, which holds nothing
 abbrev pub resting : Past → Mine
@@ -26,6 +26,16 @@ holds_one p at x = (record { past = p; bays = (at, x) ∷ [] }, (at, None) ∷ [
 -- the past with a call more
 abbrev pub with_call : Past → KeyStep → ℕ → Reply → Past
 with_call p step now reply = call p (entry_of p (Stepped step now reply))
+
+-- the past became that with a call more, and a legal history keeps it
+abbrev pub HasCalled : Start → (old : Past) → KeyStep → (now : ℕ) → Reply → (new : Past) → Type 0
+HasCalled start old step now reply new =
+    (new ≡ with_call old step now reply) × Agrees start new
+
+-- the same of a seat, which holds nothing from then on
+abbrev pub RestsCalled : Start → Mine → KeyStep → (now : ℕ) → Reply → Mine → Type 0
+RestsCalled start m step now reply m' =
+    (m' ≡ resting (with_call m.0.past step now reply)) × Agrees start m'.0.past
 
 -- the plain machine is out of numbers after some legal history that keeps the past
 pub record IsSpentAfter (began : Start) (p : Past) (step : KeyStep) (now : ℕ) : Type 0 where

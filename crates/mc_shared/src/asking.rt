@@ -33,7 +33,12 @@ impl<'a, R: Wait, K: KeyHash + Drop, G: Gate> Model for Asking<'a, R, K, G> {
 
     ghost coded = { coded_asking K.code };
 
-    ghost view = { λ a. record { began = a.shared.now.began; table = a.caller.table; past = a.caller.past } };
+    ghost view = { λ a. record {
+      began = a.shared.now.began;
+      table = a.caller.table;
+      past =
+          a.caller.past;
+    } };
 
     ghost invariant = { λ a. a.caller.table ≡ a.shared.now.table };
 }
@@ -42,7 +47,12 @@ impl<'a, R: Wait, K: KeyHash + Drop, G: Gate> Asking<'a, R, K, G> {
     /// The caller asks the store.
     pub fn new(rt: &'a R, shared: &'a Shared<K>, caller: Caller, gate: &'a G) -> Asking<'a, R, K, G>
         requires own { caller.table ≡ shared.now.table }
-        ensures { result ≡ record { began = shared.now.began; table = caller.table; past = caller.past } }
+        ensures { result ≡ record {
+          began = shared.now.began;
+          table = caller.table;
+          past =
+              caller.past;
+        } }
     {
         Asking {
             rt,
@@ -87,32 +97,23 @@ impl<'a, R: Wait, K: KeyHash + Drop, G: Gate> Asking<'a, R, K, G> {
     /// Drops the dead items of a shelf.
     pub fn tidy(&mut self, shelf: u32, now: Moment)
         requires { shelf < self.old.began.settings.shelves }
-        ensures { AsksOnce (start_of K.hash_of self.old.began) (Purged shelf now) self.old self.new }
+        ensures { AsksOnce (start_of K.hash_of self.old.began) (Purged shelf now) self.old
+            self.new }
     {
         self.shared.tidy(self.rt, &mut self.caller, shelf, now);
     }
 }
 
 impl<'a, R: Wait, K: KeyHash + Drop, G: Gate> Steps for Asking<'a, R, K, G> {
-    ghost took = { λ old step now reply new. AsksOnce (start_of K.hash_of old.began) (Stepped step now reply) old new };
+    ghost took = { λ old step now reply new. AsksOnce (start_of K.hash_of old.began)
+        (Stepped step now reply) old new };
 
     ghost spent = { λ old step now. IsSpentAfter (start_of K.hash_of old.began) old.past step now };
 
     ghost same = { λ old new. new ≡ old };
 
     fn step(&mut self, alloc: Global, step: &KeyStep<'_>, now: Moment) -> Result<Reply, StepFault> {
-        match step {
-            KeyStep::Flush { delay } => Ok(self.shared.flush(
-                self.rt,
-                alloc,
-                &mut self.caller,
-                *delay,
-                now,
-            )?),
-            _ => {
-                self.shared
-                    .step_at(self.rt, alloc, &mut self.caller, step, now, self.gate)
-            }
-        }
+        self.shared
+            .step_at(self.rt, alloc, &mut self.caller, step, now, self.gate)
     }
 }

@@ -3,6 +3,7 @@ ghost use Rattle.std.specs.Prelude.{◌≡◌, ◌+◌, ◌<◌, ◌≤◌, [], 
 ghost use Rattle.mc_shared.specs.Shown.{SharedState, CallerState};
 ghost use Rattle.mc_shared.specs.History.{start_of};
 ghost use Rattle.mc_shared.specs.Past.{Lives, Whole};
+ghost use Rattle.mc_shared.specs.Steps.{IsSeatOf};
 ghost use Rattle.mc_shared.specs.Store.{resting};
 ghost use Rattle.mc_shared.specs.Stacks.{holds_all};
 ghost use Rattle.mc_shared.specs.Close.{Gathered, IsAfter};
@@ -31,11 +32,14 @@ fn take_all<K: KeyHash + Drop>(
     count: usize,
 ) -> Result<Vec<Shelf>, (usize, u64)>
     requires lives { Lives caller.old.me.0.past }
-    requires table { (caller.old.table_id ≡ board.now.shared.table_id) × (board.now.shared.table_id.words ≡ board.now.shared.key.value.settings.shelves + 1) × (count ≡ board.now.shared.key.value.settings.shelves) }
+    requires table { IsSeatOf caller.old.table_id board.now.shared.table_id
+        board.now.shared.key.value.settings.shelves }
+    requires count { count ≡ board.now.shared.key.value.settings.shelves }
     requires room { (held.items ≡ []) × (count ≤ vec_capacity held) }
     requires free { caller.old.me ≡ resting caller.old.me.0.past }
     ensures seat { (caller.new.table_id ≡ caller.old.table_id) × (caller.new.id ≡ caller.old.id) }
-    ensures ok { IfOk result (λ v. (vec_len v ≡ count) × (caller.new.me ≡ holds_all caller.old.me.0.past v.items)) }
+    ensures ok { IfOk result (λ v. (vec_len v ≡ count) ×
+        (caller.new.me ≡ holds_all caller.old.me.0.past v.items)) }
     ensures err { IfErr result (λ e. (e.1 ≡ 1) × (Whole caller.old.me.0.past → ⊥)) }
 {
     let mut held = held;
@@ -57,11 +61,15 @@ fn gather<K: KeyHash + Drop>(
     count: usize,
 ) -> Result<(Vec<Shelf>, Desk), (usize, u64)>
     requires lives { Lives caller.old.me.0.past }
-    requires table { (caller.old.table_id ≡ board.now.shared.table_id) × (board.now.shared.table_id.words ≡ board.now.shared.key.value.settings.shelves + 1) × (count ≡ board.now.shared.key.value.settings.shelves) }
+    requires table { IsSeatOf caller.old.table_id board.now.shared.table_id
+        board.now.shared.key.value.settings.shelves }
+    requires count { count ≡ board.now.shared.key.value.settings.shelves }
     requires some_shelf { 0 < board.now.shared.key.value.settings.shelves }
     requires room { (held.items ≡ []) × (count ≤ vec_capacity held) }
     requires free { caller.old.me ≡ resting caller.old.me.0.past }
-    ensures ok { IfOk result (λ r. (vec_len r.0 ≡ count) × Gathered (start_of K.hash_of board.now.shared.key.value) caller.old.me.0.past r.0.items r.1) }
+    ensures ok { IfOk result (λ r. (vec_len r.0 ≡ count)
+        × Gathered (start_of K.hash_of board.now.shared.key.value) caller.old.me.0.past r.0.items
+        r.1) }
     ensures err { IfErr result (λ e. (e.1 ≡ 1) × (Whole caller.old.me.0.past → ⊥)) }
 {
     let held = match take_all(board, caller, held, count) {
@@ -78,10 +86,14 @@ impl<K: KeyHash + Drop> Shared<K> {
     /// A store of one thread whose state is that after a legal history that keeps the caller's past.
     pub fn close(self, alloc: Global, caller: Caller) -> Result<Store<K>, CloseFault<K>>
         requires { caller.table ≡ self.table }
-        ensures set_up { IfOk result (λ store. (store.settings ≡ self.began.settings) × (store.hasher ≡ self.began.hasher)) }
-        ensures state { IfOk result (λ store. IsAfter (start_of K.hash_of self.began) caller.past store.plain) }
-        ensures held { (bay word : ℕ) → result ≡ Err (CloseFault.Held bay word) → (word ≡ 1) × (Whole caller.past → ⊥) }
-        ensures refused { (shared : SharedState K) (back : CallerState) → result ≡ Err (CloseFault.NoMemory shared back) → (shared ≡ self) × (back ≡ caller) }
+        ensures set_up { IfOk result (λ store. (store.settings ≡ self.began.settings)
+            × (store.hasher ≡ self.began.hasher)) }
+        ensures state { IfOk result (λ store. IsAfter (start_of K.hash_of self.began) caller.past
+            store.plain) }
+        ensures held { (bay word : ℕ) → result ≡ Err (CloseFault.Held bay word) → (word ≡ 1)
+            × (Whole caller.past → ⊥) }
+        ensures refused { (shared : SharedState K) (back : CallerState)
+            → result ≡ Err (CloseFault.NoMemory shared back) → (shared ≡ self) × (back ≡ caller) }
     {
         let count = self.settings.shelves as usize;
         let Ok(room) = Vec::with_capacity(alloc, count) else {

@@ -6,8 +6,19 @@ ghost use Rattle.mc_command.specs.Plain.{Plain, flushed};
 ghost use Rattle.mc_shelf.specs.Parts.{ArePartsOf};
 ghost use Rattle.mc_shared.specs.History.{start_of, Stepped};
 ghost use Rattle.mc_shared.specs.Past.{Lives};
-ghost use Rattle.mc_shared.specs.Steps.{IsAt, holding, decided_by, Agrees, Fitted, Decides};
-ghost use Rattle.mc_shared.specs.Store.{resting, with_call};
+ghost use Rattle.mc_shared.specs.Steps.{
+  IsAt,
+  holding,
+  decided_by,
+  Agrees,
+  Fitted,
+  Decides,
+  IsSeatOf,
+  HoldsLast,
+  HasTaken,
+  HasDecided,
+};
+ghost use Rattle.mc_shared.specs.Store.{resting, with_call, HasCalled, RestsCalled};
 ghost use Rattle.mc_shared.specs.Stacks.{stacked, holds_all};
 ghost use Rattle.mc_shared.specs.Bays.{Content, OfDesk, content_of};
 ghost use Rattle.atomic_table.specs.Table.{rest};
@@ -34,9 +45,12 @@ pub(crate) fn take_waiting<K: KeyHash + Drop, R: Wait>(
     bay: usize,
 ) -> Bay
     requires lives { Lives caller.old.me.0.past }
-    requires table { (caller.old.table_id ≡ board.now.shared.table_id) × (board.now.shared.table_id.words ≡ board.now.shared.key.value.settings.shelves + 1) × (bay < board.now.shared.table_id.words) }
+    requires table { IsSeatOf caller.old.table_id board.now.shared.table_id
+        board.now.shared.key.value.settings.shelves }
+    requires bay { bay < board.now.shared.table_id.words }
     ensures seat { (caller.new.table_id ≡ caller.old.table_id) × (caller.new.id ≡ caller.old.id) }
-    ensures taken { IsAt board.now.shared.key.value.settings.shelves bay result × (caller.new.me ≡ (holding caller.old.me.0 bay (content_of result), (bay, None) ∷ caller.old.me.1)) × Fitted (start_of K.hash_of board.now.shared.key.value) (holding caller.old.me.0 bay (content_of result)) }
+    ensures taken { HasTaken (start_of K.hash_of board.now.shared.key.value) caller.old.me bay
+        result caller.new.me }
 {
     for _ in rt.forever() {
         if let Ok(value) = take(board, caller, bay) {
@@ -56,11 +70,14 @@ fn hold_all<K: KeyHash + Drop, R: Wait>(
     count: usize,
 ) -> Vec<Shelf>
     requires lives { Lives caller.old.me.0.past }
-    requires table { (caller.old.table_id ≡ board.now.shared.table_id) × (board.now.shared.table_id.words ≡ board.now.shared.key.value.settings.shelves + 1) × (count ≡ board.now.shared.key.value.settings.shelves) }
+    requires table { IsSeatOf caller.old.table_id board.now.shared.table_id
+        board.now.shared.key.value.settings.shelves }
+    requires count { count ≡ board.now.shared.key.value.settings.shelves }
     requires room { (held.items ≡ []) × (count ≤ vec_capacity held) }
     requires free { caller.old.me ≡ resting caller.old.me.0.past }
     ensures seat { (caller.new.table_id ≡ caller.old.table_id) × (caller.new.id ≡ caller.old.id) }
-    ensures held { (vec_len result ≡ count) × (caller.new.me ≡ holds_all caller.old.me.0.past result.items) }
+    ensures held { (vec_len result ≡ count) × (caller.new.me ≡ holds_all caller.old.me.0.past
+        result.items) }
 {
     let mut held = held;
     while held.len() < count {
@@ -73,9 +90,12 @@ fn hold_all<K: KeyHash + Drop, R: Wait>(
 
 /// Gives back all shelves, the last one first.
 fn give_all<K: KeyHash + Drop>(board: &Board<K>, caller: &mut Place, mut held: Vec<Shelf>)
-    requires table { (caller.old.table_id ≡ board.now.shared.table_id) × (board.now.shared.table_id.words ≡ board.now.shared.key.value.settings.shelves + 1) × (vec_len held ≤ board.now.shared.key.value.settings.shelves) }
+    requires table { IsSeatOf caller.old.table_id board.now.shared.table_id
+        board.now.shared.key.value.settings.shelves }
+    requires count { vec_len held ≤ board.now.shared.key.value.settings.shelves }
     requires held { caller.old.me ≡ holds_all caller.old.me.0.past held.items }
-    ensures { (caller.new.table_id ≡ caller.old.table_id) × (caller.new.id ≡ caller.old.id) × (caller.new.me ≡ resting caller.old.me.0.past) }
+    ensures { (caller.new.table_id ≡ caller.old.table_id) × (caller.new.id ≡ caller.old.id)
+        × (caller.new.me ≡ resting caller.old.me.0.past) }
 {
     while let Some(shelf) = held.pop() {
         give(board, caller, held.len(), Bay::Shelf(shelf));
@@ -93,13 +113,19 @@ fn decide_flush_as<D: Says, K: KeyHash + Drop>(
     _now: Moment,
 )
     requires began { D.start ≡ start_of K.hash_of board.now.shared.key.value }
-    requires said { (D.what ≡ Stepped (Step.Flush _delay) _now Told.Flushed) × (D.still ≡ stacked _held.now.items) }
-    requires table { (caller.old.table_id ≡ board.now.shared.table_id) × (board.now.shared.table_id.words ≡ board.now.shared.key.value.settings.shelves + 1) × (bay < board.now.shared.table_id.words) }
-    requires held { ((x : Content) × (caller.old.me.0.bays ≡ (bay, x) ∷ rest caller.old.me.0.bays)) × (caller.old.me.1 ≡ (bay, None) ∷ rest caller.old.me.1) }
+    requires said { (D.what ≡ Stepped (Step.Flush _delay) _now Told.Flushed)
+        × (D.still ≡ stacked _held.now.items) }
+    requires table { IsSeatOf caller.old.table_id board.now.shared.table_id
+        board.now.shared.key.value.settings.shelves }
+    requires bay { bay < board.now.shared.table_id.words }
+    requires held { HoldsLast caller.old.me bay }
     requires lives { Lives caller.old.me.0.past }
-    requires right { Decides (start_of K.hash_of board.now.shared.key.value) caller.old.me.0.bays bay (OfDesk desk) (Stepped (Step.Flush _delay) _now Told.Flushed) (stacked _held.now.items) }
+    requires right { Decides (start_of K.hash_of board.now.shared.key.value) caller.old.me.0.bays
+        bay (OfDesk desk) (Stepped (Step.Flush _delay) _now Told.Flushed)
+        (stacked _held.now.items) }
     ensures seat { (caller.new.table_id ≡ caller.old.table_id) × (caller.new.id ≡ caller.old.id) }
-    ensures view { (caller.new.me ≡ decided_by caller.old.me (Stepped (Step.Flush _delay) _now Told.Flushed) (stacked _held.now.items)) × Agrees (start_of K.hash_of board.now.shared.key.value) caller.new.me.0.past }
+    ensures view { HasDecided (start_of K.hash_of board.now.shared.key.value) caller.old.me
+        (Stepped (Step.Flush _delay) _now Told.Flushed) (stacked _held.now.items) caller.new.me }
 {
     decide_as::<D, K>(board, caller, bay, Bay::Desk(desk));
 }
@@ -114,12 +140,16 @@ fn decide_flush<K: KeyHash + Drop>(
     delay: u64,
     now: Moment,
 )
-    requires table { (caller.old.table_id ≡ board.now.shared.table_id) × (board.now.shared.table_id.words ≡ board.now.shared.key.value.settings.shelves + 1) × (bay < board.now.shared.table_id.words) }
-    requires held { ((x : Content) × (caller.old.me.0.bays ≡ (bay, x) ∷ rest caller.old.me.0.bays)) × (caller.old.me.1 ≡ (bay, None) ∷ rest caller.old.me.1) }
+    requires table { IsSeatOf caller.old.table_id board.now.shared.table_id
+        board.now.shared.key.value.settings.shelves }
+    requires bay { bay < board.now.shared.table_id.words }
+    requires held { HoldsLast caller.old.me bay }
     requires lives { Lives caller.old.me.0.past }
-    requires right { Decides (start_of K.hash_of board.now.shared.key.value) caller.old.me.0.bays bay (OfDesk desk) (Stepped (Step.Flush delay) now Told.Flushed) (stacked held.now.items) }
+    requires right { Decides (start_of K.hash_of board.now.shared.key.value) caller.old.me.0.bays
+        bay (OfDesk desk) (Stepped (Step.Flush delay) now Told.Flushed) (stacked held.now.items) }
     ensures seat { (caller.new.table_id ≡ caller.old.table_id) × (caller.new.id ≡ caller.old.id) }
-    ensures view { (caller.new.me ≡ decided_by caller.old.me (Stepped (Step.Flush delay) now Told.Flushed) (stacked held.now.items)) × Agrees (start_of K.hash_of board.now.shared.key.value) caller.new.me.0.past }
+    ensures view { HasDecided (start_of K.hash_of board.now.shared.key.value) caller.old.me
+        (Stepped (Step.Flush delay) now Told.Flushed) (stacked held.now.items) caller.new.me }
 {
     decide_flush_as::<Brand, K>(board, caller, bay, desk, held, delay, now);
 }
@@ -147,11 +177,15 @@ fn flush_by<K: KeyHash + Drop, R: Wait>(
     now: Moment,
 )
     requires lives { Lives caller.old.me.0.past }
-    requires table { (caller.old.table_id ≡ board.now.shared.table_id) × (board.now.shared.table_id.words ≡ board.now.shared.key.value.settings.shelves + 1) × (count ≡ board.now.shared.key.value.settings.shelves) × (0 < count) }
+    requires table { IsSeatOf caller.old.table_id board.now.shared.table_id
+        board.now.shared.key.value.settings.shelves }
+    requires count { count ≡ board.now.shared.key.value.settings.shelves }
+    requires some { 0 < count }
     requires room { (held.items ≡ []) × (count ≤ vec_capacity held) }
     requires free { caller.old.me ≡ resting caller.old.me.0.past }
     ensures seat { (caller.new.table_id ≡ caller.old.table_id) × (caller.new.id ≡ caller.old.id) }
-    ensures done { (caller.new.me ≡ resting (with_call caller.old.me.0.past (Step.Flush delay) now Told.Flushed)) × Agrees (start_of K.hash_of board.now.shared.key.value) caller.new.me.0.past }
+    ensures done { RestsCalled (start_of K.hash_of board.now.shared.key.value) caller.old.me
+        (Step.Flush delay) now Told.Flushed caller.new.me }
 {
     let held = hold_all(rt, board, caller, held, count);
     let desk = desk_from(take_waiting(rt, board, caller, count), count);
@@ -174,7 +208,8 @@ impl<K: KeyHash + Drop> Shared<K> {
     ) -> Result<Reply, AllocError>
         requires own { caller.old.table ≡ self.now.table }
         ensures same { caller.new.table ≡ caller.old.table }
-        ensures ok { IfOk result (λ reply. (caller.new.past ≡ with_call caller.old.past (Step.Flush delay) now reply) × Agrees (start_of K.hash_of self.now.began) caller.new.past) }
+        ensures ok { IfOk result (λ reply. HasCalled (start_of K.hash_of self.now.began)
+            caller.old.past (Step.Flush delay) now reply caller.new.past) }
         ensures err { OnErr result (caller.new.past ≡ caller.old.past) }
     {
         let count = self.settings.shelves as usize;

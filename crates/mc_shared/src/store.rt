@@ -1,16 +1,25 @@
 //! The store for many threads.
 ghost use Rattle.std.specs.Prelude.{◌≡◌, ◌+◌, ◌<◌, ◌≤◌, ◌%◌, List, ℕ, length, [], ◌∷◌, ◌++◌, map, replicate, true, false, IfOk, IfErr, OnErr};
 ghost use Rattle.mc_shelf.specs.States.{ShelfState};
-ghost use Rattle.mc_shared.specs.Store.{shelf_slot, desk_slot};
+ghost use Rattle.mc_shared.specs.Store.{shelf_slot, desk_slot, HasCalled, RestsCalled};
 ghost use Rattle.mc_command.specs.Commands.{key_of};
 ghost use Rattle.mc_command.specs.Laws.{IsOnKey};
+ghost use Rattle.mc_command.specs.Plain.{opening};
 ghost use Rattle.mc_shelf.specs.Plans.{IsPlan, HasRoom, wants_desk};
 ghost use Rattle.mc_shelf.specs.States.{IsHash};
 ghost use Rattle.mc_shelf.specs.Parts.{shelf_of};
 ghost use Rattle.mc_shared.specs.History.{start_of, shelf_in};
 ghost use Rattle.mc_shared.specs.Past.{start, spent, made, both, Lives, Whole};
-ghost use Rattle.mc_shared.specs.Steps.{next_name, IsAt, Agrees, Fitted};
-ghost use Rattle.mc_shared.specs.Store.{resting, holds_one, holds_two, with_call, told_of, May, Refuses};
+ghost use Rattle.mc_shared.specs.Steps.{next_name, IsAt, Agrees, Fitted, IsSeatOf};
+ghost use Rattle.mc_shared.specs.Store.{
+  resting,
+  holds_one,
+  holds_two,
+  with_call,
+  told_of,
+  May,
+  Refuses,
+};
 ghost use Rattle.mc_shared.specs.Bays.{OfShelf, OfDesk};
 ghost use Rattle.mc_shared.specs.declared.bay.Bay.{Bay as Held};
 
@@ -21,7 +30,9 @@ use crate::steps::{decide_at_desk, decide_at_shelf, fork, give, look, meet, take
 use atomic_table::Table;
 use mc_command::{KeyStep, Reply, StepFault};
 use mc_hop::KeyHash;
-use mc_shelf::{Desk, Plan, Settings, Shelf, Store, StoreParts, refusals_are_plain, steps_change_one_shelf};
+use mc_shelf::{
+    Desk, Plan, Settings, Shelf, Store, StoreParts, refusals_are_plain, steps_change_one_shelf,
+};
 use mc_time::Moment;
 use std::alloc::{AllocError, Global};
 use std::marker::Model;
@@ -44,9 +55,16 @@ impl<K: KeyHash + Drop> Model for Shared<K> {
 
     ghost coded = { coded_shared K.code };
 
-    ghost view = { λ s. record { table = s.board.shared.table_id; began = s.board.shared.key.value } };
+    ghost view = { λ s. record {
+      table = s.board.shared.table_id;
+      began =
+          s.board.shared.key.value;
+    } };
 
-    ghost invariant = { λ s. (s.board.shared.table_id.words ≡ s.settings.shelves + 1) × (s.board.shared.key.value.settings ≡ s.settings) × (s.board.shared.key.value.hasher ≡ s.hasher) × IsSetUp s.settings s.board.shared.key.value.plain × (0 < s.settings.shelves) };
+    ghost invariant = { λ s. (s.board.shared.table_id.words ≡ s.settings.shelves + 1)
+        × (s.board.shared.key.value.settings ≡ s.settings)
+        × (s.board.shared.key.value.hasher ≡ s.hasher) × IsSetUp s.settings
+        s.board.shared.key.value.plain × (0 < s.settings.shelves) };
 }
 
 /// Who makes calls. It holds no bay between calls. Contracts see whose it is, and its past.
@@ -66,13 +84,15 @@ impl Model for Caller {
 
     ghost view = { λ c. record { table = c.seat.table_id; past = c.seat.me.0.past } };
 
-    ghost invariant = { λ c. (c.seat.me.1 ≡ []) × (c.seat.me.0.bays ≡ []) × Lives c.seat.me.0.past };
+    ghost invariant = { λ c. (c.seat.me.1 ≡ []) × (c.seat.me.0.bays ≡ [])
+        × Lives c.seat.me.0.past };
 }
 
 impl<K: KeyHash + Drop> Shared<K> {
     /// A shared store that begins with a store's state, and its first caller. Refused, the store is dropped.
     pub fn over(alloc: Global, store: Store<K>) -> Result<(Shared<K>, Caller), AllocError>
-        ensures { IfOk result (λ r. (r.0.began ≡ store) × (r.1.table ≡ r.0.table) × (r.1.past ≡ start [] spent)) }
+        ensures { IfOk result (λ r. (r.0.began ≡ store) × (r.1.table ≡ r.0.table)
+            × (r.1.past ≡ start [] spent)) }
     {
         let began = Snapshot::of(&store);
         let StoreParts {
@@ -96,11 +116,32 @@ impl<K: KeyHash + Drop> Shared<K> {
         }
     }
 
+    /// Makes a shared store of no items, and its first caller. The one error is a refused allocation.
+    pub fn new(
+        alloc: Global,
+        settings: Settings,
+        hasher: K,
+    ) -> Result<(Shared<K>, Caller), AllocError>
+        requires pages { 1 ≤ settings.pages × settings.pages ≤ 65536 }
+        requires greatest { settings.greatest ≡ 1048576 }
+        requires shelves { settings.shelves ≡ 64 }
+        ensures plain { IfOk result (λ made.
+            made.0.began.plain ≡ opening settings.pages settings.greatest) }
+        ensures set_up { IfOk result (λ made.
+            (made.0.began.settings ≡ settings) × (made.0.began.hasher ≡ hasher)) }
+        ensures caller { IfOk result (λ made.
+            (made.1.table ≡ made.0.table) × (made.1.past ≡ start [] spent)) }
+    {
+        Shared::over(alloc, Store::new(alloc, settings, hasher)?)
+    }
+
     /// A new caller, whose calls stand after all that its maker then had.
     pub fn caller(&self, maker: &mut Caller) -> Caller
         requires { maker.old.table ≡ self.now.table }
-        ensures kept { (maker.new.table ≡ maker.old.table) × (maker.new.past ≡ made maker.old.past (next_name maker.old.past)) }
-        ensures new { (result.table ≡ maker.old.table) × (result.past ≡ start (next_name maker.old.past) maker.old.past) }
+        ensures kept { (maker.new.table ≡ maker.old.table)
+            × (maker.new.past ≡ made maker.old.past (next_name maker.old.past)) }
+        ensures new { (result.table ≡ maker.old.table) ×
+            (result.past ≡ start (next_name maker.old.past) maker.old.past) }
     {
         Caller {
             seat: fork(&self.board, &mut maker.seat),
@@ -110,7 +151,8 @@ impl<K: KeyHash + Drop> Shared<K> {
     /// From then on the calls of the one stand after all that both made.
     pub fn join(&self, into: &mut Caller, from: Caller)
         requires { (into.old.table ≡ self.now.table) × (from.table ≡ self.now.table) }
-        ensures past { (into.new.table ≡ into.old.table) × (into.new.past ≡ both into.old.past from.past) }
+        ensures past { (into.new.table ≡ into.old.table)
+            × (into.new.past ≡ both into.old.past from.past) }
         ensures kept { Agrees (start_of K.hash_of self.now.began) into.new.past }
     {
         let Caller { seat } = from;
@@ -153,9 +195,11 @@ impl<K: KeyHash + Drop> Shared<K> {
         requires on_key { IsOnKey step.now }
         requires key { length (key_of step.now) ≤ 250 }
         ensures same { caller.new.table ≡ caller.old.table }
-        ensures ok { IfOk result (λ reply. (caller.new.past ≡ with_call caller.old.past step.now now reply) × Agrees (start_of K.hash_of self.now.began) caller.new.past) }
+        ensures ok { IfOk result (λ reply. HasCalled (start_of K.hash_of self.now.began)
+            caller.old.past step.now now reply caller.new.past) }
         ensures err { OnErr result (caller.new.past ≡ caller.old.past) }
-        ensures fault { IfErr result (λ e. May (start_of K.hash_of self.now.began) caller.old.past step.now now e) }
+        ensures fault { IfErr result (λ e. May (start_of K.hash_of self.now.began) caller.old.past
+            step.now now e) }
     {
         let hash = self.hasher.hash(step.key());
         let desk = self.settings.shelves as usize;
@@ -186,7 +230,8 @@ fn slots_of(
     shelves: Vec<Shelf>,
     desk: Desk,
 ) -> Result<Vec<Option<Bay>>, AllocError>
-    ensures { IfOk result (λ v. v.items ≡ map {A = ShelfState} shelf_slot shelves.items ++ desk_slot desk ∷ []) }
+    ensures { IfOk result (λ v. v.items ≡ map {A = ShelfState} shelf_slot shelves.items ++ desk_slot
+        desk ∷ []) }
 {
     let mut slots = Vec::with_capacity(alloc, count as usize + 1)?;
     for shelf in shelves {
@@ -206,17 +251,23 @@ fn step_by<K: KeyHash + Drop>(
     hash: u64,
     now: Moment,
 ) -> Result<Reply, TryFault>
-    requires table { (caller.old.table_id ≡ board.now.shared.table_id) × (board.now.shared.table_id.words ≡ board.now.shared.key.value.settings.shelves + 1) × (bays.0 < board.now.shared.key.value.settings.shelves) × (bays.1 ≡ board.now.shared.key.value.settings.shelves) }
+    requires table { IsSeatOf caller.old.table_id board.now.shared.table_id
+        board.now.shared.key.value.settings.shelves }
+    requires shelf { bays.0 < board.now.shared.key.value.settings.shelves }
+    requires desk_bay { bays.1 ≡ board.now.shared.key.value.settings.shelves }
     requires lives { Lives caller.old.me.0.past }
     requires free { caller.old.me ≡ resting caller.old.me.0.past }
     requires on_key { IsOnKey step.now }
     requires key { length (key_of step.now) ≤ 250 }
     requires hash { hash ≡ K.hash_of board.now.shared.key.value.hasher (key_of step.now) }
-    requires own { K.hash_of board.now.shared.key.value.hasher (key_of step.now) % board.now.shared.key.value.settings.shelves ≡ bays.0 }
+    requires own { K.hash_of board.now.shared.key.value.hasher (key_of step.now) %
+        board.now.shared.key.value.settings.shelves ≡ bays.0 }
     ensures seat { (caller.new.table_id ≡ caller.old.table_id) × (caller.new.id ≡ caller.old.id) }
-    ensures ok { IfOk result (λ reply. (caller.new.me ≡ resting (with_call caller.old.me.0.past step.now now reply)) × Agrees (start_of K.hash_of board.now.shared.key.value) caller.new.me.0.past) }
+    ensures ok { IfOk result (λ reply. RestsCalled (start_of K.hash_of board.now.shared.key.value)
+        caller.old.me step.now now reply caller.new.me) }
     ensures err { OnErr result (caller.new.me ≡ resting caller.old.me.0.past) }
-    ensures fault { IfErr result (λ e. May (start_of K.hash_of board.now.shared.key.value) caller.old.me.0.past step.now now e) }
+    ensures fault { IfErr result (λ e. May (start_of K.hash_of board.now.shared.key.value)
+        caller.old.me.0.past step.now now e) }
 {
     let bay = match take(board, caller, bays.0) {
         Ok(bay) => bay,
@@ -246,16 +297,20 @@ pub(crate) fn step_at_shelf<K: KeyHash + Drop>(
     step: &KeyStep<'_>,
     now: Moment,
 ) -> Reply
-    requires table { (caller.old.table_id ≡ board.now.shared.table_id) × (board.now.shared.table_id.words ≡ board.now.shared.key.value.settings.shelves + 1) × (at < board.now.shared.key.value.settings.shelves) }
+    requires table { IsSeatOf caller.old.table_id board.now.shared.table_id
+        board.now.shared.key.value.settings.shelves }
+    requires shelf { at < board.now.shared.key.value.settings.shelves }
     requires lives { Lives caller.old.me.0.past }
     requires held { caller.old.me ≡ holds_one caller.old.me.0.past at (OfShelf shelf.content) }
     requires plan { IsPlan plan shelf.content step.now now }
     requires room { HasRoom plan shelf step.now }
     requires hash { plan.hash ≡ K.hash_of board.now.shared.key.value.hasher (key_of step.now) }
     requires no_desk { wants_desk plan.next ≡ false }
-    requires own { K.hash_of board.now.shared.key.value.hasher (key_of step.now) % board.now.shared.key.value.settings.shelves ≡ at }
+    requires own { K.hash_of board.now.shared.key.value.hasher (key_of step.now) %
+        board.now.shared.key.value.settings.shelves ≡ at }
     ensures seat { (caller.new.table_id ≡ caller.old.table_id) × (caller.new.id ≡ caller.old.id) }
-    ensures done { (caller.new.me ≡ resting (with_call caller.old.me.0.past step.now now result)) × Agrees (start_of K.hash_of board.now.shared.key.value) caller.new.me.0.past }
+    ensures done { RestsCalled (start_of K.hash_of board.now.shared.key.value) caller.old.me
+        step.now now result caller.new.me }
 {
     steps_change_one_shelf();
     let mut shelf = shelf;
@@ -275,7 +330,10 @@ fn step_at_desk<K: KeyHash + Drop>(
     step: &KeyStep<'_>,
     now: Moment,
 ) -> Result<Reply, TryFault>
-    requires table { (caller.old.table_id ≡ board.now.shared.table_id) × (board.now.shared.table_id.words ≡ board.now.shared.key.value.settings.shelves + 1) × (bays.0 < board.now.shared.key.value.settings.shelves) × (bays.1 ≡ board.now.shared.key.value.settings.shelves) }
+    requires table { IsSeatOf caller.old.table_id board.now.shared.table_id
+        board.now.shared.key.value.settings.shelves }
+    requires shelf { bays.0 < board.now.shared.key.value.settings.shelves }
+    requires desk_bay { bays.1 ≡ board.now.shared.key.value.settings.shelves }
     requires lives { Lives caller.old.me.0.past }
     requires held { caller.old.me ≡ holds_one caller.old.me.0.past bays.0 (OfShelf shelf.content) }
     requires plan { IsPlan plan shelf.content step.now now }
@@ -283,11 +341,14 @@ fn step_at_desk<K: KeyHash + Drop>(
     requires hash { plan.hash ≡ K.hash_of board.now.shared.key.value.hasher (key_of step.now) }
     requires desk { wants_desk plan.next ≡ true }
     requires key { length (key_of step.now) ≤ 250 }
-    requires own { K.hash_of board.now.shared.key.value.hasher (key_of step.now) % board.now.shared.key.value.settings.shelves ≡ bays.0 }
+    requires own { K.hash_of board.now.shared.key.value.hasher (key_of step.now) %
+        board.now.shared.key.value.settings.shelves ≡ bays.0 }
     ensures seat { (caller.new.table_id ≡ caller.old.table_id) × (caller.new.id ≡ caller.old.id) }
-    ensures ok { IfOk result (λ reply. (caller.new.me ≡ resting (with_call caller.old.me.0.past step.now now reply)) × Agrees (start_of K.hash_of board.now.shared.key.value) caller.new.me.0.past) }
+    ensures ok { IfOk result (λ reply. RestsCalled (start_of K.hash_of board.now.shared.key.value)
+        caller.old.me step.now now reply caller.new.me) }
     ensures err { OnErr result (caller.new.me ≡ resting caller.old.me.0.past) }
-    ensures fault { IfErr result (λ e. May (start_of K.hash_of board.now.shared.key.value) caller.old.me.0.past step.now now e) }
+    ensures fault { IfErr result (λ e. May (start_of K.hash_of board.now.shared.key.value)
+        caller.old.me.0.past step.now now e) }
 {
     let desk = match take(board, caller, bays.1) {
         Ok(bay) => desk_from(bay, bays.1),
@@ -314,20 +375,27 @@ pub(crate) fn apply_at_desk<K: KeyHash + Drop>(
     step: &KeyStep<'_>,
     now: Moment,
 ) -> Result<Reply, StepFault>
-    requires table { (caller.old.table_id ≡ board.now.shared.table_id) × (board.now.shared.table_id.words ≡ board.now.shared.key.value.settings.shelves + 1) × (bays.0 < board.now.shared.key.value.settings.shelves) × (bays.1 ≡ board.now.shared.key.value.settings.shelves) }
+    requires table { IsSeatOf caller.old.table_id board.now.shared.table_id
+        board.now.shared.key.value.settings.shelves }
+    requires shelf { bays.0 < board.now.shared.key.value.settings.shelves }
+    requires desk_bay { bays.1 ≡ board.now.shared.key.value.settings.shelves }
     requires lives { Lives caller.old.me.0.past }
-    requires held { caller.old.me ≡ holds_two caller.old.me.0.past bays.1 (OfDesk desk) bays.0 (OfShelf shelf.content) }
+    requires held { caller.old.me ≡ holds_two caller.old.me.0.past bays.1 (OfDesk desk) bays.0
+        (OfShelf shelf.content) }
     requires fits { Fitted (start_of K.hash_of board.now.shared.key.value) caller.old.me.0 }
     requires plan { IsPlan plan shelf.content step.now now }
     requires room { HasRoom plan shelf step.now }
     requires hash { plan.hash ≡ K.hash_of board.now.shared.key.value.hasher (key_of step.now) }
     requires desk { wants_desk plan.next ≡ true }
     requires key { length (key_of step.now) ≤ 250 }
-    requires own { K.hash_of board.now.shared.key.value.hasher (key_of step.now) % board.now.shared.key.value.settings.shelves ≡ bays.0 }
+    requires own { K.hash_of board.now.shared.key.value.hasher (key_of step.now) %
+        board.now.shared.key.value.settings.shelves ≡ bays.0 }
     ensures seat { (caller.new.table_id ≡ caller.old.table_id) × (caller.new.id ≡ caller.old.id) }
-    ensures ok { IfOk result (λ reply. (caller.new.me ≡ resting (with_call caller.old.me.0.past step.now now reply)) × Agrees (start_of K.hash_of board.now.shared.key.value) caller.new.me.0.past) }
+    ensures ok { IfOk result (λ reply. RestsCalled (start_of K.hash_of board.now.shared.key.value)
+        caller.old.me step.now now reply caller.new.me) }
     ensures err { OnErr result (caller.new.me ≡ resting caller.old.me.0.past) }
-    ensures fault { IfErr result (λ e. Refuses (start_of K.hash_of board.now.shared.key.value) caller.old.me.0.past step.now now e) }
+    ensures fault { IfErr result (λ e. Refuses (start_of K.hash_of board.now.shared.key.value)
+        caller.old.me.0.past step.now now e) }
 {
     steps_change_one_shelf();
     refusals_are_plain();

@@ -2,7 +2,15 @@
 ghost use Rattle.std.specs.Prelude.{◌≡◌, ◌+◌, ◌<◌, ◌≤◌, [], ◌∷◌, None};
 ghost use Rattle.mc_shared.specs.History.{start_of, Purged};
 ghost use Rattle.mc_shared.specs.Past.{Lives, call};
-ghost use Rattle.mc_shared.specs.Steps.{entry_of, decided_by, Agrees, Decides};
+ghost use Rattle.mc_shared.specs.Steps.{
+  entry_of,
+  decided_by,
+  Agrees,
+  Decides,
+  IsSeatOf,
+  HoldsLast,
+  HasDecided,
+};
 ghost use Rattle.mc_shared.specs.Store.{resting};
 ghost use Rattle.mc_shared.specs.Bays.{Content, OfShelf, OfDesk};
 ghost use Rattle.atomic_table.specs.Table.{rest};
@@ -30,13 +38,18 @@ fn decide_purge_as<D: Says, K: KeyHash + Drop>(
     _now: Moment,
 )
     requires began { D.start ≡ start_of K.hash_of board.now.shared.key.value }
-    requires said { (D.what ≡ Purged _at _now) × (D.still ≡ (_at, OfShelf _shelf.now.content) ∷ []) }
-    requires table { (caller.old.table_id ≡ board.now.shared.table_id) × (board.now.shared.table_id.words ≡ board.now.shared.key.value.settings.shelves + 1) × (bay < board.now.shared.table_id.words) }
-    requires held { ((x : Content) × (caller.old.me.0.bays ≡ (bay, x) ∷ rest caller.old.me.0.bays)) × (caller.old.me.1 ≡ (bay, None) ∷ rest caller.old.me.1) }
+    requires said { (D.what ≡ Purged _at _now) × (D.still ≡ (_at, OfShelf _shelf.now.content) ∷
+        []) }
+    requires table { IsSeatOf caller.old.table_id board.now.shared.table_id
+        board.now.shared.key.value.settings.shelves }
+    requires bay { bay < board.now.shared.table_id.words }
+    requires held { HoldsLast caller.old.me bay }
     requires lives { Lives caller.old.me.0.past }
-    requires right { Decides (start_of K.hash_of board.now.shared.key.value) caller.old.me.0.bays bay (OfDesk desk) (Purged _at _now) ((_at, OfShelf _shelf.now.content) ∷ []) }
+    requires right { Decides (start_of K.hash_of board.now.shared.key.value) caller.old.me.0.bays
+        bay (OfDesk desk) (Purged _at _now) ((_at, OfShelf _shelf.now.content) ∷ []) }
     ensures seat { (caller.new.table_id ≡ caller.old.table_id) × (caller.new.id ≡ caller.old.id) }
-    ensures view { (caller.new.me ≡ decided_by caller.old.me (Purged _at _now) ((_at, OfShelf _shelf.now.content) ∷ [])) × Agrees (start_of K.hash_of board.now.shared.key.value) caller.new.me.0.past }
+    ensures view { HasDecided (start_of K.hash_of board.now.shared.key.value) caller.old.me
+        (Purged _at _now) ((_at, OfShelf _shelf.now.content) ∷ []) caller.new.me }
 {
     decide_as::<D, K>(board, caller, bay, Bay::Desk(desk));
 }
@@ -51,12 +64,16 @@ fn decide_purge<K: KeyHash + Drop>(
     shelf: &Shelf,
     now: Moment,
 )
-    requires table { (caller.old.table_id ≡ board.now.shared.table_id) × (board.now.shared.table_id.words ≡ board.now.shared.key.value.settings.shelves + 1) × (bay < board.now.shared.table_id.words) }
-    requires held { ((x : Content) × (caller.old.me.0.bays ≡ (bay, x) ∷ rest caller.old.me.0.bays)) × (caller.old.me.1 ≡ (bay, None) ∷ rest caller.old.me.1) }
+    requires table { IsSeatOf caller.old.table_id board.now.shared.table_id
+        board.now.shared.key.value.settings.shelves }
+    requires bay { bay < board.now.shared.table_id.words }
+    requires held { HoldsLast caller.old.me bay }
     requires lives { Lives caller.old.me.0.past }
-    requires right { Decides (start_of K.hash_of board.now.shared.key.value) caller.old.me.0.bays bay (OfDesk desk) (Purged at now) ((at, OfShelf shelf.now.content) ∷ []) }
+    requires right { Decides (start_of K.hash_of board.now.shared.key.value) caller.old.me.0.bays
+        bay (OfDesk desk) (Purged at now) ((at, OfShelf shelf.now.content) ∷ []) }
     ensures seat { (caller.new.table_id ≡ caller.old.table_id) × (caller.new.id ≡ caller.old.id) }
-    ensures view { (caller.new.me ≡ decided_by caller.old.me (Purged at now) ((at, OfShelf shelf.now.content) ∷ [])) × Agrees (start_of K.hash_of board.now.shared.key.value) caller.new.me.0.past }
+    ensures view { HasDecided (start_of K.hash_of board.now.shared.key.value) caller.old.me
+        (Purged at now) ((at, OfShelf shelf.now.content) ∷ []) caller.new.me }
 {
     decide_purge_as::<Brand, K>(board, caller, bay, desk, at, shelf, now);
 }
@@ -71,10 +88,15 @@ fn purge_by<K: KeyHash + Drop, R: Wait>(
     now: Moment,
 )
     requires lives { Lives caller.old.me.0.past }
-    requires table { (caller.old.table_id ≡ board.now.shared.table_id) × (board.now.shared.table_id.words ≡ board.now.shared.key.value.settings.shelves + 1) × (count ≡ board.now.shared.key.value.settings.shelves) × (at < count) }
+    requires table { IsSeatOf caller.old.table_id board.now.shared.table_id
+        board.now.shared.key.value.settings.shelves }
+    requires count { count ≡ board.now.shared.key.value.settings.shelves }
+    requires shelf { at < count }
     requires free { caller.old.me ≡ resting caller.old.me.0.past }
     ensures seat { (caller.new.table_id ≡ caller.old.table_id) × (caller.new.id ≡ caller.old.id) }
-    ensures done { (caller.new.me ≡ resting (call caller.old.me.0.past (entry_of caller.old.me.0.past (Purged at now)))) × Agrees (start_of K.hash_of board.now.shared.key.value) caller.new.me.0.past }
+    ensures done { (caller.new.me ≡ resting (call caller.old.me.0.past
+        (entry_of caller.old.me.0.past (Purged at now))))
+        × Agrees (start_of K.hash_of board.now.shared.key.value) caller.new.me.0.past }
 {
     let mut shelf = shelf_from(take_waiting(rt, board, caller, at), at, count);
     let mut desk = desk_from(take_waiting(rt, board, caller, count), count);
@@ -93,7 +115,10 @@ fn grow_by<K: KeyHash + Drop, R: Wait>(
     n: usize,
 ) -> usize
     requires lives { Lives caller.old.me.0.past }
-    requires table { (caller.old.table_id ≡ board.now.shared.table_id) × (board.now.shared.table_id.words ≡ board.now.shared.key.value.settings.shelves + 1) × (count ≡ board.now.shared.key.value.settings.shelves) × (at < count) }
+    requires table { IsSeatOf caller.old.table_id board.now.shared.table_id
+        board.now.shared.key.value.settings.shelves }
+    requires count { count ≡ board.now.shared.key.value.settings.shelves }
+    requires shelf { at < count }
     requires free { caller.old.me ≡ resting caller.old.me.0.past }
     ensures seat { (caller.new.table_id ≡ caller.old.table_id) × (caller.new.id ≡ caller.old.id) }
     ensures done { caller.new.me ≡ resting caller.old.me.0.past }
@@ -111,7 +136,9 @@ impl<K: KeyHash + Drop> Shared<K> {
         requires own { caller.old.table ≡ self.now.table }
         requires shelf { shelf < self.now.began.settings.shelves }
         ensures same { caller.new.table ≡ caller.old.table }
-        ensures done { (caller.new.past ≡ call caller.old.past (entry_of caller.old.past (Purged shelf now))) × Agrees (start_of K.hash_of self.now.began) caller.new.past }
+        ensures done { (caller.new.past ≡ call caller.old.past
+            (entry_of caller.old.past (Purged shelf now)))
+            × Agrees (start_of K.hash_of self.now.began) caller.new.past }
     {
         let count = self.settings.shelves as usize;
         purge_by(

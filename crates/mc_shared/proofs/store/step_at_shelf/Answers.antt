@@ -19,8 +19,8 @@ decide_at_shelf-requires-clause-right g c =
     let new = c.settle-reply.new.self.content in
     let reply = c.settle-reply.result in
     let settled : IsSettled step c.args.now (began.hash_of (key_of step)) old reply new =
-        subst (λ h. IsSettled step c.args.now h old reply new) c.requires.hash (c.settle-reply.ensures step c.args.now c.requires.plan) in
+    subst (λ h. IsSettled step c.args.now h old reply new) c.requires.hash (c.settle-reply.ensures step c.args.now c.requires.plan) in
     subst (λ (bays : List (ℕ × Content)). Decides began bays c.args.at (OfShelf new) (Stepped step c.args.now reply) []) (sym (ap (λ m. m.0.bays) c.requires.held))
     (settles began c.args.at old new step c.args.now reply
     (λ m part. c.steps_change_one_shelf.ensures.settled began.hash_of began.shelves c.args.at m step c.args.now reply old new c.requires.plan.on_key c.requires.own part settled)
-    c.requires.table.2)
+    c.requires.shelf)
