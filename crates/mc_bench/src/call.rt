@@ -108,6 +108,18 @@ fn block_drawn(alloc: Global, dice: &mut Dice, turn: u64) -> Result<String, Allo
 }
 
 impl Call {
+    /// A get of this key.
+    pub fn get(alloc: Global, key: usize) -> Call {
+        Call {
+            word: Word::Get,
+            key,
+            flags: 0,
+            exptime: 0,
+            number: 0,
+            block: String::new(alloc),
+        }
+    }
+
     /// The key that is called for.
     pub fn key(&self) -> &'static str
         ensures { length result.now ≤ 250 }
@@ -178,21 +190,32 @@ impl Call {
         }
     }
 
-    /// Writes the call and what it was answered, where it was, into one line.
-    pub fn tell(
-        &self,
-        told: &mut String,
-        caller: u64,
-        turn: u64,
-        reply: Option<&Reply>,
-    ) -> Result<(), AllocError> {
+    /// Whether the record has a line of it. While the clock stands, no reply tells of tidying, nor of a flush that is to come.
+    pub fn has_line(&self) -> bool {
+        match self.word {
+            Word::Tidy => false,
+            Word::Flush => self.number == 0,
+            _ => true,
+        }
+    }
+
+    /// Writes the call as a line of a record has it: its word and what that takes.
+    pub fn tell(&self, told: &mut String) -> Result<(), AllocError> {
         let (word, key) = (name_of(self.word), self.key());
         let (flags, exptime, number) = (self.flags, self.exptime, self.number);
-        write!(told, "{caller} {turn} {word} {key} {flags} {exptime} {number} ")?;
-        hex(told, self.block.as_bytes())?;
-        match reply {
-            Some(reply) => tell_reply(told, reply),
-            None => writeln!(told),
+        match self.word {
+            Word::Get | Word::Delete => write!(told, "{word} {key}"),
+            Word::Gat | Word::Touch => write!(told, "{word} {key} {exptime}"),
+            Word::Incr | Word::Decr => write!(told, "{word} {key} {number}"),
+            Word::Flush | Word::Tidy => write!(told, "{word}"),
+            Word::Cas => {
+                write!(told, "{word} {key} {flags} {exptime} {number} ")?;
+                tell_block(told, self.block.as_bytes())
+            }
+            _ => {
+                write!(told, "{word} {key} {flags} {exptime} ")?;
+                tell_block(told, self.block.as_bytes())
+            }
         }
     }
 }
@@ -217,40 +240,41 @@ fn name_of(word: Word) -> &'static str {
     }
 }
 
-/// Writes a reply.
-fn tell_reply(told: &mut String, reply: &Reply) -> Result<(), AllocError> {
+/// Writes a reply as a line of a record has it.
+pub fn tell_reply(told: &mut String, reply: &Reply) -> Result<(), AllocError> {
     match reply {
         Reply::Hit {
             flags,
             unique,
             block,
         } => {
-            write!(told, " HIT {flags} {unique} ")?;
-            hex(told, block.bytes())?;
-            writeln!(told)
+            write!(told, "HIT {flags} {unique} ")?;
+            tell_block(told, block.bytes())
         }
-        Reply::Number(number) => writeln!(told, " NUMBER {number}"),
-        Reply::Stored => writeln!(told, " STORED"),
-        Reply::NotStored => writeln!(told, " NOT_STORED"),
-        Reply::Exists => writeln!(told, " EXISTS"),
-        Reply::NotFound => writeln!(told, " NOT_FOUND"),
-        Reply::Miss => writeln!(told, " MISS"),
-        Reply::Touched => writeln!(told, " TOUCHED"),
-        Reply::Deleted => writeln!(told, " DELETED"),
-        Reply::NotNumeric => writeln!(told, " NOT_NUMERIC"),
-        Reply::TooLarge => writeln!(told, " TOO_LARGE"),
-        Reply::NoChunk => writeln!(told, " NO_CHUNK"),
-        Reply::Flushed => writeln!(told, " FLUSHED"),
+        Reply::Number(number) => write!(told, "NUMBER {number}"),
+        Reply::Stored => write!(told, "STORED"),
+        Reply::NotStored => write!(told, "NOT_STORED"),
+        Reply::Exists => write!(told, "EXISTS"),
+        Reply::NotFound => write!(told, "NOT_FOUND"),
+        Reply::Miss => write!(told, "MISS"),
+        Reply::Touched => write!(told, "TOUCHED"),
+        Reply::Deleted => write!(told, "DELETED"),
+        Reply::NotNumeric => write!(told, "NOT_NUMERIC"),
+        Reply::TooLarge => write!(told, "TOO_LARGE"),
+        Reply::NoChunk => write!(told, "NO_CHUNK"),
+        Reply::Flushed => write!(told, "FLUSHED"),
     }
 }
 
-/// Writes bytes in hexadecimal digits, and of no byte a `-`.
-fn hex(told: &mut String, bytes: &[u8]) -> Result<(), AllocError> {
-    if bytes.is_empty() {
-        return write!(told, "-");
-    }
-    for byte in bytes {
-        write!(told, "{byte:02x}")?;
+/// Writes a block as a line of a record has it: behind `=`, and what is no letter or sign of ASCII as `%` and two digits.
+fn tell_block(told: &mut String, block: &[u8]) -> Result<(), AllocError> {
+    write!(told, "=")?;
+    for byte in block {
+        if byte.is_ascii_graphic() && *byte != b'%' {
+            write!(told, "{}", char::from(*byte))?;
+        } else {
+            write!(told, "%{byte:02x}")?;
+        }
     }
     Ok(())
 }
