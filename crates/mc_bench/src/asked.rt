@@ -62,12 +62,14 @@ pub fn asked(words: &[String]) -> Option<Run>
             sessions: sessions.parse().ok()?,
             rounds: rounds.parse().ok()?,
         }),
-        [_, run, over, mix, crew, rounds] if run.as_str() == "steps" => Some(Run::Steps(Threaded {
-            over: over_of(over.as_str())?,
-            mix: mix_of(mix.as_str())?,
-            crew: crew_of(crew.as_str())?,
-            rounds: rounds.parse().ok()?,
-        })),
+        [_, run, over, mix, crew, rounds] if run.as_str() == "steps" => Some(Run::Steps(
+            Threaded {
+                over: over_of(over.as_str())?,
+                mix: mix_of(mix.as_str())?,
+                crew: crew_of(crew.as_str())?,
+                rounds: rounds.parse().ok()?,
+            },
+        )),
         _ => None,
     }
 }

@@ -1,5 +1,5 @@
 //! Calls as they are drawn, and as they are told.
-ghost use Rattle.std.specs.Prelude.{◌≤◌, length, IfSome};
+ghost use Rattle.std.specs.Prelude.{◌≤◌, ◌<◌, length, IfOk, IfSome};
 ghost use Rattle.mc_command.specs.Commands.{key_of};
 
 use mc_command::{Bytes, KeyStep, Reply, Verb};
@@ -47,7 +47,9 @@ pub fn drawn(
     dice: &mut Dice,
     turn: u64,
     seen: &[u64; KEYS],
-) -> Result<Call, AllocError> {
+) -> Result<Call, AllocError>
+    ensures { IfOk result (λ call. call.key < 8) }
+{
     let word = word_drawn(dice);
     let key = dice.roll(KEYS as u64) as usize;
     let number = match word {
@@ -120,19 +122,19 @@ impl Call {
         }
     }
 
-    /// The key that is called for.
+    /// The key that is called for. Of the eight each two lie on one shelf.
     pub fn key(&self) -> &'static str
         ensures { length result.now ≤ 250 }
     {
         match self.key {
             0 => "a",
-            1 => "b",
-            2 => "c",
-            3 => "d",
-            4 => "e",
-            5 => "f",
-            6 => "g",
-            _ => "h",
+            1 => "ba",
+            2 => "b",
+            3 => "bb",
+            4 => "c",
+            5 => "bc",
+            6 => "d",
+            _ => "bd",
         }
     }
 

@@ -29,7 +29,7 @@ pub fn told<R: Threads + Wait + Sync>(
     let settings = Settings {
         pages: 64,
         greatest: 1_048_576,
-        shelves: 4,
+        shelves: 64,
     };
     let (shared, mut me) = Shared::over(alloc, Store::new(alloc, settings, Fnv)?)?;
     let second = shared.caller(&mut me);
@@ -72,11 +72,11 @@ fn pair<R: Threads + Wait + Sync>(
         rt,
         || -> Result<(Caller, String), AllocError>
             requires { first.table ≡ shared.now.table }
-            ensures { IfOk result (λ r. r.0.table ≡ shared.now.table) }
+            ensures { IfOk result (λ r. r.0.table ≡ shared.entry.now.table) }
         { calls(rt, alloc, shared, first, seed, number) },
         || -> Result<(Caller, String), AllocError>
             requires { second.table ≡ shared.now.table }
-            ensures { IfOk result (λ r. r.0.table ≡ shared.now.table) }
+            ensures { IfOk result (λ r. r.0.table ≡ shared.entry.now.table) }
         { calls(rt, alloc, shared, second, seed, number | 1) },
     );
     let (mut first, mut told) = one?;
@@ -109,7 +109,15 @@ fn calls<R: Wait>(
             Ok(call) => call,
             Err(fault) => return Err(fault),
         };
-        match told_call(rt, alloc, shared, &mut caller, &call, &mut told, (number, turn + 3)) {
+        match told_call(
+            rt,
+            alloc,
+            shared,
+            &mut caller,
+            &call,
+            &mut told,
+            (number, turn + 3),
+        ) {
             Ok(0) => {}
             Ok(unique) => seen[call.key] = unique,
             Err(fault) => return Err(fault),
