@@ -6,13 +6,17 @@ BIN = $(DESTDIR)$(PREFIX)/bin
 ARGS ?= --help
 JOBS ?= $(shell nproc)
 
-.PHONY: build run test check crate rows fmt bench install uninstall clean
+.PHONY: build bench-build run test check crate rows history fmt bench install uninstall clean
 
 # Proves the program and what is below it, and builds it. rt run runs it too: --help ends it at once.
 build:
 	@test -x $(PROGRAM) || echo "The first build proves every crate: about 10 minutes on 4 cores."
 	@cd crates/mc_server && rt run -- --help < /dev/null > /dev/null
 	@echo "$(PROGRAM) is proved and built"
+
+# The same for the program that is measured and records calls.
+bench-build:
+	@cd crates/mc_bench && rt run -- worlds 1 1 < /dev/null > /dev/null
 
 run: build
 	@$(PROGRAM) $(ARGS)
@@ -36,11 +40,14 @@ crate:
 rows:
 	@python3 tests/rows.py $(if $(ONLY),--only $(ONLY))
 
+# Recorded runs of four callers in threads, each explained by an order of their calls
+history: bench-build
+	@python3 tests/history_run.py
+
 fmt:
 	@for crate in crates/*/; do (cd $$crate && rt fmt) || exit 1; done
 
-bench: build
-	@cd crates/mc_bench && rt run -- 1 1 < /dev/null > /dev/null
+bench: build bench-build
 	@python3 bench/bench.py
 
 install: build

@@ -1,5 +1,5 @@
 #!/usr/bin/env python3
-"""Measures the built program on pipelined input through --stdin, and a world of many sessions.
+"""Measures the built program on pipelined input through --stdin, a world of many sessions, and steps in threads.
 
 Inputs are made beforehand and lie in files, and outputs go to files. Each figure is the median of
 several runs of a fresh process. It is no test: nothing here fails for being slow.
@@ -7,6 +7,7 @@ several runs of a fresh process. It is no test: nothing here fails for being slo
     bench/bench.py [--program PATH] [--runs N] [--commands N] [--only WORD]
     bench/bench.py --worlds [--turns N] [--runs N]
     bench/bench.py --flushes [--program PATH]
+    bench/bench.py --threads [--steps N] [--runs N]
 """
 import argparse
 import array
@@ -32,7 +33,7 @@ SECONDS = 300
 VALUE = b"v" * 100
 KEYS = 1000
 MEGA = 1_000_000
-WORLDS = f"{ROOT}/crates/mc_bench/out/mc_bench"
+MC_BENCH = f"{ROOT}/crates/mc_bench/out/mc_bench"
 SESSIONS = [1, 100, 10_000]
 # how many items stand while a command's cost is taken, and their memory
 STANDING = [10_000, 100_000, 1_000_000, 4_000_000]
@@ -41,6 +42,9 @@ RESIDENT = [100_000, 1_000_000, 4_000_000]
 # what mcserver says last, and of an item that finds no chunk
 VERSION = b"VERSION 1.6.0\r\n"
 REFUSED = b"SERVER_ERROR out of memory storing object\r\n"
+# what takes the steps, by how many threads, and which steps they are
+STEPPED = [("store", 1), *((over, count) for over in ("own", "same") for count in (1, 2, 4))]
+MIXES = ["gets", "sets", "mixed"]
 # what a session is told in a round, of a set and a get of its key
 TOLD = b"STORED\r\nVALUE key 0 1\r\nx\r\nEND\r\n"
 
@@ -445,7 +449,7 @@ def took(sessions, rounds, runs):
     seconds = []
     for _ in range(runs):
         with tempfile.TemporaryFile() as out:
-            found = measure.run([WORLDS, str(sessions), str(rounds)], SECONDS, subprocess.DEVNULL, out)
+            found = measure.run([MC_BENCH, "worlds", str(sessions), str(rounds)], SECONDS, subprocess.DEVNULL, out)
             out.seek(0)
             if found["status"] != 0 or int(out.read()) != sessions * rounds * len(TOLD):
                 sys.exit(f"{sessions} sessions weren't told what they should be in {rounds} rounds")
@@ -455,8 +459,8 @@ def took(sessions, rounds, runs):
 
 def worlds(turns, runs):
     """What a turn costs in worlds of more and more sessions, all of which use one key. Opening them isn't counted."""
-    if not os.access(WORLDS, os.X_OK):
-        print(f"\nsessions in a world: no program is at {WORLDS}; make bench builds it", flush=True)
+    if not os.access(MC_BENCH, os.X_OK):
+        print(f"\nsessions in a world: no program is at {MC_BENCH}; make bench builds it", flush=True)
         return
     print(f"\n{'sessions in a world':<21}{'turns':>11}{'processor':>11}{'ns a turn':>11}  against one session")
     first = None
@@ -468,6 +472,43 @@ def worlds(turns, runs):
         print(f"{sessions:<21,}{2 * sessions * rounds:>11,}{seconds:>11.3f}{cost:>11.1f}  {cost / first:.2f}", flush=True)
 
 
+# ---- threads
+
+
+def stepped(over, mix, threads, steps):
+    """The seconds of a run of so many steps in each thread, and the processor's."""
+    with tempfile.TemporaryFile() as out:
+        found = measure.run([MC_BENCH, "steps", over, mix, str(threads), str(steps)], SECONDS, subprocess.DEVNULL, out)
+        out.seek(0)
+        if found["status"] != 0 or int(out.read()) != threads * steps:
+            sys.exit(f"not all {mix} over {over} were answered as they should be by {threads} threads")
+    return found["seconds"], found["processor"]
+
+
+def threads(steps, runs):
+    """What a step costs in one thread and in several, and what holding its shelf adds to a step of the store of one thread.
+
+    The rows of a mix take turns, so that each has the same share of what else the machine does."""
+    if not os.access(MC_BENCH, os.X_OK):
+        print(f"\nsteps in threads: no program is at {MC_BENCH}; make bench builds it", flush=True)
+        return
+    print(f"\n{'steps in threads':<17}{'over':<7}{'threads':>8}{'steps':>13}{'seconds':>9}{'a second':>12}{'ns of processor':>17}  more than a store's")
+    for mix in MIXES:
+        taken = {row: [] for row in STEPPED}
+        for _ in range(runs):
+            for over, count in STEPPED:
+                whole, idle = stepped(over, mix, count, steps), stepped(over, mix, count, 0)
+                taken[over, count].append([max(a - b, 1e-9) for a, b in zip(whole, idle)])
+        store = None
+        for (over, count), each in taken.items():
+            seconds, processor = (statistics.median(it) for it in zip(*each))
+            cost = processor / (count * steps) * 1e9
+            store = store or cost
+            shown = f"{count * steps:>13,}{seconds:>9.3f}{count * steps / seconds:>12,.0f}{cost:>17.1f}"
+            more = "" if over == "store" else f"  {cost - store:+.1f} ns"
+            print(f"{mix:<17}{over:<7}{count:>8}{shown}{more}", flush=True)
+
+
 def main():
     parser = argparse.ArgumentParser(description=__doc__, formatter_class=argparse.RawDescriptionHelpFormatter)
     parser.add_argument("--program", default=f"{ROOT}/crates/mc_server/out/mc_server")
@@ -477,7 +518,12 @@ def main():
     parser.add_argument("--worlds", action="store_true", help="worlds of many sessions, and nothing else")
     parser.add_argument("--flushes", action="store_true", help="flushes of stores of many items, and nothing else")
     parser.add_argument("--turns", type=int, default=4_000_000, help="how many turns the sessions of a world take in all")
+    parser.add_argument("--threads", action="store_true", help="steps in threads, and nothing else")
+    parser.add_argument("--steps", type=int, default=2_000_000, help="how many steps each thread takes")
     given = parser.parse_args()
+    if given.threads:
+        threads(given.steps, given.runs)
+        return 0
     if given.worlds:
         worlds(given.turns, given.runs)
         return 0
@@ -496,6 +542,7 @@ def main():
         bench.flushed()
         bench.refilled()
         worlds(given.turns, given.runs)
+        threads(given.steps, given.runs)
     return 0
 
 

@@ -1,8 +1,8 @@
 #!/usr/bin/env python3
-"""Runs the gate `rt ci`, and then tests/rows.py on the program that the gate has just proved and built.
+"""Runs the gate `rt ci`, and then tests/rows.py and tests/history_run.py on the programs that the gate has just proved and built.
 
-Both print as they go. The last line adds up what they counted: `N passed, N failed`. The status is 0
-only where something passed, nothing failed and both ended well.
+All print as they go. The last line adds up what they counted: `N passed, N failed`. The status is 0
+only where something passed, nothing failed and all ended well.
 """
 import os
 import re
@@ -10,7 +10,11 @@ import subprocess
 import sys
 
 ROOT = os.path.dirname(os.path.dirname(os.path.realpath(__file__)))
-PROGRAM = f"{ROOT}/crates/mc_server/out/mc_server"
+# What runs on which program, and what builds that.
+STAGES = [
+    ("rows", "mc_server", "build", ["tests/rows.py"]),
+    ("history", "mc_bench", "bench-build", ["tests/history_run.py"]),
+]
 COUNTS = re.compile(rb"(\d+) passed, (\d+) failed")
 
 
@@ -48,20 +52,25 @@ def written(path):
     return found.st_mtime_ns, found.st_ino
 
 
+def path_of(program):
+    return f"{ROOT}/crates/{program}/out/{program}"
+
+
 def main():
-    before = written(PROGRAM)
-    passed, failed = stage("gate", ["rt", "ci"])
-    # The gate leaves the program that it proved and ran, so nothing is proved a second time for the rows.
-    stands = written(PROGRAM) not in (None, before)
-    if not stands and not failed:
-        print("== the gate left no program: make build", flush=True)
-        stands = not subprocess.run(["make", "build"], cwd=ROOT).returncode
-    if not stands:
-        print("rows: no program to run them on", flush=True)
-        failed += 1
-    else:
-        more_passed, more_failed = stage("rows", [sys.executable, "tests/rows.py"])
-        passed, failed = passed + more_passed, failed + more_failed
+    before = {program: written(path_of(program)) for _, program, _, _ in STAGES}
+    counts = [stage("gate", ["rt", "ci"])]
+    for name, program, build, words in STAGES:
+        # The gate leaves the programs that it proved and ran, so nothing is proved a second time for these.
+        stands = written(path_of(program)) not in (None, before[program])
+        if not stands and not counts[0][1]:
+            print(f"== the gate left no {program}: make {build}", flush=True)
+            stands = not subprocess.run(["make", build], cwd=ROOT).returncode
+        if stands:
+            counts.append(stage(name, [sys.executable, *words]))
+        else:
+            print(f"{name}: no {program} to run on", flush=True)
+            counts.append((0, 1))
+    passed, failed = map(sum, zip(*counts))
     print(f"{passed} passed, {failed} failed", flush=True)
     return 0 if passed and not failed else 1
 

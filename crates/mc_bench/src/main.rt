@@ -1,32 +1,42 @@
-//! `mc_bench SESSIONS ROUNDS`: so many sessions of one world take their turns round robin.
+//! Runs what is measured, and what is judged afterwards.
 //!
-//! In a round each session sets a key and gets it again, which is two turns of it. All of them use one key, so that
-//! whatever the number of sessions the store is the same. What is printed is how many bytes the sessions were told.
+//! - `mc_bench worlds SESSIONS ROUNDS`: so many sessions of one world take their turns round robin. In a round each session sets a
+//!   key and gets it again, which is two turns of it. All of them use one key, so that whatever the number of sessions the store is
+//!   the same. What is printed is how many bytes the sessions were told.
+//! - `mc_bench steps OVER MIX THREADS ROUNDS`: each of 1, 2 or 4 threads takes so many steps. OVER is `store`, which is that of one
+//!   thread, `own`, a shared store with a key for each thread, or `same`, with one key for all. MIX is `gets`, `sets`, or `mixed`,
+//!   nine gets to a set. What is printed is how many steps were answered as they should be.
+//! - `mc_bench record SEED`: four callers in threads of their own make random calls of one shared store. What is printed is each
+//!   call with its answer, in each caller's order.
 #![tactic(auto)]
 
-ghost use Rattle.std.specs.Prelude.{◌≢◌, IsNone, length};
+mod asked;
+mod call;
+mod record;
+mod steps;
+mod worlds;
 
-mod rounds;
-
-use rounds::told;
+use asked::{Run, asked};
 use std::{env, io};
 
 fn main(rt: HostRuntime) -> io::Result<()> {
     let alloc = rt.alloc();
     let words: Vec<String> = env::args(&rt)?.collect(alloc)?;
-    let Some((sessions, rounds)) = asked(words.as_slice()) else {
-        return Err(io::Error::from(io::ErrorKind::InvalidInput));
-    };
-    let bytes = told(alloc, sessions, rounds)?;
-    println!(rt; "{bytes}")
-}
-
-/// How many sessions and rounds the command line asks for, if it has the program's name and these two words.
-fn asked(words: &[String]) -> Option<(u16, u32)>
-    ensures { length words.now ≢ 3 → IsNone result }
-{
-    let [_, sessions, rounds] = words else {
-        return None;
-    };
-    Some((sessions.parse().ok()?, rounds.parse().ok()?))
+    match asked(words.as_slice()) {
+        Some(Run::Worlds { sessions, rounds }) => {
+            let bytes = worlds::told(alloc, sessions, rounds)?;
+            println!(rt; "{bytes}")
+        }
+        Some(Run::Steps(threaded)) => {
+            let answered = steps::answered(&rt, alloc, threaded)?;
+            println!(rt; "{answered}")
+        }
+        Some(Run::Record { seed }) => {
+            for told in record::told(&rt, alloc, seed)? {
+                print!(rt; "{told}")?;
+            }
+            Ok(())
+        }
+        None => Err(io::Error::from(io::ErrorKind::InvalidInput)),
+    }
 }

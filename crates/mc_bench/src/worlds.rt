@@ -1,4 +1,4 @@
-//! Rounds of turns.
+//! Turns of the sessions of one world.
 ghost use Rattle.std.specs.Prelude.{[], ◌∷◌, OnOk};
 ghost use Rattle.mc_world.specs.Worlds.{Told};
 

@@ -1,0 +1,105 @@
+//! What the command line asks for.
+ghost use Rattle.std.specs.Prelude.{◌≢◌, IsNone, length};
+
+/// A run.
+#[derive(Clone, Copy)]
+pub enum Run {
+    /// So many sessions of one world have so many rounds.
+    Worlds { sessions: u16, rounds: u32 },
+    /// Threads take steps.
+    Steps(Threaded),
+    /// Callers in threads tell what they called and what they were answered. The calls follow from the seed.
+    Record { seed: u64 },
+}
+
+/// What steps are taken.
+#[derive(Clone, Copy)]
+pub struct Threaded {
+    pub over: Over,
+    pub mix: Mix,
+    pub crew: Crew,
+    /// How many steps each thread takes.
+    pub rounds: u64,
+}
+
+/// What takes the steps, and of which keys.
+#[derive(Clone, Copy)]
+pub enum Over {
+    /// The store of one thread.
+    Store,
+    /// The shared store, a key for each thread.
+    Own,
+    /// The shared store, one key for all threads.
+    Same,
+}
+
+/// Which steps are taken.
+#[derive(Clone, Copy)]
+pub enum Mix {
+    Gets,
+    Sets,
+    /// Nine gets and a set, again and again.
+    Mixed,
+}
+
+/// How many threads there are.
+#[derive(Clone, Copy)]
+pub enum Crew {
+    One,
+    Two,
+    Four,
+}
+
+/// Tells which run the command line asks for: the program's name, the run's and what it takes. Other words ask for none.
+pub fn asked(words: &[String]) -> Option<Run>
+    ensures { (length words.now ≢ 3) × (length words.now ≢ 4) × (length words.now ≢ 6) → IsNone result }
+{
+    match words {
+        [_, run, seed] if run.as_str() == "record" => Some(Run::Record {
+            seed: seed.parse().ok()?,
+        }),
+        [_, run, sessions, rounds] if run.as_str() == "worlds" => Some(Run::Worlds {
+            sessions: sessions.parse().ok()?,
+            rounds: rounds.parse().ok()?,
+        }),
+        [_, run, over, mix, crew, rounds] if run.as_str() == "steps" => Some(Run::Steps(
+            Threaded {
+                over: over_of(over.as_str())?,
+                mix: mix_of(mix.as_str())?,
+                crew: crew_of(crew.as_str())?,
+                rounds: rounds.parse().ok()?,
+            },
+        )),
+        _ => None,
+    }
+}
+
+/// Reads what takes the steps.
+fn over_of(word: &str) -> Option<Over> {
+    match word {
+        "store" => Some(Over::Store),
+        "own" => Some(Over::Own),
+        "same" => Some(Over::Same),
+        _ => None,
+    }
+}
+
+/// Reads which steps are taken.
+fn mix_of(word: &str) -> Option<Mix> {
+    match word {
+        "gets" => Some(Mix::Gets),
+        "sets" => Some(Mix::Sets),
+        "mixed" => Some(Mix::Mixed),
+        _ => None,
+    }
+}
+
+/// Reads how many threads there are.
+fn crew_of(word: &str) -> Option<Crew> {
+    match word {
+        "1" => Some(Crew::One),
+        "2" => Some(Crew::Two),
+        "4" => Some(Crew::Four),
+        _ => None,
+    }
+}

@@ -1,0 +1,206 @@
+//! Steps in threads.
+ghost use Rattle.std.specs.Prelude.{◌≡◌, ◌≤◌, length};
+ghost use Rattle.mc_command.specs.Commands.{key_of};
+
+use crate::asked::{Crew, Mix, Over, Threaded};
+use mc_command::{Bytes, KeyStep, Reply, StepFault, Steps, Verb};
+use mc_hop::Fnv;
+use mc_shared::asking::Asking;
+use mc_shared::store::{Caller, Shared};
+use mc_shared::waits::NoGate;
+use mc_shelf::{Settings, Store};
+use mc_time::Moment;
+use std::alloc::{AllocError, Global};
+use std::sync::Wait;
+use std::thread;
+use std::thread::Threads;
+
+/// What each thread does.
+#[derive(Clone, Copy)]
+struct Load {
+    over: Over,
+    mix: Mix,
+    rounds: u64,
+}
+
+/// Takes the steps, and gives how many were answered as they should be: a get by a hit, a set by what was stored.
+pub fn answered<R: Threads + Wait + Sync>(
+    rt: &R,
+    alloc: Global,
+    threaded: Threaded,
+) -> Result<u64, AllocError> {
+    let Threaded {
+        over,
+        mix,
+        crew,
+        rounds,
+    } = threaded;
+    let load = Load { over, mix, rounds };
+    let mut store = filled(alloc)?;
+    match over {
+        Over::Store => Ok(work(&mut store, alloc, load, 0)),
+        _ => {
+            let (shared, me) = Shared::over(alloc, store)?;
+            Ok(shared_by(rt, alloc, &shared, me, crew, load))
+        }
+    }
+}
+
+/// A store with the keys of all threads.
+fn filled(alloc: Global) -> Result<Store<Fnv>, AllocError> {
+    let settings = Settings {
+        pages: 64,
+        greatest: 1_048_576,
+        shelves: 64,
+    };
+    let mut store = Store::new(alloc, settings, Fnv)?;
+    for thread in 0..4 {
+        let load = Load {
+            over: Over::Own,
+            mix: Mix::Sets,
+            rounds: 1,
+        };
+        let _ = work(&mut store, alloc, load, thread);
+    }
+    Ok(store)
+}
+
+/// So many threads take their steps.
+fn shared_by<R: Threads + Wait + Sync>(
+    rt: &R,
+    alloc: Global,
+    shared: &Shared<Fnv>,
+    me: Caller,
+    crew: Crew,
+    load: Load,
+) -> u64
+    requires { me.table ≡ shared.now.table }
+{
+    let mut me = me;
+    match crew {
+        Crew::One => asks(rt, alloc, shared, me, load, 0),
+        Crew::Two => {
+            let second = shared.caller(&mut me);
+            pair(rt, alloc, shared, me, second, load, 0)
+        }
+        Crew::Four => {
+            let second = shared.caller(&mut me);
+            let third = shared.caller(&mut me);
+            let fourth = shared.caller(&mut me);
+            let (one, other) = thread::join(
+                rt,
+                || -> u64
+                    requires { (me.table ≡ shared.now.table) × (second.table ≡ shared.now.table) }
+                { pair(rt, alloc, shared, me, second, load, 0) },
+                || -> u64
+                    requires { (third.table ≡ shared.now.table) × (fourth.table ≡ shared.now.table) }
+                { pair(rt, alloc, shared, third, fourth, load, 2) },
+            );
+            one.saturating_add(other)
+        }
+    }
+}
+
+/// Two threads take their steps, of which the first has this number.
+fn pair<R: Threads + Wait + Sync>(
+    rt: &R,
+    alloc: Global,
+    shared: &Shared<Fnv>,
+    first: Caller,
+    second: Caller,
+    load: Load,
+    number: u8,
+) -> u64
+    requires first { first.table ≡ shared.now.table }
+    requires second { second.table ≡ shared.now.table }
+{
+    let (one, other) = thread::join(
+        rt,
+        || -> u64
+            requires { first.table ≡ shared.now.table }
+        { asks(rt, alloc, shared, first, load, number) },
+        || -> u64
+            requires { second.table ≡ shared.now.table }
+        { asks(rt, alloc, shared, second, load, number | 1) },
+    );
+    one.saturating_add(other)
+}
+
+/// One thread takes its steps of the shared store.
+fn asks<R: Wait>(
+    rt: &R,
+    alloc: Global,
+    shared: &Shared<Fnv>,
+    caller: Caller,
+    load: Load,
+    number: u8,
+) -> u64
+    requires { caller.table ≡ shared.now.table }
+{
+    let mut asking = Asking::new(rt, shared, caller, &NoGate);
+    work(&mut asking, alloc, load, number)
+}
+
+/// The thread of this number takes its steps. Gives how many were answered as they should be.
+fn work<S: Steps>(store: &mut S, alloc: Global, load: Load, number: u8) -> u64 {
+    let now = Moment::from_seconds_at_most(1000);
+    let block = [b'x'; 100];
+    let key = key_of(load.over, number);
+    let mut answered: u64 = 0;
+    for round in 0..load.rounds {
+        let sets = is_set(load.mix, round);
+        let step = step_of(sets, key, &block);
+        let taken = store.step(alloc, &step, now);
+        answered = answered.saturating_add(u64::from(is_expected(sets, &taken)));
+    }
+    answered
+}
+
+/// The key of the thread of this number. Those of different threads lie on different shelves.
+fn key_of(over: Over, number: u8) -> &'static [u8]
+    ensures { length result.now ≤ 250 }
+{
+    match (over, number) {
+        (Over::Own, 1) => b"b",
+        (Over::Own, 2) => b"k",
+        (Over::Own, 3) => b"z",
+        _ => b"a",
+    }
+}
+
+/// Whether the step of this round is a set.
+fn is_set(mix: Mix, round: u64) -> bool {
+    match mix {
+        Mix::Gets => false,
+        Mix::Sets => true,
+        Mix::Mixed => round % 10 == 9,
+    }
+}
+
+/// A set of the key to this block, or a get.
+fn step_of<'a>(sets: bool, key: &'a [u8], block: &'a [u8]) -> KeyStep<'a>
+    requires { length key.now ≤ 250 }
+    ensures { length (key_of result) ≤ 250 }
+{
+    let key = Bytes::of(key);
+    if sets {
+        KeyStep::Store {
+            verb: Verb::Set,
+            key,
+            flags: 0,
+            exptime: 0,
+            block: Bytes::of(block),
+        }
+    } else {
+        KeyStep::Read { key }
+    }
+}
+
+/// Whether a set was stored, or a get was a hit.
+fn is_expected(sets: bool, taken: &Result<Reply, StepFault>) -> bool {
+    match taken {
+        Ok(Reply::Stored) => sets,
+        Ok(Reply::Hit { .. }) => !sets,
+        _ => false,
+    }
+}
