@@ -101,8 +101,9 @@ impl Pair {
             }
             Act::Take => Ok(take(&mut self.index, hash, bytes) == self.map.remove(&key).is_some()),
             Act::Look => {
-                self.kept = self.find(key);
-                Ok(self.kept.is_some() == self.map.contains_key(&key))
+                let found = self.find(key);
+                self.kept = found.or(self.kept);
+                Ok(found.is_some() == self.map.contains_key(&key))
             }
         }
     }

@@ -1,6 +1,6 @@
 //! What tests of several crates use: readers and writers that give and take little at a time and
-//! fail when told to, dice, rows of steps over any store, texts of sessions, and a hopscotch table
-//! to fill. No program uses it.
+//! fail when told to, dice, rows of steps over any store, texts of sessions, and marks to fill a
+//! hopscotch table or an index with. No program uses it.
 #![tactic(auto)]
 
 mod dice;
