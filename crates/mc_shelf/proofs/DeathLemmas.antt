@@ -38,14 +38,6 @@ sooner_remove a old new key is held at found there =
       | Greater ↦ λ e. held at found e
     ] (sym (ap (λ (m : Items). get m at) is ∙ get-remove nat_list_cmp_total old key at) ∙ there)
 
--- where the soonest aren't dead, none is
-not_dead : (one all : Bool) → (one ≡ true → all ≡ true) → all ≡ false → one ≡ false
-not_dead false all so alive = refl
-not_dead true all so alive = sym (so refl) ∙ alive
-
-pub none_dead : (soonest : Soonest) (items : Items) (cut : Option ℕ) (now : ℕ) → DieNoSooner soonest items → is_dead soonest.expiry soonest.updated cut now ≡ false → NoneIsDead now cut items
-none_dead soonest items cut now held alive key item found = not_dead (is_dead item.expiry item.updated cut now) (is_dead soonest.expiry soonest.updated cut now) (held key item found cut now) alive
-
 -- ---- an index of no entries
 
 no_rows : (buckets : List (Option EntryState)) → filled buckets ≡ 0 → rows hash_in key_in buckets ≡ []

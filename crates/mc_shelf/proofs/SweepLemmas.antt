@@ -26,6 +26,7 @@ use Rattle.mc_shelf.proofs.KeyLemmas.{order, same_key, get_gone, get_gone_other}
 use Rattle.mc_shelf.proofs.KeyMapLemmas.{hash_absent, item_held}
 use Rattle.mc_shelf.proofs.IndexLemmas.{numbered}
 use Rattle.mc_shelf.proofs.ShelfLemmas.{content_of}
+use Rattle.mc_shelf.proofs.PartLemmas.{get_kept}
 use Rattle.mc_shelf.proofs.StandLemmas.{RemoveCounts, bump, out-given}
 
 -- ---- the desk
@@ -85,8 +86,7 @@ alive_or_none cut now (Some item) =
 
 get_living : (items : Items) (cut : Option ℕ) (now : ℕ) (key : List ℕ) → get (living items cut now) key ≡ alive cut now (get items key)
 get_living items cut now key =
-    get-retain_keys items (λ k. is_some (alive cut now (get items k))) key (λ x h. ap (λ (k : List ℕ). is_some (alive cut now (get items k))) (sym (same_key key x h)))
-    ∙ alive_or_none cut now (get items key)
+    get_kept items (λ k. is_some (alive cut now (get items k))) key ∙ alive_or_none cut now (get items key)
 
 -- a dead item is none of them
 living_without : (items : Items) (cut : Option ℕ) (now : ℕ) (key : List ℕ) → alive cut now (get items key) ≡ None → living (remove items key) cut now ≡ living items cut now

@@ -95,8 +95,18 @@ fn a_key_is_written_in_chunks(rt: HostRuntime) -> Result<(), Fail> {
     let rows: [Row<'_>; 10] = [
         (1000, b"k", Ask::Get, Want::Told("miss")),
         set(1000, b"k", 0, b"1", "stored"),
-        (1000, b"k", Ask::Store(Verb::Add, 0, b"2"), Want::Told("not stored")),
-        (1000, b"k", Ask::Store(Verb::Append, 0, b"0"), Want::Told("stored")),
+        (
+            1000,
+            b"k",
+            Ask::Store(Verb::Add, 0, b"2"),
+            Want::Told("not stored"),
+        ),
+        (
+            1000,
+            b"k",
+            Ask::Store(Verb::Append, 0, b"0"),
+            Want::Told("stored"),
+        ),
         (1000, b"k", Ask::Incr(5), Want::Number(15)),
         (1000, b"k", Ask::Cas(1, b"x"), Want::Told("exists")),
         (1000, b"k", Ask::Cas(3, b"x"), Want::Told("stored")),
@@ -173,7 +183,12 @@ fn spent_numbers_are_told(rt: HostRuntime) -> Result<(), Fail> {
     let alloc = rt.alloc();
     let mut store = open(alloc, 1)?;
     skip_to_the_last(&mut store);
-    answers(&rt, alloc, &mut store, &[set(1000, b"k", 0, b"1", "stored")])?;
+    answers(
+        &rt,
+        alloc,
+        &mut store,
+        &[set(1000, b"k", 0, b"1", "stored")],
+    )?;
     for (key, ask) in [
         (b'k', Ask::Store(Verb::Set, 0, b"2")),
         (b'n', Ask::Store(Verb::Set, 0, b"2")),
@@ -197,17 +212,24 @@ fn a_chunk_that_is_not_left_is_told(rt: HostRuntime) -> Result<(), Fail> {
     let alloc = rt.alloc();
     let mut store = open(alloc, 1)?;
     let long = b"9                                                           ";
-    answers(&rt, alloc, &mut store, &[set(1000, b"k", 0, long, "stored")])?;
-    for (key, ask) in [
-        (b'k', Ask::Incr(6)),
-        (b'n', Ask::Store(Verb::Set, 0, b"2")),
-    ] {
+    answers(
+        &rt,
+        alloc,
+        &mut store,
+        &[set(1000, b"k", 0, long, "stored")],
+    )?;
+    for (key, ask) in [(b'k', Ask::Incr(6)), (b'n', Ask::Store(Verb::Set, 0, b"2"))] {
         let told = told_once(&mut store, alloc, key, ask);
         assert!(rt; told == "no chunk", "{told}");
     }
     let rows: [Row<'_>; 2] = [
         (1000, b"k", Ask::Get, Want::Hit(1, long)),
-        (1000, b"k", Ask::Store(Verb::Append, 0, b" "), Want::Told("stored")),
+        (
+            1000,
+            b"k",
+            Ask::Store(Verb::Append, 0, b" "),
+            Want::Told("stored"),
+        ),
     ];
     answers(&rt, alloc, &mut store, &rows)
 }
