@@ -1,17 +1,16 @@
 -- The soonest expiry and write of items, as one comes, changes or goes.
-use Rattle.std.proofs.Common.{◌≡◌, ℕ, zero, suc, Bool, true, false, cond, List, [], ◌∷◌, Option, Some, None, Less, Equal, Greater, is_eq, sym, ap, subst, ◌∙◌, refl, arith}
+use Rattle.std.proofs.Common.{◌≡◌, ℕ, cond, List, [], ◌∷◌, Option, Some, None, Less, Equal, Greater, is_eq, sym, ap, subst, ◌∙◌, refl, arith}
 use Rattle.std.proofs.lemmas.Option.{same_Some, none-some}
 use Rattle.std.specs.FinMap.{empty, from_entries, get, get-empty, get-insert, get-remove, insert, remove}
 use Rattle.std.specs.Cmp.Lexicographic.{nat_list_cmp_total}
 use Rattle.mc_hop.specs.Cells.{filled}
 use Rattle.mc_hop.specs.Contents.{rows}
-use Rattle.mc_time.specs.Death.{is_dead}
 use Rattle.mc_command.specs.Plain.{Entry, Items}
 use Rattle.mc_grow.specs.Indexes.{IndexState, cells, count}
 use Rattle.mc_shelf.specs.States.{EntryState}
 use Rattle.mc_shelf.specs.KeyMaps.{hash_in, hashes_in, items_in, key_in}
 use Rattle.mc_shelf.specs.Places.{hashes_of, items_of}
-use Rattle.mc_shelf.specs.Deaths.{DiesNoSooner, DieNoSooner, NoneIsDead}
+use Rattle.mc_shelf.specs.Deaths.{DiesNoSooner, DieNoSooner}
 use Rattle.mc_shelf.specs.declared.soonest.Soonest.{Soonest}
 use Rattle.mc_shelf.proofs.KeyLemmas.{order}
 use Rattle.mc_shelf.proofs.KeyMapLemmas.{hashes-empty, items-empty}

@@ -3,7 +3,7 @@
 use Rattle.std.proofs.Common.{◌≡◌, ℕ, true, false, cond, List, [], ◌∷◌, drop, get_or, Option, Some, None, sym, refl, ap, ◌∙◌}
 use Rattle.std.proofs.lemmas.Option.{same_Some, none-some}
 use Rattle.std.specs.Cmp.Lexicographic.{nat_list_cmp_total}
-use Rattle.std.specs.FinMap.{FinMap, nat_cmp-IsAntisymmetric, slice_cmp-IsAntisymmetric, empty, find, get, get-empty, get-from_entries, get-insert, get-remove, insert, remove, len, same_map}
+use Rattle.std.specs.FinMap.{FinMap, nat_cmp-IsAntisymmetric, slice_cmp-IsAntisymmetric, empty, find, get, get-empty, get-from_entries, get-insert, get-remove, insert, remove, same_map}
 use Rattle.mc_hop.specs.Contents.{rows, content}
 use Rattle.mc_command.specs.Plain.{Entry}
 use Rattle.mc_shelf.specs.States.{EntryState}

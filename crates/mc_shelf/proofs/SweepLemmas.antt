@@ -5,7 +5,7 @@ use Rattle.std.proofs.lemmas.Option.{same_Some, none-some}
 use Rattle.std.specs.Borrow.{Bor}
 use Rattle.std.specs.Option.{option_copied}
 use Rattle.std.specs.Ordering.{is_eq}
-use Rattle.std.specs.FinMap.{empty, get, get-empty, get-remove, get-retain_keys, remove, same_map}
+use Rattle.std.specs.FinMap.{empty, get, get-empty, get-remove, remove, same_map}
 use Rattle.std.specs.Cmp.Lexicographic.{nat_list_cmp_total}
 use Rattle.mc_time.specs.Death.{is_dead}
 use Rattle.mc_slab.specs.Classes.{IsClass}

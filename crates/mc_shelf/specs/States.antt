@@ -5,8 +5,8 @@ use Rattle.std.specs.Ordering.{nat_cmp}
 use Rattle.std.specs.Cmp.Lexicographic.{slice_cmp}
 use Rattle.std.specs.FinMap.{FinMap, get, empty, code}
 use Rattle.mc_slab.specs.Slabs.{SlabState, coded_slab, out_of}
-use Rattle.mc_slab.specs.Classes.{IsClass, class_holding}
-use Rattle.mc_command.specs.Plain.{Items, Entry, coded_entry, Plain, charge, item_class, count_of}
+use Rattle.mc_slab.specs.Classes.{IsClass}
+use Rattle.mc_command.specs.Plain.{Items, Entry, coded_entry, Plain, charge, count_of}
 use Rattle.mc_item.specs.Items.{ItemState}
 use Rattle.mc_item.specs.declared.item.Parts.{Parts}
 
