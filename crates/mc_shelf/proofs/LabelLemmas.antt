@@ -4,11 +4,11 @@ use Rattle.std.proofs.lemmas.Option.{same_Some, none-some}
 use Rattle.std.specs.Ordering.{eq_by_cmp}
 use Rattle.std.specs.Cmp.{tied_itself}
 use Rattle.std.specs.Cmp.Lexicographic.{nat_list_cmp_total}
-use Rattle.std.specs.FinMap.{FinMap, nat_cmp-IsAntisymmetric, slice_cmp-IsAntisymmetric, entries, entries_sorted, from_entries, find, get, get-entries, get-from_entries, is_sorted}
+use Rattle.std.specs.FinMap.{FinMap, entries, entries_sorted, from_entries, find, get, get-entries, get-from_entries, is_sorted}
 use Rattle.std.specs.FinMap.Entries.{below_all}
 use Rattle.mc_shelf.specs.States.{EntryState}
 use Rattle.mc_shelf.specs.KeyMaps.{EntryMap, entries_in, StandsIn, IsKeyed}
-use Rattle.mc_shelf.proofs.KeyLemmas.{order}
+use Rattle.mc_shelf.proofs.KeyLemmas.{order, same_key}
 
 abbrev pub same : List ℕ → List ℕ → Bool
 same = eq_by_cmp order
@@ -24,7 +24,7 @@ equal Equal h = refl
 equal Greater h = cc
 
 pub same_list : (p q : List ℕ) → same p q ≡ true → p ≡ q
-same_list p q e = slice_cmp-IsAntisymmetric nat_cmp-IsAntisymmetric p q (equal (order p q) e)
+same_list p q e = same_key p q (equal (order p q) e)
 
 pub same_itself : (q : List ℕ) → same q q ≡ true
 same_itself q = ap is_eq (tied_itself nat_list_cmp_total q)
