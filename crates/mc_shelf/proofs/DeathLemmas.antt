@@ -1,17 +1,16 @@
 -- The soonest expiry and write of items, as one comes, changes or goes.
-use Rattle.std.proofs.Common.{◌≡◌, ℕ, zero, suc, Bool, true, false, cond, List, [], ◌∷◌, Option, Some, None, Less, Equal, Greater, is_eq, sym, ap, subst, ◌∙◌, refl, arith}
+use Rattle.std.proofs.Common.{◌≡◌, ℕ, cond, List, [], ◌∷◌, Option, Some, None, Less, Equal, Greater, is_eq, sym, ap, subst, ◌∙◌, refl, arith}
 use Rattle.std.proofs.lemmas.Option.{same_Some, none-some}
 use Rattle.std.specs.FinMap.{empty, from_entries, get, get-empty, get-insert, get-remove, insert, remove}
 use Rattle.std.specs.Cmp.Lexicographic.{nat_list_cmp_total}
 use Rattle.mc_hop.specs.Cells.{filled}
 use Rattle.mc_hop.specs.Contents.{rows}
-use Rattle.mc_time.specs.Death.{is_dead}
 use Rattle.mc_command.specs.Plain.{Entry, Items}
 use Rattle.mc_grow.specs.Indexes.{IndexState, cells, count}
 use Rattle.mc_shelf.specs.States.{EntryState}
 use Rattle.mc_shelf.specs.KeyMaps.{hash_in, hashes_in, items_in, key_in}
 use Rattle.mc_shelf.specs.Places.{hashes_of, items_of}
-use Rattle.mc_shelf.specs.Deaths.{DiesNoSooner, DieNoSooner, NoneIsDead}
+use Rattle.mc_shelf.specs.Deaths.{DiesNoSooner, DieNoSooner}
 use Rattle.mc_shelf.specs.declared.soonest.Soonest.{Soonest}
 use Rattle.mc_shelf.proofs.KeyLemmas.{order}
 use Rattle.mc_shelf.proofs.KeyMapLemmas.{hashes-empty, items-empty}
@@ -37,14 +36,6 @@ sooner_remove a old new key is held at found there =
       | Equal ↦ λ e. absurd (none-some found e)
       | Greater ↦ λ e. held at found e
     ] (sym (ap (λ (m : Items). get m at) is ∙ get-remove nat_list_cmp_total old key at) ∙ there)
-
--- where the soonest aren't dead, none is
-not_dead : (one all : Bool) → (one ≡ true → all ≡ true) → all ≡ false → one ≡ false
-not_dead false all so alive = refl
-not_dead true all so alive = sym (so refl) ∙ alive
-
-pub none_dead : (soonest : Soonest) (items : Items) (cut : Option ℕ) (now : ℕ) → DieNoSooner soonest items → is_dead soonest.expiry soonest.updated cut now ≡ false → NoneIsDead now cut items
-none_dead soonest items cut now held alive key item found = not_dead (is_dead item.expiry item.updated cut now) (is_dead soonest.expiry soonest.updated cut now) (held key item found cut now) alive
 
 -- ---- an index of no entries
 

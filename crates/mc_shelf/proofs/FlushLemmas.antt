@@ -16,8 +16,8 @@ use Rattle.mc_shelf.specs.Unions.{IsFlushed, left_of_flush}
 use Rattle.std.proofs.Math.Seq.{take-append_seam}
 use Rattle.mc_shelf.specs.Stores.{IsSetUp}
 use Rattle.mc_shelf.specs.declared.store.Settings.{Settings}
-use Rattle.mc_shelf.proofs.KeyLemmas.{order}
-use Rattle.mc_shelf.proofs.PartLemmas.{PartsLaw, same_items, get_kept, parted, own_items, shelf_kept, put_cases}
+use Rattle.mc_shelf.proofs.KeyLemmas.{order, same_maps, get_kept}
+use Rattle.mc_shelf.proofs.PartLemmas.{PartsLaw, parted, own_items, shelf_kept, put_cases}
 
 -- where none of its items is dead, purging a shelf's part changes nothing
 pub nothing_purged : {hash_of : List ℕ → ℕ} {count at : ℕ} {state : Plain} {shelf : ShelfContent} (now : ℕ) → IsShelfOf hash_of count state at shelf → NoneIsDead now shelf.cut shelf.items → purged (λ key. eqb (shelf_of hash_of count key) at) now state ≡ state
@@ -30,7 +30,7 @@ nothing_purged {hash_of} {count} {at} {state} {shelf} now fits lives =
           ap (λ b. cond (is_some (cond b None (Some item))) (Some item) None) (ap (λ cut. is_dead item.expiry item.updated cut now) (sym fits.cut) ∙ stands)
     ] in
     ap (λ (m : Items). record state { items = m })
-    (same_items _ state.items (λ q.
+    (same_maps _ state.items (λ q.
     get_kept state.items (λ q. not (mine q) || is_some (alive state.cut now (get state.items q))) q
     ∙ elim (mine q) as (λ b. mine q ≡ b → cond (not b || is_some (alive state.cut now (get state.items q))) (get state.items q) None ≡ get state.items q) [
       | true ↦ λ is. stays q is (get state.items q) refl
@@ -212,10 +212,10 @@ module _ (hash_of : List ℕ → ℕ) (count delay now : ℕ) (state : Plain) wh
   after = flushed delay state now
 
   none_below : (items : Items) → below place 0 items ≡ maps.empty
-  none_below items = same_items (below place 0 items) maps.empty (λ q. get_kept items (λ q. ltb (place q) 0) q ∙ ap (λ b. cond b (get items q) None) (le-ltb (place q) 0 (omega arith)) ∙ sym (get-empty order q))
+  none_below items = same_maps (below place 0 items) maps.empty (λ q. get_kept items (λ q. ltb (place q) 0) q ∙ ap (λ b. cond b (get items q) None) (le-ltb (place q) 0 (omega arith)) ∙ sym (get-empty order q))
 
   all_below : (at : ℕ) → 0 < count → count ≤ at → (items : Items) → below place at items ≡ items
-  all_below at some past items = same_items (below place at items) items (λ q. get_kept items (λ q. ltb (place q) at) q ∙ ap (λ b. cond b (get items q) None) (lt-ltb (place q) at (omega (arith, some, past))))
+  all_below at some past items = same_maps (below place at items) items (λ q. get_kept items (λ q. ltb (place q) at) q ∙ ap (λ b. cond b (get items q) None) (lt-ltb (place q) at (omega (arith, some, past))))
 
   pub flushed_none : {list : List ShelfState} {desk : DeskState} → ArePartsOf hash_of state list count desk → AreFlushedTo hash_of count delay now state 0 list desk
   flushed_none parts = record {

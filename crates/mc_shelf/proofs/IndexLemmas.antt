@@ -1,18 +1,18 @@
 -- What a search in an index and a change of its entries say of the items and the hashes under its keys.
-use Rattle.std.proofs.Common.{◌≡◌, ℕ, zero, suc, ◌+◌, ◌^◌, ◌<◌, ◌≤◌, Bool, true, false, cond, List, [], ◌∷◌, ◌++◌, replicate, get_or, Option, Some, None, sym, refl, ap, subst, ◌∙◌, arith, inl, inr}
+use Rattle.std.proofs.Common.{◌≡◌, ℕ, zero, suc, ◌+◌, ◌^◌, ◌≤◌, true, false, cond, List, [], ◌∷◌, ◌++◌, replicate, get_or, Option, Some, None, sym, refl, ap, subst, ◌∙◌, arith, inl, inr}
 use Rattle.std.proofs.lemmas.Bool.{cases_lt}
 use Rattle.std.proofs.lemmas.Option.{same_Some, none-some}
 use Rattle.std.specs.Cmp.Lexicographic.{nat_list_cmp_total}
 use Rattle.std.specs.FinMap.{empty, find, from_entries, get, get-from_entries, insert, remove}
-use Rattle.mc_hop.specs.Contents.{rows, content}
+use Rattle.mc_hop.specs.Contents.{rows}
 use Rattle.mc_grow.specs.Indexes.{IndexState, IsFound, IsNew, IsPlaceOf, KeepsLower, cells, entry_at, left}
 use Rattle.mc_grow.specs.declared.index.Place.{Place}
 use Rattle.mc_shelf.specs.States.{EntryState}
 use Rattle.mc_shelf.specs.KeyMaps.{IsHashOf, IsKeyed, StandsIn, hash_in, hashes_in, items_in, key_in}
 use Rattle.mc_shelf.specs.Places.{IsChanged, IsKeyAt, IsKeyFound, KeyGoes, KeyComes, entries_of, hashes_of, items_of}
 use Rattle.mc_shelf.proofs.KeyLemmas.{order, get_gone}
-use Rattle.mc_shelf.proofs.LabelLemmas.{own, own_key, same, same_itself, same_list}
-use Rattle.mc_shelf.proofs.KeyMapLemmas.{hash_absent, hash_there, hashes-empty, hashes-insert, hashes-remove, hashes-replace, found_hash, item_there, items-empty, items-insert, items-remove, keyed-empty, keyed-insert, keyed-remove, labelled-content, not_found}
+use Rattle.mc_shelf.proofs.LabelLemmas.{own, same, same_itself}
+use Rattle.mc_shelf.proofs.KeyMapLemmas.{hash_absent, hash_there, hashes-insert, hashes-remove, hashes-replace, found_hash, item_there, items-insert, items-remove, keyed-insert, keyed-remove, labelled-content, not_found}
 
 -- ---- buckets
 

@@ -1,8 +1,8 @@
 -- Finite maps under keys: what an edit leaves under its key and under the others.
-use Rattle.std.proofs.Common.{◌≡◌, ◌≢◌, ℕ, false, cond, List, Some, None, Ordering, Less, Equal, Greater, nat_cmp, is_eq, refl, ap, ◌∙◌}
+use Rattle.std.proofs.Common.{◌≡◌, ◌≢◌, ℕ, Bool, sym, false, cond, List, Some, None, Ordering, Less, Equal, Greater, nat_cmp, is_eq, refl, ap, ◌∙◌}
 use Rattle.std.specs.Cmp.{tied_itself}
 use Rattle.std.specs.Cmp.Lexicographic.{slice_cmp, nat_list_cmp_total}
-use Rattle.std.specs.FinMap.{FinMap, IsAntisymmetric, nat_cmp-IsAntisymmetric, slice_cmp-IsAntisymmetric, get, insert, remove, get-insert, get-remove}
+use Rattle.std.specs.FinMap.{FinMap, IsAntisymmetric, nat_cmp-IsAntisymmetric, slice_cmp-IsAntisymmetric, get, insert, remove, get-insert, get-remove, same_map, retain_keys, get-retain_keys}
 
 -- the order of keys
 abbrev pub order : List ℕ → List ℕ → Ordering
@@ -10,6 +10,14 @@ order = slice_cmp nat_cmp
 
 pub same_key : IsAntisymmetric order
 same_key = slice_cmp-IsAntisymmetric nat_cmp-IsAntisymmetric
+
+-- maps that have the same at each key are the same
+pub same_maps : {X : Type 0} (a b : FinMap order X) → ((key : List ℕ) → get a key ≡ get b key) → a ≡ b
+same_maps = same_map nat_list_cmp_total same_key
+
+-- what is kept under a key
+pub get_kept : {X : Type 0} (items : FinMap order X) (keep : List ℕ → Bool) (key : List ℕ) → get (retain_keys items keep) key ≡ cond (keep key) (get items key) None
+get_kept items keep key = get-retain_keys items keep key (λ x same. ap keep (sym (same_key key x same)))
 
 pub get_put : {X : Type 0} (items : FinMap order X) (key : List ℕ) (item : X) → get (insert items key item) key ≡ Some item
 get_put items key item = get-insert nat_list_cmp_total items key item key ∙ ap (λ r. cond (is_eq r) (Some item) (get items key)) (tied_itself nat_list_cmp_total key)

@@ -3,12 +3,12 @@
 use Rattle.std.proofs.Common.{◌≡◌, ℕ, true, false, cond, List, [], ◌∷◌, drop, get_or, Option, Some, None, sym, refl, ap, ◌∙◌}
 use Rattle.std.proofs.lemmas.Option.{same_Some, none-some}
 use Rattle.std.specs.Cmp.Lexicographic.{nat_list_cmp_total}
-use Rattle.std.specs.FinMap.{FinMap, nat_cmp-IsAntisymmetric, slice_cmp-IsAntisymmetric, empty, find, get, get-empty, get-from_entries, get-insert, get-remove, insert, remove, len, same_map}
+use Rattle.std.specs.FinMap.{empty, find, get, get-empty, get-from_entries, get-insert, get-remove, insert, remove}
 use Rattle.mc_hop.specs.Contents.{rows, content}
 use Rattle.mc_command.specs.Plain.{Entry}
 use Rattle.mc_shelf.specs.States.{EntryState}
 use Rattle.mc_shelf.specs.KeyMaps.{EntryMap, items_in, hashes_in, IsHashOf, StandsIn, IsKeyed}
-use Rattle.mc_shelf.proofs.KeyLemmas.{order}
+use Rattle.mc_shelf.proofs.KeyLemmas.{order, same_maps}
 use Rattle.mc_shelf.proofs.LabelLemmas.{same, same_list, same_itself, none_by, own, own_key, same_label, Held, parts_in, held, part_there, no_part, no_entry, part_same}
 
 -- ---- items and hashes under a key
@@ -60,9 +60,6 @@ module _ (m : EntryMap) (keyed : IsKeyed m) where
       none-some s.entry (sym none ∙ ap (λ n. get m (n ∷ key)) (sym (s.same_part ∙ right stored is)) ∙ s.there)))
 
 -- ---- a change of one entry
-
-same_parts : {X : Type 0} (m n : FinMap order X) → ((q : List ℕ) → get m q ≡ get n q) → m ≡ n
-same_parts = same_map nat_list_cmp_total (slice_cmp-IsAntisymmetric nat_cmp-IsAntisymmetric)
 
 -- labels of different keys differ
 apart : (hash : ℕ) (key : List ℕ) (e : EntryState) → same key e.key ≡ false → same (hash ∷ key) (e.hash ∷ e.key) ≡ false
@@ -120,7 +117,7 @@ module _ (m : EntryMap) (keyed : IsKeyed m) (e : EntryState) (right : IsHashOf m
   }
 
   part-insert : {X : Type 0} (part : EntryState → X) → parts_in part more ≡ insert (parts_in part m) e.key (part e)
-  part-insert part = same_parts _ _ (λ q.
+  part-insert part = same_maps _ _ (λ q.
       part_changed part m more keyed keyed-insert e (Some e) (Some (part e)) more_at (part_there part more keyed-insert e.hash e.key e more_there) q
       ∙ sym (get-insert nat_list_cmp_total (parts_in part m) e.key (part e) q))
 
@@ -162,7 +159,7 @@ module _ (m : EntryMap) (keyed : IsKeyed m) (e : EntryState) (there : StandsIn m
   }
 
   part-remove : {X : Type 0} (part : EntryState → X) → parts_in part fewer ≡ remove (parts_in part m) e.key
-  part-remove part = same_parts _ _ (λ q.
+  part-remove part = same_maps _ _ (λ q.
       part_changed part m fewer keyed keyed-remove e None None fewer_at (no_part part fewer keyed-remove e.key key_gone) q
       ∙ sym (get-remove nat_list_cmp_total (parts_in part m) e.key q))
 
@@ -177,7 +174,7 @@ pub hashes-replace : (m : EntryMap) → IsKeyed m → (old new : EntryState) →
 hashes-replace m keyed old new there =
     let right : IsHashOf m new.key new.hash = found_hash m keyed new.hash new.key old there in
     let hash : get (hashes_in m) new.key ≡ Some new.hash = hash_there m keyed new.hash new.key old there ∙ ap (λ q. Some (get_or q 0 0)) (sym (keyed.labelled (new.hash ∷ new.key) old there)) in
-    hashes-insert m keyed new right ∙ same_parts _ _ (λ q. get-insert nat_list_cmp_total (hashes_in m) new.key new.hash q
+    hashes-insert m keyed new right ∙ same_maps _ _ (λ q. get-insert nat_list_cmp_total (hashes_in m) new.key new.hash q
     ∙ elim (same q new.key) as (λ b. same q new.key ≡ b → cond b (Some new.hash) (get (hashes_in m) q) ≡ get (hashes_in m) q) [
       | true ↦ λ t. sym (ap (get (hashes_in m)) (same_list q new.key t) ∙ hash)
       | false ↦ λ f. refl
@@ -192,7 +189,7 @@ keyed-empty = record {
 }
 
 part-empty : {X : Type 0} (part : EntryState → X) → parts_in part empty ≡ empty
-part-empty part = same_parts _ _ (λ q. no_part part empty keyed-empty q (λ hash. get-empty order (hash ∷ q)) ∙ sym (get-empty order q))
+part-empty part = same_maps _ _ (λ q. no_part part empty keyed-empty q (λ hash. get-empty order (hash ∷ q)) ∙ sym (get-empty order q))
 
 pub items-empty : items_in empty ≡ empty
 items-empty = part-empty (λ e. e.item)

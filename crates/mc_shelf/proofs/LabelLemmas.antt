@@ -1,10 +1,10 @@
 -- Entries under their labels, a hash and a key in one list, in one finite map: what stands of one part of them under the keys alone.
-use Rattle.std.proofs.Common.{◌≡◌, ℕ, ◌+◌, Bool, true, false, cond, ◌&&◌, T, List, [], ◌∷◌, map, length, drop, Option, Some, None, is_some, Ordering, Less, Equal, Greater, nat_cmp, is_eq, is_lt, sym, refl, ap, ◌∙◌, arith}
+use Rattle.std.proofs.Common.{◌≡◌, ℕ, Bool, true, false, cond, ◌&&◌, T, List, [], ◌∷◌, map, drop, Option, Some, None, Ordering, Less, Equal, Greater, is_eq, is_lt, sym, refl, ap, ◌∙◌}
 use Rattle.std.proofs.lemmas.Option.{same_Some, none-some}
 use Rattle.std.specs.Ordering.{eq_by_cmp}
 use Rattle.std.specs.Cmp.{tied_itself}
-use Rattle.std.specs.Cmp.Lexicographic.{slice_cmp, nat_list_cmp_total}
-use Rattle.std.specs.FinMap.{FinMap, nat_cmp-IsAntisymmetric, slice_cmp-IsAntisymmetric, entries, entries_sorted, from_entries, find, get, get-entries, get-from_entries, is_sorted, len, len-empty, len-entries, len-insert}
+use Rattle.std.specs.Cmp.Lexicographic.{nat_list_cmp_total}
+use Rattle.std.specs.FinMap.{FinMap, entries, entries_sorted, from_entries, find, get, get-entries, get-from_entries, is_sorted}
 use Rattle.std.specs.FinMap.Entries.{below_all}
 use Rattle.mc_shelf.specs.States.{EntryState}
 use Rattle.mc_shelf.specs.KeyMaps.{EntryMap, entries_in, StandsIn, IsKeyed}
@@ -24,7 +24,7 @@ equal Equal h = refl
 equal Greater h = cc
 
 pub same_list : (p q : List ℕ) → same p q ≡ true → p ≡ q
-same_list p q e = slice_cmp-IsAntisymmetric nat_cmp-IsAntisymmetric p q (equal (order p q) e)
+same_list p q e = same_key p q (equal (order p q) e)
 
 pub same_itself : (q : List ℕ) → same q q ≡ true
 same_itself q = ap is_eq (tied_itself nat_list_cmp_total q)

@@ -12,7 +12,6 @@ pub mod PartLemmas
 pub mod FlushLemmas
 pub mod StoreLemmas
 pub mod DeskLemmas
-pub mod AloneLemmas
 pub mod LabelLemmas
 pub mod KeyMapLemmas
 pub mod DeathLemmas

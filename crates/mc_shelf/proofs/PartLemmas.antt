@@ -8,7 +8,7 @@ use Rattle.std.specs.Cmp.{tied_itself}
 use Rattle.std.specs.Cmp.Lexicographic.{nat_list_cmp_total}
 use Rattle.std.specs.Ordering.{eq_by_cmp}
 use Rattle.std.specs.declared.cmp.Ordering.TheVariants.{Less, Equal, Greater}
-use Rattle.std.specs.FinMap.{entries, get, find, get-entries, get-from_entries, get-retain_keys, retain_keys, same_map}
+use Rattle.std.specs.FinMap.{entries, get, find, get-entries, get-from_entries, retain_keys}
 use Rattle.mc_command.specs.declared.step.KeyStep.{KeyStep}
 use Rattle.mc_command.specs.declared.reply.Reply.{Reply}
 use Rattle.mc_command.specs.Commands.{key_of}
@@ -20,7 +20,7 @@ use Rattle.mc_shelf.specs.Parts.{shelf_of, IsShelfOf, IsDeskOf, ArePartsOf, Goes
 use Rattle.mc_shelf.specs.Unions.{all_entries, all_items, cut_of, plain_of}
 use Rattle.mc_shelf.specs.Stores.{IsSetUp}
 use Rattle.mc_shelf.specs.declared.store.Settings.{Settings}
-use Rattle.mc_shelf.proofs.KeyLemmas.{order, same_key}
+use Rattle.mc_shelf.proofs.KeyLemmas.{order, same_key, same_maps, get_kept}
 
 -- the plain machine's step on a key leaves the other keys, as `other_keys_stay` says, and the limit of pages, as `pages_stay`
 abbrev pub OthersLaw : Type 0
@@ -32,14 +32,6 @@ LimitLaw = (old new : Plain) (step : KeyStep) (now : ℕ) (reply : Reply) → pl
 -- the items whose keys pass a test and the others are all of them, as `counts_follow` says
 abbrev pub PartsLaw : Type 0
 PartsLaw = (items : Items) (meant : List ℕ → Bool) (class : ℕ) → count_of items class ≡ count_of (retain_keys items meant) class + count_of (retain_keys items (λ key. not (meant key))) class
-
--- items that answer alike are the same
-pub same_items : (a b : Items) → ((key : List ℕ) → get a key ≡ get b key) → a ≡ b
-same_items a b alike = same_map nat_list_cmp_total same_key a b alike
-
--- what is kept under a key
-pub get_kept : (items : Items) (keep : List ℕ → Bool) (key : List ℕ) → get (retain_keys items keep) key ≡ cond (keep key) (get items key) None
-get_kept items keep key = get-retain_keys items keep key (λ x same. ap keep (sym (same_key key x same)))
 
 key_or_not : (q key : List ℕ) → (q ≡ key) ⊎ (q ≢ key)
 key_or_not q key = elim (order q key) as (λ r. order q key ≡ r → (q ≡ key) ⊎ (q ≢ key)) [
@@ -97,7 +89,7 @@ some_there (shelf ∷ shelves) (suc at) inside = some_there shelves at (omega ar
 
 module _ {hash_of : List ℕ → ℕ} {state : Plain} {list : List ShelfState} {count : ℕ} {desk : DeskState} (settings : Settings) (set_up : IsSetUp settings state) (parts : ArePartsOf hash_of state list count desk) where
   same_all : all_items list ≡ state.items
-  same_all = same_items (all_items list) state.items (λ q.
+  same_all = same_maps (all_items list) state.items (λ q.
       let own = some_there list (shelf_of hash_of count q) (omega (arith, parts.number, parts.some_shelf)) in
       get-from_entries nat_list_cmp_total (all_entries list) q ∙ find_first q list
       ∙ first_own q list (shelf_of hash_of count q) own.0 own.1 (λ k t there other. (parts.each k t there).apart q (λ same. other (sym same)))
@@ -258,8 +250,8 @@ goes_without_desk {hash_of} {shelves} {at} {now} {state} {reply} {old} {new} ste
 -- two maps part a third by a test on keys
 pub parted : PartsLaw → (whole part rest : Items) (meant : List ℕ → Bool) → ((q : List ℕ) → get part q ≡ cond (meant q) (get whole q) None) → ((q : List ℕ) → get rest q ≡ cond (not (meant q)) (get whole q) None) → (class : ℕ) → count_of whole class ≡ count_of part class + count_of rest class
 parted law whole part rest meant own others class =
-    let part_is = same_items (retain_keys whole meant) part (λ q. get_kept whole meant q ∙ sym (own q)) in
-    let rest_is = same_items (retain_keys whole (λ q. not (meant q))) rest (λ q. get_kept whole (λ q. not (meant q)) q ∙ sym (others q)) in
+    let part_is = same_maps (retain_keys whole meant) part (λ q. get_kept whole meant q ∙ sym (own q)) in
+    let rest_is = same_maps (retain_keys whole (λ q. not (meant q))) rest (λ q. get_kept whole (λ q. not (meant q)) q ∙ sym (others q)) in
     law whole meant class ∙ (λ i. count_of (part_is i) class + count_of (rest_is i) class)
 
 module _ {hash_of : List ℕ → ℕ} {count at : ℕ} {state : Plain} {shelf : ShelfContent} (fits : IsShelfOf hash_of count state at shelf) where

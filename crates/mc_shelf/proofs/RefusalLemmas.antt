@@ -3,7 +3,7 @@ use Rattle.std.proofs.lemmas.Bool.{cases_lt, le-leb}
 use Rattle.std.proofs.lemmas.List.Sums.{fails_before_first}
 use Rattle.std.specs.List.{position_or_len}
 use Rattle.mc_slab.proofs.ClassLemmas.{size_of-last}
-use Rattle.std.proofs.Common.{◌≡◌, ◌≢◌, ℕ, ◌+◌, ◌-◌, ◌≤◌, ◌^◌, Bool, true, false, true≢false, ◌||◌, List, Option, Some, None, Result, Ok, Err, IfOk, inl, inr, leb, ltb, lt-ltb, refl, sym, ap, subst, ◌∙◌, arith}
+use Rattle.std.proofs.Common.{◌≡◌, ◌≢◌, ℕ, ◌+◌, ◌-◌, ◌≤◌, ◌^◌, Bool, true, false, true≢false, List, Option, Some, None, Result, Ok, Err, IfOk, inl, inr, leb, ltb, lt-ltb, refl, sym, ap, subst, ◌∙◌, arith}
 use Rattle.std.specs.FinMap.{get, remove}
 use Rattle.mc_slab.specs.Classes.{IsClass, chunk_sizes, class_holding}
 use Rattle.mc_slab.specs.Slabs as slabs
@@ -24,7 +24,7 @@ use Rattle.mc_shelf.specs.States.{ShelfContent, DeskState, CanStand, IsAt}
 use Rattle.mc_shelf.specs.Plans.{CanWrite, IsSpent, IsTaken, MayWantMemory, NeedsPage, WantsPage, next_of, stood, writes}
 use Rattle.mc_shelf.proofs.StandLemmas.{RemoveCounts, base, room_not_full, room_some, wrote_kept, wrote_taken}
 use Rattle.mc_shelf.proofs.PlanLemmas.{block_at, found_in}
-use Rattle.mc_shelf.proofs.TakesLemmas.{drafts, wrote_is}
+use Rattle.mc_shelf.proofs.TakesLemmas.{drafts, or_true, wrote_is}
 use Rattle.mc_shelf.proofs.StandLemmas.{InsertCounts}
 
 reply_copies : (body : Body) → CopiesBlock (write_reply body)
@@ -65,11 +65,7 @@ module _ (insert_counts : InsertCounts) (remove_counts : RemoveCounts) (step : K
 
 -- a page is left
 pub page_left : (slab : SlabState) (class : ℕ) → WantsPage slab class → slabs.has_room slab class ≡ true
-page_left slab class page = or_right (ltb (out_of slab class) (slabs.chunks_of slab class)) (ltb 0 (slabs.pages_left slab)) (lt-ltb 0 (slabs.pages_left slab) page.left)
-  where
-    or_right : (a b : Bool) → b ≡ true → a || b ≡ true
-    or_right true b e = refl
-    or_right false b e = e
+page_left slab class page = or_true (ltb (out_of slab class) (slabs.chunks_of slab class)) (ltb 0 (slabs.pages_left slab)) (lt-ltb 0 (slabs.pages_left slab) page.left)
 
 pub needs_can : (next : Next) (desk : DeskState) → NeedsPage next desk → CanWrite next desk
 needs_can next desk page = record { size = page.size; draft = page.draft; writes_it = page.writes_it; number = page.number; chunk = page_left desk.slab (class_holding page.size) page.page }

@@ -5,7 +5,7 @@ use Rattle.std.proofs.lemmas.Option.{same_Some, none-some}
 use Rattle.std.specs.Borrow.{Bor}
 use Rattle.std.specs.Option.{option_copied}
 use Rattle.std.specs.Ordering.{is_eq}
-use Rattle.std.specs.FinMap.{empty, get, get-empty, get-remove, get-retain_keys, remove, same_map}
+use Rattle.std.specs.FinMap.{empty, get, get-empty, get-remove, remove}
 use Rattle.std.specs.Cmp.Lexicographic.{nat_list_cmp_total}
 use Rattle.mc_time.specs.Death.{is_dead}
 use Rattle.mc_slab.specs.Classes.{IsClass}
@@ -22,7 +22,7 @@ use Rattle.mc_shelf.specs.Plans.{is_gone, item_in}
 use Rattle.mc_shelf.specs.Sweeps.{GivesFor, IsPurged}
 use Rattle.mc_shelf.specs.Deaths.{DieNoSooner, DiesNoSooner, NoneIsDead}
 use Rattle.mc_shelf.specs.declared.soonest.Soonest.{Soonest}
-use Rattle.mc_shelf.proofs.KeyLemmas.{order, same_key, get_gone, get_gone_other}
+use Rattle.mc_shelf.proofs.KeyLemmas.{order, same_key, same_maps, get_kept, get_gone, get_gone_other}
 use Rattle.mc_shelf.proofs.KeyMapLemmas.{hash_absent, item_held}
 use Rattle.mc_shelf.proofs.IndexLemmas.{numbered}
 use Rattle.mc_shelf.proofs.ShelfLemmas.{content_of}
@@ -85,13 +85,12 @@ alive_or_none cut now (Some item) =
 
 get_living : (items : Items) (cut : Option ℕ) (now : ℕ) (key : List ℕ) → get (living items cut now) key ≡ alive cut now (get items key)
 get_living items cut now key =
-    get-retain_keys items (λ k. is_some (alive cut now (get items k))) key (λ x h. ap (λ (k : List ℕ). is_some (alive cut now (get items k))) (sym (same_key key x h)))
-    ∙ alive_or_none cut now (get items key)
+    get_kept items (λ k. is_some (alive cut now (get items k))) key ∙ alive_or_none cut now (get items key)
 
 -- a dead item is none of them
 living_without : (items : Items) (cut : Option ℕ) (now : ℕ) (key : List ℕ) → alive cut now (get items key) ≡ None → living (remove items key) cut now ≡ living items cut now
 living_without items cut now key dead =
-    same_map nat_list_cmp_total same_key _ _ (λ q.
+    same_maps _ _ (λ q.
     get_living (remove items key) cut now q
     ∙ ap (alive cut now) (get-remove nat_list_cmp_total items key q)
     ∙ elim (order q key) as (λ r. order q key ≡ r → alive cut now (cond (is_eq r) None (get items q)) ≡ alive cut now (get items q)) [
@@ -104,7 +103,7 @@ living_without items cut now key dead =
 -- where all are alive, they are the living ones
 all_living : (items : Items) (cut : Option ℕ) (now : ℕ) → NoneIsDead now cut items → living items cut now ≡ items
 all_living items cut now are =
-    same_map nat_list_cmp_total same_key _ _ (λ q.
+    same_maps _ _ (λ q.
     get_living items cut now q
     ∙ elim (get items q) as (λ o. get items q ≡ o → alive cut now o ≡ o) [ None ↦ λ e. refl | Some item ↦ λ e. ap (λ b. if b then None else Some item) (are q item e) ] refl)
 
@@ -254,4 +253,4 @@ IsNone e = ⊥
 pub cleared : (index : IndexState EntryState) → IsKeyed (entries_of index) → (at : ℕ) → Below index at IsNone → IsNext index at None → (items_of index ≡ empty) × (hashes_of index ≡ empty)
 cleared index keyed at below none =
     let gone : (key : List ℕ) → get (items_of index) key ≡ None = λ key. elim (get (items_of index) key) as (λ o. get (items_of index) key ≡ o → o ≡ None) [ None ↦ λ e. refl | Some item ↦ λ e. absurd (items_all IsNone index keyed at below none key item e).1 ] refl in
-    (same_map nat_list_cmp_total same_key _ _ (λ q. gone q ∙ sym (get-empty order q)), same_map nat_list_cmp_total same_key _ _ (λ q. hash_absent _ keyed q (gone q) ∙ sym (get-empty order q)))
+    (same_maps _ _ (λ q. gone q ∙ sym (get-empty order q)), same_maps _ _ (λ q. hash_absent _ keyed q (gone q) ∙ sym (get-empty order q)))

@@ -121,7 +121,7 @@ and_left : (a b : Bool) → a && b ≡ false → b ≡ true → a ≡ false
 and_left true b e t = absurd (true≢false (sym t ∙ e))
 and_left false b e t = refl
 
-or_true : (a b : Bool) → b ≡ true → a || b ≡ true
+pub or_true : (a b : Bool) → b ≡ true → a || b ≡ true
 or_true true b e = refl
 or_true false b e = e
 

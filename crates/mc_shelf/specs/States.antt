@@ -1,12 +1,12 @@
 -- What contracts see of an entry, a shelf and a desk.
-use Rattle.std.specs.Prelude.{◌≡◌, ℕ, List, ◌++◌, Option, Some, None, decimal, refl}
+use Rattle.std.specs.Prelude.{◌≡◌, ℕ, List, ◌++◌, Option, Some, None, refl}
 use Rattle.std.specs.Coded.{Coded, code_by, coded×, coded_ℕ, coded_list, coded_option}
 use Rattle.std.specs.Ordering.{nat_cmp}
 use Rattle.std.specs.Cmp.Lexicographic.{slice_cmp}
 use Rattle.std.specs.FinMap.{FinMap, get, empty, code}
 use Rattle.mc_slab.specs.Slabs.{SlabState, coded_slab, out_of}
-use Rattle.mc_slab.specs.Classes.{IsClass, class_holding}
-use Rattle.mc_command.specs.Plain.{Items, Entry, coded_entry, Plain, charge, item_class, count_of}
+use Rattle.mc_slab.specs.Classes.{IsClass}
+use Rattle.mc_command.specs.Plain.{Items, Entry, coded_entry, Plain, charge, count_of}
 use Rattle.mc_item.specs.Items.{ItemState}
 use Rattle.mc_item.specs.declared.item.Parts.{Parts}
 
@@ -46,14 +46,6 @@ entry_in hash parts = record {
     updated = parts.updated;
   };
 }
-
--- the item with the decimal digits of a number as its block
-abbrev pub renumbered : Entry → (number unique updated : ℕ) → Entry
-renumbered item number unique updated = record item { block = decimal number; unique = unique; updated = updated }
-
--- the number's digits ask for the class of the chunk that the item lies in
-abbrev pub StaysInClass : (key : List ℕ) → Entry → (number : ℕ) → Type 0
-StaysInClass key item number = item_class key item ≡ class_holding (charge key (decimal number))
 
 -- an entry as a finite map has it
 abbrev pub row : EntryState → List ℕ × Entry

@@ -4,7 +4,7 @@ use Rattle.std.specs.FinMap.{get}
 use Rattle.mc_slab.specs.Classes.{IsClass}
 use Rattle.mc_slab.specs.Slabs.{out_of}
 use Rattle.mc_command.specs.Plain.{Items, count_of, living}
-use Rattle.mc_shelf.specs.States.{ShelfContent, DeskState, IsHash}
+use Rattle.mc_shelf.specs.States.{ShelfContent, DeskState}
 
 -- the shelf's items lie in chunks that are out
 abbrev pub AreOut : ShelfContent → DeskState → Type 0
@@ -23,11 +23,3 @@ pub record IsPurged (now : ℕ) (old new : ShelfContent) : Type 0 where
   pub cut : new.cut ≡ old.cut
   pub items : new.items ≡ living old.items old.cut now
   pub hashes : (key : List ℕ) → get new.hashes key ≡ (if is_some (get new.items key) then get old.hashes key else None)
-
--- the chunks of the desk that are out are those of the shelf's items
-abbrev pub IsAlone : ShelfContent → DeskState → Type 0
-IsAlone shelf desk = (class : ℕ) → IsClass class → out_of desk.slab class ≡ count_of shelf.items class
-
--- each key of the shelf has this one hash
-abbrev pub HasOneHash : ShelfContent → (hash : ℕ) → Type 0
-HasOneHash shelf hash = (key : List ℕ) → IsHash shelf key hash

@@ -45,16 +45,12 @@ impl Desk {
         })
     }
 
-    /// Makes a desk of that many pages, 1 to 65536, none of which has gone to a class, that has one number left.
+    /// Goes to the last unique number.
     #[cfg(test)]
-    pub(crate) fn near_the_last(alloc: Global, pages: u32) -> Result<Desk, AllocError>
-        requires { (1 ≤ pages) × (pages ≤ 65536) }
-        ensures { IfOk result (λ desk. desk.slab ≡ untouched pages) }
+    pub(crate) fn skip_to_the_last(&mut self)
+        ensures { self.new ≡ record self.old { next_unique = 2 ^ 64 - 2 } }
     {
-        Ok(Desk {
-            slab: Slab::new(alloc, pages)?,
-            next_unique: u64::MAX - 1,
-        })
+        self.next_unique = u64::MAX - 1;
     }
 
     /// Tells what the class has: its pages, and its chunks that items lie in.

@@ -4,7 +4,7 @@ ghost use Rattle.std.specs.Prelude.{◌≡◌, ◌≤◌, length};
 ghost use Rattle.mc_slab.specs.Classes.{IsClass, class_holding};
 ghost use Rattle.mc_slab.specs.Chunks.{IsChunkOf, chunk_class};
 ghost use Rattle.mc_command.specs.Plain.{item_class};
-ghost use Rattle.mc_shelf.specs.States.{StaysInClass, renumbered, charge_in, entry_in};
+ghost use Rattle.mc_shelf.specs.States.{charge_in, entry_in};
 
 use mc_command::Standing;
 use mc_hop::Keyed;
@@ -99,18 +99,6 @@ impl Entry {
         ensures { self.new ≡ record self.old { item = record self.old.item { expiry = expiry } } }
     {
         self.item.set_expiry(expiry);
-    }
-
-    /// Makes the number's decimal digits its block, which stays in its chunk's class; with them come the unique number and
-    /// the moment of the write. All else stays.
-    pub(crate) fn rewrite_number(&mut self, number: u64, unique: u64, updated: Moment)
-        requires { StaysInClass self.old.key self.old.item number }
-        ensures { self.new ≡ record self.old {
-          item = renumbered self.old.item number unique updated;
-        } }
-    {
-        self.lies_in_class();
-        self.item.rewrite_number(number, unique, updated);
     }
 
     /// Says for a proof that its chunk is of a class. It reads that class, and changes nothing.

@@ -11,8 +11,6 @@ mod plan;
 mod shelf;
 mod soonest;
 mod store;
-#[cfg(test)]
-mod tests;
 mod write;
 
 pub use desk::Desk;

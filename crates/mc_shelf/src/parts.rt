@@ -89,7 +89,8 @@ impl Shelf {
 
     /// Drops the items that are dead at a moment, of a shelf that is with this desk a part of a
     /// state, and gives their chunks back: the state goes to the one purged of that shelf's dead.
-    /// It takes no memory. The cost is that of one pass over the items.
+    /// It takes no memory. The cost is that of one pass over the items, and where none may be dead
+    /// it walks none.
     pub fn purge_part(&mut self, now: Moment, desk: &mut Desk)
         requires { (hash_of : List ℕ → ℕ) × (shelves : ℕ) × (at : ℕ) × (state : Plain)
             × IsShelfOf hash_of shelves state at self.old.content × IsDeskOf state desk.old }
@@ -121,7 +122,8 @@ impl Shelf {
 
 /// Flushes a state by its parts, all its shelves in their order and the desk: all items go at once,
 /// or the dead go and the others are flushed after a delay, which is read as an exptime is. It
-/// takes no memory. The cost is that of one pass over all items.
+/// takes no memory. The cost is that of one pass over the items of each shelf where one may be dead,
+/// or where all go at once, over all items.
 pub fn flush_parts(shelves: &mut [Shelf], desk: &mut Desk, delay: u64, now: Moment)
     requires { (hash_of : List ℕ → ℕ) × (state : Plain) × (count : ℕ)
         × ArePartsOf hash_of state shelves.old count desk.old }

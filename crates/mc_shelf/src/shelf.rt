@@ -386,10 +386,7 @@ impl Shelf {
         ensures is_class { IsClass result }
         ensures holds { charge ≤ size_of result }
     {
-        match class_of(charge.min(self.greatest)) {
-            Some(class) => class,
-            None => unreachable!(),
-        }
+        class_of(charge.min(self.greatest)).unwrap()
     }
 
     /// Sets the expiry of a key's item.

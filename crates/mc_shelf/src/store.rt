@@ -140,7 +140,8 @@ impl<K: KeyHash + Drop> Store<K> {
     }
 
     /// Drops the dead items of a shelf, and no other. Of a shelf that isn't there it drops none. It
-    /// takes no memory. The cost is that of one pass over the shelf's items.
+    /// takes no memory. The cost is that of one pass over the shelf's items, and where none may be
+    /// dead it walks none.
     pub fn purge(&mut self, shelf: u32, now: Moment)
         ensures plain { self.new.plain ≡ shelf_purged (K.hash_of self.old.hasher)
             self.old.settings.shelves shelf now self.old.plain }

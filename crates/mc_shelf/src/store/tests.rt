@@ -7,6 +7,7 @@ ghost use Rattle.std.specs.Prelude.{◌≡◌, ◌≤◌};
 use super::*;
 use mc_command::Verb;
 use mc_hop::{Constant, Fnv};
+use mc_slab::class_of;
 use mc_testing::{Ask, Row, Want, asked, filled, first_unlike, set, step_of, told_of};
 use std::process::Abort;
 use std::test::*;
@@ -87,6 +88,150 @@ fn a_flush_reaches_all_shelves(rt: HostRuntime) -> Result<(), Fail> {
     ];
     let mut store = open(rt.alloc(), 64)?;
     answers(&rt, rt.alloc(), &mut store, &rows)
+}
+
+#[test]
+fn a_key_is_written_in_chunks(rt: HostRuntime) -> Result<(), Fail> {
+    let rows: [Row<'_>; 10] = [
+        (1000, b"k", Ask::Get, Want::Told("miss")),
+        set(1000, b"k", 0, b"1", "stored"),
+        (
+            1000,
+            b"k",
+            Ask::Store(Verb::Add, 0, b"2"),
+            Want::Told("not stored"),
+        ),
+        (
+            1000,
+            b"k",
+            Ask::Store(Verb::Append, 0, b"0"),
+            Want::Told("stored"),
+        ),
+        (1000, b"k", Ask::Incr(5), Want::Number(15)),
+        (1000, b"k", Ask::Cas(1, b"x"), Want::Told("exists")),
+        (1000, b"k", Ask::Cas(3, b"x"), Want::Told("stored")),
+        (1000, b"k", Ask::Incr(5), Want::Told("not numeric")),
+        (1000, b"k", Ask::Delete, Want::Told("deleted")),
+        (1000, b"k", Ask::Delete, Want::Told("not found")),
+    ];
+    let mut store = open(rt.alloc(), 1)?;
+    answers(&rt, rt.alloc(), &mut store, &rows)
+}
+
+/// Drops the dead of all shelves.
+fn purge_all(store: &mut Store<Fnv>, seconds: u64) {
+    let now = Moment::from_seconds_at_most(seconds);
+    for shelf in 0..64 {
+        store.purge(shelf, now);
+    }
+}
+
+/// How many chunks of the least class are out.
+fn out(store: &Store<Fnv>) -> u32 {
+    match class_of(96) {
+        Some(class) => store.parts.desk.account(class).out,
+        None => 0,
+    }
+}
+
+#[test]
+fn chunks_of_the_dead_come_back(rt: HostRuntime) -> Result<(), Fail> {
+    // After each row and a purge at its second, how many chunks are out.
+    let rows: [(Row<'_>, u32); 14] = [
+        (set(1000, b"a", 0, b"1", "stored"), 1),
+        (set(1000, b"b", 10, b"2", "stored"), 2),
+        (set(1000, b"k", 25, b"3", "stored"), 3),
+        ((1009, b"b", Ask::Get, Want::Hit(2, b"2")), 3),
+        ((1015, b"a", Ask::Get, Want::Hit(1, b"1")), 2),
+        ((1015, b"b", Ask::Get, Want::Told("miss")), 2),
+        ((1015, b"a", Ask::Flush(5), Want::Told("flushed")), 2),
+        ((1019, b"k", Ask::Get, Want::Hit(3, b"3")), 2),
+        (set(1020, b"b", 0, b"4", "stored"), 1),
+        ((1020, b"a", Ask::Get, Want::Told("miss")), 1),
+        ((1021, b"b", Ask::Get, Want::Hit(4, b"4")), 1),
+        ((1021, b"a", Ask::Flush(0), Want::Told("flushed")), 0),
+        ((1021, b"b", Ask::Delete, Want::Told("not found")), 0),
+        (set(1021, b"b", 0, b"5", "stored"), 1),
+    ];
+    let alloc = rt.alloc();
+    let mut store = open(alloc, 1)?;
+    for (row, want) in rows {
+        answers(&rt, alloc, &mut store, &[row])?;
+        purge_all(&mut store, row.0);
+        assert!(rt; out(&store) == want, "{} are out", out(&store));
+    }
+    Ok(())
+}
+
+/// What a step at 1000 is told that isn't tried again.
+fn told_once(store: &mut Store<Fnv>, alloc: Global, key: u8, ask: Ask<'_>) -> &'static str {
+    let key = [key];
+    let step = step_of(&key, ask);
+    let now = Moment::from_seconds_at_most(1000);
+    told_of(&store.step(alloc, &step, now))
+}
+
+/// Makes the last unique number the store's next. All else stays.
+fn skip_to_the_last(store: &mut Store<Fnv>) {
+    store.parts.desk.skip_to_the_last();
+}
+
+/// The one number that is left is drawn, and then each write is told that the numbers are spent, a
+/// new key's too and whatever memory there is. A step that draws none goes on.
+#[test]
+fn spent_numbers_are_told(rt: HostRuntime) -> Result<(), Fail> {
+    let alloc = rt.alloc();
+    let mut store = open(alloc, 1)?;
+    skip_to_the_last(&mut store);
+    answers(
+        &rt,
+        alloc,
+        &mut store,
+        &[set(1000, b"k", 0, b"1", "stored")],
+    )?;
+    for (key, ask) in [
+        (b'k', Ask::Store(Verb::Set, 0, b"2")),
+        (b'n', Ask::Store(Verb::Set, 0, b"2")),
+        (b'k', Ask::Incr(14)),
+    ] {
+        let told = told_once(&mut store, alloc, key, ask);
+        assert!(rt; told == "numbers spent", "{told}");
+    }
+    let rows: [Row<'_>; 3] = [
+        (1000, b"k", Ask::Get, Want::Hit(u64::MAX - 1, b"1")),
+        (1000, b"n", Ask::Get, Want::Told("miss")),
+        (1000, b"k", Ask::Delete, Want::Told("deleted")),
+    ];
+    answers(&rt, alloc, &mut store, &rows)
+}
+
+/// The one page goes to the class of the longer item. A write that finds no chunk is told so at
+/// once, a new key's too and whatever memory there is.
+#[test]
+fn a_chunk_that_is_not_left_is_told(rt: HostRuntime) -> Result<(), Fail> {
+    let alloc = rt.alloc();
+    let mut store = open(alloc, 1)?;
+    let long = b"9                                                           ";
+    answers(
+        &rt,
+        alloc,
+        &mut store,
+        &[set(1000, b"k", 0, long, "stored")],
+    )?;
+    for (key, ask) in [(b'k', Ask::Incr(6)), (b'n', Ask::Store(Verb::Set, 0, b"2"))] {
+        let told = told_once(&mut store, alloc, key, ask);
+        assert!(rt; told == "no chunk", "{told}");
+    }
+    let rows: [Row<'_>; 2] = [
+        (1000, b"k", Ask::Get, Want::Hit(1, long)),
+        (
+            1000,
+            b"k",
+            Ask::Store(Verb::Append, 0, b" "),
+            Want::Told("stored"),
+        ),
+    ];
+    answers(&rt, alloc, &mut store, &rows)
 }
 
 // A page has one chunk that holds a charge of more than 493552 bytes, and here there is one page.

@@ -1,4 +1,4 @@
-use Rattle.std.proofs.Common.{◌≡◌, ◌∷◌, Some, None, subst, sym}
+use Rattle.std.proofs.Common.{◌≡◌, None, subst, sym}
 use Rattle.std.specs.FinMap.{get}
 use Rattle.mc_grow.specs.Indexes.{IndexState}
 use Rattle.mc_shelf.specs.States.{EntryState}

@@ -1,4 +1,4 @@
-use Rattle.std.proofs.Common.{◌≡◌, sym, ap, ◌∙◌, rules, nat_eq, true}
+use Rattle.std.proofs.Common.{◌≡◌, rules, nat_eq, true}
 use Rattle.mc_grow.specs.Indexes.{count}
 use Rattle.mc_shelf.proofs.DeathLemmas.{no_hashes, no_items}
 use Rattle.mc_shelf.proofs.index.Index.is_empty.Goals as goal

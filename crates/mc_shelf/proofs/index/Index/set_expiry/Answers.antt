@@ -1,4 +1,4 @@
-use Rattle.std.proofs.Common.{◌≡◌, Some, refl, sym, ap, subst, rules}
+use Rattle.std.proofs.Common.{◌≡◌, Some, sym, ap, subst, rules}
 use Rattle.mc_command.specs.Plain.{Entry}
 use Rattle.mc_grow.specs.Indexes.{IndexState, entry_at}
 use Rattle.mc_shelf.specs.States.{EntryState}

@@ -1,4 +1,4 @@
-use Rattle.std.proofs.Common.{◌≡◌, ap, subst, ◌∙◌}
+use Rattle.std.proofs.Common.{ap, subst, ◌∙◌}
 use Rattle.std.specs.FinMap.{get}
 use Rattle.mc_command.specs.Plain.{Entry}
 use Rattle.mc_shelf.specs.States.{ShelfState}
