@@ -13,19 +13,22 @@ stand_length [] (s ∷ ss) all = absurd all
 stand_length (c ∷ cs) [] all = absurd all
 stand_length (c ∷ cs) (s ∷ ss) all = ap suc (stand_length cs ss all.1)
 
--- a connection and its session, or neither
-abbrev pub Both : Option Connection → Option SessionState → Type 0
-Both None None = Unit {0}
-Both None (Some s) = ⊥
-Both (Some c) None = ⊥
-Both (Some c) (Some s) = Stands c s
+-- a connection and its session that are so, or neither
+abbrev pub BothBy : (Connection → SessionState → Type 0) → Option Connection → Option SessionState → Type 0
+BothBy P None None = Unit {0}
+BothBy P None (Some s) = ⊥
+BothBy P (Some c) None = ⊥
+BothBy P (Some c) (Some s) = P c s
 
--- the same of one that is open
+abbrev pub Both : Option Connection → Option SessionState → Type 0
+Both c s = BothBy Stands c s
+
+-- they are open
+abbrev pub AreOpen : Connection → SessionState → Type 0
+AreOpen c s = (c.is_open ≡ true) × (s.is_open ≡ true) × IsRest c s × Stands c s
+
 abbrev pub Opens : Option Connection → Option SessionState → Type 0
-Opens None None = Unit {0}
-Opens None (Some s) = ⊥
-Opens (Some c) None = ⊥
-Opens (Some c) (Some s) = (c.is_open ≡ true) × (s.is_open ≡ true) × IsRest c s × Stands c s
+Opens c s = BothBy AreOpen c s
 
 stand_get : (cs : List Connection) (ss : List SessionState) (n : ℕ) → StandAll cs ss → Both (slice_get cs n) (slice_get ss n)
 stand_get [] [] n all = tt
@@ -71,21 +74,13 @@ stand_more [] (y ∷ ss) c s all one = absurd all
 stand_more (x ∷ cs) [] c s all one = absurd all
 stand_more (x ∷ cs) (y ∷ ss) c s all one = (all.0, stand_more cs ss c s all.1 one)
 
--- the open one of a number is changed in both
-pub stand_changed : (cs : List Connection) (ss : List SessionState) (n : ℕ) (f : Connection → Connection) (g : SessionState → SessionState) (c : Option Connection) (s : Option SessionState) → Opens c s
-    → ((x : Connection) (y : SessionState) → x.is_open ≡ true → y.is_open ≡ true → IsRest x y → Stands x y → Stands (f x) (g y)) → StandAll cs ss → StandAll (changed n cs f c) (changed n ss g s)
-stand_changed cs ss n f g None None both each all = all
-stand_changed cs ss n f g None (Some s) both each all = absurd both
-stand_changed cs ss n f g (Some c) None both each all = absurd both
-stand_changed cs ss n f g (Some c) (Some s) both each all = stand_put cs ss n (f c) (g s) all (each c s both.0 both.1 both.2 both.3)
-
--- the one of a number, open or closed, is changed in both
-pub changed_both : (cs : List Connection) (ss : List SessionState) (n : ℕ) (f : Connection → Connection) (g : SessionState → SessionState) (c : Option Connection) (s : Option SessionState) → Both c s
-    → ((x : Connection) (y : SessionState) → Stands x y → Stands (f x) (g y)) → StandAll cs ss → StandAll (changed n cs f c) (changed n ss g s)
-changed_both cs ss n f g None None both each all = all
-changed_both cs ss n f g None (Some s) both each all = absurd both
-changed_both cs ss n f g (Some c) None both each all = absurd both
-changed_both cs ss n f g (Some c) (Some s) both each all = stand_put cs ss n (f c) (g s) all (each c s both)
+-- the one of a number is changed in both
+pub stand_changed : (P : Connection → SessionState → Type 0) (cs : List Connection) (ss : List SessionState) (n : ℕ) (f : Connection → Connection) (g : SessionState → SessionState) (c : Option Connection) (s : Option SessionState) → BothBy P c s
+    → ((x : Connection) (y : SessionState) → P x y → Stands (f x) (g y)) → StandAll cs ss → StandAll (changed n cs f c) (changed n ss g s)
+stand_changed P cs ss n f g None None both each all = all
+stand_changed P cs ss n f g None (Some s) both each all = absurd both
+stand_changed P cs ss n f g (Some c) None both each all = absurd both
+stand_changed P cs ss n f g (Some c) (Some s) both each all = stand_put cs ss n (f c) (g s) all (each c s both)
 
 -- so many bytes of the output were sent
 abbrev pub less : ℕ → Connection → Connection
@@ -96,4 +91,4 @@ sent_by n c s true (opens, rest) = (opens, record { read = rest.read; follows = 
 sent_by n c s false same = ap (λ (x : SessionState). sent x n) same
 
 pub stand_sent : (cs : List Connection) (ss : List SessionState) (number n : ℕ) → StandAll cs ss → StandAll (changed number cs (less n) (numbered number cs)) (changed number ss (λ s. sent s n) (numbered number ss))
-stand_sent cs ss number n all = changed_both cs ss number (less n) (λ s. sent s n) (numbered number cs) (numbered number ss) (stand_numbered cs ss number all) (λ c s stands. sent_by n c s c.is_open stands) all
+stand_sent cs ss number n all = stand_changed Stands cs ss number (less n) (λ s. sent s n) (numbered number cs) (numbered number ss) (stand_numbered cs ss number all) (λ c s stands. sent_by n c s c.is_open stands) all
