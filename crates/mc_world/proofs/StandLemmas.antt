@@ -37,7 +37,7 @@ stand_get (c ∷ cs) [] n all = absurd all
 stand_get (c ∷ cs) (s ∷ ss) zero all = all.0
 stand_get (c ∷ cs) (s ∷ ss) (suc n) all = stand_get cs ss n all.1
 
-pub stand_numbered : (cs : List Connection) (ss : List SessionState) (n : ℕ) → StandAll cs ss → Both (numbered n cs) (numbered n ss)
+stand_numbered : (cs : List Connection) (ss : List SessionState) (n : ℕ) → StandAll cs ss → Both (numbered n cs) (numbered n ss)
 stand_numbered cs ss zero all = tt
 stand_numbered cs ss (suc n) all = stand_get cs ss n all
 
@@ -82,13 +82,16 @@ stand_changed P cs ss n f g None (Some s) both each all = absurd both
 stand_changed P cs ss n f g (Some c) None both each all = absurd both
 stand_changed P cs ss n f g (Some c) (Some s) both each all = stand_put cs ss n (f c) (g s) all (each c s both)
 
+-- their outputs are changed alike
+out_by : (f : List ℕ → List ℕ) (c : Connection) (s : SessionState) (b : Bool) → MatchBool b ((s.is_open ≡ true) × IsRest c s) (s ≡ shut c)
+    → let d : Connection = record c { out = f c.out } in let t : SessionState = record s { out = f s.out } in MatchBool b ((t.is_open ≡ true) × IsRest d t) (t ≡ shut d)
+out_by f c s true (opens, rest) = (opens, record { read = rest.read; follows = rest.follows; taken = rest.taken; among = rest.among; out = ap f rest.out })
+out_by f c s false same = ap (λ (x : SessionState). let t : SessionState = record x { out = f x.out } in t) same
+
+pub stand_out : (f : List ℕ → List ℕ) (cs : List Connection) (ss : List SessionState) (n : ℕ) → StandAll cs ss
+    → StandAll (changed n cs (λ c. record c { out = f c.out }) (numbered n cs)) (changed n ss (λ s. record s { out = f s.out }) (numbered n ss))
+stand_out f cs ss n all = stand_changed Stands cs ss n (λ c. record c { out = f c.out }) (λ s. record s { out = f s.out }) (numbered n cs) (numbered n ss) (stand_numbered cs ss n all) (λ c s stands. out_by f c s c.is_open stands) all
+
 -- so many bytes of the output were sent
 abbrev pub less : ℕ → Connection → Connection
 less n c = record c { out = drop n c.out }
-
-sent_by : (n : ℕ) (c : Connection) (s : SessionState) (b : Bool) → MatchBool b ((s.is_open ≡ true) × IsRest c s) (s ≡ shut c) → MatchBool b (((sent s n).is_open ≡ true) × IsRest (less n c) (sent s n)) (sent s n ≡ shut (less n c))
-sent_by n c s true (opens, rest) = (opens, record { read = rest.read; follows = rest.follows; taken = rest.taken; among = rest.among; out = ap (drop n) rest.out })
-sent_by n c s false same = ap (λ (x : SessionState). sent x n) same
-
-pub stand_sent : (cs : List Connection) (ss : List SessionState) (number n : ℕ) → StandAll cs ss → StandAll (changed number cs (less n) (numbered number cs)) (changed number ss (λ s. sent s n) (numbered number ss))
-stand_sent cs ss number n all = stand_changed Stands cs ss number (less n) (λ s. sent s n) (numbered number cs) (numbered number ss) (stand_numbered cs ss number all) (λ c s stands. sent_by n c s c.is_open stands) all

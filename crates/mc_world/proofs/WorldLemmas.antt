@@ -1,5 +1,5 @@
 -- What one event makes of the sessions is what it makes of the connections.
-use Rattle.std.proofs.Common.{◌≡◌, ◌⊎◌, inl, inr, ℕ, ◌+◌, ◌%◌, ◌==◌, ◌<◌, Bool, true, false, List, [], ◌∷◌, ◌++◌, length, take, get_or, Option, Some, None, Result, Ok, Err, OnOk, IfErr, nat_lt, refl, sym, ap, ◌∙◌, subst, arith, if◌then◌else◌}
+use Rattle.std.proofs.Common.{◌≡◌, ◌⊎◌, inl, inr, ℕ, ◌+◌, ◌%◌, ◌==◌, ◌<◌, Bool, true, false, List, [], ◌∷◌, ◌++◌, length, take, drop, get_or, Option, Some, None, Result, Ok, Err, OnOk, IfErr, nat_lt, refl, sym, ap, ◌∙◌, subst, arith, if◌then◌else◌}
 use Rattle.std.specs.List.{slice_get}
 use Rattle.std.specs.Option.{MatchOption}
 use Rattle.std.proofs.lemmas.List.{take_more}
@@ -19,7 +19,7 @@ use Rattle.mc_world.specs.declared.event.Event.{Event}
 use Rattle.mc_world.specs.declared.event.Event.TheVariants.{Open, Piece, Turn, Clock, Grow, Purge, Close}
 use Rattle.mc_world.specs.declared.event.Refused.{Refused}
 use Rattle.mc_world.proofs.ConnectionLemmas.{rest_fed, rest_closed, rest_idle, rest_due, next_of, is_next, stands_after}
-use Rattle.mc_world.proofs.StandLemmas.{AreOpen, Opens, stand_length, stand_open, stand_put, stand_more, stand_changed, stand_sent, less}
+use Rattle.mc_world.proofs.StandLemmas.{AreOpen, Opens, stand_length, stand_open, stand_put, stand_more, stand_changed, stand_out, less}
 
 -- a session that was just opened is what is left of a fresh connection
 fresh_stands : (greatest : ℕ) → Stands (fresh greatest) (opened greatest)
@@ -241,7 +241,7 @@ module _ {K : Type 0} (g : Grammar) (hash_of : K → List ℕ → ℕ) where
 pub sent_stands : {K : Type 0} (old : WorldState K) (number n : ℕ) → CanStand old → CanStand (record old { sessions = changed number old.sessions (λ s. sent s n) (numbered number old.sessions) })
 sent_stands old number n can = record {
   plain = record can.plain { connections = changed number can.plain.connections (less n) (numbered number can.plain.connections) };
-  stands = record { greatest = can.stands.greatest; state = can.stands.state; now = can.stands.now; sessions = stand_sent can.plain.connections old.sessions number n can.stands.sessions };
+  stands = record { greatest = can.stands.greatest; state = can.stands.state; now = can.stands.now; sessions = stand_out (drop n) can.plain.connections old.sessions number can.stands.sessions };
 }
 
 -- at another moment

@@ -11,7 +11,7 @@ use Rattle.mc_world.specs.Serving.{with_written, in_front, with_front}
 use Rattle.mc_session.specs.Exchanges.{Writes, nothing, front}
 use Rattle.mc_world.specs.declared.seat.Seat.{Seat}
 use Rattle.mc_world.specs.Rounds.{in_world, with_sent}
-use Rattle.mc_world.proofs.StandLemmas.{stand_numbered, stand_changed, less, stand_sent}
+use Rattle.mc_world.proofs.StandLemmas.{less, stand_out}
 use Rattle.mc_world.proofs.UpdateLemmas.{update, at_number, mapped, changed_is, changed_twice, number_nothing, number_get, changed_length}
 
 -- bytes in front of a session's output
@@ -23,18 +23,8 @@ abbrev with_sessions : {K : Type 0} → WorldState K → List SessionState → W
 with_sessions w sessions = record w { sessions = sessions }
 
 -- they stand so too
-front_by : (bytes : List ℕ) (c : Connection) (s : SessionState) (b : Bool) → MatchBool b ((s.is_open ≡ true) × IsRest c s) (s ≡ shut c) → MatchBool b (((before bytes s).is_open ≡ true) × IsRest (in_front bytes c) (before bytes s)) (before bytes s ≡ shut (in_front bytes c))
-front_by bytes c s true (opens, rest) = (opens, record { read = rest.read; follows = rest.follows; taken = rest.taken; among = rest.among; out = ap (λ o. bytes ++ o) rest.out })
-front_by bytes c s false same = ap (λ (x : SessionState). before bytes x) same
-
 pub put_on : {K : Type 0} (n : ℕ) (bytes : List ℕ) (p : PlainWorld) (w : WorldState K) → StandsAs p w → StandsAs (with_front n bytes p) (with_written n bytes w)
-put_on n bytes p w stands = record {
-  greatest = stands.greatest;
-  state = stands.state;
-  now = stands.now;
-  sessions = stand_changed Stands p.connections w.sessions n (in_front bytes) (before bytes) (numbered n p.connections) (numbered n w.sessions) (stand_numbered p.connections w.sessions n stands.sessions)
-      (λ c s one. front_by bytes c s c.is_open one) stands.sessions;
-}
+put_on n bytes p w stands = record { greatest = stands.greatest; state = stands.state; now = stands.now; sessions = stand_out (λ o. bytes ++ o) p.connections w.sessions n stands.sessions }
 
 -- the same bytes taken off
 taken_off : (n : ℕ) (bytes : List ℕ) (ss : List SessionState) → changed n (changed n ss (before bytes) (numbered n ss)) (λ s. sent s (length bytes)) (numbered n (changed n ss (before bytes) (numbered n ss))) ≡ ss
@@ -50,7 +40,7 @@ take_off n bytes p w stands = record {
   greatest = stands.greatest;
   state = stands.state;
   now = stands.now;
-  sessions = subst (StandAll (without n bytes p).connections) (taken_off n bytes w.sessions) (stand_sent p.connections (with_written n bytes w).sessions n (length bytes) stands.sessions);
+  sessions = subst (StandAll (without n bytes p).connections) (taken_off n bytes w.sessions) (stand_out (drop (length bytes)) p.connections (with_written n bytes w).sessions n stands.sessions);
 }
 
 -- and put back
