@@ -2,7 +2,7 @@
 use Rattle.std.proofs.Common.{◌≡◌, ℕ, zero, suc, ◌-◌, Bool, true, false, List, [], ◌∷◌, ◌++◌, length, drop, Option, Some, None, slice_set, refl, sym, ap, subst, if◌then◌else◌}
 use Rattle.std.specs.List.{slice_get}
 use Rattle.std.specs.Bool.{MatchBool}
-use Rattle.mc_session.specs.Turns.{SessionState, sent}
+use Rattle.mc_session.specs.Turns.{SessionState}
 use Rattle.mc_world.specs.Connections.{Connection, IsRest, shut, Stands}
 use Rattle.mc_world.specs.Worlds.{StandAll, numbered, if_open, put, changed, open_connection, open_session}
 
