@@ -221,10 +221,6 @@ pub short_block_keys : (greatest : ℕ) (ws : List (List ℕ)) (head : Head) (le
 short_block_keys greatest ws head len block meant =
     HasShortKeys-from (with_block head block) ((IfOk-at_ok (IsLineOf IsShort) meant (meaning-of IsShort greatest ws (short_words ws))).0 block)
 
--- and no block is longer than 2147483645 bytes
-pub short_block : (greatest : ℕ) (ws : List (List ℕ)) (head : Head) (len : ℕ) → meaning greatest ws ≡ Ok (Block head len) → len ≤ 2147483645
-short_block greatest ws head len meant = (IfOk-at_ok (IsLineOf IsShort) meant (meaning-of IsShort greatest ws (short_words ws))).1
-
 -- words of a text without a line feed that pass as keys are keys
 key_words : (ws : List (List ℕ)) → AllByRecursion IsWord ws → Holds IsKey ws
 key_words [] held = tt

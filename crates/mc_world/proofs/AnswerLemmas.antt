@@ -1,5 +1,5 @@
 -- A session's connection follows from its own events and from what its steps are answered.
-use Rattle.std.proofs.Common.{◌≡◌, ◌⊎◌, inl, inr, ℕ, zero, suc, ◌==◌, Bool, true, false, List, [], ◌∷◌, ◌++◌, length, Option, Some, None, slice_set, nat_lt, refl, sym, ap, ◌∙◌, subst, arith, if◌then◌else◌}
+use Rattle.std.proofs.Common.{◌≡◌, ◌⊎◌, inl, inr, ℕ, zero, suc, ◌==◌, Bool, true, false, List, [], ◌∷◌, ◌++◌, length, Option, Some, None, slice_set, nat_lt, refl, sym, ap, ◌∙◌, subst, if◌then◌else◌}
 use Rattle.std.specs.List.{slice_get}
 use Rattle.std.specs.Bool.{MatchBool}
 use Rattle.std.specs.Option.{MatchOption}
@@ -15,7 +15,8 @@ use Rattle.mc_world.specs.Connections.{Connection, IsNext, HasNoNext, fresh, wit
 use Rattle.mc_world.specs.Worlds.{PlainWorld, in_plain, numbered, if_open, put, changed, open_connection, at_connection, Turns, Happens, Runs, named}
 use Rattle.mc_world.specs.Laws.{Grammar, step_of, Answer, Replied, NumbersSpent, answer_in, answers_in, AnswersNext, AnswersOf, RunsAnswering, is_number, events_of, Leaves}
 use Rattle.mc_world.proofs.ConnectionLemmas.{one_next, no_next}
-use Rattle.mc_world.proofs.LawLemmas.{get_set, get_apart, before_suc}
+use Rattle.mc_world.proofs.LawLemmas.{get_set, put_else, some_number, changed_else}
+use Rattle.mc_world.proofs.UpdateLemmas.{before_suc}
 use Rattle.mc_world.specs.declared.event.Event.{Event}
 use Rattle.mc_world.specs.declared.event.Event.TheVariants.{Open, Piece, Turn, Clock, Grow, Purge, Close}
 
@@ -114,20 +115,6 @@ open_at cs n c h = ap (if_open (λ c. c.is_open)) h
 put_at : (cs : List Connection) (n : ℕ) (c d : Connection) → numbered n cs ≡ Some c → numbered n (put n cs d) ≡ Some d
 put_at cs zero c d h = cc
 put_at cs (suc n) c d h = ap (λ (k : ℕ). slice_get (slice_set cs k d) n) (before_suc n) ∙ get_set cs n c d h
-
-put_else : (cs : List Connection) (k n : ℕ) (d : Connection) → (k ≡ 0 → ⊥) → (k ≡ n → ⊥) → numbered n (put k cs d) ≡ numbered n cs
-put_else cs zero n d some apart = absurd (some refl)
-put_else cs (suc k) zero d some apart = refl
-put_else cs (suc k) (suc n) d some apart = ap (λ (j : ℕ). slice_get (slice_set cs j d) n) (before_suc k) ∙ get_apart cs k n d (λ e. apart (ap suc e))
-
--- none is open at number 0
-some_number : (cs : List Connection) (k : ℕ) (c : Connection) → open_connection k cs ≡ Some c → k ≡ 0 → ⊥
-some_number cs zero c h e = cc
-some_number cs (suc k) c h e = omega arith
-
-changed_else : (cs : List Connection) (k n : ℕ) (f : Connection → Connection) (o : Option Connection) → open_connection k cs ≡ o → (k ≡ n → ⊥) → numbered n (changed k cs f o) ≡ numbered n cs
-changed_else cs k n f None here apart = refl
-changed_else cs k n f (Some c) here apart = put_else cs k n (f c) (some_number cs k c here) apart
 
 changed_at : (cs : List Connection) (n : ℕ) (f : Connection → Connection) (c : Connection) → numbered n cs ≡ Some c → numbered n (changed n cs f (open_connection n cs)) ≡ Some (where_open f c)
 changed_at cs n f c h =

@@ -42,7 +42,7 @@ front_swap : (n k : ℕ) (bytes : List ℕ) (cs : List Connection) (f : Connecti
 front_swap n k bytes cs f leaves =
     changed_opened opens k (fronted n bytes cs) f
     ∙ ap (λ (l : List Connection). at_number l k (if_opened opens f)) (changed_is n cs (in_front bytes))
-    ∙ number_swap cs k n (if_opened opens f) (in_front bytes) (leaves bytes)
+    ∙ number_swap cs k n (if_opened opens f) (in_front bytes) (λ _. leaves bytes)
     ∙ ap (λ (l : List Connection). at_number l n (in_front bytes)) (sym (changed_opened opens k cs f))
     ∙ sym (changed_is n (changed k cs f (open_connection k cs)) (in_front bytes))
 
@@ -176,23 +176,26 @@ module _ (hash : List ℕ → ℕ) (shelves n : ℕ) (bytes : List ℕ) where
   turns_grow old new k (Some c) (inr (state, turn, is)) =
       ap (λ (w : PlainWorld). length w.connections) is ∙ changed_length k old.connections (after_turn turn.unit turn.text) (Some c)
 
+  -- as many are no fewer
+  as_many : (old new : PlainWorld) → length new.connections ≡ length old.connections → length old.connections ≤ length new.connections
+  as_many old new same = omega (arith, same)
+
+  abbrev count : PlainWorld → ℕ
+  count w = length w.connections
+
   pub happens_grow : (old new : PlainWorld) (event : Event) → Happens hash shelves old event new → length old.connections ≤ length new.connections
   happens_grow old new Open h =
       let same : length new.connections ≡ length (if nat_lt (length old.connections) 65535 then record old { connections = old.connections ++ fresh old.greatest ∷ [] } else old).connections = ap (λ (w : PlainWorld). length w.connections) h in
       subst (λ (k : ℕ). length old.connections ≤ k) (sym same) (opened_grows old (nat_lt (length old.connections) 65535))
-  happens_grow old new (Piece k piece) h =
-      let same : length new.connections ≡ length old.connections = ap (λ (w : PlainWorld). length w.connections) h ∙ changed_length k old.connections (with_piece piece) (open_connection k old.connections) in
-      omega (arith, same)
-  happens_grow old new (Turn k) h = let same : length new.connections ≡ length old.connections = turns_grow old new k (open_connection k old.connections) h in omega (arith, same)
-  happens_grow old new (Clock now) h = let same : length new.connections ≡ length old.connections = ap (λ (w : PlainWorld). length w.connections) h in omega (arith, same)
-  happens_grow old new (Grow shelf) h = let same : length new.connections ≡ length old.connections = ap (λ (w : PlainWorld). length w.connections) h in omega (arith, same)
-  happens_grow old new (Purge shelf) h = let same : length new.connections ≡ length old.connections = ap (λ (w : PlainWorld). length w.connections) h in omega (arith, same)
-  happens_grow old new (Close k) h =
-      let same : length new.connections ≡ length old.connections = ap (λ (w : PlainWorld). length w.connections) h ∙ changed_length k old.connections ended (open_connection k old.connections) in
-      omega (arith, same)
+  happens_grow old new (Piece k piece) h = as_many old new (ap count h ∙ changed_length k old.connections (with_piece piece) (open_connection k old.connections))
+  happens_grow old new (Turn k) h = as_many old new (turns_grow old new k (open_connection k old.connections) h)
+  happens_grow old new (Clock now) h = as_many old new (ap count h)
+  happens_grow old new (Grow shelf) h = as_many old new (ap count h)
+  happens_grow old new (Purge shelf) h = as_many old new (ap count h)
+  happens_grow old new (Close k) h = as_many old new (ap count h ∙ changed_length k old.connections ended (open_connection k old.connections))
 
   pub runs_grow : (events : List Event) (old new : PlainWorld) → Runs hash shelves old events new → length old.connections ≤ length new.connections
-  runs_grow [] old new h = let same : length new.connections ≡ length old.connections = ap (λ (w : PlainWorld). length w.connections) h in omega (arith, same)
+  runs_grow [] old new h = as_many old new (ap count h)
   runs_grow (e ∷ events) old new h =
       let first : length old.connections ≤ length h.0.connections = happens_grow old h.0 e h.1 in
       let rest : length h.0.connections ≤ length new.connections = runs_grow events h.0 new h.2 in
@@ -211,12 +214,16 @@ module _ (hash : List ℕ → ℕ) (shelves n : ℕ) (bytes : List ℕ) where
   end_fronted None w = refl
   end_fronted (Some k) w = change_fronted n k bytes w ended end_leaves
 
+  -- one that is alike is there
+  alike_some : (o p : Option Connection) → Alike o p → (c : Connection) → o ≡ Some c → (d : Connection) × (p ≡ Some d) × (out : List ℕ) × (d ≡ record c { out = out })
+  alike_some None p like c is = cc
+  alike_some (Some b) None like c is = absurd like
+  alike_some (Some b) (Some d) (out, same) c is = let it : b ≡ c = cc in (d, refl, out, same ∙ ap (λ (x : Connection). record x { out = out }) it)
+
   decides_fronted : (w : PlainWorld) (k : ℕ) (state : Plain) (o p : Option Connection) → Alike o p → (connection : Connection) × (o ≡ Some connection) × NextStep w connection state → (connection : Connection) × (p ≡ Some connection) × NextStep (Fronted w) connection state
-  decides_fronted w k state None p like (c, is, turn) = cc
-  decides_fronted w k state (Some d) None like h = absurd like
-  decides_fronted w k state (Some d) (Some e) (out, same) (c, is, turn) =
-      let it : d ≡ c = cc in
-      (e, refl, step_alike n bytes w d e out state same (subst (λ (x : Connection). NextStep w x state) (sym it) turn))
+  decides_fronted w k state o p like (c, is, turn) =
+      let there = alike_some o p like c is in
+      (there.0, there.1, step_alike n bytes w c there.0 there.2 state there.3 turn)
 
   decides_too : (w : PlainWorld) (event : Event) (state : Plain) → Decides w event state → Decides (Fronted w) event state
   decides_too w Open state h = h
@@ -233,17 +240,13 @@ module _ (hash : List ℕ → ℕ) (shelves n : ℕ) (bytes : List ℕ) where
 
   -- and takes memory
   opens_alike : (o p : Option Connection) → Alike o p → (connection : Connection) × (o ≡ Some connection) → (connection : Connection) × (p ≡ Some connection)
-  opens_alike None p like (c, is) = cc
-  opens_alike (Some d) None like h = absurd like
-  opens_alike (Some d) (Some e) like h = (e, refl)
+  opens_alike o p like (c, is) = let there = alike_some o p like c is in (there.0, there.1)
 
   due_alike : (o p : Option Connection) → Alike o p → (connection : Connection) × (o ≡ Some connection) × (unit : ProtocolUnit) × (at : ℕ) × IsNext connection unit at
       → (connection : Connection) × (p ≡ Some connection) × (unit : ProtocolUnit) × (at : ℕ) × IsNext connection unit at
-  due_alike None p like (c, is, unit, at, next) = cc
-  due_alike (Some d) None like h = absurd like
-  due_alike (Some d) (Some e) (out, same) (c, is, unit, at, next) =
-      let it : d ≡ c = cc in
-      (e, refl, unit, at, next_alike d e out unit at same (subst (λ (x : Connection). IsNext x unit at) (sym it) next))
+  due_alike o p like (c, is, unit, at, next) =
+      let there = alike_some o p like c is in
+      (there.0, there.1, unit, at, next_alike c there.0 there.2 unit at there.3 next)
 
   pub takes_fronted : (w : PlainWorld) (event : Event) → TakesMemory w event → TakesMemory (Fronted w) event
   takes_fronted w Open h = let same : length (Fronted w).connections ≡ length w.connections = changed_length n w.connections (in_front bytes) (numbered n w.connections) in omega (arith, h, same)

@@ -1,5 +1,5 @@
 -- Events that may be added, taken out or cut, or change places.
-use Rattle.std.proofs.Common.{◌≡◌, inl, inr, ℕ, zero, suc, ◌-◌, ◌%◌, ◌==◌, Bool, true, false, List, [], ◌∷◌, ◌++◌, Option, Some, None, IfSome, slice_set, nat_lt, refl, sym, ap, ◌∙◌, subst, arith, append_assoc, if◌then◌else◌, ◌↔◌}
+use Rattle.std.proofs.Common.{◌≡◌, inl, inr, ℕ, zero, suc, ◌%◌, ◌==◌, Bool, true, false, List, [], ◌∷◌, ◌++◌, Option, Some, None, IfSome, slice_set, nat_lt, refl, sym, ap, ◌∙◌, subst, arith, append_assoc, if◌then◌else◌, ◌↔◌}
 use Rattle.std.specs.List.{slice_get}
 use Rattle.std.specs.Option.{MatchOption}
 use Rattle.mc_command.specs.Plain.{Plain}
@@ -11,6 +11,7 @@ use Rattle.mc_session.specs.Turns.{Answers, AnswersStep}
 use Rattle.mc_world.specs.Connections.{Connection, with_piece, after_turn, ended}
 use Rattle.mc_world.specs.Worlds.{PlainWorld, in_plain, numbered, if_open, put, changed, open_connection, at_connection, Turns, Happens, Runs}
 use Rattle.mc_world.specs.Laws.{step_of, NextHasNoStep, DecidesNoStep, IsApart}
+use Rattle.mc_world.proofs.UpdateLemmas.{before_suc, if_opened, opened_twice, opened_apart}
 use Rattle.mc_world.specs.declared.event.Event.{Event}
 use Rattle.mc_world.specs.declared.event.Event.TheVariants.{Open, Piece, Turn, Clock, Grow, Purge, Close}
 
@@ -35,45 +36,24 @@ module _ (hash : List ℕ → ℕ) (shelves : ℕ) where
   )
 
 -- what was put in a place stands there
+-- what stands there is found there
 pub get_set : {A : Type 0} (xs : List A) (n : ℕ) (x y : A) → slice_get xs n ≡ Some x → slice_get (slice_set xs n y) n ≡ Some y
 get_set [] n x y h = cc
 get_set (a ∷ xs) zero x y h = refl
 get_set (a ∷ xs) (suc n) x y h = get_set xs n x y h
 
-set_twice : {A : Type 0} (xs : List A) (n : ℕ) (x y : A) → slice_set (slice_set xs n x) n y ≡ slice_set xs n y
-set_twice [] n x y = refl
-set_twice (a ∷ xs) zero x y = refl
-set_twice (a ∷ xs) (suc n) x y = ap (λ l. a ∷ l) (set_twice xs n x y)
-
--- another connection that is open is found in the place of one that was
-found_again : (n : ℕ) (cs : List Connection) (c d : Connection) → d.is_open ≡ true → numbered n cs ≡ Some c → open_connection n (put n cs d) ≡ Some d
-found_again zero cs c d opens h = cc
-found_again (suc n) cs c d opens h =
-    let same : suc n - 1 ≡ n = omega arith in
-    let here : slice_get (slice_set cs (suc n - 1) d) n ≡ Some d = ap (λ (k : ℕ). slice_get (slice_set cs k d) n) same ∙ get_set cs n c d h in
-    ap (if_open (λ c. c.is_open)) here ∙ ap (λ (b : Bool). if b then Some d else None) opens
+abbrev opens : Connection → Bool
+opens c = c.is_open
 
 -- two pieces one after another
-twice_at : (n : ℕ) (cs : List Connection) (piece more : List ℕ) (o : Option Connection) → numbered n cs ≡ o
-    → changed n (changed n cs (with_piece piece) (if_open (λ c. c.is_open) o)) (with_piece more) (open_connection n (changed n cs (with_piece piece) (if_open (λ c. c.is_open) o)))
-    ≡ changed n cs (with_piece (piece ++ more)) (if_open (λ c. c.is_open) o)
-twice_at n cs piece more None h = ap (λ (o : Option Connection). changed n cs (with_piece more) (if_open (λ c. c.is_open) o)) h
-twice_at n cs piece more (Some c) h =
-    elim c.is_open as (λ b. c.is_open ≡ b →
-    changed n (changed n cs (with_piece piece) (if b then Some c else None)) (with_piece more) (open_connection n (changed n cs (with_piece piece) (if b then Some c else None)))
-    ≡ changed n cs (with_piece (piece ++ more)) (if b then Some c else None)) [
-      | true ↦ λ opens.
-          let d = with_piece piece c in
-          ap (changed n (put n cs d) (with_piece more)) (found_again n cs c d opens h)
-          ∙ set_twice cs (n - 1) d (with_piece more d)
-          ∙ ap (λ (s : List ℕ). let e : Connection = record c { stream = s } in put n cs e) (append_assoc c.stream piece more)
-      | false ↦ λ shut.
-          ap (λ (o : Option Connection). changed n cs (with_piece more) (if_open (λ c. c.is_open) o)) h
-          ∙ ap (λ (b : Bool). changed n cs (with_piece more) (if b then Some c else None)) shut
-    ] refl
+twice_by : (piece more : List ℕ) (c : Connection) (b : Bool) → c.is_open ≡ b → if_opened opens (with_piece more) (if b then with_piece piece c else c) ≡ (if b then with_piece (piece ++ more) c else c)
+twice_by piece more c true is = ap (λ (b : Bool). if b then with_piece more (with_piece piece c) else with_piece piece c) is ∙ ap (λ (s : List ℕ). let e : Connection = record c { stream = s } in e) (append_assoc c.stream piece more)
+twice_by piece more c false is = ap (λ (b : Bool). if b then with_piece more c else c) is
 
 joined_at : (old : PlainWorld) (n : ℕ) (piece more : List ℕ) → at_connection (at_connection old n (with_piece piece)) n (with_piece more) ≡ at_connection old n (with_piece (piece ++ more))
-joined_at old n piece more = ap (λ (cs : List Connection). let w : PlainWorld = record old { connections = cs } in w) (twice_at n old.connections piece more (numbered n old.connections) refl)
+joined_at old n piece more =
+    ap (λ (cs : List Connection). let w : PlainWorld = record old { connections = cs } in w)
+    (opened_twice opens n old.connections (with_piece more) (with_piece piece) (with_piece (piece ++ more)) (λ c. twice_by piece more c c.is_open refl))
 
 module _ (hash : List ℕ → ℕ) (shelves n : ℕ) (piece more : List ℕ) (rest : List Event) where
   joins : (old new : PlainWorld) → Runs hash shelves old (Piece n piece ∷ Piece n more ∷ rest) new → Runs hash shelves old (Piece n (piece ++ more) ∷ rest) new
@@ -90,57 +70,35 @@ module _ (hash : List ℕ → ℕ) (shelves n : ℕ) (piece more : List ℕ) (re
     behind hash shelves (Piece n (piece ++ more) ∷ rest) (Piece n piece ∷ Piece n more ∷ rest) cuts front old new,
   )
 
--- places that are apart
-set_apart : {A : Type 0} (xs : List A) (m n : ℕ) (x y : A) → (m ≡ n → ⊥) → slice_set (slice_set xs m x) n y ≡ slice_set (slice_set xs n y) m x
-set_apart [] m n x y apart = refl
-set_apart (a ∷ xs) zero zero x y apart = absurd (apart refl)
-set_apart (a ∷ xs) zero (suc n) x y apart = refl
-set_apart (a ∷ xs) (suc m) zero x y apart = refl
-set_apart (a ∷ xs) (suc m) (suc n) x y apart = ap (λ l. a ∷ l) (set_apart xs m n x y (λ e. apart (ap suc e)))
-
-pub get_apart : {A : Type 0} (xs : List A) (m n : ℕ) (x : A) → (m ≡ n → ⊥) → slice_get (slice_set xs m x) n ≡ slice_get xs n
+-- what stands elsewhere stays
+get_apart : {A : Type 0} (xs : List A) (m n : ℕ) (x : A) → (m ≡ n → ⊥) → slice_get (slice_set xs m x) n ≡ slice_get xs n
 get_apart [] m n x apart = refl
 get_apart (a ∷ xs) zero zero x apart = absurd (apart refl)
 get_apart (a ∷ xs) zero (suc n) x apart = refl
 get_apart (a ∷ xs) (suc m) zero x apart = refl
 get_apart (a ∷ xs) (suc m) (suc n) x apart = get_apart xs m n x (λ e. apart (ap suc e))
 
-pub before_suc : (n : ℕ) → suc n - 1 ≡ n
-before_suc n = omega arith
+pub put_else : (cs : List Connection) (k n : ℕ) (d : Connection) → (k ≡ 0 → ⊥) → (k ≡ n → ⊥) → numbered n (put k cs d) ≡ numbered n cs
+put_else cs zero n d some apart = absurd (some refl)
+put_else cs (suc k) zero d some apart = refl
+put_else cs (suc k) (suc n) d some apart = ap (λ (j : ℕ). slice_get (slice_set cs j d) n) (before_suc k) ∙ get_apart cs k n d (λ e. apart (ap suc e))
 
--- the open connection of one number after a change of another's
-open_after : (cs : List Connection) (m n : ℕ) (f : Connection → Connection) (o : Option Connection) → (m ≡ n → ⊥) → open_connection (suc n) (changed (suc m) cs f o) ≡ open_connection (suc n) cs
-open_after cs m n f None apart = refl
-open_after cs m n f (Some c) apart =
-    ap (λ (k : ℕ). open_connection (suc n) (slice_set cs k (f c))) (before_suc m) ∙ ap (if_open (λ c. c.is_open)) (get_apart cs m n (f c) apart)
+-- none is open at number 0
+pub some_number : (cs : List Connection) (k : ℕ) (c : Connection) → open_connection k cs ≡ Some c → k ≡ 0 → ⊥
+some_number cs zero c h e = cc
+some_number cs (suc k) c h e = omega arith
 
-changes_apart : (cs : List Connection) (m n : ℕ) (f g : Connection → Connection) (c d : Option Connection) → (m ≡ n → ⊥) → changed (suc n) (changed (suc m) cs f c) g d ≡ changed (suc m) (changed (suc n) cs g d) f c
-changes_apart cs m n f g None None apart = refl
-changes_apart cs m n f g None (Some d) apart = refl
-changes_apart cs m n f g (Some c) None apart = refl
-changes_apart cs m n f g (Some c) (Some d) apart =
-    set_apart cs (suc m - 1) (suc n - 1) (f c) (g d) (λ e. apart (sym (before_suc m) ∙ e ∙ before_suc n))
+pub changed_else : (cs : List Connection) (k n : ℕ) (f : Connection → Connection) (o : Option Connection) → open_connection k cs ≡ o → (k ≡ n → ⊥) → numbered n (changed k cs f o) ≡ numbered n cs
+changed_else cs k n f None here apart = refl
+changed_else cs k n f (Some c) here apart = put_else cs k n (f c) (some_number cs k c here) apart
 
--- connections of two numbers are changed in either order
+-- changes of connections that are apart may change places
 either_order : (old : PlainWorld) (m n : ℕ) (f g : Connection → Connection) → (m ≡ n → ⊥) → at_connection (at_connection old m f) n g ≡ at_connection (at_connection old n g) m f
-either_order old zero n f g apart = refl
-either_order old (suc m) zero f g apart = refl
-either_order old (suc m) (suc n) f g apart =
-    let cs = old.connections in
-    let c = open_connection (suc m) cs in
-    let d = open_connection (suc n) cs in
-    let other : m ≡ n → ⊥ = λ e. apart (ap suc e) in
-    let first : changed (suc n) (changed (suc m) cs f c) g (open_connection (suc n) (changed (suc m) cs f c)) ≡ changed (suc n) (changed (suc m) cs f c) g d =
-    ap (changed (suc n) (changed (suc m) cs f c) g) (open_after cs m n f c other) in
-    let second : changed (suc m) (changed (suc n) cs g d) f (open_connection (suc m) (changed (suc n) cs g d)) ≡ changed (suc m) (changed (suc n) cs g d) f c =
-    ap (changed (suc m) (changed (suc n) cs g d) f) (open_after cs n m g d (λ e. other (sym e))) in
-    ap (λ (l : List Connection). let w : PlainWorld = record old { connections = l } in w) (first ∙ changes_apart cs m n f g c d other ∙ sym second)
+either_order old m n f g apart = ap (λ (l : List Connection). let w : PlainWorld = record old { connections = l } in w) (opened_apart opens m n old.connections f g apart)
 
 -- a change of another number's connection leaves this one
 open_apart : (cs : List Connection) (m n : ℕ) (f : Connection → Connection) → (m ≡ n → ⊥) → open_connection n (changed m cs f (open_connection m cs)) ≡ open_connection n cs
-open_apart cs zero n f apart = refl
-open_apart cs (suc m) zero f apart = refl
-open_apart cs (suc m) (suc n) f apart = open_after cs m n f (open_connection (suc m) cs) (λ e. apart (ap suc e))
+open_apart cs m n f apart = ap (if_open opens) (changed_else cs m n f (open_connection m cs) refl apart)
 
 -- so does putting one there
 open_put : (cs : List Connection) (m n : ℕ) (c d : Connection) → open_connection m cs ≡ Some c → (m ≡ n → ⊥) → open_connection n (put m cs d) ≡ open_connection n cs

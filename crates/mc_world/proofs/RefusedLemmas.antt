@@ -12,7 +12,7 @@ use Rattle.mc_world.specs.Serving.{scene, next_session, waiting, most_waiting, m
 use Rattle.mc_world.specs.Rounds.{seat, in_world, Begins, HasServed}
 use Rattle.mc_world.specs.declared.event.Event.{Event}
 use Rattle.mc_world.specs.declared.event.Event.TheVariants.{Piece, Turn, Clock, Close}
-use Rattle.mc_world.proofs.UpdateLemmas.{at_number, if_opened, changed_opened, number_twice}
+use Rattle.mc_world.proofs.UpdateLemmas.{if_opened, opened_twice}
 use Rattle.mc_world.proofs.StandLemmas.{stand_length}
 use Rattle.mc_world.proofs.FrontLemmas.{end_leaves, change_fronted, gives_up_fronted, takes_fronted}
 use Rattle.mc_world.proofs.WrittenLemmas.{Fronts, fronts, put_on, idle_written, closed_written, written_twice, was_written}
@@ -33,10 +33,7 @@ shut_once c = shut_by c c.is_open refl
 ended_twice : (n : ℕ) (w : PlainWorld) → at_connection (at_connection w n ended) n ended ≡ at_connection w n ended
 ended_twice n w =
     ap (λ (cs : List Connection). let v : PlainWorld = record w { connections = cs } in v)
-    (changed_opened opens n (at_connection w n ended).connections ended
-    ∙ ap (λ (l : List Connection). at_number l n (if_opened opens ended)) (changed_opened opens n w.connections ended)
-    ∙ number_twice w.connections n (if_opened opens ended) (if_opened opens ended) (if_opened opens ended) shut_once
-    ∙ sym (changed_opened opens n w.connections ended))
+    (opened_twice opens n w.connections ended ended ended shut_once)
 
 -- an event that names a session and is given up closes it
 given_ends : (decided : Bool) (n : ℕ) (mid last : PlainWorld) (event : Event) → named event ≡ Some n → GivesUp decided mid event last → at_connection last n ended ≡ last

@@ -44,16 +44,21 @@ module _ {S : Type 0} (relations : Relations S) (n now : ℕ) (old items list : 
   put_is : slice_set old at y ≡ put n old y
   put_is = let e : at ≡ n - 1 = omega (arith, here_is.number) in ap (λ (k : ℕ). slice_set old k y) e
 
+  -- it is open, and where it stays the sessions do
+  is_open : IsFalse x.is_open → ⊥
+  is_open shut = let e : true ≡ false = sym (ap (λ (s : SessionState). s.is_open) (sym is_it) ∙ here_is.opens) ∙ shut in cc
+
+  stays : y ≡ x → slice_set old at y ≡ old
+  stays same = ap (λ (s : SessionState). slice_set old at s) (same ∙ here) ∙ set-get_or old at x
+
   -- what the session's turn answered
   turn_of : (t : Turn) → (t ≡ Did → TakesTurn relations now x y before after) → (t ≡ Idle → NoTurnDue x × IsTrue x.is_open × (y ≡ x) × (after ≡ before)) → (t ≡ Closed → IsFalse x.is_open × (y ≡ x) × (after ≡ before))
       → TurnOf relations n now old (slice_set old at y) before after
   turn_of Did did idle shut = of_some (slice_set old at y) (inr (y, did refl, put_is))
   turn_of Idle did idle shut =
       let h = idle refl in
-      of_some (slice_set old at y) (inl (h.0, ap (λ (s : SessionState). slice_set old at s) (h.2 ∙ here) ∙ set-get_or old at x, h.3))
-  turn_of Closed did idle shut =
-      let opens : x.is_open ≡ true = ap (λ (s : SessionState). s.is_open) (sym is_it) ∙ here_is.opens in
-      absurd (let e : true ≡ false = sym opens ∙ (shut refl).0 in cc)
+      of_some (slice_set old at y) (inl (h.0, stays h.2, h.3))
+  turn_of Closed did idle shut = absurd (is_open (shut refl).0)
 
   view_set : slice_set items at y ≡ slice_set old at y
   view_set = ap (λ (l : List SessionState). slice_set l at y) view
@@ -82,10 +87,7 @@ module _ {S : Type 0} (relations : Relations S) (n now : ℕ) (old items list : 
   pub result_idle : (r : Result Turn TurnFault) → (r ≡ Ok Idle → NoTurnDue x × IsTrue x.is_open × (y ≡ x) × (after ≡ before)) → r ≡ Ok Idle → IsIdle (numbered n old) × (slice_set items at y ≡ old) × (after ≡ before)
   result_idle r idle is =
       let h = idle is in
-      (subst IsIdle (sym there) (h.1, h.0), view_set ∙ ap (λ (s : SessionState). slice_set old at s) (h.2 ∙ here) ∙ set-get_or old at x, h.3)
+      (subst IsIdle (sym there) (h.1, h.0), view_set ∙ stays h.2, h.3)
 
   pub result_closed : (r : Result Turn TurnFault) → (r ≡ Ok Closed → IsFalse x.is_open × (y ≡ x) × (after ≡ before)) → r ≡ Ok Closed → ⊥
-  result_closed r shut is =
-      let opens : x.is_open ≡ true = ap (λ (s : SessionState). s.is_open) (sym is_it) ∙ here_is.opens in
-      let e : true ≡ false = sym opens ∙ (shut is).0 in
-      cc
+  result_closed r shut is = is_open (shut is).0

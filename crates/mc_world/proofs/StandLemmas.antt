@@ -2,7 +2,7 @@
 use Rattle.std.proofs.Common.{◌≡◌, ℕ, zero, suc, ◌-◌, Bool, true, false, List, [], ◌∷◌, ◌++◌, length, drop, Option, Some, None, slice_set, refl, sym, ap, subst, if◌then◌else◌}
 use Rattle.std.specs.List.{slice_get}
 use Rattle.std.specs.Bool.{MatchBool}
-use Rattle.mc_session.specs.Turns.{SessionState, sent}
+use Rattle.mc_session.specs.Turns.{SessionState}
 use Rattle.mc_world.specs.Connections.{Connection, IsRest, shut, Stands}
 use Rattle.mc_world.specs.Worlds.{StandAll, numbered, if_open, put, changed, open_connection, open_session}
 
@@ -13,19 +13,22 @@ stand_length [] (s ∷ ss) all = absurd all
 stand_length (c ∷ cs) [] all = absurd all
 stand_length (c ∷ cs) (s ∷ ss) all = ap suc (stand_length cs ss all.1)
 
--- a connection and its session, or neither
-abbrev pub Both : Option Connection → Option SessionState → Type 0
-Both None None = Unit {0}
-Both None (Some s) = ⊥
-Both (Some c) None = ⊥
-Both (Some c) (Some s) = Stands c s
+-- a connection and its session that are so, or neither
+abbrev pub BothBy : (Connection → SessionState → Type 0) → Option Connection → Option SessionState → Type 0
+BothBy P None None = Unit {0}
+BothBy P None (Some s) = ⊥
+BothBy P (Some c) None = ⊥
+BothBy P (Some c) (Some s) = P c s
 
--- the same of one that is open
+abbrev pub Both : Option Connection → Option SessionState → Type 0
+Both c s = BothBy Stands c s
+
+-- they are open
+abbrev pub AreOpen : Connection → SessionState → Type 0
+AreOpen c s = (c.is_open ≡ true) × (s.is_open ≡ true) × IsRest c s × Stands c s
+
 abbrev pub Opens : Option Connection → Option SessionState → Type 0
-Opens None None = Unit {0}
-Opens None (Some s) = ⊥
-Opens (Some c) None = ⊥
-Opens (Some c) (Some s) = (c.is_open ≡ true) × (s.is_open ≡ true) × IsRest c s × Stands c s
+Opens c s = BothBy AreOpen c s
 
 stand_get : (cs : List Connection) (ss : List SessionState) (n : ℕ) → StandAll cs ss → Both (slice_get cs n) (slice_get ss n)
 stand_get [] [] n all = tt
@@ -34,7 +37,7 @@ stand_get (c ∷ cs) [] n all = absurd all
 stand_get (c ∷ cs) (s ∷ ss) zero all = all.0
 stand_get (c ∷ cs) (s ∷ ss) (suc n) all = stand_get cs ss n all.1
 
-pub stand_numbered : (cs : List Connection) (ss : List SessionState) (n : ℕ) → StandAll cs ss → Both (numbered n cs) (numbered n ss)
+stand_numbered : (cs : List Connection) (ss : List SessionState) (n : ℕ) → StandAll cs ss → Both (numbered n cs) (numbered n ss)
 stand_numbered cs ss zero all = tt
 stand_numbered cs ss (suc n) all = stand_get cs ss n all
 
@@ -71,29 +74,24 @@ stand_more [] (y ∷ ss) c s all one = absurd all
 stand_more (x ∷ cs) [] c s all one = absurd all
 stand_more (x ∷ cs) (y ∷ ss) c s all one = (all.0, stand_more cs ss c s all.1 one)
 
--- the open one of a number is changed in both
-pub stand_changed : (cs : List Connection) (ss : List SessionState) (n : ℕ) (f : Connection → Connection) (g : SessionState → SessionState) (c : Option Connection) (s : Option SessionState) → Opens c s
-    → ((x : Connection) (y : SessionState) → x.is_open ≡ true → y.is_open ≡ true → IsRest x y → Stands x y → Stands (f x) (g y)) → StandAll cs ss → StandAll (changed n cs f c) (changed n ss g s)
-stand_changed cs ss n f g None None both each all = all
-stand_changed cs ss n f g None (Some s) both each all = absurd both
-stand_changed cs ss n f g (Some c) None both each all = absurd both
-stand_changed cs ss n f g (Some c) (Some s) both each all = stand_put cs ss n (f c) (g s) all (each c s both.0 both.1 both.2 both.3)
+-- the one of a number is changed in both
+pub stand_changed : (P : Connection → SessionState → Type 0) (cs : List Connection) (ss : List SessionState) (n : ℕ) (f : Connection → Connection) (g : SessionState → SessionState) (c : Option Connection) (s : Option SessionState) → BothBy P c s
+    → ((x : Connection) (y : SessionState) → P x y → Stands (f x) (g y)) → StandAll cs ss → StandAll (changed n cs f c) (changed n ss g s)
+stand_changed P cs ss n f g None None both each all = all
+stand_changed P cs ss n f g None (Some s) both each all = absurd both
+stand_changed P cs ss n f g (Some c) None both each all = absurd both
+stand_changed P cs ss n f g (Some c) (Some s) both each all = stand_put cs ss n (f c) (g s) all (each c s both)
 
--- the one of a number, open or closed, is changed in both
-pub changed_both : (cs : List Connection) (ss : List SessionState) (n : ℕ) (f : Connection → Connection) (g : SessionState → SessionState) (c : Option Connection) (s : Option SessionState) → Both c s
-    → ((x : Connection) (y : SessionState) → Stands x y → Stands (f x) (g y)) → StandAll cs ss → StandAll (changed n cs f c) (changed n ss g s)
-changed_both cs ss n f g None None both each all = all
-changed_both cs ss n f g None (Some s) both each all = absurd both
-changed_both cs ss n f g (Some c) None both each all = absurd both
-changed_both cs ss n f g (Some c) (Some s) both each all = stand_put cs ss n (f c) (g s) all (each c s both)
+-- their outputs are changed alike
+out_by : (f : List ℕ → List ℕ) (c : Connection) (s : SessionState) (b : Bool) → MatchBool b ((s.is_open ≡ true) × IsRest c s) (s ≡ shut c)
+    → let d : Connection = record c { out = f c.out } in let t : SessionState = record s { out = f s.out } in MatchBool b ((t.is_open ≡ true) × IsRest d t) (t ≡ shut d)
+out_by f c s true (opens, rest) = (opens, record { read = rest.read; follows = rest.follows; taken = rest.taken; among = rest.among; out = ap f rest.out })
+out_by f c s false same = ap (λ (x : SessionState). let t : SessionState = record x { out = f x.out } in t) same
+
+pub stand_out : (f : List ℕ → List ℕ) (cs : List Connection) (ss : List SessionState) (n : ℕ) → StandAll cs ss
+    → StandAll (changed n cs (λ c. record c { out = f c.out }) (numbered n cs)) (changed n ss (λ s. record s { out = f s.out }) (numbered n ss))
+stand_out f cs ss n all = stand_changed Stands cs ss n (λ c. record c { out = f c.out }) (λ s. record s { out = f s.out }) (numbered n cs) (numbered n ss) (stand_numbered cs ss n all) (λ c s stands. out_by f c s c.is_open stands) all
 
 -- so many bytes of the output were sent
 abbrev pub less : ℕ → Connection → Connection
 less n c = record c { out = drop n c.out }
-
-sent_by : (n : ℕ) (c : Connection) (s : SessionState) (b : Bool) → MatchBool b ((s.is_open ≡ true) × IsRest c s) (s ≡ shut c) → MatchBool b (((sent s n).is_open ≡ true) × IsRest (less n c) (sent s n)) (sent s n ≡ shut (less n c))
-sent_by n c s true (opens, rest) = (opens, record { read = rest.read; follows = rest.follows; taken = rest.taken; among = rest.among; out = ap (drop n) rest.out })
-sent_by n c s false same = ap (λ (x : SessionState). sent x n) same
-
-pub stand_sent : (cs : List Connection) (ss : List SessionState) (number n : ℕ) → StandAll cs ss → StandAll (changed number cs (less n) (numbered number cs)) (changed number ss (λ s. sent s n) (numbered number ss))
-stand_sent cs ss number n all = changed_both cs ss number (less n) (λ s. sent s n) (numbered number cs) (numbered number ss) (stand_numbered cs ss number all) (λ c s stands. sent_by n c s c.is_open stands) all

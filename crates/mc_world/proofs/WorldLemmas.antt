@@ -1,5 +1,5 @@
 -- What one event makes of the sessions is what it makes of the connections.
-use Rattle.std.proofs.Common.{◌≡◌, ◌⊎◌, inl, inr, ℕ, ◌+◌, ◌%◌, ◌==◌, ◌<◌, Bool, true, false, List, [], ◌∷◌, ◌++◌, length, take, get_or, Option, Some, None, Result, Ok, Err, OnOk, IfErr, nat_lt, refl, sym, ap, ◌∙◌, subst, arith, if◌then◌else◌}
+use Rattle.std.proofs.Common.{◌≡◌, ◌⊎◌, inl, inr, ℕ, ◌+◌, ◌%◌, ◌==◌, ◌<◌, Bool, true, false, List, [], ◌∷◌, ◌++◌, length, take, drop, get_or, Option, Some, None, Result, Ok, Err, OnOk, IfErr, nat_lt, refl, sym, ap, ◌∙◌, subst, arith, if◌then◌else◌}
 use Rattle.std.specs.List.{slice_get}
 use Rattle.std.specs.Option.{MatchOption}
 use Rattle.std.proofs.lemmas.List.{take_more}
@@ -19,7 +19,7 @@ use Rattle.mc_world.specs.declared.event.Event.{Event}
 use Rattle.mc_world.specs.declared.event.Event.TheVariants.{Open, Piece, Turn, Clock, Grow, Purge, Close}
 use Rattle.mc_world.specs.declared.event.Refused.{Refused}
 use Rattle.mc_world.proofs.ConnectionLemmas.{rest_fed, rest_closed, rest_idle, rest_due, next_of, is_next, stands_after}
-use Rattle.mc_world.proofs.StandLemmas.{Opens, stand_length, stand_open, stand_put, stand_more, stand_changed, stand_sent, less}
+use Rattle.mc_world.proofs.StandLemmas.{AreOpen, Opens, stand_length, stand_open, stand_put, stand_more, stand_changed, stand_out, less}
 
 -- a session that was just opened is what is left of a fresh connection
 fresh_stands : (greatest : ℕ) → Stands (fresh greatest) (opened greatest)
@@ -27,11 +27,11 @@ fresh_stands greatest = (refl, record { read = []; follows = refl; taken = refl;
 
 -- a piece comes to what stands
 piece_stands : (g : Grammar) (cs : List Connection) (ss : List SessionState) (n : ℕ) (piece : List ℕ) → StandAll cs ss → StandAll (changed n cs (with_piece piece) (open_connection n cs)) (at_session ss n (λ s. fed s piece))
-piece_stands g cs ss n piece all = stand_changed cs ss n (with_piece piece) (λ s. fed s piece) (open_connection n cs) (open_session n ss) (stand_open cs ss n all) (λ c s is opens rest stands. rest_fed g c s piece opens rest stands is) all
+piece_stands g cs ss n piece all = stand_changed AreOpen cs ss n (with_piece piece) (λ s. fed s piece) (open_connection n cs) (open_session n ss) (stand_open cs ss n all) (λ c s h. rest_fed g c s piece h.1 h.2 h.3 h.0) all
 
 -- one that stands closes
 end_stands : (cs : List Connection) (ss : List SessionState) (n : ℕ) → StandAll cs ss → StandAll (changed n cs ended (open_connection n cs)) (at_session ss n closed)
-end_stands cs ss n all = stand_changed cs ss n ended closed (open_connection n cs) (open_session n ss) (stand_open cs ss n all) (λ c s is opens rest stands. rest_closed c s rest) all
+end_stands cs ss n all = stand_changed AreOpen cs ss n ended closed (open_connection n cs) (open_session n ss) (stand_open cs ss n all) (λ c s h. rest_closed c s h.2) all
 
 -- the turn of a session is that of its connection's stream
 next_turn : (g : Grammar) (first : PlainWorld) (now : ℕ) (c : Connection) (s new : SessionState) (before after : Plain) → IsRest c s → now ≡ first.now → before ≡ first.state → (takes : TakesTurn in_plain now s new before after) → NextTurn first c after
@@ -157,33 +157,14 @@ module _ {K : Type 0} (g : Grammar) (hash_of : K → List ℕ → ℕ) where
       let set_up = done_set_up old new event done in
       record { settings = set_up.0; hasher = set_up.1; told = λ first stands. let next = goes first old new event stands done in (next.0, (next.0, next.1, refl), next.2) }
 
-  -- the session of a refused event closes
-  ended_stands : (first : PlainWorld) (sessions : List SessionState) (n : Option ℕ) → StandAll first.connections sessions → StandAll (with_end n first).connections (sessions_ended n sessions)
-  ended_stands first sessions None all = all
-  ended_stands first sessions (Some n) all = end_stands first.connections sessions n all
+  -- a refused event leaves what stands so, with its session closed
+  refused_by : (w : PlainWorld) (new : WorldState K) (sessions : List SessionState) (n : Option ℕ) → new.settings.greatest ≡ w.greatest → new.state ≡ w.state → new.moment ≡ w.now → new.sessions ≡ sessions_ended n sessions → StandAll w.connections sessions → StandsAs (with_end n w) new
+  refused_by w new sessions None greatest state now is all = record { greatest = greatest; state = state; now = now; sessions = subst (StandAll w.connections) (sym is) all }
+  refused_by w new sessions (Some n) greatest state now is all = record { greatest = greatest; state = state; now = now; sessions = subst (StandAll (at_connection w n ended).connections) (sym is) (end_stands w.connections sessions n all) }
 
-  ended_greatest : (first : PlainWorld) (n : Option ℕ) → (with_end n first).greatest ≡ first.greatest
-  ended_greatest first None = refl
-  ended_greatest first (Some n) = refl
-
-  ended_state : (first : PlainWorld) (n : Option ℕ) → (with_end n first).state ≡ first.state
-  ended_state first None = refl
-  ended_state first (Some n) = refl
-
-  ended_now : (first : PlainWorld) (n : Option ℕ) → (with_end n first).now ≡ first.now
-  ended_now first None = refl
-  ended_now first (Some n) = refl
-
-  -- a refused event leaves what stands so, with this state
   refused_stands : (first : PlainWorld) (old new : WorldState K) (event : Event) (decided : Bool) → StandsAs first old → Undone decided old event new → StandsAs (with_end (named event) (record first { state = new.state })) new
   refused_stands first old new event decided stands undone =
-      let w : PlainWorld = record first { state = new.state } in
-      record {
-        greatest = ap (λ (s : Settings). s.greatest) undone.settings ∙ stands.greatest ∙ sym (ended_greatest w (named event));
-        state = sym (ended_state w (named event));
-        now = undone.moment ∙ stands.now ∙ sym (ended_now w (named event));
-        sessions = subst (StandAll (with_end (named event) w).connections) (sym undone.sessions) (ended_stands w old.sessions (named event) stands.sessions);
-      }
+      refused_by (record first { state = new.state }) new old.sessions (named event) (ap (λ (s : Settings). s.greatest) undone.settings ∙ stands.greatest) refl (undone.moment ∙ stands.now) undone.sessions stands.sessions
 
   -- the connection whose step was decided
   decides_turn : (first : PlainWorld) (old : WorldState K) (state : Plain) (c : Option Connection) (s : SessionState) → StandsAs first old → Opens c (Some s) → DecidesStep in_plain old.moment s old.state state
@@ -260,7 +241,7 @@ module _ {K : Type 0} (g : Grammar) (hash_of : K → List ℕ → ℕ) where
 pub sent_stands : {K : Type 0} (old : WorldState K) (number n : ℕ) → CanStand old → CanStand (record old { sessions = changed number old.sessions (λ s. sent s n) (numbered number old.sessions) })
 sent_stands old number n can = record {
   plain = record can.plain { connections = changed number can.plain.connections (less n) (numbered number can.plain.connections) };
-  stands = record { greatest = can.stands.greatest; state = can.stands.state; now = can.stands.now; sessions = stand_sent can.plain.connections old.sessions number n can.stands.sessions };
+  stands = record { greatest = can.stands.greatest; state = can.stands.state; now = can.stands.now; sessions = stand_out (drop n) can.plain.connections old.sessions number can.stands.sessions };
 }
 
 -- at another moment

@@ -11,8 +11,8 @@ use Rattle.mc_world.specs.Serving.{with_written, in_front, with_front}
 use Rattle.mc_session.specs.Exchanges.{Writes, nothing, front}
 use Rattle.mc_world.specs.declared.seat.Seat.{Seat}
 use Rattle.mc_world.specs.Rounds.{in_world, with_sent}
-use Rattle.mc_world.proofs.StandLemmas.{stand_numbered, changed_both, less, stand_sent}
-use Rattle.mc_world.proofs.UpdateLemmas.{update, at_number, mapped, changed_is, number_twice, number_nothing, number_get, changed_length}
+use Rattle.mc_world.proofs.StandLemmas.{less, stand_out}
+use Rattle.mc_world.proofs.UpdateLemmas.{update, at_number, mapped, changed_is, changed_twice, number_nothing, number_get, changed_length}
 
 -- bytes in front of a session's output
 abbrev pub before : List ℕ → SessionState → SessionState
@@ -23,26 +23,14 @@ abbrev with_sessions : {K : Type 0} → WorldState K → List SessionState → W
 with_sessions w sessions = record w { sessions = sessions }
 
 -- they stand so too
-front_by : (bytes : List ℕ) (c : Connection) (s : SessionState) (b : Bool) → MatchBool b ((s.is_open ≡ true) × IsRest c s) (s ≡ shut c) → MatchBool b (((before bytes s).is_open ≡ true) × IsRest (in_front bytes c) (before bytes s)) (before bytes s ≡ shut (in_front bytes c))
-front_by bytes c s true (opens, rest) = (opens, record { read = rest.read; follows = rest.follows; taken = rest.taken; among = rest.among; out = ap (λ o. bytes ++ o) rest.out })
-front_by bytes c s false same = ap (λ (x : SessionState). before bytes x) same
-
 pub put_on : {K : Type 0} (n : ℕ) (bytes : List ℕ) (p : PlainWorld) (w : WorldState K) → StandsAs p w → StandsAs (with_front n bytes p) (with_written n bytes w)
-put_on n bytes p w stands = record {
-  greatest = stands.greatest;
-  state = stands.state;
-  now = stands.now;
-  sessions = changed_both p.connections w.sessions n (in_front bytes) (before bytes) (numbered n p.connections) (numbered n w.sessions) (stand_numbered p.connections w.sessions n stands.sessions)
-      (λ c s one. front_by bytes c s c.is_open one) stands.sessions;
-}
+put_on n bytes p w stands = record { greatest = stands.greatest; state = stands.state; now = stands.now; sessions = stand_out (λ o. bytes ++ o) p.connections w.sessions n stands.sessions }
 
 -- the same bytes taken off
 taken_off : (n : ℕ) (bytes : List ℕ) (ss : List SessionState) → changed n (changed n ss (before bytes) (numbered n ss)) (λ s. sent s (length bytes)) (numbered n (changed n ss (before bytes) (numbered n ss))) ≡ ss
 taken_off n bytes ss =
-    changed_is n (changed n ss (before bytes) (numbered n ss)) (λ s. sent s (length bytes))
-    ∙ ap (λ (l : List SessionState). at_number l n (λ s. sent s (length bytes))) (changed_is n ss (before bytes))
-    ∙ number_twice ss n (λ s. sent s (length bytes)) (before bytes) (λ s. s) (λ s. ap (λ (o : List ℕ). let t : SessionState = record s { out = o } in t) (drop-append_seam bytes s.out))
-    ∙ number_nothing ss n (λ s. s) (λ s. refl)
+    changed_twice n ss (λ s. sent s (length bytes)) (before bytes) (λ s. s) (λ s. ap (λ (o : List ℕ). let t : SessionState = record s { out = o } in t) (drop-append_seam bytes s.out))
+    ∙ changed_is n ss (λ s. s) ∙ number_nothing ss n (λ s. s) (λ s. refl)
 
 abbrev without : ℕ → List ℕ → PlainWorld → PlainWorld
 without n bytes p = record p { connections = changed n p.connections (less (length bytes)) (numbered n p.connections) }
@@ -52,7 +40,7 @@ take_off n bytes p w stands = record {
   greatest = stands.greatest;
   state = stands.state;
   now = stands.now;
-  sessions = subst (StandAll (without n bytes p).connections) (taken_off n bytes w.sessions) (stand_sent p.connections (with_written n bytes w).sessions n (length bytes) stands.sessions);
+  sessions = subst (StandAll (without n bytes p).connections) (taken_off n bytes w.sessions) (stand_out (drop (length bytes)) p.connections (with_written n bytes w).sessions n stands.sessions);
 }
 
 -- and put back
@@ -106,10 +94,7 @@ written_nothing n w = ap (with_sessions w) (changed_is n w.sessions (before []) 
 pub written_twice : {K : Type 0} (n : ℕ) (a b : List ℕ) (w : WorldState K) → with_written n a (with_written n b w) ≡ with_written n (a ++ b) w
 written_twice n a b w =
     ap (with_sessions w)
-    (changed_is n (with_written n b w).sessions (before a)
-    ∙ ap (λ (l : List SessionState). at_number l n (before a)) (changed_is n w.sessions (before b))
-    ∙ number_twice w.sessions n (before a) (before b) (before (a ++ b)) (λ s. ap (λ (o : List ℕ). let t : SessionState = record s { out = o } in t) (sym (append_assoc a b s.out)))
-    ∙ sym (changed_is n w.sessions (before (a ++ b))))
+    (changed_twice n w.sessions (before a) (before b) (before (a ++ b)) (λ s. ap (λ (o : List ℕ). let t : SessionState = record s { out = o } in t) (sym (append_assoc a b s.out))))
 
 -- bytes that are sent and then put in front
 sent_at : (k : ℕ) (ss : List SessionState) (m : ℕ) → update (update ss m (λ s. sent s k)) m (before (take k (output_of (slice_get ss m)))) ≡ ss
