@@ -6,8 +6,11 @@ several runs of a fresh process. It is no test: nothing here fails for being slo
 
     bench/bench.py [--program PATH] [--runs N] [--commands N] [--only WORD]
     bench/bench.py --worlds [--turns N] [--runs N]
+    bench/bench.py --flushes [--program PATH]
 """
 import argparse
+import array
+import gc
 import os
 import shutil
 import socket
@@ -33,6 +36,7 @@ WORLDS = f"{ROOT}/crates/mc_bench/out/mc_bench"
 SESSIONS = [1, 100, 10_000]
 # how many items stand while a command's cost is taken, and their memory
 STANDING = [10_000, 100_000, 1_000_000, 4_000_000]
+FLUSHED = [10_000, 100_000, 700_000]
 RESIDENT = [100_000, 1_000_000, 4_000_000]
 # what mcserver says last, and of an item that finds no chunk
 VERSION = b"VERSION 1.6.0\r\n"
@@ -51,15 +55,17 @@ def stored(verb, name, block=VALUE, more=b""):
 
 
 def one_shelf(count, shelf=12, shelves=64):
-    """Keys of 32 bytes that are all of one shelf, by FNV-1a: only its lowest 6 bits are computed."""
+    """Keys of 32 bytes that are all of one shelf, by FNV-1a: the last byte makes the lowest 6 bits of the hash right."""
     found, number = [], 0
+    before_last = shelf * pow(0x33, -1, shelves) % shelves
     while len(found) < count:
-        name = key(number)
+        name = b"key-%027d" % number
         low = 0x25  # the lowest bits of the hash of no byte, and 0x33 those of the prime, modulo 64
         for byte in name:
             low = (low ^ byte) * 0x33 % shelves
-        if low == shelf:
-            found.append(name)
+        last = low ^ before_last | 0x40
+        if last != 0x7F:
+            found.append(name + bytes([last]))
         number += 1
     return found
 
@@ -189,6 +195,21 @@ class Server:
         before = self.processor()
         self.answer(data + b"version\r\n", VERSION)
         return self.processor() - before
+
+    def each_takes(self, sets_of):
+        """Sends sets one at a time, each when the one before was answered. Gives the nanoseconds that each took."""
+        took = array.array("Q")
+        clock = time.perf_counter_ns
+        gc.disable()
+        for it in sets_of:
+            before = clock()
+            self.send(it)
+            got = self.receive()
+            took.append(clock() - before)
+            if got != b"STORED\r\n":
+                sys.exit(f"a set was answered {got!r}")
+        gc.enable()
+        return took
 
     def processor(self):
         """The processor's seconds that its process has had."""
@@ -336,6 +357,43 @@ class Bench:
             print(f"{name:<41}{count:>9,}{server.cost(sets_of) / count * 1e9:>10.0f}", flush=True)
             server.stop()
 
+    def growing(self, count=4 * MEGA):
+        """How long each of many sets of new keys takes, one at a time, from what is sent to what comes back, while tables grow."""
+        print(f"\n{'one set at a time, microseconds':<33}{'sets':>11}{'median':>9}{'99.9 %':>9}{'99.99 %':>9}{'longest':>9}")
+        for name, server in [("memcached, over loopback", memcached()), ("mcserver, over pipes", Server([self.program, *ARGS]))]:
+            if server is None:
+                print(f"{name:<33}{'':>11}{'not installed':>15}")
+                continue
+            took = server.each_takes(stored(b"set", key(it * 7919 % count)) for it in range(count))
+            server.stop()
+            shown = sorted(took)
+            at = [shown[int(len(shown) * it)] / 1000 for it in (0.5, 0.999, 0.9999)]
+            print(f"{name:<33}{count:>11,}" + "".join(f"{it:>9.1f}" for it in (*at, shown[-1] / 1000)), flush=True)
+        print(f"\n{'the longest set as a shelf grows':<33}{'homes then':>11}{'items then':>11}{'microseconds':>14}")
+        server = Server([self.program, *ARGS])
+        took = server.each_takes(stored(b"set", it) for it in one_shelf(3 * 2**17 + 2**14))
+        server.stop()
+        # a table of so many homes is made when the one of half as many is filled to three quarters
+        for power in range(10, 21, 2):
+            first = 3 * 2 ** (power - 3)
+            window = took[first : first * 9 // 8]
+            longest = max(window)
+            print(f"{'':<33}{2**power:>11,}{first + window.index(longest):>11,}{longest / 1000:>14.1f}", flush=True)
+
+    def flushed(self, lines=1000):
+        """What a flush with a delay costs while so many items stand, none of which is dead, and one at once of no items."""
+        print(f"\n{'flushes':<33}{'lines':>7}{'us a line':>12}  (of the processor's time)")
+        told = b"OK\r\n" * lines + VERSION
+        for line, count in [(b"flush_all", 0), *((b"flush_all 100", it) for it in FLUSHED)]:
+            server = Server([self.program, *ARGS])
+            server.answer(b"".join(stored(b"set", key(it), more=b" noreply") for it in range(count)) + b"version\r\n", VERSION)
+            before = server.processor()
+            if server.answer((line + b"\r\n") * lines + b"version\r\n", VERSION) != told:
+                sys.exit("a flush was answered otherwise")
+            seconds = server.processor() - before
+            print(f"{line.decode() + f', {count:,} items':<33}{lines:>7,}{seconds / lines * 1e6:>12.1f}", flush=True)
+            server.stop()
+
     def refilled(self, times=100):
         """A store of 64 pages is filled to the refusal and emptied by deletes, again and again."""
         print(f"\n64 pages filled to the refusal and emptied {times} times\n")
@@ -417,12 +475,16 @@ def main():
     parser.add_argument("--commands", type=int, default=100_000, help="the least number; twice and four times it are measured too")
     parser.add_argument("--only", default="", metavar="WORD", help="the commands whose names have this word, and nothing else")
     parser.add_argument("--worlds", action="store_true", help="worlds of many sessions, and nothing else")
+    parser.add_argument("--flushes", action="store_true", help="flushes of stores of many items, and nothing else")
     parser.add_argument("--turns", type=int, default=4_000_000, help="how many turns the sessions of a world take in all")
     given = parser.parse_args()
     if given.worlds:
         worlds(given.turns, given.runs)
         return 0
     bench = Bench(os.path.abspath(given.program), given.runs)
+    if given.flushes:
+        bench.flushed()
+        return 0
     bench.rates([given.commands * it for it in (1, 2, 4)], given.only)
     if not given.only:
         bench.lines(2 * given.commands)
@@ -430,6 +492,8 @@ def main():
         bench.resident()
         bench.standing()
         bench.hostile()
+        bench.growing()
+        bench.flushed()
         bench.refilled()
         worlds(given.turns, given.runs)
     return 0

@@ -1,5 +1,5 @@
 -- The plain machine: one step on one key at a time.
-use Rattle.std.specs.Prelude.{ℕ, ◌≡◌, ◌+◌, ◌-◌, ◌*◌, ◌^◌, ◌%◌, ◌==◌, ◌&&◌, ◌||◌, Bool, true, false, List, [], ◌++◌, length, drop, replicate, sum, slice_index, slice_set, Option, Some, None, is_some, refl, nat_lt, nat_le, decimal, if◌then◌else◌}
+use Rattle.std.specs.Prelude.{ℕ, ◌+◌, ◌-◌, ◌*◌, ◌^◌, ◌%◌, ◌==◌, ◌&&◌, ◌||◌, Bool, true, false, List, [], ◌++◌, length, drop, replicate, sum, slice_index, slice_set, Option, Some, None, is_some, refl, nat_lt, nat_le, decimal, if◌then◌else◌}
 use Rattle.std.specs.Coded.{Coded, code_by, coded×, coded_ℕ, coded_list, coded_option}
 use Rattle.std.specs.Ordering.{nat_cmp}
 use Rattle.std.specs.Cmp.Lexicographic.{slice_cmp}
@@ -7,8 +7,8 @@ use Rattle.std.specs.FinMap.{FinMap, entries, get, insert, remove, retain_keys, 
 use Rattle.std.specs.List.{take_while, list_all, count_by}
 use Rattle.std.specs.Char.{is_ascii_digit}
 use Rattle.mc_time.specs.declared.expiry.Expiry.{Expiry}
-use Rattle.mc_time.specs.declared.expiry.Expiry.TheVariants.{Never, At}
 use Rattle.mc_time.specs.Death.{expiry_of, moment_named, is_dead}
+use Rattle.mc_time.specs.Stored.{coded_expiry}
 use Rattle.mc_slab.specs.Classes.{class_holding, chunks_a_page}
 use Rattle.mc_command.specs.Words.{is_space}
 use Rattle.mc_command.specs.Numbers.{number_up_to}
@@ -358,24 +358,7 @@ abbrev pub MayFail : Outcome → Type 0
 MayFail (Answered reply new) = CopiesBlock reply
 MayFail Spent = ⊥
 
--- how a proof stores an expiry, an entry, and the state
-abbrev pub expiry_moment : Expiry → Option ℕ
-expiry_moment Never = None
-expiry_moment (At moment) = Some moment
-
-abbrev pub moment_expiry : Option ℕ → Expiry
-moment_expiry None = Never
-moment_expiry (Some moment) = At moment
-
-pub moment_expiry-expiry_moment : (expiry : Expiry) → moment_expiry (expiry_moment expiry) ≡ expiry
-moment_expiry-expiry_moment Never = refl
-moment_expiry-expiry_moment (At moment) = refl
-
-abbrev pub coded_expiry : Coded Expiry
-coded_expiry =
-    code_by (Option ℕ) (coded_option coded_ℕ) expiry_moment moment_expiry
-    moment_expiry-expiry_moment
-
+-- how a proof stores an entry, and the state
 abbrev pub coded_entry : Coded Entry
 coded_entry =
     code_by (ℕ × (Expiry × (List ℕ × (ℕ × ℕ))))

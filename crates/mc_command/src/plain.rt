@@ -7,7 +7,7 @@ mod purge;
 mod tests;
 mod write;
 
-ghost use Rattle.std.specs.Prelude.{◌≡◌, ◌≤◌, ℕ, length, Err, IfOk, OnErr};
+ghost use Rattle.std.specs.Prelude.{◌≡◌, ◌≤◌, ℕ, length, Err, IfOk, OnErr, refl};
 ghost use Rattle.std.specs.Option.{option_copied};
 ghost use Rattle.std.specs.FinMap.{get, remove};
 ghost use Rattle.mc_command.specs.Commands.{key_of, longest_key};
@@ -350,6 +350,8 @@ impl Steps for PlainStore {
     ghost spent = { λ old step now. plain old step now ≡ Spent };
 
     ghost same = { λ old new. new ≡ old };
+
+    ghost holds_itself = { λ _. refl };
 
     fn step(&mut self, alloc: Global, step: &KeyStep<'_>, now: Moment) -> Result<Reply, StepFault>
         requires { length (key_of step.now) ≤ longest_key }

@@ -146,4 +146,7 @@ pub trait Steps {
         ensures took { IfOk result (λ reply. took self.old step.now now reply self.new) }
         ensures spent { result ≡ Err StepFault.NumbersSpent → spent self.old step.now now }
         ensures err { OnErr result (same self.old self.new) };
+
+    /// A store holds the same as itself.
+    ghost holds_itself: { (store : Self) → same store store };
 }

@@ -1,17 +1,19 @@
 -- What an index is after moves and inserts, by its parts.
-use Rattle.std.proofs.Common.{◌≡◌, ℕ, zero, suc, replicate, is_some, not, ◌&&◌, Bool, ◌≤◌, ◌<◌, true, false, true≢false, List, [], ◌∷◌, ◌++◌, map, Option, Some, None, ◌+◌, length, get_or, refl, sym, ap, subst, ◌∙◌, arith}
+use Rattle.std.proofs.Common.{◌≡◌, ℕ, zero, suc, cond, replicate, is_some, not, ◌&&◌, Bool, ◌≤◌, ◌<◌, true, false, true≢false, List, [], ◌∷◌, ◌++◌, map, Option, Some, None, ◌+◌, length, get_or, refl, sym, ap, subst, ◌∙◌, arith}
 use Rattle.std.specs.Prelude.{nat_lt}
 use Rattle.mc_hop.specs.Cells.{filled}
 use Rattle.mc_hop.specs.Contents.{content}
-use Rattle.mc_grow.specs.Indexes.{IndexState, IsPlaceOf, cells}
-use Rattle.std.specs.FinMap.{get}
+use Rattle.mc_grow.specs.Indexes.{IndexState, IsPlaceOf, cells, count, holds}
+use Rattle.std.specs.FinMap.{get, len, len-insert}
+use Rattle.std.specs.Cmp.Lexicographic.{nat_list_cmp_total}
 use Rattle.mc_hop.specs.Tables.{AreApart, HopState}
 use Rattle.mc_grow.specs.Moving.{ContentLaws, HoldsAll, IsIn}
 use Rattle.mc_grow.specs.Parts.{drained_items}
+use Rattle.mc_grow.proofs.CellLemmas.{filled-append}
 use Rattle.mc_grow.proofs.MoveLemmas.{Map, at_its_key, in_second, more_buckets}
 use Rattle.std.proofs.lemmas.List.{get_or-append-add}
 use Rattle.std.proofs.lemmas.Bool.{lt-ltb}
-use Rattle.mc_grow.specs.Adding.{AreAdded, AreMoved, AreTaken, AreTried, Side, side_of}
+use Rattle.mc_grow.specs.Adding.{AreAdded, AreMoved, AreTaken, AreTried, Side, cells_of, side_of}
 use Rattle.mc_grow.specs.Adding.AreAdded.{none_added}
 
 module _ {X : Type 0} (hash_of : X → ℕ) (key_of : X → List ℕ) where
@@ -70,10 +72,24 @@ module _ {X : Type 0} (hash_of : X → ℕ) (key_of : X → List ℕ) where
     is_some_left : (m : ℕ) → (m ≡ 0 → ⊥) → nat_lt 0 m ≡ true
     is_some_left m some = lt-ltb 0 m (omega (arith, some))
 
+-- what is new to an index as contracts see it is new to its parts
+pub still_new : {X : Type 0} (hash_of : X → ℕ) (key_of : X → List ℕ) {v now : IndexState X} (key : List ℕ) → v ≡ now → get (holds hash_of key_of now) key ≡ None → get (holds hash_of key_of v) key ≡ None
+still_new {X} hash_of key_of {v} {now} key same none = ap (λ (s : IndexState X). get (holds hash_of key_of s) key) same ∙ none
+
 -- an entry has come to the table and the strays of an index
 module _ {X : Type 0} (hash_of : X → ℕ) (key_of : X → List ℕ) (laws : ContentLaws hash_of key_of) (drained old new : List (Option X)) (entry : X) (apart : AreApart hash_of key_of (drained ++ old)) (fresh : get (content hash_of key_of (drained ++ old)) (hash_of entry ∷ key_of entry) ≡ None) (come : IsIn hash_of key_of entry old new) where
   pub all_apart : AreApart hash_of key_of (drained ++ new)
   all_apart = (in_second hash_of key_of laws drained old new entry apart fresh come).apart
+
+  pub one_more : filled (drained ++ new) ≡ filled (drained ++ old) + 1
+  one_more =
+      let whole = in_second hash_of key_of laws drained old new entry apart fresh come in
+      let many = len (content hash_of key_of (drained ++ old)) in
+      sym (laws.many (drained ++ new) whole.apart)
+      ∙ ap (λ (m : Map X). len m) whole.come
+      ∙ len-insert nat_list_cmp_total (content hash_of key_of (drained ++ old)) (hash_of entry ∷ key_of entry) entry
+      ∙ ap (λ (o : Option X). cond (is_some o) many (many + 1)) fresh
+      ∙ ap (λ (n : ℕ). n + 1) (laws.many (drained ++ old) apart)
 
   pub its_place : (index : IndexState X) → cells index ≡ drained ++ new → (buckets at : ℕ) → buckets ≡ length drained → get_or new at None ≡ Some entry → IsPlaceOf hash_of key_of index (hash_of entry) (key_of entry) (record { number = buckets + at })
   its_place index is buckets at many there = record {
@@ -85,6 +101,32 @@ module _ {X : Type 0} (hash_of : X → ℕ) (key_of : X → List ℕ) (laws : Co
         ∙ ap (λ (m : Map X). get m (hash_of entry ∷ key_of entry)) (in_second hash_of key_of laws drained old new entry apart fresh come).come
         ∙ at_its_key (content hash_of key_of (drained ++ old)) (hash_of entry ∷ key_of entry) entry;
   }
+
+-- entries are moved: there are as many
+module _ {X : Type 0} (hash_of : X → ℕ) (key_of : X → List ℕ) (laws : ContentLaws hash_of key_of) where
+  pub as_many : (old new : List (Option X)) → AreApart hash_of key_of old → HoldsAll hash_of key_of old new → filled new ≡ filled old
+  as_many old new apart held = sym (laws.many new held.apart) ∙ ap (λ (m : Map X). len m) held.same ∙ laws.many old apart
+
+  -- of an index that nothing moved in, of one where some were left to move, and of one where a growth ended
+  pub as_many_stay : (old : IndexState X) (drained : List (Option X)) (side : Side X) → drained ≡ old.draining → side ≡ side_of old → filled (drained ++ cells_of side) ≡ count old
+  as_many_stay old drained side same_old same = λ i. filled (same_old i ++ cells_of (same i))
+
+  module _ (old : IndexState X) (first drained : List (Option X)) (start side : Side X) (drain : first ≡ old.draining) (beside : start ≡ side_of old) (apart : AreApart hash_of key_of (cells old)) (moved : HoldsAll hash_of key_of (first ++ cells_of start) (drained ++ cells_of side)) where
+    was : first ++ cells_of start ≡ cells old
+    was = λ i. drain i ++ cells_of (beside i)
+
+    as_many_then : filled (drained ++ cells_of side) ≡ filled (first ++ cells_of start)
+    as_many_then = as_many (first ++ cells_of start) (drained ++ cells_of side) (subst (AreApart hash_of key_of) (sym was) apart) moved
+
+    pub as_many_left : (new : IndexState X) → new.draining ≡ drained → side_of new ≡ side → count new ≡ count old
+    as_many_left new left is = (λ i. filled (left i ++ cells_of (is i))) ∙ as_many_then ∙ ap filled was
+
+    pub as_many_at_the_end : (left : List (Option X)) (last : Side X) → left ≡ [] → filled drained ≡ 0 → HoldsAll hash_of key_of (cells_of side) (cells_of last) → filled (left ++ cells_of last) ≡ count old
+    as_many_at_the_end left last none empty tried =
+        let own = ((laws.apart drained (cells_of side)).0 moved.apart).1 in
+        let ends : filled (cells_of last) ≡ filled (drained ++ cells_of side) =
+        omega (arith, as_many (cells_of side) (cells_of last) own tried, filled-append drained (cells_of side), empty) in
+        ap (λ (d : List (Option X)). filled (d ++ cells_of last)) none ∙ ends ∙ as_many_then ∙ ap filled was
 
 no_drained : {X : Type 0} (draining : Option (HopState X)) → is_some draining ≡ false → drained_items draining ≡ []
 no_drained None e = refl

@@ -148,6 +148,11 @@ is_due index =
     not index.growing && (nat_lt index.k 24 && (nat_lt (3 * 2 ^ index.k) (4 * (count index + 1))
     || (nat_lt 0 (length index.strays) && not (nat_lt (4 * (count index + 1)) (2 ^ index.k)))))
 
+-- A growth lags: it runs, and by the load the next one would be due before one entry more comes: with that entry there are more
+-- than three for every four homes of the new table.
+abbrev pub lags : {X : Type 0} → IndexState X → Bool
+lags index = index.growing && nat_lt (3 * 2 ^ index.k) (4 * (count index + 1))
+
 -- a growth has begun: the table is the old one, and a table of twice the homes has no entry yet
 abbrev pub HasBegun : {X : Type 0} → (old new : IndexState X) → Type 0
 HasBegun old new =

@@ -6,7 +6,7 @@ ghost use Rattle.std.specs.FinMap.{get, insert};
 ghost use Rattle.mc_hop.specs.Tables.{KeepsKey};
 ghost use Rattle.mc_grow.specs.Indexes.{IsNew, StandsAs, HasBegun, IsFilled, IsFound, IsNext, IsPlaceOf, IsUpdated};
 ghost use Rattle.mc_grow.specs.Parts.{IsFirstFilled, IsSpot, NoneFilledFrom};
-ghost use Rattle.mc_grow.specs.Indexes.{IsRemoved, cells, count, entry_at, holds, is_due, left, most_reads};
+ghost use Rattle.mc_grow.specs.Indexes.{IsRemoved, cells, count, entry_at, holds, is_due, lags, left, most_reads};
 ghost use Rattle.mc_grow.specs.Adding.{AreMoved, IsInserted};
 
 use crate::moving::{content_laws, move_entries, place, try_strays};
@@ -212,6 +212,17 @@ impl<T: Keyed + Drop> Index<T> {
         self.draining.is_some()
     }
 
+    /// Answers whether a growth lags: it runs, and with one entry more there would be more than three for every four homes of
+    /// the new table. Were none running, that load would begin one. Whoever puts in entries calls `move_some` then: where the
+    /// new table is full before the old one is empty, further entries are strays, which searches walk.
+    pub fn lags(&self) -> bool
+        ensures { result ≡ lags self.now }
+    {
+        let homes = 1usize << self.table.exponent();
+        let entries = self.len().saturating_add(1).saturating_mul(4);
+        self.is_growing() && entries > 3 * homes
+    }
+
     /// Finds the first entry whose number is at or above `at`, for a sweep over all entries: each place has one number, and a
     /// removal changes no lower one. A sweep goes on at the number after it, and where it removed the entry, at the number
     /// itself. The cost grows with the empty buckets that are passed.
@@ -266,6 +277,7 @@ impl<T: Keyed + Drop> Index<T> {
         ensures place { IsPlaceOf T.hash_of T.key_of self.new
             (T.hash_of entry) (T.key_of entry) result }
         ensures inserted { IsInserted T.hash_of T.key_of entry self.old self.new }
+        ensures count { count self.new ≡ count self.old + 1 }
         ensures room { self.old.spare ≤ self.new.spare + 1 }
     {
         content_laws::<T>();
@@ -283,6 +295,7 @@ impl<T: Keyed + Drop> Index<T> {
         ensures moved { result ≡ min n (left self.old) }
         ensures left { left self.new ≡ left self.old - result }
         ensures content { holds T.hash_of T.key_of self.new ≡ holds T.hash_of T.key_of self.old }
+        ensures count { count self.new ≡ count self.old }
         ensures moves { AreMoved T.hash_of T.key_of result self.old self.new }
         ensures room { self.old.spare ≤ self.new.spare }
     {

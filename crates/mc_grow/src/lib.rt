@@ -5,8 +5,14 @@ mod adding;
 #[cfg(test)]
 mod growth_tests;
 mod index;
+#[cfg(test)]
+mod lag_tests;
+#[cfg(test)]
+mod marked;
 mod moving;
 mod parts;
+#[cfg(test)]
+mod random_tests;
 #[cfg(test)]
 mod tests;
 

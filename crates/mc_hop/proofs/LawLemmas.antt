@@ -1,12 +1,11 @@
 -- What the content of buckets has.
-use Rattle.std.proofs.Common.{◌≡◌, ℕ, zero, suc, ◌+◌, ◌-◌, ◌<◌, ◌≤◌, ◌↔◌, ◌⊎◌, inl, inr, Bool, true, false, cond, List, [], ◌∷◌, ◌++◌, Option, Some, None, length, get_or, set, refl, sym, ap, subst, ◌∙◌, arith, ⊎_elim}
+use Rattle.std.proofs.Common.{◌≡◌, ℕ, zero, suc, ◌+◌, ◌<◌, ◌↔◌, ◌⊎◌, inl, inr, Bool, true, false, cond, List, [], ◌∷◌, ◌++◌, Option, Some, None, is_some, length, get_or, set, refl, sym, ap, ◌∙◌, arith, ⊎_elim}
 use Rattle.std.proofs.lemmas.Option.{none-some}
 use Rattle.std.proofs.lemmas.List.{get_or_append_left, get_or-append-add}
 use Rattle.std.proofs.lemmas.Cmp.{eq_by_cmp_equiv}
-use Rattle.std.specs.Ordering.{nat_cmp}
 use Rattle.std.specs.Option.{option_or}
-use Rattle.std.specs.Cmp.Lexicographic.{slice_cmp, nat_list_cmp_total}
-use Rattle.std.specs.FinMap.{FinMap, get, insert, remove, from_entries, get-insert, get-from_entries, same_map, nat_cmp-IsAntisymmetric, slice_cmp-IsAntisymmetric}
+use Rattle.std.specs.Cmp.Lexicographic.{nat_list_cmp_total}
+use Rattle.std.specs.FinMap.{FinMap, get, insert, remove, len, len-empty, len-insert, from_entries, get-insert, get-from_entries, same_map, nat_cmp-IsAntisymmetric, slice_cmp-IsAntisymmetric}
 use Rattle.mc_hop.specs.Cells.{filled}
 use Rattle.mc_hop.specs.Tables.{AreApart, HasEntry, IsAbsent}
 use Rattle.mc_hop.specs.Contents.{AreDisjoint, rows, content}
@@ -106,6 +105,18 @@ module _ {X : Type 0} (hash_of : X → ℕ) (key_of : X → List ℕ) where
   pub no_entries : (items : List (Option X)) → filled items ≡ 0 → map_of items ≡ map_of []
   no_entries items e = ap from_entries (no_rows items e)
 
+  apart_rest : (o : Option X) (items : List (Option X)) → AreApart hash_of key_of (o ∷ items) → AreApart hash_of key_of items
+  apart_rest o items apart at other x y e f hashes keys = omega (arith, apart (suc at) (suc other) x y e f hashes keys)
+
+  pub many_entries : (items : List (Option X)) → AreApart hash_of key_of items → len (map_of items) ≡ filled items
+  many_entries [] apart = len-empty order X
+  many_entries (None ∷ items) apart = many_entries items (apart_rest None items apart)
+  many_entries (Some x ∷ items) apart =
+      let fresh : IsAbsent hash_of key_of items (hash_of x) (key_of x) = λ at is. omega (arith, apart zero (suc at) x is.entry refl is.there (sym is.same_hash) (sym is.same_key)) in
+      len-insert nat_list_cmp_total (map_of items) (key hash_of key_of x) x
+      ∙ ap (λ (o : Option X). cond (is_some o) (len (map_of items)) (len (map_of items) + 1)) (get_content items (key hash_of key_of x) ∙ not_found hash_of key_of items (hash_of x) (key_of x) fresh)
+      ∙ ap (λ (n : ℕ). n + 1) (many_entries items (apart_rest (Some x) items apart))
+
   -- ---- a change of one bucket
 
   alone : (items : List (Option X)) (at : ℕ) (x : X) → AreApart hash_of key_of items → get_or items at None ≡ Some x → (other : ℕ) (y : X) → get_or items other None ≡ Some y → hash_of y ≡ hash_of x → key_of y ≡ key_of x → other ≡ at
@@ -198,3 +209,10 @@ module _ {X : Type 0} (hash_of : X → ℕ) (key_of : X → List ℕ) where
 
   pub are_apart : (xs ys : List (Option X)) → AreApart hash_of key_of (xs ++ ys) ↔ (AreApart hash_of key_of xs × AreApart hash_of key_of ys × AreDisjoint (map_of xs) (map_of ys))
   are_apart xs ys = (apart_parts xs ys, apart_joined xs ys)
+
+-- the clauses of the laws, but for those that go both ways
+pub ruleset entry_rules = (entry_found, entry_there, same_entries, no_entries)
+
+pub ruleset change_rules = (change_put, change_taken, change_back, change_replaced)
+
+pub ruleset list_rules = (get_joined, joined_parts, joined_first, joined_second)

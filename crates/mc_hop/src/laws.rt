@@ -3,7 +3,7 @@
 ghost use Rattle.std.specs.Prelude.{◌≡◌, ℕ, List, [], ◌∷◌, ◌++◌, ◌<◌, ◌↔◌, Option, Some, None, length};
 ghost use Rattle.std.specs.Prelude.{slice_index_or, slice_set};
 ghost use Rattle.std.specs.Option.{option_or};
-ghost use Rattle.std.specs.FinMap.{get, insert, remove};
+ghost use Rattle.std.specs.FinMap.{get, insert, len, remove};
 ghost use Rattle.mc_hop.specs.Cells.{filled};
 ghost use Rattle.mc_hop.specs.Contents.{AreDisjoint, content};
 ghost use Rattle.mc_hop.specs.Tables.{AreApart, HasEntry, IsAbsent};
@@ -12,6 +12,7 @@ use crate::hash::Keyed;
 
 /// Says what the content of buckets has: each bucket's entry under its hash and key, where no two have one hash and key, and nothing
 /// else. It does nothing.
+#[tactic(auto, using(crate::proofs::LawLemmas::entry_rules))]
 pub fn content_has_each_entry<T: Keyed + Drop>()
     ensures found { (items : List (Option T)) (entry : T) →
         AreApart T.hash_of T.key_of items → HasEntry items entry →
@@ -30,8 +31,17 @@ pub fn content_has_each_entry<T: Keyed + Drop>()
         content T.hash_of T.key_of items ≡ content T.hash_of T.key_of [] }
 {}
 
+/// Says how many entries the content of buckets has, where no two have one hash and key: as many as there are buckets with one. It
+/// does nothing.
+#[tactic(auto, using(crate::proofs::LawLemmas::many_entries))]
+pub fn content_counts_entries<T: Keyed + Drop>()
+    ensures { (items : List (Option T)) → AreApart T.hash_of T.key_of items →
+        len (content T.hash_of T.key_of items) ≡ filled items }
+{}
+
 /// Says what a change of one bucket does to the content: an entry of a new key that is put into it, one that is taken out, or put
 /// back, or replaced by one of its hash and key. It does nothing.
+#[tactic(auto, using(crate::proofs::LawLemmas::change_rules))]
 pub fn content_changes_at_one_key<T: Keyed + Drop>()
     ensures put { (items : List (Option T)) (at : ℕ) (entry : T) → at < length items →
         slice_index_or items at None ≡ None →
@@ -55,6 +65,7 @@ pub fn content_changes_at_one_key<T: Keyed + Drop>()
 {}
 
 /// Says what the content of two lists of buckets has, one after the other: what the first has, or else the second. It does nothing.
+#[tactic(auto, using(crate::proofs::LawLemmas::list_rules))]
 pub fn content_of_two_lists<T: Keyed + Drop>()
     ensures joined { (xs ys : List (Option T)) (key : List ℕ) →
         get (content T.hash_of T.key_of (xs ++ ys)) key ≡ option_or

@@ -13,6 +13,9 @@ mod tests;
 
 pub use bits::lowest;
 pub use hash::{Constant, Fnv, KeyHash, Keyed};
-pub use laws::{content_changes_at_one_key, content_has_each_entry, content_of_two_lists};
+pub use laws::{
+    content_changes_at_one_key, content_counts_entries, content_has_each_entry,
+    content_of_two_lists,
+};
 pub use reads::{Counts, Reads, Uncounted};
 pub use table::Hop;

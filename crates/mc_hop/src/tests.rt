@@ -121,6 +121,22 @@ fn a_word_is_counted_and_taken_out(rt: HostRuntime) -> Result<(), Fail> {
     Ok(())
 }
 
+#[test]
+fn every_word_is_found_without_its_key(rt: HostRuntime) -> Result<(), Fail> {
+    let mut table = opened(rt.alloc())?;
+    assert!(rt; table.exponent() == 6, "2^{} homes", table.exponent());
+    let mut hashes = 0u64;
+    for left in [2, 1, 0] {
+        if let Some(at) = table.any_filled() {
+            hashes = hashes.wrapping_add(table.remove(at).hash);
+        }
+        assert!(rt; table.len() == left, "{} are left for {left}", table.len());
+    }
+    let right = hashes == 256 + 256 + 257 && table.any_filled().is_none();
+    assert!(rt; right, "the hashes' sum is {hashes}");
+    Ok(())
+}
+
 /// The word counted once more, and how often it was before.
 fn counted(word: Word) -> (Word, u32)
     ensures hash { result.0.hash ≡ word.hash }

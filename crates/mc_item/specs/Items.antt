@@ -1,8 +1,8 @@
 -- What contracts see of an item.
-use Rattle.std.specs.Prelude.{◌≡◌, ℕ, ◌+◌, ◌≤◌, List, length, Option, Some, None, refl}
-use Rattle.std.specs.Coded.{Coded, code_by, coded×, coded_ℕ, coded_list, coded_option}
+use Rattle.std.specs.Prelude.{ℕ, ◌+◌, ◌≤◌, List, length, refl}
+use Rattle.std.specs.Coded.{Coded, code_by, coded×, coded_ℕ, coded_list}
 use Rattle.mc_time.specs.declared.expiry.Expiry.{Expiry}
-use Rattle.mc_time.specs.declared.expiry.Expiry.TheVariants.{Never, At}
+use Rattle.mc_time.specs.Stored.{coded_expiry}
 use Rattle.mc_slab.specs.Classes.{IsClass, size_of}
 
 -- an item's key with its hash, what stands under it, and the class of the chunk that it lies in
@@ -34,22 +34,7 @@ pub record IsItem (item : ItemState) : Type 0 where
   pub key : length item.key ≤ longest_key
   pub fits : charge_of item ≤ size_of item.class
 
--- how a proof stores an expiry, and an item
-abbrev pub expiry_moment : Expiry → Option ℕ
-expiry_moment Never = None
-expiry_moment (At moment) = Some moment
-
-abbrev pub moment_expiry : Option ℕ → Expiry
-moment_expiry None = Never
-moment_expiry (Some moment) = At moment
-
-pub moment_expiry-expiry_moment : (expiry : Expiry) → moment_expiry (expiry_moment expiry) ≡ expiry
-moment_expiry-expiry_moment Never = refl
-moment_expiry-expiry_moment (At moment) = refl
-
-abbrev pub coded_expiry : Coded Expiry
-coded_expiry = code_by (Option ℕ) (coded_option coded_ℕ) expiry_moment moment_expiry moment_expiry-expiry_moment
-
+-- how a proof stores an item
 abbrev pub coded_item : Coded ItemState
 coded_item =
     code_by (ℕ × (List ℕ × (ℕ × (Expiry × (List ℕ × (ℕ × (ℕ × ℕ)))))))

@@ -11,4 +11,3 @@ pub mod RetrievalLemmas
 pub mod CursorLemmas
 pub mod FeedLemmas
 pub mod FoundLemmas
-pub mod QueueLemmas

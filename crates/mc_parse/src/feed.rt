@@ -13,7 +13,7 @@ pub struct Feed {
     greatest: u64,
     /// How many bytes are still to be passed over.
     passed: u64,
-    unread: Queue,
+    unread: Queue<65536>,
     /// Where the retrieval stands that the unread bytes begin with, if turns of it were noted.
     cursor: Option<Cursor>,
     /// What the unread bytes begin with.

@@ -22,7 +22,7 @@ pub use line::{Head, Line, line_of};
 pub use line_laws::{keys_of_a_line_are_keys, words_hold_no_space_or_feed};
 pub use name::Name;
 pub use peek::{Peek, peek_at};
-pub use queue::Queue;
+pub use queue::{Append, Queue};
 
 #[cfg(test)]
 mod tests;

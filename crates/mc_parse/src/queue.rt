@@ -3,16 +3,33 @@ ghost use Rattle.std.specs.Prelude.{◌≡◌, ◌-◌, ◌≤◌, drop, length,
 use std::alloc::{AllocError, Global};
 use std::marker::Model;
 
-/// Bytes that are appended behind and taken away in front. Contracts see the bytes that weren't taken yet.
+/// Bytes that are appended behind and taken away in front. While it has none it reserves at most `KEPT` bytes of memory.
+/// Contracts see the bytes that weren't taken yet.
 #[derive(Drop)]
-pub struct Queue {
+pub struct Queue<const KEPT: usize> {
     alloc: Global,
     buffer: Vec<u8>,
     /// How many bytes of the buffer were taken: never more than are left.
     taken: usize,
 }
 
-impl Model for Queue {
+/// A text that knows how to append its bytes.
+pub trait Append {
+    ghost use Rattle.std.specs.Prelude.{◌≡◌, ◌++◌, ℕ, List, OnOk, OnErr};
+
+    /// It may be appended.
+    ghost can_append: { Self → Type 0 };
+    /// The bytes that it appends.
+    ghost bytes: { Self → List ℕ };
+
+    /// Appends its bytes to a buffer. Refused, the buffer is as it was.
+    fn append_to(&self, buffer: &mut Vec<u8>) -> Result<(), AllocError>
+        requires { can_append self.now }
+        ensures ok { OnOk result (buffer.new.items ≡ buffer.old.items ++ bytes self.now) }
+        ensures err { OnErr result (buffer.new.items ≡ buffer.old.items) };
+}
+
+impl<const KEPT: usize> Model for Queue<KEPT> {
     ghost use Rattle.std.specs.Prelude.{ℕ, List, drop, vec_capacity};
     ghost use Rattle.mc_parse.specs.Queues.{IsHalfFull};
 
@@ -20,15 +37,14 @@ impl Model for Queue {
 
     ghost view = { λ q. drop q.taken q.buffer.items };
 
-    ghost invariant = { λ q. IsHalfFull q.taken q.buffer.items (vec_capacity q.buffer) };
+    ghost invariant = { λ q. IsHalfFull KEPT q.taken q.buffer.items (vec_capacity q.buffer) };
 }
 
-impl Queue {
+impl<const KEPT: usize> Queue<KEPT> {
     ghost use Rattle.std.specs.Prelude.{◌≡◌, ◌↔◌, ◌*◌, ◌≤◌, [], ◌++◌, drop, length, IsTrue, OnOk, OnErr};
-    ghost use Rattle.mc_parse.specs.Queues.{OnlyAppends, HasWritten};
 
     /// Makes a queue of no bytes. It takes no memory.
-    pub fn new(alloc: Global) -> Queue
+    pub fn new(alloc: Global) -> Queue<KEPT>
         ensures { result ≡ [] }
     {
         Queue {
@@ -69,10 +85,10 @@ impl Queue {
         self.buffer.len()
     }
 
-    /// Counts the bytes of memory that are reserved, filled or not. An empty queue reserves at most 65536.
+    /// Counts the bytes of memory that are reserved, filled or not. An empty queue reserves at most `KEPT`.
     pub fn capacity(&self) -> usize
         ensures filled { length self.now ≤ result }
-        ensures empty { self.now ≡ [] → result ≤ 65536 }
+        ensures empty { self.now ≡ [] → result ≤ KEPT }
     {
         self.buffer.capacity()
     }
@@ -83,19 +99,18 @@ impl Queue {
         ensures err { OnErr result (self.new ≡ self.old) }
     {
         let result = self.buffer.extend_from_slice(bytes);
-        give_back(&mut self.buffer, self.alloc);
+        give_back(&mut self.buffer, KEPT, self.alloc);
         result
     }
 
-    /// Appends what a function appends to a buffer, and returns what it returns. It finds the bytes that weren't taken yet
-    /// at the buffer's end, and may do nothing with the buffer but append to it.
-    pub fn append_with<R, W: FnOnce(&mut Vec<u8>) -> R>(&mut self, write: W) -> R
-        requires callable { W.IsAlwaysCallable write }
-        requires appends { OnlyAppends W.FnOnce write }
-        ensures { HasWritten W.FnOnce write self.old self.new result }
+    /// Appends a text. Refused, the queue is as it was.
+    pub fn append<T: Append>(&mut self, text: &T) -> Result<(), AllocError>
+        requires { T.can_append text.now }
+        ensures ok { OnOk result (self.new ≡ self.old ++ T.bytes text.now) }
+        ensures err { OnErr result (self.new ≡ self.old) }
     {
-        let result = write(&mut self.buffer);
-        give_back(&mut self.buffer, self.alloc);
+        let result = text.append_to(&mut self.buffer);
+        give_back(&mut self.buffer, KEPT, self.alloc);
         result
     }
 
@@ -108,7 +123,7 @@ impl Queue {
         self.taken += n;
         if self.buffer.len() - self.taken <= self.taken {
             drop_front(&mut self.buffer, self.taken);
-            give_back(&mut self.buffer, self.alloc);
+            give_back(&mut self.buffer, KEPT, self.alloc);
             self.taken = 0;
         }
     }
@@ -118,13 +133,10 @@ impl Queue {
         ensures { self.new ≡ [] }
     {
         self.buffer.clear();
-        give_back(&mut self.buffer, self.alloc);
+        give_back(&mut self.buffer, KEPT, self.alloc);
         self.taken = 0;
     }
 }
-
-/// The greatest memory that is kept while the queue is empty, in bytes.
-const KEPT: usize = 65536;
 
 /// Drops the front of a buffer, where what is left is no longer than the front.
 fn drop_front(buffer: &mut Vec<u8>, front: usize)
@@ -139,12 +151,12 @@ fn drop_front(buffer: &mut Vec<u8>, front: usize)
     buffer.truncate(left);
 }
 
-/// Gives the memory of an empty buffer back, where it grew large.
-fn give_back(buffer: &mut Vec<u8>, alloc: Global)
+/// Gives the memory of an empty buffer back, where it is more than `kept` bytes.
+fn give_back(buffer: &mut Vec<u8>, kept: usize, alloc: Global)
     ensures same { buffer.new.items ≡ buffer.old.items }
-    ensures small { length buffer.new.items ≡ 0 → vec_capacity buffer.new ≤ 65536 }
+    ensures small { length buffer.new.items ≡ 0 → vec_capacity buffer.new ≤ kept }
 {
-    if buffer.is_empty() && buffer.capacity() > KEPT {
+    if buffer.is_empty() && buffer.capacity() > kept {
         *buffer = Vec::new(alloc);
     }
 }

@@ -1,4 +1,4 @@
-ghost use Rattle.std.specs.Prelude.{◌≡◌, ◌++◌, OnOk, OnErr};
+ghost use Rattle.std.specs.Prelude.{◌≡◌, ◌∷◌, []};
 ghost use Rattle.std.specs.Option.{option_map};
 ghost use Rattle.mc_parse.specs.Peeks.{unit_of};
 
@@ -65,31 +65,32 @@ fn push_at_last(feed: &mut Feed, piece: &[u8]) -> Result<bool, AllocError> {
     Ok(is_same)
 }
 
-/// Appends a text through a function that writes to a buffer.
-fn append_text(queue: &mut Queue, text: &[u8]) -> Result<(), AllocError>
-    ensures ok { OnOk result (queue.new ≡ queue.old ++ text.now) }
-    ensures err { OnErr result (queue.new ≡ queue.old) }
-{
-    queue.append_with(
-        |out: &mut Vec<u8>| -> Result<(), AllocError>
-            ensures ok { OnOk result (out.new.items ≡ out.old.items ++ text.entry.now) }
-            ensures err { OnErr result (out.new.items ≡ out.old.items) }
-        { out.extend_from_slice(text) },
-    )
+/// A text of two bytes.
+#[derive(Drop)]
+struct Pair(u8, u8);
+
+impl Append for Pair {
+    ghost can_append = { λ _. Unit {0} };
+
+    ghost bytes = { λ pair. pair.0 ∷ pair.1 ∷ [] };
+
+    fn append_to(&self, buffer: &mut Vec<u8>) -> Result<(), AllocError> {
+        buffer.extend_from_slice(&[self.0, self.1])
+    }
 }
 
 /// Takes up to `n` bytes away. Says whether what is left is this, and what is held at most twice as much.
-fn consume_to(queue: &mut Queue, n: usize, left: &[u8]) -> bool {
+fn consume_to(queue: &mut Queue<65536>, n: usize, left: &[u8]) -> bool {
     queue.consume(queue.len().min(n));
     queue.as_slice() == left && queue.len() == left.len() && queue.held() <= 2 * left.len()
 }
 
 #[test]
 fn a_queue_takes_from_its_front(rt: HostRuntime) -> Result<(), AllocError> {
-    let mut queue = Queue::new(rt.alloc());
+    let mut queue: Queue<65536> = Queue::new(rt.alloc());
     assert!(rt; queue.is_empty());
     queue.push(b"abcdef")?;
-    append_text(&mut queue, b"gh")?;
+    queue.append(&Pair(b'g', b'h'))?;
     let steps: [(usize, &[u8]); 5] = [
         (0, b"abcdefgh"),
         (3, b"defgh"),
@@ -106,7 +107,7 @@ fn a_queue_takes_from_its_front(rt: HostRuntime) -> Result<(), AllocError> {
 
 #[test]
 fn a_large_queue_gives_its_memory_back(rt: HostRuntime) -> Result<(), AllocError> {
-    let mut queue = Queue::new(rt.alloc());
+    let mut queue: Queue<65536> = Queue::new(rt.alloc());
     let piece = [b'x'; 8192];
     for _ in 0..16 {
         queue.push(&piece)?;

@@ -1,7 +1,7 @@
 -- A turn of what was found is a turn of the session's stream.
 use Rattle.std.proofs.Common.{◌≡◌, ◌<◌, ◌≤◌, ◌+◌, ◌^◌, ◌==◌, ℕ, Bool, true, false, List, ◌++◌, length, take, drop, refl, sym, ap, ◌∙◌, subst, arith, Option, Some, None, if◌then◌else◌, IfSome, IsTrue, ◌↔◌, ⊎_elim, eq-or-lt_of_le}
 use Rattle.std.proofs.lemmas.Bool.{cases_lt, eqb-false}
-use Rattle.std.proofs.lemmas.List.{take-append-drop, drop-append-le, length-append}
+use Rattle.std.proofs.lemmas.List.{take-append-drop}
 use Rattle.mc_command.specs.declared.step.Steps.{Ghosts as Relations}
 use Rattle.mc_parse.specs.Units.{ProtocolUnit, Request, Fault, LongLine, Spells}
 use Rattle.mc_parse.specs.Streams.{is_last, passed_after}
@@ -166,22 +166,9 @@ module _ {S : Type 0} (relations : Relations S) (now : ℕ) (found : Option (Pro
   abbrev pub TellsSome : Option AfterTurn → Type 0
   TellsSome told = IfSome told (λ next. Tells relations now found next before after old new)
 
-  -- the output grew
-  pub told_grows : (told : Option AfterTurn) (next : AfterTurn) → told ≡ Some next → TellsSome told → length old ≤ length new
-  told_grows told next is some =
-      let tells : Tells relations now found next before after old new = subst TellsSome is some in
-      omega (arith, ap length tells.told, length-append old tells.answered.text)
-
-  -- the same of the output without what was sent
-  pub tells_unsent : (told : Option AfterTurn) (next : AfterTurn) (sent : ℕ) → told ≡ Some next → TellsSome told → sent ≤ length old → Tells relations now found next before after (drop sent old) (drop sent new)
-  tells_unsent told next sent is some within =
-      let tells : Tells relations now found next before after old new = subst TellsSome is some in
-      record {
-        answered = tells.answered;
-        next_is = tells.next_is;
-        few = tells.few;
-        told = ap (drop sent) tells.told ∙ drop-append-le sent old tells.answered.text within;
-      }
+  -- what is told of the one that came
+  pub tells_next : (told : Option AfterTurn) (next : AfterTurn) → told ≡ Some next → TellsSome told → Tells relations now found next before after old new
+  tells_next told next is some = subst TellsSome is some
 
 -- it is idle where nothing is found
 pub idle_found : (s : SessionState) (found : Option (ProtocolUnit × ℕ)) (idle : Bool) → IsTrue s.is_open → FoundLeft s.unread s.taken found → (found ≡ None → NoTurnDue s)

@@ -2,7 +2,7 @@
 use Rattle.std.specs.Prelude.{◌≡◌, ◌⊎◌, ℕ, IsTrue, IsFalse}
 use Rattle.mc_command.specs.declared.step.Steps.{Ghosts as StepRelations}
 use Rattle.mc_session.specs.declared.endpoint.Endpoint.{Ghosts as Relations}
-use Rattle.mc_session.specs.Turns.{SessionState, TakesTurn, DecidesStep, HoldsSame, TurnIsDue, NoTurnDue, fed, sent}
+use Rattle.mc_session.specs.Turns.{SessionState, TakesTurn, DecidesStep, TurnIsDue, NoTurnDue, fed, sent}
 
 module _ {S : Type 0} (relations : StepRelations S) where
   -- a turn was taken, or none was due or the session was closed
@@ -13,7 +13,7 @@ module _ {S : Type 0} (relations : StepRelations S) where
   -- a turn was due, and its step was not taken, or it was and its text wasn't told
   abbrev pub LosesTurn : ℕ → SessionState → S → SessionState → S → Type 0
   LosesTurn now old before new after = TurnIsDue old
-      × (HoldsSame relations before after ⊎ DecidesStep relations now old before after)
+      × (relations.same before after ⊎ DecidesStep relations now old before after)
 
   abbrev pub in_session : Relations SessionState S
   in_session =

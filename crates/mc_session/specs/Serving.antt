@@ -4,7 +4,7 @@ use Rattle.std.specs.Io.KnownBytes.{Appends, Consumes, IsAtEnd}
 use Rattle.mc_command.specs.declared.step.Steps.{Ghosts as Relations}
 use Rattle.mc_parse.specs.Units.{ProtocolUnit}
 use Rattle.mc_session.specs.declared.rounds.TheConstants.{WRITE_AT}
-use Rattle.mc_session.specs.Turns.{SessionState, opened, fed, TakesTurn, DecidesStep, HoldsSame, NoTurnDue}
+use Rattle.mc_session.specs.Turns.{SessionState, opened, fed, TakesTurn, DecidesStep, NoTurnDue}
 
 -- the session with what was written of its output still in front
 abbrev pub with_written : List ℕ → SessionState → SessionState
@@ -98,7 +98,7 @@ module _ {S : Type 0} (relations : Relations S) (may_give : ℕ → Type 0) wher
     -- a turn that was due, whose step was not taken
     no_turn : {calls : ℕ} {session : SessionState} {before after : S} → calls < 2 ^ 40
         → length session.out < WRITE_AT
-        → IsTrue session.is_open → (NoTurnDue session → ⊥) → HoldsSame relations before after
+        → IsTrue session.is_open → (NoTurnDue session → ⊥) → relations.same before after
         → Refused calls session [] before after
     -- the text of a turn, whose step was taken
     no_text : {calls : ℕ} {session : SessionState} {before after : S} (now : ℕ) → calls < 2 ^ 40

@@ -95,10 +95,6 @@ moved s unit rest text =
     record s { unread = unread_behind s.unread.greatest unit rest; taken = 0; out = s.out ++ text }
     else record s { taken = s.taken + 1; out = s.out ++ text }
 
--- the store holds what it held: no step was asked of it, or one that was not taken
-abbrev pub HoldsSame : {S : Type 0} (relations : Relations S) → (before after : S) → Type 0
-HoldsSame relations before after = (after ≡ before) ⊎ relations.same before after
-
 -- the next turn of an open session's stream was taken at a moment, with a store
 pub record TakesTurn {S : Type 0} (relations : Relations S) (now : ℕ) (old new : SessionState)
     (before after : S) : Type 0 where

@@ -5,14 +5,14 @@ ghost use Rattle.mc_parse.specs.Units.{Request, Fault, LongLine};
 ghost use Rattle.mc_parse.specs.Peeks.{unit_of};
 ghost use Rattle.mc_session.specs.Answers.{next_of, Tells, TakesFirst, DecidesFound};
 ghost use Rattle.mc_parse.specs.Streams.{is_quit};
-ghost use Rattle.mc_session.specs.Turns.{Answers, HoldsSame, turn_count};
+ghost use Rattle.mc_session.specs.Turns.{Answers, turn_count};
 ghost use Rattle.mc_reply.specs.Texts.{fault_text, long_text};
 
 use crate::after_turn::AfterTurn;
 use crate::session::TurnFault;
+use crate::text::{Output, Text};
 use mc_command::{Command, LineFault, StepFault, Steps, step_at, steps_of};
 use mc_parse::Peek;
-use mc_reply::{write, write_fault, write_plain, write_spent, write_too_long};
 use mc_time::Moment;
 use std::alloc::Global;
 
@@ -24,18 +24,18 @@ pub fn answer<S: Steps>(
     found: Peek<'_>,
     store: &mut S,
     now: Moment,
-    out: &mut Vec<u8>,
+    out: &mut Output,
 ) -> Result<Option<AfterTurn>, TurnFault>
     requires { (command : Command) (len : ℕ) → unit_of found ≡ Some (Request command, len) →
         HasShortKeys command }
-    ensures none { result ≡ Ok None → (unit_of found.entry ≡ None) × (out.new.items ≡ out.old.items)
+    ensures none { result ≡ Ok None → (unit_of found.entry ≡ None) × (out.new ≡ out.old)
         × (store.new ≡ store.old) }
     ensures some { IfOk result (λ told. IfSome told
-        (λ next. Tells S.Steps now (unit_of found.entry) next store.old store.new out.old.items
-        out.new.items)) }
-    ensures err { OnErr result (out.new.items ≡ out.old.items) }
+        (λ next. Tells S.Steps now (unit_of found.entry) next store.old store.new out.old
+        out.new)) }
+    ensures err { OnErr result (out.new ≡ out.old) }
     ensures undecided { IfErr result (λ fault. IsFalse fault.decided →
-        HoldsSame S.Steps store.old store.new) }
+        S.same store.old store.new) }
     ensures due { OnErr result (unit_of found.entry ≡ None → ⊥) }
     ensures decided { IfErr result (λ fault. IsTrue fault.decided →
         DecidesFound S.Steps now (unit_of found.entry) store.old store.new) }
@@ -51,24 +51,24 @@ pub fn answer<S: Steps>(
 }
 
 /// Appends the text of a line that is too long.
-fn answer_too_long(out: &mut Vec<u8>) -> Result<AfterTurn, TurnFault>
+fn answer_too_long(out: &mut Output) -> Result<AfterTurn, TurnFault>
     ensures ok { IfOk result (λ next. (next ≡ next_of LongLine 0 65537)
-        × (out.new.items ≡ out.old.items ++ long_text)) }
-    ensures err { OnErr result (out.new.items ≡ out.old.items) }
+        × (out.new ≡ out.old ++ long_text)) }
+    ensures err { OnErr result (out.new ≡ out.old) }
     ensures undecided { IfErr result (λ fault. IsFalse fault.decided) }
 {
-    write_too_long(out)?;
+    out.append(&Text::TooLong)?;
     Ok(AfterTurn::Close)
 }
 
 /// Appends the text of a line's fault.
-fn answer_fault(fault: LineFault, len: usize, out: &mut Vec<u8>) -> Result<AfterTurn, TurnFault>
+fn answer_fault(fault: LineFault, len: usize, out: &mut Output) -> Result<AfterTurn, TurnFault>
     ensures ok { IfOk result (λ next. (next ≡ next_of (Fault fault) 0 len)
-        × (out.new.items ≡ out.old.items ++ fault_text fault)) }
-    ensures err { OnErr result (out.new.items ≡ out.old.items) }
+        × (out.new ≡ out.old ++ fault_text fault)) }
+    ensures err { OnErr result (out.new ≡ out.old) }
     ensures undecided { IfErr result (λ fault. IsFalse fault.decided) }
 {
-    write_fault(&fault, out)?;
+    out.append(&Text::Flaw(fault))?;
     let passed = match fault {
         LineFault::TooLarge { passed } => passed,
         LineFault::Unknown | LineFault::BadFormat | LineFault::BadDelta | LineFault::BadChunk => 0,
@@ -83,19 +83,19 @@ fn answer_command<S: Steps>(
     len: usize,
     store: &mut S,
     now: Moment,
-    out: &mut Vec<u8>,
+    out: &mut Output,
 ) -> Result<AfterTurn, TurnFault>
     requires { HasShortKeys command.now }
     ensures ok { IfOk result (λ next. Tells S.Steps now (Some (Request command.now, len)) next
-        store.old store.new out.old.items out.new.items) }
-    ensures err { OnErr result (out.new.items ≡ out.old.items) }
+        store.old store.new out.old out.new) }
+    ensures err { OnErr result (out.new ≡ out.old) }
     ensures undecided { IfErr result (λ fault. IsFalse fault.decided →
-        HoldsSame S.Steps store.old store.new) }
+        S.same store.old store.new) }
     ensures decided { IfErr result (λ fault. IsTrue fault.decided →
         TakesFirst S.Steps now command.now store.old store.new) }
 {
     if steps_of(command) == 0 {
-        write_plain(command, out)?;
+        out.append(&Text::Plain(command))?;
         return Ok(next_after(command, len));
     }
     answer_step(alloc, command, store, now, out)?;
@@ -141,25 +141,25 @@ fn answer_step<S: Steps>(
     command: &Command<'_>,
     store: &mut S,
     now: Moment,
-    out: &mut Vec<u8>,
+    out: &mut Output,
 ) -> Result<(), TurnFault>
     requires steps { 0 < length (steps command.now) }
     requires keys { HasShortKeys command.now }
-    ensures ok { OnOk result ((text : List ℕ) × (out.new.items ≡ out.old.items ++ text)
+    ensures ok { OnOk result ((text : List ℕ) × (out.new ≡ out.old ++ text)
         × Answers S.Steps (Request command.now) 0 now store.old store.new text) }
-    ensures err { OnErr result (out.new.items ≡ out.old.items) }
+    ensures err { OnErr result (out.new ≡ out.old) }
     ensures undecided { IfErr result (λ fault. IsFalse fault.decided →
-        HoldsSame S.Steps store.old store.new) }
+        S.same store.old store.new) }
     ensures decided { IfErr result (λ fault. IsTrue fault.decided →
         TakesFirst S.Steps now command.now store.old store.new) }
 {
     let step = step_at(command, 0);
     match store.step(alloc, &step, now) {
-        Ok(reply) => match write(command, 0, &reply, out) {
+        Ok(reply) => match out.append(&Text::First(command, &reply)) {
             Ok(()) => Ok(()),
             Err(_) => Err(TurnFault { decided: true }),
         },
-        Err(StepFault::NumbersSpent) => Ok(write_spent(command, out)?),
+        Err(StepFault::NumbersSpent) => Ok(out.append(&Text::Spent(command))?),
         Err(StepFault::NoMemory) => Err(TurnFault { decided: false }),
     }
 }

@@ -5,10 +5,10 @@ mod after_turn;
 mod answer;
 mod endpoint;
 mod laws;
-mod output;
 mod rounds;
 mod serving;
 mod session;
+mod text;
 
 pub use endpoint::Endpoint;
 pub use laws::{

@@ -4,7 +4,7 @@ ghost use Rattle.mc_session.specs.Turns.{SessionState};
 
 use crate::after_turn::AfterTurn;
 use crate::answer::answer;
-use crate::output::drop_front;
+use crate::text::Output;
 use mc_command::Steps;
 use mc_parse::{Feed, Peek, no_spelling_begins_another};
 use mc_time::Moment;
@@ -45,18 +45,14 @@ impl From<AllocError> for TurnFault {
 /// first unit were taken, the output that is to be written, and whether it is open.
 #[derive(Drop)]
 pub struct Session {
-    alloc: Global,
     feed: Feed,
     /// How many turns of the first unit were taken.
     taken: usize,
-    out: Vec<u8>,
-    /// How many bytes of `out` were sent: never more than are left.
-    sent: usize,
+    out: Output,
     is_open: bool,
 }
 
 impl Model for Session {
-    ghost use Rattle.std.specs.Prelude.{◌≤◌, ◌+◌, drop, length};
     ghost use Rattle.mc_session.specs.Turns.{SessionState};
     ghost use Rattle.mc_session.specs.Answers.{IsWithin};
 
@@ -65,17 +61,17 @@ impl Model for Session {
     ghost view = { λ s. record {
       unread = s.feed;
       taken = s.taken;
-      out = drop s.sent s.out.items;
+      out = s.out;
       is_open = s.is_open;
     } };
 
-    ghost invariant = { λ s. IsWithin s.feed s.taken × (s.sent + s.sent ≤ length s.out.items) };
+    ghost invariant = { λ s. IsWithin s.feed s.taken };
 }
 
 impl Session {
     ghost use Rattle.std.specs.Prelude.{◌≡◌, ◌≤◌, ◌*◌, ◌↔◌, length, IsTrue, IsFalse, OnOk, OnErr, IfErr, Ok};
     ghost use Rattle.mc_session.specs.Turns.{TakesTurn, FindsNoTurn, FindsClosed, TurnIsDue, NoTurnDue};
-    ghost use Rattle.mc_session.specs.Turns.{DecidesStep, HoldsSame, opened, closed, fed, sent};
+    ghost use Rattle.mc_session.specs.Turns.{DecidesStep, opened, closed, fed, sent};
     ghost use Rattle.mc_session.specs.Answers.{gone_on, MayGoOn};
 
     /// Makes a session that was fed nothing, whose storage commands may charge at most `greatest`
@@ -84,11 +80,9 @@ impl Session {
         ensures { result ≡ opened greatest }
     {
         Session {
-            alloc,
             feed: Feed::new(alloc, greatest),
             taken: 0,
-            out: Vec::new(alloc),
-            sent: 0,
+            out: Output::new(alloc),
             is_open: true,
         }
     }
@@ -126,7 +120,7 @@ impl Session {
         // What was not decided left the store with what it held; what was decided is the step of
         // the turn, whose text alone is missing.
         ensures undecided { IfErr result (λ fault. IsFalse fault.decided →
-            HoldsSame S.Steps store.old store.new) }
+            S.same store.old store.new) }
         ensures decided { IfErr result (λ fault. IsTrue fault.decided →
             DecidesStep S.Steps now self.old store.old store.new) }
     {
@@ -187,15 +181,14 @@ impl Session {
         ensures least { length self.now.out ≤ result }
         ensures most { result ≤ 2 * length self.now.out }
     {
-        self.out.len()
+        self.out.held()
     }
 
     /// Lends the output that is to be written.
     pub fn out(&self) -> &[u8]
         ensures { result.now ≡ self.now.out }
     {
-        let (_, unsent) = self.out.split_at(self.sent);
-        unsent
+        self.out.as_slice()
     }
 
     /// Drops the first `n` bytes of the output, which were written. What is left is moved only
@@ -205,11 +198,7 @@ impl Session {
         requires { n ≤ length self.old.out }
         ensures { self.new ≡ sent self.old n }
     {
-        self.sent += n;
-        if self.out.len() - self.sent <= self.sent {
-            drop_front(&mut self.out, self.sent, self.alloc);
-            self.sent = 0;
-        }
+        self.out.consume(n);
     }
 
     /// Closes the session: what is unread is dropped, and the output stays.

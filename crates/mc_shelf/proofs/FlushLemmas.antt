@@ -10,6 +10,7 @@ use Rattle.mc_command.specs.Plain.{Entry, Items, Plain, alive, count_of, flushed
 use Rattle.mc_command.specs.Purge.{purged}
 use Rattle.mc_shelf.specs.States.{ShelfContent, ShelfState, DeskState}
 use Rattle.mc_shelf.specs.Sweeps.{AreOut, GivesFor, IsPurged}
+use Rattle.mc_shelf.specs.Deaths.{NoneIsDead}
 use Rattle.mc_shelf.specs.Parts.{shelf_of, IsShelfOf, IsDeskOf, ArePartsOf, GoesTo}
 use Rattle.mc_shelf.specs.Unions.{IsFlushed, left_of_flush}
 use Rattle.std.proofs.Math.Seq.{take-append_seam}
@@ -17,6 +18,24 @@ use Rattle.mc_shelf.specs.Stores.{IsSetUp}
 use Rattle.mc_shelf.specs.declared.store.Settings.{Settings}
 use Rattle.mc_shelf.proofs.KeyLemmas.{order}
 use Rattle.mc_shelf.proofs.PartLemmas.{PartsLaw, same_items, get_kept, parted, own_items, shelf_kept, put_cases}
+
+-- where none of its items is dead, purging a shelf's part changes nothing
+pub nothing_purged : {hash_of : List ℕ → ℕ} {count at : ℕ} {state : Plain} {shelf : ShelfContent} (now : ℕ) → IsShelfOf hash_of count state at shelf → NoneIsDead now shelf.cut shelf.items → purged (λ key. eqb (shelf_of hash_of count key) at) now state ≡ state
+nothing_purged {hash_of} {count} {at} {state} {shelf} now fits lives =
+    let mine : List ℕ → Bool = λ q. eqb (shelf_of hash_of count q) at in
+    let stays : (q : List ℕ) → mine q ≡ true → (o : Option Entry) → get state.items q ≡ o → cond (is_some (alive state.cut now o)) o None ≡ o = λ q is o. elim o as (λ o. get state.items q ≡ o → cond (is_some (alive state.cut now o)) o None ≡ o) [
+      | None ↦ λ e. refl
+      | Some item ↦ λ e.
+          let stands = lives q item (fits.items q (eqb-true (shelf_of hash_of count q) at is) ∙ e) in
+          ap (λ b. cond (is_some (cond b None (Some item))) (Some item) None) (ap (λ cut. is_dead item.expiry item.updated cut now) (sym fits.cut) ∙ stands)
+    ] in
+    ap (λ (m : Items). record state { items = m })
+    (same_items _ state.items (λ q.
+    get_kept state.items (λ q. not (mine q) || is_some (alive state.cut now (get state.items q))) q
+    ∙ elim (mine q) as (λ b. mine q ≡ b → cond (not b || is_some (alive state.cut now (get state.items q))) (get state.items q) None ≡ get state.items q) [
+      | true ↦ λ is. stays q is (get state.items q) refl
+      | false ↦ λ is. refl
+    ] refl))
 
 hash_kept : (kept : Bool) (o : Option ℕ) (stored : ℕ) → cond kept o None ≡ Some stored → o ≡ Some stored
 hash_kept true o stored found = found

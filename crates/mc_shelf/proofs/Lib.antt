@@ -15,3 +15,4 @@ pub mod DeskLemmas
 pub mod AloneLemmas
 pub mod LabelLemmas
 pub mod KeyMapLemmas
+pub mod DeathLemmas

@@ -20,6 +20,8 @@ use Rattle.mc_shelf.specs.KeyMaps.{IsKeyed}
 use Rattle.mc_shelf.specs.Places.{KeyGoes, entries_of, hashes_of, items_of}
 use Rattle.mc_shelf.specs.Plans.{is_gone, item_in}
 use Rattle.mc_shelf.specs.Sweeps.{GivesFor, IsPurged}
+use Rattle.mc_shelf.specs.Deaths.{DieNoSooner, DiesNoSooner, NoneIsDead}
+use Rattle.mc_shelf.specs.declared.soonest.Soonest.{Soonest}
 use Rattle.mc_shelf.proofs.KeyLemmas.{order, same_key, get_gone, get_gone_other}
 use Rattle.mc_shelf.proofs.KeyMapLemmas.{hash_absent, item_held}
 use Rattle.mc_shelf.proofs.IndexLemmas.{numbered}
@@ -100,17 +102,17 @@ living_without items cut now key dead =
     ∙ sym (get_living items cut now q))
 
 -- where all are alive, they are the living ones
-all_living : (items : Items) (cut : Option ℕ) (now : ℕ) → ((key : List ℕ) (item : Entry) → get items key ≡ Some item → alive cut now (Some item) ≡ Some item) → living items cut now ≡ items
+all_living : (items : Items) (cut : Option ℕ) (now : ℕ) → NoneIsDead now cut items → living items cut now ≡ items
 all_living items cut now are =
     same_map nat_list_cmp_total same_key _ _ (λ q.
     get_living items cut now q
-    ∙ elim (get items q) as (λ o. get items q ≡ o → alive cut now o ≡ o) [ None ↦ λ e. refl | Some item ↦ λ e. are q item e ] refl)
+    ∙ elim (get items q) as (λ o. get items q ≡ o → alive cut now o ≡ o) [ None ↦ λ e. refl | Some item ↦ λ e. ap (λ b. if b then None else Some item) (are q item e) ] refl)
 
 gone_none : (cut : Option ℕ) (now : ℕ) (item : Entry) → is_gone cut now (Some item) ≡ true → alive cut now (Some item) ≡ None
 gone_none cut now item = elim (is_dead item.expiry item.updated cut now) as (λ b. is_none (if b then None else Some item) ≡ true → (if b then None else Some item) ≡ None) [ true ↦ λ e. refl | false ↦ λ e. cc ]
 
-gone_stays : (cut : Option ℕ) (now : ℕ) (item : Entry) → is_gone cut now (Some item) ≡ false → alive cut now (Some item) ≡ Some item
-gone_stays cut now item = elim (is_dead item.expiry item.updated cut now) as (λ b. is_none (if b then None else Some item) ≡ false → (if b then None else Some item) ≡ Some item) [ true ↦ λ e. cc | false ↦ λ e. refl ]
+gone_stays : (cut : Option ℕ) (now : ℕ) (item : Entry) → is_gone cut now (Some item) ≡ false → is_dead item.expiry item.updated cut now ≡ false
+gone_stays cut now item = elim (is_dead item.expiry item.updated cut now) as (λ b. is_none (if b then None else Some item) ≡ false → b ≡ false) [ true ↦ λ e. e | false ↦ λ e. refl ]
 
 -- the item that is lent from a place is that of the entry there
 item_copied : (found : Option (Bor EntryState)) (e : EntryState) → option_copied found ≡ Some e → item_in found ≡ Some e.item
@@ -207,25 +209,38 @@ swept_both now a b c d e f one two = record {
       (first.0, second.1 ∙ first.1);
 }
 
--- the entry is not dead at a moment
-abbrev pub IsAlive : (cut : Option ℕ) → (now : ℕ) → EntryState → Type 0
-IsAlive cut now e = alive cut now (Some e.item) ≡ Some e.item
+-- the entry is not dead at a moment, and dies no sooner than this
+abbrev pub Stays : (cut : Option ℕ) → (now : ℕ) → Soonest → EntryState → Type 0
+Stays cut now soonest e = (is_dead e.item.expiry e.item.updated cut now ≡ false) × DiesNoSooner soonest e.item
 
-pub alive_here : (cut : Option ℕ) (now : ℕ) (index : IndexState EntryState) (place : Place) (found : Option (Bor EntryState)) → option_copied found ≡ entry_at index place → is_gone cut now (item_in found) ≡ false → (e : EntryState) → entry_at index place ≡ Some e → IsAlive cut now e
-alive_here cut now index place found copied stays e there = gone_stays cut now e.item (ap (is_gone cut now) (sym (item_copied found e (copied ∙ there))) ∙ stays)
+pub stays_here : (cut : Option ℕ) (now : ℕ) (soonest : Soonest) (index : IndexState EntryState) (place : Place) (found again : Option (Bor EntryState)) → option_copied found ≡ entry_at index place → option_copied again ≡ entry_at index place → is_gone cut now (item_in found) ≡ false
+    → ((item : Entry) → item_in again ≡ Some item → DiesNoSooner soonest item) → (e : EntryState) → entry_at index place ≡ Some e → Stays cut now soonest e
+stays_here cut now soonest index place found again copied same stays one e there = (
+  gone_stays cut now e.item (ap (is_gone cut now) (sym (item_copied found e (copied ∙ there))) ∙ stays),
+  one e.item (item_copied again e (same ∙ there)),
+)
+
+pub below_sooner : (cut : Option ℕ) (now : ℕ) (index : IndexState EntryState) (at : ℕ) (a b : Soonest) → ((item : Entry) → DiesNoSooner a item → DiesNoSooner b item) → Below index at (Stays cut now a) → Below index at (Stays cut now b)
+below_sooner cut now index at a b others below k e lt there = ((below k e lt there).0, others e.item (below k e lt there).1)
 
 pub gone_here : (cut : Option ℕ) (now : ℕ) (index : IndexState EntryState) (place : Place) (found : Option (Bor EntryState)) → option_copied found ≡ entry_at index place → is_gone cut now (item_in found) ≡ true → (e : EntryState) → entry_at index place ≡ Some e → is_gone cut now (Some e.item) ≡ true
 gone_here cut now index place found copied gone e there = ap (is_gone cut now) (sym (item_copied found e (copied ∙ there))) ∙ gone
 
 -- at the end of a purge
-pub purged : (now : ℕ) (old : ShelfContent) (greatest : ℕ) (cut : Option ℕ) (index : IndexState EntryState) → IsKeyed (entries_of index) → (desk desk' : DeskState) (at : ℕ) → Swept now old (content_of greatest cut index) desk desk' → Below index at (IsAlive cut now) → IsNext index at None → IsPurged now old (content_of greatest cut index)
-purged now old greatest cut index keyed desk desk' at swept below none =
+pub all_stay : (cut : Option ℕ) (now : ℕ) (soonest : Soonest) (index : IndexState EntryState) → IsKeyed (entries_of index) → (at : ℕ) → Below index at (Stays cut now soonest) → IsNext index at None → NoneIsDead now cut (items_of index) × DieNoSooner soonest (items_of index)
+all_stay cut now soonest index keyed at below none =
+    let all = items_all (Stays cut now soonest) index keyed at below none in (
+      (λ key item there. let one = all key item there in subst (λ (i : Entry). is_dead i.expiry i.updated cut now ≡ false) one.2 one.1.0),
+      (λ key item there. let one = all key item there in subst (DiesNoSooner soonest) one.2 one.1.1),
+    )
+
+pub purged : (now : ℕ) (old : ShelfContent) (greatest : ℕ) (cut : Option ℕ) (index : IndexState EntryState) → IsKeyed (entries_of index) → (desk desk' : DeskState) → Swept now old (content_of greatest cut index) desk desk' → NoneIsDead now cut (items_of index) → IsPurged now old (content_of greatest cut index)
+purged now old greatest cut index keyed desk desk' swept none =
     let items = items_of index in
-    let all = all_living items cut now (λ key item there. let one = items_all (IsAlive cut now) index keyed at below none key item there in subst (λ (i : Entry). alive cut now (Some i) ≡ Some i) one.2 one.1) in
     record {
       greatest = swept.greatest;
       cut = swept.cut;
-      items = sym all ∙ swept.living_same;
+      items = sym (all_living items cut now none) ∙ swept.living_same;
       hashes = λ key. elim (get items key) as (λ o. get items key ≡ o → get (hashes_of index) key ≡ (if is_some o then get old.hashes key else None)) [
         | None ↦ λ e. hash_absent _ keyed key e
         | Some item ↦ λ e. (swept.kept key item e).1

@@ -3,6 +3,7 @@ pub mod KeyMaps
 pub mod Places
 pub mod Plans
 pub mod Sweeps
+pub mod Deaths
 pub mod Parts
 pub mod Unions
 pub mod Stores

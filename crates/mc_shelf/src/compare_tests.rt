@@ -1,5 +1,5 @@
 //! The store by shelves beside the plain store: the same steps, drawn at random, are answered
-//! alike, while tables grow between them. Where an allocation is refused, a store takes the step
+//! alike, while tables grow and the dead are purged between them, and the clock goes back at times. Where an allocation is refused, a store takes the step
 //! when it is asked again.
 
 ghost use Rattle.std.specs.Prelude.{◌<◌, ◌≤◌, length};
@@ -137,6 +137,11 @@ fn is_answered_alike<K: KeyHash + Drop>(
     Ok(is_same(&reply, &wanted))
 }
 
+/// A moment of that turn: 20 turns take a second, and up to 11 more are drawn.
+fn moment_after(dice: &mut Dice, turn: u64) -> Moment {
+    Moment::from_seconds_at_most((1000 + turn / 20).saturating_add(dice.roll(12)))
+}
+
 /// All keys.
 #[derive(Drop)]
 struct AllKeys;
@@ -184,18 +189,20 @@ impl<K: KeyHash + Drop> Pair<K> {
         })
     }
 
-    /// Takes 4000 steps in both, and after each moves one entry of the first shelf's old table.
-    /// Answers whether any was moved.
+    /// Takes 4000 steps in both, each up to 11 seconds after a moment that rises, so that many come
+    /// before the last one's. After each one entry of the first shelf's old table is moved, and after
+    /// some the dead of another such moment are dropped. Answers whether any entry was moved.
     fn compare(&mut self, rt: &impl Abort, alloc: Global) -> Result<bool, Fail> {
         let mut dice = Dice::new(1);
         let mut moved = false;
         for turn in 0..4000 {
-            let now = Moment::from_seconds_at_most(1000 + turn / 20);
+            let now = moment_after(&mut dice, turn);
             let step = step_of(&mut dice, &self.bytes);
             let alike = is_answered_alike(alloc, &mut self.store, &mut self.plain, &step, now)?;
             assert!(rt; alike, "turn {turn}");
             moved |= self.store.grow(0, 1) > 0;
-            if turn % 500 == 0 {
+            if dice.roll(50) == 0 {
+                let now = moment_after(&mut dice, turn);
                 purge_both(&mut self.store, &mut self.plain, now);
             }
         }

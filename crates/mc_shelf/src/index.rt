@@ -1,12 +1,13 @@
 //! Entries, found by their keys.
 
 ghost use Rattle.std.specs.Prelude.{◌≡◌, ℕ, ◌+◌, ◌-◌, ◌^◌, ◌<◌, ◌≤◌, List, length, min};
-ghost use Rattle.std.specs.Prelude.{Some, None, IfOk, IfSome, OnOk, option_copied};
+ghost use Rattle.std.specs.Prelude.{Some, None, IfOk, IfSome, OnOk, option_copied, true, false};
 ghost use Rattle.std.specs.FinMap.{empty, get};
 ghost use Rattle.mc_slab.specs.Classes.{class_holding};
 ghost use Rattle.mc_command.specs.Plain.{charge, item_class};
 ghost use Rattle.mc_shelf.specs.Plans.{drafted};
 ghost use Rattle.mc_grow.specs.Indexes.{IsFilled, IsNext, KeepsLower, entry_at, left};
+ghost use Rattle.mc_shelf.specs.Deaths.{DieNoSooner, NoneIsDead};
 ghost use Rattle.mc_shelf.specs.KeyMaps.{IsHashOf, IsKeyed};
 ghost use Rattle.mc_shelf.specs.Places.{
   IsChanged,
@@ -21,15 +22,20 @@ ghost use Rattle.mc_shelf.specs.Places.{
 };
 
 use crate::entry::Entry;
+use crate::soonest::Soonest;
 use crate::write::Write;
+use mc_command::Standing;
 pub(crate) use mc_grow::Place;
 use mc_item::Parts;
-use mc_time::Expiry;
+use mc_time::{Expiry, Moment};
 use std::alloc::{AllocError, Global};
 use std::marker::Model;
 
 /// A new index has a table of 2^6 homes.
 const LEAST_EXPONENT: u32 = 6;
+
+/// How many entries of an old table are moved before an entry comes to an index whose growth lags.
+const CATCH_UP: usize = 8;
 
 /// Entries by their keys, each with its key's hash: a growing index of entries by hash and key, in which no key stands with two
 /// hashes.
@@ -38,13 +44,16 @@ const LEAST_EXPONENT: u32 = 6;
 #[derive(Drop)]
 pub(crate) struct Index {
     entries: mc_grow::Index<Entry>,
+    /// No entry's item is dead where an item of these two moments isn't.
+    soonest: Soonest,
 }
 
 impl Model for Index {
     ghost use Rattle.mc_grow.specs.Indexes.{IndexState, coded_index};
     ghost use Rattle.mc_shelf.specs.States.{EntryState, coded_entry_state};
     ghost use Rattle.mc_shelf.specs.KeyMaps.{IsKeyed};
-    ghost use Rattle.mc_shelf.specs.Places.{entries_of};
+    ghost use Rattle.mc_shelf.specs.Places.{entries_of, items_of};
+    ghost use Rattle.mc_shelf.specs.Deaths.{DieNoSooner};
 
     ghost Value = { IndexState EntryState };
 
@@ -52,7 +61,8 @@ impl Model for Index {
 
     ghost view = { λ i. i.entries };
 
-    ghost invariant = { λ i. IsKeyed (entries_of i.entries) };
+    ghost invariant = { λ i. IsKeyed (entries_of i.entries)
+        × DieNoSooner i.soonest (items_of i.entries) };
 }
 
 impl Index {
@@ -64,6 +74,7 @@ impl Index {
     {
         Ok(Index {
             entries: mc_grow::Index::new(alloc, LEAST_EXPONENT)?,
+            soonest: Soonest::of_none(),
         })
     }
 
@@ -100,12 +111,24 @@ impl Index {
         self.entries.get(place)
     }
 
-    /// Makes room for one entry more, and begins a growth where one is due. The entries are as before, refused or not.
+    /// Makes room for one entry more, and begins a growth where one is due. A growth that lags moves 8 entries first. The
+    /// entries are as before, refused or not.
     pub(crate) fn reserve(&mut self, alloc: Global) -> Result<(), AllocError>
         ensures entries { entries_of self.new ≡ entries_of self.old }
         ensures room { OnOk result (1 ≤ self.new.spare) }
     {
+        self.catch_up();
         self.entries.reserve(alloc)
+    }
+
+    /// Moves entries of the old table where a growth lags, so that it ends before the new table is full, also where no other
+    /// moves come. It takes no memory.
+    fn catch_up(&mut self)
+        ensures { entries_of self.new ≡ entries_of self.old }
+    {
+        if self.entries.lags() {
+            let _ = self.entries.move_some(CATCH_UP);
+        }
     }
 
     /// Puts in an entry of a new key, for which there is room, and answers its place. It takes no memory.
@@ -117,6 +140,7 @@ impl Index {
         ensures room { self.old.spare ≤ self.new.spare + 1 }
         ensures left { left self.new ≡ left self.old }
     {
+        self.soonest = self.soonest.with(entry.expiry(), entry.updated());
         self.entries.insert_reserved(entry)
     }
 
@@ -126,6 +150,7 @@ impl Index {
         ensures { (key : List ℕ) (at : IsKeyAt self.old key place) →
             IsChanged self.old self.new key (record at.entry.item { expiry = expiry }) }
     {
+        self.soonest = self.soonest.with_expiry(expiry);
         self.entries.update(place, |mut entry| {
             entry.set_expiry(expiry);
             (entry, ())
@@ -139,6 +164,7 @@ impl Index {
         ensures before { entry_at self.old place ≡ Some result }
         ensures changed { IsChanged self.old self.new entry.entry.key entry.entry.item }
     {
+        self.soonest = self.soonest.with(entry.expiry(), entry.updated());
         self.entries.update(place, |before| (entry, before))
     }
 
@@ -165,6 +191,7 @@ impl Index {
             draft,
             ..
         } = write;
+        self.soonest = self.soonest.with(draft.expiry, moment);
         self.entries.update(place, |mut entry| {
             entry.rewrite(Parts {
                 hash,
@@ -202,6 +229,30 @@ impl Index {
         ensures fits { IfSome result (λ found. found.0 + 1 < 2 ^ 64) }
     {
         self.entries.filled_from(at)
+    }
+
+    /// Answers whether no entry is there.
+    pub(crate) fn is_empty(&self) -> bool
+        ensures items { result ≡ true → items_of self.now ≡ empty }
+        ensures hashes { result ≡ true → hashes_of self.now ≡ empty }
+    {
+        self.entries.len() == 0
+    }
+
+    /// Answers whether an item may be dead at a moment, with a flush at `cut`: if not, none is. It walks no entry.
+    pub(crate) fn may_have_dead(&self, cut: Option<u64>, now: Moment) -> bool
+        ensures none { result ≡ false → NoneIsDead now cut (items_of self.now) }
+        ensures keyed { IsKeyed (entries_of self.now) }
+    {
+        self.soonest.may_be_dead(cut, now)
+    }
+
+    /// Keeps the soonest expiry and write that a walk over all entries has found.
+    pub(crate) fn keep_soonest(&mut self, soonest: Soonest)
+        requires { DieNoSooner soonest (items_of self.old) }
+        ensures { self.new ≡ self.old }
+    {
+        self.soonest = soonest;
     }
 
     /// Moves up to `n` entries of an old table, and answers how many it moved: as many as are left, where they are fewer.

@@ -9,6 +9,7 @@ mod index;
 mod parts;
 mod plan;
 mod shelf;
+mod soonest;
 mod store;
 #[cfg(test)]
 mod tests;
@@ -16,7 +17,7 @@ mod write;
 
 pub use desk::Desk;
 pub use entry::Entry;
-pub use parts::{flush_parts, steps_change_one_shelf};
+pub use parts::{flush_parts, refusals_are_plain, steps_change_one_shelf};
 pub use plan::Plan;
 pub use shelf::Shelf;
 pub use store::{Settings, Store, StoreParts};

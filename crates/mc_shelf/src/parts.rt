@@ -1,6 +1,6 @@
 //! The parts of a store: its shelves, and the desk that they share.
 
-ghost use Rattle.std.specs.Prelude.{◌≡◌, ◌==◌, ◌≤◌, ℕ, List, map, replicate, IfOk};
+ghost use Rattle.std.specs.Prelude.{◌≡◌, ◌==◌, ◌≤◌, ℕ, List, map, replicate, true, false, IfOk};
 ghost use Rattle.mc_command.specs.declared.step.KeyStep.{KeyStep};
 ghost use Rattle.mc_command.specs.declared.reply.Reply.{Reply};
 ghost use Rattle.mc_command.specs.Commands.{key_of};
@@ -8,8 +8,19 @@ ghost use Rattle.mc_command.specs.Plain.{Plain, flushed};
 ghost use Rattle.mc_command.specs.Purge.{purged};
 ghost use Rattle.mc_command.specs.Laws.{IsOnKey};
 ghost use Rattle.mc_shelf.specs.States.{ShelfContent, DeskState, nothing_held};
-ghost use Rattle.mc_shelf.specs.Plans.{IsTaken, IsSettled};
+ghost use Rattle.mc_slab.specs.Slabs.{IsSlab};
+ghost use Rattle.mc_shelf.specs.Plans.{
+  IsTaken,
+  IsSettled,
+  IsSpent,
+  MayWantMemory,
+  NeedsPage,
+  has_no_number,
+  next_of,
+  writes,
+};
 ghost use Rattle.mc_shelf.specs.Sweeps.{AreOut, GivesFor};
+ghost use Rattle.mc_shelf.specs.Deaths.{NoneIsDead};
 ghost use Rattle.mc_shelf.specs.Unions.{IsFlushed, lefts};
 ghost use Rattle.mc_shelf.specs.Parts.{
   shelf_of,
@@ -48,7 +59,34 @@ pub fn steps_change_one_shelf()
     pages_stay();
 }
 
+/// States where a step that writes is refused at the desk. With the unique numbers spent, the plain
+/// machine is out of numbers too, in each state that stands for the shelf and the desk; and where
+/// the write needs a page, its answer is one that memory may be refused for.
+pub fn refusals_are_plain()
+    ensures spent { (step : KeyStep) (now : ℕ) (shelf : ShelfContent) (desk : DeskState) →
+        IsOnKey step → writes (next_of shelf step now) ≡ true → has_no_number desk →
+        IsSpent step now shelf desk }
+    ensures page { (step : KeyStep) (now : ℕ) (shelf : ShelfContent) (desk : DeskState) →
+        IsOnKey step → IsSlab desk.slab → shelf.greatest ≤ 1048576 →
+        NeedsPage (next_of shelf step now) desk → MayWantMemory step now shelf desk }
+{
+    counts_follow();
+}
+
 impl Shelf {
+    /// Answers whether an item may be dead at a moment. If not, none is, and where the shelf is a
+    /// part of a state, purging its part changes nothing, so that the desk isn't needed. It walks no
+    /// item.
+    pub fn may_have_dead(&self, now: Moment) -> bool
+        ensures none { result ≡ false →
+            NoneIsDead now self.now.content.cut self.now.content.items }
+        ensures part { result ≡ false → (hash_of : List ℕ → ℕ) (shelves at : ℕ) (state : Plain) →
+            IsShelfOf hash_of shelves state at self.now.content →
+            purged (λ key. shelf_of hash_of shelves key == at) now state ≡ state }
+    {
+        self.index.may_have_dead(self.cut, now)
+    }
+
     /// Drops the items that are dead at a moment, of a shelf that is with this desk a part of a
     /// state, and gives their chunks back: the state goes to the one purged of that shelf's dead.
     /// It takes no memory. The cost is that of one pass over the items.

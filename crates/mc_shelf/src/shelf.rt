@@ -41,6 +41,7 @@ use crate::desk::Desk;
 use crate::entry::Entry;
 use crate::index::{Index, Place};
 use crate::plan::{Next, Plan, is_gone, next_of};
+use crate::soonest::Soonest;
 use crate::write::Write;
 use mc_command::{Bytes, KeyStep, Reply, StepFault, counts_follow};
 use mc_slab::{Class, class_of};
@@ -135,7 +136,8 @@ impl Shelf {
     }
 
     /// Finds out what a step at a moment does. Copies the block of a hit, and makes room for the entry of a new key that is
-    /// to be written; nothing else takes memory. The shelf holds what it held, though a growth of its table may begin.
+    /// to be written; nothing else takes memory. The shelf holds what it held, though a growth of its table may begin,
+    /// and one that lags moves 8 entries.
     pub fn look<'a>(
         &mut self,
         alloc: Global,
@@ -241,13 +243,17 @@ impl Shelf {
     }
 
     /// Drops the items that are dead at a moment, and gives their chunks back. It takes no memory. The cost is that of one
-    /// pass over the items.
+    /// pass over the items, and where none may be dead it walks none.
     pub fn purge(&mut self, now: Moment, desk: &mut Desk)
         requires { AreOut self.old.content desk.old }
         ensures shelf { IsPurged now self.old.content self.new.content }
         ensures desk { GivesFor self.old.content.items self.new.content.items desk.old desk.new }
     {
         counts_follow();
+        if !self.index.may_have_dead(self.cut, now) {
+            return;
+        }
+        let mut soonest = Soonest::of_none();
         let mut at = 0;
         while let Some((number, place)) = self.index.filled_from(at) {
             if is_gone(self.index.get(place), self.cut, now) {
@@ -255,12 +261,15 @@ impl Shelf {
                 desk.give(entry.into_chunk());
                 at = number;
             } else {
+                soonest = soonest.with_found(self.index.get(place));
                 at = number + 1;
             }
         }
+        self.index.keep_soonest(soonest);
     }
 
-    /// Drops all items, and gives their chunks back. It takes no memory. The cost is that of one pass over the items.
+    /// Drops all items, and gives their chunks back. It takes no memory. The cost is that of one pass over the items, and where
+    /// there are none it walks nothing.
     pub fn clear(&mut self, desk: &mut Desk)
         requires { AreOut self.old.content desk.old }
         ensures shelf { self.new.content
@@ -268,12 +277,16 @@ impl Shelf {
         ensures desk { GivesFor self.old.content.items self.new.content.items desk.old desk.new }
     {
         counts_follow();
+        if self.index.is_empty() {
+            return;
+        }
         let mut at = 0;
         while let Some((number, place)) = self.index.filled_from(at) {
             let entry = self.index.remove(place);
             desk.give(entry.into_chunk());
             at = number;
         }
+        self.index.keep_soonest(Soonest::of_none());
     }
 
     /// Sets the moment from which on what was updated before it is dead; with none, no flush is waiting or has come.

@@ -2,9 +2,11 @@
 //! machine's state.
 
 #[cfg(test)]
+mod lag_tests;
+#[cfg(test)]
 mod tests;
 
-ghost use Rattle.std.specs.Prelude.{◌≡◌, ◌↔◌, ◌-◌, ◌≤◌, min, length, replicate, slice_index, slice_set, IfOk, OnErr, Err};
+ghost use Rattle.std.specs.Prelude.{◌≡◌, ◌↔◌, ◌-◌, ◌≤◌, min, length, replicate, slice_index, slice_set, IfOk, OnErr, Err, refl};
 ghost use Rattle.mc_command.specs.Commands.{key_of, longest_key};
 ghost use Rattle.mc_command.specs.Plain.{Plain, opening, plain, Answered, Spent, MayFail};
 ghost use Rattle.mc_command.specs.Laws.{IsOnKey};
@@ -208,6 +210,8 @@ impl<K: KeyHash + Drop> Steps for Store<K> {
     ghost spent = { λ old step now. plain old.plain step now ≡ Spent };
 
     ghost same = { λ old new. HoldSame old new };
+
+    ghost holds_itself = { λ _. record { plain = refl; settings = refl; hasher = refl } };
 
     fn step(&mut self, alloc: Global, step: &KeyStep<'_>, now: Moment) -> Result<Reply, StepFault>
         requires { length (key_of step.now) ≤ longest_key }

@@ -1,28 +1,29 @@
-//! A hopscotch table of entries that are told by their hash and key alone.
+//! Entries that are told by their hash and key, and a hopscotch table of them.
 
 ghost use Rattle.std.specs.Prelude.{◌≡◌};
 
 use mc_hop::{Hop, Keyed};
 use std::alloc::{AllocError, Global};
 
-/// A hash and a key.
+/// A hash, a key of two bytes, and a count.
 #[derive(Drop)]
 pub struct Mark {
-    hash: u64,
-    key: &'static [u8],
+    pub hash: u64,
+    pub key: [u8; 2],
+    pub count: u32,
 }
 
 impl Keyed for Mark {
     ghost hash_of = { λ e. e.hash };
 
-    ghost key_of = { λ e. e.key.now };
+    ghost key_of = { λ e. e.key };
 
     fn hash(&self) -> u64 {
         self.hash
     }
 
     fn key(&self) -> &[u8] {
-        self.key
+        &self.key
     }
 }
 
@@ -36,14 +37,19 @@ pub fn marks_table(alloc: Global) -> Result<Hop<Mark>, AllocError> {
 
 /// Puts the mark of a new hash and key into the first empty bucket of the 32 from its home on, and
 /// tells whether it did.
-pub fn add_mark(table: &mut Hop<Mark>, hash: u64, key: &'static [u8]) -> bool {
-    if table.find(hash, key).is_some() {
+pub fn add_mark(table: &mut Hop<Mark>, hash: u64, key: [u8; 2]) -> bool {
+    if table.find(hash, &key).is_some() {
         return false;
     }
     let home = table.home_of(hash);
     match table.free_from(home) {
         Some(at) if at - home < 32 => {
-            table.put_within(home, at, Mark { hash, key });
+            let mark = Mark {
+                hash,
+                key,
+                count: 0,
+            };
+            table.put_within(home, at, mark);
             true
         }
         _ => false,
@@ -54,7 +60,7 @@ pub fn add_mark(table: &mut Hop<Mark>, hash: u64, key: &'static [u8]) -> bool {
 /// room. The hashes of 256 in a row, from a multiple of 256 on, have one home.
 pub fn fill_marks(table: &mut Hop<Mark>, hash: u64, count: u64) -> bool {
     for number in 0..count {
-        if !add_mark(table, hash.wrapping_add(number), b"k") {
+        if !add_mark(table, hash.wrapping_add(number), [0; 2]) {
             return false;
         }
     }

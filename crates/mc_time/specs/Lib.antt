@@ -1,1 +1,2 @@
 pub mod Death
+pub mod Stored

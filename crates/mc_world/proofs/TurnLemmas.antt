@@ -10,7 +10,7 @@ use Rattle.mc_command.specs.declared.step.Steps.{Ghosts as Relations}
 use Rattle.mc_command.specs.declared.reply.Reply.{Reply}
 use Rattle.mc_parse.specs.Units.{ProtocolUnit, Request, Fault, LongLine}
 use Rattle.mc_reply.specs.Texts.{plain_text}
-use Rattle.mc_session.specs.Turns.{SessionState, Answers, AnswersStep, TakesTurn, DecidesStep, HoldsSame, NoTurnDue, closed}
+use Rattle.mc_session.specs.Turns.{SessionState, Answers, AnswersStep, TakesTurn, DecidesStep, NoTurnDue, closed}
 use Rattle.mc_session.specs.declared.session.Turn.{Turn}
 use Rattle.mc_session.specs.declared.session.TurnFault.{TurnFault}
 use Rattle.mc_shelf.specs.declared.store.Store.{Store}
@@ -117,11 +117,6 @@ in_store = record { took = store_took; spent = store_spent; same = store_same }
 abbrev Kept : {K : Type 0} → Store K → Store K → Type 0
 Kept b a = (a.settings ≡ b.settings) × (a.hasher ≡ b.hasher)
 
--- what stays where no step was taken
-held : {K : Type 0} (b a : Store K) → HoldsSame in_store b a → store_same b a
-held {K = K} b a (inl e) = record { plain = ap (λ (s : Store K). s.plain) e; settings = ap (λ (s : Store K). s.settings) e; hasher = ap (λ (s : Store K). s.hasher) e }
-held b a (inr same) = same
-
 -- What a turn of a session with a store says of the world.
 module _ {K : Type 0} (n now : ℕ) (old new : List SessionState) (b a : Store K) where
   abbrev with_store : List SessionState → Store K → WorldState K
@@ -129,15 +124,15 @@ module _ {K : Type 0} (n now : ℕ) (old new : List SessionState) (b a : Store K
 
   pub result_done : (hash_of : K → List ℕ → ℕ) (r : Result Turn TurnFault) → OnOk r (TurnOf in_store n now old new b a) → OnOk r (Done hash_of (with_store old b) (TurnEvent n) (with_store new a))
   result_done hash_of (Ok t) h =
-      let kept : Kept b a = turn_keeps in_store Kept (λ b step now reply a took. took.1) (λ b a same. (same.settings, same.hasher)) (λ b a e. let same = held b a (inl e) in (same.settings, same.hasher)) n now old new b a h in
+      let kept : Kept b a = turn_keeps in_store Kept (λ b step now reply a took. took.1) (λ b a same. (same.settings, same.hasher)) (λ b a e. (ap (λ (s : Store K). s.settings) e, ap (λ (s : Store K). s.hasher) e)) n now old new b a h in
       (kept.0, kept.1, refl, turn_seen in_store in_plain (λ (s : Store K). s.plain) (λ b step now reply a took. took.0) (λ b step now spent. spent) (λ b a same. same.plain) n now old new b a h)
   result_done hash_of (Err fault) h = tt
 
-  decided_kept : (decided : Bool) → (IsFalse decided → HoldsSame in_store b a) → (IsTrue decided → DecidedOf in_store n now old b a) → Kept b a
+  decided_kept : (decided : Bool) → (IsFalse decided → store_same b a) → (IsTrue decided → DecidedOf in_store n now old b a) → Kept b a
   decided_kept true undecided decides = (decides refl).2.took_it.1
-  decided_kept false undecided decides = let same = held b a (undecided refl) in (same.settings, same.hasher)
+  decided_kept false undecided decides = let same = undecided refl in (same.settings, same.hasher)
 
-  pub result_undone : (r : Result Turn TurnFault) → OnErr r (new ≡ at_session old n closed) → OnErr r (IsDue n old) → IfErr r (λ fault. IsFalse fault.decided → HoldsSame in_store b a) → IfErr r (λ fault. IsTrue fault.decided → DecidedOf in_store n now old b a)
+  pub result_undone : (r : Result Turn TurnFault) → OnErr r (new ≡ at_session old n closed) → OnErr r (IsDue n old) → IfErr r (λ fault. IsFalse fault.decided → store_same b a) → IfErr r (λ fault. IsTrue fault.decided → DecidedOf in_store n now old b a)
       → IfErr r (λ fault. Undone fault.decided (with_store old b) (TurnEvent n) (with_store new a))
   result_undone (Ok t) shut due undecided decides = tt
   result_undone (Err fault) shut due undecided decides =
@@ -148,6 +143,6 @@ module _ {K : Type 0} (n now : ℕ) (old new : List SessionState) (b a : Store K
         moment = refl;
         sessions = shut;
         takes = due;
-        undecided = λ is. (held b a (undecided is)).plain;
+        undecided = λ is. (undecided is).plain;
         decides = λ is. decided_seen in_store in_plain (λ (s : Store K). s.plain) (λ b step now reply a took. took.0) (λ b step now spent. spent) (λ b a same. same.plain) n now old b a (decides is);
       }

@@ -1,7 +1,7 @@
 ghost use Rattle.std.specs.Prelude.{◌≡◌, [], ◌<◌, ◌≤◌, ◌↔◌, length, Some, None, Ok};
 ghost use Rattle.std.specs.Prelude.{IfSome, IfErr, OnOk, OnErr, IsTrue, IsFalse};
 ghost use Rattle.std.specs.Option.{option_copied};
-ghost use Rattle.mc_session.specs.Turns.{HoldsSame, fed, closed, sent};
+ghost use Rattle.mc_session.specs.Turns.{fed, closed, sent};
 ghost use Rattle.mc_world.specs.Worlds.{numbered, open_session, changed};
 ghost use Rattle.mc_world.specs.Worlds.{output_of, IsIdle, IsClosed};
 ghost use Rattle.mc_world.specs.Sessions.{with_opened, at_session, IsOpened, IsOpenAt};
@@ -108,7 +108,7 @@ impl Sessions {
         ensures err { OnErr result (self.new ≡ at_session self.old number closed) }
         ensures due { OnErr result (IsDue number self.old) }
         ensures undecided { IfErr result (λ fault.
-            IsFalse fault.decided → HoldsSame S.Steps store.old store.new) }
+            IsFalse fault.decided → S.same store.old store.new) }
         ensures decided { IfErr result (λ fault. IsTrue fault.decided →
             DecidedOf S.Steps number now self.old store.old store.new) }
     {

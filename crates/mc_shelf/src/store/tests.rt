@@ -136,6 +136,63 @@ fn a_purge_drops_the_dead_of_one_shelf(rt: HostRuntime) -> Result<(), Fail> {
     answers(&rt, rt.alloc(), &mut store, &free)
 }
 
+/// Answers whether an item of one of the shelves may be dead.
+fn may_have_dead(store: &Store<Fnv>, now: Moment) -> bool {
+    store
+        .parts
+        .shelves
+        .iter()
+        .any(|shelf| shelf.may_have_dead(now))
+}
+
+/// From the soonest expiry on, or a flush, an item may be dead, and not before, until a purge has
+/// dropped those that are.
+#[test]
+fn shelves_tell_whether_one_may_be_dead(rt: HostRuntime) -> Result<(), Fail> {
+    // After each row, a second and whether an item may be dead then.
+    let rows: [(Row<'_>, u64, bool); 13] = [
+        ((1000, b"a", Ask::Get, Want::Told("miss")), 9000, false),
+        (set(1000, b"a", 0, b"x", "stored"), 9000, false),
+        (set(1000, b"b", 20, b"y", "stored"), 1019, false),
+        ((1000, b"b", Ask::Get, Want::Hit(2, b"y")), 1020, true),
+        ((1000, b"b", Ask::Gat(10), Want::Hit(2, b"y")), 1009, false),
+        (
+            (1000, b"b", Ask::Touch(30), Want::Told("touched")),
+            1010,
+            true,
+        ),
+        // The purge of a flush with a delay finds that b expires later, and a at the flush.
+        (
+            (1010, b"a", Ask::Flush(9), Want::Told("flushed")),
+            1018,
+            false,
+        ),
+        ((1018, b"a", Ask::Get, Want::Hit(1, b"x")), 1019, true),
+        ((1019, b"a", Ask::Get, Want::Told("miss")), 1018, false),
+        (set(1019, b"c", 0, b"z", "stored"), 1019, true),
+        (
+            (1019, b"a", Ask::Flush(50), Want::Told("flushed")),
+            1068,
+            false,
+        ),
+        ((1019, b"c", Ask::Get, Want::Hit(3, b"z")), 1069, true),
+        (
+            (1019, b"a", Ask::Flush(0), Want::Told("flushed")),
+            9000,
+            false,
+        ),
+    ];
+    let alloc = rt.alloc();
+    let mut store = open(alloc, 64)?;
+    for (row, seconds, want) in rows {
+        answers(&rt, alloc, &mut store, &[row])?;
+        let now = Moment::from_seconds_at_most(seconds);
+        let may = may_have_dead(&store, now);
+        assert!(rt; may == want, "{may} at {seconds}");
+    }
+    Ok(())
+}
+
 /// The store made again of its parts.
 fn remade(store: Store<Fnv>) -> Store<Fnv>
     ensures { result.plain ≡ store.plain }

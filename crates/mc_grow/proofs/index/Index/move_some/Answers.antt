@@ -1,8 +1,9 @@
-use Rattle.std.proofs.Common.{◌≡◌, true, ap, sym, refl, is_some, ◌∙◌, arith}
+use Rattle.std.proofs.Common.{◌≡◌, true, ap, subst, sym, refl, is_some, ◌∙◌, arith}
+use Rattle.mc_hop.specs.Tables.{AreApart}
 use Rattle.mc_grow.specs.Adding.{beside, cells_of, side_of}
-use Rattle.mc_grow.specs.Indexes.{IndexState}
+use Rattle.mc_grow.specs.Indexes.{IndexState, cells}
 use Rattle.mc_grow.specs.Parts.{drained_items}
-use Rattle.mc_grow.proofs.IndexLemmas.{moved_some, moved_to_the_end, nothing_moved}
+use Rattle.mc_grow.proofs.IndexLemmas.{as_many_at_the_end, as_many_left, as_many_stay, moved_some, moved_to_the_end, nothing_moved}
 use Rattle.mc_grow.proofs.index.Index.move_some.Goals as goal
 use Rattle.mc_grow.proofs.index.Index.move_some.Goals.{in-Some-1, in-None-1}
 
@@ -42,3 +43,30 @@ returns-else-len-eq0-clause-moves g c =
     (ap (λ (s : IndexState g.row.T.Denot). s.k) c.self.view_is) (ap side_of c.self.view_is)
     c.move_entries-moved.ensures.taken (λ e. omega (arith, c.len.ensures, c.if-len-eq0.false, e)) c.move_entries-moved.ensures.k
     (ap (λ (s : IndexState g.row.T.Denot). s.k) new_is.1 ∙ new_is.2) (ap (λ (s : IndexState g.row.T.Denot). s.draining) new_is.1 ∙ new_is.3) (ap (λ (s : IndexState g.row.T.Denot). s.growing) new_is.1 ∙ new_is.4) (ap side_of new_is.1 ∙ new_is.5)
+
+pub returns-in_default-clause-count : goal.returns-in_default-clause-count
+returns-in_default-clause-count g c =
+    as_many_stay g.T.Keyed.hash_of g.T.Keyed.key_of c.content_laws.ensures c.args.self.now _ (beside c.self.inside.table c.self.inside.strays.items)
+    (ap drained_items c.take.ensures.after ∙ ap drained_items c.in_default.ensures.value ∙ ap (λ (s : IndexState g.row.T.Denot). s.draining) c.self.view_is)
+    (ap side_of c.self.view_is)
+
+pub returns-then-len-eq0-clause-count : goal.returns-then-len-eq0-clause-count
+returns-then-len-eq0-clause-count g c =
+    as_many_at_the_end g.T.Keyed.hash_of g.T.Keyed.key_of c.content_laws.ensures c.args.self.now
+    c.in-Some.draining.items c.move_entries-moved.new.draining.items (beside c.self.inside.table c.self.inside.strays.items) (beside c.move_entries-moved.new.table c.move_entries-moved.new.strays.items)
+    (ap drained_items c.in-Some.ensures.value ∙ ap (λ (s : IndexState g.row.T.Denot). s.draining) c.self.view_is) (ap side_of c.self.view_is)
+    (subst (λ (s : IndexState g.row.T.Denot). AreApart g.T.Keyed.hash_of g.T.Keyed.key_of (cells s)) c.self.view_is c.self.invariant.apart) c.move_entries-moved.ensures.content
+    _ (beside c.try_strays.new.table c.try_strays.new.strays.items) (ap drained_items c.take.ensures.after) (omega (arith, c.len.ensures, c.if-len-eq0.true)) c.try_strays.ensures.content
+
+pub returns-else-len-eq0-clause-count : goal.returns-else-len-eq0-clause-count
+returns-else-len-eq0-clause-count g c =
+    let new_is : (s : IndexState g.row.T.Denot) × (c.match-self.self ≡ s) × (s.draining ≡ c.move_entries-moved.new.draining.items) × (side_of s ≡ beside c.move_entries-moved.new.table c.move_entries-moved.new.strays.items) =
+    elim c.match-self.branch [
+      | in-Some-1 w ↦ (_, w.self-is, refl, refl)
+      | in-None-1 w ↦ (_, w.self-is, refl, refl)
+    ] in
+    as_many_left g.T.Keyed.hash_of g.T.Keyed.key_of c.content_laws.ensures c.args.self.now
+    c.in-Some.draining.items c.move_entries-moved.new.draining.items (beside c.self.inside.table c.self.inside.strays.items) (beside c.move_entries-moved.new.table c.move_entries-moved.new.strays.items)
+    (ap drained_items c.in-Some.ensures.value ∙ ap (λ (s : IndexState g.row.T.Denot). s.draining) c.self.view_is) (ap side_of c.self.view_is)
+    (subst (λ (s : IndexState g.row.T.Denot). AreApart g.T.Keyed.hash_of g.T.Keyed.key_of (cells s)) c.self.view_is c.self.invariant.apart) c.move_entries-moved.ensures.content
+    c.match-self.self (ap (λ (s : IndexState g.row.T.Denot). s.draining) new_is.1 ∙ new_is.2) (ap side_of new_is.1 ∙ new_is.3)

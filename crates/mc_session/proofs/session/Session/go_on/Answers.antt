@@ -2,4 +2,4 @@ use Rattle.mc_session.specs.Answers.{at_start}
 use Rattle.mc_session.proofs.session.Session.go_on.Goals as goal
 
 pub invariant_of-self-in-Read : goal.invariant_of-self-in-Read
-invariant_of-self-in-Read c = (at_start, c.self-in-Read.invariant.1)
+invariant_of-self-in-Read c = at_start

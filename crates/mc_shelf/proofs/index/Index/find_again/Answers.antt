@@ -7,5 +7,5 @@ use Rattle.mc_shelf.proofs.index.Index.find_again.Goals as goal
 
 pub returns : goal.returns
 returns c =
-    key_found c.args.self.now (subst (λ s. IsKeyed (entries_of s)) c.self.view_is c.self.invariant) c.args.hash c.args.key.now c.requires.hash c.find_again.result
+    key_found c.args.self.now (subst (λ s. IsKeyed (entries_of s)) c.self.view_is c.self.invariant.0) c.args.hash c.args.key.now c.requires.hash c.find_again.result
     (subst (λ s. IsFound hash_in key_in s c.args.hash c.args.key.now c.find_again.result) c.self.view_is c.find_again.ensures)

@@ -5,21 +5,29 @@ use Rattle.mc_shelf.specs.States.{EntryState}
 use Rattle.mc_shelf.specs.Places.{KeyComes, items_of}
 use Rattle.mc_shelf.proofs.KeyMapLemmas.{no_item_entry}
 use Rattle.mc_shelf.proofs.IndexLemmas.{came, came_keyed, key_at}
+use Rattle.mc_shelf.proofs.DeathLemmas.{sooner_insert}
 use Rattle.mc_shelf.proofs.index.Index.insert_reserved.Goals as goal
 
 pub insert_reserved-requires-clause-new : goal.insert_reserved-requires-clause-new
 insert_reserved-requires-clause-new c =
-    no_item_entry _ c.self.invariant c.args.entry.key (subst (λ (s : IndexState EntryState). get (items_of s) c.args.entry.key ≡ None) (sym c.self.view_is) c.requires.absent) c.args.entry.hash
+    no_item_entry _ c.self.invariant.0 c.args.entry.key (subst (λ (s : IndexState EntryState). get (items_of s) c.args.entry.key ≡ None) (sym c.self.view_is) c.requires.absent) c.args.entry.hash
 
 pub invariant_of-self : goal.invariant_of-self
 invariant_of-self c =
-    came_keyed c.self.inside.entries c.insert_reserved.new.self c.self.invariant c.args.entry (subst (λ (s : IndexState EntryState). get (items_of s) c.args.entry.key ≡ None) (sym c.self.view_is) c.requires.absent) c.insert_reserved.ensures.content
+    let inside = c.self.inside in
+    let entry = c.args.entry in
+    let absent = subst (λ (s : IndexState EntryState). get (items_of s) entry.key ≡ None) (sym c.self.view_is) c.requires.absent in
+    let comes = came inside.entries c.insert_reserved.new.self c.self.invariant.0 entry absent c.insert_reserved.ensures.content in (
+      came_keyed inside.entries c.insert_reserved.new.self c.self.invariant.0 entry absent c.insert_reserved.ensures.content,
+      sooner_insert inside.soonest c.with-self-inside.result (items_of inside.entries) (items_of c.insert_reserved.new.self) entry.key entry.item comes.items c.self.invariant.1 c.with-self-inside.ensures.others
+          (c.with-self-inside.ensures.one entry.item (sym c.expiry.ensures) (sym c.updated.ensures)),
+    )
 
 pub returns-clause-inserted : goal.returns-clause-inserted
 returns-clause-inserted c =
     subst (λ (s : IndexState EntryState). KeyComes s c.insert_reserved.new.self c.args.entry) c.self.view_is
-    (came c.self.inside.entries c.insert_reserved.new.self c.self.invariant c.args.entry (subst (λ (s : IndexState EntryState). get (items_of s) c.args.entry.key ≡ None) (sym c.self.view_is) c.requires.absent) c.insert_reserved.ensures.content)
+    (came c.self.inside.entries c.insert_reserved.new.self c.self.invariant.0 c.args.entry (subst (λ (s : IndexState EntryState). get (items_of s) c.args.entry.key ≡ None) (sym c.self.view_is) c.requires.absent) c.insert_reserved.ensures.content)
 
 pub returns-clause-place : goal.returns-clause-place
 returns-clause-place c =
-    key_at c.insert_reserved.new.self (invariant_of-self c) c.args.entry.hash c.args.entry.key c.insert_reserved.result c.insert_reserved.ensures.place
+    key_at c.insert_reserved.new.self (invariant_of-self c).0 c.args.entry.hash c.args.entry.key c.insert_reserved.result c.insert_reserved.ensures.place

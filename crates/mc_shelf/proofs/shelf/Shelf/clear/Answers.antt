@@ -1,7 +1,10 @@
-use Rattle.std.proofs.Common.{arith, ap, subst, ◌∙◌}
-use Rattle.mc_shelf.specs.States.{ShelfState}
+use Rattle.std.proofs.Common.{arith, sym, ap, subst, ◌∙◌}
+use Rattle.mc_grow.specs.Indexes.{IndexState}
+use Rattle.mc_shelf.specs.States.{EntryState, ShelfState}
 use Rattle.mc_shelf.specs.Places.{items_of}
 use Rattle.mc_shelf.specs.Sweeps.{GivesFor}
+use Rattle.mc_shelf.proofs.DeathLemmas.{sooner_none}
+use Rattle.mc_shelf.proofs.ShelfLemmas.{content_of}
 use Rattle.mc_shelf.proofs.SweepLemmas.{IsNone, below_removed, cleared, entry_gives, entry_out, fewer_removed, gives_both, gives_none, out_after}
 use Rattle.mc_shelf.proofs.shelf.Shelf.clear.Goals as goal
 
@@ -46,11 +49,18 @@ loop-number-preserved c =
 pub invariant_of-self : goal.invariant_of-self
 invariant_of-self c = c.loop-number.invariant.most
 
+pub keep_soonest-requires : goal.keep_soonest-requires
+keep_soonest-requires c =
+    sooner_none _ _ (cleared c.loop-number.self-inside.index c.in_default.ensures.keyed c.loop-number.at c.loop-number.invariant.below c.in_default.ensures.next).0
+
 pub returns-clause-shelf : goal.returns-clause-shelf
 returns-clause-shelf c =
+    let inside = c.loop-number.self-inside in
     let held = c.loop-number.invariant in
-    let none = cleared c.loop-number.self-inside.index c.in_default.ensures.keyed c.loop-number.at held.below c.in_default.ensures.next in
-    λ i. record { greatest = held.greatest i; items = none.0 i; hashes = none.1 i; cut = held.cut i }
+    let none = cleared inside.index c.in_default.ensures.keyed c.loop-number.at held.below c.in_default.ensures.next in
+    ap (content_of inside.greatest inside.cut) c.keep_soonest.ensures
+    ∙ (λ i. record { greatest = held.greatest i; items = none.0 i; hashes = none.1 i; cut = held.cut i })
 
 pub returns-clause-desk : goal.returns-clause-desk
-returns-clause-desk c = c.loop-number.invariant.gives
+returns-clause-desk c =
+    subst (λ (i : IndexState EntryState). GivesFor c.args.self.now.content.items (items_of i) c.args.desk.now c.loop-number.desk) (sym c.keep_soonest.ensures) c.loop-number.invariant.gives

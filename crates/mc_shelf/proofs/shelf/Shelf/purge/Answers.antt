@@ -1,7 +1,10 @@
 use Rattle.std.proofs.Common.{arith, sym, ap, subst, ◌∙◌}
-use Rattle.mc_shelf.specs.States.{ShelfContent, ShelfState}
+use Rattle.mc_grow.specs.Indexes.{IndexState}
+use Rattle.mc_shelf.specs.States.{EntryState, ShelfContent, ShelfState}
+use Rattle.mc_shelf.specs.Places.{items_of}
+use Rattle.mc_shelf.specs.Sweeps.{GivesFor, IsPurged}
 use Rattle.mc_shelf.proofs.ShelfLemmas.{content_of}
-use Rattle.mc_shelf.proofs.SweepLemmas.{IsAlive, Swept, alive_here, below_next, below_removed, entry_out, fewer_removed, gone_here, out_after, purged, swept_both, swept_none, swept_one}
+use Rattle.mc_shelf.proofs.SweepLemmas.{Stays, Swept, all_stay, below_next, below_sooner, below_removed, entry_out, fewer_removed, gone_here, out_after, purged, stays_here, swept_both, swept_none, swept_one}
 use Rattle.mc_shelf.proofs.shelf.Shelf.purge.Goals as goal
 
 pub loop-number-init : goal.loop-number-init
@@ -22,7 +25,7 @@ give-requires c =
 pub loop-number-smaller-then-is_gone : goal.loop-number-smaller-then-is_gone
 loop-number-smaller-then-is_gone c =
     let first = c.in-Some.ensures.next in
-    fewer_removed (IsAlive c.loop-number.self-inside.cut c.args.now) c.loop-number.self-inside.index c.loop-number.at c.in-Some.number c.in-Some.place first c.remove-entry.new.self c.remove-entry.ensures.lower
+    fewer_removed (Stays c.loop-number.self-inside.cut c.args.now c.loop-number.soonest) c.loop-number.self-inside.index c.loop-number.at c.in-Some.number c.in-Some.place first c.remove-entry.new.self c.remove-entry.ensures.lower
 
 pub loop-number-preserved-then-is_gone : goal.loop-number-preserved-then-is_gone
 loop-number-preserved-then-is_gone c =
@@ -36,7 +39,7 @@ loop-number-preserved-then-is_gone c =
       swept = swept_both c.args.now c.args.self.now.content (content_of inside.greatest inside.cut inside.index) (content_of inside.greatest inside.cut c.remove-entry.new.self) c.args.desk.now c.loop-number.desk c.give.new.self held.swept
           (swept_one c.counts_follow.ensures.remove inside.greatest inside.cut inside.index c.remove-entry.new.self c.remove-entry.result c.remove-entry.ensures.item c.remove-entry.ensures.removed
           c.loop-number.desk c.give.new.self c.into_chunk.result c.into_chunk.ensures.chunk c.into_chunk.ensures.is_class are c.args.now gone c.give.ensures.given c.give.ensures.slab);
-      below = below_removed (IsAlive inside.cut c.args.now) inside.index c.loop-number.at c.in-Some.number c.in-Some.place first held.below c.remove-entry.new.self c.remove-entry.ensures.lower;
+      below = below_removed (Stays inside.cut c.args.now c.loop-number.soonest) inside.index c.loop-number.at c.in-Some.number c.in-Some.place first held.below c.remove-entry.new.self c.remove-entry.ensures.lower;
     }
 
 pub loop-number-smaller : goal.loop-number-smaller
@@ -46,20 +49,40 @@ pub loop-number-preserved : goal.loop-number-preserved
 loop-number-preserved c =
     let inside = c.loop-number.self-inside in
     let held = c.loop-number.invariant in
+    let soonest = c.with_found-soonest.result in
     record {
       most = held.most;
       swept = held.swept;
-      below = below_next (IsAlive inside.cut c.args.now) inside.index c.loop-number.at c.in-Some.number c.in-Some.place c.in-Some.ensures.next held.below
-          (alive_here inside.cut c.args.now inside.index c.in-Some.place c.get.result c.get.ensures (sym c.is_gone.ensures ∙ c.if-is_gone.false));
+      below = below_next (Stays inside.cut c.args.now soonest) inside.index c.loop-number.at c.in-Some.number c.in-Some.place c.in-Some.ensures.next
+          (below_sooner inside.cut c.args.now inside.index c.loop-number.at c.loop-number.soonest soonest c.with_found-soonest.ensures.others held.below)
+          (stays_here inside.cut c.args.now soonest inside.index c.in-Some.place c.get.result c.get-else-is_gone.result c.get.ensures c.get-else-is_gone.ensures (sym c.is_gone.ensures ∙ c.if-is_gone.false) c.with_found-soonest.ensures.found);
     }
 
 pub invariant_of-self : goal.invariant_of-self
 invariant_of-self c = c.loop-number.invariant.most
 
+-- at the end
+pub keep_soonest-requires : goal.keep_soonest-requires
+keep_soonest-requires c =
+    let inside = c.loop-number.self-inside in
+    (all_stay inside.cut c.args.now c.loop-number.soonest inside.index c.in_default.ensures.keyed c.loop-number.at c.loop-number.invariant.below c.in_default.ensures.next).1
+
 pub returns-clause-shelf : goal.returns-clause-shelf
 returns-clause-shelf c =
     let inside = c.loop-number.self-inside in
-    purged c.args.now c.args.self.now.content inside.greatest inside.cut inside.index c.in_default.ensures.keyed c.args.desk.now c.loop-number.desk c.loop-number.at c.loop-number.invariant.swept c.loop-number.invariant.below c.in_default.ensures.next
+    let stay = all_stay inside.cut c.args.now c.loop-number.soonest inside.index c.in_default.ensures.keyed c.loop-number.at c.loop-number.invariant.below c.in_default.ensures.next in
+    subst (λ (i : IndexState EntryState). IsPurged c.args.now c.args.self.now.content (content_of inside.greatest inside.cut i)) (sym c.keep_soonest.ensures)
+    (purged c.args.now c.args.self.now.content inside.greatest inside.cut inside.index c.in_default.ensures.keyed c.args.desk.now c.loop-number.desk c.loop-number.invariant.swept stay.0)
 
 pub returns-clause-desk : goal.returns-clause-desk
-returns-clause-desk c = c.loop-number.invariant.swept.gives
+returns-clause-desk c =
+    subst (λ (i : IndexState EntryState). GivesFor c.args.self.now.content.items (items_of i) c.args.desk.now c.loop-number.desk) (sym c.keep_soonest.ensures) c.loop-number.invariant.swept.gives
+
+-- where none may be dead
+pub returns-then-not-may_have_dead-clause-shelf : goal.returns-then-not-may_have_dead-clause-shelf
+returns-then-not-may_have_dead-clause-shelf c =
+    let inside = c.self.inside in
+    let desk = c.args.desk.now in
+    let shelf = content_of inside.greatest inside.cut inside.index in
+    subst (λ (s : ShelfState). IsPurged c.args.now s.content s.content) c.self.view_is
+    (purged c.args.now shelf inside.greatest inside.cut inside.index c.may_have_dead.ensures.keyed desk desk (swept_none c.args.now shelf desk) (c.may_have_dead.ensures.none c.if-not-may_have_dead.true))

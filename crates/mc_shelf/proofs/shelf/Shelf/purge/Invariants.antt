@@ -1,14 +1,14 @@
 use Rattle.std.proofs.Common.{◌≤◌}
 use Rattle.mc_grow.specs.Indexes.{count_from}
 use Rattle.mc_shelf.proofs.ShelfLemmas.{content_of}
-use Rattle.mc_shelf.proofs.SweepLemmas.{Below, IsAlive, Swept}
+use Rattle.mc_shelf.proofs.SweepLemmas.{Below, Stays, Swept}
 use Rattle.mc_shelf.proofs.shelf.Shelf.purge.Given as goal
 
 abbrev pub invariant-loop-number : goal.invariant-loop-number
 invariant-loop-number l = record {
   most : l.self-inside.greatest ≤ 1048576;
   swept : Swept l.now l.fn.self.content (content_of l.self-inside.greatest l.self-inside.cut l.self-inside.index) l.fn.desk l.desk;
-  below : Below l.self-inside.index l.at (IsAlive l.self-inside.cut l.now);
+  below : Below l.self-inside.index l.at (Stays l.self-inside.cut l.now l.soonest);
 }
 
 abbrev pub decreases-loop-number : goal.decreases-loop-number

@@ -1,0 +1,96 @@
+//! A growth that is moved on only where it lags, as a shelf does that is given no other turn.
+
+ghost use Rattle.std.specs.Prelude.{◌≡◌};
+
+use super::*;
+use mc_hop::{Keyed, Reads};
+use std::alloc::{AllocError, Global};
+use std::test::*;
+
+/// An entry that is told by its hash alone.
+#[derive(Drop)]
+struct Mark {
+    hash: u64,
+}
+
+impl Keyed for Mark {
+    ghost use Rattle.std.specs.Prelude.{[]};
+
+    ghost hash_of = { λ e. e.hash };
+
+    ghost key_of = { λ e. [] };
+
+    fn hash(&self) -> u64 {
+        self.hash
+    }
+
+    fn key(&self) -> &[u8] {
+        &[]
+    }
+}
+
+/// An index of 64 homes, asked for again where memory is refused.
+fn opened(alloc: Global) -> Result<Index<Mark>, AllocError> {
+    match Index::new(alloc, 6) {
+        Err(_) => Index::new(alloc, 6),
+        made => made,
+    }
+}
+
+/// Puts in an entry of that hash, where none has it, and answers how many entries the search for it read. A growth that lags moves
+/// 8 entries first.
+fn add(index: &mut Index<Mark>, alloc: Global, hash: u64) -> Result<u64, AllocError> {
+    if index.lags() {
+        let _ = index.move_some(8);
+    }
+    match index.reserve(alloc) {
+        Err(_) => index.reserve(alloc)?,
+        Ok(()) => {}
+    }
+    let mark = Mark { hash };
+    let mut reads = Reads(0);
+    if index
+        .find_counted(mark.hash(), mark.key(), &mut reads)
+        .is_none()
+    {
+        index.insert_reserved(mark);
+    }
+    Ok(reads.0)
+}
+
+/// A search reads 32 entries in each of two tables at most, and beside them each stray.
+#[test]
+fn an_index_that_catches_up_has_no_strays(rt: HostRuntime) -> Result<(), Fail> {
+    let mut index = opened(rt.alloc())?;
+    for number in 0..20000u64 {
+        let reads = add(
+            &mut index,
+            rt.alloc(),
+            number.wrapping_mul(11400714819323198485),
+        )?;
+        assert!(rt; reads <= 64, "{reads} reads for {number}");
+    }
+    assert!(rt; index.len() == 20000, "{} entries", index.len());
+    Ok(())
+}
+
+/// With no entry moved, a growth lags from the 97th entry on: the table has 128 homes then, and the growth began with the 49th.
+#[test]
+fn a_growth_lags_by_the_load(rt: HostRuntime) -> Result<(), Fail> {
+    let mut index = opened(rt.alloc())?;
+    for number in 0..100u64 {
+        let lags = index.lags();
+        assert!(rt; lags == (96 <= number), "{lags} at {number}");
+        match index.reserve(rt.alloc()) {
+            Err(_) => index.reserve(rt.alloc())?,
+            Ok(()) => {}
+        }
+        let mark = Mark { hash: number * 256 };
+        if index.find(mark.hash(), mark.key()).is_none() {
+            index.insert_reserved(mark);
+        }
+    }
+    let moved = index.move_some(48);
+    assert!(rt; moved == 48 && !index.lags(), "{moved} were moved");
+    Ok(())
+}

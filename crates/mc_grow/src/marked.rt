@@ -1,0 +1,83 @@
+//! What tests do with an index of marks.
+
+ghost use Rattle.std.specs.Prelude.{◌≡◌};
+
+use super::*;
+use mc_hop::Keyed;
+use mc_testing::Mark;
+use std::alloc::{AllocError, Global};
+
+/// Makes an index of 64 homes, asked for again where memory is refused.
+pub(crate) fn opened(alloc: Global) -> Result<Index<Mark>, AllocError> {
+    match Index::new(alloc, 6) {
+        Err(_) => Index::new(alloc, 6),
+        made => made,
+    }
+}
+
+/// Puts in a mark, where none has its hash and key, and tells whether it did. Room is asked for again where memory is refused.
+pub(crate) fn add(
+    index: &mut Index<Mark>,
+    alloc: Global,
+    hash: u64,
+    key: [u8; 2],
+) -> Result<bool, AllocError> {
+    match index.reserve(alloc) {
+        Err(_) => index.reserve(alloc)?,
+        Ok(()) => {}
+    }
+    let mark = Mark {
+        hash,
+        key,
+        count: 0,
+    };
+    if index.find(mark.hash(), mark.key()).is_some() {
+        return Ok(false);
+    }
+    index.insert_reserved(mark);
+    Ok(true)
+}
+
+/// Takes the mark of that hash and key out, and tells whether there was one.
+pub(crate) fn take(index: &mut Index<Mark>, hash: u64, key: [u8; 2]) -> bool {
+    match index.find(hash, &key) {
+        Some(place) => {
+            let _ = index.remove(place);
+            true
+        }
+        None => false,
+    }
+}
+
+/// Counts a mark once more, and answers its hash beside it.
+pub(crate) fn counted(mark: Mark) -> (Mark, u64)
+    ensures hash { result.0.hash ≡ mark.hash }
+    ensures key { result.0.key ≡ mark.key }
+{
+    let Mark { hash, key, count } = mark;
+    let more = Mark {
+        hash,
+        key,
+        count: count.saturating_add(1),
+    };
+    (more, hash)
+}
+
+/// Counts the mark of that hash and key once more, and tells whether there was one.
+pub(crate) fn count_more(index: &mut Index<Mark>, hash: u64, key: [u8; 2]) -> bool {
+    match index.find(hash, &key) {
+        Some(place) => {
+            let _ = index.update(place, |mark| counted(mark));
+            true
+        }
+        None => false,
+    }
+}
+
+/// Returns the count of the mark at a place, if one stands there.
+pub(crate) fn count_at(index: &Index<Mark>, place: Place) -> Option<u32> {
+    match index.get(place) {
+        Some(mark) => Some(mark.count),
+        None => None,
+    }
+}

@@ -1,0 +1,188 @@
+-- Which decisions are the plain machine's: those that take a state on by one shelf and the desk.
+use Rattle.std.proofs.Common.{◌≡◌, ◌≢◌, ℕ, ◌+◌, ◌<◌, List, [], ◌∷◌, Result, Ok, Err, sym, refl, ap, ◌∙◌, subst, arith}
+use Rattle.mc_command.specs.Plain.{Plain}
+use Rattle.mc_command.specs.declared.step.KeyStep.{KeyStep}
+use Rattle.mc_command.specs.declared.reply.Reply.{Reply}
+use Rattle.mc_shelf.specs.States.{ShelfContent, DeskState, IsHash, IsAt, CanStand}
+use Rattle.mc_command.specs.Commands.{key_of}
+use Rattle.mc_shelf.specs.Plans.{IsSpent}
+use Rattle.mc_shelf.specs.Parts.{IsShelfOf, IsDeskOf, GoesTo, GoesByStep, GoesWithoutDesk}
+use Rattle.mc_shared.specs.Bays.{Content, OfShelf, OfDesk}
+use Rattle.mc_shared.specs.Sums.{total}
+use Rattle.mc_shared.specs.History.{Start, What, Stepped, shelf_in, left_by, next, after, IsRight}
+use Rattle.mc_shared.specs.Rule.{Fits, AllFit, KeepsLimits, holds_bay}
+use Rattle.mc_shared.specs.View.{Knows}
+use Rattle.mc_shared.specs.Steps.{Decides, Fitted}
+use Rattle.mc_command.specs.declared.step.StepFault.{StepFault}
+use Rattle.mc_command.specs.declared.step.StepFault.TheVariants.{NoMemory, NumbersSpent}
+use Rattle.mc_shared.specs.Past.{Past}
+use Rattle.mc_shared.specs.Store.{IsSpentAfter, Refuses}
+use Rattle.mc_shared.proofs.StockedKept.{here}
+
+-- a bay that isn't held is another than one that is
+pub other_bay : (b c : ℕ) (x : Content) → holds_bay c (b, x) ≡ 0 → c ≢ b
+other_bay b c x none same =
+    let one : holds_bay c (b, x) ≡ 1 = ap (λ k. holds_bay k (b, x)) same ∙ here b x in
+    omega (arith, none, one)
+
+module _ (start : Start) (at : ℕ) where
+  abbrev pub Goes : (old new : Plain) → ShelfContent → DeskState → Type 0
+  Goes = GoesTo start.hash_of start.shelves at
+
+  abbrev pub IsPart : Plain → ShelfContent → Type 0
+  IsPart m = IsShelfOf start.hash_of start.shelves m at
+
+  limits_stay : (m m' : Plain) (f : ShelfContent) (d : DeskState) → Goes m m' f d
+      → KeepsLimits start m → KeepsLimits start m'
+  limits_stay m m' f d goes keeps = record {
+    greatest = goes.greatest ∙ keeps.greatest;
+    limit = goes.limit ∙ keeps.limit;
+  }
+
+  -- ---- decided by giving back the shelf
+
+  module _ (f f' : ShelfContent) (step : KeyStep) (now : ℕ) (reply : Reply)
+      (alone : (m : Plain) → IsPart m f
+      → GoesWithoutDesk start.hash_of start.shelves at step now m reply f') where
+    abbrev what : What
+    what = Stepped step now reply
+
+    goes_alone : (m : Plain) → IsPart m f → (d : DeskState) → IsDeskOf m d
+        → Goes m (next start m what) f' d
+    goes_alone m part d is =
+        let goes = alone m part in
+        subst (λ new. Goes m new f' d) (sym (ap (left_by m) goes.answered)) (goes.goes d is)
+
+    settled_else : (m : Plain) → IsPart m f → (c : ℕ) (z : Content) → c ≢ at → Fits start m c z
+        → Fits start (next start m what) c z
+    settled_else m part c (OfShelf g) ne fits =
+        let desk = (alone m part).some_desk in
+        (fits.0, (goes_alone m part desk.0 desk.1).others c g ne fits.1)
+    settled_else m part c (OfDesk d) ne fits = (fits.0, (goes_alone m part d fits.1).account)
+
+    pub settles : at < start.shelves
+        → Decides start ((at, OfShelf f) ∷ []) at (OfShelf f') what []
+    settles low = record {
+      places = λ c. refl;
+      right = λ m h. ((alone m h.0.1).new, (alone m h.0.1).answered);
+      limits = λ m h keeps.
+          let desk = (alone m h.0.1).some_desk in
+          limits_stay m (next start m what) f' desk.0 (goes_alone m h.0.1 desk.0 desk.1) keeps;
+      given = λ m h.
+          let desk = (alone m h.0.1).some_desk in
+          (low, (goes_alone m h.0.1 desk.0 desk.1).own);
+      kept = λ m h. tt;
+      others = λ m h c z none fits.
+          settled_else m h.0.1 c z (other_bay at c (OfShelf f) (omega (arith, none))) fits;
+    }
+
+  -- ---- decided by giving back the desk, while the shelf is held
+
+  module _ (f f' : ShelfContent) (d d' : DeskState) (what : What)
+      (right : (m : Plain) → IsPart m f → IsDeskOf m d → IsRight m what)
+      (goes : (m : Plain) → IsPart m f → IsDeskOf m d → Goes m (next start m what) f' d') where
+    abbrev both : List (ℕ × Content)
+    both = (start.shelves, OfDesk d) ∷ (at, OfShelf f) ∷ []
+
+    applied_else : (m : Plain) → AllFit start m both → (c : ℕ) (z : Content) → c ≢ at
+        → c ≢ start.shelves → Fits start m c z → Fits start (next start m what) c z
+    applied_else m h c (OfShelf g) ne ne' fits =
+        (fits.0, (goes m h.1.0.1 h.0.1).others c g ne fits.1)
+    applied_else m h c (OfDesk e) ne ne' fits = absurd (ne' fits.0)
+
+    pub applies : at < start.shelves
+        → Decides start both start.shelves (OfDesk d') what ((at, OfShelf f') ∷ [])
+    applies low = record {
+      places = λ c. refl;
+      right = λ m h. right m h.1.0.1 h.0.1;
+      limits = λ m h keeps.
+          limits_stay m (next start m what) f' d' (goes m h.1.0.1 h.0.1) keeps;
+      given = λ m h. (refl, (goes m h.1.0.1 h.0.1).account);
+      kept = λ m h. ((low, (goes m h.1.0.1 h.0.1).own), tt);
+      others = λ m h c z none fits.
+          applied_else m h c z (other_bay at c (OfShelf f) (omega (arith, none)))
+          (other_bay start.shelves c (OfDesk d) (omega (arith, none))) fits;
+    }
+
+  -- a step's is so by the law
+  pub applies_step : (f f' : ShelfContent) (d d' : DeskState) (step : KeyStep) (now : ℕ)
+      (reply : Reply)
+      → ((m : Plain) → IsPart m f → IsDeskOf m d
+      → GoesByStep start.hash_of start.shelves at step now m reply f' d')
+      → at < start.shelves
+      → Decides start ((start.shelves, OfDesk d) ∷ (at, OfShelf f) ∷ []) start.shelves (OfDesk d')
+      (Stepped step now reply) ((at, OfShelf f') ∷ [])
+  applies_step f f' d d' step now reply by_step =
+      applies f f' d d' (Stepped step now reply)
+      (λ m part desk. ((by_step m part desk).new, (by_step m part desk).answered))
+      (λ m part desk.
+      subst (λ new. Goes m new f' d') (sym (ap (left_by m) (by_step m part desk).answered))
+      (by_step m part desk).goes)
+
+-- a state that a shelf and a desk fit
+pub stands : (start : Start) (m : Plain) (at : ℕ) (f : ShelfContent) (d : DeskState)
+    (key : List ℕ) → shelf_in start key ≡ at → IsShelfOf start.hash_of start.shelves m at f
+    → IsDeskOf m d → IsAt key f d m
+stands start m at f d key own part desk = record {
+  greatest = sym part.greatest;
+  cut = sym part.cut;
+  item = sym (part.items key own);
+  next_unique = sym desk.next_unique;
+  limit = sym desk.limit;
+  pages = sym desk.pages;
+  out = desk.out;
+}
+
+-- a shelf and a desk that are held stand for a state
+pub can_stand : (start : Start) (at : ℕ) (f : ShelfContent) (d : DeskState) (key : List ℕ)
+    → shelf_in start key ≡ at → (v : Knows)
+    → v.bays ≡ (start.shelves, OfDesk d) ∷ (at, OfShelf f) ∷ [] → Fitted start v
+    → CanStand key f d
+can_stand start at f d key own v is fitted =
+    let m : Plain = after start start.plain fitted.log in
+    let fits : AllFit start m ((start.shelves, OfDesk d) ∷ (at, OfShelf f) ∷ []) =
+    subst (AllFit start m) is fitted.fits in
+    record { plain = m; stands = stands start m at f d key own fits.1.0.1 fits.0.1 }
+
+-- they are parts of some state
+pub part_held : (start : Start) (at : ℕ) (f : ShelfContent) (d : DeskState) (v : Knows)
+    → v.bays ≡ (start.shelves, OfDesk d) ∷ (at, OfShelf f) ∷ [] → Fitted start v
+    → (hash_of : List ℕ → ℕ) × (shelves : ℕ) × (place : ℕ) × (m : Plain)
+    × IsShelfOf hash_of shelves m place f × IsDeskOf m d
+part_held start at f d v is fitted =
+    let m : Plain = after start start.plain fitted.log in
+    let fits : AllFit start m ((start.shelves, OfDesk d) ∷ (at, OfShelf f) ∷ []) =
+    subst (AllFit start m) is fitted.fits in
+    (start.hash_of, start.shelves, at, m, fits.1.0.1, fits.0.1)
+
+-- a shelf that is held has each of its keys with the key's hash
+pub held_hash : (start : Start) (at : ℕ) (f : ShelfContent) (below : List (ℕ × Content))
+    (v : Knows) → v.bays ≡ (at, OfShelf f) ∷ below → Fitted start v
+    → (key : List ℕ) → IsHash f key (start.hash_of key)
+held_hash start at f below v is fitted =
+    let m : Plain = after start start.plain fitted.log in
+    let fits : AllFit start m ((at, OfShelf f) ∷ below) = subst (AllFit start m) is fitted.fits in
+    fits.0.1.hashes
+
+-- where the numbers of a shelf and a desk that are held are spent, they are after some history
+pub spent_after : (start : Start) (at : ℕ) (f : ShelfContent) (d : DeskState) (step : KeyStep)
+    (now : ℕ) → shelf_in start (key_of step) ≡ at → (v : Knows)
+    → v.bays ≡ (start.shelves, OfDesk d) ∷ (at, OfShelf f) ∷ [] → Fitted start v
+    → IsSpent step now f d → IsSpentAfter start v.past step now
+spent_after start at f d step now own v is fitted spent =
+    let m : Plain = after start start.plain fitted.log in
+    let fits : AllFit start m ((start.shelves, OfDesk d) ∷ (at, OfShelf f) ∷ []) =
+    subst (AllFit start m) is fitted.fits in
+    record {
+      log = fitted.log;
+      legal = fitted.legal;
+      keeps = fitted.keeps;
+      spent = spent m (stands start m at f d (key_of step) own fits.1.0.1 fits.0.1);
+    }
+
+-- what is told of a fault
+pub refuses : (start : Start) (p : Past) (step : KeyStep) (now : ℕ) (result : Result Reply StepFault)
+    (fault : StepFault) → result ≡ Err fault
+    → (result ≡ Err NumbersSpent → IsSpentAfter start p step now) → Refuses start p step now fault
+refuses start p step now result NoMemory is spent = tt
+refuses start p step now result NumbersSpent is spent = spent is

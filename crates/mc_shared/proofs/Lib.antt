@@ -1,0 +1,9 @@
+pub mod Sums
+pub mod StoryKept
+pub mod NamedKept
+pub mod StockedKept
+pub mod StepsKept
+pub mod Decisions
+pub mod Held
+pub mod Opening
+pub mod Stacked

@@ -1,0 +1,16 @@
+use Rattle.std.proofs.Common.{rules, arith, ◌≡◌, sym, ap, ◌∙◌, ◌++◌, ◌∷◌, [], None}
+use Rattle.mc_shared.specs.Bays.{content_of}
+use Rattle.mc_shared.specs.Steps.{holding}
+use Rattle.mc_shared.specs.Stacks.{holds_all}
+use Rattle.mc_shared.proofs.Stacked.{take_top}
+use Rattle.mc_shared.proofs.flush.hold_all.Goals as goal
+
+pub loop-held-preserved : goal.loop-held-preserved
+loop-held-preserved g c = let inv = c.loop-held.invariant in let len = c.push_reserved.ensures.len in let room = c.push_reserved.ensures.capacity in let got = c.take_waiting-bay.ensures.taken.1 in let p = c.args.caller.now.me.0.past in (
+  c.take_waiting-bay.ensures.seat.0 ∙ inv.0,
+  c.take_waiting-bay.ensures.seat.1 ∙ inv.1,
+  omega arith,
+  omega (arith, room, inv.3),
+  take_top _ _ p c.loop-held.held.items c.shelf_from.result c.len-at.result inv.4 (search rules) (got ∙ (λ i. (holding c.loop-held.caller.me.0 c.len-at.result (content_of (c.shelf_from.ensures i)), (c.len-at.result, None) ∷ c.loop-held.caller.me.1)))
+      ∙ ap (holds_all p) (sym c.push_reserved.ensures.items),
+)

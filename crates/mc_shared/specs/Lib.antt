@@ -1,0 +1,12 @@
+pub mod Sums
+pub mod History
+pub mod Past
+pub mod Bays
+pub mod View
+pub mod Rule
+pub mod Steps
+pub mod Store
+pub mod Shown
+pub mod Stacks
+pub mod Close
+pub mod Asking

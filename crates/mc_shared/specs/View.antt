@@ -1,0 +1,71 @@
+-- What a seat knows: a past, and the bays that it holds, each with the content that its home would have.
+use Rattle.std.specs.Prelude.{◌≡◌, ℕ, List, [], refl}
+use mathlib.Core.Logic.{inl, inr, ◌⊎◌}
+use Rattle.std.specs.Coded.{Coded, code_by, coded×, coded⊎, coded_ℕ, coded_list}
+use Rattle.std.proofs.Common.{ap}
+use mir.Syntax.{static}
+use base.Stored.{Gv, gnil, gnum, gcons}
+use Rattle.mc_command.specs.declared.step.KeyStep.{KeyStep}
+use Rattle.mc_command.specs.declared.reply.Reply.{Reply}
+use Rattle.mc_command.specs.contracts.step.KeyStep.{the_row as step_row}
+use Rattle.mc_command.specs.contracts.reply.Reply.{the_row as reply_row}
+use Rattle.mc_shared.specs.History.{Name, Entry, What, Stepped, Purged}
+use Rattle.mc_shared.specs.Past.{Past, spent, start, call, made, both}
+use Rattle.mc_shared.specs.Bays.{Content, content_code}
+
+abbrev what_parts : What → (KeyStep × (ℕ × Reply)) ⊎ (ℕ × ℕ)
+what_parts (Stepped step now reply) = inl (step, (now, reply))
+what_parts (Purged shelf now) = inr (shelf, now)
+
+abbrev what_made : (KeyStep × (ℕ × Reply)) ⊎ (ℕ × ℕ) → What
+what_made (inl p) = Stepped p.0 p.1.0 p.1.1
+what_made (inr p) = Purged p.0 p.1
+
+pub what_same : (x : What) → what_made (what_parts x) ≡ x
+what_same (Stepped step now reply) = refl
+what_same (Purged shelf now) = refl
+
+abbrev pub what_code : Coded What
+what_code = code_by _ (coded⊎ (coded× (step_row record { mir = static; lft = [] }).coded (coded× coded_ℕ reply_row.coded)) (coded× coded_ℕ coded_ℕ)) what_parts what_made what_same
+
+abbrev pub entry_code : Coded Entry
+entry_code = code_by _ (coded× (coded_list coded_ℕ) (coded× coded_ℕ what_code)) (λ e. (e.by, (e.number, e.what))) (λ p. record { by = p.0; number = p.1.0; what = p.1.1 }) (λ _. refl)
+
+abbrev name_code : Coded Name
+name_code = coded_list coded_ℕ
+
+abbrev past_gv : Past → Gv
+past_gv spent = gnil
+past_gv (start c p) = gcons (gnum 0) (gcons (name_code.code c) (past_gv p))
+past_gv (call p e) = gcons (gnum 1) (gcons (entry_code.code e) (past_gv p))
+past_gv (made p d) = gcons (gnum 2) (gcons (name_code.code d) (past_gv p))
+past_gv (both p q) = gcons (gnum 3) (gcons (past_gv p) (past_gv q))
+
+abbrev g_head : Gv → Gv
+g_head (gcons a b) = a
+g_head _ = gnil
+
+abbrev g_tail : Gv → Gv
+g_tail (gcons a b) = b
+g_tail _ = gnil
+
+pub past_inj : (x y : Past) → past_gv x ≡ past_gv y → x ≡ y
+past_inj spent spent e = refl
+past_inj (start c p) (start d q) e = λ i. start (name_code.inj c d (ap (λ g. g_head (g_tail g)) e) i) (past_inj p q (ap (λ g. g_tail (g_tail g)) e) i)
+past_inj (call p c) (call q d) e = λ i. call (past_inj p q (ap (λ g. g_tail (g_tail g)) e) i) (entry_code.inj c d (ap (λ g. g_head (g_tail g)) e) i)
+past_inj (made p c) (made q d) e = λ i. made (past_inj p q (ap (λ g. g_tail (g_tail g)) e) i) (name_code.inj c d (ap (λ g. g_head (g_tail g)) e) i)
+past_inj (both p c) (both q d) e = λ i. both (past_inj p q (ap (λ g. g_head (g_tail g)) e) i) (past_inj c d (ap (λ g. g_tail (g_tail g)) e) i)
+past_inj x y e = absurd (cc e)
+
+abbrev pub past_code : Coded Past
+past_code = record { code = past_gv; inj = past_inj }
+
+pub record Knows : Type 0 where
+  pub past : Past
+  pub bays : List (ℕ × Content)
+
+abbrev pub knows_code : Coded Knows
+knows_code = code_by _ (coded× past_code (coded_list (coded× coded_ℕ content_code))) (λ k. (k.past, k.bays)) (λ p. record { past = p.0; bays = p.1 }) (λ _. refl)
+
+abbrev pub starting : Knows
+starting = record { past = start [] spent; bays = [] }

@@ -1,0 +1,123 @@
+//! A caller that takes steps as a session asks for them.
+ghost use Rattle.std.specs.Prelude.{◌≡◌, ◌<◌, ◌≤◌, length, Err, IfOk, IfErr, OnErr};
+ghost use Rattle.mc_command.specs.Commands.{key_of};
+ghost use Rattle.mc_shared.specs.Asking.{AsksOnce};
+ghost use Rattle.mc_shared.specs.History.{start_of, shelf_in, Stepped, Purged};
+ghost use Rattle.mc_shared.specs.Past.{call};
+ghost use Rattle.mc_shared.specs.Steps.{entry_of, Agrees};
+ghost use Rattle.mc_shared.specs.Store.{IsSpentAfter};
+
+use crate::store::{Caller, Shared};
+use crate::waits::Gate;
+use mc_command::{KeyStep, Reply, StepFault, Steps};
+use mc_hop::KeyHash;
+use mc_time::Moment;
+use std::alloc::Global;
+use std::marker::Model;
+use std::sync::Wait;
+
+/// A caller with its store, its gate and leave to wait. Contracts see whose it is, what the store began with, and the past.
+#[derive(Drop)]
+pub struct Asking<'a, R: Wait, K: KeyHash + Drop, G: Gate> {
+    rt: &'a R,
+    shared: &'a Shared<K>,
+    caller: Caller,
+    gate: &'a G,
+}
+
+impl<'a, R: Wait, K: KeyHash + Drop, G: Gate> Model for Asking<'a, R, K, G> {
+    ghost use Rattle.std.specs.Prelude.{◌≡◌};
+    ghost use Rattle.mc_shared.specs.Asking.{AskingState, coded_asking};
+
+    ghost Value = { AskingState K };
+
+    ghost coded = { coded_asking K.code };
+
+    ghost view = { λ a. record {
+      began = a.shared.now.began;
+      table = a.caller.table;
+      past =
+          a.caller.past;
+    } };
+
+    ghost invariant = { λ a. a.caller.table ≡ a.shared.now.table };
+}
+
+impl<'a, R: Wait, K: KeyHash + Drop, G: Gate> Asking<'a, R, K, G> {
+    /// The caller asks the store.
+    pub fn new(rt: &'a R, shared: &'a Shared<K>, caller: Caller, gate: &'a G) -> Asking<'a, R, K, G>
+        requires own { caller.table ≡ shared.now.table }
+        ensures { result ≡ record {
+          began = shared.now.began;
+          table = caller.table;
+          past =
+              caller.past;
+        } }
+    {
+        Asking {
+            rt,
+            shared,
+            caller,
+            gate,
+        }
+    }
+
+    /// The caller is given back.
+    pub fn into_caller(self) -> Caller
+        ensures { (result.table ≡ self.entry.table) × (result.past ≡ self.entry.past) }
+    {
+        let Asking { caller, .. } = self;
+        caller
+    }
+
+    /// How many shelves the store has.
+    pub fn shelves(&self) -> u32
+        ensures { result ≡ self.now.began.settings.shelves }
+    {
+        self.shared.shelves()
+    }
+
+    /// The shelf of a key.
+    pub fn shelf_of(&self, key: &[u8]) -> u32
+        ensures shelf { result ≡ shelf_in (start_of K.hash_of self.now.began) key.now }
+        ensures inside { result < self.now.began.settings.shelves }
+    {
+        self.shared.shelf_of(key)
+    }
+
+    /// Up to `n` entries of a shelf move in its index; answers how many did.
+    pub fn grow(&mut self, shelf: u32, n: usize) -> usize
+        requires { shelf < self.old.began.settings.shelves }
+        ensures same { self.new ≡ self.old }
+        ensures moved { result ≤ n }
+    {
+        self.shared.grow(self.rt, &mut self.caller, shelf, n)
+    }
+
+    /// Drops the dead items of a shelf.
+    pub fn tidy(&mut self, shelf: u32, now: Moment)
+        requires { shelf < self.old.began.settings.shelves }
+        ensures { AsksOnce (start_of K.hash_of self.old.began) (Purged shelf now) self.old
+            self.new }
+    {
+        self.shared.tidy(self.rt, &mut self.caller, shelf, now);
+    }
+}
+
+impl<'a, R: Wait, K: KeyHash + Drop, G: Gate> Steps for Asking<'a, R, K, G> {
+    ghost use Rattle.std.specs.Prelude.{◌≡◌, refl};
+
+    ghost took = { λ old step now reply new. AsksOnce (start_of K.hash_of old.began)
+        (Stepped step now reply) old new };
+
+    ghost spent = { λ old step now. IsSpentAfter (start_of K.hash_of old.began) old.past step now };
+
+    ghost same = { λ old new. new ≡ old };
+
+    ghost holds_itself = { λ _. refl };
+
+    fn step(&mut self, alloc: Global, step: &KeyStep<'_>, now: Moment) -> Result<Reply, StepFault> {
+        self.shared
+            .step_at(self.rt, alloc, &mut self.caller, step, now, self.gate)
+    }
+}

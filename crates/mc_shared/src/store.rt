@@ -1,0 +1,448 @@
+//! The store for many threads.
+ghost use Rattle.std.specs.Prelude.{◌≡◌, ◌+◌, ◌<◌, ◌≤◌, ◌%◌, List, ℕ, length, [], ◌∷◌, ◌++◌, map, replicate, true, false, IfOk, IfErr, OnErr};
+ghost use Rattle.mc_shelf.specs.States.{ShelfState};
+ghost use Rattle.mc_shared.specs.Store.{shelf_slot, desk_slot, HasCalled, RestsCalled};
+ghost use Rattle.mc_command.specs.Commands.{key_of};
+ghost use Rattle.mc_command.specs.Laws.{IsOnKey};
+ghost use Rattle.mc_command.specs.Plain.{opening};
+ghost use Rattle.mc_shelf.specs.Plans.{IsPlan, HasRoom, wants_desk};
+ghost use Rattle.mc_shelf.specs.States.{IsHash};
+ghost use Rattle.mc_shelf.specs.Parts.{shelf_of};
+ghost use Rattle.mc_shared.specs.History.{start_of, shelf_in};
+ghost use Rattle.mc_shared.specs.Past.{start, spent, made, both, Lives, Whole};
+ghost use Rattle.mc_shared.specs.Steps.{next_name, IsAt, Agrees, Fitted, IsSeatOf};
+ghost use Rattle.mc_shared.specs.Store.{
+  resting,
+  holds_one,
+  holds_two,
+  with_call,
+  told_of,
+  May,
+  Refuses,
+};
+ghost use Rattle.mc_shared.specs.Bays.{OfShelf, OfDesk};
+ghost use Rattle.mc_shared.specs.declared.bay.Bay.{Bay as Held};
+
+use crate::bay::Bay;
+use crate::fault::TryFault;
+use crate::rule::{Board, Place};
+use crate::steps::{decide_at_desk, decide_at_shelf, fork, give, look, meet, take};
+use atomic_table::Table;
+use mc_command::{KeyStep, Reply, StepFault};
+use mc_hop::KeyHash;
+use mc_shelf::{
+    Desk, Plan, Settings, Shelf, Store, StoreParts, refusals_are_plain, steps_change_one_shelf,
+};
+use mc_time::Moment;
+use std::alloc::{AllocError, Global};
+use std::marker::Model;
+use std::snapshot::Snapshot;
+
+/// A store for many threads. Contracts see which it is, and what it began with.
+#[derive(Drop)]
+pub struct Shared<K: KeyHash + Drop> {
+    pub(crate) board: Board<K>,
+    pub(crate) settings: Settings,
+    pub(crate) hasher: K,
+}
+
+impl<K: KeyHash + Drop> Model for Shared<K> {
+    ghost use Rattle.std.specs.Prelude.{◌≡◌, ◌+◌, ◌<◌};
+    ghost use Rattle.mc_shelf.specs.Stores.{IsSetUp};
+    ghost use Rattle.mc_shared.specs.Shown.{SharedState, coded_shared};
+
+    ghost Value = { SharedState K };
+
+    ghost coded = { coded_shared K.code };
+
+    ghost view = { λ s. record {
+      table = s.board.shared.table_id;
+      began =
+          s.board.shared.key.value;
+    } };
+
+    ghost invariant = { λ s. (s.board.shared.table_id.words ≡ s.settings.shelves + 1)
+        × (s.board.shared.key.value.settings ≡ s.settings)
+        × (s.board.shared.key.value.hasher ≡ s.hasher) × IsSetUp s.settings
+        s.board.shared.key.value.plain × (0 < s.settings.shelves) };
+}
+
+/// Who makes calls. It holds no bay between calls. Contracts see whose it is, and its past.
+#[derive(Drop)]
+pub struct Caller {
+    pub(crate) seat: Place,
+}
+
+impl Model for Caller {
+    ghost use Rattle.std.specs.Prelude.{◌≡◌, []};
+    ghost use Rattle.mc_shared.specs.Past.{Lives};
+    ghost use Rattle.mc_shared.specs.Shown.{CallerState, coded_caller};
+
+    ghost Value = { CallerState };
+
+    ghost coded = { coded_caller };
+
+    ghost view = { λ c. record { table = c.seat.table_id; past = c.seat.me.0.past } };
+
+    ghost invariant = { λ c. (c.seat.me.1 ≡ []) × (c.seat.me.0.bays ≡ [])
+        × Lives c.seat.me.0.past };
+}
+
+impl<K: KeyHash + Drop> Shared<K> {
+    /// A shared store that begins with a store's state, and its first caller. Refused, the store is dropped.
+    pub fn over(alloc: Global, store: Store<K>) -> Result<(Shared<K>, Caller), AllocError>
+        ensures { IfOk result (λ r. (r.0.began ≡ store) × (r.1.table ≡ r.0.table)
+            × (r.1.past ≡ start [] spent)) }
+    {
+        let began = Snapshot::of(&store);
+        let StoreParts {
+            settings,
+            hasher,
+            shelves,
+            desk,
+        } = store.into_parts();
+        let words = free_words(alloc, settings.shelves)?;
+        let slots = slots_of(alloc, settings.shelves, shelves, desk)?;
+        match Table::new(alloc, words.as_slice(), slots, &began) {
+            Ok((board, seat)) => Ok((
+                Shared {
+                    board,
+                    settings,
+                    hasher,
+                },
+                Caller { seat },
+            )),
+            Err(_) => Err(AllocError),
+        }
+    }
+
+    /// Makes a shared store of no items, and its first caller. The one error is a refused allocation.
+    pub fn new(
+        alloc: Global,
+        settings: Settings,
+        hasher: K,
+    ) -> Result<(Shared<K>, Caller), AllocError>
+        requires pages { 1 ≤ settings.pages × settings.pages ≤ 65536 }
+        requires greatest { settings.greatest ≡ 1048576 }
+        requires shelves { settings.shelves ≡ 64 }
+        ensures plain { IfOk result (λ made.
+            made.0.began.plain ≡ opening settings.pages settings.greatest) }
+        ensures set_up { IfOk result (λ made.
+            (made.0.began.settings ≡ settings) × (made.0.began.hasher ≡ hasher)) }
+        ensures caller { IfOk result (λ made.
+            (made.1.table ≡ made.0.table) × (made.1.past ≡ start [] spent)) }
+    {
+        Shared::over(alloc, Store::new(alloc, settings, hasher)?)
+    }
+
+    /// A new caller, whose calls stand after all that its maker then had.
+    pub fn caller(&self, maker: &mut Caller) -> Caller
+        requires { maker.old.table ≡ self.now.table }
+        ensures kept { (maker.new.table ≡ maker.old.table)
+            × (maker.new.past ≡ made maker.old.past (next_name maker.old.past)) }
+        ensures new { (result.table ≡ maker.old.table) ×
+            (result.past ≡ start (next_name maker.old.past) maker.old.past) }
+    {
+        Caller {
+            seat: fork(&self.board, &mut maker.seat),
+        }
+    }
+
+    /// From then on the calls of the one stand after all that both made.
+    pub fn join(&self, into: &mut Caller, from: Caller)
+        requires { (into.old.table ≡ self.now.table) × (from.table ≡ self.now.table) }
+        ensures past { (into.new.table ≡ into.old.table)
+            × (into.new.past ≡ both into.old.past from.past) }
+        ensures kept { Agrees (start_of K.hash_of self.now.began) into.new.past }
+    {
+        let Caller { seat } = from;
+        meet(&self.board, &mut into.seat, seat);
+        look(&self.board, &mut into.seat);
+    }
+
+    /// The greatest charge of an item.
+    pub fn greatest(&self) -> u64
+        ensures { result ≡ self.now.began.settings.greatest }
+    {
+        self.settings.greatest
+    }
+
+    /// How many shelves it has.
+    pub fn shelves(&self) -> u32
+        ensures count { result ≡ self.now.began.settings.shelves }
+        ensures some { 0 < result }
+    {
+        self.settings.shelves
+    }
+
+    /// The shelf of a key.
+    pub fn shelf_of(&self, key: &[u8]) -> u32
+        ensures shelf { result ≡ shelf_in (start_of K.hash_of self.now.began) key.now }
+        ensures inside { result < self.now.began.settings.shelves }
+    {
+        (self.hasher.hash(key) % u64::from(self.settings.shelves)) as u32
+    }
+
+    /// A step on one key, where nobody holds what it needs. Where it isn't taken, nothing is decided and no bay is held.
+    pub fn try_step(
+        &self,
+        alloc: Global,
+        caller: &mut Caller,
+        step: &KeyStep<'_>,
+        now: Moment,
+    ) -> Result<Reply, TryFault>
+        requires own { caller.old.table ≡ self.now.table }
+        requires on_key { IsOnKey step.now }
+        requires key { length (key_of step.now) ≤ 250 }
+        ensures same { caller.new.table ≡ caller.old.table }
+        ensures ok { IfOk result (λ reply. HasCalled (start_of K.hash_of self.now.began)
+            caller.old.past step.now now reply caller.new.past) }
+        ensures err { OnErr result (caller.new.past ≡ caller.old.past) }
+        ensures fault { IfErr result (λ e. May (start_of K.hash_of self.now.began) caller.old.past
+            step.now now e) }
+    {
+        let hash = self.hasher.hash(step.key());
+        let desk = self.settings.shelves as usize;
+        let at = (hash % u64::from(self.settings.shelves)) as usize;
+        step_by(
+            &self.board,
+            alloc,
+            &mut caller.seat,
+            (at, desk),
+            step,
+            hash,
+            now,
+        )
+    }
+}
+
+/// So many words, and one more, of free bays.
+fn free_words(alloc: Global, shelves: u32) -> Result<Vec<u64>, AllocError>
+    ensures { IfOk result (λ v. v.items ≡ replicate (shelves + 1) 0) }
+{
+    vec![in alloc; 0; shelves as usize + 1]
+}
+
+/// The shelves and behind them the desk, each in its slot.
+fn slots_of(
+    alloc: Global,
+    count: u32,
+    shelves: Vec<Shelf>,
+    desk: Desk,
+) -> Result<Vec<Option<Bay>>, AllocError>
+    ensures { IfOk result (λ v. v.items ≡ map {A = ShelfState} shelf_slot shelves.items ++ desk_slot
+        desk ∷ []) }
+{
+    let mut slots = Vec::with_capacity(alloc, count as usize + 1)?;
+    for shelf in shelves {
+        slots.push(Some(Bay::Shelf(shelf)))?;
+    }
+    slots.push(Some(Bay::Desk(desk)))?;
+    Ok(slots)
+}
+
+/// A step on one key: its shelf is taken, and where it is needed the desk.
+fn step_by<K: KeyHash + Drop>(
+    board: &Board<K>,
+    alloc: Global,
+    caller: &mut Place,
+    bays: (usize, usize),
+    step: &KeyStep<'_>,
+    hash: u64,
+    now: Moment,
+) -> Result<Reply, TryFault>
+    requires table { IsSeatOf caller.old.table_id board.now.shared.table_id
+        board.now.shared.key.value.settings.shelves }
+    requires shelf { bays.0 < board.now.shared.key.value.settings.shelves }
+    requires desk_bay { bays.1 ≡ board.now.shared.key.value.settings.shelves }
+    requires lives { Lives caller.old.me.0.past }
+    requires free { caller.old.me ≡ resting caller.old.me.0.past }
+    requires on_key { IsOnKey step.now }
+    requires key { length (key_of step.now) ≤ 250 }
+    requires hash { hash ≡ K.hash_of board.now.shared.key.value.hasher (key_of step.now) }
+    requires own { K.hash_of board.now.shared.key.value.hasher (key_of step.now) %
+        board.now.shared.key.value.settings.shelves ≡ bays.0 }
+    ensures seat { (caller.new.table_id ≡ caller.old.table_id) × (caller.new.id ≡ caller.old.id) }
+    ensures ok { IfOk result (λ reply. RestsCalled (start_of K.hash_of board.now.shared.key.value)
+        caller.old.me step.now now reply caller.new.me) }
+    ensures err { OnErr result (caller.new.me ≡ resting caller.old.me.0.past) }
+    ensures fault { IfErr result (λ e. May (start_of K.hash_of board.now.shared.key.value)
+        caller.old.me.0.past step.now now e) }
+{
+    let bay = match take(board, caller, bays.0) {
+        Ok(bay) => bay,
+        Err(word) => {
+            return Err(TryFault::Busy { bay: bays.0, word });
+        }
+    };
+    let mut shelf = shelf_from(bay, bays.0, bays.1);
+    let Ok(plan) = shelf.look(alloc, step, hash, now) else {
+        give(board, caller, bays.0, Bay::Shelf(shelf));
+        return Err(TryFault::NoMemory);
+    };
+    if plan.needs_desk() {
+        step_at_desk(board, alloc, caller, bays, shelf, plan, step, now)
+    } else {
+        Ok(step_at_shelf(board, caller, bays.0, shelf, plan, step, now))
+    }
+}
+
+/// A step that the key's shelf decides alone. The shelf is held, and goes back with the decision.
+pub(crate) fn step_at_shelf<K: KeyHash + Drop>(
+    board: &Board<K>,
+    caller: &mut Place,
+    at: usize,
+    shelf: Shelf,
+    plan: Plan<'_>,
+    step: &KeyStep<'_>,
+    now: Moment,
+) -> Reply
+    requires table { IsSeatOf caller.old.table_id board.now.shared.table_id
+        board.now.shared.key.value.settings.shelves }
+    requires shelf { at < board.now.shared.key.value.settings.shelves }
+    requires lives { Lives caller.old.me.0.past }
+    requires held { caller.old.me ≡ holds_one caller.old.me.0.past at (OfShelf shelf.content) }
+    requires plan { IsPlan plan shelf.content step.now now }
+    requires room { HasRoom plan shelf step.now }
+    requires hash { plan.hash ≡ K.hash_of board.now.shared.key.value.hasher (key_of step.now) }
+    requires no_desk { wants_desk plan.next ≡ false }
+    requires own { K.hash_of board.now.shared.key.value.hasher (key_of step.now) %
+        board.now.shared.key.value.settings.shelves ≡ at }
+    ensures seat { (caller.new.table_id ≡ caller.old.table_id) × (caller.new.id ≡ caller.old.id) }
+    ensures done { RestsCalled (start_of K.hash_of board.now.shared.key.value) caller.old.me
+        step.now now result caller.new.me }
+{
+    steps_change_one_shelf();
+    let mut shelf = shelf;
+    let reply = shelf.settle(plan);
+    decide_at_shelf(board, caller, at, shelf, step, now, &reply);
+    reply
+}
+
+/// A step that the desk decides, with the key's shelf held. Where it isn't taken, both go back as they were.
+fn step_at_desk<K: KeyHash + Drop>(
+    board: &Board<K>,
+    alloc: Global,
+    caller: &mut Place,
+    bays: (usize, usize),
+    shelf: Shelf,
+    plan: Plan<'_>,
+    step: &KeyStep<'_>,
+    now: Moment,
+) -> Result<Reply, TryFault>
+    requires table { IsSeatOf caller.old.table_id board.now.shared.table_id
+        board.now.shared.key.value.settings.shelves }
+    requires shelf { bays.0 < board.now.shared.key.value.settings.shelves }
+    requires desk_bay { bays.1 ≡ board.now.shared.key.value.settings.shelves }
+    requires lives { Lives caller.old.me.0.past }
+    requires held { caller.old.me ≡ holds_one caller.old.me.0.past bays.0 (OfShelf shelf.content) }
+    requires plan { IsPlan plan shelf.content step.now now }
+    requires room { HasRoom plan shelf step.now }
+    requires hash { plan.hash ≡ K.hash_of board.now.shared.key.value.hasher (key_of step.now) }
+    requires desk { wants_desk plan.next ≡ true }
+    requires key { length (key_of step.now) ≤ 250 }
+    requires own { K.hash_of board.now.shared.key.value.hasher (key_of step.now) %
+        board.now.shared.key.value.settings.shelves ≡ bays.0 }
+    ensures seat { (caller.new.table_id ≡ caller.old.table_id) × (caller.new.id ≡ caller.old.id) }
+    ensures ok { IfOk result (λ reply. RestsCalled (start_of K.hash_of board.now.shared.key.value)
+        caller.old.me step.now now reply caller.new.me) }
+    ensures err { OnErr result (caller.new.me ≡ resting caller.old.me.0.past) }
+    ensures fault { IfErr result (λ e. May (start_of K.hash_of board.now.shared.key.value)
+        caller.old.me.0.past step.now now e) }
+{
+    let desk = match take(board, caller, bays.1) {
+        Ok(bay) => desk_from(bay, bays.1),
+        Err(word) => {
+            give(board, caller, bays.0, Bay::Shelf(shelf));
+            return Err(TryFault::Busy { bay: bays.1, word });
+        }
+    };
+    match apply_at_desk(board, alloc, caller, bays, shelf, desk, plan, step, now) {
+        Ok(reply) => Ok(reply),
+        Err(fault) => Err(told(fault)),
+    }
+}
+
+/// A step that the desk decides, with the key's shelf and the desk held. Both go back, as they were where it isn't taken.
+pub(crate) fn apply_at_desk<K: KeyHash + Drop>(
+    board: &Board<K>,
+    alloc: Global,
+    caller: &mut Place,
+    bays: (usize, usize),
+    shelf: Shelf,
+    desk: Desk,
+    plan: Plan<'_>,
+    step: &KeyStep<'_>,
+    now: Moment,
+) -> Result<Reply, StepFault>
+    requires table { IsSeatOf caller.old.table_id board.now.shared.table_id
+        board.now.shared.key.value.settings.shelves }
+    requires shelf { bays.0 < board.now.shared.key.value.settings.shelves }
+    requires desk_bay { bays.1 ≡ board.now.shared.key.value.settings.shelves }
+    requires lives { Lives caller.old.me.0.past }
+    requires held { caller.old.me ≡ holds_two caller.old.me.0.past bays.1 (OfDesk desk) bays.0
+        (OfShelf shelf.content) }
+    requires fits { Fitted (start_of K.hash_of board.now.shared.key.value) caller.old.me.0 }
+    requires plan { IsPlan plan shelf.content step.now now }
+    requires room { HasRoom plan shelf step.now }
+    requires hash { plan.hash ≡ K.hash_of board.now.shared.key.value.hasher (key_of step.now) }
+    requires desk { wants_desk plan.next ≡ true }
+    requires key { length (key_of step.now) ≤ 250 }
+    requires own { K.hash_of board.now.shared.key.value.hasher (key_of step.now) %
+        board.now.shared.key.value.settings.shelves ≡ bays.0 }
+    ensures seat { (caller.new.table_id ≡ caller.old.table_id) × (caller.new.id ≡ caller.old.id) }
+    ensures ok { IfOk result (λ reply. RestsCalled (start_of K.hash_of board.now.shared.key.value)
+        caller.old.me step.now now reply caller.new.me) }
+    ensures err { OnErr result (caller.new.me ≡ resting caller.old.me.0.past) }
+    ensures fault { IfErr result (λ e. Refuses (start_of K.hash_of board.now.shared.key.value)
+        caller.old.me.0.past step.now now e) }
+{
+    steps_change_one_shelf();
+    refusals_are_plain();
+    let mut shelf = shelf;
+    let mut desk = desk;
+    match shelf.apply(alloc, plan, step, &mut desk) {
+        Ok(reply) => {
+            decide_at_desk(
+                board, caller, bays.1, desk, bays.0, &shelf, step, now, &reply,
+            );
+            give(board, caller, bays.0, Bay::Shelf(shelf));
+            Ok(reply)
+        }
+        Err(fault) => {
+            give(board, caller, bays.1, Bay::Desk(desk));
+            give(board, caller, bays.0, Bay::Shelf(shelf));
+            Err(fault)
+        }
+    }
+}
+
+/// Why a step was not taken.
+fn told(fault: StepFault) -> TryFault
+    ensures { result ≡ told_of fault }
+{
+    match fault {
+        StepFault::NoMemory => TryFault::NoMemory,
+        StepFault::NumbersSpent => TryFault::NumbersSpent,
+    }
+}
+
+pub(crate) fn shelf_from(bay: Bay, at: usize, shelves: usize) -> Shelf
+    requires { IsAt shelves at bay × (at < shelves) }
+    ensures { bay ≡ Held.Shelf result }
+{
+    match bay {
+        Bay::Shelf(shelf) => shelf,
+        Bay::Desk(_) => unreachable!(),
+    }
+}
+
+pub(crate) fn desk_from(bay: Bay, shelves: usize) -> Desk
+    requires { IsAt shelves shelves bay }
+    ensures { bay ≡ Held.Desk result }
+{
+    match bay {
+        Bay::Desk(desk) => desk,
+        Bay::Shelf(_) => unreachable!(),
+    }
+}

@@ -1,0 +1,162 @@
+//! Steps that wait for what others hold.
+ghost use Rattle.std.specs.Prelude.{◌≡◌, ◌+◌, ◌<◌, ◌≤◌, ◌%◌, length, IfOk, IfErr, OnErr};
+ghost use Rattle.mc_command.specs.Commands.{key_of};
+ghost use Rattle.mc_command.specs.Laws.{IsOnKey};
+ghost use Rattle.mc_shared.specs.History.{start_of};
+ghost use Rattle.mc_shared.specs.Past.{Lives};
+ghost use Rattle.mc_shared.specs.Steps.{Agrees, IsSeatOf};
+ghost use Rattle.mc_shared.specs.Store.{resting, with_call, Refuses, HasCalled, RestsCalled};
+
+use crate::bay::Bay;
+use crate::flush::take_waiting;
+use crate::rule::{Board, Place};
+use crate::steps::give;
+use crate::store::{Caller, Shared, apply_at_desk, desk_from, shelf_from, step_at_shelf};
+use mc_command::{KeyStep, Reply, StepFault};
+use mc_hop::KeyHash;
+use mc_time::Moment;
+use std::alloc::Global;
+use std::sync::Wait;
+
+/// What is called once while a step's shelf is held.
+pub trait Gate {
+    fn inside(&self, shelf: u32);
+}
+
+/// A gate that does nothing.
+pub struct NoGate;
+
+impl Gate for NoGate {
+    fn inside(&self, _shelf: u32) {}
+}
+
+/// A step on one key, which waits for its shelf and for the desk.
+fn step_waiting<K: KeyHash + Drop, R: Wait, G: Gate>(
+    rt: &R,
+    board: &Board<K>,
+    alloc: Global,
+    caller: &mut Place,
+    bays: (usize, usize),
+    gate: (&G, u32),
+    step: &KeyStep<'_>,
+    hash: u64,
+    now: Moment,
+) -> Result<Reply, StepFault>
+    requires table { IsSeatOf caller.old.table_id board.now.shared.table_id
+        board.now.shared.key.value.settings.shelves }
+    requires shelf { bays.0 < board.now.shared.key.value.settings.shelves }
+    requires desk_bay { bays.1 ≡ board.now.shared.key.value.settings.shelves }
+    requires lives { Lives caller.old.me.0.past }
+    requires free { caller.old.me ≡ resting caller.old.me.0.past }
+    requires on_key { IsOnKey step.now }
+    requires key { length (key_of step.now) ≤ 250 }
+    requires hash { hash ≡ K.hash_of board.now.shared.key.value.hasher (key_of step.now) }
+    requires own { K.hash_of board.now.shared.key.value.hasher (key_of step.now) %
+        board.now.shared.key.value.settings.shelves ≡ bays.0 }
+    ensures seat { (caller.new.table_id ≡ caller.old.table_id) × (caller.new.id ≡ caller.old.id) }
+    ensures ok { IfOk result (λ reply. RestsCalled (start_of K.hash_of board.now.shared.key.value)
+        caller.old.me step.now now reply caller.new.me) }
+    ensures err { OnErr result (caller.new.me ≡ resting caller.old.me.0.past) }
+    ensures fault { IfErr result (λ e. Refuses (start_of K.hash_of board.now.shared.key.value)
+        caller.old.me.0.past step.now now e) }
+{
+    let mut shelf = shelf_from(take_waiting(rt, board, caller, bays.0), bays.0, bays.1);
+    gate.0.inside(gate.1);
+    let Ok(plan) = shelf.look(alloc, step, hash, now) else {
+        give(board, caller, bays.0, Bay::Shelf(shelf));
+        return Err(StepFault::NoMemory);
+    };
+    if plan.needs_desk() {
+        let desk = desk_from(take_waiting(rt, board, caller, bays.1), bays.1);
+        apply_at_desk(board, alloc, caller, bays, shelf, desk, plan, step, now)
+    } else {
+        Ok(step_at_shelf(board, caller, bays.0, shelf, plan, step, now))
+    }
+}
+
+impl<K: KeyHash + Drop> Shared<K> {
+    /// Takes a step. It waits for what others hold. Where it isn't taken, nothing is decided and no
+    /// bay is held.
+    pub fn step<R: Wait>(
+        &self,
+        rt: &R,
+        alloc: Global,
+        caller: &mut Caller,
+        step: &KeyStep<'_>,
+        now: Moment,
+    ) -> Result<Reply, StepFault>
+        requires own { caller.old.table ≡ self.now.table }
+        requires key { length (key_of step.now) ≤ 250 }
+        ensures same { caller.new.table ≡ caller.old.table }
+        ensures ok { IfOk result (λ reply. HasCalled (start_of K.hash_of self.now.began)
+            caller.old.past step.now now reply caller.new.past) }
+        ensures err { OnErr result (caller.new.past ≡ caller.old.past) }
+        ensures fault { IfErr result (λ e. Refuses (start_of K.hash_of self.now.began)
+            caller.old.past step.now now e) }
+    {
+        self.step_at(rt, alloc, caller, step, now, &NoGate)
+    }
+
+    /// Takes a step. It waits for what others hold, and calls the gate once while the key's shelf is
+    /// held; a flush calls no gate. Where it isn't taken, nothing is decided and no bay is held.
+    pub fn step_at<R: Wait, G: Gate>(
+        &self,
+        rt: &R,
+        alloc: Global,
+        caller: &mut Caller,
+        step: &KeyStep<'_>,
+        now: Moment,
+        gate: &G,
+    ) -> Result<Reply, StepFault>
+        requires own { caller.old.table ≡ self.now.table }
+        requires key { length (key_of step.now) ≤ 250 }
+        ensures same { caller.new.table ≡ caller.old.table }
+        ensures ok { IfOk result (λ reply. HasCalled (start_of K.hash_of self.now.began)
+            caller.old.past step.now now reply caller.new.past) }
+        ensures err { OnErr result (caller.new.past ≡ caller.old.past) }
+        ensures fault { IfErr result (λ e. Refuses (start_of K.hash_of self.now.began)
+            caller.old.past step.now now e) }
+    {
+        match step {
+            KeyStep::Flush { delay } => Ok(self.flush(rt, alloc, caller, *delay, now)?),
+            _ => self.step_on_key(rt, alloc, caller, step, now, gate),
+        }
+    }
+
+    /// Takes a step on one key, as `step_at` does.
+    fn step_on_key<R: Wait, G: Gate>(
+        &self,
+        rt: &R,
+        alloc: Global,
+        caller: &mut Caller,
+        step: &KeyStep<'_>,
+        now: Moment,
+        gate: &G,
+    ) -> Result<Reply, StepFault>
+        requires own { caller.old.table ≡ self.now.table }
+        requires on_key { IsOnKey step.now }
+        requires key { length (key_of step.now) ≤ 250 }
+        ensures same { caller.new.table ≡ caller.old.table }
+        ensures ok { IfOk result (λ reply. HasCalled (start_of K.hash_of self.now.began)
+            caller.old.past step.now now reply caller.new.past) }
+        ensures err { OnErr result (caller.new.past ≡ caller.old.past) }
+        ensures fault { IfErr result (λ e. Refuses (start_of K.hash_of self.now.began)
+            caller.old.past step.now now e) }
+    {
+        let hash = self.hasher.hash(step.key());
+        let desk = self.settings.shelves as usize;
+        let at = hash % u64::from(self.settings.shelves);
+        let seat = &mut caller.seat;
+        step_waiting(
+            rt,
+            &self.board,
+            alloc,
+            seat,
+            (at as usize, desk),
+            (gate, at as u32),
+            step,
+            hash,
+            now,
+        )
+    }
+}

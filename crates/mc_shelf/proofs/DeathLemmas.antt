@@ -1,0 +1,60 @@
+-- The soonest expiry and write of items, as one comes, changes or goes.
+use Rattle.std.proofs.Common.{◌≡◌, ℕ, zero, suc, Bool, true, false, cond, List, [], ◌∷◌, Option, Some, None, Less, Equal, Greater, is_eq, sym, ap, subst, ◌∙◌, refl, arith}
+use Rattle.std.proofs.lemmas.Option.{same_Some, none-some}
+use Rattle.std.specs.FinMap.{empty, from_entries, get, get-empty, get-insert, get-remove, insert, remove}
+use Rattle.std.specs.Cmp.Lexicographic.{nat_list_cmp_total}
+use Rattle.mc_hop.specs.Cells.{filled}
+use Rattle.mc_hop.specs.Contents.{rows}
+use Rattle.mc_time.specs.Death.{is_dead}
+use Rattle.mc_command.specs.Plain.{Entry, Items}
+use Rattle.mc_grow.specs.Indexes.{IndexState, cells, count}
+use Rattle.mc_shelf.specs.States.{EntryState}
+use Rattle.mc_shelf.specs.KeyMaps.{hash_in, hashes_in, items_in, key_in}
+use Rattle.mc_shelf.specs.Places.{hashes_of, items_of}
+use Rattle.mc_shelf.specs.Deaths.{DiesNoSooner, DieNoSooner, NoneIsDead}
+use Rattle.mc_shelf.specs.declared.soonest.Soonest.{Soonest}
+use Rattle.mc_shelf.proofs.KeyLemmas.{order}
+use Rattle.mc_shelf.proofs.KeyMapLemmas.{hashes-empty, items-empty}
+
+-- of no items anything is said
+pub sooner_none : (soonest : Soonest) (items : Items) → items ≡ empty → DieNoSooner soonest items
+sooner_none soonest items is key item found = absurd (none-some item (sym (ap (λ (m : Items). get m key) is ∙ get-empty order key) ∙ found))
+
+-- an item comes under a key, or is changed
+pub sooner_insert : (a b : Soonest) (old new : Items) (key : List ℕ) (item : Entry) → new ≡ insert old key item → DieNoSooner a old → ((other : Entry) → DiesNoSooner a other → DiesNoSooner b other) → DiesNoSooner b item → DieNoSooner b new
+sooner_insert a b old new key item is held others one at found there =
+    elim (order at key) as (λ r. cond (is_eq r) (Some item) (get old at) ≡ Some found → DiesNoSooner b found) [
+      | Less ↦ λ e. others found (held at found e)
+      | Equal ↦ λ e. subst (DiesNoSooner b) (same_Some item found e) one
+      | Greater ↦ λ e. others found (held at found e)
+    ] (sym (ap (λ (m : Items). get m at) is ∙ get-insert nat_list_cmp_total old key item at) ∙ there)
+
+-- one goes
+pub sooner_remove : (a : Soonest) (old new : Items) (key : List ℕ) → new ≡ remove old key → DieNoSooner a old → DieNoSooner a new
+sooner_remove a old new key is held at found there =
+    elim (order at key) as (λ r. cond (is_eq r) None (get old at) ≡ Some found → DiesNoSooner a found) [
+      | Less ↦ λ e. held at found e
+      | Equal ↦ λ e. absurd (none-some found e)
+      | Greater ↦ λ e. held at found e
+    ] (sym (ap (λ (m : Items). get m at) is ∙ get-remove nat_list_cmp_total old key at) ∙ there)
+
+-- where the soonest aren't dead, none is
+not_dead : (one all : Bool) → (one ≡ true → all ≡ true) → all ≡ false → one ≡ false
+not_dead false all so alive = refl
+not_dead true all so alive = sym (so refl) ∙ alive
+
+pub none_dead : (soonest : Soonest) (items : Items) (cut : Option ℕ) (now : ℕ) → DieNoSooner soonest items → is_dead soonest.expiry soonest.updated cut now ≡ false → NoneIsDead now cut items
+none_dead soonest items cut now held alive key item found = not_dead (is_dead item.expiry item.updated cut now) (is_dead soonest.expiry soonest.updated cut now) (held key item found cut now) alive
+
+-- ---- an index of no entries
+
+no_rows : (buckets : List (Option EntryState)) → filled buckets ≡ 0 → rows hash_in key_in buckets ≡ []
+no_rows [] none = refl
+no_rows (None ∷ buckets) none = no_rows buckets none
+no_rows (Some e ∷ buckets) none = absurd (omega (arith, none))
+
+pub no_items : (index : IndexState EntryState) → count index ≡ 0 → items_of index ≡ empty
+no_items index none = ap items_in (ap from_entries (no_rows (cells index) none)) ∙ items-empty
+
+pub no_hashes : (index : IndexState EntryState) → count index ≡ 0 → hashes_of index ≡ empty
+no_hashes index none = ap hashes_in (ap from_entries (no_rows (cells index) none)) ∙ hashes-empty

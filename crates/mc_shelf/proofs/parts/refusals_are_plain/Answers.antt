@@ -1,0 +1,14 @@
+use Rattle.std.proofs.Common.{sym, refl, ◌∙◌}
+use Rattle.mc_shelf.specs.Plans.{next_of}
+use Rattle.mc_shelf.proofs.TakesLemmas.{is_spent}
+use Rattle.mc_shelf.proofs.RefusalLemmas.{can_wants, needs_can, writes_some}
+use Rattle.mc_shelf.proofs.parts.refusals_are_plain.Goals as goal
+
+pub returns-clause-spent : goal.returns-clause-spent
+returns-clause-spent c step now shelf desk on does none =
+    let some = writes_some (next_of shelf step now) does in
+    is_spent c.counts_follow.ensures.insert c.counts_follow.ensures.remove step now shelf desk on some.0 some.1 (sym some.2) none
+
+pub returns-clause-page : goal.returns-clause-page
+returns-clause-page c step now shelf desk on slab most needs =
+    can_wants c.counts_follow.ensures.insert c.counts_follow.ensures.remove step now shelf desk on slab most (next_of shelf step now) refl (needs_can (next_of shelf step now) desk needs)

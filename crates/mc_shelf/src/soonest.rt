@@ -1,0 +1,96 @@
+//! From when on some of a shelf's items may be dead.
+
+ghost use Rattle.std.specs.Prelude.{◌≡◌, ℕ, ◌≤◌, Some, true};
+ghost use Rattle.mc_time.specs.Death.{is_dead, is_expired};
+ghost use Rattle.mc_command.specs.Plain.{Entry as Item};
+ghost use Rattle.mc_shelf.specs.Plans.{item_in};
+ghost use Rattle.mc_shelf.specs.Deaths.{DiesNoSooner};
+
+use crate::entry::Entry;
+use mc_command::Standing;
+use mc_time::{Expiry, Moment, is_dead};
+
+/// No item of some expires sooner than this expiry, and none was last written sooner than this moment. So at a moment when an
+/// item of these two isn't dead, none of them is, whatever flush there is.
+#[derive(Clone, Copy)]
+pub(crate) struct Soonest {
+    /// The soonest expiry.
+    expiry: Expiry,
+    /// The soonest moment of a write.
+    updated: Moment,
+}
+
+impl Soonest {
+    /// Makes that of no items.
+    pub(crate) fn of_none() -> Soonest {
+        Soonest {
+            expiry: Expiry::Never,
+            updated: Moment::from_seconds(Moment::LATEST),
+        }
+    }
+
+    /// Makes that of these items and one more, of that expiry, which was last written at that moment.
+    pub(crate) fn with(self, expiry: Expiry, updated: Moment) -> Soonest
+        ensures one { (item : Item) → item.expiry ≡ expiry → item.updated ≡ updated →
+            DiesNoSooner result item }
+        ensures others { (item : Item) → DiesNoSooner self item → DiesNoSooner result item }
+    {
+        Soonest {
+            expiry: sooner(self.expiry, expiry),
+            updated: earlier(self.updated, updated),
+        }
+    }
+
+    /// Makes that of these items, one of which now has that expiry.
+    pub(crate) fn with_expiry(self, expiry: Expiry) -> Soonest
+        ensures one { (item : Item) → DiesNoSooner self item →
+            DiesNoSooner result (record item { expiry = expiry }) }
+        ensures others { (item : Item) → DiesNoSooner self item → DiesNoSooner result item }
+    {
+        Soonest {
+            expiry: sooner(self.expiry, expiry),
+            updated: self.updated,
+        }
+    }
+
+    /// Makes that of these items and of the one that is found, if one is.
+    pub(crate) fn with_found(self, found: Option<&Entry>) -> Soonest
+        ensures found { (item : Item) → item_in found.entry ≡ Some item → DiesNoSooner result item }
+        ensures others { (item : Item) → DiesNoSooner self item → DiesNoSooner result item }
+    {
+        match found {
+            None => self,
+            Some(entry) => self.with(entry.expiry(), entry.updated()),
+        }
+    }
+
+    /// Answers whether one of the items may be dead at a moment, with a flush at `cut`.
+    pub(crate) fn may_be_dead(self, cut: Option<u64>, now: Moment) -> bool
+        ensures { result ≡ is_dead self.expiry self.updated cut now }
+    {
+        is_dead(self.expiry, self.updated, cut, now)
+    }
+}
+
+/// Gives the one of two expiries that comes first.
+fn sooner(one: Expiry, other: Expiry) -> Expiry
+    ensures one { (now : ℕ) → is_expired one now ≡ true → is_expired result now ≡ true }
+    ensures other { (now : ℕ) → is_expired other now ≡ true → is_expired result now ≡ true }
+{
+    match (one, other) {
+        (Expiry::Never, expiry) | (expiry, Expiry::Never) => expiry,
+        (Expiry::At(one), Expiry::At(other)) => Expiry::At(one.min(other)),
+    }
+}
+
+/// Gives the earlier of two moments.
+fn earlier(one: Moment, other: Moment) -> Moment
+    ensures one { result ≤ one }
+    ensures other { result ≤ other }
+{
+    if one.seconds() < other.seconds() {
+        one
+    } else {
+        other
+    }
+}
