@@ -7,3 +7,10 @@ pub mod Decisions
 pub mod Held
 pub mod Opening
 pub mod Stacked
+pub mod OrderLawLemmas
+pub mod AloneLawLemmas
+pub mod KeyLawLemmas
+pub mod ReadLawLemmas
+pub mod OnlyLawLemmas
+pub mod CasLawLemmas
+pub mod CountLawLemmas

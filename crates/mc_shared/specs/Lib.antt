@@ -10,3 +10,4 @@ pub mod Shown
 pub mod Stacks
 pub mod Close
 pub mod Asking
+pub mod Laws
