@@ -4,7 +4,7 @@ ghost use Rattle.std.specs.Prelude.{◌≡◌, IfOk};
 use crate::call::{Call, KEYS, drawn, tell_reply};
 use mc_command::Reply;
 use mc_hop::Fnv;
-use mc_shared::store::{Caller, Shared};
+use mc_shared::{Caller, Shared};
 use mc_shelf::{Settings, Store};
 use mc_testing::Dice;
 use mc_time::Moment;
