@@ -223,6 +223,23 @@ def late_draw(ordered, numbers):
     return None
 
 
+def guess_ranks(ordered, told):
+    """Of each call a guess of the last number that was drawn when it was taken: the search tries the latest first."""
+    written = {content: unique for unique, content in told.items()}
+    ranks, least = {}, defaultdict(int)
+    for call, _ in ordered:
+        hit = call.told()
+        if hit:
+            found = hit[1] or 0
+        else:
+            found = written.get((call.key(), *call.stored()), 0) if call.stored() else 0
+        if call.verb == "made":
+            least[call.arguments[0]] = least[call.caller]
+        least[call.caller] = max(least[call.caller] + (call.reply[0] in ("STORED", "NUMBER")), found)
+        ranks[call] = least[call.caller]
+    return ranks
+
+
 # ---- the protocol's rules of one key
 
 
@@ -368,13 +385,39 @@ def lanes_of(ordered, key):
 class Search:
     """A search, depth first, through the orders of the calls of a key; a state is tried once."""
 
-    def __init__(self, lanes, numbers):
+    def __init__(self, lanes, numbers, ranks):
         self.lanes = lanes
+        self.ranks = ranks
         self.rules = Rules(numbers)
         # The writes whose numbers are known come in the order of these.
         self.draws = sorted(numbers[call] for lane in lanes for call in lane.calls if call in numbers)
         self.numbers = numbers
         self.furthest = (0,) * len(lanes)
+        self.met = [self.met_from(lane) for lane in lanes]
+
+    @staticmethod
+    def met_from(lane):
+        """At each place of a lane the next number that a call there met, as that of the item that stood."""
+        found, numbers = None, []
+        for call in reversed(lane.calls):
+            hit = call.told()
+            if hit and hit[1] is not None:
+                found = hit[1]
+            if call.verb == "cas" and call.reply == ("STORED",):
+                found = int(call.arguments[3])
+            numbers.append(found)
+        return numbers[::-1] + [None]
+
+    def is_lost(self, places, state):
+        """Whether a call is to meet a number that is drawn already and doesn't stand: no later item has it."""
+        item = state.item
+        for met, place in zip(self.met, places):
+            unique = met[place]
+            if unique is None or unique > state.drawn:
+                continue
+            if item is None or (unique <= item.floor if item.unique is None else item.unique != unique):
+                return True
+        return False
 
     def ready(self, places):
         for at, lane in enumerate(self.lanes):
@@ -384,19 +427,21 @@ class Search:
                     yield at, lane.calls[places[at]]
 
     def passed(self, places, state):
-        """The places after all calls that are explained here and change nothing: these can wait for no other."""
+        """The places after all calls that are explained here and change nothing: these can wait for no other.
+
+        A flush that finds no item isn't one of them, since it may be wanted to take away a later one."""
         moved = True
         while moved:
             moved = False
             for at, call in self.ready(places):
-                if self.rules.step(call, state) == state:
+                if call.verb != "flush" and self.rules.step(call, state) == state:
                     places = places[:at] + (places[at] + 1,) + places[at + 1 :]
                     moved = True
                     break
         return places
 
     def nexts(self, places, state, drawn):
-        for at, call in self.ready(places):
+        for at, call in sorted(self.ready(places), key=lambda it: -self.ranks[it[1]]):
             unique = self.numbers.get(call)
             if unique is not None and unique != self.draws[drawn]:
                 continue
@@ -416,7 +461,7 @@ class Search:
                 return True
             if sum(places) > sum(self.furthest):
                 self.furthest = places
-            if (places, state) in tried:
+            if (places, state) in tried or self.is_lost(places, state):
                 continue
             if len(tried) == MOST_STATES:
                 return None
@@ -438,10 +483,11 @@ def check(text):
     fault = fault or late_draw(ordered, numbers)
     if fault:
         return False, fault
+    ranks = guess_ranks(ordered, told)
     keys = sorted({call.key() for call, _ in ordered if call.key() is not None})
     given_up = None
     for key in keys:
-        search = Search(lanes_of(ordered, key), numbers)
+        search = Search(lanes_of(ordered, key), numbers, ranks)
         found = search.run()
         if found is False:
             return False, f"no order explains the key {key}; of the next calls none can come:\n" + "\n".join(search.waiting())

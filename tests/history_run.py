@@ -43,7 +43,7 @@ def main():
     parser.add_argument("--checker", default=f"{ROOT}/tests/history.py")
     parser.add_argument("--seeds", type=int, default=20, metavar="N", help="how many runs are recorded")
     parser.add_argument("--first", type=int, default=1, metavar="N", help="the seed of the first of them")
-    parser.add_argument("--calls", type=int, default=100, metavar="N", help="how many calls each of the four callers makes")
+    parser.add_argument("--calls", type=int, default=1000, metavar="N", help="how many calls each of the four callers makes")
     parser.add_argument("--keep", default=tempfile.gettempdir(), metavar="FOLDER", help="where records lie that aren't explained")
     given = parser.parse_args()
     passed = failed = 0
