@@ -40,9 +40,9 @@ crate:
 rows:
 	@python3 tests/rows.py $(if $(ONLY),--only $(ONLY))
 
-# Recorded runs of four callers in threads, each explained by an order of their calls
+# Recorded runs of four callers in threads, each explained by an order of their calls: make history CALLS=200
 history: bench-build
-	@python3 tests/history_run.py
+	@python3 tests/history_run.py $(if $(CALLS),--calls $(CALLS))
 
 fmt:
 	@for crate in crates/*/; do (cd $$crate && rt fmt) || exit 1; done

@@ -1,7 +1,7 @@
 #!/usr/bin/env python3
 """Records runs of four callers of one store, each in a thread, and has tests/history.py look for an order that explains each.
 
-    tests/history_run.py [--program PATH] [--checker PATH] [--seeds N] [--first N] [--keep FOLDER]
+    tests/history_run.py [--program PATH] [--checker PATH] [--seeds N] [--first N] [--calls N] [--keep FOLDER]
 
 The seeds are the first and those after it. The same seed makes the same calls, but how the threads take turns is another matter
 each time, so a record that isn't explained is kept. The last line counts them: `N passed, N failed`.
@@ -18,11 +18,11 @@ PROGRAM = f"{ROOT}/crates/mc_bench/out/mc_bench"
 SECONDS = 300
 
 
-def recorded(program, seed, path):
+def recorded(program, seed, calls, path):
     """Writes the record of a run to the file. Gives what went wrong, or nothing."""
     with open(path, "wb") as it:
         try:
-            found = subprocess.run([program, "record", str(seed)], stdin=subprocess.DEVNULL, stdout=it, timeout=SECONDS)
+            found = subprocess.run([program, "record", str(seed), str(calls)], stdin=subprocess.DEVNULL, stdout=it, timeout=SECONDS)
         except (OSError, subprocess.TimeoutExpired) as error:
             return str(error)
     return f"the program ended with status {found.returncode}" if found.returncode else None
@@ -43,6 +43,7 @@ def main():
     parser.add_argument("--checker", default=f"{ROOT}/tests/history.py")
     parser.add_argument("--seeds", type=int, default=20, metavar="N", help="how many runs are recorded")
     parser.add_argument("--first", type=int, default=1, metavar="N", help="the seed of the first of them")
+    parser.add_argument("--calls", type=int, default=100, metavar="N", help="how many calls each of the four callers makes")
     parser.add_argument("--keep", default=tempfile.gettempdir(), metavar="FOLDER", help="where records lie that aren't explained")
     given = parser.parse_args()
     passed = failed = 0
@@ -50,7 +51,7 @@ def main():
         began = time.monotonic()
         with tempfile.TemporaryDirectory() as room:
             path = f"{room}/record"
-            fault = recorded(given.program, seed, path)
+            fault = recorded(given.program, seed, given.calls, path)
             right, said = (False, fault) if fault else explained(given.checker, path)
             if not right and not fault:
                 kept = f"{given.keep}/record-{seed}"

@@ -1,6 +1,9 @@
 //! What the command line asks for.
 ghost use Rattle.std.specs.Prelude.{◌≢◌, IsNone, length};
 
+/// How many calls each caller makes where the command line doesn't say.
+const CALLS: u32 = 25_000;
+
 /// A run.
 #[derive(Clone, Copy)]
 pub enum Run {
@@ -8,8 +11,9 @@ pub enum Run {
     Worlds { sessions: u16, rounds: u32 },
     /// Threads take steps.
     Steps(Threaded),
-    /// Callers in threads tell what they called and what they were answered. The calls follow from the seed.
-    Record { seed: u64 },
+    /// Callers in threads tell what they called and what they were answered. The calls follow from the seed;
+    /// each caller makes so many.
+    Record { seed: u64, calls: u32 },
 }
 
 /// What steps are taken.
@@ -57,6 +61,11 @@ pub fn asked(words: &[String]) -> Option<Run>
     match words {
         [_, run, seed] if run.as_str() == "record" => Some(Run::Record {
             seed: seed.parse().ok()?,
+            calls: CALLS,
+        }),
+        [_, run, seed, calls] if run.as_str() == "record" => Some(Run::Record {
+            seed: seed.parse().ok()?,
+            calls: calls.parse().ok()?,
         }),
         [_, run, sessions, rounds] if run.as_str() == "worlds" => Some(Run::Worlds {
             sessions: sessions.parse().ok()?,

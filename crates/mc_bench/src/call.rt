@@ -41,11 +41,11 @@ pub struct Call {
     pub block: String,
 }
 
-/// Draws a call. Its block is a text of its caller and turn, or one of a few; its number may be what its caller has seen of the key.
+/// Draws a call. Its block is the mark, which no other call has, or one of a few; its number may be what its caller has seen of the key.
 pub fn drawn(
     alloc: Global,
     dice: &mut Dice,
-    turn: u64,
+    mark: u64,
     seen: &[u64; KEYS],
 ) -> Result<Call, AllocError>
     ensures { IfOk result (λ call. call.key < 8) }
@@ -59,7 +59,7 @@ pub fn drawn(
     };
     let flags = dice.roll(1 << 32) as u32;
     let exptime = exptime_drawn(dice);
-    let block = block_drawn(alloc, dice, turn)?;
+    let block = block_drawn(alloc, dice, mark)?;
     Ok(Call {
         word,
         key,
@@ -100,12 +100,12 @@ fn exptime_drawn(dice: &mut Dice) -> i64 {
 }
 
 /// Draws a block.
-fn block_drawn(alloc: Global, dice: &mut Dice, turn: u64) -> Result<String, AllocError> {
+fn block_drawn(alloc: Global, dice: &mut Dice, mark: u64) -> Result<String, AllocError> {
     match dice.roll(8) {
         0 => format!(in alloc; ""),
         1 => format!(in alloc; "18446744073709551615"),
-        2..=4 => format!(in alloc; "{turn}"),
-        _ => format!(in alloc; "{turn}x"),
+        2..=4 => format!(in alloc; "{mark}"),
+        _ => format!(in alloc; "{mark}x"),
     }
 }
 

@@ -6,7 +6,8 @@
 //! - `mc_bench steps OVER MIX THREADS ROUNDS`: each of 1, 2 or 4 threads takes so many steps. OVER is `store`, which is that of one
 //!   thread, `own`, a shared store with a key for each thread, or `same`, with one key for all. MIX is `gets`, `sets`, or `mixed`,
 //!   nine gets to a set. What is printed is how many steps were answered as they should be.
-//! - `mc_bench record SEED`: four callers in threads of their own make random calls of one shared store. What is printed is each
+//! - `mc_bench record SEED [CALLS]`: four callers in threads of their own make so many random calls each of one shared store, 25,000
+//!   where it isn't said. What is printed is each
 //!   call with its answer, in each caller's order.
 #![tactic(auto)]
 
@@ -31,8 +32,8 @@ fn main(rt: HostRuntime) -> io::Result<()> {
             let answered = steps::answered(&rt, alloc, threaded)?;
             println!(rt; "{answered}")
         }
-        Some(Run::Record { seed }) => {
-            for told in record::told(&rt, alloc, seed)? {
+        Some(Run::Record { seed, calls }) => {
+            for told in record::told(&rt, alloc, seed, calls)? {
                 print!(rt; "{told}")?;
             }
             Ok(())

@@ -13,8 +13,12 @@ use std::sync::Wait;
 use std::thread;
 use std::thread::Threads;
 
-/// How many calls each of the four callers makes.
-const CALLS: u64 = 25_000;
+/// What callers draw their calls from, and how many each makes.
+#[derive(Clone, Copy)]
+struct Script {
+    seed: u64,
+    calls: u32,
+}
 
 /// Lets four callers make their calls, each in a thread of its own, and gives what each tells, in its own order. They are joined
 /// afterwards, and one of them then reads all keys.
@@ -25,7 +29,9 @@ pub fn told<R: Threads + Wait + Sync>(
     rt: &R,
     alloc: Global,
     seed: u64,
+    calls: u32,
 ) -> Result<Vec<String>, AllocError> {
+    let script = Script { seed, calls };
     let settings = Settings {
         pages: 64,
         greatest: 1_048_576,
@@ -40,16 +46,16 @@ pub fn told<R: Threads + Wait + Sync>(
         || -> Result<(Caller, String), AllocError>
             requires { (me.table ≡ shared.table) × (second.table ≡ shared.table) }
             ensures { IfOk result (λ r. r.0.table ≡ shared.table) }
-        { pair(rt, alloc, &shared, me, second, seed, 0) },
+        { pair(rt, alloc, &shared, me, second, script, 0) },
         || -> Result<(Caller, String), AllocError>
             requires { (third.table ≡ shared.table) × (fourth.table ≡ shared.table) }
             ensures { IfOk result (λ r. r.0.table ≡ shared.table) }
-        { pair(rt, alloc, &shared, third, fourth, seed, 2) },
+        { pair(rt, alloc, &shared, third, fourth, script, 2) },
     );
     let (mut me, first_told) = one?;
     let (third, second_told) = other?;
     shared.join(&mut me, third);
-    let last_told = last(rt, alloc, &shared, me)?;
+    let last_told = last(rt, alloc, &shared, me, script)?;
     let begun = format!(in alloc; "0 0 made 1\n0 1 made 2\n0 2 made 3\n")?;
     Ok(vec![in alloc; begun, first_told, second_told, last_told]?)
 }
@@ -61,7 +67,7 @@ fn pair<R: Threads + Wait + Sync>(
     shared: &Shared<Fnv>,
     first: Caller,
     second: Caller,
-    seed: u64,
+    script: Script,
     number: u64,
 ) -> Result<(Caller, String), AllocError>
     requires first { first.table ≡ shared.now.table }
@@ -73,17 +79,17 @@ fn pair<R: Threads + Wait + Sync>(
         || -> Result<(Caller, String), AllocError>
             requires { first.table ≡ shared.now.table }
             ensures { IfOk result (λ r. r.0.table ≡ shared.entry.now.table) }
-        { calls(rt, alloc, shared, first, seed, number) },
+        { calls(rt, alloc, shared, first, script, number) },
         || -> Result<(Caller, String), AllocError>
             requires { second.table ≡ shared.now.table }
             ensures { IfOk result (λ r. r.0.table ≡ shared.entry.now.table) }
-        { calls(rt, alloc, shared, second, seed, number | 1) },
+        { calls(rt, alloc, shared, second, script, number | 1) },
     );
     let (mut first, mut told) = one?;
     let (second, second_told) = other?;
     shared.join(&mut first, second);
     told.push_str(second_told.as_str())?;
-    let (after, other) = (CALLS + 3, number | 1);
+    let (after, other) = (u64::from(script.calls) + 3, number | 1);
     writeln!(told, "{number} {after} joined {other}")?;
     Ok((first, told))
 }
@@ -94,18 +100,23 @@ fn calls<R: Wait>(
     alloc: Global,
     shared: &Shared<Fnv>,
     caller: Caller,
-    seed: u64,
+    script: Script,
     number: u64,
 ) -> Result<(Caller, String), AllocError>
     requires { caller.table ≡ shared.now.table }
     ensures { IfOk result (λ r. r.0.table ≡ shared.now.table) }
 {
     let mut caller = caller;
-    let mut dice = Dice::new(seed.wrapping_mul(4).wrapping_add(number));
+    let mut dice = Dice::new(script.seed.wrapping_mul(4).wrapping_add(number));
     let mut seen = [0; KEYS];
     let mut told = String::new(alloc);
-    for turn in 0..CALLS {
-        let call = match drawn(alloc, &mut dice, turn, &seen) {
+    for turn in 0..u64::from(script.calls) {
+        let call = match drawn(
+            alloc,
+            &mut dice,
+            turn.wrapping_mul(4).wrapping_add(number),
+            &seen,
+        ) {
             Ok(call) => call,
             Err(fault) => return Err(fault),
         };
@@ -170,11 +181,12 @@ fn last<R: Wait>(
     alloc: Global,
     shared: &Shared<Fnv>,
     caller: Caller,
+    script: Script,
 ) -> Result<String, AllocError>
     requires { caller.table ≡ shared.now.table }
 {
     let mut caller = caller;
-    let after = CALLS + 4;
+    let after = u64::from(script.calls) + 4;
     let mut told = format!(in alloc; "0 {after} joined 2\n")?;
     for key in 0..KEYS {
         let call = Call::get(alloc, key);

@@ -266,8 +266,8 @@ fn step_by<K: KeyHash + Drop>(
     requires on_key { IsOnKey step.now }
     requires key { length (key_of step.now) ≤ 250 }
     requires hash { hash ≡ K.hash_of board.now.shared.key.value.hasher (key_of step.now) }
-    requires own { K.hash_of board.now.shared.key.value.hasher (key_of step.now) %
-        board.now.shared.key.value.settings.shelves ≡ bays.0 }
+    requires own { shelf_in (start_of K.hash_of board.now.shared.key.value) (key_of step.now)
+        ≡ bays.0 }
     ensures seat { (caller.new.table_id ≡ caller.old.table_id) × (caller.new.id ≡ caller.old.id) }
     ensures ok { IfOk result (λ reply. RestsCalled (start_of K.hash_of board.now.shared.key.value)
         caller.old.me step.now now reply caller.new.me) }
@@ -312,8 +312,8 @@ pub(crate) fn step_at_shelf<K: KeyHash + Drop>(
     requires room { HasRoom plan shelf step.now }
     requires hash { plan.hash ≡ K.hash_of board.now.shared.key.value.hasher (key_of step.now) }
     requires no_desk { wants_desk plan.next ≡ false }
-    requires own { K.hash_of board.now.shared.key.value.hasher (key_of step.now) %
-        board.now.shared.key.value.settings.shelves ≡ at }
+    requires own { shelf_in (start_of K.hash_of board.now.shared.key.value) (key_of step.now)
+        ≡ at }
     ensures seat { (caller.new.table_id ≡ caller.old.table_id) × (caller.new.id ≡ caller.old.id) }
     ensures done { RestsCalled (start_of K.hash_of board.now.shared.key.value) caller.old.me
         step.now now result caller.new.me }
@@ -348,8 +348,8 @@ fn step_at_desk<K: KeyHash + Drop>(
     requires hash { plan.hash ≡ K.hash_of board.now.shared.key.value.hasher (key_of step.now) }
     requires desk { wants_desk plan.next ≡ true }
     requires key { length (key_of step.now) ≤ 250 }
-    requires own { K.hash_of board.now.shared.key.value.hasher (key_of step.now) %
-        board.now.shared.key.value.settings.shelves ≡ bays.0 }
+    requires own { shelf_in (start_of K.hash_of board.now.shared.key.value) (key_of step.now)
+        ≡ bays.0 }
     ensures seat { (caller.new.table_id ≡ caller.old.table_id) × (caller.new.id ≡ caller.old.id) }
     ensures ok { IfOk result (λ reply. RestsCalled (start_of K.hash_of board.now.shared.key.value)
         caller.old.me step.now now reply caller.new.me) }
@@ -396,8 +396,8 @@ pub(crate) fn apply_at_desk<K: KeyHash + Drop>(
     requires hash { plan.hash ≡ K.hash_of board.now.shared.key.value.hasher (key_of step.now) }
     requires desk { wants_desk plan.next ≡ true }
     requires key { length (key_of step.now) ≤ 250 }
-    requires own { K.hash_of board.now.shared.key.value.hasher (key_of step.now) %
-        board.now.shared.key.value.settings.shelves ≡ bays.0 }
+    requires own { shelf_in (start_of K.hash_of board.now.shared.key.value) (key_of step.now)
+        ≡ bays.0 }
     ensures seat { (caller.new.table_id ≡ caller.old.table_id) × (caller.new.id ≡ caller.old.id) }
     ensures ok { IfOk result (λ reply. RestsCalled (start_of K.hash_of board.now.shared.key.value)
         caller.old.me step.now now reply caller.new.me) }

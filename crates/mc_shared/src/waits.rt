@@ -2,7 +2,7 @@
 ghost use Rattle.std.specs.Prelude.{◌≡◌, ◌+◌, ◌<◌, ◌≤◌, ◌%◌, length, IfOk, IfErr, OnErr};
 ghost use Rattle.mc_command.specs.Commands.{key_of};
 ghost use Rattle.mc_command.specs.Laws.{IsOnKey};
-ghost use Rattle.mc_shared.specs.History.{start_of};
+ghost use Rattle.mc_shared.specs.History.{start_of, shelf_in};
 ghost use Rattle.mc_shared.specs.Past.{Lives};
 ghost use Rattle.mc_shared.specs.Steps.{Agrees, IsSeatOf};
 ghost use Rattle.mc_shared.specs.Store.{resting, with_call, Refuses, HasCalled, RestsCalled};
@@ -51,8 +51,8 @@ fn step_waiting<K: KeyHash + Drop, R: Wait, G: Gate>(
     requires on_key { IsOnKey step.now }
     requires key { length (key_of step.now) ≤ 250 }
     requires hash { hash ≡ K.hash_of board.now.shared.key.value.hasher (key_of step.now) }
-    requires own { K.hash_of board.now.shared.key.value.hasher (key_of step.now) %
-        board.now.shared.key.value.settings.shelves ≡ bays.0 }
+    requires own { shelf_in (start_of K.hash_of board.now.shared.key.value) (key_of step.now)
+        ≡ bays.0 }
     ensures seat { (caller.new.table_id ≡ caller.old.table_id) × (caller.new.id ≡ caller.old.id) }
     ensures ok { IfOk result (λ reply. RestsCalled (start_of K.hash_of board.now.shared.key.value)
         caller.old.me step.now now reply caller.new.me) }

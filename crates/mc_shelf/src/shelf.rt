@@ -386,6 +386,7 @@ impl Shelf {
         ensures is_class { IsClass result }
         ensures holds { charge ≤ size_of result }
     {
+        // A page takes every charge of at most the greatest, so one of the classes holds it.
         class_of(charge.min(self.greatest)).unwrap()
     }
 
