@@ -41,6 +41,20 @@ fn run(
     Ok((ended, writer.into_taken()))
 }
 
+/// The same, of a run that finds memory: one that doesn't ends the test.
+fn run_with_memory(
+    alloc: Global,
+    world: &mut World<Fnv>,
+    input: &[u8],
+    reads: usize,
+    writes: usize,
+) -> Result<(Result<(), ServeFault>, Vec<u8>), AllocError> {
+    match run(alloc, world, input, reads, writes)? {
+        (Err(ServeFault::NoMemory), _) => Err(AllocError),
+        ended => Ok(ended),
+    }
+}
+
 /// What a run of a new world that is well writes. Where a growth was refused, what was written is a
 /// beginning, the session is closed, and the world serves the next one.
 fn written(rt: &impl Abort, alloc: Global, input: &[u8]) -> Result<Vec<u8>, Fail> {
@@ -84,7 +98,7 @@ fn fronts_are_answered(rt: &impl Abort, alloc: Global, input: &[u8]) -> Result<(
     for reads in 0..input.len() {
         let (came, _) = input.split_at(reads);
         let mut world = world(alloc)?;
-        let (ended, out) = run(alloc, &mut world, input, reads, NEVER)?;
+        let (ended, out) = run_with_memory(alloc, &mut world, input, reads, NEVER)?;
         // A session that was closed reads no further.
         assert!(rt; matches!(ended, Ok(()) | Err(ServeFault::Read)));
         assert!(rt; world.is_closed(1));
@@ -111,7 +125,7 @@ fn a_failed_write_leaves_the_rest_in_the_output(rt: HostRuntime) -> Result<(), F
     for writes in 0..output.len() {
         let (front, _) = output.split_at(writes);
         let mut world = world(rt.alloc())?;
-        let (ended, out) = run(rt.alloc(), &mut world, input, NEVER, writes)?;
+        let (ended, out) = run_with_memory(rt.alloc(), &mut world, input, NEVER, writes)?;
         assert!(rt; matches!(ended, Err(ServeFault::Write)));
         assert!(rt; world.is_closed(1));
         assert_eq!(rt; out.as_slice(), front);
@@ -131,7 +145,7 @@ fn a_second_session_finds_what_the_first_stored(rt: HostRuntime) -> Result<(), F
         ("get a\r\n", "VALUE a 7 3\r\nabc\r\nEND\r\n"),
         ("delete a\r\nget a\r\n", "DELETED\r\nEND\r\n"),
     ] {
-        let (ended, out) = run(alloc, &mut world, input.as_bytes(), NEVER, NEVER)?;
+        let (ended, out) = run_with_memory(alloc, &mut world, input.as_bytes(), NEVER, NEVER)?;
         assert!(rt; ended.is_ok());
         assert_eq!(rt; out.as_slice(), output.as_bytes(), "at {input}");
     }
