@@ -1,0 +1,3 @@
+pub mod Links
+pub mod Guests
+pub mod Visits
