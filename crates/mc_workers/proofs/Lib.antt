@@ -1,1 +1,2 @@
 pub mod VisitLemmas
+pub mod WorkLemmas
