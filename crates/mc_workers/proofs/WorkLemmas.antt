@@ -75,18 +75,18 @@ goes_none s = record { began = refl; table = refl; calls = nothing }
 
 pub goes_both : {K : Type 0} (a b c : AskingState K) → GoesFurther a b → GoesFurther b c → GoesFurther a c
 goes_both a b c f g = record {
-    began = g.began ∙ f.began;
-    table = g.table ∙ f.table;
-    calls = further_both a.past b.past c.past f.calls g.calls
-  }
+  began = g.began ∙ f.began;
+  table = g.table ∙ f.table;
+  calls = further_both a.past b.past c.past f.calls g.calls;
+}
 
 pub goes_once : {K : Type 0} (start : Start) (what : What) (old new : AskingState K)
     → AsksOnce start what old new → GoesFurther old new
 goes_once {K} start what old new asks = record {
-    began = ap (λ (s : AskingState K). s.began) asks.past;
-    table = ap (λ (s : AskingState K). s.table) asks.past;
-    calls = subst (λ (s : AskingState K). Further old.past s.past) (sym asks.past) (more what nothing)
-  }
+  began = ap (λ (s : AskingState K). s.began) asks.past;
+  table = ap (λ (s : AskingState K). s.table) asks.past;
+  calls = subst (λ (s : AskingState K). Further old.past s.past) (sym asks.past) (more what nothing);
+}
 
 pub goes_same : {K : Type 0} (a b : AskingState K) → b ≡ a → GoesFurther a b
 goes_same a b e = subst (GoesFurther a) (sym e) (goes_none a)

@@ -43,7 +43,12 @@ impl<'a, R: Wait, K: KeyHash + Drop, G: Gate> Model for Tending<'a, R, K, G> {
 
 impl<'a, R: Wait, K: KeyHash + Drop, G: Gate> Tending<'a, R, K, G> {
     /// Takes a caller of this store.
-    pub fn new(rt: &'a R, shared: &'a Shared<K>, caller: Caller, gate: &'a G) -> Tending<'a, R, K, G>
+    pub fn new(
+        rt: &'a R,
+        shared: &'a Shared<K>,
+        caller: Caller,
+        gate: &'a G,
+    ) -> Tending<'a, R, K, G>
         requires own { caller.table ≡ shared.now.table }
         ensures { result ≡ asked_by shared.now.began caller }
     {
