@@ -40,7 +40,7 @@ crate:
 rows:
 	@python3 tests/rows.py $(if $(ONLY),--only $(ONLY))
 
-# Recorded runs of four callers in threads, each explained by an order of their calls: make history CALLS=200
+# Recorded runs of four callers in threads, each explained by an order of their calls: make history CALLS=25000
 history: bench-build
 	@python3 tests/history_run.py $(if $(CALLS),--calls $(CALLS))
 

@@ -1,0 +1,49 @@
+-- The parts of a visit.
+use Rattle.std.proofs.Common.{◌≡◌, ℕ, ◌<◌, ◌≤◌, ◌+◌, List, [], ◌∷◌, ◌++◌, length, take, drop, refl, sym, ap, ◌∙◌, subst, arith, get_or}
+use Rattle.std.proofs.Math.ListN.{set}
+use Rattle.std.proofs.lemmas.List.{take_more, take_more_set, get_or-drop, drop-set-lt}
+use Rattle.std.proofs.lemmas.Grind.{drop_more_same}
+use Rattle.mc_command.specs.declared.step.Steps.{Ghosts as Relations}
+use Rattle.std.proofs.lemmas.List.{take-append-drop, length-take-le}
+use Rattle.mc_session.specs.Turns.{SessionState, sent, closed}
+use Rattle.mc_workers.specs.Links.{gave, took}
+use Rattle.mc_workers.specs.Guests.{GuestState, IsWaiting}
+use Rattle.mc_workers.specs.Visits.{WritesFront, RefusesPiece, Visited, GoesRound, next}
+use Rattle.mc_workers.specs.declared.guest.Visit.{Visit}
+
+pub writes_front : (old new : GuestState) (n : ℕ) (bytes : List ℕ) → bytes ≡ old.session.out → 0 < n → n ≤ length bytes → new.session ≡ sent old.session n → new.link ≡ took old.link (take n bytes) → WritesFront old new
+writes_front old new n bytes is some low s l = record {
+  part = take n bytes;
+  some = let e = length-take-le n bytes low in subst (λ k. 0 < k) (sym e) some;
+  parts = subst (λ (t : SessionState). old.session.out ≡ take n bytes ++ t.out) (sym s) (subst (λ (b : List ℕ). old.session.out ≡ take n b ++ drop n old.session.out) (sym is) (sym (take-append-drop n old.session.out)));
+  session = subst (λ (t : SessionState). t ≡ record old.session { out = t.out }) (sym s) refl;
+  link = l;
+}
+
+pub round_more : {S : Type 0} (relations : Relations S) (now : ℕ) (olds news : List GuestState) (i : ℕ)
+    (x y : GuestState) (before between after : S) (answer : Visit) → length news ≡ length olds
+    → i < length news → x ≡ get_or news i x
+    → GoesRound relations now (take i olds) (take i news) before between × (drop i news ≡ drop i olds)
+    → Visited relations now answer x y between after
+    → GoesRound relations now (take (i + 1) olds) (take (i + 1) (set news i y)) before after
+    × (drop (i + 1) (set news i y) ≡ drop (i + 1) olds)
+round_more {S} relations now olds news i x y before between after answer long inside is goes visit =
+    let within : i < length olds = subst (λ n. i < n) long inside in
+    let heads : get_or (drop i olds) 0 x ≡ get_or (drop i news) 0 x = ap (λ l. get_or l 0 x) (sym goes.1) in
+    let none : i + 0 ≡ i = omega arith in
+    let same : get_or olds i x ≡ x = cc (get_or-drop i olds 0 x, get_or-drop i news 0 x, heads, is, none) in
+    let one : take (i + 1) olds ≡ take i olds ++ x ∷ [] =
+    take_more olds i x within ∙ ap (λ (z : GuestState). take i olds ++ z ∷ []) same in (
+      subst (λ l. GoesRound relations now l (take (i + 1) (set news i y)) before after) (sym one)
+          (subst (λ l. GoesRound relations now (take i olds ++ x ∷ []) l before after)
+          (sym (take_more_set news i y inside)) (next goes.0 answer visit)),
+      drop-set-lt (i + 1) news i y (omega arith) ∙ drop_more_same news olds i goes.1,
+    )
+
+pub refuses_piece : (old new : GuestState) (between : SessionState) (piece : List ℕ) → IsWaiting old.session → between ≡ old.session → new.session ≡ closed between → new.link ≡ gave old.link piece → RefusesPiece old new
+refuses_piece old new between piece waits same s l = record {
+  piece = piece;
+  waits = waits;
+  session = s ∙ ap closed same;
+  link = l;
+}

@@ -1,0 +1,92 @@
+-- What a round does to the store that it is lent, and to a caller's past.
+use Rattle.std.specs.Prelude.{MatchOption, slice_get}
+use Rattle.std.proofs.Common.{◌≡◌, ◌⊎◌, inl, inr, ℕ, List, Option, Some, None, refl, sym, ap, ◌∙◌, subst}
+use Rattle.mc_command.specs.Commands.{steps}
+use Rattle.mc_command.specs.declared.command.Command.{Command}
+use Rattle.mc_command.specs.declared.step.KeyStep.{KeyStep}
+use Rattle.mc_command.specs.declared.step.Steps.{Ghosts as Relations}
+use Rattle.mc_command.specs.declared.reply.Reply.{Reply}
+use Rattle.mc_parse.specs.Units.{ProtocolUnit, Request, Fault, LongLine}
+use Rattle.mc_session.specs.Turns.{SessionState, Answers, AnswersStep, TakesTurn}
+use Rattle.mc_shared.specs.History.{Start, What}
+use Rattle.mc_shared.specs.Past.{Past, call}
+use Rattle.mc_shared.specs.Asking.{AskingState, AsksOnce, Further, nothing, more, GoesFurther}
+use Rattle.mc_workers.specs.Guests.{GuestState}
+use Rattle.mc_workers.specs.Visits.{Does, Visited, GoesRound, nobody, next}
+use Rattle.mc_workers.specs.declared.guest.Visit.{Visit}
+use Rattle.mc_workers.specs.declared.guest.Visit.TheVariants.{Wrote, Turned, Read, Later, Served, Broken, Refused}
+
+-- What holds of stores that hold the same, and of each step that is taken, holds of a turn and of a
+-- visit, and where it holds of two after one another, of a round.
+module _ {S : Type 0} (relations : Relations S) (now : ℕ) (Keeps : S → S → Type 0)
+    (none : (s : S) → Keeps s s) (alike : (a b : S) → relations.same a b → Keeps a b)
+    (one : (a : S) (step : KeyStep) (reply : Reply) (b : S) → relations.took a step now reply b → Keeps a b) where
+  stays : (a b : S) → b ≡ a → Keeps a b
+  stays a b e = subst (Keeps a) (sym e) (none a)
+
+  step_keeps : (command : Command) (at : ℕ) (step : KeyStep) (a b : S) (text : List ℕ)
+      → AnswersStep relations command at step now a b text → Keeps a b
+  step_keeps command at step a b text (inl r) = one a step r.0 b r.1
+  step_keeps command at step a b text (inr r) = alike a b r.1
+
+  found_keeps : (command : Command) (at : ℕ) (found : Option KeyStep) (a b : S) (text : List ℕ) (Told : Type 0)
+      → MatchOption found (Told × (b ≡ a)) (λ step. AnswersStep relations command at step now a b text)
+      → Keeps a b
+  found_keeps command at None a b text Told h = stays a b h.1
+  found_keeps command at (Some step) a b text Told h = step_keeps command at step a b text h
+
+  pub turn_keeps : (unit : ProtocolUnit) (at : ℕ) (a b : S) (text : List ℕ)
+      → Answers relations unit at now a b text → Keeps a b
+  turn_keeps (Request command) at a b text h =
+      found_keeps command at (slice_get (steps command) at) a b text _ h
+  turn_keeps (Fault fault) at a b text h = stays a b h.1
+  turn_keeps LongLine at a b text h = stays a b h.1
+
+  pub does_keep : (answer : Visit) (old new : GuestState) (a b : S)
+      → Does relations now answer old new a b → Keeps a b
+  does_keep Wrote old new a b d = stays a b d.1
+  does_keep Turned old new a b d =
+      turn_keeps d.takes.unit old.session.taken a b d.takes.text d.takes.answers
+  does_keep Read old new a b d = stays a b d.1
+  does_keep Later old new a b d = stays a b d.1
+  does_keep Served old new a b d = stays a b d.1
+  does_keep Broken old new a b d = stays a b d.1
+  does_keep Refused old new a b (inl r) =
+      elim r.store [ inl e ↦ alike a b e | inr d ↦ one a d.step d.reply b d.took_it ]
+  does_keep Refused old new a b (inr r) = stays a b r.1
+
+  visit_keeps : (answer : Visit) (old new : GuestState) (a b : S)
+      → Visited relations now answer old new a b → Keeps a b
+  visit_keeps answer old new a b (inl ended) = stays a b ended.store
+  visit_keeps answer old new a b (inr due) = does_keep answer old new a b due.does
+
+  pub round_keeps : (both : (a b c : S) → Keeps a b → Keeps b c → Keeps a c) (olds news : List GuestState) (a b : S)
+      → GoesRound relations now olds news a b → Keeps a b
+  round_keeps both olds news a b nobody = none a
+  round_keeps both olds news a c (next {old = old} {new = new} {between = b} goes answer visit) =
+      both a b c (round_keeps both _ _ a b goes) (visit_keeps answer old new b c visit)
+
+further_both : (p q r : Past) → Further p q → Further q r → Further p r
+further_both p q r a nothing = a
+further_both p q r a (more what b) = more what (further_both p q _ a b)
+
+pub goes_none : {K : Type 0} (s : AskingState K) → GoesFurther s s
+goes_none s = record { began = refl; table = refl; calls = nothing }
+
+pub goes_both : {K : Type 0} (a b c : AskingState K) → GoesFurther a b → GoesFurther b c → GoesFurther a c
+goes_both a b c f g = record {
+  began = g.began ∙ f.began;
+  table = g.table ∙ f.table;
+  calls = further_both a.past b.past c.past f.calls g.calls;
+}
+
+pub goes_once : {K : Type 0} (start : Start) (what : What) (old new : AskingState K)
+    → AsksOnce start what old new → GoesFurther old new
+goes_once {K} start what old new asks = record {
+  began = ap (λ (s : AskingState K). s.began) asks.past;
+  table = ap (λ (s : AskingState K). s.table) asks.past;
+  calls = subst (λ (s : AskingState K). Further old.past s.past) (sym asks.past) (more what nothing);
+}
+
+pub goes_same : {K : Type 0} (a b : AskingState K) → b ≡ a → GoesFurther a b
+goes_same a b e = subst (GoesFurther a) (sym e) (goes_none a)

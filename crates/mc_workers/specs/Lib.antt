@@ -1,0 +1,4 @@
+pub mod Links
+pub mod Guests
+pub mod Visits
+pub mod Tending

@@ -1,0 +1,49 @@
+-- What contracts see of a link.
+use Rattle.std.specs.Prelude.{◌≡◌, ◌+◌, ◌≤◌, ℕ, Bool, true, List, ◌++◌, length, take, Option, Some, None, Result, Ok, Err}
+use Rattle.mc_workers.specs.declared.link.Got.{Got}
+use Rattle.mc_workers.specs.declared.link.Got.TheVariants.{Bytes as GaveBytes, Later as GaveNone, End}
+use Rattle.mc_workers.specs.declared.link.Took.{Took}
+use Rattle.mc_workers.specs.declared.link.Took.TheVariants.{Bytes as TookBytes, Later as TookNone}
+use Rattle.mc_workers.specs.declared.link.LinkFault.{LinkFault}
+
+-- The bytes that it gave and took until now, none where nobody can know them; how often it failed,
+-- and whether it is at its end.
+pub record LinkState : Type 0 where
+  pub given : Option (List ℕ)
+  pub taken : Option (List ℕ)
+  pub faults : ℕ
+  pub is_ended : Bool
+
+-- known bytes, and these behind them
+abbrev pub grown : Option (List ℕ) → List ℕ → Option (List ℕ)
+grown None bytes = None
+grown (Some known) bytes = Some (known ++ bytes)
+
+-- it gave these bytes more
+abbrev pub gave : LinkState → List ℕ → LinkState
+gave link bytes = record link { given = grown link.given bytes }
+
+-- it took these bytes more
+abbrev pub took : LinkState → List ℕ → LinkState
+took link bytes = record link { taken = grown link.taken bytes }
+
+-- it failed once more
+abbrev pub failed : LinkState → LinkState
+failed link = record link { faults = link.faults + 1 }
+
+-- it is at its end
+abbrev pub ended : LinkState → LinkState
+ended link = record link { is_ended = true }
+
+-- what a read does: a piece was handed in, and this is what it then holds
+abbrev pub Gives : LinkState → List ℕ → Result Got LinkFault → LinkState → Type 0
+Gives old piece (Ok (GaveBytes n)) new = (n ≤ length piece) × (new ≡ gave old (take n piece))
+Gives old piece (Ok GaveNone) new = new ≡ old
+Gives old piece (Ok End) new = new ≡ ended old
+Gives old piece (Err fault) new = new ≡ failed old
+
+-- what a write does
+abbrev pub Takes : LinkState → List ℕ → Result Took LinkFault → LinkState → Type 0
+Takes old bytes (Ok (TookBytes n)) new = (n ≤ length bytes) × (new ≡ took old (take n bytes))
+Takes old bytes (Ok TookNone) new = new ≡ old
+Takes old bytes (Err fault) new = new ≡ failed old

@@ -1,0 +1,184 @@
+//! Guests: sessions with their links.
+ghost use Rattle.std.specs.Prelude.{◌≡◌, ◌⊎◌, ◌<◌, ◌≤◌, length, IfOk, Some, None, [], IsTrue, IsFalse};
+ghost use Rattle.mc_workers.specs.Guests.{welcomed, has_ended, ends, IsWaiting};
+ghost use Rattle.mc_workers.specs.Visits.{Visited, Does, Writes, Reads};
+
+use crate::link::{Got, Link, LinkFault, Took};
+use mc_command::Steps;
+use mc_session::{Session, Turn};
+use mc_time::Moment;
+use std::alloc::{AllocError, Global};
+use std::marker::Model;
+
+/// What a visit did.
+#[derive(Clone, Copy, Debug, PartialEq, Eq)]
+pub enum Visit {
+    /// The link took output.
+    Wrote,
+    /// A turn was made.
+    Turned,
+    /// The link gave bytes.
+    Read,
+    /// The link gives nothing now, or takes nothing now.
+    Later,
+    /// All was written, and the session is closed or its stream at its end. The guest has ended.
+    Served,
+    /// The link failed. The guest has ended.
+    Broken,
+    /// Memory ran out. The guest has ended.
+    Refused,
+}
+
+/// How many bytes are read at once at most.
+const PIECE: usize = 16384;
+
+/// A session with its link. Contracts see both, and the answer of the last visit.
+#[derive(Drop)]
+pub struct Guest<L: Link + Drop> {
+    session: Session,
+    link: L,
+    piece: Vec<u8>,
+    last: Option<Visit>,
+}
+
+impl<L: Link + Drop> Model for Guest<L> {
+    ghost use Rattle.mc_workers.specs.Guests.{GuestState};
+
+    ghost Value = { GuestState };
+
+    ghost view = { λ g. record { session = g.session; link = L.shown g.link; last = g.last } };
+}
+
+impl<L: Link + Drop> Guest<L> {
+    /// Makes a session that was fed nothing, with its link, whose storage commands may charge at most
+    /// `greatest` bytes. Refused, the link is dropped.
+    pub fn new(alloc: Global, link: L, greatest: u64) -> Result<Guest<L>, AllocError>
+        ensures { IfOk result (λ guest. guest ≡ welcomed greatest (L.shown link)) }
+    {
+        let piece = vec![in alloc; 0; PIECE]?;
+        Ok(Guest {
+            session: Session::new(alloc, greatest),
+            link,
+            piece,
+            last: None,
+        })
+    }
+
+    /// Says what its last visit answered, and nothing before the first.
+    pub fn last(&self) -> Option<Visit>
+        ensures { result ≡ self.now.last }
+    {
+        self.last
+    }
+
+    /// Does the one thing that is due: writes output where there is some, else takes a turn where
+    /// one is due, else reads a piece of at most 16384 bytes, or ends. Of a guest that has ended it
+    /// says what ended it, and does nothing.
+    pub fn visit<S: Steps>(&mut self, alloc: Global, store: &mut S, now: Moment) -> Visit
+        ensures { Visited S.Steps now result self.old self.new store.old store.new }
+    {
+        if let Some(answer) = self.ending() {
+            return answer;
+        }
+        let answer = if self.session.out().is_empty() {
+            self.turn_or_read(alloc, store, now)
+        } else {
+            self.write_out()
+        };
+        self.last = Some(answer);
+        answer
+    }
+
+    /// Says what ended it.
+    fn ending(&self) -> Option<Visit>
+        ensures some { (answer : Visit) → result ≡ Some answer →
+            (self.now.last ≡ Some answer) × IsTrue (ends answer) }
+        ensures none { result ≡ None → IsFalse (has_ended self.now.last) }
+    {
+        match self.last {
+            Some(answer) if answer.ends() => Some(answer),
+            _ => None,
+        }
+    }
+
+    /// Writes a front of the output.
+    fn write_out(&mut self) -> Visit
+        requires { self.old.session.out ≡ [] → ⊥ }
+        ensures last { self.new.last ≡ self.old.last }
+        ensures writes { Writes result self.old self.new }
+    {
+        match self.link.try_write(self.session.out()) {
+            Ok(Took::Bytes(taken)) => {
+                if taken == 0 {
+                    return Visit::Later;
+                }
+                self.session.sent(taken);
+                Visit::Wrote
+            }
+            Ok(Took::Later) => Visit::Later,
+            Err(LinkFault) => {
+                self.session.close();
+                Visit::Broken
+            }
+        }
+    }
+
+    /// Takes a turn, or reads a piece, or ends.
+    fn turn_or_read<S: Steps>(&mut self, alloc: Global, store: &mut S, now: Moment) -> Visit
+        requires { self.old.session.out ≡ [] }
+        ensures last { self.new.last ≡ self.old.last }
+        ensures does { Does S.Steps now result self.old self.new store.old store.new }
+    {
+        match self.session.turn(alloc, store, now) {
+            Ok(Turn::Did) => Visit::Turned,
+            Ok(Turn::Idle) => self.read_piece(),
+            Ok(Turn::Closed) => {
+                self.session.close();
+                Visit::Served
+            }
+            Err(_) => Visit::Refused,
+        }
+    }
+
+    /// Reads a piece, or ends.
+    fn read_piece(&mut self) -> Visit
+        requires { IsWaiting self.old.session }
+        ensures last { self.new.last ≡ self.old.last }
+        ensures reads { Reads result self.old self.new }
+    {
+        let piece = self.piece.as_mut_slice();
+        match self.link.try_read(piece) {
+            Ok(Got::Bytes(0) | Got::Later) => Visit::Later,
+            Ok(Got::Bytes(given)) => {
+                let (given, _) = piece.split_at(given);
+                match self.session.feed(given) {
+                    Ok(()) => Visit::Read,
+                    Err(_) => {
+                        self.session.close();
+                        Visit::Refused
+                    }
+                }
+            }
+            Ok(Got::End) => {
+                self.session.close();
+                Visit::Served
+            }
+            Err(LinkFault) => {
+                self.session.close();
+                Visit::Broken
+            }
+        }
+    }
+}
+
+impl Visit {
+    /// Says whether it is a guest's last answer.
+    fn ends(self) -> bool
+        ensures { result ≡ ends self }
+    {
+        match self {
+            Visit::Wrote | Visit::Turned | Visit::Read | Visit::Later => false,
+            Visit::Served | Visit::Broken | Visit::Refused => true,
+        }
+    }
+}

@@ -1,0 +1,185 @@
+//! The guests of one worker.
+ghost use Rattle.std.specs.Prelude.{◌≡◌, ◌≤◌, ◌<◌, ◌+◌, ℕ};
+ghost use Rattle.mc_workers.specs.Visits.{MakesRound};
+
+use crate::guest::{Guest, Visit};
+use crate::link::Link;
+use crate::rounds::round;
+use mc_command::Steps;
+use mc_time::Moment;
+use std::alloc::Global;
+use std::marker::Model;
+
+/// How many sessions ended, and how. A count that is full stays there.
+#[derive(Clone, Copy, Debug, Drop, PartialEq, Eq)]
+pub struct WorkEnd {
+    /// At the end of their stream, or closed, with all output written.
+    pub served: u64,
+    /// By a fault of their link.
+    pub broken: u64,
+    /// By want of memory.
+    pub refused: u64,
+}
+
+/// Those that are awake, and behind them those whose last answer was `Later`: they sleep until their
+/// links are named. Contracts see how many are awake.
+#[derive(Drop)]
+pub struct Guests<L: Link + Drop> {
+    guests: Vec<Guest<L>>,
+    /// The number of each one's link.
+    numbers: Vec<u64>,
+    awake: usize,
+}
+
+impl<L: Link + Drop> Model for Guests<L> {
+    ghost use Rattle.std.specs.Prelude.{◌≡◌, ◌≤◌, ℕ, length};
+
+    ghost Value = { ℕ };
+
+    ghost view = { λ g. g.awake };
+
+    ghost invariant = { λ g. (g.awake ≤ length g.guests.items)
+        × (length g.numbers.items ≡ length g.guests.items) };
+}
+
+/// How a guest that is awake goes on.
+#[derive(Clone, Copy, Debug, PartialEq, Eq)]
+enum Fate {
+    GoesOn,
+    Sleeps,
+    Ended,
+}
+
+impl<L: Link + Drop> Guests<L> {
+    /// Has no guests. It takes no memory.
+    pub fn new(alloc: Global) -> Guests<L> {
+        Guests {
+            guests: Vec::new(alloc),
+            numbers: Vec::new(alloc),
+            awake: 0,
+        }
+    }
+
+    /// Says whether there are none.
+    pub fn is_empty(&self) -> bool {
+        self.guests.is_empty()
+    }
+
+    /// Says whether none is awake.
+    pub fn is_quiet(&self) -> bool {
+        self.awake == 0
+    }
+
+    /// Makes a guest of the link with this number, which is awake, and says whether there was memory
+    /// for it. Without, the link is dropped.
+    pub fn welcome(&mut self, alloc: Global, link: L, greatest: u64, number: u64) -> bool {
+        let Ok(guest) = Guest::new(alloc, link, greatest) else {
+            return false;
+        };
+        if self.numbers.push(number).is_err() {
+            return false;
+        }
+        if self.guests.push(guest).is_err() {
+            self.numbers.pop();
+            return false;
+        }
+        let last = self.guests.len() - 1;
+        self.wake_at(last);
+        true
+    }
+
+    /// Visits each that is awake once.
+    pub fn visit_all<S: Steps>(&mut self, alloc: Global, store: &mut S, now: Moment)
+        ensures { MakesRound S.Steps now store.old store.new }
+    {
+        let count = self.awake;
+        let (awake, _asleep) = self.guests.as_mut_slice().split_at_mut(count);
+        round(alloc, awake, store, now);
+    }
+
+    /// Lets go of those that have ended, which are counted, and lets those sleep that answered
+    /// `Later`.
+    pub fn settle(&mut self, end: &mut WorkEnd) {
+        let mut at = 0;
+        for _guest in 0..self.awake {
+            at = self.settle_at(at, end);
+        }
+    }
+
+    /// Settles one that is awake, and says at which place the next stands.
+    fn settle_at(&mut self, at: usize, end: &mut WorkEnd) -> usize {
+        if at >= self.awake {
+            return at;
+        }
+        let last = self.guests[at].last();
+        match fate_of(last, end) {
+            Fate::GoesOn => return at + 1,
+            Fate::Sleeps => self.put_behind(at),
+            Fate::Ended => self.let_go(at),
+        }
+        at
+    }
+
+    /// Wakes the guest whose link has this number, if it sleeps.
+    pub fn wake(&mut self, number: u64) {
+        let (_, asleep) = self.numbers.as_slice().split_at(self.awake);
+        if let Some(at) = asleep.iter().position(|one| *one == number) {
+            let place = self.awake + at;
+            self.wake_at(place);
+        }
+    }
+
+    /// Moves a guest behind those that are awake.
+    fn put_behind(&mut self, at: usize)
+        requires { at < self.old }
+        ensures { self.new + 1 ≡ self.old }
+    {
+        let last = self.awake - 1;
+        self.guests.as_mut_slice().swap(at, last);
+        self.numbers.as_mut_slice().swap(at, last);
+        self.awake = last;
+    }
+
+    /// Lets go of a guest.
+    fn let_go(&mut self, at: usize)
+        requires { at < self.old }
+        ensures { self.new + 1 ≡ self.old }
+    {
+        let last = self.awake - 1;
+        self.guests.as_mut_slice().swap(at, last);
+        self.numbers.as_mut_slice().swap(at, last);
+        self.guests.swap_remove(last);
+        self.numbers.swap_remove(last);
+        self.awake = last;
+    }
+
+    /// Wakes the guest at a place, if one sleeps there.
+    fn wake_at(&mut self, at: usize) {
+        if self.awake <= at && at < self.guests.len() {
+            let first = self.awake;
+            self.guests.as_mut_slice().swap(at, first);
+            self.numbers.as_mut_slice().swap(at, first);
+            self.awake = first + 1;
+        }
+    }
+}
+
+/// Says how a guest goes on by its last answer. An ending is counted.
+fn fate_of(last: Option<Visit>, end: &mut WorkEnd) -> Fate {
+    match last {
+        None | Some(Visit::Wrote | Visit::Turned | Visit::Read) => Fate::GoesOn,
+        Some(Visit::Later) => Fate::Sleeps,
+        Some(Visit::Served) => {
+            end.served = end.served.saturating_add(1);
+            Fate::Ended
+        }
+        Some(Visit::Broken) => {
+            end.broken = end.broken.saturating_add(1);
+            Fate::Ended
+        }
+        Some(Visit::Refused) => {
+            end.refused = end.refused.saturating_add(1);
+            Fate::Ended
+        }
+    }
+}

@@ -1,0 +1,115 @@
+//! Steps with the growth that follows them.
+ghost use Rattle.std.specs.Prelude.{◌≡◌, ◌<◌, ◌≤◌, ℕ, length, Err, IfOk, OnErr};
+ghost use Rattle.mc_command.specs.Commands.{key_of};
+ghost use Rattle.mc_shared.specs.Asking.{AsksOnce};
+ghost use Rattle.mc_shared.specs.History.{start_of, Stepped, Purged};
+ghost use Rattle.mc_shared.specs.Store.{IsSpentAfter};
+ghost use Rattle.mc_workers.specs.Tending.{asked_by};
+
+use mc_command::{KeyStep, Reply, StepFault, Steps};
+use mc_hop::KeyHash;
+use mc_shared::asking::Asking;
+use mc_shared::store::{Caller, Shared};
+use mc_shared::waits::Gate;
+use mc_time::Moment;
+use std::alloc::Global;
+use std::marker::Model;
+use std::sync::Wait;
+
+/// How many entries of a shelf's index move after a step on a key of it.
+const MOVED: usize = 8;
+
+/// A caller whose steps are each followed by some growth of the key's shelf, and who tidies shelves
+/// in turn. Contracts see what they see of the caller.
+#[derive(Drop)]
+pub struct Tending<'a, R: Wait, K: KeyHash + Drop, G: Gate> {
+    asking: Asking<'a, R, K, G>,
+    /// The shelf that is tidied next.
+    shelf: u32,
+}
+
+impl<'a, R: Wait, K: KeyHash + Drop, G: Gate> Model for Tending<'a, R, K, G> {
+    ghost use Rattle.std.specs.Prelude.{◌<◌};
+    ghost use Rattle.mc_shared.specs.Asking.{AskingState, coded_asking};
+
+    ghost Value = { AskingState K };
+
+    ghost coded = { coded_asking K.code };
+
+    ghost view = { λ t. t.asking };
+
+    ghost invariant = { λ t. t.shelf < t.asking.began.settings.shelves };
+}
+
+impl<'a, R: Wait, K: KeyHash + Drop, G: Gate> Tending<'a, R, K, G> {
+    /// Takes a caller of this store.
+    pub fn new(
+        rt: &'a R,
+        shared: &'a Shared<K>,
+        caller: Caller,
+        gate: &'a G,
+    ) -> Tending<'a, R, K, G>
+        requires own { caller.table ≡ shared.now.table }
+        ensures { result ≡ asked_by shared.now.began caller }
+    {
+        let _shelves = shared.shelves();
+        Tending {
+            asking: Asking::new(rt, shared, caller, gate),
+            shelf: 0,
+        }
+    }
+
+    /// Gives the caller back.
+    pub fn into_caller(self) -> Caller
+        ensures { (result.table ≡ self.entry.table) × (result.past ≡ self.entry.past) }
+    {
+        let Tending { asking, .. } = self;
+        asking.into_caller()
+    }
+
+    /// Drops the dead items of the next shelf in turn.
+    pub fn tidy(&mut self, now: Moment)
+        ensures { (shelf : ℕ) ×
+            AsksOnce (start_of K.hash_of self.old.began) (Purged shelf now) self.old self.new }
+    {
+        let shelf = self.shelf;
+        self.shelf = if shelf < self.asking.shelves() - 1 {
+            shelf + 1
+        } else {
+            0
+        };
+        self.asking.tidy(shelf, now);
+    }
+
+    /// Moves some entries of the step's shelf. A flush is on no shelf.
+    fn grow_after(&mut self, step: &KeyStep<'_>)
+        ensures { self.new ≡ self.old }
+    {
+        match step {
+            KeyStep::Flush { .. } => {}
+            _ => {
+                let shelf = self.asking.shelf_of(step.key());
+                self.asking.grow(shelf, MOVED);
+            }
+        }
+    }
+}
+
+impl<'a, R: Wait, K: KeyHash + Drop, G: Gate> Steps for Tending<'a, R, K, G> {
+    ghost use Rattle.std.specs.Prelude.{◌≡◌, refl};
+
+    ghost took = { λ old step now reply new. AsksOnce (start_of K.hash_of old.began)
+        (Stepped step now reply) old new };
+
+    ghost spent = { λ old step now. IsSpentAfter (start_of K.hash_of old.began) old.past step now };
+
+    ghost same = { λ old new. new ≡ old };
+
+    ghost holds_itself = { λ _. refl };
+
+    fn step(&mut self, alloc: Global, step: &KeyStep<'_>, now: Moment) -> Result<Reply, StepFault> {
+        let answer = self.asking.step(alloc, step, now);
+        self.grow_after(step);
+        answer
+    }
+}

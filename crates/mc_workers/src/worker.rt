@@ -1,0 +1,155 @@
+//! A worker's loop.
+ghost use Rattle.std.specs.Prelude.{◌≡◌, ◌<◌, ◌≤◌};
+ghost use Rattle.mc_shared.specs.Asking.{GoesFurther, Further};
+
+use crate::guests::{Guests, WorkEnd};
+use crate::link::Link;
+use crate::tending::Tending;
+use mc_hop::KeyHash;
+use mc_shared::store::{Caller, Shared};
+use mc_shared::waits::Gate;
+use mc_time::{Clock, Moment};
+use std::alloc::Global;
+use std::sync::Wait;
+
+/// What came next of links.
+#[derive(Drop)]
+pub enum Next<L> {
+    Link(L),
+    /// None now.
+    Later,
+    /// None any more.
+    Closed,
+}
+
+/// Where links come from. The links that `next` gave are numbered in their order, from 0.
+pub trait Links<L> {
+    /// Gives the next link, if one came. It doesn't wait.
+    fn next(&mut self) -> Next<L>;
+
+    /// Names a link that may give or take more, and none when there is no further one. It doesn't
+    /// wait. A link that answered `Later` isn't asked again until it is named.
+    fn ready(&mut self) -> Option<u64>;
+
+    /// Passes some time where there is nothing to do.
+    fn rest(&mut self);
+}
+
+/// Serves links until none comes any more and all sessions have ended: makes rounds of the guests
+/// that are awake, and after each asks for the next link once. A step is followed by the growth of
+/// its key's shelf by 8 entries; where the clock has risen, the dead items of the next shelf in turn
+/// are dropped. The caller comes back under further calls alone. A fault of one link, and one
+/// session's want of memory, end that session alone.
+pub fn work<R: Wait, K: KeyHash + Drop, L: Link + Drop, Q: Links<L>, G: Gate, C: Clock>(
+    rt: &R,
+    alloc: Global,
+    shared: &Shared<K>,
+    caller: Caller,
+    links: &mut Q,
+    gate: &G,
+    clock: &C,
+) -> (Caller, WorkEnd)
+    requires own { caller.table ≡ shared.now.table }
+    ensures same { result.0.table ≡ caller.table }
+    ensures calls { Further caller.past result.0.past }
+{
+    let mut tending = Tending::new(rt, shared, caller, gate);
+    let mut door = Door {
+        greatest: shared.greatest(),
+        opened: 0,
+    };
+    let mut guests = Guests::new(alloc);
+    let mut end = WorkEnd {
+        served: 0,
+        broken: 0,
+        refused: 0,
+    };
+    let mut before = clock.now();
+    for _ in rt.forever() {
+        let now = clock.now();
+        make_round(alloc, &mut guests, &mut tending, before, now);
+        guests.settle(&mut end);
+        if let Came::Closed = door.open(alloc, links, &mut guests, &mut end) {
+            return (tending.into_caller(), end);
+        }
+        before = now;
+    }
+    unreachable!()
+}
+
+/// Makes a round of those that are awake, and drops the dead items of one shelf where the clock has
+/// risen.
+fn make_round<R: Wait, K: KeyHash + Drop, L: Link + Drop, G: Gate>(
+    alloc: Global,
+    guests: &mut Guests<L>,
+    tending: &mut Tending<'_, R, K, G>,
+    before: Moment,
+    now: Moment,
+)
+    ensures { GoesFurther tending.old tending.new }
+{
+    guests.visit_all(alloc, tending, now);
+    if before.seconds() < now.seconds() {
+        tending.tidy(now);
+    }
+}
+
+/// Whether more can come.
+#[derive(Clone, Copy, Debug, PartialEq, Eq)]
+enum Came {
+    More,
+    Closed,
+}
+
+/// How guests are let in.
+#[derive(Drop)]
+struct Door {
+    /// What storage commands may charge at most.
+    greatest: u64,
+    /// How many links were handed out.
+    opened: u64,
+}
+
+impl Door {
+    /// Asks for the next link once, and wakes the guests whose links are named; rests where there is
+    /// nothing to do.
+    fn open<L: Link + Drop, Q: Links<L>>(
+        &mut self,
+        alloc: Global,
+        links: &mut Q,
+        guests: &mut Guests<L>,
+        end: &mut WorkEnd,
+    ) -> Came {
+        let is_quiet = guests.is_quiet();
+        match links.next() {
+            Next::Link(link) => {
+                if !guests.welcome(alloc, link, self.greatest, self.opened) {
+                    end.refused = end.refused.saturating_add(1);
+                }
+                self.opened = self.opened.wrapping_add(1);
+                wake_named(links, guests);
+            }
+            Next::Closed if guests.is_empty() => return Came::Closed,
+            Next::Later | Next::Closed => {
+                if !wake_named(links, guests) && is_quiet {
+                    links.rest();
+                }
+            }
+        }
+        Came::More
+    }
+}
+
+/// How many names are asked for at most between two rounds.
+const NAMES: usize = 1024;
+
+/// Wakes the guests whose links are named, and says whether one was named.
+fn wake_named<L: Link + Drop, Q: Links<L>>(links: &mut Q, guests: &mut Guests<L>) -> bool {
+    for named in 0..NAMES {
+        match links.ready() {
+            Some(number) => guests.wake(number),
+            None => return named > 0,
+        }
+    }
+    true
+}
