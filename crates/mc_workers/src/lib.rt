@@ -13,6 +13,6 @@ mod worker;
 pub use guest::{Guest, Visit};
 pub use guests::WorkEnd;
 pub use link::{Got, Link, LinkFault, Took};
-pub use mc_shared::waits::{Gate, NoGate};
+pub use mc_shared::{Gate, NoGate};
 pub use rounds::round;
 pub use worker::{Links, Next, work};

@@ -8,9 +8,7 @@ ghost use Rattle.mc_workers.specs.Tending.{asked_by};
 
 use mc_command::{KeyStep, Reply, StepFault, Steps};
 use mc_hop::KeyHash;
-use mc_shared::asking::Asking;
-use mc_shared::store::{Caller, Shared};
-use mc_shared::waits::Gate;
+use mc_shared::{Asking, Caller, Gate, Shared};
 use mc_time::Moment;
 use std::alloc::Global;
 use std::marker::Model;
