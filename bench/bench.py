@@ -38,7 +38,7 @@ SESSIONS = [1, 100, 10_000]
 # how many items stand while a command's cost is taken, and their memory
 STANDING = [10_000, 100_000, 1_000_000, 4_000_000]
 FLUSHED = [10_000, 100_000, 700_000]
-RESIDENT = [100_000, 1_000_000, 4_000_000]
+RESIDENT = [100_000, 400_000, 1_000_000, 4_000_000]
 # what mcserver says last, and of an item that finds no chunk
 VERSION = b"VERSION 1.6.0\r\n"
 REFUSED = b"SERVER_ERROR out of memory storing object\r\n"
@@ -216,9 +216,12 @@ class Server:
         return took
 
     def processor(self):
-        """The processor's seconds that its process has had."""
-        with open(f"/proc/{self.started.pid}/schedstat") as it:
-            return int(it.read().split()[0]) / 1e9
+        """The processor's seconds that its process has had, of all threads."""
+        found = 0
+        for thread in os.listdir(f"/proc/{self.started.pid}/task"):
+            with open(f"/proc/{self.started.pid}/task/{thread}/schedstat") as it:
+                found += int(it.read().split()[0])
+        return found / 1e9
 
     def resident(self, most=False):
         """The resident bytes of its process, or the most that they were."""
@@ -346,6 +349,28 @@ class Bench:
                 found.append(costs)
                 server.stop()
             print(f"{count:<17,}" + "".join(f"{statistics.median(it) * 1e9:>22.0f}" for it in zip(*found)), flush=True)
+
+    def hits(self, least=1_000_000):
+        """What a hit costs in lines of 100 keys while so many items stand, in no order of the keys, beside memcached."""
+        print(f"\n{'hits in lines of 100 keys':<27}{'items':>11}{'ns a key':>11}  more than the first  (of the processor's time)")
+        for name, make in [("memcached, over loopback", memcached), ("mcserver, over pipes", lambda: Server([self.program, *ARGS]))]:
+            first = None
+            for count in STANDING[:3]:
+                server = make()
+                if server is None:
+                    print(f"{name:<27}{'':>11}{'not installed':>15}")
+                    break
+                end = server.answer(b"version\r\n", b"\r\n")
+                order = [it * 7919 % count for it in range(count)]
+                server.answer(b"".join(stored(b"set", key(it), more=b" noreply") for it in order) + b"version\r\n", end)
+                asked = b"".join(b"get " + b" ".join(key(it) for it in order[at : at + 100]) + b"\r\n" for at in range(0, count, 100))
+                times = max(least // count, 1)
+                before = server.processor()
+                server.answer(asked * times + b"version\r\n", end)
+                cost = (server.processor() - before) / count / times * 1e9
+                server.stop()
+                first = first or cost
+                print(f"{name:<27}{count:>11,}{cost:>11.0f}  {cost - first:+.0f}", flush=True)
 
     def hostile(self, count=200_000):
         """What a set costs of keys that all go to one shelf, in falling order, beside keys of all shelves."""
@@ -537,6 +562,7 @@ def main():
         bench.memory()
         bench.resident()
         bench.standing()
+        bench.hits()
         bench.hostile()
         bench.growing()
         bench.flushed()
