@@ -1,12 +1,19 @@
-# Proves, builds, tests and installs mcserver. The toolchain's command rt, python3 and make are all it needs.
+# Proves, builds, tests and installs mcserver. It needs the toolchain's command rt, python3 and make; tests and benchmarks a C compiler, cc,
+# too. test-clients and test-scaling run what there is of other packages, and name what isn't there.
 
 PROGRAM = crates/mc_server/out/mc_server
+# What runs the program builds it first, unless another is named: make test-clients PROGRAM=/usr/bin/memcached
+SERVED = $(if $(filter crates/%,$(PROGRAM)),build)
 PREFIX ?= /usr/local
 BIN = $(DESTDIR)$(PREFIX)/bin
-ARGS ?= --help
+MAN = $(DESTDIR)$(PREFIX)/share/man/man1
+UNITS = $(DESTDIR)$(PREFIX)/lib/systemd/system
+ARGS ?=
 JOBS ?= $(shell nproc)
+MINUTES ?= 30
 
-.PHONY: build bench-build run test check crate rows history fmt bench install uninstall clean
+.PHONY: build bench-build run test check crate rows history fmt bench bench-tcp clean
+.PHONY: test-clients test-scaling soak man install uninstall
 
 # Proves the program and what is below it, and builds it. rt run runs it too: --help ends it at once.
 build:
@@ -18,6 +25,7 @@ build:
 bench-build:
 	@cd crates/mc_bench && rt run -- worlds 1 1 < /dev/null > /dev/null
 
+# Serves at the default port: make run ARGS="-p 11311 -t 2"
 run: build
 	@$(PROGRAM) $(ARGS)
 
@@ -47,15 +55,40 @@ history: bench-build
 fmt:
 	@for crate in crates/*/; do (cd $$crate && rt fmt) || exit 1; done
 
+# What it costs. One table of it: make bench ONLY=finds
 bench: build bench-build
-	@python3 bench/bench.py
+	@python3 bench/bench.py $(if $(ONLY),--only $(ONLY))
 
+# Over TCP beside memcached, turn about: make bench-tcp OPTIONS="--quick --only get"
+bench-tcp: build
+	@python3 bench/tcp.py $(OPTIONS)
+
+# Debian's clients that are installed, each as its documentation uses it.
+test-clients: $(SERVED)
+	@PROGRAM=$(PROGRAM) /usr/bin/python3 tests/clients/run.py
+
+# The configurations of docs/SCALING.md, with nutcracker and the clients that are installed.
+test-scaling: $(SERVED)
+	@PROGRAM=$(PROGRAM) /usr/bin/python3 tests/scaling.py
+
+# Mixed load, whose answers are all checked, while memory and descriptors are watched: make soak MINUTES=30
+soak: $(SERVED)
+	@PROGRAM=$(PROGRAM) python3 tests/soak.py --minutes $(MINUTES)
+
+# The manual page: man has nothing to say of it, and its options are the program's.
+man: $(SERVED)
+	@man/check.sh $(PROGRAM)
+
+# The program, its manual page and the service of systemd: make install PREFIX=/usr DESTDIR=/tmp/root
 install: build
-	install -d $(BIN)
+	install -d $(BIN) $(MAN) $(UNITS)
 	install -m 755 $(PROGRAM) $(BIN)/mcserver
+	install -m 644 man/mcserver.1 $(MAN)/mcserver.1
+	sed 's|/usr/local/bin/|$(PREFIX)/bin/|' mcserver.service > $(UNITS)/mcserver.service
+	chmod 644 $(UNITS)/mcserver.service
 
 uninstall:
-	rm -f $(BIN)/mcserver
+	rm -f $(BIN)/mcserver $(MAN)/mcserver.1 $(UNITS)/mcserver.service
 
 clean:
 	rm -rf crates/*/out

@@ -1,13 +1,11 @@
 #!/usr/bin/env python3
-"""Measures the built program on pipelined input through --stdin, a world of many sessions, and steps in threads.
+"""Measures the built program on pipelined input through --stdin, and by mc_bench finds among many items, a world of many sessions, and
+steps in threads.
 
 Inputs are made beforehand and lie in files, and outputs go to files. Each figure is the median of
 several runs of a fresh process. It is no test: nothing here fails for being slow.
 
-    bench/bench.py [--program PATH] [--runs N] [--commands N] [--only WORD]
-    bench/bench.py --worlds [--turns N] [--runs N]
-    bench/bench.py --flushes [--program PATH]
-    bench/bench.py --threads [--steps N] [--runs N]
+    bench/bench.py [--program PATH] [--runs N] [--commands N] [--turns N] [--steps N] [--only WORD]
 """
 import argparse
 import array
@@ -37,6 +35,10 @@ MC_BENCH = f"{ROOT}/crates/mc_bench/out/mc_bench"
 SESSIONS = [1, 100, 10_000]
 # how many items stand while a command's cost is taken, and their memory
 STANDING = [10_000, 100_000, 1_000_000, 4_000_000]
+# what finds are timed in beside memcached's chains; and how many windows of 1024 keys a run has of each kind, of which so many are found
+FOUND = {"the shelves' indexes": [MC_BENCH, "finds", "index"], "gets of the store": [MC_BENCH, "finds", "store"]}
+WINDOW, WINDOWS = 1024, 400
+KINDS = [("hits", WINDOW, "hits"), ("turns", WINDOW, "one at a time"), ("misses", 0, "misses")]
 FLUSHED = [10_000, 100_000, 700_000]
 RESIDENT = [100_000, 400_000, 1_000_000, 4_000_000]
 # what mcserver says last, and of an item that finds no chunk
@@ -334,6 +336,7 @@ class Bench:
         """What a set of a new key, a set of one that stands, a get and a get of nothing cost while so many items stand."""
         words = ["a set of a new key", "a set again", "a get", "a get of nothing"]
         print(f"\n{'items that stand':<17}" + "".join(f"{'ns ' + it:>22}" for it in words) + "  (of the processor's time)")
+        medians = {}
         for count in STANDING:
             order = [it * 7919 % count for it in range(count)]
             times = max(least // count, 1)
@@ -341,14 +344,17 @@ class Bench:
             gets_of = b"".join(b"get %s\r\n" % key(it) for it in order)
             misses_of = b"".join(b"get %s\r\n" % key(count + it) for it in order)
             found = []
-            for _ in range(self.runs if count < MEGA else 1):
+            for _ in range(self.runs if count <= MEGA else 1):
                 server = Server([self.program, *ARGS])
                 server.answer(b"version\r\n", VERSION)
                 costs = [server.cost(sets_of) / count]
                 costs += [server.cost(it * times) / count / times for it in (sets_of, gets_of, misses_of)]
                 found.append(costs)
                 server.stop()
-            print(f"{count:<17,}" + "".join(f"{statistics.median(it) * 1e9:>22.0f}" for it in zip(*found)), flush=True)
+            medians[count] = [statistics.median(it) for it in zip(*found)]
+            print(f"{count:<17,}" + "".join(f"{it * 1e9:>22.0f}" for it in medians[count]), flush=True)
+        times = [many / few for few, many in zip(medians[STANDING[0]], medians[MEGA])]
+        print(f"{'1,000,000 take':<17}" + "".join(f"{it:>16.1f} times" for it in times) + "  what 10,000 take", flush=True)
 
     def hits(self, least=1_000_000):
         """What a hit costs in lines of 100 keys while so many items stand, in no order of the keys, beside memcached."""
@@ -466,6 +472,59 @@ class Bench:
             server.stop()
 
 
+# ---- finds
+
+
+def chains(room):
+    """Compiles memcached's hash table, and gives its program; None where there is no C compiler."""
+    words = [os.environ.get("CC", "cc"), "-O2", "-o", f"{room}/chains", f"{ROOT}/bench/chains.c"]
+    try:
+        subprocess.run(words, stdin=subprocess.DEVNULL, check=True)
+    except (OSError, subprocess.CalledProcessError) as error:
+        print(f"\nmemcached's chains: {error}", flush=True)
+        return None
+    return f"{room}/chains"
+
+
+def window_costs(words, count):
+    """The nanoseconds that a find of each kind takes among so many items, as medians of the windows of one run."""
+    ran = subprocess.run([*words, str(count), str(WINDOWS)], stdin=subprocess.DEVNULL, stdout=subprocess.PIPE, timeout=SECONDS)
+    windows = [line.split() for line in ran.stdout.decode().splitlines()]
+    wanted = [[kind, str(found)] for kind, found, _ in KINDS for _ in range(WINDOWS)]
+    if ran.returncode or [it[:2] for it in windows] != wanted:
+        sys.exit(f"{' '.join(words)}: not all keys were found, or more than those that have an item")
+    costs = [int(it[2]) / WINDOW for it in windows]
+    return [statistics.median(costs[at : at + WINDOWS]) for at in range(0, len(costs), WINDOWS)]
+
+
+def finds(runs):
+    """What a find costs among so many items, beside memcached's chains, and what a whole get of the store does.
+
+    The programs take turns, so that each has the same share of what else the machine does."""
+    if not os.access(MC_BENCH, os.X_OK):
+        print(f"\nfinds: no program is at {MC_BENCH}; make bench builds it", flush=True)
+        return
+    with tempfile.TemporaryDirectory() as room:
+        beside = chains(room)
+        programs = {**({"memcached's chains, in C": [beside]} if beside else {}), **FOUND}
+        heads = "".join(f"{shown:>14}{'least to most':>15}{'over C':>8}" for _, _, shown in KINDS)
+        print(f"\n{'ns a find':<25}{'items':>10}{heads}  (of the processor's time, medians of {runs} runs)")
+        for count in STANDING[:3]:
+            taken = {name: [] for name in programs}
+            for _ in range(runs):
+                for name, words in programs.items():
+                    taken[name].append(window_costs(words, count))
+            first = None
+            for name, costs in taken.items():
+                medians = [statistics.median(it) for it in zip(*costs)]
+                shown = ""
+                for kind, (median, each) in enumerate(zip(medians, zip(*costs))):
+                    over = f"{median / first[kind]:.2f}" if first else ""
+                    shown += f"{median:>14.0f}{f'{min(each):.0f} to {max(each):.0f}':>15}{over:>8}"
+                print(f"{name:<25}{count:>10,}{shown}", flush=True)
+                first = first or (medians if beside else None)
+
+
 # ---- worlds
 
 
@@ -539,36 +598,32 @@ def main():
     parser.add_argument("--program", default=f"{ROOT}/crates/mc_server/out/mc_server")
     parser.add_argument("--runs", type=int, default=5)
     parser.add_argument("--commands", type=int, default=100_000, help="the least number; twice and four times it are measured too")
-    parser.add_argument("--only", default="", metavar="WORD", help="the commands whose names have this word, and nothing else")
-    parser.add_argument("--worlds", action="store_true", help="worlds of many sessions, and nothing else")
-    parser.add_argument("--flushes", action="store_true", help="flushes of stores of many items, and nothing else")
+    parser.add_argument("--only", default="", metavar="WORD", help="one table, or the commands whose names have this word")
     parser.add_argument("--turns", type=int, default=4_000_000, help="how many turns the sessions of a world take in all")
-    parser.add_argument("--threads", action="store_true", help="steps in threads, and nothing else")
     parser.add_argument("--steps", type=int, default=2_000_000, help="how many steps each thread takes")
     given = parser.parse_args()
-    if given.threads:
-        threads(given.steps, given.runs)
-        return 0
-    if given.worlds:
-        worlds(given.turns, given.runs)
-        return 0
     bench = Bench(os.path.abspath(given.program), given.runs)
-    if given.flushes:
-        bench.flushed()
+    tables = {
+        "lines": lambda: bench.lines(2 * given.commands),
+        "memory": bench.memory,
+        "resident": bench.resident,
+        "standing": bench.standing,
+        "hits": bench.hits,
+        "finds": lambda: finds(given.runs),
+        "hostile": bench.hostile,
+        "growing": bench.growing,
+        "flushes": bench.flushed,
+        "refilled": bench.refilled,
+        "worlds": lambda: worlds(given.turns, given.runs),
+        "threads": lambda: threads(given.steps, given.runs),
+    }
+    if given.only in tables:
+        tables[given.only]()
         return 0
     bench.rates([given.commands * it for it in (1, 2, 4)], given.only)
     if not given.only:
-        bench.lines(2 * given.commands)
-        bench.memory()
-        bench.resident()
-        bench.standing()
-        bench.hits()
-        bench.hostile()
-        bench.growing()
-        bench.flushed()
-        bench.refilled()
-        worlds(given.turns, given.runs)
-        threads(given.steps, given.runs)
+        for table in tables.values():
+            table()
     return 0
 
 

@@ -1,5 +1,6 @@
 #!/usr/bin/env python3
-"""Runs the gate `rt ci`, and then tests/rows.py and tests/history_run.py on the programs that the gate has just proved and built.
+"""Runs the gate `rt ci`, and then tests/rows.py, tests/sockets.py, tests/history_run.py and tests/refusals.py on the programs that the
+gate has just proved and built.
 
 All print as they go. The last line adds up what they counted: `N passed, N failed`. The status is 0
 only where something passed, nothing failed and all ended well.
@@ -13,7 +14,9 @@ ROOT = os.path.dirname(os.path.dirname(os.path.realpath(__file__)))
 # What runs on which program, and what builds that.
 STAGES = [
     ("rows", "mc_server", "build", ["tests/rows.py"]),
+    ("sockets", "mc_server", "build", ["tests/sockets.py"]),
     ("history", "mc_bench", "bench-build", ["tests/history_run.py"]),
+    ("refusals", "mc_server", "build", ["tests/refusals.py"]),
 ]
 COUNTS = re.compile(rb"(\d+) passed, (\d+) failed")
 

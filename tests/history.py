@@ -1,6 +1,6 @@
 """Checks a recorded run of many callers of one store: is there an order of their calls that explains every reply?
 
-    python3 tests/history.py FILE          "-" reads standard input; status 0 explained, 1 not, 2 given up or not a record
+    python3 tests/history.py [--states N] FILE     "-" reads standard input; status 0 explained, 1 not, 2 not a record, 3 given up
     python3 tests/history.py --selftest
 
 A record has a line for each call that was taken, in any order of the lines, its words apart by single spaces:
@@ -36,7 +36,7 @@ from functools import lru_cache
 from typing import NamedTuple, Optional
 from urllib.parse import unquote_to_bytes
 
-# So many states of one key are searched at most.
+# So many states of one key are searched at most, unless another number is asked for.
 MOST_STATES = 5_000_000
 LIMIT = 2**64
 
@@ -385,9 +385,10 @@ def lanes_of(ordered, key):
 class Search:
     """A search, depth first, through the orders of the calls of a key; a state is tried once."""
 
-    def __init__(self, lanes, numbers, ranks):
+    def __init__(self, lanes, numbers, ranks, most):
         self.lanes = lanes
         self.ranks = ranks
+        self.most = most
         self.rules = Rules(numbers)
         # The writes whose numbers are known come in the order of these.
         self.draws = sorted(numbers[call] for lane in lanes for call in lane.calls if call in numbers)
@@ -463,7 +464,7 @@ class Search:
                 self.furthest = places
             if (places, state) in tried or self.is_lost(places, state):
                 continue
-            if len(tried) == MOST_STATES:
+            if len(tried) == self.most:
                 return None
             tried.add((places, state))
             stack.extend(self.nexts(places, state, drawn))
@@ -474,8 +475,8 @@ class Search:
         return [str(call) for _, call in self.ready(self.furthest)]
 
 
-def check(text):
-    """The verdict of a record: True, False or None where it was given up; and why."""
+def check(text, most=MOST_STATES):
+    """The verdict of a record: True, False or None where it was given up after so many states; and why."""
     callers = read_record(text)
     ordered = order_of(callers)
     told, fault = tell_numbers(ordered)
@@ -487,7 +488,7 @@ def check(text):
     keys = sorted({call.key() for call, _ in ordered if call.key() is not None})
     given_up = None
     for key in keys:
-        search = Search(lanes_of(ordered, key), numbers, ranks)
+        search = Search(lanes_of(ordered, key), numbers, ranks, most)
         found = search.run()
         if found is False:
             return False, f"no order explains the key {key}; of the next calls none can come:\n" + "\n".join(search.waiting())
@@ -599,16 +600,20 @@ def selftest():
 def main(words):
     if words == ["--selftest"]:
         return selftest()
+    most = MOST_STATES
+    if len(words) == 3 and words[0] == "--states" and words[1].isdigit():
+        most, words = int(words[1]), words[2:]
     if len(words) != 1:
         print(__doc__)
         return 2
     try:
         with sys.stdin if words[0] == "-" else open(words[0], encoding="ascii") as file:
-            verdict, why = check(file.read())
+            verdict, why = check(file.read(), most)
     except (NotARecord, ValueError, OSError) as fault:
-        verdict, why = None, str(fault)
+        print(fault)
+        return 2
     print(why)
-    return {True: 0, False: 1, None: 2}[verdict]
+    return {True: 0, False: 1, None: 3}[verdict]
 
 
 if __name__ == "__main__":

@@ -1,13 +1,15 @@
 #!/usr/bin/env python3
 """Records runs of four callers of one store, each in a thread, and has tests/history.py look for an order that explains each.
 
-    tests/history_run.py [--program PATH] [--checker PATH] [--seeds N] [--first N] [--calls N] [--keep FOLDER]
+    tests/history_run.py [--program PATH] [--checker PATH] [--seeds N] [--first N] [--calls N] [--states N] [--keep FOLDER]
 
 The seeds are the first and those after it. The same seed makes the same calls, but how the threads take turns is another matter
-each time, so a record that isn't explained is kept. The last line counts them: `N passed, N failed`.
+each time, so a record that isn't explained is kept. How long the search goes differs by a thousand times: one that is given up after
+so many states says nothing, and the seed is then recorded anew. The last line counts the seeds: `N passed, N failed`.
 """
 import argparse
 import os
+import shutil
 import subprocess
 import sys
 import tempfile
@@ -16,6 +18,9 @@ import time
 ROOT = os.path.dirname(os.path.dirname(os.path.realpath(__file__)))
 PROGRAM = f"{ROOT}/crates/mc_bench/out/mc_bench"
 SECONDS = 300
+# So many states of a key are searched at most, and so often is a seed recorded until a search comes to its end.
+STATES = 200_000
+RECORDINGS = 6
 
 
 def recorded(program, seed, calls, path):
@@ -28,13 +33,30 @@ def recorded(program, seed, calls, path):
     return f"the program ended with status {found.returncode}" if found.returncode else None
 
 
-def explained(checker, path):
-    """Whether the checker explains the record, and what it says of it."""
+def explained(checker, path, states):
+    """Whether the checker explains the record, or None where it gave up; and what it says of it."""
+    words = [sys.executable, checker, "--states", str(states), path]
     try:
-        found = subprocess.run([sys.executable, checker, path], capture_output=True, text=True, timeout=SECONDS)
+        found = subprocess.run(words, capture_output=True, text=True, timeout=SECONDS)
     except subprocess.TimeoutExpired as error:
-        return False, str(error)
-    return found.returncode == 0, (found.stdout + found.stderr).strip()
+        return None, str(error)
+    return {0: True, 3: None}.get(found.returncode, False), (found.stdout + found.stderr).strip()
+
+
+def of_seed(given, seed, path):
+    """Whether a record of the seed is explained, and what is said of the last one that was made."""
+    for _recording in range(RECORDINGS):
+        fault = recorded(given.program, seed, given.calls, path)
+        if fault:
+            return False, fault
+        right, said = explained(given.checker, path, given.states)
+        if right is not None:
+            break
+    if not right:
+        kept = f"{given.keep}/record-{seed}"
+        shutil.copyfile(path, kept)
+        said += f"\nthe record is {kept}"
+    return bool(right), said
 
 
 def main():
@@ -44,20 +66,14 @@ def main():
     parser.add_argument("--seeds", type=int, default=20, metavar="N", help="how many runs are recorded")
     parser.add_argument("--first", type=int, default=1, metavar="N", help="the seed of the first of them")
     parser.add_argument("--calls", type=int, default=1000, metavar="N", help="how many calls each of the four callers makes")
+    parser.add_argument("--states", type=int, default=STATES, metavar="N", help="how many states of a key are searched at most")
     parser.add_argument("--keep", default=tempfile.gettempdir(), metavar="FOLDER", help="where records lie that aren't explained")
     given = parser.parse_args()
     passed = failed = 0
     for seed in range(given.first, given.first + given.seeds):
         began = time.monotonic()
         with tempfile.TemporaryDirectory() as room:
-            path = f"{room}/record"
-            fault = recorded(given.program, seed, given.calls, path)
-            right, said = (False, fault) if fault else explained(given.checker, path)
-            if not right and not fault:
-                kept = f"{given.keep}/record-{seed}"
-                with open(path, "rb") as it, open(kept, "wb") as copy:
-                    copy.write(it.read())
-                said += f"\nthe record is {kept}"
+            right, said = of_seed(given, seed, f"{room}/record")
         passed, failed = passed + right, failed + (not right)
         print(f"seed {seed}, {time.monotonic() - began:.1f} s: {said}", flush=True)
     print(f"{passed} passed, {failed} failed")

@@ -8,12 +8,33 @@ const CALLS: u32 = 25_000;
 #[derive(Clone, Copy)]
 pub enum Run {
     /// So many sessions of one world have so many rounds.
-    Worlds { sessions: u16, rounds: u32 },
+    Worlds {
+        sessions: u16,
+        rounds: u32,
+    },
     /// Threads take steps.
     Steps(Threaded),
     /// Callers in threads tell what they called and what they were answered. The calls follow from the seed;
     /// each caller makes so many.
-    Record { seed: u64, calls: u32 },
+    Record {
+        seed: u64,
+        calls: u32,
+    },
+    /// Keys are looked for while so many items stand: so many windows that have an item, and as many that have none.
+    Finds {
+        within: Within,
+        items: u32,
+        windows: u32,
+    },
+}
+
+/// What keys are looked for in.
+#[derive(Clone, Copy)]
+pub enum Within {
+    /// The indexes of a store's shelves, by themselves.
+    Index,
+    /// The store of one thread, by its step that reads.
+    Store,
 }
 
 /// What steps are taken.
@@ -56,7 +77,8 @@ pub enum Crew {
 
 /// Tells which run the command line asks for: the program's name, the run's and what it takes. Other words ask for none.
 pub fn asked(words: &[String]) -> Option<Run>
-    ensures { (length words.now ≢ 3) × (length words.now ≢ 4) × (length words.now ≢ 6) → IsNone result }
+    ensures { (length words.now ≢ 3) × (length words.now ≢ 4) × (length words.now ≢ 5)
+        × (length words.now ≢ 6) → IsNone result }
 {
     match words {
         [_, run, seed] if run.as_str() == "record" => Some(Run::Record {
@@ -70,6 +92,11 @@ pub fn asked(words: &[String]) -> Option<Run>
         [_, run, sessions, rounds] if run.as_str() == "worlds" => Some(Run::Worlds {
             sessions: sessions.parse().ok()?,
             rounds: rounds.parse().ok()?,
+        }),
+        [_, run, within, items, windows] if run.as_str() == "finds" => Some(Run::Finds {
+            within: within_of(within.as_str())?,
+            items: items.parse().ok()?,
+            windows: windows.parse().ok()?,
         }),
         [_, run, over, mix, crew, rounds] if run.as_str() == "steps" => Some(Run::Steps(
             Threaded {
@@ -89,6 +116,15 @@ fn over_of(word: &str) -> Option<Over> {
         "store" => Some(Over::Store),
         "own" => Some(Over::Own),
         "same" => Some(Over::Same),
+        _ => None,
+    }
+}
+
+/// Reads what keys are looked for in.
+fn within_of(word: &str) -> Option<Within> {
+    match word {
+        "index" => Some(Within::Index),
+        "store" => Some(Within::Store),
         _ => None,
     }
 }

@@ -9,10 +9,17 @@
 //! - `mc_bench record SEED [CALLS]`: four callers in threads of their own make so many random calls each of one shared store, 25,000
 //!   where it isn't said. What is printed is each
 //!   call with its answer, in each caller's order.
+//! - `mc_bench finds WITHIN ITEMS WINDOWS`: so many items of keys of 32 bytes and blocks of 100 are put in, and keys that are drawn at
+//!   random are looked for, 1024 a window, in so many windows of each kind: `hits`, of keys that have an item, `turns`, which are such
+//!   hits one at a time, none begun before the one before has ended, and `misses`, of keys that have none. WITHIN is `index`, which is
+//!   the shelves' indexes by themselves, or `store`, which is whole gets. What is printed is a line for each window: its kind, how many
+//!   keys were found, and the processor's nanoseconds.
 #![tactic(auto)]
 
 mod asked;
 mod call;
+mod finds;
+mod indexes;
 mod record;
 mod steps;
 mod worlds;
@@ -38,6 +45,13 @@ fn main(rt: HostRuntime) -> io::Result<()> {
             }
             Ok(())
         }
+        Some(
+            Run::Finds {
+                within,
+                items,
+                windows,
+            },
+        ) => finds::told(&rt, alloc, within, items, windows),
         None => Err(io::Error::from(io::ErrorKind::InvalidInput)),
     }
 }

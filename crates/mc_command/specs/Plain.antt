@@ -64,6 +64,10 @@ opening limit greatest = record {
   pages = replicate class_count 0;
 }
 
+-- the same, where the first write draws this number
+abbrev pub starting : (limit greatest next : ℕ) → Plain
+starting limit greatest next = record (opening limit greatest) { next_unique = next }
+
 -- a step is answered, and leaves a state; or it would draw the last unique number, and changes
 -- nothing
 pub data Outcome : Type 0 where

@@ -16,7 +16,7 @@ ghost use Rattle.mc_slab.specs.Slabs.{out_of};
 ghost use Rattle.mc_command.specs.Accounts.{AreOf, held_class, dead_class};
 ghost use Rattle.mc_command.specs.Items.{items_of};
 ghost use Rattle.mc_command.specs.Steps.{Ends, found, store_step, cas_step};
-ghost use Rattle.mc_command.specs.Plain.{opening, plain, standing, expiring, count_of, has_room, living, Answered, Spent, MayFail};
+ghost use Rattle.mc_command.specs.Plain.{opening, starting, plain, standing, expiring, count_of, has_room, living, Answered, Spent, MayFail};
 
 use crate::number::{counted, number_of};
 use crate::plain::accounts::Accounts;
@@ -71,12 +71,28 @@ impl PlainStore {
         requires greatest { greatest ≤ 1048576 }
         ensures { IfOk result (λ store. store ≡ opening pages greatest) }
     {
+        PlainStore::starting(alloc, pages, greatest, 1)
+    }
+
+    /// Makes the same, whose first write draws the unique number `next`, at least 1. At 2^64 - 1 the
+    /// numbers are spent.
+    pub fn starting(
+        alloc: Global,
+        pages: u32,
+        greatest: u64,
+        next: u64,
+    ) -> Result<PlainStore, AllocError>
+        requires pages { (1 ≤ pages) × (pages ≤ 65536) }
+        requires greatest { greatest ≤ 1048576 }
+        requires next { 1 ≤ next }
+        ensures { IfOk result (λ store. store ≡ starting pages greatest next) }
+    {
         Ok(PlainStore {
             greatest,
             items: BTreeMap::new(alloc),
             accounts: Accounts::new(pages),
             cut: None,
-            next_unique: 1,
+            next_unique: next,
         })
     }
 }

@@ -139,22 +139,22 @@ impl Feed {
         self.ahead = Ahead::none();
     }
 
-    /// Counts the unread bytes. There are none while bytes are to be passed over.
-    pub fn unread_len(&self) -> usize
+    /// Counts the bytes of the stream that are held: the unread ones. Those that are passed over never are.
+    pub fn held(&self) -> usize
         ensures unread { result ≡ length self.now.bytes }
         ensures settled { IsSettled self.now }
+        ensures passing { 0 < self.now.passed → result ≡ 0 }
     {
         self.unread.len()
     }
 
-    /// Counts the bytes that the feed holds in memory: the unread ones, and of those that were read at most as many.
-    pub fn held(&self) -> usize
+    /// Counts the bytes of memory that are filled: the unread ones, and of those that were read at most as many.
+    pub fn filled(&self) -> usize
         ensures least { length self.now.bytes ≤ result }
         ensures most { result ≤ 2 * length self.now.bytes }
-        // Bytes that are passed over are never held.
         ensures passing { 0 < self.now.passed → result ≡ 0 }
     {
-        self.unread.held()
+        self.unread.filled()
     }
 
     /// Finds what `peek` finds. What else is said there follows from the two clauses.

@@ -55,12 +55,12 @@ fn pass_unit(feed: &mut Feed) -> Option<usize> {
 
 /// Pushes a piece. Says whether the feed was as before where that was refused, and pushes it then.
 fn push_at_last(feed: &mut Feed, piece: &[u8]) -> Result<bool, AllocError> {
-    let held = feed.unread_len();
+    let held = feed.held();
     let found = len_of(feed.peek());
     if feed.push(piece).is_ok() {
         return Ok(true);
     }
-    let is_same = feed.unread_len() == held && len_of(feed.peek()) == found;
+    let is_same = feed.held() == held && len_of(feed.peek()) == found;
     feed.push(piece)?;
     Ok(is_same)
 }
@@ -82,7 +82,7 @@ impl Append for Pair {
 /// Takes up to `n` bytes away. Says whether what is left is this, and what is held at most twice as much.
 fn consume_to(queue: &mut Queue<65536>, n: usize, left: &[u8]) -> bool {
     queue.consume(queue.len().min(n));
-    queue.as_slice() == left && queue.len() == left.len() && queue.held() <= 2 * left.len()
+    queue.as_slice() == left && queue.len() == left.len() && queue.filled() <= 2 * left.len()
 }
 
 #[test]
@@ -114,9 +114,9 @@ fn a_large_queue_gives_its_memory_back(rt: HostRuntime) -> Result<(), AllocError
     }
     assert!(rt; queue.capacity() >= 131072);
     queue.consume(queue.len().min(131071));
-    assert_eq!(rt; queue.held(), 1);
+    assert_eq!(rt; queue.filled(), 1);
     queue.clear();
-    assert!(rt; queue.capacity() <= 65536 && queue.held() == 0);
+    assert!(rt; queue.capacity() <= 65536 && queue.filled() == 0);
     Ok(())
 }
 
@@ -204,21 +204,48 @@ fn a_block_that_is_passed_over(rt: HostRuntime) -> Result<(), AllocError> {
         )
     );
     assert_eq!(rt; pass_unit(&mut feed), Some(15));
-    assert_eq!(rt; feed.unread_len(), 0);
+    assert_eq!(rt; feed.held(), 0);
     for _ in 0..199 {
         assert!(rt; push_at_last(&mut feed, b"x")?);
-        assert_eq!(rt; feed.held(), 0);
+        assert!(rt; feed.held() == 0 && feed.filled() == 0);
         assert!(rt; matches!(feed.peek(), Peek::More));
     }
     assert!(rt; push_at_last(&mut feed, b"version\r\nqu")?);
     assert!(rt; matches!(feed.peek(), Peek::Whole(Command::Version, 9)));
     assert_eq!(rt; pass_unit(&mut feed), Some(9));
-    assert_eq!(rt; feed.unread_len(), 2);
+    assert_eq!(rt; feed.held(), 2);
     assert!(rt; matches!(feed.peek(), Peek::More));
     assert!(rt; push_at_last(&mut feed, b"it\r\n")?);
     assert!(rt; matches!(feed.peek(), Peek::Whole(Command::Quit, 6)));
     feed.clear();
-    assert_eq!(rt; feed.unread_len(), 0);
+    assert_eq!(rt; feed.held(), 0);
+    Ok(())
+}
+
+/// As long a block as this is passed over in pieces, none of which is held.
+#[test]
+fn what_is_passed_over_is_never_held(rt: HostRuntime) -> Result<(), AllocError> {
+    let mut feed = Feed::new(rt.alloc(), GREATEST);
+    let line = b"set a 0 0 2097152\r\n";
+    assert!(rt; push_at_last(&mut feed, line)?);
+    assert_eq!(rt; feed.held(), line.len());
+    assert!(rt;
+        matches!(
+            feed.peek(),
+            Peek::Bad(LineFault::TooLarge { passed: 2097154 }, 19)
+        )
+    );
+    assert_eq!(rt; pass_unit(&mut feed), Some(19));
+    let piece = [b'x'; 16384];
+    for _ in 0..128 {
+        assert!(rt; push_at_last(&mut feed, &piece)?);
+        assert!(rt; feed.held() == 0 && matches!(feed.peek(), Peek::More));
+    }
+    assert!(rt; push_at_last(&mut feed, b"\r\n")?);
+    assert!(rt; feed.held() == 0 && matches!(feed.peek(), Peek::More));
+    assert!(rt; push_at_last(&mut feed, b"version\r\n")?);
+    assert_eq!(rt; feed.held(), 9);
+    assert!(rt; matches!(feed.peek(), Peek::Whole(Command::Version, 9)));
     Ok(())
 }
 
@@ -270,7 +297,7 @@ fn a_stream_in_pieces_of_one_byte(rt: HostRuntime) -> Result<(), AllocError> {
         let is_whole = pass_unit(&mut feed).is_some();
         assert!(rt; is_whole == lasts.contains(&place), "at {place}");
     }
-    assert_eq!(rt; feed.unread_len(), 0);
+    assert_eq!(rt; feed.held(), 0);
     Ok(())
 }
 
@@ -283,7 +310,7 @@ fn the_longest_line_in_pieces(rt: HostRuntime) -> Result<(), AllocError> {
         assert!(rt; matches!(feed.peek(), Peek::More));
         assert!(rt; push_at_last(&mut feed, &spaces)?);
     }
-    assert_eq!(rt; feed.unread_len(), 65536);
+    assert_eq!(rt; feed.held(), 65536);
     assert!(rt; matches!(feed.peek(), Peek::More));
     assert!(rt; push_at_last(&mut feed, b"\n")?);
     assert!(rt; matches!(feed.peek(), Peek::Whole(Command::Version, 65537)));

@@ -28,8 +28,10 @@ text_of end.Shown = codes ""
 text_of end.NotShown = codes "mcserver: write fault"
 text_of end.NoMemory = codes "mcserver: out of memory"
 
--- what may be done about it
-abbrev pub hint_of : End → List ℕ
-hint_of end.CannotListen =
-    codes "mcserver: there are no sockets yet; --stdin serves one session over standard input and output"
-hint_of _ = codes ""
+-- the ends of a program that was to listen: it can't, memory ran out before the first connection, or
+-- the listener failed
+abbrev pub EndsListening : End → Type 0
+EndsListening end.CannotListen = Unit {0}
+EndsListening end.NoMemory = Unit {0}
+EndsListening (end.Served (Err fault.Read)) = Unit {0}
+EndsListening _ = ⊥

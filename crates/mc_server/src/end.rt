@@ -1,5 +1,8 @@
 //! How the program ends: its status, and what it says on standard error.
 
+ghost use Rattle.std.specs.Prelude.{◌≡◌};
+ghost use Rattle.mc_server.specs.Ends.{status_of, text_of};
+
 use clap::error::ErrorKind;
 use mc_session::ServeFault;
 use std::alloc::AllocError;
@@ -8,9 +11,10 @@ use std::io;
 /// How the program ends.
 #[derive(Debug, Drop)]
 pub enum End {
-    /// A session was served, to its end or until a fault.
+    /// One session was served, to its end or until a fault; or connections, until the listener failed,
+    /// which is a fault of reading.
     Served(Result<(), ServeFault>),
-    /// The program was asked to listen, and can't.
+    /// It was to listen, and can't.
     CannotListen,
     /// The command line is bad, and `clap` has said why.
     BadCommandLine,
@@ -20,7 +24,7 @@ pub enum End {
     Shown,
     /// Help or the version was asked for, and could not be written.
     NotShown,
-    /// Memory ran out while the command line was read.
+    /// Memory ran out while the command line was read, or before the first connection.
     NoMemory,
 }
 
@@ -41,7 +45,7 @@ impl End {
     ghost use Rattle.std.specs.declared.io.ErrorKind.TheVariants as io_kind;
     ghost use Rattle.clap.specs.Words.{kind_of};
     ghost use Rattle.clap.specs.declared.error.kind.ErrorKind.TheVariants as kind;
-    ghost use Rattle.mc_server.specs.Ends.{status_of, text_of, hint_of};
+    ghost use Rattle.mc_server.specs.Ends.{status_of, text_of};
 
     /// Gives the end where the words of the command line could not be read: memory ran out, or one
     /// isn't text.
@@ -79,60 +83,37 @@ impl End {
         }
     }
 
-    /// Gives what the shell is told, and what is said on standard error. It takes no memory.
-    pub fn ending(&self) -> Ending
-        ensures status { result.status ≡ status_of self.now }
-        ensures text { result.text.now ≡ text_of self.now }
-        ensures hint { result.hint.now ≡ hint_of self.now }
+    /// Gives the status that the shell is told, and what is said on standard error, which is empty
+    /// where there is nothing to say. It takes no memory.
+    pub fn ending(&self) -> (u8, &'static str)
+        ensures status { result.0 ≡ status_of self.now }
+        ensures text { result.1.now ≡ text_of self.now }
     {
         match self {
-            End::Served(Ok(())) | End::Shown => Ending::said(0, ""),
-            End::Served(Err(ServeFault::Read)) => Ending::said(1, "mcserver: read fault"),
-            End::Served(Err(ServeFault::Write)) | End::NotShown => Ending::said(
-                1,
-                "mcserver: write fault",
-            ),
-            End::Served(Err(ServeFault::NoMemory)) | End::NoMemory => Ending::said(
-                1,
-                "mcserver: out of memory",
-            ),
-            End::CannotListen => Ending {
-                status: 1,
-                text: "mcserver: cannot listen",
-                hint: "mcserver: there are no sockets yet; --stdin serves one session over standard input and output",
-            },
-            End::BadCommandLine => Ending::said(2, ""),
-            End::NotText => Ending::said(
+            End::Served(answer) => ending(answer),
+            End::Shown => (0, ""),
+            End::CannotListen => (1, "mcserver: cannot listen"),
+            End::BadCommandLine => (2, ""),
+            End::NotText => (
                 2,
                 "error: invalid UTF-8 was detected in one or more arguments",
             ),
+            End::NotShown => ending(&Err(ServeFault::Write)),
+            End::NoMemory => ending(&Err(ServeFault::NoMemory)),
         }
     }
 }
 
-/// What the shell is told, and lines for standard error, each empty where there is none.
-#[derive(Clone, Copy)]
-pub struct Ending {
-    /// The exit status.
-    pub status: u8,
-    /// What is wrong.
-    pub text: &'static str,
-    /// What may be done about it.
-    pub hint: &'static str,
-}
-
-impl Ending {
-    ghost use Rattle.std.specs.Prelude.{◌≡◌, codes};
-
-    /// An ending with no hint.
-    fn said(status: u8, text: &'static str) -> Ending
-        ensures { (result.status ≡ status) × (result.text ≡ text.entry)
-            × (result.hint.now ≡ codes "") }
-    {
-        Ending {
-            status,
-            text,
-            hint: "",
-        }
+/// Gives the program's status and its text on standard error for what a session's service answered:
+/// 0 and nothing at its end, 1 and what is wrong after a fault. It takes no memory.
+pub fn ending(answer: &Result<(), ServeFault>) -> (u8, &'static str)
+    ensures status { result.0 ≡ status_of (End.Served answer.now) }
+    ensures text { result.1.now ≡ text_of (End.Served answer.now) }
+{
+    match answer {
+        Ok(()) => (0, ""),
+        Err(ServeFault::Read) => (1, "mcserver: read fault"),
+        Err(ServeFault::Write) => (1, "mcserver: write fault"),
+        Err(ServeFault::NoMemory) => (1, "mcserver: out of memory"),
     }
 }

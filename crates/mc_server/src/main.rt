@@ -1,40 +1,62 @@
 //! `mcserver`: a cache server that speaks memcached's text protocol.
 #![tactic(auto)]
 
-ghost use Rattle.std.specs.Prelude.{◌≡◌};
+ghost use Rattle.std.specs.Prelude.{◌≡◌, ◌≤◌, IfOk};
 ghost use Rattle.std.specs.Process.{exit_status};
 ghost use Rattle.mc_server.specs.Ends.{status_of};
 
+mod accepting;
+mod arrivals;
+mod asker;
+mod channel;
 mod end;
+mod link;
+mod links;
+mod listening;
 mod options;
 mod serving;
 #[cfg(test)]
+mod tcp_tests;
+#[cfg(test)]
 mod tests;
+mod yard;
 
 use clap::error::ErrorKind;
-use end::{End, Ending};
-use mc_time::SystemClock;
+use end::End;
+use mc_time::{Fixed, SystemClock};
+use options::Options;
 use std::process::ExitCode;
 use std::{env, io};
 
 fn main(rt: HostRuntime) -> ExitCode {
-    said(&rt, &run(&rt))
+    let end = match asked(&rt) {
+        Ok(options) if options.stdin => session(&rt, options),
+        Ok(options) => match options.now {
+            Some(moment) => listening::listen(&rt, options, &Fixed(moment)),
+            None => listening::listen(&rt, options, &SystemClock::new(&rt)),
+        },
+        Err(end) => end,
+    };
+    said(&rt, &end)
 }
 
-/// Does what the command line asks for, with the program's own streams and clock.
-fn run(rt: &HostRuntime) -> End {
-    let alloc = rt.alloc();
-    let words = match words(rt) {
-        Ok(words) => words,
-        Err(end) => return end,
-    };
-    match options::parsed(alloc, words.as_slice()) {
-        Ok(options) => {
-            let (mut input, mut output) = (rt.stdin(), rt.stdout());
-            let system = SystemClock::new(rt);
-            serving::serve(alloc, options, &mut input, &mut output, &system)
-        }
-        Err(error) => End::of_options(&error, &printed(rt, &error)),
+/// Serves a session over the program's own streams.
+fn session(rt: &HostRuntime, options: Options) -> End
+    requires { 1 ≤ options.pages × options.pages ≤ 65536 }
+{
+    let (mut input, mut output) = (rt.stdin(), rt.stdout());
+    let system = SystemClock::new(rt);
+    serving::serve(rt.alloc(), options, &mut input, &mut output, &system)
+}
+
+/// What the command line asks for; or how the program ends without it.
+fn asked(rt: &HostRuntime) -> Result<Options, End>
+    ensures { IfOk result (λ options. 1 ≤ options.pages × options.pages ≤ 65536) }
+{
+    let words = words(rt)?;
+    match options::parsed(rt.alloc(), words.as_slice()) {
+        Ok(options) => Ok(options),
+        Err(error) => Err(End::of_options(&error, &printed(rt, &error))),
     }
 }
 
@@ -58,12 +80,10 @@ fn printed(rt: &HostRuntime, error: &clap::Error) -> io::Result<()> {
 fn said(rt: &HostRuntime, end: &End) -> ExitCode
     ensures { exit_status result ≡ status_of end.now }
 {
-    let Ending { status, text, hint } = end.ending();
-    for line in [text, hint] {
-        if !line.is_empty() {
-            // where standard error is closed too, the status alone tells
-            let _ = eprintln!(rt; "{line}");
-        }
+    let (status, text) = end.ending();
+    if !text.is_empty() {
+        // where standard error is closed too, the status alone tells
+        let _ = eprintln!(rt; "{text}");
     }
     ExitCode::from(status)
 }

@@ -1,6 +1,6 @@
 //! What the program serves, by its command line.
-ghost use Rattle.std.specs.Prelude.{◌≡◌, ◌≤◌, IsTrue, IsFalse};
-ghost use Rattle.mc_server.specs.Runs.{moments, Serves, EndsServed};
+ghost use Rattle.std.specs.Prelude.{◌≡◌, ◌≤◌};
+ghost use Rattle.mc_server.specs.Runs.{moments, set_up, Serves, EndsServed};
 
 use crate::end::End;
 use crate::options::Options;
@@ -20,8 +20,7 @@ const GREATEST: u64 = 1_048_576;
 
 /// Serves what the command line asks for: one session over the reader and the writer, to its end, in
 /// a new world whose store may have the pages that were asked for. Its clock stands where that was
-/// asked for, and is the system's otherwise. Where listening is asked for, nothing is read or
-/// written.
+/// asked for, and is the system's otherwise.
 pub fn serve<R: Read, W: Write, C: Clock>(
     alloc: Global,
     options: Options,
@@ -30,16 +29,10 @@ pub fn serve<R: Read, W: Write, C: Clock>(
     system: &C,
 ) -> End
     requires { 1 ≤ options.pages × options.pages ≤ 65536 }
-    ensures session { IsTrue options.stdin
-        → EndsServed options.pages (moments options.now (C.may_give system.now))
+    ensures { EndsServed options.pages (moments options.now (C.may_give system.now))
         (R.remaining reader.old) (R.remaining reader.new)
         (W.contents writer.old) (W.contents writer.new) result }
-    ensures listen { IsFalse options.stdin → (result ≡ End.CannotListen)
-        × (reader.new ≡ reader.old) × (writer.new ≡ writer.old) }
 {
-    if !options.stdin {
-        return End::CannotListen;
-    }
     let pages = options.pages;
     End::Served(match options.now {
         Some(moment) => session(alloc, pages, reader, writer, &Fixed(moment)),
@@ -60,13 +53,19 @@ fn session<R: Read, W: Write, C: Clock>(
         (R.remaining reader.old) (R.remaining reader.new)
         (W.contents writer.old) (W.contents writer.new) result }
 {
-    let settings = Settings {
-        pages,
-        greatest: GREATEST,
-        shelves: SHELVES,
-    };
-    let Ok(mut world) = World::new(alloc, settings, Fnv, clock.now()) else {
+    let Ok(mut world) = World::new(alloc, settings_of(pages), Fnv, clock.now()) else {
         return Err(ServeFault::NoMemory);
     };
     serve_one(alloc, reader, writer, &mut world, clock)
+}
+
+/// How a store of so many pages is set up.
+pub fn settings_of(pages: u32) -> Settings
+    ensures { result ≡ set_up pages }
+{
+    Settings {
+        pages,
+        greatest: GREATEST,
+        shelves: SHELVES,
+    }
 }

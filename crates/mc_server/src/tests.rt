@@ -1,6 +1,6 @@
 //! What is served of a command line, over streams that a test holds.
 
-use crate::end::End;
+use crate::end::{End, ending};
 use crate::options::Options;
 use crate::serving::serve;
 use mc_session::ServeFault;
@@ -25,7 +25,7 @@ fn served(alloc: Global, now: Option<u64>, reader: &mut Drip<'_>, writer: &mut S
     let system = Fixed(Moment::from_seconds_at_most(SYSTEM));
     serve(
         alloc,
-        Options::new(true, now, Some(1)),
+        Options::new(true, now, Some(1), None, None),
         reader,
         writer,
         &system,
@@ -59,7 +59,7 @@ fn tells_each_read_that_fails(rt: HostRuntime) -> Result<(), Fail> {
         let end = served(alloc, None, &mut reader, &mut writer);
         assert!(rt; matches!(end, End::Served(Err(ServeFault::Read))));
         assert!(rt; ALIVE.as_bytes().starts_with(writer.taken()));
-        assert!(rt; end.ending().status == 1);
+        assert!(rt; end.ending() == (1, "mcserver: read fault"));
     }
     Ok(())
 }
@@ -79,14 +79,14 @@ fn tells_each_write_that_fails(rt: HostRuntime) -> Result<(), Fail> {
 }
 
 #[test]
-fn reads_nothing_where_it_is_to_listen(rt: HostRuntime) -> Result<(), Fail> {
-    let alloc = rt.alloc();
-    let mut reader = Drip::new(INPUT.as_bytes(), 100);
-    let mut writer = Sip::new(alloc, 100);
-    let system = Fixed(Moment::from_seconds_at_most(SYSTEM));
-    let options = Options::new(false, None, None);
-    let end = serve(alloc, options, &mut reader, &mut writer, &system);
-    assert!(rt; matches!(end, End::CannotListen));
-    assert!(rt; reader.rest() == INPUT.as_bytes() && writer.taken().is_empty());
+fn tells_how_a_session_ended(rt: HostRuntime) -> Result<(), Fail> {
+    for (answer, expected) in [
+        (Ok(()), (0, "")),
+        (Err(ServeFault::Read), (1, "mcserver: read fault")),
+        (Err(ServeFault::Write), (1, "mcserver: write fault")),
+        (Err(ServeFault::NoMemory), (1, "mcserver: out of memory")),
+    ] {
+        assert!(rt; ending(&answer) == expected);
+    }
     Ok(())
 }

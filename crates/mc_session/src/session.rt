@@ -181,7 +181,7 @@ impl Session {
         ensures least { length self.now.out ≤ result }
         ensures most { result ≤ 2 * length self.now.out }
     {
-        self.out.held()
+        self.out.filled()
     }
 
     /// Lends the output that is to be written.

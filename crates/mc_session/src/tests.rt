@@ -146,6 +146,38 @@ fn turns(
     Ok(())
 }
 
+/// A block is passed over in 128 pieces of one read's length, in none of which a turn is due.
+fn passes_a_block_over(rt: &impl Abort, alloc: Global) -> Result<(), AllocError> {
+    let mut store = PlainStore::new(alloc, 64, PAGE)?;
+    let mut session = Session::new(alloc, PAGE);
+    let piece = [b'x'; 16384];
+    turns(
+        rt,
+        alloc,
+        &mut session,
+        &mut store,
+        "set a 0 0 2097152\r\n",
+        1,
+    )?;
+    for _ in 0..128 {
+        session.feed(&piece)?;
+        assert!(rt; session.is_idle());
+    }
+    session.feed(b"\r\n")?;
+    turns(rt, alloc, &mut session, &mut store, "version\r\n", 1)?;
+    let told = b"SERVER_ERROR object too large for cache\r\nVERSION 1.6.0\r\n".as_slice();
+    assert_eq!(rt; session.out(), told);
+    Ok(())
+}
+
+#[test]
+fn a_block_of_many_pieces_is_passed_over(rt: HostRuntime) -> Result<(), Fail> {
+    if passes_a_block_over(&rt, rt.alloc()).is_err() {
+        passes_a_block_over(&rt, rt.alloc())?;
+    }
+    Ok(())
+}
+
 fn keys_take_turns(rt: &impl Abort, alloc: Global) -> Result<(), AllocError> {
     let mut store = PlainStore::new(alloc, 64, PAGE)?;
     let mut reading = Session::new(alloc, GREATEST);

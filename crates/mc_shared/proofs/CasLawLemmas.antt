@@ -17,7 +17,7 @@ use Rattle.mc_command.specs.declared.reply.Reply.TheVariants.{Stored, Number, Hi
 use Rattle.mc_command.specs.Commands.{key_of}
 use Rattle.mc_command.specs.Plain.{Plain, opening, Outcome, Answered, Spent, plain, stepped, changed, row_of, cas_row, given, written, with_chunk, has_room, block_class, charge, count_of, chunks_of, without_dead, expiring, perhaps_expiring, keeps_chunk, write_reply, written_block, block_of, standing}
 use Rattle.mc_command.specs.Plain.{Entry as Item}
-use Rattle.mc_shared.specs.History.{Start, What, Stepped, Purged, Entry, left_by, next, IsRight, after, IsLegal}
+use Rattle.mc_shared.specs.History.{Beginning, Operation, Stepped, Purged, HistoryEntry, left_by, next, IsRight, after, IsLegal}
 use Rattle.mc_shared.specs.Laws.{StandsIn, StandsBefore, HasItem, Wrote, HasDrawnNumbers}
 use Rattle.mc_shared.proofs.KeyLawLemmas.{none_some, get_put, some_is, alive_was, hit_shows, found_next, paged_next}
 use Rattle.mc_shared.proofs.ReadLawLemmas.{OthersStay, legal_parts, after_parts, decided_was}
@@ -102,17 +102,17 @@ wrote_key key step now Stored w = (w, refl)
 wrote_key key step now (Number n) w = (w, refl)
 wrote_key key step now reply w = absurd w
 
-module _ (began : Start) (key : List ℕ) where
+module _ (began : Beginning) (key : List ℕ) where
   step_rises : (m new : Plain) (step : KeyStep) (now : ℕ) (reply : Reply) → plain m step now ≡ Answered reply new → Rises m step now (Answered reply new)
   step_rises m new step now reply is = subst (Rises m step now) is (plain_rises m step now)
 
-  never_falls : (m : Plain) (what : What) → IsRight m what → m.next_unique ≤ (next began m what).next_unique
+  never_falls : (m : Plain) (what : Operation) → IsRight m what → m.next_unique ≤ (next began m what).next_unique
   never_falls m (Stepped step now reply) right =
       let is : (left_by m (plain m step now)).next_unique ≡ right.0.next_unique = ap (λ o. (left_by m o).next_unique) right.1 in
       let up = (step_rises m right.0 step now reply right.1).0 in omega (arith, is, up)
   never_falls m (Purged shelf now) right = omega arith
 
-  write_draws : (m : Plain) (what : What) → IsRight m what → Wrote key what → (m.next_unique < (next began m what).next_unique) × HasNumber (next began m what) key m.next_unique
+  write_draws : (m : Plain) (what : Operation) → IsRight m what → Wrote key what → (m.next_unique < (next began m what).next_unique) × HasNumber (next began m what) key m.next_unique
   write_draws m (Stepped step now reply) right w =
       let is : (left_by m (plain m step now)).next_unique ≡ right.0.next_unique = ap (λ o. (left_by m o).next_unique) right.1 in
       let wrote = wrote_key key step now reply w in
@@ -121,7 +121,7 @@ module _ (began : Start) (key : List ℕ) where
       (omega (arith, is, up), λ i e. drew.1 i (ap (get right.0.items) wrote.0 ∙ sym (ap (λ o. get (left_by m o).items key) right.1) ∙ e))
   write_draws m (Purged shelf now) right w = absurd w
 
-  all_rise : (m : Plain) (es : List Entry) → IsLegal began m es → m.next_unique ≤ (after began m es).next_unique
+  all_rise : (m : Plain) (es : List HistoryEntry) → IsLegal began m es → m.next_unique ≤ (after began m es).next_unique
   all_rise m [] legal = omega arith
   all_rise m (e ∷ es) legal = let one = never_falls m e.what legal.0 in let more = all_rise (next began m e.what) es legal.1 in omega (arith, one, more)
 
@@ -134,7 +134,7 @@ module _ (began : Start) (key : List ℕ) where
   Above n m = (n ≤ m.next_unique) × ((i : Item) → get m.items key ≡ Some i → n ≤ i.unique)
 
   module _ (others_stay : OthersStay) where
-    below : (m : Plain) (what : What) → IsRight m what → Below m → Below (next began m what)
+    below : (m : Plain) (what : Operation) → IsRight m what → Below m → Below (next began m what)
     unfolding Below
     below m what right low i is =
         let up = never_falls m what right in ⊎_elim
@@ -142,7 +142,7 @@ module _ (began : Start) (key : List ℕ) where
         (λ (w : Wrote key what × (i.unique ≡ m.next_unique)). let drew = (write_draws m what right w.0).0 in let number = w.1 in omega (arith, drew, number))
         (decided_was others_stay began key i.flags i.unique i.block m what right (i, is, refl, refl, refl))
 
-    above : (n : ℕ) (m : Plain) (what : What) → IsRight m what → Above n m → Above n (next began m what)
+    above : (n : ℕ) (m : Plain) (what : Operation) → IsRight m what → Above n m → Above n (next began m what)
     unfolding Above
     above n m what right high = let up = never_falls m what right in let least = high.0 in (
       omega (arith, up, least),
@@ -152,16 +152,16 @@ module _ (began : Start) (key : List ℕ) where
           (decided_was others_stay began key i.flags i.unique i.block m what right (i, is, refl, refl, refl)),
     )
 
-    all_below : (m : Plain) (es : List Entry) → IsLegal began m es → Below m → Below (after began m es)
+    all_below : (m : Plain) (es : List HistoryEntry) → IsLegal began m es → Below m → Below (after began m es)
     all_below m [] legal low = low
     all_below m (e ∷ es) legal low = all_below (next began m e.what) es legal.1 (below m e.what legal.0 low)
 
-    all_above : (n : ℕ) (m : Plain) (es : List Entry) → IsLegal began m es → Above n m → Above n (after began m es)
+    all_above : (n : ℕ) (m : Plain) (es : List HistoryEntry) → IsLegal began m es → Above n m → Above n (after began m es)
     all_above n m [] legal high = high
     all_above n m (e ∷ es) legal high = all_above n (next began m e.what) es legal.1 (above n m e.what legal.0 high)
 
     -- after a write every number of the key is new
-    fresh : (m : Plain) (b r : List Entry) (e : Entry) → IsLegal began m (b ++ e ∷ r) → Wrote key e.what → Above m.next_unique (after began m (b ++ e ∷ r))
+    fresh : (m : Plain) (b r : List HistoryEntry) (e : HistoryEntry) → IsLegal began m (b ++ e ∷ r) → Wrote key e.what → Above m.next_unique (after began m (b ++ e ∷ r))
     unfolding Above
     fresh m b r e legal wrote =
         let parts = legal_parts began m b (e ∷ r) legal in
@@ -200,13 +200,13 @@ module _ (key : List ℕ) (flags : ℕ) (exptime : ℤ) (block : List ℕ) (n no
   cas_met m new is = let o = standing m key now in
       subst (Met m key n) is (cas_meets m (without_dead o key m) o (λ i e. alive_was m.cut now (get m.items key) i e))
 
-pub cas_is_of_read : OthersStay → (began : Start) (log : List Entry) (read cas other : Entry) (step : KeyStep) (then now flags unique more : ℕ) (exptime : ℤ) (block brought : List ℕ)
+pub cas_is_of_read : OthersStay → (began : Beginning) (log : List HistoryEntry) (read cas other : HistoryEntry) (step : KeyStep) (then now flags unique more : ℕ) (exptime : ℤ) (block brought : List ℕ)
     → HasDrawnNumbers began.plain → IsLegal began began.plain log → (places : StandsBefore log read cas) → read.what ≡ Stepped step then (Hit flags unique block)
     → cas.what ≡ Stepped (Cas (key_of step) more exptime brought unique) now Stored → StandsIn places.between other → Wrote (key_of step) other.what → ⊥
 unfolding Below Above
 cas_is_of_read stay began log read cas other step then now flags unique more exptime block brought drawn legal places told met_is stands wrote =
     let key : List ℕ = key_of step in
-    let front : List Entry = places.before ++ read ∷ places.between in
+    let front : List HistoryEntry = places.before ++ read ∷ places.between in
     let m0 : Plain = after began began.plain places.before in
     let m1 : Plain = next began m0 read.what in
     let m4 : Plain = after began began.plain front in
@@ -230,6 +230,6 @@ cas_is_of_read stay began log read cas other step then now flags unique more exp
 pub new_drawn : (limit greatest : ℕ) → HasDrawnNumbers (opening limit greatest)
 new_drawn limit greatest key item is = absurd (none_some item (sym (get-empty (slice_cmp nat_cmp) key) ∙ is))
 
-pub drawn_stay : OthersStay → (began : Start) (log : List Entry) → HasDrawnNumbers began.plain → IsLegal began began.plain log → HasDrawnNumbers (after began began.plain log)
+pub drawn_stay : OthersStay → (began : Beginning) (log : List HistoryEntry) → HasDrawnNumbers began.plain → IsLegal began began.plain log → HasDrawnNumbers (after began began.plain log)
 unfolding Below
 drawn_stay stay began log drawn legal key = all_below began key stay began.plain log legal (drawn key)

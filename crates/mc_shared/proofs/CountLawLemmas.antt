@@ -21,7 +21,7 @@ use Rattle.mc_command.specs.declared.reply.Reply.TheVariants.{Number, TooLarge, 
 use Rattle.mc_command.specs.Plain.{Plain, Outcome, Answered, Spent, plain, changed, count_row, number_row, number_of, written, with_chunk, has_room, block_class, charge, keeps_chunk, without_dead, standing}
 use Rattle.mc_command.specs.Plain.{Entry as Item}
 use Rattle.mc_shared.specs.Sums.{total}
-use Rattle.mc_shared.specs.History.{Start, What, Stepped, Entry, left_by, next, IsRight, after, IsLegal}
+use Rattle.mc_shared.specs.History.{Beginning, Operation, Stepped, HistoryEntry, left_by, next, IsRight, after, IsLegal}
 use Rattle.mc_shared.specs.Past.{Past, held, same, Whole, KeptBy}
 use Rattle.mc_shared.specs.Laws.{StandsIn, MayChange, IsNumber, IsCount, counts_by, counts_up}
 use Rattle.mc_shared.proofs.OrderLawLemmas.{one_name}
@@ -127,18 +127,18 @@ module _ (key : List ℕ) (by now n : ℕ) where
       (λ i e. let same_item : h.0 ≡ i = some_is h.0 i (sym h.1 ∙ alive_was m.cut now (get m.items key) i e) in ap (λ (x : Item). number_of x.block) (sym same_item) ∙ h.2))
 
 -- ---- many counts
-module _ (others_stay : OthersStay) (began : Start) (key : List ℕ) where
+module _ (others_stay : OthersStay) (began : Beginning) (key : List ℕ) where
   counts_no_more : (other : List ℕ) (by : ℕ) → (other ≡ key → ⊥) → same other key * by ≡ 0
   counts_no_more other by ne = dite (ℕ_discrete (same other key) 0) (λ none. ap (λ n. n * by) none ∙ omega arith) (λ some. absurd (ne (same_keys other key some)))
 
-  not_counted : (what : What) → (MayChange began key what → ⊥) → counts_by key what ≡ 0
+  not_counted : (what : Operation) → (MayChange began key what → ⊥) → counts_by key what ≡ 0
   not_counted (Stepped (Count other true by) now (Number number)) not_may = counts_no_more other by not_may
   not_counted what not_may = refl
 
-  number_stays : (m : Plain) (what : What) (n : ℕ) → IsRight m what → (MayChange began key what → ⊥) → IsNumber m key n → IsNumber (next began m what) key n
+  number_stays : (m : Plain) (what : Operation) (n : ℕ) → IsRight m what → (MayChange began key what → ⊥) → IsNumber m key n → IsNumber (next began m what) key n
   number_stays m what n right not_may h = (h.0, spares others_stay began key m what right not_may ∙ h.1, h.2)
 
-  count_next : (m : Plain) (what : What) (n : ℕ) → IsRight m what → IsCount key what → IsNumber m key n → IsNumber (next began m what) key ((n + counts_by key what) % (2 ^ 64))
+  count_next : (m : Plain) (what : Operation) (n : ℕ) → IsRight m what → IsCount key what → IsNumber m key n → IsNumber (next began m what) key ((n + counts_by key what) % (2 ^ 64))
   count_next m (Stepped (Count other true by) now (Number number)) n right is h =
       let one : same other key ≡ 1 = ap (same other) (sym is) ∙ one_name other in
       let by_is : by ≡ same other key * by = sym (ap (λ k. k * by) one ∙ omega arith) in
@@ -154,14 +154,14 @@ module _ (others_stay : OthersStay) (began : Start) (key : List ℕ) where
   sums_up : (n by more : ℕ) → ((n + by) % (2 ^ 64) + more) % (2 ^ 64) ≡ (n + (by + more)) % (2 ^ 64)
   sums_up n by more = omega arith
 
-  all_counted : (m : Plain) (es : List Entry) (n : ℕ) → IsLegal began m es → IsNumber m key n → ((e : Entry) → StandsIn es e → MayChange began key e.what → IsCount key e.what)
+  all_counted : (m : Plain) (es : List HistoryEntry) (n : ℕ) → IsLegal began m es → IsNumber m key n → ((e : HistoryEntry) → StandsIn es e → MayChange began key e.what → IsCount key e.what)
       → IsNumber (after began m es) key ((n + total (counts_up key) es) % (2 ^ 64))
   all_counted m [] n legal h counts = let small = small_of m n h in
       let is : n ≡ (n + 0) % (2 ^ 64) = omega (arith, small) in subst (λ k. IsNumber m key k) is h
   all_counted m (e ∷ es) n legal h counts =
       let new : Plain = next began m e.what in
       let more = all_counted new es in
-      let rest : (x : Entry) → StandsIn es x → MayChange began key x.what → IsCount key x.what = λ x s. counts x (stands_behind e x es s) in
+      let rest : (x : HistoryEntry) → StandsIn es x → MayChange began key x.what → IsCount key x.what = λ x s. counts x (stands_behind e x es s) in
       ⊎_elim
       (λ (may : MayChange began key e.what).
       subst (λ k. IsNumber (after began new es) key k) (sums_up n (counts_by key e.what) (total (counts_up key) es))
@@ -172,15 +172,15 @@ module _ (others_stay : OthersStay) (began : Start) (key : List ℕ) where
       (more n legal.1 (number_stays m e.what n legal.0 not_may h) rest))
       (may_or_not began key e.what)
 
-pub counts_add_up : OthersStay → (began : Start) (front es : List Entry) (key : List ℕ) (n : ℕ) → IsLegal began began.plain (front ++ es) → IsNumber (after began began.plain front) key n
-    → ((e : Entry) → StandsIn es e → MayChange began key e.what → IsCount key e.what)
+pub counts_add_up : OthersStay → (began : Beginning) (front es : List HistoryEntry) (key : List ℕ) (n : ℕ) → IsLegal began began.plain (front ++ es) → IsNumber (after began began.plain front) key n
+    → ((e : HistoryEntry) → StandsIn es e → MayChange began key e.what → IsCount key e.what)
     → IsNumber (after began began.plain (front ++ es)) key ((n + total (counts_up key) es) % (2 ^ 64))
 counts_add_up stay began front es key n legal h counts =
     subst (λ (s : Plain). IsNumber s key ((n + total (counts_up key) es) % (2 ^ 64))) (sym (after_parts began began.plain front es))
     (all_counted stay began key (after began began.plain front) es n (legal_parts began began.plain front es legal).1 h counts)
 
-pub whole_counts : OthersStay → (began : Start) (log : List Entry) (p : Past) (key : List ℕ) (n : ℕ) → IsLegal began began.plain log → KeptBy log p → Whole p → IsNumber began.plain key n
-    → ((e : Entry) → StandsIn (held p) e → MayChange began key e.what → IsCount key e.what)
+pub whole_counts : OthersStay → (began : Beginning) (log : List HistoryEntry) (p : Past) (key : List ℕ) (n : ℕ) → IsLegal began began.plain log → KeptBy log p → Whole p → IsNumber began.plain key n
+    → ((e : HistoryEntry) → StandsIn (held p) e → MayChange began key e.what → IsCount key e.what)
     → IsNumber (after began began.plain log) key ((n + total (counts_up key) (held p)) % (2 ^ 64))
 whole_counts stay began log p key n legal kept whole h counts =
     subst (λ k. IsNumber (after began began.plain log) key ((n + k) % (2 ^ 64))) (kept.whole whole (counts_up key))

@@ -1,5 +1,5 @@
 -- Which decisions are the plain machine's: those that take a state on by one shelf and the desk.
-use Rattle.std.proofs.Common.{◌≡◌, ◌≢◌, inl, inr, Bool, true, false, true≢false, Option, ℕ, ◌+◌, ◌<◌, List, [], ◌∷◌, Result, Ok, Err, sym, refl, ap, ◌∙◌, subst, arith}
+use Rattle.std.proofs.Common.{◌≡◌, ◌≢◌, inl, inr, Bool, true, false, true≢false, Option, ℕ, ◌<◌, List, [], ◌∷◌, Result, Err, sym, refl, ap, ◌∙◌, subst, arith}
 use Rattle.mc_command.specs.Plain.{Plain, Entry as Item, alive, row_of}
 use Rattle.mc_command.specs.declared.step.KeyStep.{KeyStep}
 use Rattle.mc_command.specs.declared.reply.Reply.{Reply}
@@ -13,10 +13,9 @@ use Rattle.mc_shelf.specs.declared.plan.Next.{Next}
 use Rattle.mc_shelf.specs.Plans.{IsSpent, LookTakesMemory, NeedsPage, is_gone, next_by, next_of, row_at, writes}
 use Rattle.mc_shelf.specs.Parts.{IsShelfOf, IsDeskOf, GoesTo, GoesByStep, GoesWithoutDesk}
 use Rattle.mc_shared.specs.Bays.{Content, OfShelf, OfDesk}
-use Rattle.mc_shared.specs.Sums.{total}
-use Rattle.mc_shared.specs.History.{Start, What, Stepped, shelf_in, left_by, next, after, IsRight}
+use Rattle.mc_shared.specs.History.{Beginning, Operation, Stepped, shelf_in, left_by, next, after, IsRight}
 use Rattle.mc_shared.specs.Rule.{Fits, AllFit, KeepsLimits, holds_bay}
-use Rattle.mc_shared.specs.View.{Knows}
+use Rattle.mc_shared.specs.View.{SeatView}
 use Rattle.mc_shared.specs.Steps.{Decides, Fitted}
 use Rattle.mc_command.specs.declared.step.StepFault.{StepFault}
 use Rattle.mc_command.specs.declared.step.StepFault.TheVariants.{NoMemory, NumbersSpent}
@@ -30,7 +29,7 @@ other_bay b c x none same =
     let one : holds_bay c (b, x) ≡ 1 = ap (λ k. holds_bay k (b, x)) same ∙ here b x in
     omega (arith, none, one)
 
-module _ (start : Start) (at : ℕ) where
+module _ (start : Beginning) (at : ℕ) where
   abbrev pub Goes : (old new : Plain) → ShelfContent → DeskState → Type 0
   Goes = GoesTo start.hash_of start.shelves at
 
@@ -49,7 +48,7 @@ module _ (start : Start) (at : ℕ) where
   module _ (f f' : ShelfContent) (step : KeyStep) (now : ℕ) (reply : Reply)
       (alone : (m : Plain) → IsPart m f
       → GoesWithoutDesk start.hash_of start.shelves at step now m reply f') where
-    abbrev what : What
+    abbrev what : Operation
     what = Stepped step now reply
 
     goes_alone : (m : Plain) → IsPart m f → (d : DeskState) → IsDeskOf m d
@@ -81,9 +80,23 @@ module _ (start : Start) (at : ℕ) where
           settled_else m h.0.1 c z (other_bay at c (OfShelf f) (omega (arith, none))) fits;
     }
 
+  -- ---- decided by giving back the shelf, where that leaves the state as it is
+
+  pub changes_nothing : (f : ShelfContent) (operation : Operation)
+      → ((m : Plain) → IsPart m f → IsRight m operation × (next start m operation ≡ m)) → at < start.shelves
+      → Decides start ((at, OfShelf f) ∷ []) at (OfShelf f) operation []
+  changes_nothing f operation same low = record {
+    places = λ c. refl;
+    right = λ m h. (same m h.0.1).0;
+    limits = λ m h. subst (KeepsLimits start) (sym (same m h.0.1).1);
+    given = λ m h. subst (λ n. Fits start n at (OfShelf f)) (sym (same m h.0.1).1) h.0;
+    kept = λ m h. tt;
+    others = λ m h c z none. subst (λ n. Fits start n c z) (sym (same m h.0.1).1);
+  }
+
   -- ---- decided by giving back the desk, while the shelf is held
 
-  module _ (f f' : ShelfContent) (d d' : DeskState) (what : What)
+  module _ (f f' : ShelfContent) (d d' : DeskState) (what : Operation)
       (right : (m : Plain) → IsPart m f → IsDeskOf m d → IsRight m what)
       (goes : (m : Plain) → IsPart m f → IsDeskOf m d → Goes m (next start m what) f' d') where
     abbrev both : List (ℕ × Content)
@@ -125,7 +138,7 @@ module _ (start : Start) (at : ℕ) where
       (by_step m part desk).goes)
 
 -- a state that a shelf and a desk fit
-pub stands : (start : Start) (m : Plain) (at : ℕ) (f : ShelfContent) (d : DeskState)
+pub stands : (start : Beginning) (m : Plain) (at : ℕ) (f : ShelfContent) (d : DeskState)
     (key : List ℕ) → shelf_in start key ≡ at → IsShelfOf start.hash_of start.shelves m at f
     → IsDeskOf m d → IsAt key f d m
 stands start m at f d key own part desk = record {
@@ -139,8 +152,8 @@ stands start m at f d key own part desk = record {
 }
 
 -- a shelf and a desk that are held stand for a state
-pub can_stand : (start : Start) (at : ℕ) (f : ShelfContent) (d : DeskState) (key : List ℕ)
-    → shelf_in start key ≡ at → (v : Knows)
+pub can_stand : (start : Beginning) (at : ℕ) (f : ShelfContent) (d : DeskState) (key : List ℕ)
+    → shelf_in start key ≡ at → (v : SeatView)
     → v.bays ≡ (start.shelves, OfDesk d) ∷ (at, OfShelf f) ∷ [] → Fitted start v
     → CanStand key f d
 can_stand start at f d key own v is fitted =
@@ -150,7 +163,7 @@ can_stand start at f d key own v is fitted =
     record { plain = m; stands = stands start m at f d key own fits.1.0.1 fits.0.1 }
 
 -- they are parts of some state
-pub part_held : (start : Start) (at : ℕ) (f : ShelfContent) (d : DeskState) (v : Knows)
+pub part_held : (start : Beginning) (at : ℕ) (f : ShelfContent) (d : DeskState) (v : SeatView)
     → v.bays ≡ (start.shelves, OfDesk d) ∷ (at, OfShelf f) ∷ [] → Fitted start v
     → (hash_of : List ℕ → ℕ) × (shelves : ℕ) × (place : ℕ) × (m : Plain)
     × IsShelfOf hash_of shelves m place f × IsDeskOf m d
@@ -161,8 +174,8 @@ part_held start at f d v is fitted =
     (start.hash_of, start.shelves, at, m, fits.1.0.1, fits.0.1)
 
 -- a shelf that is held has each of its keys with the key's hash
-pub held_hash : (start : Start) (at : ℕ) (f : ShelfContent) (below : List (ℕ × Content))
-    (v : Knows) → v.bays ≡ (at, OfShelf f) ∷ below → Fitted start v
+pub held_hash : (start : Beginning) (at : ℕ) (f : ShelfContent) (below : List (ℕ × Content))
+    (v : SeatView) → v.bays ≡ (at, OfShelf f) ∷ below → Fitted start v
     → (key : List ℕ) → IsHash f key (start.hash_of key)
 held_hash start at f below v is fitted =
     let m : Plain = after start start.plain fitted.log in
@@ -170,8 +183,8 @@ held_hash start at f below v is fitted =
     fits.0.1.hashes
 
 -- where the numbers of a shelf and a desk that are held are spent, they are after some history
-pub spent_after : (start : Start) (at : ℕ) (f : ShelfContent) (d : DeskState) (step : KeyStep)
-    (now : ℕ) → shelf_in start (key_of step) ≡ at → (v : Knows)
+pub spent_after : (start : Beginning) (at : ℕ) (f : ShelfContent) (d : DeskState) (step : KeyStep)
+    (now : ℕ) → shelf_in start (key_of step) ≡ at → (v : SeatView)
     → v.bays ≡ (start.shelves, OfDesk d) ∷ (at, OfShelf f) ∷ [] → Fitted start v
     → IsSpent step now f d → IsSpentAfter start v.past step now
 spent_after start at f d step now own v is fitted spent =
@@ -214,8 +227,8 @@ page_takes f step now next desk is needs =
     writes_take f step now (ap writes (sym is ∙ needs.writes_it))
 
 -- where a shelf that is held finds such a row, the state does after some history
-pub wants_after : (start : Start) (at : ℕ) (f : ShelfContent) (step : KeyStep) (now : ℕ)
-    → shelf_in start (key_of step) ≡ at → (v : Knows)
+pub wants_after : (start : Beginning) (at : ℕ) (f : ShelfContent) (step : KeyStep) (now : ℕ)
+    → shelf_in start (key_of step) ≡ at → (v : SeatView)
     → ((m : Plain) → AllFit start m v.bays → IsShelfOf start.hash_of start.shelves m at f)
     → Fitted start v → MayTakeMemory (row_at f step now) → WantsMemoryAfter start v.past step now
 wants_after start at f step now own v part fitted takes =
@@ -230,14 +243,14 @@ wants_after start at f step now own v part fitted takes =
     }
 
 -- what is told of a fault
-pub refuses : (start : Start) (p : Past) (step : KeyStep) (now : ℕ) (result : Result Reply StepFault)
+pub refuses : (start : Beginning) (p : Past) (step : KeyStep) (now : ℕ) (result : Result Reply StepFault)
     (fault : StepFault) → result ≡ Err fault
     → (result ≡ Err NoMemory → WantsMemoryAfter start p step now)
     → (result ≡ Err NumbersSpent → IsSpentAfter start p step now) → Refuses start p step now fault
 refuses start p step now result NoMemory is wants spent = λ _. wants is
 refuses start p step now result NumbersSpent is wants spent = spent is
 
-pub tells : (start : Start) (p : Past) (step : KeyStep) (now : ℕ) (fault : StepFault)
+pub tells : (start : Beginning) (p : Past) (step : KeyStep) (now : ℕ) (fault : StepFault)
     → IsOnKey step → Refuses start p step now fault → May start p step now (told_of fault)
 tells start p step now NoMemory on refused = refused on
 tells start p step now NumbersSpent on refused = refused

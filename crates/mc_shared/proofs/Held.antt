@@ -3,8 +3,8 @@ use Rattle.std.proofs.Common.{◌≡◌, ℕ, List, [], ◌∷◌, None, sym, ap
 use Rattle.atomic_table.specs.Table.{rest}
 use Rattle.mc_shared.specs.Bays.{Content}
 use Rattle.mc_shared.specs.Past.{Past, Lives}
-use Rattle.mc_shared.specs.View.{Knows}
-use Rattle.mc_shared.specs.Steps.{Slot, Mine, holding, newcomer, met, next_name}
+use Rattle.mc_shared.specs.View.{SeatView}
+use Rattle.mc_shared.specs.Steps.{Mine, holding, newcomer, met, next_name}
 use Rattle.mc_shared.proofs.NamedKept.{lives_start, lives_both}
 use Rattle.mc_shared.specs.Store.{holds_one, holds_two}
 
@@ -19,10 +19,10 @@ pub taken_held : (me was : Mine) (b : ℕ) (x : Content) → me ≡ (holding was
 taken_held me was b x e = ((x, top_of me.0.bays (b, x) was.0.bays (ap (λ m. m.0.bays) e)), top_of me.1 (b, None) was.1 (ap (λ m. m.1) e))
 
 -- a seat that was just made, and one that took in another's past
-pub new_rests : (me : Mine) (v : Knows) → me ≡ (newcomer v, []) → (me.1 ≡ []) × (me.0.bays ≡ []) × Lives me.0.past
+pub new_rests : (me : Mine) (v : SeatView) → me ≡ (newcomer v, []) → (me.1 ≡ []) × (me.0.bays ≡ []) × Lives me.0.past
 new_rests me v is = (ap (λ m. m.1) is, ap (λ m. m.0.bays) is, subst (λ (m : Mine). Lives m.0.past) (sym is) (lives_start (next_name v.past) v.past))
 
-pub met_rests : (now me was : Mine) (o : Knows) → now ≡ me → me ≡ (met was.0 o, was.1) → (was.1 ≡ []) × (was.0.bays ≡ []) × Lives was.0.past → (now.1 ≡ []) × (now.0.bays ≡ []) × Lives now.0.past
+pub met_rests : (now me was : Mine) (o : SeatView) → now ≡ me → me ≡ (met was.0 o, was.1) → (was.1 ≡ []) × (was.0.bays ≡ []) × Lives was.0.past → (now.1 ≡ []) × (now.0.bays ≡ []) × Lives now.0.past
 met_rests now me was o same is rests = let e : now ≡ (met was.0 o, was.1) = same ∙ is in
     (ap (λ m. m.1) e ∙ rests.0, ap (λ m. m.0.bays) e ∙ rests.1, subst (λ (m : Mine). Lives m.0.past) (sym e) (lives_both was.0.past o.past rests.2))
 

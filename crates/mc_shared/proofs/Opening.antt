@@ -5,18 +5,17 @@ use lib.ListN.{get_elem?}
 use Rattle.atomic_table.specs.Table.{opening}
 use Rattle.mc_shelf.specs.States.{ShelfState, DeskState}
 use Rattle.mc_shelf.specs.Parts.{ArePartsOf}
-use Rattle.mc_shared.specs.declared.bay.Bay.{Bay}
 use Rattle.mc_shared.specs.declared.bay.Bay.TheVariants.{Shelf, Desk}
-use Rattle.mc_shared.specs.History.{Start, Name}
-use Rattle.mc_shared.specs.View.{Knows, starting}
+use Rattle.mc_shared.specs.History.{Beginning, Name}
+use Rattle.mc_shared.specs.View.{SeatView, starting}
 use Rattle.mc_shared.specs.Past.{Sound, Lives, spent}
 use Rattle.mc_shared.specs.Past as past
-use Rattle.mc_shared.specs.Rule.{Fits, AllFit, Kept}
+use Rattle.mc_shared.specs.Rule.{AllFit, Kept}
 use Rattle.mc_shared.specs.Steps.{Slot}
 use Rattle.mc_shared.specs.Store.{shelf_slot, desk_slot}
 use Rattle.mc_shared.proofs.NamedKept.{sound_start}
 
-only : (P : Knows → Type 0) → P starting → (id : ℕ) (v : Knows) → get_elem? (starting ∷ []) id ≡ some v → P v
+only : (P : SeatView → Type 0) → P starting → (id : ℕ) (v : SeatView) → get_elem? (starting ∷ []) id ≡ some v → P v
 only P h zero v e = subst P (some-injective starting v e) h
 only P h (suc id) v e = absurd (some-ne-none v (sym e))
 
@@ -48,7 +47,7 @@ home_at [] desk (suc b) l = absurd (omega (arith, l))
 home_at (x ∷ xs) desk zero l = inl (x, refl, omega arith, refl)
 home_at (x ∷ xs) desk (suc b) l = ⊎_elim (λ h. inl (h.0, h.1, (let k = h.2 in omega (arith, k)), h.3)) (λ h. inr (ap suc h.0, h.1)) (home_at xs desk b (omega (arith, l)))
 
-pub opens : (began : Start) (shelves : List ShelfState) (desk : DeskState) → ArePartsOf began.hash_of began.plain shelves began.shelves desk
+pub opens : (began : Beginning) (shelves : List ShelfState) (desk : DeskState) → ArePartsOf began.hash_of began.plain shelves began.shelves desk
     → Kept began (opening (replicate (began.shelves + 1) 0) (slots shelves desk) starting)
 opens began shelves desk parts = record {
   log = [];

@@ -1,7 +1,7 @@
 -- Held shelves, and the step that changes them all.
 use Rattle.std.proofs.Common.{◌≡◌, ◌==◌, Bool, true, false, ℕ, zero, suc, ◌+◌, ◌≤◌, ◌<◌, None, Some, List, [], ◌∷◌, ◌++◌, length, slice_get, sym, refl, ap, ◌∙◌, subst, arith}
 use Rattle.atomic_table.specs.Table.{rest}
-use Rattle.std.specs.Prelude.{if◌then◌else◌, take, drop}
+use Rattle.std.specs.Prelude.{if◌then◌else◌, take, drop, slice_set}
 use Rattle.std.proofs.Math.Seq.{take-append_seam}
 use Rattle.std.specs.FinMap.{empty}
 use Rattle.mc_time.specs.Death.{moment_named}
@@ -12,10 +12,10 @@ use Rattle.mc_shelf.specs.States.{ShelfState, DeskState}
 use Rattle.mc_shelf.specs.Parts.{IsShelfOf, ArePartsOf}
 use Rattle.mc_shared.specs.Bays.{Content, OfShelf, OfDesk}
 use Rattle.mc_shared.specs.Sums.{total}
-use Rattle.mc_shared.specs.History.{Start, What, Stepped, after}
+use Rattle.mc_shared.specs.History.{Beginning, Operation, Stepped, after}
 use Rattle.mc_shared.specs.Rule.{Fits, AllFit, KeepsLimits, holds_bay}
 use Rattle.mc_shared.specs.Past.{Past}
-use Rattle.mc_shared.specs.View.{Knows}
+use Rattle.mc_shared.specs.View.{SeatView}
 use Rattle.mc_shared.specs.Steps.{Slot, Mine, without, holding, decided_by, Fitted, Decides}
 use Rattle.mc_shared.specs.Stacks.{stacked_on, stacked, hollow, holds_all}
 use Rattle.mc_shared.specs.Past.{KeptBy}
@@ -48,11 +48,11 @@ same_places n c (x ∷ xs) [] b d l e = absurd (omega (arith, l))
 same_places n c (x ∷ xs) (y ∷ ys) b d l e = same_places (n + 1) c xs ys ((n, OfShelf x.content) ∷ b) ((n, OfShelf y.content) ∷ d) (omega (arith, l)) (ap (λ k. holds_bay c (n, OfShelf x.content) + k) e)
 
 -- shelves that all fit, one after another
-below_fit : (began : Start) (m : Plain) (n : ℕ) (xs : List ShelfState) (below : List (ℕ × Content)) → AllFit began m (stacked_on n xs below) → AllFit began m below
+below_fit : (began : Beginning) (m : Plain) (n : ℕ) (xs : List ShelfState) (below : List (ℕ × Content)) → AllFit began m (stacked_on n xs below) → AllFit began m below
 below_fit began m n [] below h = h
 below_fit began m n (x ∷ xs) below h = (below_fit began m (n + 1) xs ((n, OfShelf x.content) ∷ below) h).1
 
-each_fits : (began : Start) (m : Plain) (n : ℕ) (xs : List ShelfState) (below : List (ℕ × Content)) → AllFit began m (stacked_on n xs below) → (at : ℕ) (x : ShelfState) → slice_get xs at ≡ Some x → IsShelfOf began.hash_of began.shelves m (n + at) x.content
+each_fits : (began : Beginning) (m : Plain) (n : ℕ) (xs : List ShelfState) (below : List (ℕ × Content)) → AllFit began m (stacked_on n xs below) → (at : ℕ) (x : ShelfState) → slice_get xs at ≡ Some x → IsShelfOf began.hash_of began.shelves m (n + at) x.content
 each_fits began m n [] below h at x e = cc
 each_fits began m n (y ∷ xs) below h zero x e = let f = (below_fit began m (n + 1) xs ((n, OfShelf y.content) ∷ below) h).0 in
     let here_it : n ≡ n + 0 = omega arith in subst (λ (t : ℕ × ShelfState). IsShelfOf began.hash_of began.shelves m t.0 t.1.content) (λ i. (here_it i, same_some y x e i)) f.1
@@ -62,7 +62,7 @@ each_fits began m n (y ∷ xs) below h zero x e = let f = (below_fit began m (n 
 each_fits began m n (y ∷ xs) below h (suc at) x e = let next = each_fits began m (n + 1) xs ((n, OfShelf y.content) ∷ below) h at x e in
     let same : n + 1 + at ≡ n + suc at = omega arith in subst (λ k. IsShelfOf began.hash_of began.shelves m k x.content) same next
 
-all_fit : (began : Start) (m : Plain) (n : ℕ) (xs : List ShelfState) (below : List (ℕ × Content)) → n + length xs ≤ began.shelves → ((at : ℕ) (x : ShelfState) → slice_get xs at ≡ Some x → IsShelfOf began.hash_of began.shelves m (n + at) x.content) → AllFit began m below → AllFit began m (stacked_on n xs below)
+all_fit : (began : Beginning) (m : Plain) (n : ℕ) (xs : List ShelfState) (below : List (ℕ × Content)) → n + length xs ≤ began.shelves → ((at : ℕ) (x : ShelfState) → slice_get xs at ≡ Some x → IsShelfOf began.hash_of began.shelves m (n + at) x.content) → AllFit began m below → AllFit began m (stacked_on n xs below)
 all_fit began m n [] below l fits h = h
 all_fit began m n (x ∷ xs) below l fits h =
     all_fit began m (n + 1) xs ((n, OfShelf x.content) ∷ below) (omega (arith, l))
@@ -70,15 +70,15 @@ all_fit began m n (x ∷ xs) below l fits h =
     ((omega (arith, l), (let same : n + 0 ≡ n = omega arith in subst (λ k. IsShelfOf began.hash_of began.shelves m k x.content) same (fits 0 x refl))), h)
 
 -- with all shelves held and the desk, what is held are the parts of the state
-pub parts_held : (began : Start) (m : Plain) (xs : List ShelfState) (d : DeskState) → length xs ≡ began.shelves → 0 < began.shelves → AllFit began m ((began.shelves, OfDesk d) ∷ stacked xs) → ArePartsOf began.hash_of m xs began.shelves d
+pub parts_held : (began : Beginning) (m : Plain) (xs : List ShelfState) (d : DeskState) → length xs ≡ began.shelves → 0 < began.shelves → AllFit began m ((began.shelves, OfDesk d) ∷ stacked xs) → ArePartsOf began.hash_of m xs began.shelves d
 parts_held began m xs d all some h = record { number = all; some_shelf = some; each = λ at x e. (let f = each_fits began m 0 xs [] h.1 at x e in let same : 0 + at ≡ at = omega arith in subst (λ k. IsShelfOf began.hash_of began.shelves m k x.content) same f); account = h.0.1 }
 
-none_else : (began : Start) (m : Plain) (xs : List ShelfState) (d : DeskState) (c : ℕ) (z : Content) → length xs ≡ began.shelves → total (holds_bay c) ((began.shelves, OfDesk d) ∷ stacked xs) ≡ 0 → Fits began m c z → ⊥
+none_else : (began : Beginning) (m : Plain) (xs : List ShelfState) (d : DeskState) (c : ℕ) (z : Content) → length xs ≡ began.shelves → total (holds_bay c) ((began.shelves, OfDesk d) ∷ stacked xs) ≡ 0 → Fits began m c z → ⊥
 none_else began m xs d c (OfShelf f) all none fits = let l = fits.0 in let has = has_on 0 c xs [] (omega arith) (omega (arith, l, all)) in omega (arith, none, has)
 none_else began m xs d c (OfDesk k) all none fits = let one : holds_bay c (began.shelves, OfDesk d) ≡ 1 = ap (λ k. holds_bay k (began.shelves, OfDesk d)) fits.0 ∙ here began.shelves (OfDesk d) in omega (arith, none, one)
 
 -- a flush leaves the greatest charge and the limit, at once or later
-flushed_limits : (began : Start) (m : Plain) (delay now : ℕ) → KeepsLimits began m → KeepsLimits began (flushed delay m now)
+flushed_limits : (began : Beginning) (m : Plain) (delay now : ℕ) → KeepsLimits began m → KeepsLimits began (flushed delay m now)
 flushed_limits began m delay now keeps = record {
   greatest = either_greatest (delay == 0) m (record m { items = empty; cut = None }) (record m { items = living m.items m.cut now; cut = Some (moment_named delay now) }) refl refl ∙ keeps.greatest;
   limit = either_limit (delay == 0) m (record m { items = empty; cut = None }) (record m { items = living m.items m.cut now; cut = Some (moment_named delay now) }) refl refl ∙ keeps.limit;
@@ -93,7 +93,7 @@ flushed_limits began m delay now keeps = record {
     either_limit false m a b e d = d
 
 -- with all shelves held, the desk decides a flush
-pub flushes : (began : Start) (xs ys : List ShelfState) (d d' : DeskState) (delay now : ℕ) → length xs ≡ began.shelves → 0 < began.shelves → length ys ≡ length xs
+pub flushes : (began : Beginning) (xs ys : List ShelfState) (d d' : DeskState) (delay now : ℕ) → length xs ≡ began.shelves → 0 < began.shelves → length ys ≡ length xs
     → ((m : Plain) → ArePartsOf began.hash_of m xs began.shelves d → ArePartsOf began.hash_of (flushed delay m now) ys began.shelves d')
     → Decides began ((began.shelves, OfDesk d) ∷ stacked xs) began.shelves (OfDesk d') (Stepped (Flush delay) now Flushed) (stacked ys)
 flushes began xs ys d d' delay now all some same parts = record {
@@ -121,6 +121,30 @@ without_top m p xs x is = ap without (is ∙ top p xs x)
 pub take_top : (m m' : Mine) (p : Past) (xs : List ShelfState) (x : ShelfState) (n : ℕ) → m ≡ holds_all p xs → n ≡ length xs → m' ≡ (holding m.0 n (OfShelf x.content), (n, None) ∷ m.1) → m' ≡ holds_all p (xs ++ x ∷ [])
 take_top m m' p xs x n is len got = got ∙ (λ i. (holding (is i).0 (len i) (OfShelf x.content), (len i, None) ∷ (is i).1)) ∙ sym (top p xs x)
 
+-- one more of those that stand side by side, and one fewer
+pub one_more : (xs : List ShelfState) (n : ℕ) (x : ShelfState) → n < length xs → take (suc n) (slice_set xs n x) ≡ take n xs ++ x ∷ []
+one_more [] n x l = absurd (omega (arith, l))
+one_more (y ∷ ys) zero x l = refl
+one_more (y ∷ ys) (suc n) x l = ap (λ (zs : List ShelfState). y ∷ zs) (one_more ys n x (omega (arith, l)))
+
+pub one_fewer : (xs : List ShelfState) (n : ℕ) (x : ShelfState) → slice_get xs n ≡ Some x → take (suc n) xs ≡ take n xs ++ x ∷ []
+one_fewer [] n x e = cc
+one_fewer (y ∷ ys) zero x e = same y x e
+  where
+    same : (a b : ShelfState) → slice_get (a ∷ ys) 0 ≡ Some b → a ∷ [] ≡ b ∷ []
+    same a b e = cc e
+one_fewer (y ∷ ys) (suc n) x e = ap (λ (zs : List ShelfState). y ∷ zs) (one_fewer ys n x e)
+
+pub those_before : (xs : List ShelfState) (n : ℕ) (x : ShelfState) → take n (slice_set xs n x) ≡ take n xs
+those_before [] n x = refl
+those_before (y ∷ ys) zero x = refl
+those_before (y ∷ ys) (suc n) x = ap (λ (zs : List ShelfState). y ∷ zs) (those_before ys n x)
+
+pub so_many : (xs : List ShelfState) (n : ℕ) → n ≤ length xs → n ≡ length (take n xs)
+so_many xs zero l = refl
+so_many [] (suc n) l = absurd (omega (arith, l))
+so_many (y ∷ ys) (suc n) l = ap suc (so_many ys n (omega (arith, l)))
+
 -- shelves that are written back as a whole
 pub written_back : {hash_of : List ℕ → ℕ} {state : Plain} {new : List ShelfState} {count len : ℕ} {desk : DeskState} (old : List ShelfState) → len ≡ count → ArePartsOf hash_of state new count desk
     → ArePartsOf hash_of state (take len (new ++ drop (length new) old)) count desk
@@ -129,7 +153,7 @@ written_back {hash_of} {state} {new} {count} {len} {desk} old all parts =
     (sym (ap (λ n. take n (new ++ drop (length new) old)) (all ∙ sym parts.number) ∙ take-append_seam new (drop (length new) old))) parts
 
 -- all shelves and the desk are the parts of some state
-pub held_parts : (began : Start) (xs : List ShelfState) (d : DeskState) (v : Knows) → v.bays ≡ (began.shelves, OfDesk d) ∷ stacked xs → length xs ≡ began.shelves → 0 < began.shelves → Fitted began v → (hash_of : List ℕ → ℕ) × (m : Plain) × (count : ℕ) × ArePartsOf hash_of m xs count d
+pub held_parts : (began : Beginning) (xs : List ShelfState) (d : DeskState) (v : SeatView) → v.bays ≡ (began.shelves, OfDesk d) ∷ stacked xs → length xs ≡ began.shelves → 0 < began.shelves → Fitted began v → (hash_of : List ℕ → ℕ) × (m : Plain) × (count : ℕ) × ArePartsOf hash_of m xs count d
 held_parts began xs d v is all some fitted = let m : Plain = after began began.plain fitted.log in (began.hash_of, m, began.shelves, parts_held began m xs d all some (subst (AllFit began m) is fitted.fits))
 
 hollow_same : (n : ℕ) (xs ys : List ShelfState) (b d : List (ℕ × Content)) → length xs ≡ length ys → hollow b ≡ hollow d → hollow (stacked_on n xs b) ≡ hollow (stacked_on n ys d)
@@ -139,7 +163,7 @@ hollow_same n (x ∷ xs) [] b d l e = absurd (omega (arith, l))
 hollow_same n (x ∷ xs) (y ∷ ys) b d l e = hollow_same (n + 1) xs ys ((n, OfShelf x.content) ∷ b) ((n, OfShelf y.content) ∷ d) (omega (arith, l)) (ap (λ (hs : List (ℕ × Slot)). (n, None) ∷ hs) e)
 
 -- after the desk has decided, the held shelves have their new content
-pub decided_all : (m m' : Mine) (p : Past) (xs ys : List ShelfState) (x : Content) (n : ℕ) (what : What) → m ≡ (holding (holds_all p xs).0 n x, (n, None) ∷ hollow (stacked xs)) → m' ≡ decided_by m what (stacked ys) → length xs ≡ length ys
+pub decided_all : (m m' : Mine) (p : Past) (xs ys : List ShelfState) (x : Content) (n : ℕ) (what : Operation) → m ≡ (holding (holds_all p xs).0 n x, (n, None) ∷ hollow (stacked xs)) → m' ≡ decided_by m what (stacked ys) → length xs ≡ length ys
     → m' ≡ holds_all m'.0.past ys
 decided_all m m' p xs ys x n what is did same = let eb : m'.0.bays ≡ stacked ys = ap (λ (z : Mine). z.0.bays) did in
     let es : m'.1 ≡ hollow (stacked ys) = ap (λ (z : Mine). z.1) did ∙ (ap (λ (z : Mine). rest z.1) is ∙ hollow_same 0 xs ys [] [] same refl) in
@@ -153,7 +177,7 @@ none_above n c (x ∷ xs) below l = none_above (n + 1) c xs ((n, OfShelf x.conte
 pub not_held : (m : Mine) (p : Past) (xs : List ShelfState) (c : ℕ) → m ≡ holds_all p xs → length xs ≤ c → 1 ≤ total (holds_bay c) m.0.bays → ⊥
 not_held m p xs c is l has = let none : total (holds_bay c) m.0.bays ≡ 0 = ap (λ (z : Mine). total (holds_bay c) z.0.bays) is ∙ none_above 0 c xs [] (omega (arith, l)) in omega (arith, none, has)
 
-pub gathered : (began : Start) (p : Past) (xs : List ShelfState) (d : DeskState) (v : Knows) → v.bays ≡ (began.shelves, OfDesk d) ∷ stacked xs → v.past ≡ p → length xs ≡ began.shelves → 0 < began.shelves → Fitted began v → Gathered began p xs d
+pub gathered : (began : Beginning) (p : Past) (xs : List ShelfState) (d : DeskState) (v : SeatView) → v.bays ≡ (began.shelves, OfDesk d) ∷ stacked xs → v.past ≡ p → length xs ≡ began.shelves → 0 < began.shelves → Fitted began v → Gathered began p xs d
 gathered began p xs d v is same all some fitted = record {
   log = fitted.log;
   legal = fitted.legal;

@@ -12,39 +12,39 @@ use Rattle.mc_shared.specs.declared.bay.Bay.{Bay}
 use Rattle.mc_shared.specs.declared.bay.Bay.TheVariants.{Shelf, Desk}
 use Rattle.mc_shared.specs.Bays.{Content, content_of}
 use Rattle.mc_shared.specs.Sums.{total}
-use Rattle.mc_shared.specs.History.{Start, Entry, What, after, next}
+use Rattle.mc_shared.specs.History.{Beginning, HistoryEntry, Operation, after, next}
 use Rattle.mc_shared.specs.Past.{name_of, Lives, Whole}
-use Rattle.mc_shared.specs.View.{Knows}
+use Rattle.mc_shared.specs.View.{SeatView}
 use Rattle.mc_shared.specs.Rule.{Fits, AllFit, holds_bay, times, Story, Named, Stocked, Kept}
 use Rattle.mc_shared.specs.Steps.{Slot, Mine, IsAt, holding, entry_of, without, decided_by, Agrees, took, gave, decided, looked, Decides, next_name, maker, newcomer, met, gone}
 use Rattle.mc_shared.proofs.StoryKept.{after_snoc, story_same, story_call, story_made, story_both}
 use Rattle.mc_shared.proofs.NamedKept.{total_one, alone, kept_by, named_same, named_call, named_made, named_both}
 use Rattle.mc_shared.proofs.StockedKept.{stocked_take, stocked_give, stocked_same, stocked_snoc, held_word}
 
-pub at_home : (began : Start) (m : Plain) (b : ℕ) (x : Bay) → Fits began m b (content_of x) → IsAt began.shelves b x
+pub at_home : (began : Beginning) (m : Plain) (b : ℕ) (x : Bay) → Fits began m b (content_of x) → IsAt began.shelves b x
 at_home began m b (Shelf f) h = h.0
 at_home began m b (Desk n) h = h.0
 
-agrees : (began : Start) (log : List Entry) (views : List Knows) (id : ℕ) (v : Knows) → Story began log views → Named log views → get_elem? views id ≡ some v → Agrees began v.past
+agrees : (began : Beginning) (log : List HistoryEntry) (views : List SeatView) (id : ℕ) (v : SeatView) → Story began log views → Named log views → get_elem? views id ≡ some v → Agrees began v.past
 agrees began log views id v s n at = record { log = log; legal = s.legal; keeps = kept_by began log views s n id v at }
 
-get_below : (views : List Knows) (id : ℕ) (v : Knows) → get_elem? views id ≡ some v → id < length views
+get_below : (views : List SeatView) (id : ℕ) (v : SeatView) → get_elem? views id ≡ some v → id < length views
 get_below [] id v e = absurd (some-ne-none v (sym e))
 get_below (x ∷ xs) zero v e = omega arith
 get_below (x ∷ xs) (suc id) v e = let l = get_below xs id v e in omega (arith, l)
 
 -- where the past is whole, a bay that is taken is held by this seat
-pub whole_holds : (began : Start) (s : State Slot Knows) (k : Kept began s) (id : ℕ) (v : Knows) → get_elem? s.views id ≡ some v → Whole v.past → (b : ℕ) → b < began.shelves + 1 → get_or s.words b 0 ≢ 0 → 1 ≤ times b v
+pub whole_holds : (began : Beginning) (s : State Slot SeatView) (k : Kept began s) (id : ℕ) (v : SeatView) → get_elem? s.views id ≡ some v → Whole v.past → (b : ℕ) → b < began.shelves + 1 → get_or s.words b 0 ≢ 0 → 1 ≤ times b v
 whole_holds began s k id v at whole b l busy = let t = k.stocked.taken b l in
     let mine : total (times b) s.views ≡ times b v = total_one (times b) s.views id v at (λ j u ne a. ⊎_elim
     (λ (lives : Lives u.past). absurd (alone began k.log s.views k.story k.named id v at whole (name_of u.past) j u ne a lives)) (λ (none : u.bays ≡ []). ap (total (holds_bay b)) none) (k.named.idle j u a)) in omega (arith, t, mine, busy)
 
 -- A bay is taken
-pub takes_bay : (began : Start) (slots id b : ℕ) (me : Mine) → b < began.shelves + 1 → Lives me.0.past → Allows (Kept began) slots id me b (λ n. either (eqb n 0) 1 n) (took began (step slots b 0 1 none) me)
-takes_bay began slots id b me l lives s k deep at small = let n : ℕ = get_or s.words b 0 in let v : Knows = me.0 in
-    let F : ℕ → Type 0 = λ y. (w : Knows) × (a : Act Slot) × Valid s.homes me.1 a × Kept began (stepped s b y id me.1 w a) × took began (step slots b 0 1 none) me n (w, carried_after me.1 a) in
+pub takes_bay : (began : Beginning) (slots id b : ℕ) (me : Mine) → b < began.shelves + 1 → Lives me.0.past → Allows (Kept began) slots id me b (λ n. either (eqb n 0) 1 n) (took began (step slots b 0 1 none) me)
+takes_bay began slots id b me l lives s k deep at small = let n : ℕ = get_or s.words b 0 in let v : SeatView = me.0 in
+    let F : ℕ → Type 0 = λ y. (w : SeatView) × (a : Act Slot) × Valid s.homes me.1 a × Kept began (stepped s b y id me.1 w a) × took began (step slots b 0 1 none) me n (w, carried_after me.1 a) in
     exchanged n 0 1 F
-    (λ free. let was = k.stocked.home b l free in let x : Bay = was.0 in let w : Knows = holding v b (content_of x) in (
+    (λ free. let was = k.stocked.home b l free in let x : Bay = was.0 in let w : SeatView = holding v b (content_of x) in (
       w,
       takes b (Some x),
       was.1,
@@ -60,7 +60,7 @@ takes_bay began slots id b me l lives s k deep at small = let n : ℕ = get_or s
       v,
       keeps,
       tt,
-      subst (λ (z : List ℕ × List Knows). Kept began record { words = z.0; homes = s.homes; views = z.1 }) (λ i. (sym (set-get_or s.words b 0) i, sym (set_again s.views id v at) i)) k,
+      subst (λ (z : List ℕ × List SeatView). Kept began record { words = z.0; homes = s.homes; views = z.1 }) (λ i. (sym (set-get_or s.words b 0) i, sym (set_again s.views id v at) i)) k,
       ((λ free. absurd (busy free)), (λ ne. (omega (arith, low, ne), refl, λ whole. whole_holds began s k id v at whole b l ne))),
     ))
 
@@ -68,9 +68,9 @@ abbrev Home : Type 0
 Home = List (maybe.Option Slot)
 
 -- A bay is given back, and nothing is decided
-pub gives_bay : (began : Start) (slots id b : ℕ) (x : Bay) (me : Mine) → me.0.bays ≡ (b, content_of x) ∷ rest me.0.bays → me.1 ≡ (b, Some x) ∷ rest me.1
+pub gives_bay : (began : Beginning) (slots id b : ℕ) (x : Bay) (me : Mine) → me.0.bays ≡ (b, content_of x) ∷ rest me.0.bays → me.1 ≡ (b, Some x) ∷ rest me.1
     → Allows (Kept began) slots id me b (λ _. 0) (λ _. gave began (step slots b 0 0 none) me 0)
-gives_bay began slots id b x me is out s k deep at small = let v : Knows = me.0 in let m : Plain = after began began.plain k.log in let w : Knows = (without me).0 in
+gives_bay began slots id b x me is out s k deep at small = let v : SeatView = me.0 in let m : Plain = after began began.plain k.log in let w : SeatView = (without me).0 in
     let fits : AllFit began m ((b, content_of x) ∷ rest v.bays) = subst (AllFit began m) is (k.stocked.out id v at) in (
       w,
       gives,
@@ -85,15 +85,15 @@ gives_bay began slots id b x me is out s k deep at small = let v : Knows = me.0 
     )
 
 -- A bay is given back, and a step is decided
-pub decides_bay : (began : Start) (slots id b : ℕ) (x : Content) (y : Bay) (d : What) (still : List (ℕ × Content)) (me : Mine) → me.0.bays ≡ (b, x) ∷ rest me.0.bays → me.1 ≡ (b, Some y) ∷ rest me.1 → Decides began me.0.bays b (content_of y) d still → Lives me.0.past
+pub decides_bay : (began : Beginning) (slots id b : ℕ) (x : Content) (y : Bay) (d : Operation) (still : List (ℕ × Content)) (me : Mine) → me.0.bays ≡ (b, x) ∷ rest me.0.bays → me.1 ≡ (b, Some y) ∷ rest me.1 → Decides began me.0.bays b (content_of y) d still → Lives me.0.past
     → Allows (Kept began) slots id me b (λ n. either (eqb n 1) 0 n) (decided began d still (step slots b 1 0 none) me)
-decides_bay began slots id b x y d still me is out right lives s k deep at small = let v : Knows = me.0 in let m : Plain = after began began.plain k.log in let m' : Plain = next began m d in
-    let w : Knows = (decided_by me d still).0 in let e : Entry = entry_of v.past d in let n : ℕ = get_or s.words b 0 in
+decides_bay began slots id b x y d still me is out right lives s k deep at small = let v : SeatView = me.0 in let m : Plain = after began began.plain k.log in let m' : Plain = next began m d in
+    let w : SeatView = (decided_by me d still).0 in let e : HistoryEntry = entry_of v.past d in let n : ℕ = get_or s.words b 0 in
     let fits : AllFit began m v.bays = k.stocked.out id v at in
     let one : n ≡ 1 = held_word began m s.words s.homes s.views id b v x (rest v.bays) k.stocked at is in
     let story : Story began (k.log ++ e ∷ []) (set s.views id w) = story_call began k.log s.views id v w e k.story at refl (right.right m fits) in
     let named : Named (k.log ++ e ∷ []) (set s.views id w) = named_call began k.log s.views id v w d k.story k.named at refl lives in
-    let F : ℕ → Type 0 = λ z. (w : Knows) × (a : Act Slot) × Valid s.homes me.1 a × Kept began (stepped s b z id me.1 w a) × decided began d still (step slots b 1 0 none) me n (w, carried_after me.1 a) in
+    let F : ℕ → Type 0 = λ z. (w : SeatView) × (a : Act Slot) × Valid s.homes me.1 a × Kept began (stepped s b z id me.1 w a) × decided began d still (step slots b 1 0 none) me n (w, carried_after me.1 a) in
     exchanged n 1 0 F
     (λ _. (
       w,
@@ -111,8 +111,8 @@ decides_bay began slots id b x y d still me is out right lives s k deep at small
     (λ ne. absurd (ne one))
 
 -- A seat is split
-pub splits_seat : (began : Start) (id : ℕ) (v : Knows) → Lives v.past → Splits (Kept began) id v (maker v) (newcomer v)
-splits_seat began id v lives s k at = let w : Knows = maker v in let u : Knows = newcomer v in record {
+pub splits_seat : (began : Beginning) (id : ℕ) (v : SeatView) → Lives v.past → Splits (Kept began) id v (maker v) (newcomer v)
+splits_seat began id v lives s k at = let w : SeatView = maker v in let u : SeatView = newcomer v in record {
   log = k.log;
   story = story_made began k.log s.views id v w u (next_name v.past) k.story at refl refl;
   named = named_made began k.log s.views id v w u k.story k.named at refl refl lives refl;
@@ -120,8 +120,8 @@ splits_seat began id v lives s k at = let w : Knows = maker v in let u : Knows =
 }
 
 -- Two seats meet, and the second holds no bay
-pub joins_seats : (began : Start) (id other : ℕ) (v o : Knows) → o.bays ≡ [] → Joins (Kept began) id v other o (met v o) gone
-joins_seats began id other v o bare s k at ne far = let w : Knows = met v o in let u : Knows = gone in
+pub joins_seats : (began : Beginning) (id other : ℕ) (v o : SeatView) → o.bays ≡ [] → Joins (Kept began) id v other o (met v o) gone
+joins_seats began id other v o bare s k at ne far = let w : SeatView = met v o in let u : SeatView = gone in
     let far' : get_elem? s.views other ≡ some o = ⊎_elim (λ (t : (other ≡ id) × (w ≡ o)). absurd (ne t.0)) (λ (t : (other ≢ id) × (get_elem? s.views other ≡ some o)). t.1) (at_set s.views id other w o far) in record {
       log = k.log;
       story = story_both began k.log s.views id other v w o u k.story at far far' refl refl;
@@ -130,11 +130,11 @@ joins_seats began id other v o bare s k at ne far = let w : Knows = met v o in l
     }
 
 -- a load that changes nothing, and tells that a history keeps the past
-pub looks_at : (began : Start) (slots id b : ℕ) (me : Mine) → Allows (Kept began) slots id me b (λ n. n) (looked began (step slots b 0 0 none) me)
+pub looks_at : (began : Beginning) (slots id b : ℕ) (me : Mine) → Allows (Kept began) slots id me b (λ n. n) (looked began (step slots b 0 0 none) me)
 looks_at began slots id b me s k deep at small = (
   me.0,
   keeps,
   tt,
-  subst (λ (z : List ℕ × List Knows). Kept began record { words = z.0; homes = s.homes; views = z.1 }) (λ i. (sym (set-get_or s.words b 0) i, sym (set_again s.views id me.0 at) i)) k,
+  subst (λ (z : List ℕ × List SeatView). Kept began record { words = z.0; homes = s.homes; views = z.1 }) (λ i. (sym (set-get_or s.words b 0) i, sym (set_again s.views id me.0 at) i)) k,
   (refl, agrees began k.log s.views id me.0 k.story k.named at),
 )

@@ -10,8 +10,8 @@ use Rattle.mc_shared.specs.declared.bay.Bay.{Bay}
 use Rattle.mc_shared.specs.Bays.{Content, OfShelf, OfDesk, content_of}
 use Rattle.mc_shared.specs.Sums.{total}
 use Rattle.mc_command.specs.Plain.{Plain}
-use Rattle.mc_shared.specs.History.{Start}
-use Rattle.mc_shared.specs.View.{Knows}
+use Rattle.mc_shared.specs.History.{Beginning}
+use Rattle.mc_shared.specs.View.{SeatView}
 use Rattle.mc_shared.specs.Rule.{Fits, AllFit, KeepsLimits, holds_bay, times, Stocked}
 use Rattle.mc_shared.proofs.Sums.{sum_set, sum_one, sum_two, total-append}
 
@@ -21,12 +21,12 @@ here b x = ap (λ t. cond t 1 0) (eq-eqb b b refl)
 pub elsewhere : (b c : ℕ) (x : Content) → c ≢ b → holds_bay c (b, x) ≡ 0
 elsewhere b c x ne = ap (λ t. cond t 1 0) (ne_eqb c b ne)
 
-pub inside : (began : Start) (m : Plain) (b : ℕ) (x : Content) → Fits began m b x → b < began.shelves + 1
+pub inside : (began : Beginning) (m : Plain) (b : ℕ) (x : Content) → Fits began m b x → b < began.shelves + 1
 inside began m b (OfShelf f) h = let l = h.0 in omega (arith, l)
 inside began m b (OfDesk n) h = let l = h.0 in omega (arith, l)
 
 -- what fits still fits, where each bay in the list may be told so
-pub all_still : (began : Start) (m m' : Plain) (xs : List (ℕ × Content)) → ((b : ℕ) (x : Content) → 1 ≤ total (holds_bay b) xs → Fits began m b x → Fits began m' b x) → AllFit began m xs → AllFit began m' xs
+pub all_still : (began : Beginning) (m m' : Plain) (xs : List (ℕ × Content)) → ((b : ℕ) (x : Content) → 1 ≤ total (holds_bay b) xs → Fits began m b x → Fits began m' b x) → AllFit began m xs → AllFit began m' xs
 all_still began m m' [] keep h = tt
 all_still began m m' (x ∷ xs) keep h = (
   keep x.0 x.1 (let one = here x.0 x.1 in omega (arith, one)) h.0,
@@ -34,12 +34,12 @@ all_still began m m' (x ∷ xs) keep h = (
 )
 
 -- the bays of one seat are no other's
-pub apart : (began : Start) (m : Plain) (words : List ℕ) (homes : List (maybe.Option (Option Bay))) (views : List Knows) (id j : ℕ) (v u : Knows) (b : ℕ) → Stocked began m words homes views
+pub apart : (began : Beginning) (m : Plain) (words : List ℕ) (homes : List (maybe.Option (Option Bay))) (views : List SeatView) (id j : ℕ) (v u : SeatView) (b : ℕ) → Stocked began m words homes views
     → id ≢ j → get_elem? views id ≡ some v → get_elem? views j ≡ some u → b < began.shelves + 1 → 1 ≤ times b u → times b v ≡ 0
 apart began m words homes views id j v u b s ne at other l has = let two = sum_two (times b) views id j v u ne at other in let t = s.taken b l in let low = s.low b l in omega (arith, two, t, low, has)
 
 -- a free bay is taken: its word was 0
-pub stocked_take : (began : Start) (m : Plain) (words : List ℕ) (homes : List (maybe.Option (Option Bay))) (views : List Knows) (id b : ℕ) (v w : Knows) (x : Content) → Stocked began m words homes views
+pub stocked_take : (began : Beginning) (m : Plain) (words : List ℕ) (homes : List (maybe.Option (Option Bay))) (views : List SeatView) (id b : ℕ) (v w : SeatView) (x : Content) → Stocked began m words homes views
     → get_elem? views id ≡ some v → b < began.shelves + 1 → get_or words b 0 ≡ 0 → w.bays ≡ (b, x) ∷ v.bays → Fits began m b x → Stocked began m (set words b 1) (set homes b none) (set views id w)
 stocked_take began m words homes views id b v w x s at l zero_here is fits = record {
   wide = length-set words b 1 ∙ s.wide;
@@ -57,12 +57,12 @@ stocked_take began m words homes views id b v w x s at l zero_here is fits = rec
       let now : get_or (set words b 1) c 0 ≡ 1 = ap (λ k. get_or (set words k 1) c 0) (sym e) ∙ get_or-set_same words c 1 0 lw in absurd (omega (arith, now, free)))
       (λ ne. let was = s.home c lc (sym (get_or-set_other words b c 1 0 ne) ∙ free) in (was.0, set_else homes b c none ne ∙ was.1, was.2));
   limits = s.limits;
-  out = λ j u e. ⊎_elim (λ (t : (j ≡ id) × (w ≡ u)). subst (λ (z : Knows). AllFit began m z.bays) t.1 (subst (AllFit began m) (sym is) (fits, s.out id v at)))
+  out = λ j u e. ⊎_elim (λ (t : (j ≡ id) × (w ≡ u)). subst (λ (z : SeatView). AllFit began m z.bays) t.1 (subst (AllFit began m) (sym is) (fits, s.out id v at)))
       (λ (t : (j ≢ id) × (get_elem? views j ≡ some u)). s.out j u t.1) (at_set views id j w u e);
 }
 
 -- a bay is given back, perhaps with a decision: the items are m' from then on
-pub stocked_give : (began : Start) (m m' : Plain) (words : List ℕ) (homes : List (maybe.Option (Option Bay))) (views : List Knows) (id b : ℕ) (v w : Knows) (x : Content) (x' : Bay) (xs : List (ℕ × Content)) → Stocked began m words homes views
+pub stocked_give : (began : Beginning) (m m' : Plain) (words : List ℕ) (homes : List (maybe.Option (Option Bay))) (views : List SeatView) (id b : ℕ) (v w : SeatView) (x : Content) (x' : Bay) (xs : List (ℕ × Content)) → Stocked began m words homes views
     → get_elem? views id ≡ some v → v.bays ≡ (b, x) ∷ xs → ((c : ℕ) → times c w ≡ total (holds_bay c) xs) → Fits began m' b (content_of x') → AllFit began m' w.bays
     → ((c : ℕ) (y : Content) → times c v ≡ 0 → Fits began m c y → Fits began m' c y) → KeepsLimits began m' → Stocked began m' (set words b 0) (set homes b (some (Some x'))) (set views id w)
 stocked_give began m m' words homes views id b v w x x' xs s at is rests fits kept others limits = let l : b < began.shelves + 1 = inside began m' b (content_of x') fits in let lw : b < length words = let e2 = s.wide in omega arith in let lh : b < length homes = let e2 = s.deep in omega arith in
@@ -84,18 +84,18 @@ stocked_give began m m' words homes views id b v w x x' xs s at is rests fits ke
           let not_mine : times c v ≡ 0 = (let o = sum_one (times c) views id v at in let t = s.taken c lc in omega (arith, o, t, free')) in
           (was.0, set_else homes b c (some (Some x')) ne ∙ was.1, others c (content_of was.0) not_mine was.2));
       limits = limits;
-      out = λ j u e. ⊎_elim (λ (t : (j ≡ id) × (w ≡ u)). subst (λ (z : Knows). AllFit began m' z.bays) t.1 kept)
+      out = λ j u e. ⊎_elim (λ (t : (j ≡ id) × (w ≡ u)). subst (λ (z : SeatView). AllFit began m' z.bays) t.1 kept)
           (λ (t : (j ≢ id) × (get_elem? views j ≡ some u)). all_still began m m' u.bays (λ c y has fc. others c y (apart began m words homes views id j v u c s (λ h. t.0 (sym h)) at t.1 (inside began m c y fc) has) fc) (s.out j u t.1)) (at_set views id j w u e);
     }
 
 -- the word of a bay that is held is 1
-pub held_word : (began : Start) (m : Plain) (words : List ℕ) (homes : List (maybe.Option (Option Bay))) (views : List Knows) (id b : ℕ) (v : Knows) (x : Content) (xs : List (ℕ × Content)) → Stocked began m words homes views
+pub held_word : (began : Beginning) (m : Plain) (words : List ℕ) (homes : List (maybe.Option (Option Bay))) (views : List SeatView) (id b : ℕ) (v : SeatView) (x : Content) (xs : List (ℕ × Content)) → Stocked began m words homes views
     → get_elem? views id ≡ some v → v.bays ≡ (b, x) ∷ xs → get_or words b 0 ≡ 1
 held_word began m words homes views id b v x xs s at is = let fit : Fits began m b x = (subst (AllFit began m) is (s.out id v at)).0 in let l = inside began m b x fit in let t = s.taken b l in let low = s.low b l in let o = sum_one (times b) views id v at in
     let has : times b v ≡ holds_bay b (b, x) + total (holds_bay b) xs = ap (total (holds_bay b)) is in let one = here b x in omega (arith, t, low, o, has, one)
 
 -- a seat goes on with the same bays, and another may begin with none
-pub stocked_same : (began : Start) (m : Plain) (words : List ℕ) (homes : List (maybe.Option (Option Bay))) (views : List Knows) (id : ℕ) (v w : Knows) → Stocked began m words homes views
+pub stocked_same : (began : Beginning) (m : Plain) (words : List ℕ) (homes : List (maybe.Option (Option Bay))) (views : List SeatView) (id : ℕ) (v w : SeatView) → Stocked began m words homes views
     → get_elem? views id ≡ some v → w.bays ≡ v.bays → Stocked began m words homes (set views id w)
 stocked_same began m words homes views id v w s at same = record {
   wide = s.wide;
@@ -104,11 +104,11 @@ stocked_same began m words homes views id v w s at same = record {
   taken = λ c lc. let t = s.taken c lc in let moved = sum_set (times c) views id v w at in let e : times c w ≡ times c v = ap (total (holds_bay c)) same in omega (arith, t, moved, e);
   home = s.home;
   limits = s.limits;
-  out = λ j u e. ⊎_elim (λ (t : (j ≡ id) × (w ≡ u)). subst (λ (z : Knows). AllFit began m z.bays) t.1 (subst (AllFit began m) (sym same) (s.out id v at)))
+  out = λ j u e. ⊎_elim (λ (t : (j ≡ id) × (w ≡ u)). subst (λ (z : SeatView). AllFit began m z.bays) t.1 (subst (AllFit began m) (sym same) (s.out id v at)))
       (λ (t : (j ≢ id) × (get_elem? views j ≡ some u)). s.out j u t.1) (at_set views id j w u e);
 }
 
-pub stocked_snoc : (began : Start) (m : Plain) (words : List ℕ) (homes : List (maybe.Option (Option Bay))) (views : List Knows) (u : Knows) → Stocked began m words homes views → u.bays ≡ [] → Stocked began m words homes (views ++ u ∷ [])
+pub stocked_snoc : (began : Beginning) (m : Plain) (words : List ℕ) (homes : List (maybe.Option (Option Bay))) (views : List SeatView) (u : SeatView) → Stocked began m words homes views → u.bays ≡ [] → Stocked began m words homes (views ++ u ∷ [])
 stocked_snoc began m words homes views u s bare = record {
   wide = s.wide;
   deep = s.deep;
@@ -116,5 +116,5 @@ stocked_snoc began m words homes views u s bare = record {
   taken = λ c lc. let t = s.taken c lc in let e : times c u ≡ 0 = ap (total (holds_bay c)) bare in omega (arith, t, e, total-append (times c) views (u ∷ []));
   home = s.home;
   limits = s.limits;
-  out = λ j x e. ⊎_elim (s.out j x) (λ (a : u ≡ x). subst (λ (z : Knows). AllFit began m z.bays) a (subst (AllFit began m) (sym bare) tt)) (at_snoc views u x j e);
+  out = λ j x e. ⊎_elim (s.out j x) (λ (a : u ≡ x). subst (λ (z : SeatView). AllFit began m z.bays) a (subst (AllFit began m) (sym bare) tt)) (at_snoc views u x j e);
 }

@@ -8,12 +8,12 @@ use Rattle.mc_shelf.specs.Parts.{shelf_of}
 use Rattle.mc_shelf.specs.Stores.{StoreState}
 
 -- what a store began with: how many shelves, the hash of each key, and the plain machine's state
-pub record Start : Type 0 where
+pub record Beginning : Type 0 where
   pub shelves : ℕ
   pub hash_of : List ℕ → ℕ
   pub plain : Plain
 
-abbrev pub start_of : {K : Type 0} → (K → List ℕ → ℕ) → StoreState K → Start
+abbrev pub start_of : {K : Type 0} → (K → List ℕ → ℕ) → StoreState K → Beginning
 start_of hash_of store = record {
   shelves = store.settings.shelves;
   hash_of = hash_of store.hasher;
@@ -21,13 +21,13 @@ start_of hash_of store = record {
 }
 
 -- the shelf of a key
-abbrev pub shelf_in : Start → List ℕ → ℕ
+abbrev pub shelf_in : Beginning → List ℕ → ℕ
 shelf_in start key = shelf_of start.hash_of start.shelves key
 
 -- a step that was answered at a moment, or a purge of a shelf
-pub data What : Type 0 where
-  Stepped : KeyStep → (now : ℕ) → Reply → What
-  Purged : (shelf now : ℕ) → What
+pub data Operation : Type 0 where
+  Stepped : KeyStep → (now : ℕ) → Reply → Operation
+  Purged : (shelf now : ℕ) → Operation
 
 -- A caller's name, newest first: the first's is empty, another's is how many its maker had made,
 -- and then its maker's.
@@ -35,10 +35,10 @@ abbrev pub Name : Type 0
 Name = List ℕ
 
 -- an entry: whose it is, its number among that caller's, and what was decided
-pub record Entry : Type 0 where
+pub record HistoryEntry : Type 0 where
   pub by : Name
   pub number : ℕ
-  pub what : What
+  pub what : Operation
 
 -- the state that an outcome leaves
 abbrev pub left_by : Plain → Outcome → Plain
@@ -46,21 +46,21 @@ left_by old (Answered reply new) = new
 left_by old Spent = old
 
 -- the state after what was decided
-abbrev pub next : Start → Plain → What → Plain
+abbrev pub next : Beginning → Plain → Operation → Plain
 next start m (Stepped step now reply) = left_by m (plain m step now)
 next start m (Purged shelf now) = purged (λ key. shelf_in start key == shelf) now m
 
 -- the plain machine gives that reply, and is not out of numbers
-abbrev pub IsRight : Plain → What → Type 0
+abbrev pub IsRight : Plain → Operation → Type 0
 IsRight m (Stepped step now reply) = (new : Plain) × (plain m step now ≡ Answered reply new)
 IsRight m (Purged shelf now) = Unit {0}
 
 -- the state after all entries
-abbrev pub after : Start → Plain → List Entry → Plain
+abbrev pub after : Beginning → Plain → List HistoryEntry → Plain
 after start m [] = m
 after start m (e ∷ es) = after start (next start m e.what) es
 
 -- each reply is the plain machine's at its place
-abbrev pub IsLegal : Start → Plain → List Entry → Type 0
+abbrev pub IsLegal : Beginning → Plain → List HistoryEntry → Type 0
 IsLegal start m [] = Unit {0}
 IsLegal start m (e ∷ es) = IsRight m e.what × IsLegal start (next start m e.what) es

@@ -10,27 +10,27 @@ use Rattle.mc_command.specs.declared.reply.Reply.TheVariants.{Stored, Hit, Numbe
 use Rattle.mc_command.specs.Commands.{key_of}
 use Rattle.mc_command.specs.Plain.{Plain, plain, alive, hit_of, number_of, Answered}
 use Rattle.mc_command.specs.Plain.{Entry as Item}
-use Rattle.mc_shared.specs.History.{Start, What, Stepped, Purged, Entry, shelf_in, after}
+use Rattle.mc_shared.specs.History.{Beginning, Operation, Stepped, Purged, HistoryEntry, shelf_in, after}
 use Rattle.mc_shared.specs.Past.{Past, spent, start, call, made, both, same}
 use Rattle.mc_shared.specs.Store.{with_call}
 
 -- ---- where entries stand
 
 -- an entry stands in a history
-abbrev pub StandsIn : List Entry → Entry → Type 0
-StandsIn log e = (before : List Entry) × (rest : List Entry) × (log ≡ before ++ e ∷ rest)
+abbrev pub StandsIn : List HistoryEntry → HistoryEntry → Type 0
+StandsIn log e = (before : List HistoryEntry) × (rest : List HistoryEntry) × (log ≡ before ++ e ∷ rest)
 
 -- an entry stands in a history before another
-pub record StandsBefore (log : List Entry) (first second : Entry) : Type 0 where
-  pub before : List Entry
-  pub between : List Entry
-  pub rest : List Entry
+pub record StandsBefore (log : List HistoryEntry) (first second : HistoryEntry) : Type 0 where
+  pub before : List HistoryEntry
+  pub between : List HistoryEntry
+  pub rest : List HistoryEntry
   pub is : log ≡ before ++ first ∷ between ++ second ∷ rest
 
 -- ---- what a past has
 
 -- a past has an entry, held or seen
-abbrev pub Has : Past → Entry → Type 0
+abbrev pub Has : Past → HistoryEntry → Type 0
 Has spent e = ⊥
 Has (start c seen) e = Has seen e
 Has (call p d) e = (d ≡ e) ⊎ Has p e
@@ -81,12 +81,12 @@ PlainAnswers old (c ∷ cs) =
 -- ---- what is under a key
 
 -- the item under a key after some entries
-abbrev pub item_after : Start → List Entry → List ℕ → Option Item
+abbrev pub item_after : Beginning → List HistoryEntry → List ℕ → Option Item
 item_after began log key = get (after began began.plain log).items key
 
 -- a decision may change the item under a key: a flush, a step on that key unless it is a read that
 -- hits, and a purge of its shelf
-abbrev pub MayChange : Start → List ℕ → What → Type 0
+abbrev pub MayChange : Beginning → List ℕ → Operation → Type 0
 MayChange began key (Stepped (Flush delay) now reply) = Unit {0}
 MayChange began key (Stepped (Read other) now (Hit flags unique block)) = ⊥
 MayChange began key (Stepped step now reply) = key_of step ≡ key
@@ -94,25 +94,25 @@ MayChange began key (Purged shelf now) = shelf_in began key ≡ shelf
 
 -- the reply of a read behind some entries, if this item is under its key: a hit of it, or a miss
 -- where there is none or it is dead at the read's moment
-abbrev pub read_of : Start → List Entry → (now : ℕ) → Option Item → Reply
+abbrev pub read_of : Beginning → List HistoryEntry → (now : ℕ) → Option Item → Reply
 read_of began log now item = hit_of (alive (after began began.plain log).cut now item)
 
 -- A read of a key is told what an entry left: the last before it that may change the key's item.
-pub record IsTold (began : Start) (log : List Entry) (key : List ℕ) (now : ℕ) (reply : Reply)
-    (last read : Entry) : Type 0 where
+pub record IsTold (began : Beginning) (log : List HistoryEntry) (key : List ℕ) (now : ℕ) (reply : Reply)
+    (last read : HistoryEntry) : Type 0 where
   pub places : StandsBefore log last read
   pub changes : MayChange began key last.what
-  pub spared : (e : Entry) → StandsIn places.between e → MayChange began key e.what → ⊥
+  pub spared : (e : HistoryEntry) → StandsIn places.between e → MayChange began key e.what → ⊥
   pub told : reply ≡ read_of began (places.before ++ last ∷ places.between) now
       (item_after began (places.before ++ last ∷ []) key)
 
 -- The same of a caller's read: what it is told was left by an entry that is no earlier than any
 -- that the caller's past has and that may change the key's item.
-pub record ReadsLatest (began : Start) (log : List Entry) (p : Past) (key : List ℕ) (now : ℕ)
-    (reply : Reply) (read : Entry) : Type 0 where
-  pub last : Entry
+pub record ReadsLatest (began : Beginning) (log : List HistoryEntry) (p : Past) (key : List ℕ) (now : ℕ)
+    (reply : Reply) (read : HistoryEntry) : Type 0 where
+  pub last : HistoryEntry
   pub is_told : IsTold began log key now reply last read
-  pub latest : (e : Entry) → Has p e → MayChange began key e.what
+  pub latest : (e : HistoryEntry) → Has p e → MayChange began key e.what
       → (e ≡ last) ⊎ StandsIn is_told.places.before e
 
 -- the item that a step stores as it was given, at a moment and under a unique number
@@ -138,15 +138,15 @@ item_given step now unique = None
 -- A write stands before a read of its key, and the read is told the item that it left, which is the
 -- one that the step gave, or a miss once that is dead; or an entry between the two may have changed
 -- it.
-pub record ReadsWrite (began : Start) (log : List Entry) (now : ℕ) (reply : Reply)
-    (step : KeyStep) (then : ℕ) (write read : Entry) : Type 0 where
+pub record ReadsWrite (began : Beginning) (log : List HistoryEntry) (now : ℕ) (reply : Reply)
+    (step : KeyStep) (then : ℕ) (write read : HistoryEntry) : Type 0 where
   pub places : StandsBefore log write read
   pub given : (item : Item)
       → item_given step then (after began began.plain places.before).next_unique ≡ Some item
       → item_after began (places.before ++ write ∷ []) (key_of step) ≡ Some item
   pub told : (reply ≡ read_of began (places.before ++ write ∷ places.between) now
       (item_after began (places.before ++ write ∷ []) (key_of step)))
-      ⊎ ((other : Entry) × StandsIn places.between other
+      ⊎ ((other : HistoryEntry) × StandsIn places.between other
       × MayChange began (key_of step) other.what)
 
 -- an item with this content is under a key
@@ -155,7 +155,7 @@ HasItem m key flags unique block = (item : Item) × (get m.items key ≡ Some it
     × (item.flags ≡ flags) × (item.unique ≡ unique) × (item.block ≡ block)
 
 -- a step on a key that was answered as a write
-abbrev pub Wrote : List ℕ → What → Type 0
+abbrev pub Wrote : List ℕ → Operation → Type 0
 Wrote key (Stepped step now Stored) = key_of step ≡ key
 Wrote key (Stepped step now (Number number)) = key_of step ≡ key
 Wrote key what = ⊥
@@ -166,11 +166,11 @@ HasDrawnNumbers m =
     (key : List ℕ) (item : Item) → get m.items key ≡ Some item → item.unique < m.next_unique
 
 -- one of some entries wrote a key, drew this unique number, and left this content under it
-pub record IsWrittenIn (began : Start) (log : List Entry) (key : List ℕ) (flags unique : ℕ)
+pub record IsWrittenIn (began : Beginning) (log : List HistoryEntry) (key : List ℕ) (flags unique : ℕ)
     (block : List ℕ) : Type 0 where
-  pub before : List Entry
-  pub write : Entry
-  pub rest : List Entry
+  pub before : List HistoryEntry
+  pub write : HistoryEntry
+  pub rest : List HistoryEntry
   pub stands : log ≡ before ++ write ∷ rest
   pub wrote : Wrote key write.what
   pub drew : unique ≡ (after began began.plain before).next_unique
@@ -182,15 +182,15 @@ IsNumber m key number =
     (item : Item) × (get m.items key ≡ Some item) × (number_of item.block ≡ Some number)
 
 -- an incr of a key that was told a number
-abbrev pub IsCount : List ℕ → What → Type 0
+abbrev pub IsCount : List ℕ → Operation → Type 0
 IsCount key (Stepped (Count other true by) now (Number number)) = other ≡ key
 IsCount key what = ⊥
 
 -- by how much a decision counts a key's number up
-abbrev pub counts_by : List ℕ → What → ℕ
+abbrev pub counts_by : List ℕ → Operation → ℕ
 counts_by key (Stepped (Count other true by) now (Number number)) = same other key * by
 counts_by key what = 0
 
 -- by how much an entry does
-abbrev pub counts_up : List ℕ → Entry → ℕ
+abbrev pub counts_up : List ℕ → HistoryEntry → ℕ
 counts_up key e = counts_by key e.what

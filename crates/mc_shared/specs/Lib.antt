@@ -7,6 +7,7 @@ pub mod Rule
 pub mod Steps
 pub mod Store
 pub mod Shown
+pub mod Seats
 pub mod Stacks
 pub mod Close
 pub mod Asking

@@ -9,23 +9,23 @@ use Rattle.mc_shelf.specs.Stores.{StoreState}
 use Rattle.mc_shared.specs.Sums.{total}
 use Rattle.mc_shared.specs.declared.bay.Bay.{Bay}
 use Rattle.mc_shared.specs.Bays.{Content, OfShelf, OfDesk, content_of}
-use Rattle.mc_shared.specs.History.{Start, start_of, Name, Entry, after, IsLegal}
+use Rattle.mc_shared.specs.History.{Beginning, start_of, Name, HistoryEntry, after, IsLegal}
 use Rattle.mc_shared.specs.Past.{Past, held, callers, makes, name_of, numbered, Ordered, Sound, Lives}
 use Rattle.mc_shared.specs.Past as past
-use Rattle.mc_shared.specs.View.{Knows}
+use Rattle.mc_shared.specs.View.{SeatView}
 
 -- the bay b holds what the state says
-abbrev pub Fits : Start → Plain → ℕ → Content → Type 0
+abbrev pub Fits : Beginning → Plain → ℕ → Content → Type 0
 Fits start m b (OfShelf shelf) =
     (b < start.shelves) × IsShelfOf start.hash_of start.shelves m b shelf
 Fits start m b (OfDesk desk) = (b ≡ start.shelves) × IsDeskOf m desk
 
 -- the greatest charge and the limit of pages are what they began as
-pub record KeepsLimits (start : Start) (m : Plain) : Type 0 where
+pub record KeepsLimits (start : Beginning) (m : Plain) : Type 0 where
   pub greatest : m.greatest ≡ start.plain.greatest
   pub limit : m.limit ≡ start.plain.limit
 
-abbrev pub AllFit : Start → Plain → List (ℕ × Content) → Type 0
+abbrev pub AllFit : Beginning → Plain → List (ℕ × Content) → Type 0
 AllFit start m [] = Unit {0}
 AllFit start m (x ∷ xs) = Fits start m x.0 x.1 × AllFit start m xs
 
@@ -33,27 +33,27 @@ AllFit start m (x ∷ xs) = Fits start m x.0 x.1 × AllFit start m xs
 abbrev pub holds_bay : ℕ → ℕ × Content → ℕ
 holds_bay b x = cond (eqb b x.0) 1 0
 
-abbrev pub times : ℕ → Knows → ℕ
+abbrev pub times : ℕ → SeatView → ℕ
 times b v = total (holds_bay b) v.bays
 
 -- the pasts of all seats, against the history
-pub record Story (start : Start) (log : List Entry) (views : List Knows) : Type 0 where
+pub record Story (start : Beginning) (log : List HistoryEntry) (views : List SeatView) : Type 0 where
   pub legal : IsLegal start start.plain log
-  pub ordered : (id : ℕ) (v : Knows) → get_elem? views id ≡ some v → Ordered log v.past
-  pub balanced : (h : Entry → ℕ) → total h log ≡ total (λ v. total h (held v.past)) views
+  pub ordered : (id : ℕ) (v : SeatView) → get_elem? views id ≡ some v → Ordered log v.past
+  pub balanced : (h : HistoryEntry → ℕ) → total h log ≡ total (λ v. total h (held v.past)) views
   pub known : (g : Name → ℕ) → total (λ v. total g (callers v.past)) views ≡ g [] + total
       (λ v. total g (makes v.past)) views
 
 -- who is who: each caller is held by one past, and only who lives holds a bay
-pub record Named (log : List Entry) (views : List Knows) : Type 0 where
-  pub sound : (id : ℕ) (v : Knows) → get_elem? views id ≡ some v → Sound v.past
+pub record Named (log : List HistoryEntry) (views : List SeatView) : Type 0 where
+  pub sound : (id : ℕ) (v : SeatView) → get_elem? views id ≡ some v → Sound v.past
   pub once : (c : Name) → total (λ v. past.times c (callers v.past)) views ≤ 1
   pub numbers : (c : Name) (n : ℕ) → total (numbered c n) log ≤ 1
-  pub idle : (id : ℕ) (v : Knows) → get_elem? views id ≡ some v → Lives v.past ⊎ (v.bays ≡ [])
+  pub idle : (id : ℕ) (v : SeatView) → get_elem? views id ≡ some v → Lives v.past ⊎ (v.bays ≡ [])
 
 -- the bays, against the state: those below the number of shelves, and the desk
-pub record Stocked (start : Start) (m : Plain) (words : List ℕ)
-    (homes : List (mathlib.Core.Option.Option (Option Bay))) (views : List Knows) : Type 0 where
+pub record Stocked (start : Beginning) (m : Plain) (words : List ℕ)
+    (homes : List (mathlib.Core.Option.Option (Option Bay))) (views : List SeatView) : Type 0 where
   pub wide : length words ≡ start.shelves + 1
   pub deep : length homes ≡ start.shelves + 1
   pub low : (b : ℕ) → b < start.shelves + 1 → slice_index words b ≤ 1
@@ -61,15 +61,15 @@ pub record Stocked (start : Start) (m : Plain) (words : List ℕ)
   pub home : (b : ℕ) → b < start.shelves + 1 → slice_index words b ≡ 0 → (x : Bay)
       × (get_elem? homes b ≡ some (some (Some x))) × Fits start m b (content_of x)
   pub limits : KeepsLimits start m
-  pub out : (id : ℕ) (v : Knows) → get_elem? views id ≡ some v → AllFit start m v.bays
+  pub out : (id : ℕ) (v : SeatView) → get_elem? views id ≡ some v → AllFit start m v.bays
 
-pub record Kept (start : Start) (s : State (Option Bay) Knows) : Type 0 where
-  pub log : List Entry
+pub record Kept (start : Beginning) (s : State (Option Bay) SeatView) : Type 0 where
+  pub log : List HistoryEntry
   pub story : Story start log s.views
   pub named : Named log s.views
   pub stocked : Stocked start (after start start.plain log) s.words s.homes s.views
 
 -- the rule of a table whose key is what the store began with
-abbrev pub KeptFrom : {K : Type 0} → (K → List ℕ → ℕ) → StoreState K → State (Option Bay) Knows
+abbrev pub KeptFrom : {K : Type 0} → (K → List ℕ → ℕ) → StoreState K → State (Option Bay) SeatView
     → Type 0
 KeptFrom hash_of store = Kept (start_of hash_of store)

@@ -14,7 +14,7 @@ use Rattle.mc_shared.specs.declared.bay.Bay.TheVariants.{Shelf, Desk}
 use Rattle.mc_shared.specs.Bays.{Content}
 use Rattle.mc_shared.specs.declared.fault.TryFault.{TryFault}
 use Rattle.mc_shared.specs.declared.fault.TryFault.TheVariants.{Busy, NoMemory, NumbersSpent}
-use Rattle.mc_shared.specs.History.{Start, Entry, Stepped, shelf_in, after, IsLegal}
+use Rattle.mc_shared.specs.History.{Beginning, HistoryEntry, Stepped, shelf_in, after, IsLegal}
 use Rattle.mc_shared.specs.Past.{Past, call, Whole, KeptBy}
 use Rattle.mc_shared.specs.Steps.{Slot, Mine, Agrees, entry_of}
 
@@ -31,18 +31,18 @@ abbrev pub with_call : Past → KeyStep → ℕ → Reply → Past
 with_call p step now reply = call p (entry_of p (Stepped step now reply))
 
 -- the past became that with a call more, and a legal history keeps it
-abbrev pub HasCalled : Start → (old : Past) → KeyStep → (now : ℕ) → Reply → (new : Past) → Type 0
+abbrev pub HasCalled : Beginning → (old : Past) → KeyStep → (now : ℕ) → Reply → (new : Past) → Type 0
 HasCalled start old step now reply new =
     (new ≡ with_call old step now reply) × Agrees start new
 
 -- the same of a seat, which holds nothing from then on
-abbrev pub RestsCalled : Start → Mine → KeyStep → (now : ℕ) → Reply → Mine → Type 0
+abbrev pub RestsCalled : Beginning → Mine → KeyStep → (now : ℕ) → Reply → Mine → Type 0
 RestsCalled start m step now reply m' =
     (m' ≡ resting (with_call m.0.past step now reply)) × Agrees start m'.0.past
 
 -- the plain machine is out of numbers after some legal history that keeps the past
-pub record IsSpentAfter (began : Start) (p : Past) (step : KeyStep) (now : ℕ) : Type 0 where
-  pub log : List Entry
+pub record IsSpentAfter (began : Beginning) (p : Past) (step : KeyStep) (now : ℕ) : Type 0 where
+  pub log : List HistoryEntry
   pub legal : IsLegal began began.plain log
   pub keeps : KeptBy log p
   pub spent : plain (after began began.plain log) step now ≡ Spent
@@ -56,8 +56,8 @@ MayTakeMemory Deletes = ⊥
 MayTakeMemory (Writes draft) = Unit {0}
 
 -- a step reads or writes an item after some legal history that keeps the past
-pub record WantsMemoryAfter (began : Start) (p : Past) (step : KeyStep) (now : ℕ) : Type 0 where
-  pub log : List Entry
+pub record WantsMemoryAfter (began : Beginning) (p : Past) (step : KeyStep) (now : ℕ) : Type 0 where
+  pub log : List HistoryEntry
   pub legal : IsLegal began began.plain log
   pub keeps : KeptBy log p
   pub wants : MayTakeMemory
@@ -65,7 +65,7 @@ pub record WantsMemoryAfter (began : Start) (p : Past) (step : KeyStep) (now : �
 
 -- Why a step was tried and not taken. A bay is busy only where its word was 1, which it is not
 -- where the past is whole, and is the key's shelf or the desk.
-abbrev pub May : Start → Past → KeyStep → ℕ → TryFault → Type 0
+abbrev pub May : Beginning → Past → KeyStep → ℕ → TryFault → Type 0
 May began p step now (Busy bay word) =
     (word ≡ 1) × (Whole p → ⊥)
     × ((bay ≡ shelf_in began (key_of step)) ⊎ (bay ≡ began.shelves))
@@ -94,6 +94,6 @@ holds_two p b y at x = (
 
 -- Why a step was not taken: memory was refused, which a flush of all shelves takes too, or the
 -- numbers are spent; each only after some such history.
-abbrev pub Refuses : Start → Past → KeyStep → ℕ → StepFault → Type 0
+abbrev pub Refuses : Beginning → Past → KeyStep → ℕ → StepFault → Type 0
 Refuses began p step now OutOfMemory = IsOnKey step → WantsMemoryAfter began p step now
 Refuses began p step now OutOfNumbers = IsSpentAfter began p step now

@@ -10,28 +10,28 @@ use Rattle.mc_command.specs.declared.step.KeyStep.{KeyStep}
 use Rattle.mc_command.specs.declared.reply.Reply.{Reply}
 use Rattle.mc_command.specs.contracts.step.KeyStep.{the_row as step_row}
 use Rattle.mc_command.specs.contracts.reply.Reply.{the_row as reply_row}
-use Rattle.mc_shared.specs.History.{Name, Entry, What, Stepped, Purged}
+use Rattle.mc_shared.specs.History.{Name, HistoryEntry, Operation, Stepped, Purged}
 use Rattle.mc_shared.specs.Past.{Past, spent, start, call, made, both}
 use Rattle.mc_shared.specs.Bays.{Content, content_code}
 
-abbrev what_parts : What → (KeyStep × (ℕ × Reply)) ⊎ (ℕ × ℕ)
-what_parts (Stepped step now reply) = inl (step, (now, reply))
-what_parts (Purged shelf now) = inr (shelf, now)
+abbrev operation_parts : Operation → (KeyStep × (ℕ × Reply)) ⊎ (ℕ × ℕ)
+operation_parts (Stepped step now reply) = inl (step, (now, reply))
+operation_parts (Purged shelf now) = inr (shelf, now)
 
-abbrev what_made : (KeyStep × (ℕ × Reply)) ⊎ (ℕ × ℕ) → What
-what_made (inl p) = Stepped p.0 p.1.0 p.1.1
-what_made (inr p) = Purged p.0 p.1
+abbrev operation_made : (KeyStep × (ℕ × Reply)) ⊎ (ℕ × ℕ) → Operation
+operation_made (inl p) = Stepped p.0 p.1.0 p.1.1
+operation_made (inr p) = Purged p.0 p.1
 
-pub what_same : (x : What) → what_made (what_parts x) ≡ x
-what_same (Stepped step now reply) = refl
-what_same (Purged shelf now) = refl
+pub operation_same : (x : Operation) → operation_made (operation_parts x) ≡ x
+operation_same (Stepped step now reply) = refl
+operation_same (Purged shelf now) = refl
 
-abbrev pub what_code : Coded What
-what_code = code_by _ (coded⊎ (coded× (step_row record { mir = static; lft = [] }).coded
-    (coded× coded_ℕ reply_row.coded)) (coded× coded_ℕ coded_ℕ)) what_parts what_made what_same
+abbrev pub operation_code : Coded Operation
+operation_code = code_by _ (coded⊎ (coded× (step_row record { mir = static; lft = [] }).coded
+    (coded× coded_ℕ reply_row.coded)) (coded× coded_ℕ coded_ℕ)) operation_parts operation_made operation_same
 
-abbrev pub entry_code : Coded Entry
-entry_code = code_by _ (coded× (coded_list coded_ℕ) (coded× coded_ℕ what_code))
+abbrev pub entry_code : Coded HistoryEntry
+entry_code = code_by _ (coded× (coded_list coded_ℕ) (coded× coded_ℕ operation_code))
     (λ e. (e.by, (e.number, e.what))) (λ p. record { by = p.0; number = p.1.0; what = p.1.1 })
     (λ _. refl)
 
@@ -68,13 +68,13 @@ past_inj x y e = absurd (cc e)
 abbrev pub past_code : Coded Past
 past_code = record { code = past_gv; inj = past_inj }
 
-pub record Knows : Type 0 where
+pub record SeatView : Type 0 where
   pub past : Past
   pub bays : List (ℕ × Content)
 
-abbrev pub knows_code : Coded Knows
-knows_code = code_by _ (coded× past_code (coded_list (coded× coded_ℕ content_code)))
+abbrev pub view_code : Coded SeatView
+view_code = code_by _ (coded× past_code (coded_list (coded× coded_ℕ content_code)))
     (λ k. (k.past, k.bays)) (λ p. record { past = p.0; bays = p.1 }) (λ _. refl)
 
-abbrev pub starting : Knows
+abbrev pub starting : SeatView
 starting = record { past = start [] spent; bays = [] }

@@ -1,10 +1,9 @@
 //! The store is closed.
-ghost use Rattle.std.specs.Prelude.{◌≡◌, ◌+◌, ◌<◌, ◌≤◌, [], ℕ, vec_len, vec_capacity, IfOk, IfErr, Err};
+ghost use Rattle.std.specs.Prelude.{◌≡◌, ◌<◌, ◌≤◌, [], ℕ, vec_len, vec_capacity, IfOk, IfErr, Err};
 ghost use Rattle.mc_shared.specs.Shown.{SharedState, CallerState};
 ghost use Rattle.mc_shared.specs.History.{start_of};
-ghost use Rattle.mc_shared.specs.Past.{Lives, Whole};
-ghost use Rattle.mc_shared.specs.Steps.{IsSeatOf};
-ghost use Rattle.mc_shared.specs.Store.{resting};
+ghost use Rattle.mc_shared.specs.Past.{Whole};
+ghost use Rattle.mc_shared.specs.Seats.{SameSeat, IsFree};
 ghost use Rattle.mc_shared.specs.Stacks.{holds_all};
 ghost use Rattle.mc_shared.specs.Close.{Gathered, IsAfter};
 
@@ -31,13 +30,10 @@ fn take_all<K: KeyHash + Drop>(
     held: Vec<Shelf>,
     count: usize,
 ) -> Result<Vec<Shelf>, (usize, u64)>
-    requires lives { Lives caller.old.me.0.past }
-    requires table { IsSeatOf caller.old.table_id board.now.shared.table_id
-        board.now.shared.key.value.settings.shelves }
+    requires seat { IsFree board.now.shared.table_id board.now.shared.key.value caller.old }
     requires count { count ≡ board.now.shared.key.value.settings.shelves }
     requires room { (held.items ≡ []) × (count ≤ vec_capacity held) }
-    requires free { caller.old.me ≡ resting caller.old.me.0.past }
-    ensures seat { (caller.new.table_id ≡ caller.old.table_id) × (caller.new.id ≡ caller.old.id) }
+    ensures seat { SameSeat caller.old caller.new }
     ensures ok { IfOk result (λ v. (vec_len v ≡ count) ×
         (caller.new.me ≡ holds_all caller.old.me.0.past v.items)) }
     ensures err { IfErr result (λ e. (e.1 ≡ 1) × (Whole caller.old.me.0.past → ⊥)) }
@@ -46,7 +42,7 @@ fn take_all<K: KeyHash + Drop>(
     while held.len() < count {
         let at = held.len();
         match take(board, caller, at) {
-            Ok(bay) => held.push_reserved(shelf_from(bay, at, count)),
+            Ok(bay) => held.push_reserved(Box::into_inner(shelf_from(bay, at, count))),
             Err(word) => return Err((at, word)),
         }
     }
@@ -60,13 +56,10 @@ fn gather<K: KeyHash + Drop>(
     held: Vec<Shelf>,
     count: usize,
 ) -> Result<(Vec<Shelf>, Desk), (usize, u64)>
-    requires lives { Lives caller.old.me.0.past }
-    requires table { IsSeatOf caller.old.table_id board.now.shared.table_id
-        board.now.shared.key.value.settings.shelves }
+    requires seat { IsFree board.now.shared.table_id board.now.shared.key.value caller.old }
     requires count { count ≡ board.now.shared.key.value.settings.shelves }
     requires some_shelf { 0 < board.now.shared.key.value.settings.shelves }
     requires room { (held.items ≡ []) × (count ≤ vec_capacity held) }
-    requires free { caller.old.me ≡ resting caller.old.me.0.past }
     ensures ok { IfOk result (λ r. (vec_len r.0 ≡ count)
         × Gathered (start_of K.hash_of board.now.shared.key.value) caller.old.me.0.past r.0.items
         r.1) }
@@ -77,7 +70,7 @@ fn gather<K: KeyHash + Drop>(
         Err(fault) => return Err(fault),
     };
     match take(board, caller, count) {
-        Ok(bay) => Ok((held, desk_from(bay, count))),
+        Ok(bay) => Ok((held, Box::into_inner(desk_from(bay, count)))),
         Err(word) => Err((count, word)),
     }
 }

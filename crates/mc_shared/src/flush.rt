@@ -1,29 +1,19 @@
 //! All shelves are held at once.
-ghost use Rattle.std.specs.Prelude.{ℕ, List, ◌≡◌, ◌+◌, ◌<◌, ◌≤◌, [], ◌∷◌, length, None, vec_len, vec_capacity, IfOk, OnErr};
+ghost use Rattle.std.specs.Prelude.{ℕ, List, ◌≡◌, ◌+◌, ◌<◌, ◌≤◌, [], length, None, Some};
+ghost use Rattle.std.specs.Prelude.{slice_get, slice_set, vec_len, vec_capacity, IfOk, IfSome, OnErr};
 ghost use Rattle.mc_command.specs.declared.step.KeyStep.{KeyStep as Step};
 ghost use Rattle.mc_command.specs.declared.reply.Reply.{Reply as Told};
 ghost use Rattle.mc_command.specs.Plain.{Plain, flushed};
 ghost use Rattle.mc_shelf.specs.Parts.{ArePartsOf};
-ghost use Rattle.mc_shared.specs.History.{start_of, Stepped};
-ghost use Rattle.mc_shared.specs.Past.{Lives};
-ghost use Rattle.mc_shared.specs.Steps.{
-  IsAt,
-  holding,
-  decided_by,
-  Agrees,
-  Fitted,
-  Decides,
-  IsSeatOf,
-  HoldsLast,
-  HasTaken,
-  HasDecided,
-};
-ghost use Rattle.mc_shared.specs.Store.{resting, with_call, HasCalled, RestsCalled};
-ghost use Rattle.mc_shared.specs.Stacks.{stacked, holds_all};
-ghost use Rattle.mc_shared.specs.Bays.{Content, OfDesk, content_of};
-ghost use Rattle.atomic_table.specs.Table.{rest};
+ghost use Rattle.mc_shared.specs.History.{start_of};
+ghost use Rattle.mc_shared.specs.Steps.{HasTaken, HasDecided};
+ghost use Rattle.mc_shared.specs.Store.{resting, HasCalled, RestsCalled};
+ghost use Rattle.mc_shared.specs.Seats.{SameSeat, IsSeatOf, IsAlive, IsFree, MayDecide};
+ghost use Rattle.mc_shared.specs.Stacks.{holds_all};
+ghost use Rattle.mc_shared.specs.Bays.{OfDesk};
 
 use crate::bay::Bay;
+use crate::boxed::Boxed;
 use crate::plays::Says;
 use crate::rule::{Board, Place};
 use crate::steps::{decide_as, give, take};
@@ -35,7 +25,28 @@ use mc_time::Moment;
 use std::alloc::{AllocError, Global};
 use std::marker::Brand;
 use std::sync::Wait;
-use std::thread;
+use std::{hint, mem, thread};
+
+/// How often a bay is tried before another thread has its turn.
+const TRIES: u32 = 64;
+
+/// Tries to take a bay, again and again, as most are given back soon.
+fn take_spinning<K: KeyHash + Drop>(board: &Board<K>, caller: &mut Place, bay: usize) -> Option<Bay>
+    requires seat { IsAlive board.now.shared.table_id board.now.shared.key.value caller.old }
+    requires bay { bay < board.now.shared.table_id.words }
+    ensures seat { SameSeat caller.old caller.new }
+    ensures taken { IfSome result (λ value. HasTaken
+        (start_of K.hash_of board.now.shared.key.value) caller.old.me bay value caller.new.me) }
+    ensures free { result ≡ None → caller.new.me ≡ caller.old.me }
+{
+    for _ in 0..TRIES {
+        if let Ok(value) = take(board, caller, bay) {
+            return Some(value);
+        }
+        hint::spin_loop();
+    }
+    None
+}
 
 /// Takes a bay, and tries again until it is free.
 pub(crate) fn take_waiting<K: KeyHash + Drop, R: Wait>(
@@ -44,16 +55,14 @@ pub(crate) fn take_waiting<K: KeyHash + Drop, R: Wait>(
     caller: &mut Place,
     bay: usize,
 ) -> Bay
-    requires lives { Lives caller.old.me.0.past }
-    requires table { IsSeatOf caller.old.table_id board.now.shared.table_id
-        board.now.shared.key.value.settings.shelves }
+    requires seat { IsAlive board.now.shared.table_id board.now.shared.key.value caller.old }
     requires bay { bay < board.now.shared.table_id.words }
-    ensures seat { (caller.new.table_id ≡ caller.old.table_id) × (caller.new.id ≡ caller.old.id) }
+    ensures seat { SameSeat caller.old caller.new }
     ensures taken { HasTaken (start_of K.hash_of board.now.shared.key.value) caller.old.me bay
         result caller.new.me }
 {
     for _ in rt.forever() {
-        if let Ok(value) = take(board, caller, bay) {
+        if let Some(value) = take_spinning(board, caller, bay) {
             return value;
         }
         thread::yield_now();
@@ -61,97 +70,96 @@ pub(crate) fn take_waiting<K: KeyHash + Drop, R: Wait>(
     unreachable!()
 }
 
-/// Takes all shelves, in rising order.
+/// Changes a shelf for one that lies in a box.
+fn change_places(held: &mut Vec<Shelf>, at: usize, other: &mut Box<Shelf>)
+    requires { at < vec_len held.old }
+    ensures held { held.new.items ≡ slice_set held.old.items at other.old.value }
+    ensures other { slice_get held.old.items at ≡ Some other.new.value }
+    ensures len { vec_len held.new ≡ vec_len held.old }
+{
+    mem::swap(&mut held[at], &mut **other);
+}
+
+/// Takes all shelves, in rising order. They change places with the others, so that they stand side by
+/// side, and their boxes wait for them.
 fn hold_all<K: KeyHash + Drop, R: Wait>(
     rt: &R,
     board: &Board<K>,
     caller: &mut Place,
-    held: Vec<Shelf>,
+    spares: Vec<Shelf>,
+    boxes: Vec<Box<Shelf>>,
     count: usize,
-) -> Vec<Shelf>
-    requires lives { Lives caller.old.me.0.past }
-    requires table { IsSeatOf caller.old.table_id board.now.shared.table_id
-        board.now.shared.key.value.settings.shelves }
+) -> (Vec<Shelf>, Vec<Box<Shelf>>)
+    requires seat { IsFree board.now.shared.table_id board.now.shared.key.value caller.old }
     requires count { count ≡ board.now.shared.key.value.settings.shelves }
-    requires room { (held.items ≡ []) × (count ≤ vec_capacity held) }
-    requires free { caller.old.me ≡ resting caller.old.me.0.past }
-    ensures seat { (caller.new.table_id ≡ caller.old.table_id) × (caller.new.id ≡ caller.old.id) }
-    ensures held { (vec_len result ≡ count) × (caller.new.me ≡ holds_all caller.old.me.0.past
-        result.items) }
+    requires spares { vec_len spares ≡ count }
+    requires room { (boxes.items ≡ []) × (count ≤ vec_capacity boxes) }
+    ensures seat { SameSeat caller.old caller.new }
+    ensures held { (vec_len result.0 ≡ count) × (caller.new.me ≡ holds_all caller.old.me.0.past
+        result.0.items) }
+    ensures boxes { vec_len result.1 ≡ count }
 {
-    let mut held = held;
-    while held.len() < count {
-        let at = held.len();
-        let bay = take_waiting(rt, board, caller, at);
-        held.push_reserved(shelf_from(bay, at, count));
+    let mut held = spares;
+    let mut boxes = boxes;
+    while boxes.len() < count {
+        let at = boxes.len();
+        let mut shelf = shelf_from(take_waiting(rt, board, caller, at), at, count);
+        change_places(&mut held, at, &mut shelf);
+        boxes.push_reserved(shelf);
     }
-    held
+    (held, boxes)
 }
 
-/// Gives back all shelves, the last one first.
-fn give_all<K: KeyHash + Drop>(board: &Board<K>, caller: &mut Place, mut held: Vec<Shelf>)
-    requires table { IsSeatOf caller.old.table_id board.now.shared.table_id
-        board.now.shared.key.value.settings.shelves }
+/// Gives back all shelves, each in its box, the last one first.
+fn give_all<K: KeyHash + Drop>(
+    board: &Board<K>,
+    caller: &mut Place,
+    mut held: Vec<Shelf>,
+    mut boxes: Vec<Box<Shelf>>,
+)
+    requires seat { IsSeatOf board.now.shared.table_id board.now.shared.key.value caller.old }
     requires count { vec_len held ≤ board.now.shared.key.value.settings.shelves }
+    requires boxes { vec_len boxes ≡ vec_len held }
     requires held { caller.old.me ≡ holds_all caller.old.me.0.past held.items }
-    ensures { (caller.new.table_id ≡ caller.old.table_id) × (caller.new.id ≡ caller.old.id)
+    ensures { SameSeat caller.old caller.new
         × (caller.new.me ≡ resting caller.old.me.0.past) }
 {
-    while let Some(shelf) = held.pop() {
-        give(board, caller, held.len(), Bay::Shelf(shelf));
+    while let Some(mut shelf) = boxes.pop() {
+        let at = boxes.len();
+        change_places(&mut held, at, &mut shelf);
+        give(board, caller, at, Bay::Shelf(Boxed::of(shelf)));
     }
 }
 
-/// What is told is told by the arguments' values alone: none of them is read.
-fn decide_flush_as<D: Says, K: KeyHash + Drop>(
+/// Makes so many empty shelves. The one error is a refused allocation.
+fn empty_shelves(alloc: Global, count: usize) -> Result<Vec<Shelf>, AllocError>
+    ensures { IfOk result (λ shelves. vec_len shelves ≡ count) }
+{
+    let mut shelves = Vec::with_capacity(alloc, count)?;
+    for _ in 0..count {
+        shelves.push(Shelf::new(alloc, 0)?)?;
+    }
+    Ok(shelves)
+}
+
+/// Gives back the desk, and decides a flush, while all shelves are held. What is decided is picked
+/// as at a shelf.
+fn decide_flush<D: Says, K: KeyHash + Drop>(
     board: &Board<K>,
     caller: &mut Place,
     bay: usize,
-    desk: Desk,
+    desk: Box<Desk>,
     _held: &Vec<Shelf>,
     _delay: u64,
     _now: Moment,
 )
     requires began { D.start ≡ start_of K.hash_of board.now.shared.key.value }
-    requires said { (D.what ≡ Stepped (Step.Flush _delay) _now Told.Flushed)
-        × (D.still ≡ stacked _held.now.items) }
-    requires table { IsSeatOf caller.old.table_id board.now.shared.table_id
-        board.now.shared.key.value.settings.shelves }
-    requires bay { bay < board.now.shared.table_id.words }
-    requires held { HoldsLast caller.old.me bay }
-    requires lives { Lives caller.old.me.0.past }
-    requires right { Decides (start_of K.hash_of board.now.shared.key.value) caller.old.me.0.bays
-        bay (OfDesk desk) (Stepped (Step.Flush _delay) _now Told.Flushed)
-        (stacked _held.now.items) }
-    ensures seat { (caller.new.table_id ≡ caller.old.table_id) × (caller.new.id ≡ caller.old.id) }
-    ensures view { HasDecided (start_of K.hash_of board.now.shared.key.value) caller.old.me
-        (Stepped (Step.Flush _delay) _now Told.Flushed) (stacked _held.now.items) caller.new.me }
+    requires may { MayDecide board.now.shared.table_id board.now.shared.key.value caller.old bay
+        D.start (OfDesk desk.value) D.what D.still }
+    ensures seat { SameSeat caller.old caller.new }
+    ensures view { HasDecided D.start caller.old.me D.what D.still caller.new.me }
 {
-    decide_as::<D, K>(board, caller, bay, Bay::Desk(desk));
-}
-
-/// Gives back the desk, and decides a flush, while all shelves are held.
-fn decide_flush<K: KeyHash + Drop>(
-    board: &Board<K>,
-    caller: &mut Place,
-    bay: usize,
-    desk: Desk,
-    held: &Vec<Shelf>,
-    delay: u64,
-    now: Moment,
-)
-    requires table { IsSeatOf caller.old.table_id board.now.shared.table_id
-        board.now.shared.key.value.settings.shelves }
-    requires bay { bay < board.now.shared.table_id.words }
-    requires held { HoldsLast caller.old.me bay }
-    requires lives { Lives caller.old.me.0.past }
-    requires right { Decides (start_of K.hash_of board.now.shared.key.value) caller.old.me.0.bays
-        bay (OfDesk desk) (Stepped (Step.Flush delay) now Told.Flushed) (stacked held.now.items) }
-    ensures seat { (caller.new.table_id ≡ caller.old.table_id) × (caller.new.id ≡ caller.old.id) }
-    ensures view { HasDecided (start_of K.hash_of board.now.shared.key.value) caller.old.me
-        (Stepped (Step.Flush delay) now Told.Flushed) (stacked held.now.items) caller.new.me }
-{
-    decide_flush_as::<Brand, K>(board, caller, bay, desk, held, delay, now);
+    decide_as::<D, K>(board, caller, bay, Bay::Desk(Boxed::of(desk)));
 }
 
 /// Flushes shelves that are with the desk the parts of a state.
@@ -171,29 +179,26 @@ fn flush_by<K: KeyHash + Drop, R: Wait>(
     rt: &R,
     board: &Board<K>,
     caller: &mut Place,
-    held: Vec<Shelf>,
+    spares: Vec<Shelf>,
+    boxes: Vec<Box<Shelf>>,
     count: usize,
     delay: u64,
     now: Moment,
 )
-    requires lives { Lives caller.old.me.0.past }
-    requires table { IsSeatOf caller.old.table_id board.now.shared.table_id
-        board.now.shared.key.value.settings.shelves }
+    requires seat { IsFree board.now.shared.table_id board.now.shared.key.value caller.old }
     requires count { count ≡ board.now.shared.key.value.settings.shelves }
     requires some { 0 < count }
-    requires room { (held.items ≡ []) × (count ≤ vec_capacity held) }
-    requires free { caller.old.me ≡ resting caller.old.me.0.past }
-    ensures seat { (caller.new.table_id ≡ caller.old.table_id) × (caller.new.id ≡ caller.old.id) }
+    requires spares { vec_len spares ≡ count }
+    requires room { (boxes.items ≡ []) × (count ≤ vec_capacity boxes) }
+    ensures seat { SameSeat caller.old caller.new }
     ensures done { RestsCalled (start_of K.hash_of board.now.shared.key.value) caller.old.me
         (Step.Flush delay) now Told.Flushed caller.new.me }
 {
-    let held = hold_all(rt, board, caller, held, count);
-    let desk = desk_from(take_waiting(rt, board, caller, count), count);
-    let mut held = held;
-    let mut desk = desk;
-    flush_held(&mut held, &mut desk, delay, now);
-    decide_flush(board, caller, count, desk, &held, delay, now);
-    give_all(board, caller, held);
+    let (mut held, boxes) = hold_all(rt, board, caller, spares, boxes, count);
+    let mut desk = desk_from(take_waiting(rt, board, caller, count), count);
+    flush_held(&mut held, &mut *desk, delay, now);
+    decide_flush::<Brand, K>(board, caller, count, desk, &held, delay, now);
+    give_all(board, caller, held, boxes);
 }
 
 impl<K: KeyHash + Drop> Shared<K> {
@@ -216,8 +221,18 @@ impl<K: KeyHash + Drop> Shared<K> {
         ensures err { OnErr result (caller.new.past ≡ caller.old.past) }
     {
         let count = self.settings.shelves as usize;
-        let held = Vec::with_capacity(alloc, count)?;
-        flush_by(rt, &self.board, &mut caller.seat, held, count, delay, now);
+        let spares = empty_shelves(alloc, count)?;
+        let boxes = Vec::with_capacity(alloc, count)?;
+        flush_by(
+            rt,
+            &self.board,
+            &mut caller.seat,
+            spares,
+            boxes,
+            count,
+            delay,
+            now,
+        );
         Ok(Reply::Flushed)
     }
 }

@@ -11,7 +11,7 @@ ghost use Rattle.mc_command.specs.Laws.{IsOnKey};
 ghost use Rattle.mc_command.specs.Plain.{opening};
 ghost use Rattle.mc_command.specs.Plain.{Entry as Item};
 ghost use Rattle.mc_shared.specs.Sums.{total};
-ghost use Rattle.mc_shared.specs.History.{Start, What, Stepped, Entry, after, IsLegal};
+ghost use Rattle.mc_shared.specs.History.{Beginning, Operation, Stepped, HistoryEntry, after, IsLegal};
 ghost use Rattle.mc_shared.specs.Past.{Past, spent, call, held, callers, times, Whole, KeptBy};
 ghost use Rattle.mc_shared.specs.Past as past;
 ghost use Rattle.mc_shared.specs.Steps.{entry_of, Agrees};
@@ -25,12 +25,12 @@ use mc_command::other_keys_stay;
 /// done before it made a caller stands before all that this one does, and what was joined stands
 /// before all that follows the join.
 pub fn calls_keep_their_order()
-    ensures stands { (log : List Entry) (p : Past) (e : Entry) →
+    ensures stands { (log : List HistoryEntry) (p : Past) (e : HistoryEntry) →
         KeptBy log p → Has p e → StandsIn log e }
-    ensures order { (log : List Entry) (p q r : Past) (e first : Entry) →
+    ensures order { (log : List HistoryEntry) (p q r : Past) (e first : HistoryEntry) →
         KeptBy log r → IsWithin (call q e) r → IsWithin p q → Has p first →
         StandsBefore log first e }
-    ensures numbers { (p q : Past) (first second : What) →
+    ensures numbers { (p q : Past) (first second : Operation) →
         WentOn (call p (entry_of p first)) q →
         ((entry_of q second).by ≡ (entry_of p first).by)
         × ((entry_of p first).number < (entry_of q second).number) }
@@ -40,12 +40,12 @@ pub fn calls_keep_their_order()
 /// entry stands twice, each entry of a caller that a past holds is held by that past, and where the
 /// past is whole each entry at all. So a step takes effect once, and where it isn't taken, never.
 pub fn a_history_has_nothing_else()
-    ensures once { (log : List Entry) (p : Past) (first second : Entry) →
+    ensures once { (log : List HistoryEntry) (p : Past) (first second : HistoryEntry) →
         KeptBy log p → StandsBefore log first second → first.by ≡ second.by →
         first.number ≡ second.number → ⊥ }
-    ensures own { (log : List Entry) (p : Past) (e : Entry) →
+    ensures own { (log : List HistoryEntry) (p : Past) (e : HistoryEntry) →
         KeptBy log p → 1 ≤ times e.by (callers p) → StandsIn log e → StandsIn (held p) e }
-    ensures whole { (log : List Entry) (p : Past) (e : Entry) →
+    ensures whole { (log : List HistoryEntry) (p : Past) (e : HistoryEntry) →
         KeptBy log p → Whole p → StandsIn log e → StandsIn (held p) e }
 {}
 
@@ -55,8 +55,8 @@ pub fn a_history_has_nothing_else()
 /// another entry stands between the two that may have changed the key's item: a step on that key,
 /// a flush, or a purge of the key's shelf.
 pub fn a_known_write_is_read()
-    ensures { (began : Start) (log : List Entry) (p : Past) (now : ℕ) (reply : Reply)
-        (step : KeyStep) (then : ℕ) (write : Entry) →
+    ensures { (began : Beginning) (log : List HistoryEntry) (p : Past) (now : ℕ) (reply : Reply)
+        (step : KeyStep) (then : ℕ) (write : HistoryEntry) →
         IsLegal began began.plain log →
         KeptBy log (with_call p (KeyStep.Read (key_of step)) now reply) →
         Has p write → write.what ≡ Stepped step then Reply.Stored → IsOnKey step →
@@ -75,18 +75,18 @@ pub fn a_known_write_is_read()
 /// What an entry left under a key is the item that it stored as it was given, with the unique number
 /// that it drew; of a delete it is nothing.
 pub fn a_caller_reads_what_it_knows()
-    ensures latest { (began : Start) (log : List Entry) (p : Past) (key : List ℕ) (now : ℕ)
-        (reply : Reply) (known : Entry) →
+    ensures latest { (began : Beginning) (log : List HistoryEntry) (p : Past) (key : List ℕ) (now : ℕ)
+        (reply : Reply) (known : HistoryEntry) →
         IsLegal began began.plain log → KeptBy log (with_call p (KeyStep.Read key) now reply) →
         Has p known → MayChange began key known.what →
         ReadsLatest began log p key now reply (entry_of p (Stepped (KeyStep.Read key) now reply)) }
-    ensures given { (began : Start) (log before rest : List Entry) (write : Entry)
+    ensures given { (began : Beginning) (log before rest : List HistoryEntry) (write : HistoryEntry)
         (step : KeyStep) (then : ℕ) (item : Item) →
         IsLegal began began.plain log → log ≡ before ++ write ∷ rest →
         write.what ≡ Stepped step then Reply.Stored →
         item_given step then (after began began.plain before).next_unique ≡ Some item →
         item_after began (before ++ write ∷ []) (key_of step) ≡ Some item }
-    ensures deleted { (began : Start) (log before rest : List Entry) (delete : Entry)
+    ensures deleted { (began : Beginning) (log before rest : List HistoryEntry) (delete : HistoryEntry)
         (key : List ℕ) (then : ℕ) (reply : Reply) →
         IsLegal began began.plain log → log ≡ before ++ delete ∷ rest →
         delete.what ≡ Stepped (KeyStep.Delete key) then reply →
@@ -99,10 +99,10 @@ pub fn a_caller_reads_what_it_knows()
 /// past has its calls, in their order, and nothing else; so each reply is the plain machine's, from
 /// the state that the store began with.
 pub fn a_caller_alone_has_a_plain_store()
-    ensures history { (log : List Entry) (p : Past) → IsAlone p → KeptBy log p → log ≡ held p }
-    ensures legal { (began : Start) (p : Past) →
+    ensures history { (log : List HistoryEntry) (p : Past) → IsAlone p → KeptBy log p → log ≡ held p }
+    ensures legal { (began : Beginning) (p : Past) →
         IsAlone p → Agrees began p → IsLegal began began.plain (held p) }
-    ensures replies { (began : Start) (calls : List Call) →
+    ensures replies { (began : Beginning) (calls : List Call) →
         Agrees began (with_calls (past.start [] spent) calls) → PlainAnswers began.plain calls }
 {}
 
@@ -110,7 +110,7 @@ pub fn a_caller_alone_has_a_plain_store()
 /// the store began, or one of the entries before the read wrote it, with the unique number that
 /// that entry drew.
 pub fn nothing_is_made_up()
-    ensures { (began : Start) (log front rest : List Entry) (read : Entry) (step : KeyStep)
+    ensures { (began : Beginning) (log front rest : List HistoryEntry) (read : HistoryEntry) (step : KeyStep)
         (now flags unique : ℕ) (block : List ℕ) →
         IsLegal began began.plain log → log ≡ front ++ read ∷ rest →
         read.what ≡ Stepped step now (Reply.Hit flags unique block) →
@@ -125,10 +125,10 @@ pub fn nothing_is_made_up()
 /// number of each item was drawn, which it was in a new store, and stays so.
 pub fn a_cas_is_of_what_was_read()
     ensures new { (pages greatest : ℕ) → HasDrawnNumbers (opening pages greatest) }
-    ensures stays { (began : Start) (log : List Entry) →
+    ensures stays { (began : Beginning) (log : List HistoryEntry) →
         HasDrawnNumbers began.plain → IsLegal began began.plain log →
         HasDrawnNumbers (after began began.plain log) }
-    ensures unwritten { (began : Start) (log : List Entry) (read cas other : Entry) (step : KeyStep)
+    ensures unwritten { (began : Beginning) (log : List HistoryEntry) (read cas other : HistoryEntry) (step : KeyStep)
         (then now flags unique more : ℕ) (exptime : ℤ) (block brought : List ℕ) →
         HasDrawnNumbers began.plain → IsLegal began began.plain log →
         (places : StandsBefore log read cas) →
@@ -143,15 +143,15 @@ pub fn a_cas_is_of_what_was_read()
 /// may change it is an incr that was told a number, it grows by what they counted, each count once,
 /// and wraps at 2^64. So once all callers are joined it is the first number and all their counts.
 pub fn no_count_is_lost()
-    ensures counted { (began : Start) (front log : List Entry) (key : List ℕ) (n : ℕ) →
+    ensures counted { (began : Beginning) (front log : List HistoryEntry) (key : List ℕ) (n : ℕ) →
         IsLegal began began.plain (front ++ log) →
         IsNumber (after began began.plain front) key n →
-        ((e : Entry) → StandsIn log e → MayChange began key e.what → IsCount key e.what) →
+        ((e : HistoryEntry) → StandsIn log e → MayChange began key e.what → IsCount key e.what) →
         IsNumber (after began began.plain (front ++ log)) key
         ((n + total (counts_up key) log) % (2 ^ 64)) }
-    ensures whole { (began : Start) (log : List Entry) (p : Past) (key : List ℕ) (n : ℕ) →
+    ensures whole { (began : Beginning) (log : List HistoryEntry) (p : Past) (key : List ℕ) (n : ℕ) →
         IsLegal began began.plain log → KeptBy log p → Whole p → IsNumber began.plain key n →
-        ((e : Entry) → StandsIn (held p) e → MayChange began key e.what → IsCount key e.what) →
+        ((e : HistoryEntry) → StandsIn (held p) e → MayChange began key e.what → IsCount key e.what) →
         IsNumber (after began began.plain log) key
         ((n + total (counts_up key) (held p)) % (2 ^ 64)) }
 {

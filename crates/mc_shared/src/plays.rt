@@ -6,9 +6,9 @@ use std::marker::{Brand, PhantomData};
 
 /// What the store began with. Each call of a step picks it.
 pub trait Begins {
-    ghost use Rattle.mc_shared.specs.History.{Start};
+    ghost use Rattle.mc_shared.specs.History.{Beginning};
 
-    ghost start: { Start };
+    ghost start: { Beginning };
 }
 
 impl Begins for Brand {
@@ -20,12 +20,12 @@ impl Begins for Brand {
 /// What is decided, and what the bays that are still held then hold. Each deciding step picks it.
 pub trait Says {
     ghost use Rattle.std.specs.Prelude.{ℕ, List};
-    ghost use Rattle.mc_shared.specs.History.{Start, What};
+    ghost use Rattle.mc_shared.specs.History.{Beginning, Operation};
     ghost use Rattle.mc_shared.specs.Bays.{Content};
 
-    ghost start: { Start };
+    ghost start: { Beginning };
 
-    ghost what: { What };
+    ghost what: { Operation };
 
     ghost still: { List (ℕ × Content) };
 }

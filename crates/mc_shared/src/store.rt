@@ -1,29 +1,22 @@
 //! The store for many threads.
-ghost use Rattle.std.specs.Prelude.{◌≡◌, ◌+◌, ◌<◌, ◌≤◌, ◌%◌, List, ℕ, length, [], ◌∷◌, ◌++◌, map, replicate, true, false, IfOk, IfErr, OnErr};
-ghost use Rattle.mc_shelf.specs.States.{ShelfState};
-ghost use Rattle.mc_shared.specs.Store.{shelf_slot, desk_slot, HasCalled, RestsCalled};
+ghost use Rattle.std.specs.Prelude.{◌≡◌, ◌+◌, ◌<◌, ◌≤◌, length, [], ◌∷◌, ◌++◌, map, replicate};
+ghost use Rattle.std.specs.Prelude.{true, false, IfOk};
 ghost use Rattle.mc_command.specs.Commands.{key_of};
 ghost use Rattle.mc_command.specs.Laws.{IsOnKey};
 ghost use Rattle.mc_command.specs.Plain.{opening};
+ghost use Rattle.mc_shelf.specs.States.{ShelfState};
 ghost use Rattle.mc_shelf.specs.Plans.{IsPlan, HasRoom, wants_desk};
-ghost use Rattle.mc_shelf.specs.States.{IsHash};
-ghost use Rattle.mc_shelf.specs.Parts.{shelf_of};
 ghost use Rattle.mc_shared.specs.History.{start_of, shelf_in};
-ghost use Rattle.mc_shared.specs.Past.{start, spent, made, both, Lives, Whole};
-ghost use Rattle.mc_shared.specs.Steps.{next_name, IsAt, Agrees, Fitted, IsSeatOf};
-ghost use Rattle.mc_shared.specs.Store.{
-  resting,
-  holds_one,
-  holds_two,
-  with_call,
-  told_of,
-  May,
-  Refuses,
-};
+ghost use Rattle.mc_shared.specs.Past.{start, spent, made, both};
+ghost use Rattle.mc_shared.specs.Steps.{next_name, IsAt, Agrees, Fitted};
+ghost use Rattle.mc_shared.specs.Store.{shelf_slot, desk_slot, holds_one, holds_two};
+ghost use Rattle.mc_shared.specs.Store.{RestsCalled, told_of, May, Refuses};
+ghost use Rattle.mc_shared.specs.Seats.{SameSeat, IsAlive, IsFree, IsStepAt, ComesOut, IsAnswered};
 ghost use Rattle.mc_shared.specs.Bays.{OfShelf, OfDesk};
 ghost use Rattle.mc_shared.specs.declared.bay.Bay.{Bay as Held};
 
 use crate::bay::Bay;
+use crate::boxed::Boxed;
 use crate::fault::TryFault;
 use crate::rule::{Board, Place};
 use crate::steps::{decide_at_desk, decide_at_shelf, fork, give, look, meet, take};
@@ -35,7 +28,7 @@ use mc_shelf::{
 };
 use mc_time::Moment;
 use std::alloc::{AllocError, Global};
-use std::marker::Model;
+use std::marker::{Brand, Model};
 use std::snapshot::Snapshot;
 
 /// A store for many threads. Contracts see which it is, and what it began with.
@@ -200,12 +193,8 @@ impl<K: KeyHash + Drop> Shared<K> {
         requires own { caller.old.table ≡ self.now.table }
         requires on_key { IsOnKey step.now }
         requires key { length (key_of step.now) ≤ 250 }
-        ensures same { caller.new.table ≡ caller.old.table }
-        ensures ok { IfOk result (λ reply. HasCalled (start_of K.hash_of self.now.began)
-            caller.old.past step.now now reply caller.new.past) }
-        ensures err { OnErr result (caller.new.past ≡ caller.old.past) }
-        ensures fault { IfErr result (λ e. May (start_of K.hash_of self.now.began) caller.old.past
-            step.now now e) }
+        ensures { IsAnswered (start_of K.hash_of self.now.began) caller.old step.now now May
+            result caller.new }
     {
         let hash = self.hasher.hash(step.key());
         let desk = self.settings.shelves as usize;
@@ -241,9 +230,9 @@ fn slots_of(
 {
     let mut slots = Vec::with_capacity(alloc, count as usize + 1)?;
     for shelf in shelves {
-        slots.push(Some(Bay::Shelf(shelf)))?;
+        slots.push(Some(Bay::Shelf(Boxed::new(alloc, shelf)?)))?;
     }
-    slots.push(Some(Bay::Desk(desk)))?;
+    slots.push(Some(Bay::Desk(Boxed::new(alloc, desk)?)))?;
     Ok(slots)
 }
 
@@ -257,23 +246,10 @@ fn step_by<K: KeyHash + Drop>(
     hash: u64,
     now: Moment,
 ) -> Result<Reply, TryFault>
-    requires table { IsSeatOf caller.old.table_id board.now.shared.table_id
-        board.now.shared.key.value.settings.shelves }
-    requires shelf { bays.0 < board.now.shared.key.value.settings.shelves }
-    requires desk_bay { bays.1 ≡ board.now.shared.key.value.settings.shelves }
-    requires lives { Lives caller.old.me.0.past }
-    requires free { caller.old.me ≡ resting caller.old.me.0.past }
-    requires on_key { IsOnKey step.now }
-    requires key { length (key_of step.now) ≤ 250 }
-    requires hash { hash ≡ K.hash_of board.now.shared.key.value.hasher (key_of step.now) }
-    requires own { shelf_in (start_of K.hash_of board.now.shared.key.value) (key_of step.now)
-        ≡ bays.0 }
-    ensures seat { (caller.new.table_id ≡ caller.old.table_id) × (caller.new.id ≡ caller.old.id) }
-    ensures ok { IfOk result (λ reply. RestsCalled (start_of K.hash_of board.now.shared.key.value)
-        caller.old.me step.now now reply caller.new.me) }
-    ensures err { OnErr result (caller.new.me ≡ resting caller.old.me.0.past) }
-    ensures fault { IfErr result (λ e. May (start_of K.hash_of board.now.shared.key.value)
-        caller.old.me.0.past step.now now e) }
+    requires seat { IsFree board.now.shared.table_id board.now.shared.key.value caller.old }
+    requires step { IsStepAt K.hash_of board.now.shared.key.value step.now hash bays }
+    ensures came { ComesOut (start_of K.hash_of board.now.shared.key.value) caller.old step.now now
+        May result caller.new }
 {
     let bay = match take(board, caller, bays.0) {
         Ok(bay) => bay,
@@ -283,13 +259,13 @@ fn step_by<K: KeyHash + Drop>(
     };
     let mut shelf = shelf_from(bay, bays.0, bays.1);
     let Ok(plan) = shelf.look(alloc, step, hash, now) else {
-        give(board, caller, bays.0, Bay::Shelf(shelf));
+        give(board, caller, bays.0, Bay::Shelf(Boxed::of(shelf)));
         return Err(TryFault::NoMemory);
     };
     if plan.needs_desk() {
         step_at_desk(board, alloc, caller, bays, shelf, plan, step, now)
     } else {
-        Ok(step_at_shelf(board, caller, bays.0, shelf, plan, step, now))
+        Ok(step_at_shelf(board, caller, bays, shelf, plan, step, now))
     }
 }
 
@@ -297,31 +273,26 @@ fn step_by<K: KeyHash + Drop>(
 pub(crate) fn step_at_shelf<K: KeyHash + Drop>(
     board: &Board<K>,
     caller: &mut Place,
-    at: usize,
-    shelf: Shelf,
+    bays: (usize, usize),
+    shelf: Box<Shelf>,
     plan: Plan<'_>,
     step: &KeyStep<'_>,
     now: Moment,
 ) -> Reply
-    requires table { IsSeatOf caller.old.table_id board.now.shared.table_id
-        board.now.shared.key.value.settings.shelves }
-    requires shelf { at < board.now.shared.key.value.settings.shelves }
-    requires lives { Lives caller.old.me.0.past }
-    requires held { caller.old.me ≡ holds_one caller.old.me.0.past at (OfShelf shelf.content) }
-    requires plan { IsPlan plan shelf.content step.now now }
-    requires room { HasRoom plan shelf step.now }
-    requires hash { plan.hash ≡ K.hash_of board.now.shared.key.value.hasher (key_of step.now) }
+    requires seat { IsAlive board.now.shared.table_id board.now.shared.key.value caller.old }
+    requires step { IsStepAt K.hash_of board.now.shared.key.value step.now plan.hash bays }
+    requires held { caller.old.me ≡ holds_one caller.old.me.0.past bays.0 (OfShelf shelf.value.content) }
+    requires plan { IsPlan plan shelf.value.content step.now now }
+    requires room { HasRoom plan shelf.value step.now }
     requires no_desk { wants_desk plan.next ≡ false }
-    requires own { shelf_in (start_of K.hash_of board.now.shared.key.value) (key_of step.now)
-        ≡ at }
-    ensures seat { (caller.new.table_id ≡ caller.old.table_id) × (caller.new.id ≡ caller.old.id) }
+    ensures seat { SameSeat caller.old caller.new }
     ensures done { RestsCalled (start_of K.hash_of board.now.shared.key.value) caller.old.me
         step.now now result caller.new.me }
 {
     steps_change_one_shelf();
     let mut shelf = shelf;
     let reply = shelf.settle(plan);
-    decide_at_shelf(board, caller, at, shelf, step, now, &reply);
+    decide_at_shelf::<Brand, K>(board, caller, bays.0, shelf, step, now, &reply);
     reply
 }
 
@@ -332,35 +303,24 @@ fn step_at_desk<K: KeyHash + Drop>(
     alloc: Global,
     caller: &mut Place,
     bays: (usize, usize),
-    shelf: Shelf,
+    shelf: Box<Shelf>,
     plan: Plan<'_>,
     step: &KeyStep<'_>,
     now: Moment,
 ) -> Result<Reply, TryFault>
-    requires table { IsSeatOf caller.old.table_id board.now.shared.table_id
-        board.now.shared.key.value.settings.shelves }
-    requires shelf { bays.0 < board.now.shared.key.value.settings.shelves }
-    requires desk_bay { bays.1 ≡ board.now.shared.key.value.settings.shelves }
-    requires lives { Lives caller.old.me.0.past }
-    requires held { caller.old.me ≡ holds_one caller.old.me.0.past bays.0 (OfShelf shelf.content) }
-    requires plan { IsPlan plan shelf.content step.now now }
-    requires room { HasRoom plan shelf step.now }
-    requires hash { plan.hash ≡ K.hash_of board.now.shared.key.value.hasher (key_of step.now) }
+    requires seat { IsAlive board.now.shared.table_id board.now.shared.key.value caller.old }
+    requires step { IsStepAt K.hash_of board.now.shared.key.value step.now plan.hash bays }
+    requires held { caller.old.me ≡ holds_one caller.old.me.0.past bays.0 (OfShelf shelf.value.content) }
+    requires plan { IsPlan plan shelf.value.content step.now now }
+    requires room { HasRoom plan shelf.value step.now }
     requires desk { wants_desk plan.next ≡ true }
-    requires key { length (key_of step.now) ≤ 250 }
-    requires own { shelf_in (start_of K.hash_of board.now.shared.key.value) (key_of step.now)
-        ≡ bays.0 }
-    ensures seat { (caller.new.table_id ≡ caller.old.table_id) × (caller.new.id ≡ caller.old.id) }
-    ensures ok { IfOk result (λ reply. RestsCalled (start_of K.hash_of board.now.shared.key.value)
-        caller.old.me step.now now reply caller.new.me) }
-    ensures err { OnErr result (caller.new.me ≡ resting caller.old.me.0.past) }
-    ensures fault { IfErr result (λ e. May (start_of K.hash_of board.now.shared.key.value)
-        caller.old.me.0.past step.now now e) }
+    ensures came { ComesOut (start_of K.hash_of board.now.shared.key.value) caller.old step.now now
+        May result caller.new }
 {
     let desk = match take(board, caller, bays.1) {
         Ok(bay) => desk_from(bay, bays.1),
         Err(word) => {
-            give(board, caller, bays.0, Bay::Shelf(shelf));
+            give(board, caller, bays.0, Bay::Shelf(Boxed::of(shelf)));
             return Err(TryFault::Busy { bay: bays.1, word });
         }
     };
@@ -377,49 +337,38 @@ pub(crate) fn apply_at_desk<K: KeyHash + Drop>(
     alloc: Global,
     caller: &mut Place,
     bays: (usize, usize),
-    shelf: Shelf,
-    desk: Desk,
+    shelf: Box<Shelf>,
+    desk: Box<Desk>,
     plan: Plan<'_>,
     step: &KeyStep<'_>,
     now: Moment,
 ) -> Result<Reply, StepFault>
-    requires table { IsSeatOf caller.old.table_id board.now.shared.table_id
-        board.now.shared.key.value.settings.shelves }
-    requires shelf { bays.0 < board.now.shared.key.value.settings.shelves }
-    requires desk_bay { bays.1 ≡ board.now.shared.key.value.settings.shelves }
-    requires lives { Lives caller.old.me.0.past }
-    requires held { caller.old.me ≡ holds_two caller.old.me.0.past bays.1 (OfDesk desk) bays.0
-        (OfShelf shelf.content) }
+    requires seat { IsAlive board.now.shared.table_id board.now.shared.key.value caller.old }
+    requires step { IsStepAt K.hash_of board.now.shared.key.value step.now plan.hash bays }
+    requires held { caller.old.me ≡ holds_two caller.old.me.0.past bays.1 (OfDesk desk.value) bays.0
+        (OfShelf shelf.value.content) }
     requires fits { Fitted (start_of K.hash_of board.now.shared.key.value) caller.old.me.0 }
-    requires plan { IsPlan plan shelf.content step.now now }
-    requires room { HasRoom plan shelf step.now }
-    requires hash { plan.hash ≡ K.hash_of board.now.shared.key.value.hasher (key_of step.now) }
+    requires plan { IsPlan plan shelf.value.content step.now now }
+    requires room { HasRoom plan shelf.value step.now }
     requires desk { wants_desk plan.next ≡ true }
-    requires key { length (key_of step.now) ≤ 250 }
-    requires own { shelf_in (start_of K.hash_of board.now.shared.key.value) (key_of step.now)
-        ≡ bays.0 }
-    ensures seat { (caller.new.table_id ≡ caller.old.table_id) × (caller.new.id ≡ caller.old.id) }
-    ensures ok { IfOk result (λ reply. RestsCalled (start_of K.hash_of board.now.shared.key.value)
-        caller.old.me step.now now reply caller.new.me) }
-    ensures err { OnErr result (caller.new.me ≡ resting caller.old.me.0.past) }
-    ensures fault { IfErr result (λ e. Refuses (start_of K.hash_of board.now.shared.key.value)
-        caller.old.me.0.past step.now now e) }
+    ensures came { ComesOut (start_of K.hash_of board.now.shared.key.value) caller.old step.now now
+        Refuses result caller.new }
 {
     steps_change_one_shelf();
     refusals_are_plain();
     let mut shelf = shelf;
     let mut desk = desk;
-    match shelf.apply(alloc, plan, step, &mut desk) {
+    match shelf.apply(alloc, plan, step, &mut *desk) {
         Ok(reply) => {
-            decide_at_desk(
-                board, caller, bays.1, desk, bays.0, &shelf, step, now, &reply,
+            decide_at_desk::<Brand, K>(
+                board, caller, bays.1, desk, bays.0, &*shelf, step, now, &reply,
             );
-            give(board, caller, bays.0, Bay::Shelf(shelf));
+            give(board, caller, bays.0, Bay::Shelf(Boxed::of(shelf)));
             Ok(reply)
         }
         Err(fault) => {
-            give(board, caller, bays.1, Bay::Desk(desk));
-            give(board, caller, bays.0, Bay::Shelf(shelf));
+            give(board, caller, bays.1, Bay::Desk(Boxed::of(desk)));
+            give(board, caller, bays.0, Bay::Shelf(Boxed::of(shelf)));
             Err(fault)
         }
     }
@@ -435,22 +384,22 @@ fn told(fault: StepFault) -> TryFault
     }
 }
 
-pub(crate) fn shelf_from(bay: Bay, at: usize, shelves: usize) -> Shelf
+pub(crate) fn shelf_from(bay: Bay, at: usize, shelves: usize) -> Box<Shelf>
     requires { IsAt shelves at bay × (at < shelves) }
-    ensures { bay ≡ Held.Shelf result }
+    ensures { bay ≡ Held.Shelf result.value }
 {
     match bay {
-        Bay::Shelf(shelf) => shelf,
+        Bay::Shelf(shelf) => shelf.into_box(),
         Bay::Desk(_) => unreachable!(),
     }
 }
 
-pub(crate) fn desk_from(bay: Bay, shelves: usize) -> Desk
+pub(crate) fn desk_from(bay: Bay, shelves: usize) -> Box<Desk>
     requires { IsAt shelves shelves bay }
-    ensures { bay ≡ Held.Desk result }
+    ensures { bay ≡ Held.Desk result.value }
 {
     match bay {
-        Bay::Desk(desk) => desk,
+        Bay::Desk(desk) => desk.into_box(),
         Bay::Shelf(_) => unreachable!(),
     }
 }

@@ -1,21 +1,14 @@
 //! Steps that are no calls of a session, and steps that wait.
-ghost use Rattle.std.specs.Prelude.{◌≡◌, ◌+◌, ◌<◌, ◌≤◌, [], ◌∷◌, None};
+ghost use Rattle.std.specs.Prelude.{◌≡◌, ◌<◌, ◌≤◌};
 ghost use Rattle.mc_shared.specs.History.{start_of, Purged};
-ghost use Rattle.mc_shared.specs.Past.{Lives, call};
-ghost use Rattle.mc_shared.specs.Steps.{
-  entry_of,
-  decided_by,
-  Agrees,
-  Decides,
-  IsSeatOf,
-  HoldsLast,
-  HasDecided,
-};
+ghost use Rattle.mc_shared.specs.Past.{call};
+ghost use Rattle.mc_shared.specs.Steps.{entry_of, Agrees, HasDecided};
 ghost use Rattle.mc_shared.specs.Store.{resting};
-ghost use Rattle.mc_shared.specs.Bays.{Content, OfShelf, OfDesk};
-ghost use Rattle.atomic_table.specs.Table.{rest};
+ghost use Rattle.mc_shared.specs.Seats.{SameSeat, IsFree, MayDecide};
+ghost use Rattle.mc_shared.specs.Bays.{OfShelf, OfDesk};
 
 use crate::bay::Bay;
+use crate::boxed::Boxed;
 use crate::flush::take_waiting;
 use crate::plays::Says;
 use crate::rule::{Board, Place};
@@ -27,58 +20,45 @@ use mc_time::Moment;
 use std::marker::Brand;
 use std::sync::Wait;
 
-/// What is told is told by the arguments' values alone: none of them is read.
-fn decide_purge_as<D: Says, K: KeyHash + Drop>(
+/// Gives back the desk, and decides a purge, while the shelf is held. What is decided is picked as
+/// at a shelf.
+fn decide_purge<D: Says, K: KeyHash + Drop>(
     board: &Board<K>,
     caller: &mut Place,
     bay: usize,
-    desk: Desk,
+    desk: Box<Desk>,
     _at: usize,
     _shelf: &Shelf,
     _now: Moment,
 )
     requires began { D.start ≡ start_of K.hash_of board.now.shared.key.value }
-    requires said { (D.what ≡ Purged _at _now) × (D.still ≡ (_at, OfShelf _shelf.now.content) ∷
-        []) }
-    requires table { IsSeatOf caller.old.table_id board.now.shared.table_id
-        board.now.shared.key.value.settings.shelves }
-    requires bay { bay < board.now.shared.table_id.words }
-    requires held { HoldsLast caller.old.me bay }
-    requires lives { Lives caller.old.me.0.past }
-    requires right { Decides (start_of K.hash_of board.now.shared.key.value) caller.old.me.0.bays
-        bay (OfDesk desk) (Purged _at _now) ((_at, OfShelf _shelf.now.content) ∷ []) }
-    ensures seat { (caller.new.table_id ≡ caller.old.table_id) × (caller.new.id ≡ caller.old.id) }
-    ensures view { HasDecided (start_of K.hash_of board.now.shared.key.value) caller.old.me
-        (Purged _at _now) ((_at, OfShelf _shelf.now.content) ∷ []) caller.new.me }
+    requires may { MayDecide board.now.shared.table_id board.now.shared.key.value caller.old bay
+        D.start (OfDesk desk.value) D.what D.still }
+    ensures seat { SameSeat caller.old caller.new }
+    ensures view { HasDecided D.start caller.old.me D.what D.still caller.new.me }
 {
-    decide_as::<D, K>(board, caller, bay, Bay::Desk(desk));
+    decide_as::<D, K>(board, caller, bay, Bay::Desk(Boxed::of(desk)));
 }
 
-/// Gives back the desk, and decides a purge, while the shelf is held.
-fn decide_purge<K: KeyHash + Drop>(
+/// Gives back a shelf in which nothing is dead, and decides a purge of it. What is decided is picked
+/// as at a shelf.
+fn decide_none_dead<D: Says, K: KeyHash + Drop>(
     board: &Board<K>,
     caller: &mut Place,
     bay: usize,
-    desk: Desk,
-    at: usize,
-    shelf: &Shelf,
-    now: Moment,
+    shelf: Box<Shelf>,
+    _now: Moment,
 )
-    requires table { IsSeatOf caller.old.table_id board.now.shared.table_id
-        board.now.shared.key.value.settings.shelves }
-    requires bay { bay < board.now.shared.table_id.words }
-    requires held { HoldsLast caller.old.me bay }
-    requires lives { Lives caller.old.me.0.past }
-    requires right { Decides (start_of K.hash_of board.now.shared.key.value) caller.old.me.0.bays
-        bay (OfDesk desk) (Purged at now) ((at, OfShelf shelf.now.content) ∷ []) }
-    ensures seat { (caller.new.table_id ≡ caller.old.table_id) × (caller.new.id ≡ caller.old.id) }
-    ensures view { HasDecided (start_of K.hash_of board.now.shared.key.value) caller.old.me
-        (Purged at now) ((at, OfShelf shelf.now.content) ∷ []) caller.new.me }
+    requires began { D.start ≡ start_of K.hash_of board.now.shared.key.value }
+    requires may { MayDecide board.now.shared.table_id board.now.shared.key.value caller.old bay
+        D.start (OfShelf shelf.value.content) D.what D.still }
+    ensures seat { SameSeat caller.old caller.new }
+    ensures view { HasDecided D.start caller.old.me D.what D.still caller.new.me }
 {
-    decide_purge_as::<Brand, K>(board, caller, bay, desk, at, shelf, now);
+    decide_as::<D, K>(board, caller, bay, Bay::Shelf(Boxed::of(shelf)));
 }
 
-/// A purge of a shelf.
+/// A purge of a shelf. Where nothing in it may be dead, the desk isn't taken.
 fn purge_by<K: KeyHash + Drop, R: Wait>(
     rt: &R,
     board: &Board<K>,
@@ -87,22 +67,23 @@ fn purge_by<K: KeyHash + Drop, R: Wait>(
     count: usize,
     now: Moment,
 )
-    requires lives { Lives caller.old.me.0.past }
-    requires table { IsSeatOf caller.old.table_id board.now.shared.table_id
-        board.now.shared.key.value.settings.shelves }
+    requires seat { IsFree board.now.shared.table_id board.now.shared.key.value caller.old }
     requires count { count ≡ board.now.shared.key.value.settings.shelves }
     requires shelf { at < count }
-    requires free { caller.old.me ≡ resting caller.old.me.0.past }
-    ensures seat { (caller.new.table_id ≡ caller.old.table_id) × (caller.new.id ≡ caller.old.id) }
+    ensures seat { SameSeat caller.old caller.new }
     ensures done { (caller.new.me ≡ resting (call caller.old.me.0.past
         (entry_of caller.old.me.0.past (Purged at now))))
         × Agrees (start_of K.hash_of board.now.shared.key.value) caller.new.me.0.past }
 {
     let mut shelf = shelf_from(take_waiting(rt, board, caller, at), at, count);
+    if !shelf.may_have_dead(now) {
+        decide_none_dead::<Brand, K>(board, caller, at, shelf, now);
+        return;
+    }
     let mut desk = desk_from(take_waiting(rt, board, caller, count), count);
-    shelf.purge_part(now, &mut desk);
-    decide_purge(board, caller, count, desk, at, &shelf, now);
-    give(board, caller, at, Bay::Shelf(shelf));
+    shelf.purge_part(now, &mut *desk);
+    decide_purge::<Brand, K>(board, caller, count, desk, at, &*shelf, now);
+    give(board, caller, at, Bay::Shelf(Boxed::of(shelf)));
 }
 
 /// Moves up to `n` entries of a shelf. Nothing is decided.
@@ -114,25 +95,23 @@ fn grow_by<K: KeyHash + Drop, R: Wait>(
     count: usize,
     n: usize,
 ) -> usize
-    requires lives { Lives caller.old.me.0.past }
-    requires table { IsSeatOf caller.old.table_id board.now.shared.table_id
-        board.now.shared.key.value.settings.shelves }
+    requires seat { IsFree board.now.shared.table_id board.now.shared.key.value caller.old }
     requires count { count ≡ board.now.shared.key.value.settings.shelves }
     requires shelf { at < count }
-    requires free { caller.old.me ≡ resting caller.old.me.0.past }
-    ensures seat { (caller.new.table_id ≡ caller.old.table_id) × (caller.new.id ≡ caller.old.id) }
+    ensures seat { SameSeat caller.old caller.new }
     ensures done { caller.new.me ≡ resting caller.old.me.0.past }
     ensures moved { result ≤ n }
 {
     let mut shelf = shelf_from(take_waiting(rt, board, caller, at), at, count);
     let moved = shelf.grow(n);
-    give(board, caller, at, Bay::Shelf(shelf));
+    give(board, caller, at, Bay::Shelf(Boxed::of(shelf)));
     moved
 }
 
 impl<K: KeyHash + Drop> Shared<K> {
-    /// Drops the items of a shelf that are dead at a moment. It waits for the shelf and the desk,
-    /// and takes no memory. The cost is that of one pass over the shelf's items.
+    /// Drops the items of a shelf that are dead at a moment. It waits for the shelf, and where an
+    /// item in it may be dead for the desk, and takes no memory. The cost is that of one pass over
+    /// the shelf's items, and where none may be dead it walks none.
     pub fn tidy<R: Wait>(&self, rt: &R, caller: &mut Caller, shelf: u32, now: Moment)
         requires own { caller.old.table ≡ self.now.table }
         requires shelf { shelf < self.now.began.settings.shelves }

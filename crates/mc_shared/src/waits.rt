@@ -1,13 +1,13 @@
 //! Steps that wait for what others hold.
-ghost use Rattle.std.specs.Prelude.{◌≡◌, ◌+◌, ◌<◌, ◌≤◌, ◌%◌, length, IfOk, IfErr, OnErr};
+ghost use Rattle.std.specs.Prelude.{◌≡◌, ◌≤◌, length};
 ghost use Rattle.mc_command.specs.Commands.{key_of};
 ghost use Rattle.mc_command.specs.Laws.{IsOnKey};
-ghost use Rattle.mc_shared.specs.History.{start_of, shelf_in};
-ghost use Rattle.mc_shared.specs.Past.{Lives};
-ghost use Rattle.mc_shared.specs.Steps.{Agrees, IsSeatOf};
-ghost use Rattle.mc_shared.specs.Store.{resting, with_call, Refuses, HasCalled, RestsCalled};
+ghost use Rattle.mc_shared.specs.History.{start_of};
+ghost use Rattle.mc_shared.specs.Store.{Refuses};
+ghost use Rattle.mc_shared.specs.Seats.{IsFree, IsStepAt, ComesOut, IsAnswered};
 
 use crate::bay::Bay;
+use crate::boxed::Boxed;
 use crate::flush::take_waiting;
 use crate::rule::{Board, Place};
 use crate::steps::give;
@@ -42,35 +42,22 @@ fn step_waiting<K: KeyHash + Drop, R: Wait, G: Gate>(
     hash: u64,
     now: Moment,
 ) -> Result<Reply, StepFault>
-    requires table { IsSeatOf caller.old.table_id board.now.shared.table_id
-        board.now.shared.key.value.settings.shelves }
-    requires shelf { bays.0 < board.now.shared.key.value.settings.shelves }
-    requires desk_bay { bays.1 ≡ board.now.shared.key.value.settings.shelves }
-    requires lives { Lives caller.old.me.0.past }
-    requires free { caller.old.me ≡ resting caller.old.me.0.past }
-    requires on_key { IsOnKey step.now }
-    requires key { length (key_of step.now) ≤ 250 }
-    requires hash { hash ≡ K.hash_of board.now.shared.key.value.hasher (key_of step.now) }
-    requires own { shelf_in (start_of K.hash_of board.now.shared.key.value) (key_of step.now)
-        ≡ bays.0 }
-    ensures seat { (caller.new.table_id ≡ caller.old.table_id) × (caller.new.id ≡ caller.old.id) }
-    ensures ok { IfOk result (λ reply. RestsCalled (start_of K.hash_of board.now.shared.key.value)
-        caller.old.me step.now now reply caller.new.me) }
-    ensures err { OnErr result (caller.new.me ≡ resting caller.old.me.0.past) }
-    ensures fault { IfErr result (λ e. Refuses (start_of K.hash_of board.now.shared.key.value)
-        caller.old.me.0.past step.now now e) }
+    requires seat { IsFree board.now.shared.table_id board.now.shared.key.value caller.old }
+    requires step { IsStepAt K.hash_of board.now.shared.key.value step.now hash bays }
+    ensures came { ComesOut (start_of K.hash_of board.now.shared.key.value) caller.old step.now now
+        Refuses result caller.new }
 {
     let mut shelf = shelf_from(take_waiting(rt, board, caller, bays.0), bays.0, bays.1);
     gate.0.inside(gate.1);
     let Ok(plan) = shelf.look(alloc, step, hash, now) else {
-        give(board, caller, bays.0, Bay::Shelf(shelf));
+        give(board, caller, bays.0, Bay::Shelf(Boxed::of(shelf)));
         return Err(StepFault::NoMemory);
     };
     if plan.needs_desk() {
         let desk = desk_from(take_waiting(rt, board, caller, bays.1), bays.1);
         apply_at_desk(board, alloc, caller, bays, shelf, desk, plan, step, now)
     } else {
-        Ok(step_at_shelf(board, caller, bays.0, shelf, plan, step, now))
+        Ok(step_at_shelf(board, caller, bays, shelf, plan, step, now))
     }
 }
 
@@ -87,12 +74,8 @@ impl<K: KeyHash + Drop> Shared<K> {
     ) -> Result<Reply, StepFault>
         requires own { caller.old.table ≡ self.now.table }
         requires key { length (key_of step.now) ≤ 250 }
-        ensures same { caller.new.table ≡ caller.old.table }
-        ensures ok { IfOk result (λ reply. HasCalled (start_of K.hash_of self.now.began)
-            caller.old.past step.now now reply caller.new.past) }
-        ensures err { OnErr result (caller.new.past ≡ caller.old.past) }
-        ensures fault { IfErr result (λ e. Refuses (start_of K.hash_of self.now.began)
-            caller.old.past step.now now e) }
+        ensures { IsAnswered (start_of K.hash_of self.now.began) caller.old step.now now Refuses
+            result caller.new }
     {
         self.step_at(rt, alloc, caller, step, now, &NoGate)
     }
@@ -111,12 +94,8 @@ impl<K: KeyHash + Drop> Shared<K> {
     ) -> Result<Reply, StepFault>
         requires own { caller.old.table ≡ self.now.table }
         requires key { length (key_of step.now) ≤ 250 }
-        ensures same { caller.new.table ≡ caller.old.table }
-        ensures ok { IfOk result (λ reply. HasCalled (start_of K.hash_of self.now.began)
-            caller.old.past step.now now reply caller.new.past) }
-        ensures err { OnErr result (caller.new.past ≡ caller.old.past) }
-        ensures fault { IfErr result (λ e. Refuses (start_of K.hash_of self.now.began)
-            caller.old.past step.now now e) }
+        ensures { IsAnswered (start_of K.hash_of self.now.began) caller.old step.now now Refuses
+            result caller.new }
     {
         match step {
             KeyStep::Flush { delay } => Ok(self.flush(rt, alloc, caller, *delay, now)?),
@@ -137,12 +116,8 @@ impl<K: KeyHash + Drop> Shared<K> {
         requires own { caller.old.table ≡ self.now.table }
         requires on_key { IsOnKey step.now }
         requires key { length (key_of step.now) ≤ 250 }
-        ensures same { caller.new.table ≡ caller.old.table }
-        ensures ok { IfOk result (λ reply. HasCalled (start_of K.hash_of self.now.began)
-            caller.old.past step.now now reply caller.new.past) }
-        ensures err { OnErr result (caller.new.past ≡ caller.old.past) }
-        ensures fault { IfErr result (λ e. Refuses (start_of K.hash_of self.now.began)
-            caller.old.past step.now now e) }
+        ensures { IsAnswered (start_of K.hash_of self.now.began) caller.old step.now now Refuses
+            result caller.new }
     {
         let hash = self.hasher.hash(step.key());
         let desk = self.settings.shelves as usize;

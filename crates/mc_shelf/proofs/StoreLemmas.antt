@@ -14,7 +14,7 @@ use Rattle.mc_command.specs.declared.reply.Reply.{Reply}
 use Rattle.mc_command.specs.Commands.{key_of}
 use Rattle.mc_command.specs.Laws.{IsOnKey}
 use Rattle.mc_slab.specs.Classes.{class_holding}
-use Rattle.mc_command.specs.Plain.{Answered, Spent, Entry, Outcome, Plain, alive, block_of, changed, charge, count_of, has_room, keeps_chunk, opening, plain, row_of, stepped, without_dead, written_block}
+use Rattle.mc_command.specs.Plain.{Answered, Spent, Entry, Outcome, Plain, alive, block_of, changed, charge, count_of, has_room, keeps_chunk, plain, row_of, starting, stepped, without_dead, written_block}
 use Rattle.mc_shelf.specs.States.{ShelfContent, ShelfState, DeskState, IsAt, nothing_held}
 use Rattle.mc_shelf.specs.Plans.{IsTaken, IsSpent}
 use Rattle.mc_shelf.specs.Parts.{shelf_of, IsShelfOf, IsDeskOf, ArePartsOf, GoesTo, GoesByStep}
@@ -30,15 +30,15 @@ of_replicate zero k x y there = cc
 of_replicate (suc n) zero x y there = sym (same_Some x y there)
 of_replicate (suc n) (suc k) x y there = of_replicate n k x y there
 
-pub new_parts : {hash_of : List ℕ → ℕ} {count pages greatest : ℕ} {list : List ShelfState} {desk : DeskState} → 0 < count → ((class : ℕ) → count_of empty class ≡ 0)
-    → map (λ shelf. shelf.content) list ≡ replicate count (nothing_held greatest) → desk ≡ record { slab = untouched pages; next_unique = 1 } → ArePartsOf hash_of (opening pages greatest) list count desk
-new_parts {hash_of} {count} {pages} {greatest} {list} some none contents new_desk = record {
+pub new_parts : {hash_of : List ℕ → ℕ} {count pages greatest next : ℕ} {list : List ShelfState} {desk : DeskState} → 0 < count → ((class : ℕ) → count_of empty class ≡ 0)
+    → map (λ shelf. shelf.content) list ≡ replicate count (nothing_held greatest) → desk ≡ record { slab = untouched pages; next_unique = next } → ArePartsOf hash_of (starting pages greatest next) list count desk
+new_parts {hash_of} {count} {pages} {greatest} {next} {list} some none contents new_desk = record {
   number = sym (length-map list (λ (s : ShelfState). s.content)) ∙ ap length contents ∙ length-replicate count (nothing_held greatest);
   some_shelf = some;
   each = λ at shelf here.
       let content_is : shelf.content ≡ nothing_held greatest =
       of_replicate count at (nothing_held greatest) shelf.content (sym (ap (λ (l : List ShelfContent). slice_get l at) contents) ∙ slice_get-map (λ (s : ShelfState). s.content) list at ∙ ap (option_map (λ (s : ShelfState). s.content)) here) in
-      subst (IsShelfOf hash_of count (opening pages greatest) at) (sym content_is) (record {
+      subst (IsShelfOf hash_of count (starting pages greatest next) at) (sym content_is) (record {
         greatest = refl;
         cut = refl;
         items = λ key own. refl;

@@ -142,6 +142,21 @@ fn moment_after(dice: &mut Dice, turn: u64) -> Moment {
     Moment::from_seconds_at_most((1000 + turn / 20).saturating_add(dice.roll(12)))
 }
 
+/// Eight hashes of one shelf, whose homes stand side by side.
+#[derive(Clone, Copy)]
+struct EightHashes;
+
+impl KeyHash for EightHashes {
+    ghost use Rattle.std.specs.Prelude.{◌*◌, ◌%◌};
+    ghost use Rattle.mc_hop.specs.Hash.{fnv};
+
+    ghost hash_of = { λ hasher key. fnv key % 8 * 256 };
+
+    fn hash(&self, key: &[u8]) -> u64 {
+        Fnv.hash(key) % 8 * 256
+    }
+}
+
 /// All keys.
 #[derive(Drop)]
 struct AllKeys;
@@ -226,6 +241,18 @@ fn they_are_so_while_a_table_of_one_hash_grows(rt: HostRuntime) -> Result<(), Fa
     let alloc = rt.alloc();
     let mut pair = match Pair::open(alloc, Constant(0)) {
         Err(_) => Pair::open(alloc, Constant(0))?,
+        Ok(pair) => pair,
+    };
+    let moved = pair.compare(&rt, alloc)?;
+    assert!(rt; moved, "no entry was moved");
+    Ok(())
+}
+
+#[test]
+fn they_are_so_while_a_table_of_eight_hashes_grows(rt: HostRuntime) -> Result<(), Fail> {
+    let alloc = rt.alloc();
+    let mut pair = match Pair::open(alloc, EightHashes) {
+        Err(_) => Pair::open(alloc, EightHashes)?,
         Ok(pair) => pair,
     };
     let moved = pair.compare(&rt, alloc)?;

@@ -32,25 +32,18 @@ impl Model for Desk {
 }
 
 impl Desk {
-    /// Makes a desk of that many pages, 1 to 65536, none of which has gone to a class, whose first number is 1. The one error
-    /// is a refused allocation.
-    pub fn new(alloc: Global, pages: u32) -> Result<Desk, AllocError>
-        requires { (1 ≤ pages) × (pages ≤ 65536) }
+    /// Makes a desk of that many pages, 1 to 65536, none of which has gone to a class. Its first number is `next`, at least
+    /// 1. The one error is a refused allocation.
+    pub fn starting(alloc: Global, pages: u32, next: u64) -> Result<Desk, AllocError>
+        requires pages { (1 ≤ pages) × (pages ≤ 65536) }
+        requires next { 1 ≤ next }
         ensures { IfOk result (λ desk.
-            desk ≡ record { slab = untouched pages; next_unique = 1 }) }
+            desk ≡ record { slab = untouched pages; next_unique = next }) }
     {
         Ok(Desk {
             slab: Slab::new(alloc, pages)?,
-            next_unique: 1,
+            next_unique: next,
         })
-    }
-
-    /// Goes to the last unique number.
-    #[cfg(test)]
-    pub(crate) fn skip_to_the_last(&mut self)
-        ensures { self.new ≡ record self.old { next_unique = 2 ^ 64 - 2 } }
-    {
-        self.next_unique = u64::MAX - 1;
     }
 
     /// Tells what the class has: its pages, and its chunks that items lie in.

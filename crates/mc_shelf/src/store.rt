@@ -8,7 +8,7 @@ mod tests;
 
 ghost use Rattle.std.specs.Prelude.{◌≡◌, ◌↔◌, ◌-◌, ◌≤◌, min, length, replicate, slice_index, slice_set, IfOk, OnErr, Err, refl};
 ghost use Rattle.mc_command.specs.Commands.{key_of, longest_key};
-ghost use Rattle.mc_command.specs.Plain.{Plain, opening, plain, Answered, Spent, MayFail};
+ghost use Rattle.mc_command.specs.Plain.{Plain, opening, starting, plain, Answered, Spent, MayFail};
 ghost use Rattle.mc_command.specs.Laws.{IsOnKey};
 ghost use Rattle.mc_shelf.specs.Parts.{ArePartsOf};
 ghost use Rattle.mc_shelf.specs.Stores.{IsSetUp, AreAlike, HoldSame, TookStep, shelf_purged};
@@ -89,9 +89,30 @@ impl<K: KeyHash + Drop> Store<K> {
         ensures hasher { IfOk result (λ store. store.hasher ≡ hasher) }
         ensures left { IfOk result (λ store. store.left ≡ replicate settings.shelves 0) }
     {
+        Store::starting(alloc, settings, hasher, 1)
+    }
+
+    /// Makes the same, whose first write draws the unique number `next`, at least 1. At 2^64 - 1 the
+    /// numbers are spent. The one error is a refused allocation.
+    pub fn starting(
+        alloc: Global,
+        settings: Settings,
+        hasher: K,
+        next: u64,
+    ) -> Result<Store<K>, AllocError>
+        requires pages { 1 ≤ settings.pages × settings.pages ≤ 65536 }
+        requires greatest { settings.greatest ≡ 1048576 }
+        requires shelves { settings.shelves ≡ 64 }
+        requires next { 1 ≤ next }
+        ensures plain { IfOk result (λ store.
+            store.plain ≡ starting settings.pages settings.greatest next) }
+        ensures settings { IfOk result (λ store. store.settings ≡ settings) }
+        ensures hasher { IfOk result (λ store. store.hasher ≡ hasher) }
+        ensures left { IfOk result (λ store. store.left ≡ replicate settings.shelves 0) }
+    {
         counts_follow();
         let shelves = parts::empty_shelves(alloc, settings.shelves, settings.greatest)?;
-        let desk = Desk::new(alloc, settings.pages)?;
+        let desk = Desk::starting(alloc, settings.pages, next)?;
         Ok(Store {
             parts: StoreParts {
                 settings,

@@ -19,6 +19,16 @@ pub record StockAt (left : ℕ) (stocks : List StockState) (class index : ℕ) (
   pub place : index ≡ class - 1
   pub there : stock ≡ get_or stocks index stock
 
+pub stock_at : (left : ℕ) (stocks : List StockState) (class index : ℕ) (stock : StockState)
+    → AreStocks left stocks → IsClass class → index ≡ class - 1 → stock ≡ get_or stocks index stock
+    → StockAt left stocks class index stock
+stock_at left stocks class index stock are is_class place there = record {
+  stocks_are = are;
+  is_class = is_class;
+  place = place;
+  there = there;
+}
+
 -- there are 40 stocks
 length-stocks : (left : ℕ) (stocks : List StockState) → AreStocks left stocks → length stocks ≡ 40
 length-stocks left stocks are = sym (length-map stocks (λ (s : StockState). s.class)) ∙ ap length are.classes ∙ length-range_with_len 1 40

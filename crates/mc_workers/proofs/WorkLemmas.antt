@@ -1,15 +1,15 @@
 -- What a round does to the store that it is lent, and to a caller's past.
 use Rattle.std.specs.Prelude.{MatchOption, slice_get}
-use Rattle.std.proofs.Common.{◌≡◌, ◌⊎◌, inl, inr, ℕ, List, Option, Some, None, refl, sym, ap, ◌∙◌, subst}
+use Rattle.std.proofs.Common.{◌≡◌, inl, inr, ℕ, List, Option, Some, None, refl, sym, ap, ◌∙◌, subst}
 use Rattle.mc_command.specs.Commands.{steps}
 use Rattle.mc_command.specs.declared.command.Command.{Command}
 use Rattle.mc_command.specs.declared.step.KeyStep.{KeyStep}
 use Rattle.mc_command.specs.declared.step.Steps.{Ghosts as Relations}
 use Rattle.mc_command.specs.declared.reply.Reply.{Reply}
 use Rattle.mc_parse.specs.Units.{ProtocolUnit, Request, Fault, LongLine}
-use Rattle.mc_session.specs.Turns.{SessionState, Answers, AnswersStep, TakesTurn}
-use Rattle.mc_shared.specs.History.{Start, What}
-use Rattle.mc_shared.specs.Past.{Past, call}
+use Rattle.mc_session.specs.Turns.{Answers, AnswersStep}
+use Rattle.mc_shared.specs.History.{Beginning, Operation}
+use Rattle.mc_shared.specs.Past.{Past}
 use Rattle.mc_shared.specs.Asking.{AskingState, AsksOnce, Further, nothing, more, GoesFurther}
 use Rattle.mc_workers.specs.Guests.{GuestState}
 use Rattle.mc_workers.specs.Visits.{Does, Visited, GoesRound, nobody, next}
@@ -80,7 +80,7 @@ goes_both a b c f g = record {
   calls = further_both a.past b.past c.past f.calls g.calls;
 }
 
-pub goes_once : {K : Type 0} (start : Start) (what : What) (old new : AskingState K)
+pub goes_once : {K : Type 0} (start : Beginning) (what : Operation) (old new : AskingState K)
     → AsksOnce start what old new → GoesFurther old new
 goes_once {K} start what old new asks = record {
   began = ap (λ (s : AskingState K). s.began) asks.past;

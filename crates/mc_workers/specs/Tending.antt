@@ -1,5 +1,4 @@
 -- A caller that a worker lends to its guests.
-use Rattle.std.specs.Prelude.{◌≡◌}
 use Rattle.mc_shelf.specs.Stores.{StoreState}
 use Rattle.mc_shared.specs.Shown.{CallerState}
 use Rattle.mc_shared.specs.Asking.{AskingState}

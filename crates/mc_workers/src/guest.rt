@@ -29,8 +29,11 @@ pub enum Visit {
     Refused,
 }
 
-/// How many bytes are read at once at most.
-const PIECE: usize = 16384;
+/// How many bytes are read at once at first: a link that is idle holds so many.
+const FIRST_PIECE: usize = 2048;
+
+/// How many bytes are read at once at most, once a read filled the first piece.
+const LONGEST_PIECE: usize = 16384;
 
 /// A session with its link. Contracts see both, and the answer of the last visit.
 #[derive(Drop)]
@@ -55,7 +58,7 @@ impl<L: Link + Drop> Guest<L> {
     pub fn new(alloc: Global, link: L, greatest: u64) -> Result<Guest<L>, AllocError>
         ensures { IfOk result (λ guest. guest ≡ welcomed greatest (L.shown link)) }
     {
-        let piece = vec![in alloc; 0; PIECE]?;
+        let piece = vec![in alloc; 0; FIRST_PIECE]?;
         Ok(Guest {
             session: Session::new(alloc, greatest),
             link,
@@ -149,10 +152,13 @@ impl<L: Link + Drop> Guest<L> {
         let piece = self.piece.as_mut_slice();
         match self.link.try_read(piece) {
             Ok(Got::Bytes(0) | Got::Later) => Visit::Later,
-            Ok(Got::Bytes(given)) => {
-                let (given, _) = piece.split_at(given);
+            Ok(Got::Bytes(count)) => {
+                let (given, _) = piece.split_at(count);
                 match self.session.feed(given) {
-                    Ok(()) => Visit::Read,
+                    Ok(()) => {
+                        self.widen(count);
+                        Visit::Read
+                    }
                     Err(_) => {
                         self.session.close();
                         Visit::Refused
@@ -167,6 +173,15 @@ impl<L: Link + Drop> Guest<L> {
                 self.session.close();
                 Visit::Broken
             }
+        }
+    }
+
+    /// Makes the piece longer where a read filled it. Without memory for that it stays.
+    fn widen(&mut self, given: usize)
+        ensures { self.new ≡ self.old }
+    {
+        if given == self.piece.len() && given < LONGEST_PIECE {
+            let _ = self.piece.resize(LONGEST_PIECE, 0);
         }
     }
 }

@@ -1,10 +1,10 @@
 //! The guests of one worker.
-ghost use Rattle.std.specs.Prelude.{◌≡◌, ◌≤◌, ◌<◌, ◌+◌, ℕ};
+ghost use Rattle.std.specs.Prelude.{◌≡◌, ◌<◌, ◌+◌};
 ghost use Rattle.mc_workers.specs.Visits.{MakesRound};
 
 use crate::guest::{Guest, Visit};
 use crate::link::Link;
-use crate::rounds::round;
+use crate::row::Row;
 use mc_command::Steps;
 use mc_time::Moment;
 use std::alloc::Global;
@@ -25,21 +25,18 @@ pub struct WorkEnd {
 /// links are named. Contracts see how many are awake.
 #[derive(Drop)]
 pub struct Guests<L: Link + Drop> {
-    guests: Vec<Guest<L>>,
-    /// The number of each one's link.
-    numbers: Vec<u64>,
+    row: Row<L>,
     awake: usize,
 }
 
 impl<L: Link + Drop> Model for Guests<L> {
-    ghost use Rattle.std.specs.Prelude.{◌≡◌, ◌≤◌, ℕ, length};
+    ghost use Rattle.std.specs.Prelude.{◌≤◌, ℕ};
 
     ghost Value = { ℕ };
 
     ghost view = { λ g. g.awake };
 
-    ghost invariant = { λ g. (g.awake ≤ length g.guests.items)
-        × (length g.numbers.items ≡ length g.guests.items) };
+    ghost invariant = { λ g. g.awake ≤ g.row };
 }
 
 /// How a guest that is awake goes on.
@@ -54,15 +51,14 @@ impl<L: Link + Drop> Guests<L> {
     /// Has no guests. It takes no memory.
     pub fn new(alloc: Global) -> Guests<L> {
         Guests {
-            guests: Vec::new(alloc),
-            numbers: Vec::new(alloc),
+            row: Row::new(alloc),
             awake: 0,
         }
     }
 
     /// Says whether there are none.
     pub fn is_empty(&self) -> bool {
-        self.guests.is_empty()
+        self.row.len() == 0
     }
 
     /// Says whether none is awake.
@@ -76,25 +72,19 @@ impl<L: Link + Drop> Guests<L> {
         let Ok(guest) = Guest::new(alloc, link, greatest) else {
             return false;
         };
-        if self.numbers.push(number).is_err() {
-            return false;
+        let place = self.row.len();
+        if self.row.push(guest, number) {
+            self.wake_at(place);
+            return true;
         }
-        if self.guests.push(guest).is_err() {
-            self.numbers.pop();
-            return false;
-        }
-        let last = self.guests.len() - 1;
-        self.wake_at(last);
-        true
+        false
     }
 
     /// Visits each that is awake once.
     pub fn visit_all<S: Steps>(&mut self, alloc: Global, store: &mut S, now: Moment)
         ensures { MakesRound S.Steps now store.old store.new }
     {
-        let count = self.awake;
-        let (awake, _asleep) = self.guests.as_mut_slice().split_at_mut(count);
-        round(alloc, awake, store, now);
+        self.row.visit_front(alloc, self.awake, store, now);
     }
 
     /// Lets go of those that have ended, which are counted, and lets those sleep that answered
@@ -111,7 +101,7 @@ impl<L: Link + Drop> Guests<L> {
         if at >= self.awake {
             return at;
         }
-        let last = self.guests[at].last();
+        let last = self.row.last(at);
         match fate_of(last, end) {
             Fate::GoesOn => return at + 1,
             Fate::Sleeps => self.put_behind(at),
@@ -122,10 +112,17 @@ impl<L: Link + Drop> Guests<L> {
 
     /// Wakes the guest whose link has this number, if it sleeps.
     pub fn wake(&mut self, number: u64) {
-        let (_, asleep) = self.numbers.as_slice().split_at(self.awake);
-        if let Some(at) = asleep.iter().position(|one| *one == number) {
-            let place = self.awake + at;
+        if let Some(place) = self.row.place_of(number) {
             self.wake_at(place);
+        }
+    }
+
+    /// Wakes the guest at a place, if one sleeps there.
+    fn wake_at(&mut self, at: usize) {
+        if self.awake <= at && at < self.row.len() {
+            let first = self.awake;
+            self.row.swap(at, first);
+            self.awake = first + 1;
         }
     }
 
@@ -135,8 +132,7 @@ impl<L: Link + Drop> Guests<L> {
         ensures { self.new + 1 ≡ self.old }
     {
         let last = self.awake - 1;
-        self.guests.as_mut_slice().swap(at, last);
-        self.numbers.as_mut_slice().swap(at, last);
+        self.row.swap(at, last);
         self.awake = last;
     }
 
@@ -146,21 +142,11 @@ impl<L: Link + Drop> Guests<L> {
         ensures { self.new + 1 ≡ self.old }
     {
         let last = self.awake - 1;
-        self.guests.as_mut_slice().swap(at, last);
-        self.numbers.as_mut_slice().swap(at, last);
-        self.guests.swap_remove(last);
-        self.numbers.swap_remove(last);
+        self.row.swap(at, last);
+        let end = self.row.len() - 1;
+        self.row.swap(last, end);
         self.awake = last;
-    }
-
-    /// Wakes the guest at a place, if one sleeps there.
-    fn wake_at(&mut self, at: usize) {
-        if self.awake <= at && at < self.guests.len() {
-            let first = self.awake;
-            self.guests.as_mut_slice().swap(at, first);
-            self.numbers.as_mut_slice().swap(at, first);
-            self.awake = first + 1;
-        }
+        self.row.pop();
     }
 }
 

@@ -1,17 +1,26 @@
 //! Worker loops over links.
 #![tactic(auto)]
 
+#[cfg(test)]
+mod gate_tests;
 mod guest;
 mod guests;
+#[cfg(test)]
+mod held;
+mod laws;
 mod link;
 mod rounds;
+mod row;
 mod tending;
 #[cfg(test)]
 mod tests;
+#[cfg(test)]
+mod visit_tests;
 mod worker;
 
 pub use guest::{Guest, Visit};
 pub use guests::WorkEnd;
+pub use laws::{links_take_texts_of_turns, rounds_are_visits};
 pub use link::{Got, Link, LinkFault, Took};
 pub use mc_shared::{Gate, NoGate};
 pub use rounds::round;

@@ -1,115 +1,17 @@
+//! Workers over links in memory, in one thread.
+
 use crate::guests::WorkEnd;
-use crate::link::{Got, Link, LinkFault, Took};
-use crate::worker::{Links, Next, work};
+use crate::held::{HeldLink, HeldLinks, Seen};
+use crate::worker::work;
+use mc_command::{KeyStep, Reply, StepFault};
 use mc_hop::Fnv;
 use mc_shared::{NoGate, Shared};
 use mc_shelf::{Settings, Store};
+use mc_testing::{Ask, SESSIONS, step_of};
 use mc_time::{Fixed, Moment};
 use std::alloc::Global;
 use std::sync::Wait;
-use std::sync::atomic::{AtomicU64, Ordering};
 use std::test::*;
-
-/// A link in memory, which gives its input and takes output one byte at a time, and fails at one of
-/// its calls. It counts the bytes of its output that are as expected, and those that aren't.
-#[derive(Drop)]
-struct HeldLink<'a> {
-    input: &'a [u8],
-    /// How many bytes of the input were given.
-    at: usize,
-    output: Vec<u8>,
-    expected: &'a [u8],
-    right: &'a AtomicU64,
-    wrong: &'a AtomicU64,
-    /// The call that fails; none does at 0.
-    left: u64,
-    faults: u64,
-    is_ended: bool,
-}
-
-impl<'a> Link for HeldLink<'a> {
-    ghost use Rattle.std.specs.Prelude.{take, Some};
-
-    ghost shown = { λ s. record {
-      given = Some (take s.at s.input.now);
-      taken = Some s.output.items;
-      faults = s.faults;
-      is_ended = s.is_ended;
-    } };
-
-    fn try_read(&mut self, piece: &mut [u8]) -> Result<Got, LinkFault> {
-        if self.faults == u64::MAX {
-            return Ok(Got::Later);
-        }
-        if self.left == 1 {
-            self.left = 0;
-            self.faults += 1;
-            return Err(LinkFault);
-        }
-        self.left = self.left.saturating_sub(1);
-        if self.at >= self.input.len() {
-            self.is_ended = true;
-            return Ok(Got::End);
-        }
-        if piece.len() == 0 {
-            return Ok(Got::Later);
-        }
-        piece[0] = self.input[self.at];
-        self.at += 1;
-        Ok(Got::Bytes(1))
-    }
-
-    fn try_write(&mut self, bytes: &[u8]) -> Result<Took, LinkFault> {
-        if self.faults == u64::MAX {
-            return Ok(Took::Later);
-        }
-        if self.left == 1 {
-            self.left = 0;
-            self.faults += 1;
-            return Err(LinkFault);
-        }
-        self.left = self.left.saturating_sub(1);
-        if bytes.is_empty() {
-            return Ok(Took::Later);
-        }
-        let byte = bytes[0];
-        let counter = if self.expected.get(self.output.len()) == Some(&byte) {
-            self.right
-        } else {
-            self.wrong
-        };
-        counter.fetch_add(1, Ordering::SeqCst);
-        match self.output.push(byte) {
-            Ok(()) => Ok(Took::Bytes(1)),
-            Err(_) => Ok(Took::Later),
-        }
-    }
-
-    fn faults(&self) -> u64 {
-        self.faults
-    }
-}
-
-/// One link, and then none.
-#[derive(Drop)]
-struct OneLink<'a> {
-    link: Option<HeldLink<'a>>,
-}
-
-impl<'a> Links<HeldLink<'a>> for OneLink<'a> {
-    fn next(&mut self) -> Next<HeldLink<'a>> {
-        match self.link.take() {
-            Some(link) => Next::Link(link),
-            None => Next::Closed,
-        }
-    }
-
-    fn ready(&mut self) -> Option<u64> {
-        Some(0)
-    }
-
-    fn rest(&mut self) {}
-}
 
 const SETTINGS: Settings = Settings {
     pages: 64,
@@ -123,56 +25,172 @@ fn served<R: Wait>(
     alloc: Global,
     input: &[u8],
     expected: &[u8],
-) -> Result<(WorkEnd, u64, u64), Fail> {
+) -> Result<(WorkEnd, (u64, u64)), Fail> {
     let now = Moment::from_seconds_at_most(1000);
-    let right = AtomicU64::new(0);
-    let wrong = AtomicU64::new(0);
+    let seen = Seen::nothing();
     let (shared, caller) = Shared::over(alloc, Store::new(alloc, SETTINGS, Fnv)?)?;
-    let link = HeldLink {
-        input,
-        at: 0,
-        output: Vec::new(alloc),
-        expected,
-        right: &right,
-        wrong: &wrong,
-        left: 0,
-        faults: 0,
-        is_ended: false,
-    };
-    let mut links = OneLink { link: Some(link) };
+    let mut links = HeldLinks::one(HeldLink::new(alloc, input, expected, &seen));
     let (_caller, end) = work(rt, alloc, &shared, caller, &mut links, &NoGate, &Fixed(now));
-    Ok((
+    Ok((end, seen.told()))
+}
+
+/// One session that was served.
+const ONE_SERVED: WorkEnd = WorkEnd {
+    served: 1,
+    broken: 0,
+    refused: 0,
+};
+
+#[test]
+fn links_take_what_sessions_write(rt: HostRuntime) -> Result<(), Fail> {
+    for (input, output) in SESSIONS {
+        let (end, told) = served(&rt, rt.alloc(), input.as_bytes(), output.as_bytes())?;
+        assert_eq!(rt; end, ONE_SERVED);
+        assert_eq!(rt; told, (output.len() as u64, 0));
+    }
+    Ok(())
+}
+
+/// What sessions of a new store read and what they write, beside those of all crates' tests.
+const ROWS: [(&str, &str); 8] = [
+    (
+        "set a 0 0 1 noreply\r\nx\r\nget a\r\nquit\r\nget a\r\n",
+        "VALUE a 0 1\r\nx\r\nEND\r\n",
+    ),
+    (
+        "append a 9 9 1\r\nx\r\nset a 7 0 1\r\nb\r\nappend a 9 0 1\r\nc\r\nprepend a 9 0 1\r\na\r\ngets a\r\n",
+        "NOT_STORED\r\nSTORED\r\nSTORED\r\nSTORED\r\nVALUE a 7 3 3\r\nabc\r\nEND\r\n",
+    ),
+    (
+        "set a 0 0 1\r\nx\r\nset b 1 0 2\r\nyy\r\nget a a b z a\r\ngets b a b\r\n",
+        "STORED\r\nSTORED\r\nVALUE a 0 1\r\nx\r\nVALUE a 0 1\r\nx\r\nVALUE b 1 2\r\nyy\r\nVALUE a 0 1\r\nx\r\nEND\r\nVALUE b 1 2 2\r\nyy\r\nVALUE a 0 1 1\r\nx\r\nVALUE b 1 2 2\r\nyy\r\nEND\r\n",
+    ),
+    (
+        "set n 0 0 20\r\n18446744073709551615\r\nincr n 1\r\ndecr n 5\r\n",
+        "STORED\r\n0\r\n0\r\n",
+    ),
+    (
+        "set n 0 0 3\r\n12x\r\nincr n 1\r\nincr n -1\r\n",
+        "STORED\r\nCLIENT_ERROR cannot increment or decrement non-numeric value\r\nCLIENT_ERROR invalid numeric delta argument\r\n",
+    ),
+    (
+        "touch a 0\r\nset a 0 0 1\r\nx\r\ntouch a -1\r\nget a\r\ndelete a\r\n",
+        "NOT_FOUND\r\nSTORED\r\nTOUCHED\r\nEND\r\nNOT_FOUND\r\n",
+    ),
+    (
+        "set a 0 0 1\r\nx\r\nflush_all\r\nget a\r\nset a 0 0 1\r\ny\r\nget a\r\nflush_all -1\r\n",
+        "STORED\r\nOK\r\nEND\r\nSTORED\r\nVALUE a 0 1\r\ny\r\nEND\r\nCLIENT_ERROR bad command line format\r\n",
+    ),
+    (
+        "set a 1 0 1\r\nx\r\nset a 2 0 1\r\nyy\r\nget a\r\n",
+        "STORED\r\nCLIENT_ERROR bad data chunk\r\nERROR\r\nVALUE a 1 1\r\nx\r\nEND\r\n",
+    ),
+];
+
+#[test]
+fn links_take_the_texts_of_more_rows(rt: HostRuntime) -> Result<(), Fail> {
+    for (input, output) in ROWS {
+        let (end, told) = served(&rt, rt.alloc(), input.as_bytes(), output.as_bytes())?;
+        assert_eq!(rt; end, ONE_SERVED);
+        assert_eq!(rt; told, (output.len() as u64, 0));
+    }
+    Ok(())
+}
+
+/// What became of two links, of which the first fails at a call.
+#[derive(Drop)]
+struct Faulty {
+    end: WorkEnd,
+    /// How many bytes were right and how many wrong, of each link.
+    first: (u64, u64),
+    second: (u64, u64),
+    /// What a read of `a` by the caller that came back is told.
+    found: Found,
+}
+
+/// What a read is told.
+#[derive(Clone, Copy, Debug, PartialEq, Eq)]
+enum Found {
+    /// The block `x` with this unique number.
+    X(u64),
+    Miss,
+    Other,
+}
+
+/// Says what a read is told.
+fn found_by(answer: &Result<Reply, StepFault>) -> Found {
+    match answer {
+        Ok(Reply::Hit { unique, block, .. }) if block.bytes() == b"x".as_slice() => Found::X(
+            *unique,
+        ),
+        Ok(Reply::Miss) => Found::Miss,
+        _ => Found::Other,
+    }
+}
+
+const FIRST: (&[u8], &[u8]) = (
+    b"set a 0 0 1\r\nx\r\nget a\r\n",
+    b"STORED\r\nVALUE a 0 1\r\nx\r\nEND\r\n",
+);
+
+const SECOND: (&[u8], &[u8]) = (
+    b"append c 9 9 1\r\nx\r\nset c 7 0 1\r\nb\r\nappend c 9 0 1\r\nc\r\nprepend c 9 0 1\r\na\r\nget c\r\n",
+    b"NOT_STORED\r\nSTORED\r\nSTORED\r\nSTORED\r\nVALUE c 7 3\r\nabc\r\nEND\r\n",
+);
+
+/// Serves two links over a new store, of which the first fails at a call.
+fn served_with_fault<R: Wait>(rt: &R, alloc: Global, call: u64) -> Result<Faulty, Fail> {
+    let now = Moment::from_seconds_at_most(1000);
+    let seen = [Seen::nothing(), Seen::nothing()];
+    let (shared, caller) = Shared::over(alloc, Store::new(alloc, SETTINGS, Fnv)?)?;
+    let first = HeldLink::new(alloc, FIRST.0, FIRST.1, &seen[0]).failing_at(call);
+    let second = HeldLink::new(alloc, SECOND.0, SECOND.1, &seen[1]);
+    let mut links = HeldLinks::two(first, second);
+    let (mut caller, end) = work(rt, alloc, &shared, caller, &mut links, &NoGate, &Fixed(now));
+    let read = step_of(b"a", Ask::Get);
+    let found = found_by(&shared.step(rt, alloc, &mut caller, &read, now));
+    Ok(Faulty {
         end,
-        right.load(Ordering::SeqCst),
-        wrong.load(Ordering::SeqCst),
-    ))
+        first: seen[0].told(),
+        second: seen[1].told(),
+        found,
+    })
+}
+
+/// Says whether a fault ended the first session alone: the other took all of its output, what the
+/// first took is a beginning of its own, and a set that it was told of stands.
+fn ended_alone(was: &Faulty) -> bool {
+    let (right, wrong) = was.first;
+    let counts = was.end.served == 1 && was.end.broken == 1 && was.end.refused == 0;
+    let other = was.second == (SECOND.1.len() as u64, 0);
+    let read = match was.found {
+        Found::X(unique) => 1 <= unique && unique <= 4,
+        Found::Miss => right == 0,
+        Found::Other => false,
+    };
+    counts && other && wrong == 0 && read
+}
+
+/// Says whether no fault was met, and both took all of their output.
+fn both_served(was: &Faulty) -> bool {
+    let counts = was.end.served == 2 && was.end.broken == 0 && was.end.refused == 0;
+    let all = was.first == (FIRST.1.len() as u64, 0) && was.second == (SECOND.1.len() as u64, 0);
+    let read = match was.found {
+        Found::X(unique) => 1 <= unique && unique <= 4,
+        Found::Miss | Found::Other => false,
+    };
+    counts && all && read
 }
 
 #[test]
-fn links_take_the_texts_of_their_rows(rt: HostRuntime) -> Result<(), Fail> {
-    let rows: [(&[u8], &[u8]); 4] = [
-        (
-            b"set a 5 0 3\r\nabc\r\nget a\r\n",
-            b"STORED\r\nVALUE a 5 3\r\nabc\r\nEND\r\n",
-        ),
-        (
-            b"set a 0 0 1\r\nx\r\ngets a\r\ncas a 0 0 1 1\r\ny\r\ncas a 0 0 1 1\r\nz\r\n",
-            b"STORED\r\nVALUE a 0 1 1\r\nx\r\nEND\r\nSTORED\r\nEXISTS\r\n",
-        ),
-        (
-            b"set a 0 0 1 noreply\r\nx\r\nget a\r\nquit\r\nget a\r\n",
-            b"VALUE a 0 1\r\nx\r\nEND\r\n",
-        ),
-        (
-            b"append a 9 9 1\r\nx\r\nset a 7 0 1\r\nb\r\nappend a 9 0 1\r\nc\r\nprepend a 9 0 1\r\na\r\ngets a\r\n",
-            b"NOT_STORED\r\nSTORED\r\nSTORED\r\nSTORED\r\nVALUE a 7 3 3\r\nabc\r\nEND\r\n",
-        ),
-    ];
-    for (input, expected) in rows {
-        let (end, right, wrong) = served(&rt, rt.alloc(), input, expected)?;
-        assert_eq!(rt; end.served, 1);
-        assert_eq!(rt; right, expected.len() as u64);
-        assert_eq!(rt; wrong, 0);
+fn a_fault_of_a_link_ends_its_session_alone(rt: HostRuntime) -> Result<(), Fail> {
+    for call in 1..1000u64 {
+        let was = served_with_fault(&rt, rt.alloc(), call)?;
+        if was.end.broken == 0 {
+            assert!(rt; both_served(&was));
+            return Ok(());
+        }
+        assert!(rt; ended_alone(&was));
     }
-    Ok(())
+    panic!(rt; "each run met a fault")
 }

@@ -3,6 +3,7 @@ pub mod StandLemmas
 pub mod SessionLemmas
 pub mod TurnLemmas
 pub mod WorldLemmas
+pub mod ThroughLemmas
 pub mod LawLemmas
 pub mod AnswerLemmas
 pub mod UpdateLemmas

@@ -32,6 +32,13 @@ pub struct Refused {
     pub decided: bool,
 }
 
+/// All events were run, past those that were refused memory.
+#[derive(Clone, Copy, Debug, PartialEq, Eq)]
+pub struct Ended {
+    /// How many events were refused.
+    pub refused: u64,
+}
+
 impl<'a> Event<'a> {
     ghost use Rattle.std.specs.Prelude.{◌≡◌};
     ghost use Rattle.mc_world.specs.Worlds.{named};

@@ -23,12 +23,16 @@ const SHELF_OF_B: u32 = 37;
 const NO_CHUNK: &str = "SERVER_ERROR out of memory storing object\r\n";
 
 /// A world at 1000.
-fn world<K: KeyHash + Drop>(alloc: Global, hasher: K) -> Result<World<K>, AllocError> {
+pub(crate) fn world<K: KeyHash + Drop>(alloc: Global, hasher: K) -> Result<World<K>, AllocError> {
     world_of(alloc, hasher, 64)
 }
 
 /// The same, of so many pages.
-fn world_of<K: KeyHash + Drop>(alloc: Global, hasher: K, pages: u32) -> Result<World<K>, AllocError>
+pub(crate) fn world_of<K: KeyHash + Drop>(
+    alloc: Global,
+    hasher: K,
+    pages: u32,
+) -> Result<World<K>, AllocError>
     requires { (1 ≤ pages) × (pages ≤ 65536) }
 {
     let settings = Settings {
@@ -39,7 +43,8 @@ fn world_of<K: KeyHash + Drop>(alloc: Global, hasher: K, pages: u32) -> Result<W
     World::new(alloc, settings, hasher, Moment::from_seconds(1000))
 }
 
-fn run<K: KeyHash + Drop>(
+/// Takes all events, and tells that memory ran out where one was refused.
+pub(crate) fn run<K: KeyHash + Drop>(
     world: &mut World<K>,
     alloc: Global,
     events: &[Event<'_>],
@@ -51,7 +56,7 @@ fn run<K: KeyHash + Drop>(
 }
 
 /// A piece of session 1, so many turns of it at a moment, and what they are answered.
-fn answers<K: KeyHash + Drop>(
+pub(crate) fn answers<K: KeyHash + Drop>(
     rt: &impl Abort,
     alloc: Global,
     world: &mut World<K>,
@@ -297,10 +302,15 @@ fn an_event_of_growth_moves_eight_entries(rt: HostRuntime) -> Result<(), Fail> {
 }
 
 /// A line that sets a key to 600000 bytes, and they: an item of the class of whole pages.
-fn large_set(alloc: Global, key: char, exptime: u32) -> Result<Vec<u8>, AllocError> {
+pub(crate) fn large_set(
+    alloc: Global,
+    key: char,
+    exptime: u32,
+    byte: u8,
+) -> Result<Vec<u8>, AllocError> {
     let mut text = format!(in alloc; "set {key} 0 {exptime} 600000\r\n")?.into_bytes();
     let line = text.len();
-    text.resize(line + 600000, b'x')?;
+    text.resize(line + 600000, byte)?;
     text.extend_from_slice(b"\r\n")?;
     Ok(text)
 }
@@ -310,9 +320,9 @@ fn large_set(alloc: Global, key: char, exptime: u32) -> Result<Vec<u8>, AllocErr
 fn full_world(rt: &impl Abort, alloc: Global) -> Result<World<Fnv>, Fail> {
     let mut world = world_of(alloc, Fnv, 1)?;
     run(&mut world, alloc, &[Event::Open])?;
-    let dying = large_set(alloc, 'b', 1)?;
+    let dying = large_set(alloc, 'b', 1, b'x')?;
     answers_bytes(rt, alloc, &mut world, 1000, &dying, "STORED\r\n")?;
-    let other = large_set(alloc, 'c', 0)?;
+    let other = large_set(alloc, 'c', 0, b'x')?;
     answers_bytes(rt, alloc, &mut world, 1001, &other, NO_CHUNK)?;
     Ok(world)
 }
@@ -322,7 +332,7 @@ fn a_purge_makes_room(rt: HostRuntime) -> Result<(), Fail> {
     let alloc = rt.alloc();
     let mut world = full_world(&rt, alloc)?;
     run(&mut world, alloc, &[Event::Purge(SHELF_OF_B)])?;
-    let other = large_set(alloc, 'c', 0)?;
+    let other = large_set(alloc, 'c', 0, b'x')?;
     answers_bytes(&rt, alloc, &mut world, 1001, &other, "STORED\r\n")
 }
 
@@ -331,7 +341,7 @@ fn a_get_of_a_dead_item_makes_room(rt: HostRuntime) -> Result<(), Fail> {
     let alloc = rt.alloc();
     let mut world = full_world(&rt, alloc)?;
     answers(&rt, alloc, &mut world, 1001, "get b\r\n", "END\r\n")?;
-    let other = large_set(alloc, 'c', 0)?;
+    let other = large_set(alloc, 'c', 0, b'x')?;
     answers_bytes(&rt, alloc, &mut world, 1001, &other, "STORED\r\n")
 }
 
@@ -339,7 +349,7 @@ fn a_get_of_a_dead_item_makes_room(rt: HostRuntime) -> Result<(), Fail> {
 fn a_dead_item_gives_its_chunk_to_its_own_key(rt: HostRuntime) -> Result<(), Fail> {
     let alloc = rt.alloc();
     let mut world = full_world(&rt, alloc)?;
-    let again = large_set(alloc, 'b', 0)?;
+    let again = large_set(alloc, 'b', 0, b'x')?;
     answers_bytes(&rt, alloc, &mut world, 1001, &again, "STORED\r\n")
 }
 

@@ -1,13 +1,14 @@
 ghost use Rattle.std.specs.Prelude.{◌≡◌, ◌≤◌, ◌↔◌, ◌∷◌, [], length};
 ghost use Rattle.std.specs.Prelude.{IsTrue, IfOk, IfErr, OnOk, Ok, None};
-ghost use Rattle.mc_command.specs.Plain.{opening};
+ghost use Rattle.mc_command.specs.Plain.{opening, starting};
 ghost use Rattle.mc_session.specs.Turns.{sent};
 ghost use Rattle.mc_world.specs.Worlds.{CanStand, Told, ToldRefused, ToldUntil};
 ghost use Rattle.mc_world.specs.Worlds.{numbered, open_session, changed};
 ghost use Rattle.mc_world.specs.Worlds.{output_of, IsIdle, IsClosed};
+ghost use Rattle.mc_world.specs.Refusals.{ToldThrough};
 ghost use Rattle.mc_world.specs.Sessions.{IsDue};
 
-use crate::event::{Event, Refused};
+use crate::event::{Ended, Event, Refused};
 use crate::laws::grammar;
 use crate::parts::Parts;
 use crate::sessions::Sessions;
@@ -59,9 +60,33 @@ impl<K: KeyHash + Drop> World<K> {
           sessions = [];
         }) }
     {
+        World::starting(alloc, settings, hasher, now, 1)
+    }
+
+    /// Makes the same, whose first write draws the unique number `next`, at least 1. At 2^64 - 1 the
+    /// numbers are spent. The one error is a refused allocation.
+    pub fn starting(
+        alloc: Global,
+        settings: Settings,
+        hasher: K,
+        now: Moment,
+        next: u64,
+    ) -> Result<World<K>, AllocError>
+        requires pages { 1 ≤ settings.pages × settings.pages ≤ 65536 }
+        requires greatest { settings.greatest ≡ 1048576 }
+        requires shelves { settings.shelves ≡ 64 }
+        requires next { 1 ≤ next }
+        ensures { IfOk result (λ world. world ≡ record {
+          settings = settings;
+          hasher = hasher;
+          state = starting settings.pages settings.greatest next;
+          moment = now;
+          sessions = [];
+        }) }
+    {
         Ok(World {
             parts: Parts {
-                store: Store::new(alloc, settings, hasher)?,
+                store: Store::starting(alloc, settings, hasher, next)?,
                 moment: now,
                 sessions: Sessions::new(alloc),
             },
@@ -87,6 +112,24 @@ impl<K: KeyHash + Drop> World<K> {
             }
         }
         Ok(())
+    }
+
+    /// Takes every event in order. Where memory runs out in one, its session is closed, what its
+    /// turn decided stands in the store and isn't told, and an opening opens nothing; then the next
+    /// one is taken. The answer counts these refusals. Only an opening, a piece of an open session
+    /// and a turn that is due are ever refused.
+    pub fn run_through(&mut self, alloc: Global, events: &[Event<'_>]) -> Ended
+        ensures told { ToldThrough K.hash_of result.refused self.old events.now self.new }
+        // Where no event was refused it does what `run` does.
+        ensures none { result.refused ≡ 0 → Told K.hash_of self.old events.now self.new }
+    {
+        let mut refused = 0;
+        for event in events {
+            if self.happen(alloc, event).is_err() {
+                refused += 1;
+            }
+        }
+        Ended { refused }
     }
 
     /// Takes a session's next turn, if one is due, as `run` of that one event does. It answers

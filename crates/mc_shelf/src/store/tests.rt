@@ -38,6 +38,20 @@ fn open_with<K: KeyHash + Drop + Copy>(
     }
 }
 
+/// A store of one page, of whose unique numbers one is left, asked for again where memory is
+/// refused.
+fn open_at_the_last(alloc: Global) -> Result<Store<Fnv>, AllocError> {
+    let settings = Settings {
+        pages: 1,
+        greatest: 1048576,
+        shelves: 64,
+    };
+    match Store::starting(alloc, settings, Fnv, u64::MAX - 1) {
+        Err(_) => Store::starting(alloc, settings, Fnv, u64::MAX - 1),
+        made => made,
+    }
+}
+
 /// The store answers each row as it wants.
 fn answers(
     rt: &impl Abort,
@@ -171,18 +185,12 @@ fn told_once(store: &mut Store<Fnv>, alloc: Global, key: u8, ask: Ask<'_>) -> &'
     told_of(&store.step(alloc, &step, now))
 }
 
-/// Makes the last unique number the store's next. All else stays.
-fn skip_to_the_last(store: &mut Store<Fnv>) {
-    store.parts.desk.skip_to_the_last();
-}
-
 /// The one number that is left is drawn, and then each write is told that the numbers are spent, a
 /// new key's too and whatever memory there is. A step that draws none goes on.
 #[test]
 fn spent_numbers_are_told(rt: HostRuntime) -> Result<(), Fail> {
     let alloc = rt.alloc();
-    let mut store = open(alloc, 1)?;
-    skip_to_the_last(&mut store);
+    let mut store = open_at_the_last(alloc)?;
     answers(
         &rt,
         alloc,

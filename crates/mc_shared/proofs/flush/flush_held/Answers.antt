@@ -1,5 +1,4 @@
-use Rattle.std.proofs.Common.{◌≡◌, ℕ, List, length, sym, ap, ◌∙◌, subst}
-use Rattle.mc_command.specs.Plain.{Plain}
+use Rattle.std.proofs.Common.{List, sym, ◌∙◌, subst}
 use Rattle.mc_shelf.specs.States.{ShelfState}
 use Rattle.mc_shelf.specs.Parts.{ArePartsOf}
 use Rattle.mc_shared.proofs.Stacked.{written_back}

@@ -1,6 +1,6 @@
 use Rattle.std.proofs.Common.{sym, ◌∙◌, ◌∷◌}
 use Rattle.mc_command.specs.Commands.{key_of}
-use Rattle.mc_shared.specs.Bays.{content_of}
+use Rattle.mc_shared.specs.Bays.{OfShelf, content_of}
 use Rattle.mc_shared.specs.History.{start_of}
 use Rattle.mc_shared.specs.Steps.{holding}
 use Rattle.mc_shared.proofs.Decisions.{held_hash}
@@ -9,6 +9,6 @@ use Rattle.mc_shared.proofs.waits.step_waiting.Goals as goal
 pub look-requires-clause-hash : goal.look-requires-clause-hash
 look-requires-clause-hash g c stored is =
     let began = start_of g.K.KeyHash.hash_of c.args.board.now.shared.key.value in
-    held_hash began c.args.bays.0 c.shelf_from-shelf.result.content c.args.caller.now.me.0.bays (holding c.args.caller.now.me.0 c.args.bays.0 (content_of c.take_waiting.result))
-    (λ i. (c.args.bays.0, content_of (c.shelf_from-shelf.ensures i)) ∷ c.args.caller.now.me.0.bays) c.take_waiting.ensures.taken.2 (key_of c.args.step.now) stored is
-    ∙ sym c.requires.hash
+    held_hash began c.args.bays.0 c.deref_mut.result.now.content c.args.caller.now.me.0.bays (holding c.args.caller.now.me.0 c.args.bays.0 (content_of c.take_waiting.result))
+    ((λ i. (c.args.bays.0, content_of (c.shelf_from-shelf.ensures i)) ∷ c.args.caller.now.me.0.bays) ∙ (λ i. (c.args.bays.0, OfShelf (sym c.deref_mut.ensures.value i).content) ∷ c.args.caller.now.me.0.bays)) c.take_waiting.ensures.taken.2 (key_of c.args.step.now) stored is
+    ∙ sym c.requires.step.hashed

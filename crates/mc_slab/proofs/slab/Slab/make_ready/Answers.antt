@@ -2,17 +2,12 @@ use Rattle.std.proofs.Common.{◌≡◌, ◌≢◌, ◌+◌, ◌-◌, ◌*◌, �
 use Rattle.mc_slab.specs.Classes.{chunks_a_page}
 use Rattle.mc_slab.specs.Stocks.{StockState, all_chunks}
 use Rattle.mc_slab.specs.Slabs.{SlabState, IsFull, state_of, pages_of, out_of, chunks_of}
-use Rattle.mc_slab.proofs.SlabLemmas.{StockAt, within_at, pages_at, out_at, chunks_at, few_at, AreStocks-set, set-same, state_of-page, with_chunk-free, with_chunk-none, free-with_page}
+use Rattle.mc_slab.proofs.SlabLemmas.{stock_at, within_at, pages_at, out_at, chunks_at, few_at, AreStocks-set, set-same, state_of-page, with_chunk-free, with_chunk-none, free-with_page}
 use Rattle.mc_slab.proofs.slab.Slab.make_ready.Goals as goal
 
 pub returns-then-not-is_all_out-clause-ready : goal.returns-then-not-is_all_out-clause-ready
 returns-then-not-is_all_out-clause-ready c =
-    let at : StockAt c.self.inside.pages_left c.self.inside.stocks.items c.args.class c.index.result c.index_mut-stock.result.now = record {
-      stocks_are = c.self.invariant;
-      is_class = c.index.ensures.is_class;
-      place = c.index.ensures.value;
-      there = c.index_mut-stock.ensures.value;
-    } in
+    let at = stock_at _ _ _ _ _ c.self.invariant c.index.ensures.is_class c.index.ensures.value c.index_mut-stock.ensures.value in
     let differ : c.index_mut-stock.result.now.out ≢ all_chunks c.index_mut-stock.result.now = λ e. let no : false ≡ true = c.if-not-is_all_out.ensures.value.1 e in cc in
     let within : c.index_mut-stock.result.now.out ≤ all_chunks c.index_mut-stock.result.now = within_at _ _ _ _ _ at in
     let free : c.index_mut-stock.result.now.out < all_chunks c.index_mut-stock.result.now = omega arith in
@@ -20,12 +15,7 @@ returns-then-not-is_all_out-clause-ready c =
 
 pub returns-then-not-is_all_out-clause-free : goal.returns-then-not-is_all_out-clause-free
 returns-then-not-is_all_out-clause-free c =
-    let at : StockAt c.self.inside.pages_left c.self.inside.stocks.items c.args.class c.index.result c.index_mut-stock.result.now = record {
-      stocks_are = c.self.invariant;
-      is_class = c.index.ensures.is_class;
-      place = c.index.ensures.value;
-      there = c.index_mut-stock.ensures.value;
-    } in
+    let at = stock_at _ _ _ _ _ c.self.invariant c.index.ensures.is_class c.index.ensures.value c.index_mut-stock.ensures.value in
     let differ : c.index_mut-stock.result.now.out ≢ all_chunks c.index_mut-stock.result.now = λ e. let no : false ≡ true = c.if-not-is_all_out.ensures.value.1 e in cc in
     let within : c.index_mut-stock.result.now.out ≤ all_chunks c.index_mut-stock.result.now = within_at _ _ _ _ _ at in
     let free : c.index_mut-stock.result.now.out < all_chunks c.index_mut-stock.result.now = omega arith in
@@ -33,12 +23,7 @@ returns-then-not-is_all_out-clause-free c =
 
 pub returns-then-not-is_all_out-clause-full : goal.returns-then-not-is_all_out-clause-full
 returns-then-not-is_all_out-clause-full c = λ pages out.
-    let at : StockAt c.self.inside.pages_left c.self.inside.stocks.items c.args.class c.index.result c.index_mut-stock.result.now = record {
-      stocks_are = c.self.invariant;
-      is_class = c.index.ensures.is_class;
-      place = c.index.ensures.value;
-      there = c.index_mut-stock.ensures.value;
-    } in
+    let at = stock_at _ _ _ _ _ c.self.invariant c.index.ensures.is_class c.index.ensures.value c.index_mut-stock.ensures.value in
     let differ : c.index_mut-stock.result.now.out ≢ all_chunks c.index_mut-stock.result.now = λ e. let no : false ≡ true = c.if-not-is_all_out.ensures.value.1 e in cc in
     let within : c.index_mut-stock.result.now.out ≤ all_chunks c.index_mut-stock.result.now = within_at _ _ _ _ _ at in
     let free : c.index_mut-stock.result.now.out < all_chunks c.index_mut-stock.result.now = omega arith in (
@@ -51,12 +36,7 @@ returns-then-not-is_all_out-clause-full c = λ pages out.
 
 pub returns-then-self-eq0-clause-full : goal.returns-then-self-eq0-clause-full
 returns-then-self-eq0-clause-full c = λ pages out.
-    let at : StockAt c.self.inside.pages_left c.self.inside.stocks.items c.args.class c.index.result c.index_mut-stock.result.now = record {
-      stocks_are = c.self.invariant;
-      is_class = c.index.ensures.is_class;
-      place = c.index.ensures.value;
-      there = c.index_mut-stock.ensures.value;
-    } in
+    let at = stock_at _ _ _ _ _ c.self.invariant c.index.ensures.is_class c.index.ensures.value c.index_mut-stock.ensures.value in
     let all : c.index_mut-stock.result.now.out ≡ all_chunks c.index_mut-stock.result.now = c.if-not-is_all_out.ensures.value.0 refl in
     let p : c.account-pages.result.pages ≡ pages_of c.args.self.now c.args.class = rw (← c.self.view_is) (ap (λ a. a.pages) c.account-pages.ensures.value ∙ sym (pages_at _ _ _ _ _ at)) in
     let o : c.account-pages.result.out ≡ out_of c.args.self.now c.args.class = rw (← c.self.view_is) (ap (λ a. a.out) c.account-pages.ensures.value ∙ sym (out_at _ _ _ _ _ at)) in
@@ -68,54 +48,29 @@ returns-then-self-eq0-clause-full c = λ pages out.
 
 pub add_page-requires-clause-few : goal.add_page-requires-clause-few
 add_page-requires-clause-few c =
-    let at : StockAt c.self.inside.pages_left c.self.inside.stocks.items c.args.class c.index.result c.index_mut-stock.result.now = record {
-      stocks_are = c.self.invariant;
-      is_class = c.index.ensures.is_class;
-      place = c.index.ensures.value;
-      there = c.index_mut-stock.ensures.value;
-    } in
+    let at = stock_at _ _ _ _ _ c.self.invariant c.index.ensures.is_class c.index.ensures.value c.index_mut-stock.ensures.value in
     few_at _ _ _ _ _ at (omega arith)
 
 pub returns-in_err-add_page-clause-no_memory : goal.returns-in_err-add_page-clause-no_memory
 returns-in_err-add_page-clause-no_memory c = λ e.
-    let at : StockAt c.self.inside.pages_left c.self.inside.stocks.items c.args.class c.index.result c.index_mut-stock.result.now = record {
-      stocks_are = c.self.invariant;
-      is_class = c.index.ensures.is_class;
-      place = c.index.ensures.value;
-      there = c.index_mut-stock.ensures.value;
-    } in
+    let at = stock_at _ _ _ _ _ c.self.invariant c.index.ensures.is_class c.index.ensures.value c.index_mut-stock.ensures.value in
     let all : c.index_mut-stock.result.now.out ≡ all_chunks c.index_mut-stock.result.now = c.if-not-is_all_out.ensures.value.0 refl in
     (rw (← c.self.view_is) (out_at _ _ _ _ _ at ∙ all ∙ sym (chunks_at _ _ _ _ _ at)), rw (← c.self.view_is) (omega arith))
 
 pub invariant_of-self-2 : goal.invariant_of-self-2
 invariant_of-self-2 c =
-    let at : StockAt c.self.inside.pages_left c.self.inside.stocks.items c.args.class c.index.result c.index_mut-stock.result.now = record {
-      stocks_are = c.self.invariant;
-      is_class = c.index.ensures.is_class;
-      place = c.index.ensures.value;
-      there = c.index_mut-stock.ensures.value;
-    } in
+    let at = stock_at _ _ _ _ _ c.self.invariant c.index.ensures.is_class c.index.ensures.value c.index_mut-stock.ensures.value in
     let within : c.index_mut-stock.result.now.out ≤ all_chunks c.index_mut-stock.result.now = within_at _ _ _ _ _ at in
     let more : (c.index_mut-stock.result.now.pages + 1) * chunks_a_page c.index_mut-stock.result.now.class ≡ c.index_mut-stock.result.now.pages * chunks_a_page c.index_mut-stock.result.now.class + chunks_a_page c.index_mut-stock.result.now.class = omega arith in
     rw c.in_ok-add_page.ensures.ok (AreStocks-set _ _ _ _ _ at (c.self.inside.pages_left - 1) _ refl (omega arith) (omega arith))
 
 pub returns-clause-ready : goal.returns-clause-ready
 returns-clause-ready c =
-    let at : StockAt c.self.inside.pages_left c.self.inside.stocks.items c.args.class c.index.result c.index_mut-stock.result.now = record {
-      stocks_are = c.self.invariant;
-      is_class = c.index.ensures.is_class;
-      place = c.index.ensures.value;
-      there = c.index_mut-stock.ensures.value;
-    } in
+    let at = stock_at _ _ _ _ _ c.self.invariant c.index.ensures.is_class c.index.ensures.value c.index_mut-stock.ensures.value in
     let all : c.index_mut-stock.result.now.out ≡ all_chunks c.index_mut-stock.result.now = c.if-not-is_all_out.ensures.value.0 refl in
     rw (c.in_ok-add_page.ensures.ok, ← c.self.view_is) (state_of-page _ _ _ _ _ at (omega arith) ∙ sym (with_chunk-none _ _ _ _ _ at all))
 
 pub returns-clause-free : goal.returns-clause-free
 returns-clause-free c =
-    let at : StockAt c.self.inside.pages_left c.self.inside.stocks.items c.args.class c.index.result c.index_mut-stock.result.now = record {
-      stocks_are = c.self.invariant;
-      is_class = c.index.ensures.is_class;
-      place = c.index.ensures.value;
-      there = c.index_mut-stock.ensures.value;
-    } in
+    let at = stock_at _ _ _ _ _ c.self.invariant c.index.ensures.is_class c.index.ensures.value c.index_mut-stock.ensures.value in
     rw c.in_ok-add_page.ensures.ok (subst (λ (s : SlabState). out_of s c.args.class < chunks_of s c.args.class) (sym (state_of-page _ _ _ _ _ at (omega arith))) (free-with_page _ _ _ _ _ at))

@@ -4,50 +4,30 @@ use Rattle.mc_slab.specs.declared.slab.TakeFault.TheVariants.{Full}
 use Rattle.mc_slab.specs.Chunks.{IsChunkOf}
 use Rattle.mc_slab.specs.Stocks.{all_chunks}
 use Rattle.mc_slab.specs.Slabs.{SlabState, state_of, with_chunk, with_out, out_of, chunks_of}
-use Rattle.mc_slab.proofs.SlabLemmas.{StockAt, IsSlab-state_of, class_at, out_at, chunks_at, AreStocks-set, state_of-out}
+use Rattle.mc_slab.proofs.SlabLemmas.{stock_at, IsSlab-state_of, class_at, out_at, chunks_at, AreStocks-set, state_of-out}
 use Rattle.mc_slab.proofs.slab.Slab.take.Goals as goal
 
 pub take-requires : goal.take-requires
 take-requires c =
-    let at : StockAt c.self.inside.pages_left c.self.inside.stocks.items c.args.class c.index.result c.index_mut-stock.result.now = record {
-      stocks_are = c.self.invariant;
-      is_class = c.index.ensures.is_class;
-      place = c.index.ensures.value;
-      there = c.index_mut-stock.ensures.value;
-    } in
+    let at = stock_at _ _ _ _ _ c.self.invariant c.index.ensures.is_class c.index.ensures.value c.index_mut-stock.ensures.value in
     let free : out_of (state_of c.self.inside.pages_left c.self.inside.stocks.items) c.args.class < chunks_of (state_of c.self.inside.pages_left c.self.inside.stocks.items) c.args.class = subst (λ (s : SlabState). out_of s c.args.class < chunks_of s c.args.class) (sym c.self.view_is) c.in_ok-make_ready.ensures.free in
     rw (out_at _ _ _ _ _ at, chunks_at _ _ _ _ _ at) at free
 
 pub invariant_of-self : goal.invariant_of-self
 invariant_of-self c =
-    let at : StockAt c.self.inside.pages_left c.self.inside.stocks.items c.args.class c.index.result c.index_mut-stock.result.now = record {
-      stocks_are = c.self.invariant;
-      is_class = c.index.ensures.is_class;
-      place = c.index.ensures.value;
-      there = c.index_mut-stock.ensures.value;
-    } in
+    let at = stock_at _ _ _ _ _ c.self.invariant c.index.ensures.is_class c.index.ensures.value c.index_mut-stock.ensures.value in
     let some : out_of (state_of c.self.inside.pages_left c.self.inside.stocks.items) c.args.class < chunks_of (state_of c.self.inside.pages_left c.self.inside.stocks.items) c.args.class = subst (λ (s : SlabState). out_of s c.args.class < chunks_of s c.args.class) (sym c.self.view_is) c.in_ok-make_ready.ensures.free in
     let free : c.index_mut-stock.result.now.out < all_chunks c.index_mut-stock.result.now = rw (out_at _ _ _ _ _ at, chunks_at _ _ _ _ _ at) at some in
     rw c.take.ensures.out (AreStocks-set _ _ _ _ _ at c.self.inside.pages_left _ refl (omega arith) refl)
 
 pub returns-clause-chunk : goal.returns-clause-chunk
 returns-clause-chunk c =
-    let at : StockAt c.self.inside.pages_left c.self.inside.stocks.items c.args.class c.index.result c.index_mut-stock.result.now = record {
-      stocks_are = c.self.invariant;
-      is_class = c.index.ensures.is_class;
-      place = c.index.ensures.value;
-      there = c.index_mut-stock.ensures.value;
-    } in
+    let at = stock_at _ _ _ _ _ c.self.invariant c.index.ensures.is_class c.index.ensures.value c.index_mut-stock.ensures.value in
     subst (λ (k : ℕ). IsChunkOf k c.take.result) (class_at _ _ _ _ _ at) c.take.ensures.chunk
 
 pub returns-clause-taken : goal.returns-clause-taken
 returns-clause-taken c =
-    let at : StockAt c.self.inside.pages_left c.self.inside.stocks.items c.args.class c.index.result c.index_mut-stock.result.now = record {
-      stocks_are = c.self.invariant;
-      is_class = c.index.ensures.is_class;
-      place = c.index.ensures.value;
-      there = c.index_mut-stock.ensures.value;
-    } in
+    let at = stock_at _ _ _ _ _ c.self.invariant c.index.ensures.is_class c.index.ensures.value c.index_mut-stock.ensures.value in
     let ready : state_of c.self.inside.pages_left c.self.inside.stocks.items ≡ with_chunk c.args.self.now c.args.class = c.self.view_is ∙ c.in_ok-make_ready.ensures.ready in
     rw c.take.ensures.out
     (state_of-out _ _ _ _ _ at (c.index_mut-stock.result.now.out + 1)

@@ -1,0 +1,124 @@
+//! Accepts connections, and hands them to the workers.
+
+use crate::arrivals::Arrivals;
+use mio::Waker;
+use mio::net::TcpStream;
+use std::net::TcpListener;
+use std::sync::Wait;
+use std::time::{Clock, Duration};
+use std::{io, thread};
+
+/// How long it waits where the system has no room for a connection, in milliseconds.
+const PAUSE: u64 = 10;
+
+/// The errors by which the system says that a descriptor is no listener: `EBADF`, `EINVAL`,
+/// `ENOTSOCK` and `EOPNOTSUPP` of accept(2). All others are of one connection, or of the moment.
+const LASTING: [i32; 4] = [9, 22, 88, 95];
+
+/// The errors by which the system says that there is no descriptor: `ENFILE` and `EMFILE`.
+const NO_DESCRIPTOR: [i32; 2] = [23, 24];
+
+/// What came of an accept.
+#[derive(Drop)]
+enum Came {
+    Connection(TcpStream),
+    /// One that was closed, or failed before it was accepted.
+    Nothing,
+    /// The listener has failed.
+    Failed,
+}
+
+/// A listener, with a descriptor that is let go where there are none left: the connection that waits
+/// is then accepted in its place and closed, and not left in the listener's queue, where each further
+/// accept would fail at once.
+#[derive(Drop)]
+struct Door {
+    listener: TcpListener,
+    spare: Option<TcpListener>,
+}
+
+/// Accepts connections until the listener fails, and wakes a worker for each, turn about.
+pub fn accept_all<R: Wait + Clock>(
+    rt: &R,
+    listener: TcpListener,
+    arrivals: &Arrivals,
+    wakers: &[Waker],
+) {
+    let spare = listener.try_clone().ok();
+    let mut door = Door { listener, spare };
+    let mut turn = 0;
+    for _ in rt.forever() {
+        match door.accept(rt) {
+            Came::Connection(stream) => {
+                if arrivals.push(rt, stream) {
+                    turn = wake_next(wakers, turn);
+                }
+            }
+            Came::Nothing => {}
+            Came::Failed => break,
+        }
+    }
+    arrivals.end();
+    for waker in wakers {
+        let _ = waker.wake();
+    }
+}
+
+/// Wakes the worker whose turn it is, and says whose turn is next.
+fn wake_next(wakers: &[Waker], turn: usize) -> usize {
+    let turn = if turn < wakers.len() { turn } else { 0 };
+    if let Some(waker) = wakers.get(turn) {
+        // where that fails it looks by itself, within its rest
+        let _ = waker.wake();
+    }
+    turn.saturating_add(1)
+}
+
+impl Door {
+    /// Waits for the next connection.
+    fn accept<R: Clock>(&mut self, rt: &R) -> Came {
+        match self.listener.accept() {
+            Ok((stream, _peer)) => unblocked(stream),
+            Err(error) if is_one_of(&error, &LASTING) => Came::Failed,
+            Err(error) if is_one_of(&error, &NO_DESCRIPTOR) && self.spare.is_some() => {
+                self.accept_by_spare()
+            }
+            Err(_) => {
+                let _ = thread::sleep(rt, Duration::from_millis(PAUSE));
+                Came::Nothing
+            }
+        }
+    }
+
+    /// Lets the spare descriptor go for the next connection, which is closed where there is still no
+    /// other.
+    fn accept_by_spare(&mut self) -> Came {
+        self.spare = None;
+        let accepted = self.listener.accept();
+        self.spare = self.listener.try_clone().ok();
+        match accepted {
+            Ok((stream, _peer)) if self.spare.is_some() => unblocked(stream),
+            closed => {
+                drop(closed);
+                self.spare = self.listener.try_clone().ok();
+                Came::Nothing
+            }
+        }
+    }
+}
+
+/// A connection of which no call waits.
+fn unblocked(stream: std::net::TcpStream) -> Came {
+    match stream.set_nonblocking(true) {
+        Ok(()) => Came::Connection(TcpStream::from_std(stream)),
+        Err(_) => Came::Nothing,
+    }
+}
+
+/// Says whether the system's error has one of these numbers.
+fn is_one_of(error: &io::Error, numbers: &[i32]) -> bool {
+    match error.raw_os_error() {
+        Some(number) => numbers.contains(&number),
+        None => false,
+    }
+}

@@ -1,0 +1,218 @@
+//! Where a worker's links come from.
+
+use crate::arrivals::{Arrivals, Share, WAITING};
+use crate::channel::{Channel, Readiness};
+use crate::link::SocketLink;
+use crate::yard::Yard;
+use mc_workers::{Links, Next};
+use mio::event::Event;
+use mio::net::TcpStream;
+use mio::{Events, Interest, Poll, Token};
+use std::alloc::Global;
+use std::cell::{Cell, RefCell};
+use std::rc::Rc;
+use std::sync::Wait;
+use std::time::Duration;
+
+/// The token of a worker's waker. That of a link is its place and 1 more.
+pub const WAKER: Token = Token(0);
+
+/// How many events one poll tells at most.
+pub const EVENTS: usize = 1024;
+
+/// After how many rounds the system is asked for events, where there is always something to do.
+const ROUNDS: u32 = 16;
+
+/// How long a worker rests at most, in milliseconds.
+const REST: u64 = 100;
+
+/// What is known of a link.
+#[derive(Drop)]
+struct Place {
+    /// The number by which it is named.
+    number: u64,
+    readiness: Rc<Cell<Readiness>>,
+}
+
+/// The links of one worker, over the connections that it takes from those that arrived.
+#[derive(Drop)]
+pub struct SocketLinks<'a, R: Wait> {
+    rt: &'a R,
+    alloc: Global,
+    arrivals: &'a Arrivals,
+    share: Share,
+    poll: Poll,
+    events: Events,
+    places: Vec<Place>,
+    /// What links leave behind; there is none before the first link.
+    yard: Option<Rc<RefCell<Yard>>>,
+    /// The links to be named. A link that waits is named once, so there are at most as many as places.
+    named: Vec<u64>,
+    /// How many links were handed out.
+    given: u64,
+    /// How many rounds went by since the system was asked for events.
+    rounds: u32,
+}
+
+impl<'a, R: Wait> SocketLinks<'a, R> {
+    /// Has no links yet. It takes no memory.
+    pub fn new(
+        rt: &'a R,
+        alloc: Global,
+        arrivals: &'a Arrivals,
+        share: Share,
+        poll: Poll,
+        events: Events,
+    ) -> SocketLinks<'a, R> {
+        SocketLinks {
+            rt,
+            alloc,
+            arrivals,
+            share,
+            poll,
+            events,
+            places: Vec::new(alloc),
+            yard: None,
+            named: Vec::new(alloc),
+            given: 0,
+            rounds: 0,
+        }
+    }
+
+    /// Asks the system for events, and waits so long for the first.
+    fn look(&mut self, timeout: Duration) {
+        self.rounds = 0;
+        if self.poll.poll(&mut self.events, Some(timeout)).is_err() {
+            return;
+        }
+        let mut has_left = false;
+        for event in &self.events {
+            if let Some(at) = event.token().0.checked_sub(1)
+                && let Some(place) = self.places.get(at)
+            {
+                has_left = note(event, place, &mut self.named) || has_left;
+            }
+        }
+        if has_left
+            && let Some(yard) = &self.yard
+            && let Ok(mut yard) = yard.try_borrow_mut()
+        {
+            yard.send_rest();
+        }
+    }
+
+    /// Makes a link of a connection. One that can't be registered, or for which there is no memory, is
+    /// closed.
+    fn open(&mut self, stream: TcpStream) -> Option<SocketLink> {
+        let mut stream = stream;
+        // an answer is sent at once; where that can't be set it comes later
+        let _ = stream.set_nodelay(true);
+        let readiness = Rc::new(self.alloc, Cell::new(Readiness::NEW)).ok()?;
+        let yard = self.shared_yard()?;
+        let at = self.settle(&yard, readiness.clone().ok()?)?;
+        let both = Interest::READABLE | Interest::WRITABLE;
+        let token = Token(at.saturating_add(1));
+        let registered = self.poll.registry().register(&mut stream, token, both);
+        let channel = Channel::new(self.alloc, stream, readiness);
+        let link = SocketLink::new(channel, at, yard);
+        registered.ok()?;
+        self.given = self.given.wrapping_add(1);
+        Some(link)
+    }
+
+    /// Notes a link at a free place, and makes room to name it.
+    fn settle(
+        &mut self,
+        yard: &Rc<RefCell<Yard>>,
+        readiness: Rc<Cell<Readiness>>,
+    ) -> Option<usize> {
+        let room = self.places.len().saturating_add(1);
+        self.named.reserve(room).ok()?;
+        let place = Place {
+            number: self.given,
+            readiness,
+        };
+        let free = match yard.try_borrow_mut() {
+            Ok(mut yard) => yard.free_place(),
+            Err(_) => None,
+        };
+        if let Some(at) = free
+            && let Some(one) = self.places.get_mut(at)
+        {
+            *one = place;
+            return Some(at);
+        }
+        let at = self.places.len();
+        self.places.push(place).ok()?;
+        Some(at)
+    }
+
+    /// Gives the yard, which is made for the first link.
+    fn shared_yard(&mut self) -> Option<Rc<RefCell<Yard>>> {
+        if let Some(yard) = &self.yard {
+            return yard.clone().ok();
+        }
+        let yard = Rc::new(self.alloc, RefCell::new(Yard::new(self.alloc))).ok()?;
+        self.yard = Some(yard.clone().ok()?);
+        Some(yard)
+    }
+
+    /// Ends all connections.
+    fn end_all(&mut self) {
+        for place in &self.places {
+            place.readiness.set(Readiness {
+                is_over: true,
+                ..place.readiness.get()
+            });
+            let _ = self.named.push(place.number);
+        }
+    }
+}
+
+/// Notes what an event says of a link, and names it where it waits. Says whether the link is gone.
+fn note(event: &Event, place: &Place, named: &mut Vec<u64>) -> bool {
+    let known = place.readiness.get();
+    let is_final = event.is_read_closed() || event.is_error();
+    place.readiness.set(Readiness {
+        reads: known.reads || event.is_readable() || is_final,
+        writes: known.writes || event.is_writable() || is_final,
+        is_final: known.is_final || is_final,
+        waits: false,
+        ..known
+    });
+    if known.waits {
+        // there is room, which was made with its place
+        let _ = named.push(place.number);
+    }
+    known.leaves
+}
+
+impl<'a, R: Wait> Links<SocketLink> for SocketLinks<'a, R> {
+    fn next(&mut self) -> Next<SocketLink> {
+        self.rounds = self.rounds.saturating_add(1);
+        if self.rounds >= ROUNDS {
+            self.look(Duration::ZERO);
+        }
+        for _one in 0..WAITING {
+            let Some(stream) = self.arrivals.pop(self.rt, &mut self.share) else {
+                if self.arrivals.is_over() {
+                    self.end_all();
+                    return Next::Closed;
+                }
+                return Next::Later;
+            };
+            if let Some(link) = self.open(stream) {
+                return Next::Link(link);
+            }
+        }
+        Next::Later
+    }
+
+    fn ready(&mut self) -> Option<u64> {
+        self.named.pop()
+    }
+
+    fn rest(&mut self) {
+        self.look(Duration::from_millis(REST));
+    }
+}

@@ -1,0 +1,188 @@
+//! Serves connections by workers in threads.
+ghost use Rattle.std.specs.Prelude.{◌≤◌};
+ghost use Rattle.mc_server.specs.Ends.{EndsListening};
+
+use crate::accepting::accept_all;
+use crate::arrivals::{Arrivals, Share};
+use crate::asker::Asker;
+use crate::end::End;
+use crate::links::{EVENTS, SocketLinks, WAKER};
+use crate::options::Options;
+use crate::serving::settings_of;
+use mc_hop::Fnv;
+use mc_session::ServeFault;
+use mc_shared::Shared;
+use mc_time::Clock;
+use mio::{Events, Poll, Waker};
+use std::alloc::{AllocError, AllocGlobal, Global};
+use std::io::{self, Eprint};
+use std::net::{Ipv4Addr, Net, SocketAddr, TcpListener};
+use std::sync::Wait;
+use std::thread::{Builder, Threads};
+use std::{thread, time};
+
+/// What a worker has of the system.
+#[derive(Drop)]
+struct Post {
+    share: Share,
+    poll: Poll,
+    events: Events,
+}
+
+/// The workers' posts, and what wakes them, in the same order.
+#[derive(Drop)]
+struct Posts {
+    posts: Vec<Post>,
+    wakers: Vec<Waker>,
+}
+
+/// What is wanting to begin.
+#[derive(Debug, Drop)]
+enum Wanting {
+    /// The port, or a descriptor.
+    Listener,
+    Memory,
+}
+
+impl From<AllocError> for Wanting {
+    fn from(_refused: AllocError) -> Wanting {
+        Wanting::Memory
+    }
+}
+
+/// Listens on 127.0.0.1 at the port of the options, and serves the connections by so many workers over
+/// one store, until the listener fails.
+pub fn listen<R, C>(rt: &R, options: Options, clock: &C) -> End
+where
+    R: Net + AllocGlobal + Wait + Threads + time::Clock + Eprint + Sync,
+    C: Clock + Sync,
+    requires { 1 ≤ options.pages × options.pages ≤ 65536 }
+    ensures { EndsListening result }
+{
+    match begin(rt, options, clock) {
+        Ok(()) => End::Served(Err(ServeFault::Read)),
+        Err(Wanting::Listener) => End::CannotListen,
+        Err(Wanting::Memory) => End::NoMemory,
+    }
+}
+
+/// Makes the listener, the store and the workers' posts, and serves until the listener fails; or says
+/// what was wanting.
+fn begin<R, C>(rt: &R, options: Options, clock: &C) -> Result<(), Wanting>
+where
+    R: Net + AllocGlobal + Wait + Threads + time::Clock + Eprint + Sync,
+    C: Clock + Sync,
+    requires { 1 ≤ options.pages × options.pages ≤ 65536 }
+{
+    let alloc = rt.alloc();
+    let listener = bound(rt, options.port).map_err(|_| Wanting::Listener)?;
+    let (shared, caller) = Shared::new(alloc, settings_of(options.pages), Fnv)?;
+    let arrivals = Arrivals::new(alloc)?;
+    let posts = make_posts(rt, alloc, options.workers)?;
+    say(rt, options);
+    let asker = Asker::new(&shared, caller);
+    serve_by(rt, alloc, listener, &arrivals, posts, asker, clock)
+}
+
+/// Binds the listener, whose accepts wait.
+pub fn bound<R: Net>(rt: &R, port: u16) -> io::Result<TcpListener> {
+    let address = SocketAddr::from((Ipv4Addr::LOCALHOST, port));
+    // std's listener lets 128 connections wait, this one as many as the system allows
+    let listener = TcpListener::from(mio::net::TcpListener::bind(rt, address)?);
+    listener.set_nonblocking(false)?;
+    Ok(listener)
+}
+
+/// Makes so many posts.
+fn make_posts<R: Net>(rt: &R, alloc: Global, count: u32) -> Result<Posts, Wanting> {
+    let mut posts = Vec::new(alloc);
+    let mut wakers = Vec::new(alloc);
+    for worker in 0..count {
+        let Ok((poll, waker)) = watched(rt) else {
+            return Err(Wanting::Listener);
+        };
+        let events = Events::with_capacity(alloc, EVENTS)?;
+        let post = Post {
+            share: Share::new(worker, count),
+            poll,
+            events,
+        };
+        if posts.push(post).is_err() || wakers.push(waker).is_err() {
+            return Err(Wanting::Memory);
+        }
+    }
+    Ok(Posts { posts, wakers })
+}
+
+/// A set of sources, and what wakes the one who waits for them.
+fn watched<R: Net>(rt: &R) -> io::Result<(Poll, Waker)> {
+    let poll = Poll::new(rt)?;
+    let waker = Waker::new(poll.registry(), WAKER)?;
+    Ok((poll, waker))
+}
+
+/// Says on standard error where it listens, and what it has.
+fn say<R: Eprint>(rt: &R, options: Options) {
+    let Options {
+        port,
+        pages,
+        workers,
+        ..
+    } = options;
+    // where standard error is closed it serves all the same
+    let _ = eprintln!(rt;
+        "mcserver: listening on 127.0.0.1:{port}, {pages} pages, {workers} workers"
+    );
+}
+
+/// Starts a worker at each post, and accepts connections for them until the listener fails.
+fn serve_by<R, C>(
+    rt: &R,
+    alloc: Global,
+    listener: TcpListener,
+    arrivals: &Arrivals,
+    posts: Posts,
+    asker: Asker<'_>,
+    clock: &C,
+) -> Result<(), Wanting>
+where
+    R: Wait + Threads + time::Clock + Sync,
+    C: Clock + Sync,
+{
+    let Posts { posts, wakers } = posts;
+    thread::scope(
+        thread::scope_env(),
+        rt,
+        move |scope| -> Result<(), Wanting> {
+            let mut asker = asker;
+            for post in posts {
+                let one = asker.another();
+                let worker = move || man(rt, alloc, one, arrivals, post, clock);
+                if Builder::new().spawn_scoped(scope, worker).is_err() {
+                    arrivals.end();
+                    return Err(Wanting::Memory);
+                }
+            }
+            accept_all(rt, listener, arrivals, wakers.as_slice());
+            Ok(())
+        },
+    )
+}
+
+/// Serves connections at a post until no more can come.
+fn man<R: Wait, C: Clock>(
+    rt: &R,
+    alloc: Global,
+    asker: Asker<'_>,
+    arrivals: &Arrivals,
+    post: Post,
+    clock: &C,
+) {
+    let Post {
+        share,
+        poll,
+        events,
+    } = post;
+    let mut links = SocketLinks::new(rt, alloc, arrivals, share, poll, events);
+    asker.work(rt, alloc, &mut links, clock);
+}

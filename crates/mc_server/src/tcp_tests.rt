@@ -1,0 +1,69 @@
+//! A session over TCP on 127.0.0.1, with both ends in this process.
+
+use crate::arrivals::{Arrivals, Share};
+use crate::asker::Asker;
+use crate::links::{EVENTS, SocketLinks};
+use crate::listening::bound;
+use crate::serving::settings_of;
+use mc_hop::Fnv;
+use mc_shared::Shared;
+use mc_time::{Fixed, Moment};
+use mio::net::TcpStream as Connection;
+use mio::{Events, Poll};
+use std::io::{Read, Write};
+use std::net::{Ipv4Addr, Net, Shutdown, SocketAddr, TcpListener, TcpStream};
+use std::sync::Wait;
+use std::test::*;
+
+/// Sends the input of a client, serves it, and gives what the client then reads.
+fn told<R>(rt: &R, input: &[u8]) -> Result<Vec<u8>, Fail>
+where
+    R: Net<Listener = TcpListener, Stream = TcpStream> + AllocGlobal + Wait,
+{
+    let alloc = rt.alloc();
+    let listener = bound(rt, 0)?;
+    let address = SocketAddr::from((Ipv4Addr::LOCALHOST, listener.local_addr()?.port()));
+    let mut client = TcpStream::connect(rt, address)?;
+    client.write_all(input)?;
+    client.shutdown(Shutdown::Write)?;
+    let (stream, _peer) = listener.accept()?;
+    stream.set_nonblocking(true)?;
+    let arrivals = Arrivals::new(alloc)?;
+    arrivals.push(rt, Connection::from_std(stream));
+    arrivals.end();
+    let (shared, caller) = Shared::new(alloc, settings_of(1), Fnv)?;
+    let events = Events::with_capacity(alloc, EVENTS)?;
+    let mut links = SocketLinks::new(
+        rt,
+        alloc,
+        &arrivals,
+        Share::new(0, 1),
+        Poll::new(rt)?,
+        events,
+    );
+    let clock = Fixed(Moment::from_seconds_at_most(1000));
+    Asker::new(&shared, caller).work(rt, alloc, &mut links, &clock);
+    let mut answer = Vec::new(alloc);
+    client.read_to_end(&mut answer)?;
+    Ok(answer)
+}
+
+#[test]
+fn a_client_is_told_the_answers(rt: HostRuntime) -> Result<(), Fail> {
+    let rows: [(&[u8], &[u8]); 3] = [
+        (b"", b""),
+        (
+            b"set a 5 0 3\r\nabc\r\nget a\r\n",
+            b"STORED\r\nVALUE a 5 3\r\nabc\r\nEND\r\n",
+        ),
+        (
+            b"set a 0 0 1 noreply\r\nx\r\nget a\r\nquit\r\nget a\r\n",
+            b"VALUE a 0 1\r\nx\r\nEND\r\n",
+        ),
+    ];
+    for (input, expected) in rows {
+        let answer = told(&rt, input)?;
+        assert!(rt; answer.as_slice() == expected);
+    }
+    Ok(())
+}

@@ -1,7 +1,0 @@
-use Rattle.std.specs.Prelude.{[], ◌∷◌}
-use Rattle.mc_shared.specs.Bays.{OfShelf}
-use Rattle.mc_shared.specs.History.{start_of, Stepped}
-use Rattle.mc_shared.proofs.steps.decide_at_desk.Given as goal
-
-abbrev pub ghosts-decide_at_desk_as : goal.ghosts-decide_at_desk_as
-ghosts-decide_at_desk_as g a = record { start = start_of g.K.KeyHash.hash_of a.board.now.shared.key.value; what = Stepped a._step.now a._now a._reply.now; still = (a._at, OfShelf a._shelf.now.content) ∷ [] }

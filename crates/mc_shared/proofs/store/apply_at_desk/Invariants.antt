@@ -1,0 +1,7 @@
+use Rattle.std.specs.Prelude.{[], ◌∷◌}
+use Rattle.mc_shared.specs.Bays.{OfShelf}
+use Rattle.mc_shared.specs.History.{start_of, Stepped}
+use Rattle.mc_shared.proofs.store.apply_at_desk.Given as goal
+
+abbrev pub ghosts-decide_at_desk : goal.ghosts-decide_at_desk
+ghosts-decide_at_desk g a = record { start = start_of g.K.KeyHash.hash_of a.board.now.shared.key.value; what = Stepped a._step.now a._now a._reply.now; still = (a._at, OfShelf a._shelf.now.content) ∷ [] }

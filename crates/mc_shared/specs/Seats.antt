@@ -1,0 +1,85 @@
+-- A seat of the table, as the calls within find it and leave it, and how a step comes out.
+use Rattle.std.specs.Prelude.{◌≡◌, ℕ, ◌+◌, ◌≤◌, ◌<◌, List, length, Result, IfOk, IfErr, OnErr}
+use Rattle.atomic_table.specs.declared.shared.Seat.{Seat}
+use Rattle.atomic_table.specs.Seated.{TableId}
+use Rattle.mc_command.specs.declared.step.KeyStep.{KeyStep}
+use Rattle.mc_command.specs.declared.reply.Reply.{Reply}
+use Rattle.mc_command.specs.Commands.{key_of}
+use Rattle.mc_command.specs.Laws.{IsOnKey}
+use Rattle.mc_shelf.specs.Stores.{StoreState}
+use Rattle.mc_shared.specs.Bays.{Content}
+use Rattle.mc_shared.specs.History.{Beginning, Operation, start_of, shelf_in}
+use Rattle.mc_shared.specs.Past.{Past, Lives}
+use Rattle.mc_shared.specs.View.{SeatView}
+use Rattle.mc_shared.specs.Steps.{Slot, HoldsLast, Decides}
+use Rattle.mc_shared.specs.Store.{resting, HasCalled, RestsCalled}
+use Rattle.mc_shared.specs.Shown.{CallerState}
+
+abbrev pub Sitter : Type 0
+Sitter = Seat Slot SeatView
+
+-- it is the same seat of the same table
+abbrev pub SameSeat : (old new : Sitter) → Type 0
+SameSeat old new = (new.table_id ≡ old.table_id) × (new.id ≡ old.id)
+
+-- a seat of this table, which has the desk behind the store's shelves
+pub record IsSeatOf {K : Type 0} (table : TableId) (began : StoreState K) (seat : Sitter) : Type 0
+  where
+    pub own : seat.table_id ≡ table
+    pub wide : table.words ≡ began.settings.shelves + 1
+
+-- the same, and its caller lives
+pub record IsAlive {K : Type 0} (table : TableId) (began : StoreState K) (seat : Sitter) : Type 0
+  where
+    pub own : seat.table_id ≡ table
+    pub wide : table.words ≡ began.settings.shelves + 1
+    pub lives : Lives seat.me.0.past
+
+-- the same, and it holds nothing
+pub record IsFree {K : Type 0} (table : TableId) (began : StoreState K) (seat : Sitter) : Type 0
+  where
+    pub own : seat.table_id ≡ table
+    pub wide : table.words ≡ began.settings.shelves + 1
+    pub lives : Lives seat.me.0.past
+    pub free : seat.me ≡ resting seat.me.0.past
+
+-- It lives, took this bay last, and may give it back with this content and this decision, after
+-- which these bays are still held.
+pub record MayDecide {K : Type 0} (table : TableId) (began : StoreState K) (seat : Sitter) (b : ℕ)
+    (start : Beginning) (y : Content) (what : Operation) (still : List (ℕ × Content)) : Type 0
+  where
+    pub own : seat.table_id ≡ table
+    pub wide : table.words ≡ began.settings.shelves + 1
+    pub lives : Lives seat.me.0.past
+    pub bay : b < table.words
+    pub held : HoldsLast seat.me b
+    pub right : Decides start seat.me.0.bays b y what still
+
+-- a step on a key, the key's hash, and the bays of the key's shelf and of the desk
+pub record IsStepAt {K : Type 0} (hash_of : K → List ℕ → ℕ) (began : StoreState K)
+    (step : KeyStep) (hash : ℕ) (bays : ℕ × ℕ) : Type 0 where
+  pub on_key : IsOnKey step
+  pub short : length (key_of step) ≤ 250
+  pub hashed : hash ≡ hash_of began.hasher (key_of step)
+  pub own : shelf_in (start_of hash_of began) (key_of step) ≡ bays.0
+  pub shelf : bays.0 < began.settings.shelves
+  pub desk : bays.1 ≡ began.settings.shelves
+
+-- How a step came out. Taken, the seat rests with it as one call more, and a legal history keeps
+-- that; else it rests as it was, and there may be such a fault.
+pub record ComesOut {E : Type 0} (start : Beginning) (old : Sitter) (step : KeyStep) (now : ℕ)
+    (may : Beginning → Past → KeyStep → ℕ → E → Type 0) (result : Result Reply E) (new : Sitter)
+    : Type 0 where
+  pub seat : SameSeat old new
+  pub ok : IfOk result (λ reply. RestsCalled start old.me step now reply new.me)
+  pub err : OnErr result (new.me ≡ resting old.me.0.past)
+  pub fault : IfErr result (may start old.me.0.past step now)
+
+-- The same of a caller's step.
+pub record IsAnswered {E : Type 0} (start : Beginning) (old : CallerState) (step : KeyStep)
+    (now : ℕ) (may : Beginning → Past → KeyStep → ℕ → E → Type 0) (result : Result Reply E)
+    (new : CallerState) : Type 0 where
+  pub same : new.table ≡ old.table
+  pub ok : IfOk result (λ reply. HasCalled start old.past step now reply new.past)
+  pub err : OnErr result (new.past ≡ old.past)
+  pub fault : IfErr result (may start old.past step now)

@@ -1,0 +1,189 @@
+//! Two workers over one store, one of which waits inside a step for the other.
+
+ghost use Rattle.std.specs.Prelude.{◌≡◌, IfOk};
+
+use crate::guests::WorkEnd;
+use crate::held::{HeldLink, HeldLinks, Seen};
+use crate::worker::work;
+use mc_hop::Fnv;
+use mc_shared::{Caller, Gate, NoGate, Shared};
+use mc_shelf::{Settings, Store};
+use mc_time::{Fixed, Moment};
+use std::alloc::{AllocError, Global};
+use std::sync::Wait;
+use std::sync::atomic::{AtomicU64, Ordering};
+use std::test::*;
+use std::thread;
+use std::thread::Threads;
+
+/// How many times a held step looks whether the other was answered, before it gives up.
+const TURNS: u32 = 1_000_000;
+
+/// A gate that holds the first step on a shelf until another link took so many bytes.
+#[derive(Drop)]
+struct HoldsShelf<'a> {
+    shelf: u32,
+    /// 1 once a step is held.
+    held: &'a AtomicU64,
+    other: &'a Seen,
+    wanted: u64,
+    /// 1 where the other link wasn't answered in time.
+    gave_up: &'a AtomicU64,
+}
+
+impl<'a> Gate for HoldsShelf<'a> {
+    fn inside(&self, shelf: u32) {
+        if shelf != self.shelf || self.held.swap(1, Ordering::SeqCst) == 1 {
+            return;
+        }
+        for _turn in 0..TURNS {
+            if self.other.right() >= self.wanted {
+                return;
+            }
+            thread::yield_now();
+        }
+        self.gave_up.store(1, Ordering::SeqCst);
+    }
+}
+
+/// Serves one link at second 1000, and gives the caller back.
+fn serves<R: Wait, G: Gate>(
+    rt: &R,
+    alloc: Global,
+    shared: &Shared<Fnv>,
+    caller: Caller,
+    link: HeldLink<'_>,
+    gate: &G,
+) -> (Caller, WorkEnd)
+    requires { caller.table ≡ shared.now.table }
+    ensures { result.0.table ≡ shared.now.table }
+{
+    let clock = Fixed(Moment::from_seconds_at_most(1000));
+    let mut links = HeldLinks::one(link);
+    work(rt, alloc, shared, caller, &mut links, gate, &clock)
+}
+
+/// What a link gives, and what it is to take.
+const GET_A: (&[u8], &[u8]) = (b"get a\r\n", b"VALUE a 0 1\r\nx\r\nEND\r\n");
+
+const GET_B: (&[u8], &[u8]) = (b"get b\r\n", b"VALUE b 0 1\r\ny\r\nEND\r\n");
+
+/// What two workers did.
+#[derive(Clone, Copy, Debug, PartialEq, Eq)]
+struct Met {
+    /// Whether the held step gave up.
+    gave_up: bool,
+    /// How many bytes were right and how many wrong, of each link.
+    first: (u64, u64),
+    second: (u64, u64),
+}
+
+/// Serves `get a` and another link in two threads. The step on `a` is held on its shelf until the
+/// other was answered, which gives its input only once that step is held.
+fn both_get<R: Threads + Wait + Sync>(
+    rt: &R,
+    alloc: Global,
+    shared: &Shared<Fnv>,
+    me: Caller,
+    input: &[u8],
+    expected: &[u8],
+) -> Met
+    requires { me.table ≡ shared.now.table }
+{
+    let held = AtomicU64::new(0);
+    let gave_up = AtomicU64::new(0);
+    let first = Seen::nothing();
+    let second = Seen::nothing();
+    let gate = HoldsShelf {
+        shelf: shared.shelf_of(b"a"),
+        held: &held,
+        other: &second,
+        wanted: expected.len() as u64,
+        gave_up: &gave_up,
+    };
+    let mut me = me;
+    let other = shared.caller(&mut me);
+    let (mine, theirs) = thread::join(
+        rt,
+        || -> (Caller, WorkEnd)
+            requires { me.table ≡ shared.now.table }
+            ensures { result.0.table ≡ shared.entry.now.table }
+        {
+            serves(
+                rt,
+                alloc,
+                shared,
+                me,
+                HeldLink::new(alloc, GET_A.0, GET_A.1, &first),
+                &gate,
+            )
+        },
+        || -> (Caller, WorkEnd)
+            requires { other.table ≡ shared.now.table }
+            ensures { result.0.table ≡ shared.entry.now.table }
+        {
+            let link = HeldLink::new(alloc, input, expected, &second).giving_after(&held);
+            serves(rt, alloc, shared, other, link, &gate)
+        },
+    );
+    let (mut me, _) = mine;
+    let (other, _) = theirs;
+    shared.join(&mut me, other);
+    Met {
+        gave_up: gave_up.load(Ordering::SeqCst) == 1,
+        first: first.told(),
+        second: second.told(),
+    }
+}
+
+/// Makes a store, and serves a link that sets `a` and `b`.
+fn filled<R: Wait>(rt: &R, alloc: Global) -> Result<(Shared<Fnv>, Caller), AllocError>
+    ensures { IfOk result (λ made. made.1.table ≡ made.0.table) }
+{
+    let settings = Settings {
+        pages: 64,
+        greatest: 1048576,
+        shelves: 64,
+    };
+    let (shared, me) = Shared::over(alloc, Store::new(alloc, settings, Fnv)?)?;
+    let seen = Seen::nothing();
+    let link = HeldLink::new(
+        alloc,
+        b"set a 0 0 1\r\nx\r\nset b 0 0 1\r\ny\r\n",
+        b"STORED\r\nSTORED\r\n",
+        &seen,
+    );
+    let (me, _) = serves(rt, alloc, &shared, me, link, &NoGate);
+    Ok((shared, me))
+}
+
+/// How many bytes each link takes, all of them as expected.
+const ANSWERED: (u64, u64) = (21, 0);
+
+#[test]
+fn a_held_step_leaves_other_shelves_free(rt: HostRuntime) -> Result<(), Fail> {
+    let (shared, me) = filled(&rt, rt.alloc())?;
+    assert_eq!(rt; (shared.shelf_of(b"a"), shared.shelf_of(b"b")), (12, 37));
+    let met = both_get(&rt, rt.alloc(), &shared, me, GET_B.0, GET_B.1);
+    let free = Met {
+        gave_up: false,
+        first: ANSWERED,
+        second: ANSWERED,
+    };
+    assert_eq!(rt; met, free);
+    Ok(())
+}
+
+/// So the test above fails where a step holds the whole store.
+#[test]
+fn a_held_step_holds_up_those_on_its_own_shelf(rt: HostRuntime) -> Result<(), Fail> {
+    let (shared, me) = filled(&rt, rt.alloc())?;
+    let met = both_get(&rt, rt.alloc(), &shared, me, GET_A.0, GET_A.1);
+    let held_up = Met {
+        gave_up: true,
+        first: ANSWERED,
+        second: ANSWERED,
+    };
+    assert_eq!(rt; met, held_up);
+    Ok(())
+}

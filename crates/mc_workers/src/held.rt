@@ -1,0 +1,282 @@
+//! Links in memory, for tests.
+
+use crate::link::{Got, Link, LinkFault, Took};
+use crate::worker::{Links, Next};
+use std::alloc::Global;
+use std::marker::Model;
+use std::sync::atomic::{AtomicU64, Ordering};
+
+/// What is seen of a link once its worker has dropped it: how many bytes that it took were as
+/// expected at their places, and how many weren't.
+#[derive(Drop)]
+pub struct Seen {
+    right: AtomicU64,
+    wrong: AtomicU64,
+}
+
+impl Seen {
+    pub fn nothing() -> Seen {
+        Seen {
+            right: AtomicU64::new(0),
+            wrong: AtomicU64::new(0),
+        }
+    }
+
+    /// Counts a byte.
+    fn count(&self, is_right: bool) {
+        let counter = if is_right { &self.right } else { &self.wrong };
+        counter.fetch_add(1, Ordering::SeqCst);
+    }
+
+    pub fn right(&self) -> u64 {
+        self.right.load(Ordering::SeqCst)
+    }
+
+    /// Tells how many bytes were right and how many were wrong.
+    pub fn told(&self) -> (u64, u64) {
+        (self.right(), self.wrong.load(Ordering::SeqCst))
+    }
+}
+
+/// How a call of a link goes.
+#[derive(Clone, Copy, Debug, PartialEq, Eq)]
+enum Call {
+    Fails,
+    /// The faults can't be counted any more.
+    GivesNone,
+    /// No bytes come or go.
+    IsEmpty,
+    /// One byte comes or goes, where there is one.
+    GoesOn,
+}
+
+/// The calls of a link, each other one of which is empty. Contracts see how many failed.
+#[derive(Drop)]
+struct Calls {
+    /// In how many calls from now one fails; none does at 0.
+    until_fault: u64,
+    faults: u64,
+    was_empty: bool,
+}
+
+impl Model for Calls {
+    ghost use Rattle.std.specs.Prelude.{ℕ};
+
+    ghost Value = { ℕ };
+
+    ghost view = { λ c. c.faults };
+}
+
+impl Calls {
+    ghost use Rattle.std.specs.Prelude.{◌≡◌, ◌+◌, ◌-◌, ◌^◌};
+
+    /// Says how the next call goes.
+    fn next(&mut self) -> Call
+        ensures full { self.old ≡ 2 ^ 64 - 1 → result ≡ Call.GivesNone }
+        ensures fails { result ≡ Call.Fails → self.new ≡ self.old + 1 }
+        ensures none { result ≡ Call.GivesNone → self.new ≡ self.old }
+        ensures empty { result ≡ Call.IsEmpty → self.new ≡ self.old }
+        ensures goes { result ≡ Call.GoesOn → self.new ≡ self.old }
+    {
+        if self.faults == u64::MAX {
+            return Call::GivesNone;
+        }
+        if self.until_fault == 1 {
+            self.until_fault = 0;
+            self.faults += 1;
+            return Call::Fails;
+        }
+        self.until_fault = self.until_fault.saturating_sub(1);
+        self.was_empty = !self.was_empty;
+        if self.was_empty {
+            Call::GoesOn
+        } else {
+            Call::IsEmpty
+        }
+    }
+}
+
+/// A link in memory, which gives its input and takes output one byte at a time, with an empty call
+/// after each, and may fail at one of its calls.
+#[derive(Drop)]
+pub struct HeldLink<'a> {
+    input: &'a [u8],
+    /// How many bytes of the input were given.
+    at: usize,
+    output: Vec<u8>,
+    expected: &'a [u8],
+    seen: &'a Seen,
+    calls: Calls,
+    /// It gives nothing while this is 0.
+    gives: Option<&'a AtomicU64>,
+    is_ended: bool,
+}
+
+impl<'a> Model for HeldLink<'a> {
+    ghost use Rattle.std.specs.Prelude.{take, Some};
+    ghost use Rattle.mc_workers.specs.Links.{LinkState};
+
+    ghost Value = { LinkState };
+
+    ghost view = { λ s. record {
+      given = Some (take s.at s.input.now);
+      taken = Some s.output.items;
+      faults = s.calls;
+      is_ended = s.is_ended;
+    } };
+}
+
+impl<'a> HeldLink<'a> {
+    ghost use Rattle.std.specs.Prelude.{◌≡◌, ◌∷◌, [], Ok};
+    ghost use Rattle.mc_workers.specs.Links.{Gives, Takes};
+
+    /// Makes a link that gives this input, and of which this output is expected.
+    pub fn new(alloc: Global, input: &'a [u8], expected: &'a [u8], seen: &'a Seen) -> HeldLink<'a> {
+        HeldLink {
+            input,
+            at: 0,
+            output: Vec::new(alloc),
+            expected,
+            seen,
+            calls: Calls {
+                until_fault: 0,
+                faults: 0,
+                was_empty: false,
+            },
+            gives: None,
+            is_ended: false,
+        }
+    }
+
+    /// Lets a call from now fail: the first at 1.
+    pub fn failing_at(mut self, call: u64) -> HeldLink<'a> {
+        self.calls.until_fault = call;
+        self
+    }
+
+    /// Lets it give nothing while this is 0.
+    pub fn giving_after(mut self, gives: &'a AtomicU64) -> HeldLink<'a> {
+        self.gives = Some(gives);
+        self
+    }
+
+    /// Says whether it gives nothing yet.
+    fn is_held_back(&self) -> bool {
+        match self.gives {
+            Some(gives) => gives.load(Ordering::SeqCst) == 0,
+            None => false,
+        }
+    }
+
+    /// Gives the next byte, where there is one.
+    fn give(&mut self, piece: &mut [u8]) -> Result<Got, LinkFault>
+        ensures { Gives self.old piece.new result self.new }
+    {
+        if self.at >= self.input.len() {
+            self.is_ended = true;
+            return Ok(Got::End);
+        }
+        if piece.len() == 0 || self.is_held_back() {
+            return Ok(Got::Later);
+        }
+        piece[0] = self.input[self.at];
+        self.at += 1;
+        Ok(Got::Bytes(1))
+    }
+
+    /// Takes the first byte, where there is one.
+    fn take(&mut self, bytes: &[u8]) -> Result<Took, LinkFault>
+        ensures { Takes self.old bytes.now result self.new }
+    {
+        if bytes.is_empty() {
+            return Ok(Took::Later);
+        }
+        let byte = bytes[0];
+        let is_right = self.expected.get(self.output.len()) == Some(&byte);
+        match self.output.push(byte) {
+            Ok(()) => {
+                self.seen.count(is_right);
+                Ok(Took::Bytes(1))
+            }
+            Err(_) => Ok(Took::Later),
+        }
+    }
+}
+
+impl<'a> Link for HeldLink<'a> {
+    ghost shown = { λ s. s };
+
+    fn try_read(&mut self, piece: &mut [u8]) -> Result<Got, LinkFault> {
+        match self.calls.next() {
+            Call::Fails => Err(LinkFault),
+            Call::GivesNone => Ok(Got::Later),
+            Call::IsEmpty => Ok(Got::Bytes(0)),
+            Call::GoesOn => self.give(piece),
+        }
+    }
+
+    fn try_write(&mut self, bytes: &[u8]) -> Result<Took, LinkFault> {
+        match self.calls.next() {
+            Call::Fails => Err(LinkFault),
+            Call::GivesNone => Ok(Took::Later),
+            Call::IsEmpty => Ok(Took::Bytes(0)),
+            Call::GoesOn => self.take(bytes),
+        }
+    }
+
+    fn faults(&self) -> u64 {
+        self.calls.faults
+    }
+}
+
+/// One link or two, and then none. It names them in turn.
+#[derive(Drop)]
+pub struct HeldLinks<'a> {
+    first: Option<HeldLink<'a>>,
+    second: Option<HeldLink<'a>>,
+    named: u64,
+}
+
+impl<'a> HeldLinks<'a> {
+    pub fn one(link: HeldLink<'a>) -> HeldLinks<'a> {
+        HeldLinks {
+            first: Some(link),
+            second: None,
+            named: 0,
+        }
+    }
+
+    pub fn two(first: HeldLink<'a>, second: HeldLink<'a>) -> HeldLinks<'a> {
+        HeldLinks {
+            first: Some(first),
+            second: Some(second),
+            named: 0,
+        }
+    }
+}
+
+impl<'a> Links<HeldLink<'a>> for HeldLinks<'a> {
+    fn next(&mut self) -> Next<HeldLink<'a>> {
+        let link = match self.first.take() {
+            Some(link) => Some(link),
+            None => self.second.take(),
+        };
+        match link {
+            Some(link) => Next::Link(link),
+            None => Next::Closed,
+        }
+    }
+
+    fn ready(&mut self) -> Option<u64> {
+        let name = self.named;
+        if name < 2 {
+            self.named = name + 1;
+            Some(name)
+        } else {
+            self.named = 0;
+            None
+        }
+    }
+
+    fn rest(&mut self) {}
+}

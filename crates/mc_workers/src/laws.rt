@@ -1,0 +1,47 @@
+//! Laws of visits, each the contract of a function that does nothing.
+
+ghost use Rattle.std.specs.Prelude.{◌≡◌, ℕ, List, [], ◌++◌, Some, slice_get};
+ghost use Rattle.mc_workers.specs.Links.{LinkState, grown};
+ghost use Rattle.mc_workers.specs.Guests.{GuestState, welcomed, told};
+ghost use Rattle.mc_workers.specs.Visits.{Visited, GoesRound};
+ghost use Rattle.mc_workers.specs.Telling.{TakenTurn, Visits, texts, turns_of};
+
+use crate::guest::Visit;
+use mc_command::Steps;
+
+/// States that links take the texts of turns, in their order, and nothing else. What a link took and
+/// the output that waits for it, one behind the other, grow with each visit by the text of the turn
+/// that it took, and by nothing where it took none; so with visits one after another they grow by
+/// the texts of their turns. The text of a turn is the one that answers it, by the reply of its step
+/// where it takes one.
+///
+/// So what a link took since its guest was made is a front of the texts of all turns, and all of
+/// them once a visit has answered Served. Of a link whose bytes nobody can know nothing is said.
+pub fn links_take_texts_of_turns<S: Steps>()
+    ensures visit { (now : ℕ) (answer : Visit) (old new : GuestState) (before after : S)
+        (visited : Visited S.Steps now answer old new before after) →
+        told new ≡ grown (told old)
+        (texts S.Steps (turns_of S.Steps now answer old new before after visited)) }
+    ensures visits { (turns : List (TakenTurn S.Steps)) (old new : GuestState) →
+        Visits S.Steps turns old new → told new ≡ grown (told old) (texts S.Steps turns) }
+    ensures front { (turns : List (TakenTurn S.Steps)) (greatest : ℕ) (link : LinkState)
+        (new : GuestState) (taken : List ℕ) → link.taken ≡ Some [] →
+        Visits S.Steps turns (welcomed greatest link) new → new.link.taken ≡ Some taken →
+        texts S.Steps turns ≡ taken ++ new.session.out }
+    ensures all { (turns : List (TakenTurn S.Steps)) (greatest : ℕ) (link : LinkState)
+        (new : GuestState) → link.taken ≡ Some [] →
+        Visits S.Steps turns (welcomed greatest link) new → new.last ≡ Some Visit.Served →
+        new.link.taken ≡ Some (texts S.Steps turns) }
+{}
+
+/// States that a round is a visit of each of its guests, and that visits go on from one round to the
+/// next: their turns stand one behind the other.
+pub fn rounds_are_visits<S: Steps>()
+    ensures round { (now at : ℕ) (olds news : List GuestState) (before after : S)
+        (old new : GuestState) → GoesRound S.Steps now olds news before after →
+        slice_get olds at ≡ Some old → slice_get news at ≡ Some new →
+        (turns : List (TakenTurn S.Steps)) × Visits S.Steps turns old new }
+    ensures rounds { (turns later : List (TakenTurn S.Steps)) (first mid last : GuestState) →
+        Visits S.Steps turns first mid → Visits S.Steps later mid last →
+        Visits S.Steps (turns ++ later) first last }
+{}

@@ -1,5 +1,0 @@
-use Rattle.mc_world.proofs.WorldLemmas.{new_stands}
-use Rattle.mc_world.proofs.world.World.new.Goals as goal
-
-pub invariant_of-result : goal.invariant_of-result
-invariant_of-result g c = new_stands _ c.new-2.ensures

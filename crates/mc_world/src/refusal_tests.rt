@@ -1,0 +1,250 @@
+//! Rows of the protocol, of which tests/refusals.py refuses each request for memory in turn.
+//!
+//! A command that finds no memory is sent again by a new session, unless its step was decided: that one stands, and has no text. So
+//! each row ends as it does with ample memory, and what it reads last tells whether anything was lost, or done twice.
+
+ghost use Rattle.std.specs.Prelude.{◌≤◌};
+
+use super::*;
+use mc_command::Bytes;
+use mc_hop::{Constant, Fnv, KeyHash};
+use mc_shelf::Settings;
+use mc_time::Moment;
+use std::alloc::{AllocError, Global};
+use std::process::Abort;
+use std::test::Fail;
+
+/// What a step is answered that finds no chunk.
+const NO_CHUNK: &[u8] = b"SERVER_ERROR out of memory storing object\r\n";
+
+/// A world at 1000 of so many pages, asked for again where memory is refused.
+fn world<K: KeyHash + Drop + Copy>(
+    alloc: Global,
+    hasher: K,
+    pages: u32,
+) -> Result<World<K>, AllocError>
+    requires { (1 ≤ pages) × (pages ≤ 65536) }
+{
+    let settings = Settings {
+        pages,
+        greatest: 1048576,
+        shelves: 64,
+    };
+    let now = Moment::from_seconds(1000);
+    match World::new(alloc, settings, hasher, now) {
+        Err(_) => World::new(alloc, settings, hasher, now),
+        made => made,
+    }
+}
+
+/// A world, with the session that asks it.
+#[derive(Drop)]
+struct Asker<K: KeyHash + Drop> {
+    world: World<K>,
+    session: u32,
+}
+
+impl<K: KeyHash + Drop> Asker<K> {
+    /// Asks that world by its first session.
+    fn of(rt: &impl Abort, alloc: Global, world: World<K>) -> Asker<K> {
+        let mut asker = Asker { world, session: 0 };
+        asker.open_next(rt, alloc);
+        asker
+    }
+
+    /// Opens the next session, and asks by that. One that is refused memory isn't opened, and is opened when it is asked for again.
+    fn open_next(&mut self, rt: &impl Abort, alloc: Global) {
+        let opened = self.world.opened();
+        if self.world.run(alloc, &[Event::Open]).is_err() {
+            assert!(rt; self.world.opened() == opened, "a refused session is there");
+            let again = self.world.run(alloc, &[Event::Open]);
+            assert!(rt; again.is_ok(), "a second refusal");
+        }
+        self.session = self.session.wrapping_add(1);
+    }
+
+    /// Sends a command, and takes its turn.
+    fn send(&mut self, alloc: Global, command: &[u8]) -> Result<(), Refused> {
+        let piece = Event::Piece(self.session, Bytes::of(command));
+        self.world.run(alloc, &[piece, Event::Turn(self.session)])
+    }
+
+    /// Sends a command, and tells whether its step stands. Refused, the session is closed with no text, and another one asks from
+    /// then on.
+    fn stands(&mut self, rt: &impl Abort, alloc: Global, command: &[u8], text: &[u8]) -> bool {
+        match self.send(alloc, command) {
+            Ok(()) => {
+                let out = self.world.out(self.session);
+                assert!(rt; out == text, "another text");
+                let written = out.len();
+                self.world.sent(self.session, written);
+                true
+            }
+            Err(refused) => {
+                assert!(rt; refused.session == Some(self.session), "another session");
+                assert!(rt; self.world.is_closed(self.session), "it is open");
+                assert!(rt;
+                    self.world.out(self.session).is_empty(),
+                    "a refused turn has a text"
+                );
+                self.open_next(rt, alloc);
+                refused.decided
+            }
+        }
+    }
+
+    /// Sends a command until it is answered that, or its step stands without an answer.
+    fn answers(&mut self, rt: &impl Abort, alloc: Global, command: &[u8], text: &[u8]) {
+        if !self.stands(rt, alloc, command, text) {
+            let stands = self.stands(rt, alloc, command, text);
+            assert!(rt; stands, "a second refusal");
+        }
+    }
+
+    /// Sends commands one after another, and then one that reads, until that is answered.
+    fn rows(
+        &mut self,
+        rt: &impl Abort,
+        alloc: Global,
+        rows: &[(&[u8], &[u8])],
+        read: (&[u8], &[u8]),
+    ) {
+        for (command, text) in rows {
+            self.answers(rt, alloc, command, text);
+        }
+        let session = self.session;
+        let (command, text) = read;
+        self.answers(rt, alloc, command, text);
+        if self.session != session {
+            self.answers(rt, alloc, command, text);
+        }
+    }
+}
+
+#[test]
+fn a_cas_stores_once(rt: HostRuntime) -> Result<(), Fail> {
+    let alloc = rt.alloc();
+    let mut asker = Asker::of(&rt, alloc, world(alloc, Fnv, 64)?);
+    let rows: [(&[u8], &[u8]); 4] = [
+        (b"set a 0 0 1\r\nx\r\n", b"STORED\r\n"),
+        (b"gets a\r\n", b"VALUE a 0 1 1\r\nx\r\nEND\r\n"),
+        (b"cas a 0 0 1 1\r\ny\r\n", b"STORED\r\n"),
+        (b"cas a 0 0 1 1\r\nz\r\n", b"EXISTS\r\n"),
+    ];
+    let read = (
+        b"gets a\r\n".as_slice(),
+        b"VALUE a 0 1 2\r\ny\r\nEND\r\n".as_slice(),
+    );
+    asker.rows(&rt, alloc, &rows, read);
+    Ok(())
+}
+
+#[test]
+fn appended_and_prepended_blocks_keep_flags(rt: HostRuntime) -> Result<(), Fail> {
+    let alloc = rt.alloc();
+    let mut asker = Asker::of(&rt, alloc, world(alloc, Fnv, 64)?);
+    let rows: [(&[u8], &[u8]); 4] = [
+        (b"append a 9 9 1\r\nx\r\n", b"NOT_STORED\r\n"),
+        (b"set a 7 0 1\r\nb\r\n", b"STORED\r\n"),
+        (b"append a 9 0 1\r\nc\r\n", b"STORED\r\n"),
+        (b"prepend a 9 0 1\r\na\r\n", b"STORED\r\n"),
+    ];
+    let read = (
+        b"gets a\r\n".as_slice(),
+        b"VALUE a 7 3 3\r\nabc\r\nEND\r\n".as_slice(),
+    );
+    asker.rows(&rt, alloc, &rows, read);
+    Ok(())
+}
+
+#[test]
+fn a_number_that_leaves_its_class_finds_no_chunk(rt: HostRuntime) -> Result<(), Fail> {
+    let alloc = rt.alloc();
+    let mut asker = Asker::of(&rt, alloc, world(alloc, Fnv, 1)?);
+    let rows: [(&[u8], &[u8]); 2] = [
+        (
+            b"set a_key_of_as_many_bytes_as_leave_room_for_one_01 0 0 1\r\n9\r\n",
+            b"STORED\r\n",
+        ),
+        (
+            b"incr a_key_of_as_many_bytes_as_leave_room_for_one_01 1\r\n",
+            NO_CHUNK,
+        ),
+    ];
+    let read = (
+        b"get a_key_of_as_many_bytes_as_leave_room_for_one_01\r\n".as_slice(),
+        b"VALUE a_key_of_as_many_bytes_as_leave_room_for_one_01 0 1\r\n9\r\nEND\r\n".as_slice(),
+    );
+    asker.rows(&rt, alloc, &rows, read);
+    Ok(())
+}
+
+/// Bytes of three parts, the middle one 600000 times a letter, asked for again where memory is refused.
+fn around(alloc: Global, front: &[u8], letter: u8, behind: &[u8]) -> Result<Vec<u8>, AllocError> {
+    match around_once(alloc, front, letter, behind) {
+        Err(_) => around_once(alloc, front, letter, behind),
+        made => made,
+    }
+}
+
+fn around_once(
+    alloc: Global,
+    front: &[u8],
+    letter: u8,
+    behind: &[u8],
+) -> Result<Vec<u8>, AllocError> {
+    let mut bytes = Vec::new(alloc);
+    bytes.extend_from_slice(front)?;
+    bytes.resize(front.len().saturating_add(600000), letter)?;
+    bytes.extend_from_slice(behind)?;
+    Ok(bytes)
+}
+
+#[test]
+fn one_page_holds_one_large_item(rt: HostRuntime) -> Result<(), Fail> {
+    let alloc = rt.alloc();
+    let mut asker = Asker::of(&rt, alloc, world(alloc, Fnv, 1)?);
+    let first = around(alloc, b"set b 0 0 600000\r\n", b'x', b"\r\n")?;
+    let second = around(alloc, b"set b 0 0 600000\r\n", b'z', b"\r\n")?;
+    let hit = around(alloc, b"VALUE b 0 600000\r\n", b'x', b"\r\nEND\r\n")?;
+    let rows: [(&[u8], &[u8]); 3] = [
+        (first.as_slice(), b"STORED\r\n"),
+        (b"set s 0 0 1\r\ny\r\n", NO_CHUNK),
+        (second.as_slice(), NO_CHUNK),
+    ];
+    asker.rows(&rt, alloc, &rows, (b"get b\r\n", hit.as_slice()));
+    Ok(())
+}
+
+/// What sets the key of a number to its two digits.
+fn set_of(alloc: Global, number: u32) -> Result<String, AllocError> {
+    format!(in alloc; "set k{number:02} 0 0 2\r\n{number:02}\r\n")
+}
+
+/// What the key of a number is found to be.
+fn hit_of(alloc: Global, number: u32) -> Result<String, AllocError> {
+    format!(in alloc; "VALUE k{number:02} 0 2\r\n{number:02}\r\nEND\r\n")
+}
+
+/// What gets the key of a number.
+fn get_of(alloc: Global, number: u32) -> Result<String, AllocError> {
+    format!(in alloc; "get k{number:02}\r\n")
+}
+
+#[test]
+fn keys_of_one_hash_are_apart_while_tables_grow(rt: HostRuntime) -> Result<(), Fail> {
+    let alloc = rt.alloc();
+    let mut asker = Asker::of(&rt, alloc, world(alloc, Constant(0), 64)?);
+    for number in 1..41 {
+        let set = set_of(alloc, number).or_else(|_| set_of(alloc, number))?;
+        asker.answers(&rt, alloc, set.as_bytes(), b"STORED\r\n");
+        let grown = asker.world.run(alloc, &[Event::Grow(0)]);
+        assert!(rt; grown.is_ok(), "growth took memory");
+    }
+    for number in 1..41 {
+        let get = get_of(alloc, number).or_else(|_| get_of(alloc, number))?;
+        let hit = hit_of(alloc, number).or_else(|_| hit_of(alloc, number))?;
+        asker.rows(&rt, alloc, &[], (get.as_bytes(), hit.as_bytes()));
+    }
+    Ok(())
+}
