@@ -72,6 +72,7 @@ def at_moment(program, numbers, now):
     found = []
     pool = ProcessPoolExecutor(PROCESSES, multiprocessing.get_context("spawn"), initializer=serving.die_with_parent)
     with pool, abused(program, found, KEPT, now=now, pages=PAGES) as server:
+        found += socket_own.spend_numbers(server.port)
         jobs = [pool.submit(portion, server.port, first, now) for first in numbers[::PORTION]]
         for job in as_completed(jobs):
             found += job.result()

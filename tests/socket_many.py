@@ -85,6 +85,8 @@ def own_keys(program):
     with Server(program) as server:
         version = version_of(server.port)
         try:
+            if found := socket_own.spend_numbers(server.port):
+                return found
             for number in range(CONNECTIONS):
                 talkers.append(Talker(server.port, number, version))
             for _ in range(ROUNDS):

@@ -8,10 +8,13 @@ import re
 import fuzz
 import model
 import rows
+from socket_peers import Peer
 
 MARK = re.compile(rb"<unique (\d+)>")
 # The first number that a connection's model draws. No input has one as great but its marks.
 FIRST = 10**12
+# So many numbers are drawn before any input comes: an input names smaller ones, or none that a server comes to.
+SPENT = 1000
 
 
 class Store(model.Store):
@@ -64,6 +67,12 @@ class Source(fuzz.Source):
     def noise(self):
         made = super().noise()
         return b"\r\n" if made.startswith(b"set a ") else made
+
+
+def spend_numbers(port):
+    """Draws the unique numbers that inputs name, so that no item of the server's has one that the model's hasn't."""
+    with Peer(port) as peer:
+        return peer.asks(b"set first 0 0 1\r\nx\r\n" * SPENT, b"STORED\r\n" * SPENT)
 
 
 def session(stream, now, pages=rows.PAGES):
