@@ -59,7 +59,8 @@ impl<T: Keyed + Drop> Model for Index<T> {
       spare = vec_capacity i.strays - (vec_len i.strays + filled (drained_items i.draining));
     } };
 
-    ghost invariant = { λ i. IsIndex T.hash_of T.key_of i.draining i.table i.strays.items (vec_capacity i.strays) };
+    ghost invariant = { λ i. IsIndex T.hash_of T.key_of i.draining i.table i.strays.items
+        (vec_capacity i.strays) };
 }
 
 impl<T: Keyed + Drop> Index<T> {

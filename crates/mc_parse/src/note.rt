@@ -81,7 +81,8 @@ impl LineNote {
         ensures said { result.said ≡ said }
         ensures key_len { result.key_len ≡ length key.now }
         ensures key_from { result.key_from ≤ length text.now }
-        ensures key { IsSecond key.now (words text.now) → StandsAt result.key_from key.now text.now }
+        ensures key { IsSecond key.now (words text.now) →
+            StandsAt result.key_from key.now text.now }
     {
         LineNote {
             end,

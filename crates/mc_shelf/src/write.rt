@@ -237,8 +237,8 @@ impl Shelf {
         requires known { IsKnown self.old.content (key_of step.now) write.now.hash write.now.place }
         requires class { chunk_class chunk ≡ class_holding
             (charge (key_of step.now) (block_beside self.old.content step.now write.now.draft)) }
-        requires fits { charge (key_of step.now) (block_beside self.old.content step.now write.now.draft)
-            ≤ length chunk }
+        requires fits { charge (key_of step.now)
+            (block_beside self.old.content step.now write.now.draft) ≤ length chunk }
         requires room { get self.old.content.items (key_of step.now) ≡ None → 1 ≤ self.old.room }
         requires out { IsOut (key_of step.now) self.old.content desk.old }
         ensures put { IsPut (key_of step.now) write.now.hash self.old.content self.new.content
