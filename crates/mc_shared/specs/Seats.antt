@@ -6,14 +6,15 @@ use Rattle.mc_command.specs.declared.step.KeyStep.{KeyStep}
 use Rattle.mc_command.specs.declared.reply.Reply.{Reply}
 use Rattle.mc_command.specs.Commands.{key_of}
 use Rattle.mc_command.specs.Laws.{IsOnKey}
+use Rattle.mc_shelf.specs.States.{ShelfState}
 use Rattle.mc_shelf.specs.Stores.{StoreState}
-use Rattle.mc_shared.specs.Bays.{Content}
+use Rattle.mc_shared.specs.Bays.{Content, OfShelf}
 use Rattle.mc_shared.specs.History.{Beginning, Operation, start_of, shelf_in}
 use Rattle.mc_shared.specs.Past.{Past, Lives}
 use Rattle.mc_shared.specs.View.{SeatView}
 use Rattle.mc_shared.specs.Steps.{Slot, HoldsLast, Decides}
-use Rattle.mc_shared.specs.Store.{resting, HasCalled, RestsCalled}
-use Rattle.mc_shared.specs.Shown.{CallerState}
+use Rattle.mc_shared.specs.Store.{resting, holds_one, HasCalled, RestsCalled}
+use Rattle.mc_shared.specs.Shown.{SharedState, CallerState}
 
 abbrev pub Sitter : Type 0
 Sitter = Seat Slot SeatView
@@ -59,6 +60,21 @@ pub record IsStepAt {K : Type 0} (hash_of : K → List ℕ → ℕ) (began : Sto
   pub own : shelf_in (start_of hash_of began) (key_of step) ≡ bays.0
   pub shelf : bays.0 < began.settings.shelves
   pub desk : bays.1 ≡ began.settings.shelves
+
+-- a live seat that holds the shelf of a step's key, and nothing else
+pub record HoldsShelf {K : Type 0} (hash_of : K → List ℕ → ℕ) (table : TableId)
+    (began : StoreState K) (seat : Sitter) (step : KeyStep) (hash : ℕ) (bays : ℕ × ℕ)
+    (shelf : ShelfState) : Type 0 where
+  pub alive : IsAlive table began seat
+  pub at : IsStepAt hash_of began step hash bays
+  pub held : seat.me ≡ holds_one seat.me.0.past bays.0 (OfShelf shelf.content)
+
+-- A step that a caller may ask a store for: the caller is the store's own, and the key has at most
+-- 250 bytes.
+pub record MayAsk {K : Type 0} (shared : SharedState K) (caller : CallerState) (step : KeyStep)
+    : Type 0 where
+  pub own : caller.table ≡ shared.table
+  pub short : length (key_of step) ≤ 250
 
 -- How a call came out: what holds in any case, what where it was answered, and where it wasn't, what
 -- stays and why.

@@ -11,7 +11,7 @@ ghost use Rattle.mc_shared.specs.Past.{start, spent, made, both};
 ghost use Rattle.mc_shared.specs.Steps.{next_name, IsAt, Agrees, Fitted};
 ghost use Rattle.mc_shared.specs.Store.{shelf_slot, desk_slot, holds_one, holds_two};
 ghost use Rattle.mc_shared.specs.Store.{IsPlanned, RestsCalled, told_of, May, Refuses};
-ghost use Rattle.mc_shared.specs.Seats.{SameSeat, IsAlive, IsFree, IsStepAt, ComesOut, IsAnswered};
+ghost use Rattle.mc_shared.specs.Seats.{SameSeat, IsAlive, IsFree, IsStepAt, HoldsShelf, MayAsk, ComesOut, IsAnswered};
 ghost use Rattle.mc_shared.specs.Bays.{OfShelf, OfDesk};
 ghost use Rattle.mc_shared.specs.declared.bay.Bay.{Bay as Held};
 
@@ -189,9 +189,8 @@ impl<K: KeyHash + Drop> Shared<K> {
         step: &KeyStep<'_>,
         now: Moment,
     ) -> Result<Reply, TryFault>
-        requires own { caller.old.table ≡ self.now.table }
+        requires asks { MayAsk self.now caller.old step.now }
         requires on_key { IsOnKey step.now }
-        requires key { length (key_of step.now) ≤ 250 }
         ensures { IsAnswered (start_of K.hash_of self.now.began) caller.old step.now now May
             result caller.new }
     {
@@ -283,9 +282,8 @@ pub(crate) fn step_at_shelf<K: KeyHash + Drop>(
     step: &KeyStep<'_>,
     now: Moment,
 ) -> Reply
-    requires seat { IsAlive board.now.shared.table_id board.now.shared.key.value caller.old }
-    requires step { IsStepAt K.hash_of board.now.shared.key.value step.now plan.hash bays }
-    requires held { caller.old.me ≡ holds_one caller.old.me.0.past bays.0 (OfShelf shelf.value.content) }
+    requires held { HoldsShelf K.hash_of board.now.shared.table_id board.now.shared.key.value
+        caller.old step.now plan.hash bays shelf.value }
     requires plan { IsPlanned plan shelf.value step.now plan.hash now }
     requires no_desk { wants_desk plan.next ≡ false }
     ensures seat { SameSeat caller.old caller.new }
@@ -312,9 +310,8 @@ fn step_at_desk<K: KeyHash + Drop>(
     hash: u64,
     now: Moment,
 ) -> Result<Reply, TryFault>
-    requires seat { IsAlive board.now.shared.table_id board.now.shared.key.value caller.old }
-    requires step { IsStepAt K.hash_of board.now.shared.key.value step.now hash bays }
-    requires held { caller.old.me ≡ holds_one caller.old.me.0.past bays.0 (OfShelf shelf.value.content) }
+    requires held { HoldsShelf K.hash_of board.now.shared.table_id board.now.shared.key.value
+        caller.old step.now hash bays shelf.value }
     requires plan { IfSome plan (λ plan. IsPlanned plan shelf.value step.now hash now) }
     ensures came { ComesOut (start_of K.hash_of board.now.shared.key.value) caller.old step.now now
         May result caller.new }

@@ -1,11 +1,9 @@
 //! Steps that wait for what others hold.
-ghost use Rattle.std.specs.Prelude.{◌≡◌, ◌≤◌, length, IfSome};
-ghost use Rattle.mc_command.specs.Commands.{key_of};
+ghost use Rattle.std.specs.Prelude.{IfSome};
 ghost use Rattle.mc_command.specs.Laws.{IsOnKey};
-ghost use Rattle.mc_shared.specs.Bays.{OfShelf};
 ghost use Rattle.mc_shared.specs.History.{start_of};
-ghost use Rattle.mc_shared.specs.Store.{IsPlanned, Refuses, holds_one};
-ghost use Rattle.mc_shared.specs.Seats.{IsAlive, IsFree, IsStepAt, ComesOut, IsAnswered};
+ghost use Rattle.mc_shared.specs.Store.{IsPlanned, Refuses};
+ghost use Rattle.mc_shared.specs.Seats.{IsFree, IsStepAt, HoldsShelf, MayAsk, ComesOut, IsAnswered};
 
 use crate::bay::Bay;
 use crate::boxed::Boxed;
@@ -83,9 +81,8 @@ fn step_at_desk_waiting<K: KeyHash + Drop, R: Wait>(
     hash: u64,
     now: Moment,
 ) -> Result<Reply, StepFault>
-    requires seat { IsAlive board.now.shared.table_id board.now.shared.key.value caller.old }
-    requires step { IsStepAt K.hash_of board.now.shared.key.value step.now hash bays }
-    requires held { caller.old.me ≡ holds_one caller.old.me.0.past bays.0 (OfShelf shelf.value.content) }
+    requires held { HoldsShelf K.hash_of board.now.shared.table_id board.now.shared.key.value
+        caller.old step.now hash bays shelf.value }
     requires plan { IfSome plan (λ plan. IsPlanned plan shelf.value step.now hash now) }
     ensures came { ComesOut (start_of K.hash_of board.now.shared.key.value) caller.old step.now now
         Refuses result caller.new }
@@ -107,8 +104,7 @@ impl<K: KeyHash + Drop> Shared<K> {
         step: &KeyStep<'_>,
         now: Moment,
     ) -> Result<Reply, StepFault>
-        requires own { caller.old.table ≡ self.now.table }
-        requires key { length (key_of step.now) ≤ 250 }
+        requires { MayAsk self.now caller.old step.now }
         ensures { IsAnswered (start_of K.hash_of self.now.began) caller.old step.now now Refuses
             result caller.new }
     {
@@ -127,8 +123,7 @@ impl<K: KeyHash + Drop> Shared<K> {
         now: Moment,
         gate: &G,
     ) -> Result<Reply, StepFault>
-        requires own { caller.old.table ≡ self.now.table }
-        requires key { length (key_of step.now) ≤ 250 }
+        requires { MayAsk self.now caller.old step.now }
         ensures { IsAnswered (start_of K.hash_of self.now.began) caller.old step.now now Refuses
             result caller.new }
     {
@@ -148,9 +143,8 @@ impl<K: KeyHash + Drop> Shared<K> {
         now: Moment,
         gate: &G,
     ) -> Result<Reply, StepFault>
-        requires own { caller.old.table ≡ self.now.table }
+        requires asks { MayAsk self.now caller.old step.now }
         requires on_key { IsOnKey step.now }
-        requires key { length (key_of step.now) ≤ 250 }
         ensures { IsAnswered (start_of K.hash_of self.now.began) caller.old step.now now Refuses
             result caller.new }
     {
