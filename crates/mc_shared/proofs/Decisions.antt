@@ -1,16 +1,18 @@
 -- Which decisions are the plain machine's: those that take a state on by one shelf and the desk.
-use Rattle.std.proofs.Common.{◌≡◌, ◌≢◌, inl, inr, Bool, true, false, true≢false, Option, ℕ, ◌<◌, List, [], ◌∷◌, Result, Err, sym, refl, ap, ◌∙◌, subst, arith}
-use Rattle.mc_command.specs.Plain.{Plain, Entry as Item, alive, row_of}
+use Rattle.std.proofs.Common.{◌≡◌, ◌≢◌, inl, inr, Bool, true, false, true≢false, Option, Some, None, ℕ, ◌<◌, List, [], ◌∷◌, Result, Err, sym, refl, ap, ◌∙◌, subst, arith}
+use Rattle.mc_time.specs.Death.{expiry_of}
+use Rattle.mc_time.specs.declared.expiry.Expiry.{Expiry}
+use Rattle.mc_command.specs.Plain.{Plain, Entry as Item, Outcome, MayFail, alive, changed, hit_of, plain, read_row, row_of, standing, stepped, without_dead}
 use Rattle.mc_command.specs.declared.step.KeyStep.{KeyStep}
+use Rattle.mc_command.specs.declared.step.KeyStep.TheVariants.{Read, ReadTouch}
 use Rattle.mc_command.specs.declared.reply.Reply.{Reply}
+use Rattle.mc_command.specs.declared.reply.Reply.TheVariants.{Miss}
 use Rattle.mc_shelf.specs.States.{ShelfContent, DeskState, IsHash, IsAt, CanStand}
 use Rattle.mc_command.specs.Commands.{key_of}
 use Rattle.std.specs.FinMap.{get}
 use Rattle.mc_command.specs.Laws.{IsOnKey}
-use Rattle.mc_command.specs.declared.row.Row.{Row}
-use Rattle.mc_command.specs.declared.row.Row.TheVariants.{Refuses as RefusesIt, Reads, Touches, Deletes, Writes}
-use Rattle.mc_shelf.specs.declared.plan.Next.{Next}
-use Rattle.mc_shelf.specs.Plans.{IsSpent, LookTakesMemory, NeedsPage, is_gone, next_by, next_of, row_at, writes}
+use Rattle.mc_command.specs.declared.row.Row.TheVariants.{Reads}
+use Rattle.mc_shelf.specs.Plans.{LookTakesMemory, answered, is_gone, next_by, next_of, row_at, writes}
 use Rattle.mc_shelf.specs.Parts.{IsShelfOf, IsDeskOf, GoesTo, GoesByStep, GoesWithoutDesk}
 use Rattle.mc_shared.specs.Bays.{Content, OfShelf, OfDesk}
 use Rattle.mc_shared.specs.History.{Beginning, Operation, Stepped, shelf_in, left_by, next, after, IsRight}
@@ -20,7 +22,7 @@ use Rattle.mc_shared.specs.Steps.{Decides, Fitted}
 use Rattle.mc_command.specs.declared.step.StepFault.{StepFault}
 use Rattle.mc_command.specs.declared.step.StepFault.TheVariants.{NoMemory, NumbersSpent}
 use Rattle.mc_shared.specs.Past.{Past}
-use Rattle.mc_shared.specs.Store.{IsSpentAfter, MayTakeMemory, WantsMemoryAfter, Refuses, May, told_of}
+use Rattle.mc_shared.specs.Store.{CanCome, IsSpentAfter, MayFailAfter, Refuses, May, is_read, told_of}
 use Rattle.mc_shared.proofs.StockedKept.{here}
 
 -- a bay that isn't held is another than one that is
@@ -182,12 +184,24 @@ held_hash start at f below v is fitted =
     let fits : AllFit start m ((at, OfShelf f) ∷ below) = subst (AllFit start m) is fitted.fits in
     fits.0.1.hashes
 
--- where the numbers of a shelf and a desk that are held are spent, they are after some history
-pub spent_after : (start : Beginning) (at : ℕ) (f : ShelfContent) (d : DeskState) (step : KeyStep)
+-- the same where the desk is held too
+pub under_hash : (start : Beginning) (at : ℕ) (f : ShelfContent) (d : DeskState) (v : SeatView)
+    → v.bays ≡ (start.shelves, OfDesk d) ∷ (at, OfShelf f) ∷ [] → Fitted start v
+    → (key : List ℕ) → IsHash f key (start.hash_of key)
+under_hash start at f d v is fitted =
+    let m : Plain = after start start.plain fitted.log in
+    let fits : AllFit start m ((start.shelves, OfDesk d) ∷ (at, OfShelf f) ∷ []) =
+    subst (AllFit start m) is fitted.fits in
+    fits.1.0.1.hashes
+
+-- what comes of a step in each state that a shelf and a desk stand for comes of it after some history,
+-- where they are held
+pub comes_after : (start : Beginning) (at : ℕ) (f : ShelfContent) (d : DeskState) (step : KeyStep)
     (now : ℕ) → shelf_in start (key_of step) ≡ at → (v : SeatView)
     → v.bays ≡ (start.shelves, OfDesk d) ∷ (at, OfShelf f) ∷ [] → Fitted start v
-    → IsSpent step now f d → IsSpentAfter start v.past step now
-spent_after start at f d step now own v is fitted spent =
+    → (so : Outcome → Type 0) → ((m : Plain) → IsAt (key_of step) f d m → so (plain m step now))
+    → CanCome start v.past step now so
+comes_after start at f d step now own v is fitted so comes =
     let m : Plain = after start start.plain fitted.log in
     let fits : AllFit start m ((start.shelves, OfDesk d) ∷ (at, OfShelf f) ∷ []) =
     subst (AllFit start m) is fitted.fits in
@@ -195,57 +209,79 @@ spent_after start at f d step now own v is fitted spent =
       log = fitted.log;
       legal = fitted.legal;
       keeps = fitted.keeps;
-      spent = spent m (stands start m at f d (key_of step) own fits.1.0.1 fits.0.1);
+      outcome = comes m (stands start m at f d (key_of step) own fits.1.0.1 fits.0.1);
     }
 
--- ---- want of memory
+-- ---- a read that is refused memory
 
--- what writes is of a row that writes
-writes_row : (dead : Bool) (greatest : ℕ) (step : KeyStep) (item : Option Item) (row : Row)
-    → writes (next_by dead greatest step item row) ≡ true → MayTakeMemory row
-writes_row true greatest step item (RefusesIt refusal) e = absurd (true≢false (sym e))
-writes_row false greatest step item (RefusesIt refusal) e = absurd (true≢false (sym e))
-writes_row dead greatest step item (Reads expiry) e = tt
-writes_row dead greatest step item (Touches expiry) e = absurd (true≢false (sym e))
-writes_row dead greatest step item Deletes e = absurd (true≢false (sym e))
-writes_row dead greatest step item (Writes draft) e = tt
+-- what a read asks a copy of is answered as a hit
+read_fails : (m : Plain) (step : KeyStep) (now : ℕ) (item : Option Item) (expiry : Option Expiry)
+    → is_read step ≡ true → row_of step now item ≡ Reads expiry
+    → MayFail (changed (row_of step now item) step item (without_dead item (key_of step) m) now)
+read_fails m (Read key) now (Some old) expiry is reads = tt
+read_fails m (ReadTouch key exptime) now (Some old) expiry is reads = tt
+read_fails m (Read key) now None expiry is reads = absurd (cc reads)
+read_fails m (ReadTouch key exptime) now None expiry is reads = absurd (cc reads)
+read_fails m step now item expiry is reads = absurd (cc is)
 
-pub writes_take : (f : ShelfContent) (step : KeyStep) (now : ℕ)
-    → writes (next_of f step now) ≡ true → MayTakeMemory (row_at f step now)
-writes_take f step now e =
-    writes_row (is_gone f.cut now (get f.items (key_of step))) f.greatest step
-    (alive f.cut now (get f.items (key_of step))) (row_at f step now) e
+plain_read : (m : Plain) (step : KeyStep) (now : ℕ) → is_read step ≡ true
+    → plain m step now ≡ stepped m step now
+plain_read m (Read key) now is = refl
+plain_read m (ReadTouch key exptime) now is = refl
+plain_read m step now is = absurd (cc is)
 
-pub look_takes : (f : ShelfContent) (step : KeyStep) (now : ℕ) → LookTakesMemory step now f
-    → MayTakeMemory (row_at f step now)
-look_takes f step now (inl reads) = subst MayTakeMemory (sym reads.1) tt
-look_takes f step now (inr writes_new) = writes_take f step now writes_new.1
-
-pub page_takes : (f : ShelfContent) (step : KeyStep) (now : ℕ) (next : Next) (desk : DeskState)
-    → next ≡ next_of f step now → NeedsPage next desk → MayTakeMemory (row_at f step now)
-page_takes f step now next desk is needs =
-    writes_take f step now (ap writes (sym is ∙ needs.writes_it))
-
--- where a shelf that is held finds such a row, the state does after some history
-pub wants_after : (start : Beginning) (at : ℕ) (f : ShelfContent) (step : KeyStep) (now : ℕ)
-    → shelf_in start (key_of step) ≡ at → (v : SeatView)
-    → ((m : Plain) → AllFit start m v.bays → IsShelfOf start.hash_of start.shelves m at f)
-    → Fitted start v → MayTakeMemory (row_at f step now) → WantsMemoryAfter start v.past step now
-wants_after start at f step now own v part fitted takes =
+-- a shelf that is held has an item that a read copies, and so has the state after some history
+pub reads_after : (start : Beginning) (at : ℕ) (f : ShelfContent) (below : List (ℕ × Content))
+    (step : KeyStep) (now : ℕ) → shelf_in start (key_of step) ≡ at → (v : SeatView)
+    → v.bays ≡ (at, OfShelf f) ∷ below → Fitted start v → is_read step ≡ true
+    → (expiry : Option Expiry) × (row_at f step now ≡ Reads expiry)
+    → MayFailAfter start v.past step now
+reads_after start at f below step now own v is fitted read reads =
     let m : Plain = after start start.plain fitted.log in
-    let is = part m fitted.fits in
+    let fits : AllFit start m ((at, OfShelf f) ∷ below) = subst (AllFit start m) is fitted.fits in
+    let stood : alive f.cut now (get f.items (key_of step)) ≡ standing m (key_of step) now =
+    λ i. alive (fits.0.1.cut i) now (fits.0.1.items (key_of step) own i) in
     record {
       log = fitted.log;
       legal = fitted.legal;
       keeps = fitted.keeps;
-      wants = subst (λ item. MayTakeMemory (row_of step now item))
-          (λ i. alive (is.cut i) now (is.items (key_of step) own i)) takes;
+      outcome = subst MayFail (sym (plain_read m step now read))
+          (read_fails m step now (standing m (key_of step) now) reads.0 read
+          (subst (λ item. row_of step now item ≡ Reads reads.0) stood reads.1));
     }
+
+-- what reads an item writes none
+tells_only : (dead : Bool) (reply : Reply) → writes (answered dead reply) ≡ true → ⊥
+tells_only true reply e = true≢false (sym e)
+tells_only false reply e = true≢false (sym e)
+
+reads_only : (dead : Bool) (greatest : ℕ) (step : KeyStep) (expiry : Option Expiry)
+    (item : Option Item) → writes (next_by dead greatest step item (read_row expiry item)) ≡ true → ⊥
+reads_only dead greatest step expiry None e = tells_only dead Miss e
+reads_only dead greatest step None (Some old) e = tells_only dead (hit_of (Some old)) e
+reads_only dead greatest step (Some expiry) (Some old) e = true≢false (sym e)
+
+pub read_writes : (f : ShelfContent) (step : KeyStep) (now : ℕ) → is_read step ≡ true
+    → writes (next_of f step now) ≡ true → ⊥
+read_writes f (Read key) now is e =
+    reads_only (is_gone f.cut now (get f.items key)) f.greatest (Read key) None
+    (alive f.cut now (get f.items key)) e
+read_writes f (ReadTouch key exptime) now is e =
+    reads_only (is_gone f.cut now (get f.items key)) f.greatest (ReadTouch key exptime)
+    (Some (expiry_of exptime now)) (alive f.cut now (get f.items key)) e
+read_writes f step now is e = absurd (cc is)
+
+-- a look that is refused memory for a read found an item
+pub look_reads : (f : ShelfContent) (step : KeyStep) (now : ℕ) → is_read step ≡ true
+    → LookTakesMemory step now f
+    → (expiry : Option Expiry) × (row_at f step now ≡ Reads expiry)
+look_reads f step now is (inl reads) = reads
+look_reads f step now is (inr writes_new) = absurd (read_writes f step now is writes_new.1)
 
 -- what is told of a fault
 pub refuses : (start : Beginning) (p : Past) (step : KeyStep) (now : ℕ) (result : Result Reply StepFault)
     (fault : StepFault) → result ≡ Err fault
-    → (result ≡ Err NoMemory → WantsMemoryAfter start p step now)
+    → (result ≡ Err NoMemory → MayFailAfter start p step now)
     → (result ≡ Err NumbersSpent → IsSpentAfter start p step now) → Refuses start p step now fault
 refuses start p step now result NoMemory is wants spent = λ _. wants is
 refuses start p step now result NumbersSpent is wants spent = spent is

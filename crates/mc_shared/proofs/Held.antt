@@ -7,6 +7,9 @@ use Rattle.mc_shared.specs.View.{SeatView}
 use Rattle.mc_shared.specs.Steps.{Mine, holding, newcomer, met, next_name}
 use Rattle.mc_shared.proofs.NamedKept.{lives_start, lives_both}
 use Rattle.mc_shared.specs.Store.{holds_one, holds_two}
+use Rattle.mc_shared.specs.Seats.{Sitter, SameSeat, IsAlive}
+use Rattle.mc_shelf.specs.Stores.{StoreState}
+use Rattle.atomic_table.specs.Seated.{TableId}
 
 pub top_of : {S : Type 0} → (xs : List (ℕ × S)) (x : ℕ × S) (ys : List (ℕ × S)) → xs ≡ x ∷ ys → xs ≡ x ∷ rest xs
 top_of xs x ys e = e ∙ ap (λ zs. x ∷ rest zs) (sym e)
@@ -17,6 +20,15 @@ one_held me p at x e = ((x, top_of me.0.bays (at, x) [] (ap (λ m. m.0.bays) e))
 -- a bay that was taken last is held
 pub taken_held : (me was : Mine) (b : ℕ) (x : Content) → me ≡ (holding was.0 b x, (b, None) ∷ was.1) → ((y : Content) × (me.0.bays ≡ (b, y) ∷ rest me.0.bays)) × (me.1 ≡ (b, None) ∷ rest me.1)
 taken_held me was b x e = ((x, top_of me.0.bays (b, x) was.0.bays (ap (λ m. m.0.bays) e)), top_of me.1 (b, None) was.1 (ap (λ m. m.1) e))
+
+-- a seat's caller lives on while its past stays
+pub lives_on : {K : Type 0} (table : TableId) (began : StoreState K) (old new : Sitter) (m : Mine)
+    → IsAlive table began old → SameSeat old new → new.me ≡ m → m.0.past ≡ old.me.0.past
+    → IsAlive table began new
+lives_on table began old new m alive same is past = record {
+  seated = record { own = same.0 ∙ alive.seated.own; wide = alive.seated.wide };
+  lives = subst Lives (sym (ap (λ (n : Mine). n.0.past) is ∙ past)) alive.lives;
+}
 
 -- a seat that was just made, and one that took in another's past
 pub new_rests : (me : Mine) (v : SeatView) → me ≡ (newcomer v, []) → (me.1 ≡ []) × (me.0.bays ≡ []) × Lives me.0.past

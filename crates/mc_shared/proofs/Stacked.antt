@@ -10,13 +10,14 @@ use Rattle.mc_command.specs.declared.step.KeyStep.TheVariants.{Flush}
 use Rattle.mc_command.specs.declared.reply.Reply.TheVariants.{Flushed}
 use Rattle.mc_shelf.specs.States.{ShelfState, DeskState}
 use Rattle.mc_shelf.specs.Parts.{IsShelfOf, ArePartsOf}
-use Rattle.mc_shared.specs.Bays.{Content, OfShelf, OfDesk}
+use Rattle.mc_shared.specs.declared.bay.Bay.{Bay}
+use Rattle.mc_shared.specs.Bays.{Content, OfShelf, OfDesk, content_of}
 use Rattle.mc_shared.specs.Sums.{total}
 use Rattle.mc_shared.specs.History.{Beginning, Operation, Stepped, after}
 use Rattle.mc_shared.specs.Rule.{Fits, AllFit, KeepsLimits, holds_bay}
 use Rattle.mc_shared.specs.Past.{Past}
 use Rattle.mc_shared.specs.View.{SeatView}
-use Rattle.mc_shared.specs.Steps.{Slot, Mine, without, holding, decided_by, Fitted, Decides}
+use Rattle.mc_shared.specs.Steps.{Slot, Mine, HasTaken, without, holding, decided_by, Fitted, Decides}
 use Rattle.mc_shared.specs.Stacks.{stacked_on, stacked, hollow, holds_all}
 use Rattle.mc_shared.specs.Past.{KeptBy}
 use Rattle.mc_shared.specs.Close.{Gathered}
@@ -185,3 +186,25 @@ gathered began p xs d v is same all some fitted = record {
   limits = fitted.limits;
   parts = parts_held began (after began began.plain fitted.log) xs d all some (subst (AllFit began (after began began.plain fitted.log)) is fitted.fits);
 }
+
+-- what a seat has that took all shelves and then the desk: these bays, and parts of some state
+pub record HoldsAll (began : Beginning) (xs : List ShelfState) (d : DeskState) (me : Mine) : Type 0
+  where
+    pub bays : me.0.bays ≡ (began.shelves, OfDesk d) ∷ stacked xs
+    pub number : length xs ≡ began.shelves
+    pub some_shelf : 0 < began.shelves
+    pub parts : (hash_of : List ℕ → ℕ) × (m : Plain) × (count : ℕ) × ArePartsOf hash_of m xs count d
+
+pub all_held : (began : Beginning) (p : Past) (xs : List ShelfState) (d : DeskState) (x : Bay) (n : ℕ)
+    (was me : Mine) → was ≡ holds_all p xs → n ≡ began.shelves → content_of x ≡ OfDesk d
+    → length xs ≡ n → 0 < n → HasTaken began was n x me → HoldsAll began xs d me
+all_held began p xs d x n was me held is desk long some taken =
+    let stack : (n, content_of x) ∷ was.0.bays ≡ (began.shelves, OfDesk d) ∷ stacked xs =
+    λ i. (is i, desk i) ∷ (held i).0.bays in
+    record {
+      bays = ap (λ (m : Mine). m.0.bays) taken.1 ∙ stack;
+      number = long ∙ is;
+      some_shelf = omega (arith, is, some);
+      parts = held_parts began xs d (holding was.0 n (content_of x)) stack (long ∙ is)
+          (omega (arith, is, some)) taken.2;
+    }

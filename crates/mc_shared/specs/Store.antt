@@ -1,15 +1,16 @@
 -- What the calls of the shared store promise.
-use Rattle.std.specs.Prelude.{◌≡◌, ℕ, ◌⊎◌, List, [], ◌∷◌, Some, None}
+use Rattle.std.specs.Prelude.{◌≡◌, ℕ, ◌≤◌, ◌⊎◌, Bool, true, false, List, [], ◌∷◌, Some, None}
 use Rattle.mc_command.specs.declared.step.KeyStep.{KeyStep}
+use Rattle.mc_command.specs.declared.step.KeyStep.TheVariants.{Store, Cas, Read, ReadTouch, Touch, Delete, Count, Flush}
 use Rattle.mc_command.specs.declared.reply.Reply.{Reply}
 use Rattle.mc_command.specs.declared.step.StepFault.{StepFault}
 use Rattle.mc_command.specs.declared.step.StepFault.TheVariants.{NoMemory as OutOfMemory, NumbersSpent as OutOfNumbers}
 use Rattle.mc_command.specs.Commands.{key_of}
-use Rattle.mc_command.specs.declared.row.Row.{Row}
-use Rattle.mc_command.specs.declared.row.Row.TheVariants.{Refuses as RefusesIt, Reads, Touches, Deletes, Writes}
 use Rattle.mc_command.specs.Laws.{IsOnKey}
-use Rattle.mc_command.specs.Plain.{Spent, plain, row_of, standing}
+use Rattle.mc_command.specs.Plain.{Outcome, Spent, MayFail, plain}
 use Rattle.mc_shelf.specs.States.{ShelfState, DeskState}
+use Rattle.mc_shelf.specs.Plans.{IsPlan, HasRoom}
+use Rattle.mc_shelf.specs.declared.plan.Plan.{Plan}
 use Rattle.mc_shared.specs.declared.bay.Bay.TheVariants.{Shelf, Desk}
 use Rattle.mc_shared.specs.Bays.{Content}
 use Rattle.mc_shared.specs.declared.fault.TryFault.{TryFault}
@@ -40,28 +41,40 @@ abbrev pub RestsCalled : Beginning → Mine → KeyStep → (now : ℕ) → Repl
 RestsCalled start m step now reply m' =
     (m' ≡ resting (with_call m.0.past step now reply)) × Agrees start m'.0.past
 
--- the plain machine is out of numbers after some legal history that keeps the past
-pub record IsSpentAfter (began : Beginning) (p : Past) (step : KeyStep) (now : ℕ) : Type 0 where
+-- what the plain machine makes of a step comes out so, after some legal history that keeps the past
+pub record CanCome (began : Beginning) (p : Past) (step : KeyStep) (now : ℕ)
+    (so : Outcome → Type 0) : Type 0 where
   pub log : List HistoryEntry
   pub legal : IsLegal began began.plain log
   pub keeps : KeptBy log p
-  pub spent : plain (after began began.plain log) step now ≡ Spent
+  pub outcome : so (plain (after began began.plain log) step now)
 
--- memory may be wanted of a row that reads an item or writes one, and of no other
-abbrev pub MayTakeMemory : Row → Type 0
-MayTakeMemory (RefusesIt refusal) = ⊥
-MayTakeMemory (Reads expiry) = Unit {0}
-MayTakeMemory (Touches expiry) = ⊥
-MayTakeMemory Deletes = ⊥
-MayTakeMemory (Writes draft) = Unit {0}
+-- it is out of unique numbers after some such history
+abbrev pub IsSpentAfter : Beginning → Past → KeyStep → (now : ℕ) → Type 0
+IsSpentAfter began p step now = CanCome began p step now (λ outcome. outcome ≡ Spent)
 
--- a step reads or writes an item after some legal history that keeps the past
-pub record WantsMemoryAfter (began : Beginning) (p : Past) (step : KeyStep) (now : ℕ) : Type 0 where
-  pub log : List HistoryEntry
-  pub legal : IsLegal began began.plain log
-  pub keeps : KeptBy log p
-  pub wants : MayTakeMemory
-      (row_of step now (standing (after began began.plain log) (key_of step) now))
+-- it answers a hit or a write after some such history, which memory may be refused for
+abbrev pub MayFailAfter : Beginning → Past → KeyStep → (now : ℕ) → Type 0
+MayFailAfter began p step now = CanCome began p step now MayFail
+
+-- a step reads an item: get and gets, gat and gats
+abbrev pub is_read : KeyStep → Bool
+is_read (Store verb key flags exptime block) = false
+is_read (Cas key flags exptime block unique) = false
+is_read (Read key) = true
+is_read (ReadTouch key exptime) = true
+is_read (Touch key exptime) = false
+is_read (Delete key) = false
+is_read (Count key up by) = false
+is_read (Flush delay) = false
+
+-- a plan of a step on a key with this hash, by a look at a shelf, which made room for what it writes
+pub record IsPlanned (plan : Plan) (shelf : ShelfState) (step : KeyStep) (hash now : ℕ) : Type 0
+  where
+    pub is_plan : IsPlan plan shelf.content step now
+    pub hashed : plan.hash ≡ hash
+    pub room : HasRoom plan shelf step
+    pub most : shelf.content.greatest ≤ 1048576
 
 -- Why a step was tried and not taken. A bay is busy only where its word was 1, which it is not
 -- where the past is whole, and is the key's shelf or the desk.
@@ -69,7 +82,7 @@ abbrev pub May : Beginning → Past → KeyStep → ℕ → TryFault → Type 0
 May began p step now (Busy bay word) =
     (word ≡ 1) × (Whole p → ⊥)
     × ((bay ≡ shelf_in began (key_of step)) ⊎ (bay ≡ began.shelves))
-May began p step now NoMemory = WantsMemoryAfter began p step now
+May began p step now NoMemory = MayFailAfter began p step now
 May began p step now NumbersSpent = IsSpentAfter began p step now
 
 -- what a caller is told of a shelf's fault
@@ -93,7 +106,7 @@ holds_two p b y at x = (
 )
 
 -- Why a step was not taken: memory was refused, which a flush of all shelves takes too, or the
--- numbers are spent; each only after some such history.
+-- numbers are spent; a step on a key each only after some such history.
 abbrev pub Refuses : Beginning → Past → KeyStep → ℕ → StepFault → Type 0
-Refuses began p step now OutOfMemory = IsOnKey step → WantsMemoryAfter began p step now
+Refuses began p step now OutOfMemory = IsOnKey step → MayFailAfter began p step now
 Refuses began p step now OutOfNumbers = IsSpentAfter began p step now

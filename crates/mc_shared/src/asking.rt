@@ -1,11 +1,10 @@
 //! A caller that takes steps as a session asks for them.
 ghost use Rattle.std.specs.Prelude.{◌≡◌, ◌<◌, ◌≤◌, length, Err, IfOk, IfErr, OnErr};
 ghost use Rattle.mc_command.specs.Commands.{key_of};
-ghost use Rattle.mc_shared.specs.Asking.{AsksOnce};
-ghost use Rattle.mc_shared.specs.History.{start_of, shelf_in, Stepped, Purged};
+ghost use Rattle.mc_shared.specs.Asking.{AsksOnce, AsksStep, AsksInVain};
+ghost use Rattle.mc_shared.specs.History.{start_of, shelf_in, Purged};
 ghost use Rattle.mc_shared.specs.Past.{call};
 ghost use Rattle.mc_shared.specs.Steps.{entry_of, Agrees};
-ghost use Rattle.mc_shared.specs.Store.{IsSpentAfter};
 
 use crate::store::{Caller, Shared};
 use crate::waits::Gate;
@@ -108,10 +107,9 @@ impl<'a, R: Wait, K: KeyHash + Drop, G: Gate> Asking<'a, R, K, G> {
 impl<'a, R: Wait, K: KeyHash + Drop, G: Gate> Steps for Asking<'a, R, K, G> {
     ghost use Rattle.std.specs.Prelude.{◌≡◌, refl};
 
-    ghost took = { λ old step now reply new. AsksOnce (start_of K.hash_of old.began)
-        (Stepped step now reply) old new };
+    ghost took = { AsksStep K.hash_of };
 
-    ghost spent = { λ old step now. IsSpentAfter (start_of K.hash_of old.began) old.past step now };
+    ghost spent = { AsksInVain K.hash_of };
 
     ghost same = { λ old new. new ≡ old };
 

@@ -1,31 +1,30 @@
 //! The store for many threads.
 ghost use Rattle.std.specs.Prelude.{◌≡◌, ◌+◌, ◌<◌, ◌≤◌, length, [], ◌∷◌, ◌++◌, map, replicate};
-ghost use Rattle.std.specs.Prelude.{true, false, IfOk};
+ghost use Rattle.std.specs.Prelude.{false, IfOk, IfSome};
 ghost use Rattle.mc_command.specs.Commands.{key_of};
 ghost use Rattle.mc_command.specs.Laws.{IsOnKey};
 ghost use Rattle.mc_command.specs.Plain.{opening};
 ghost use Rattle.mc_shelf.specs.States.{ShelfState};
-ghost use Rattle.mc_shelf.specs.Plans.{IsPlan, HasRoom, wants_desk};
+ghost use Rattle.mc_shelf.specs.Plans.{wants_desk};
 ghost use Rattle.mc_shared.specs.History.{start_of, shelf_in};
 ghost use Rattle.mc_shared.specs.Past.{start, spent, made, both};
 ghost use Rattle.mc_shared.specs.Steps.{next_name, IsAt, Agrees, Fitted};
 ghost use Rattle.mc_shared.specs.Store.{shelf_slot, desk_slot, holds_one, holds_two};
-ghost use Rattle.mc_shared.specs.Store.{RestsCalled, told_of, May, Refuses};
-ghost use Rattle.mc_shared.specs.Seats.{SameSeat, IsAlive, IsFree, IsStepAt, ComesOut, IsAnswered};
+ghost use Rattle.mc_shared.specs.Store.{IsPlanned, RestsCalled, told_of, May, Refuses};
+ghost use Rattle.mc_shared.specs.Seats.{SameSeat, IsAlive, IsFree, IsStepAt, HoldsShelf, MayAsk, ComesOut, IsAnswered};
 ghost use Rattle.mc_shared.specs.Bays.{OfShelf, OfDesk};
 ghost use Rattle.mc_shared.specs.declared.bay.Bay.{Bay as Held};
 
 use crate::bay::Bay;
 use crate::boxed::Boxed;
 use crate::fault::TryFault;
+use crate::look::{look_up, take_step};
 use crate::rule::{Board, Place};
 use crate::steps::{decide_at_desk, decide_at_shelf, fork, give, look, meet, take};
 use atomic_table::Table;
 use mc_command::{KeyStep, Reply, StepFault};
 use mc_hop::KeyHash;
-use mc_shelf::{
-    Desk, Plan, Settings, Shelf, Store, StoreParts, refusals_are_plain, steps_change_one_shelf,
-};
+use mc_shelf::{Desk, Plan, Settings, Shelf, Store, StoreParts, steps_change_one_shelf};
 use mc_time::Moment;
 use std::alloc::{AllocError, Global};
 use std::marker::{Brand, Model};
@@ -190,9 +189,8 @@ impl<K: KeyHash + Drop> Shared<K> {
         step: &KeyStep<'_>,
         now: Moment,
     ) -> Result<Reply, TryFault>
-        requires own { caller.old.table ≡ self.now.table }
+        requires asks { MayAsk self.now caller.old step.now }
         requires on_key { IsOnKey step.now }
-        requires key { length (key_of step.now) ≤ 250 }
         ensures { IsAnswered (start_of K.hash_of self.now.began) caller.old step.now now May
             result caller.new }
     {
@@ -258,14 +256,19 @@ fn step_by<K: KeyHash + Drop>(
         }
     };
     let mut shelf = shelf_from(bay, bays.0, bays.1);
-    let Ok(plan) = shelf.look(alloc, step, hash, now) else {
+    let Ok(found) = look_up(alloc, &mut *shelf, step, hash, now) else {
         give(board, caller, bays.0, Bay::Shelf(Boxed::of(shelf)));
         return Err(TryFault::NoMemory);
     };
-    if plan.needs_desk() {
-        step_at_desk(board, alloc, caller, bays, shelf, plan, step, now)
-    } else {
-        Ok(step_at_shelf(board, caller, bays, shelf, plan, step, now))
+    match found {
+        Some(plan) => {
+            if plan.needs_desk() {
+                let plan = Some(plan);
+                return step_at_desk(board, alloc, caller, bays, shelf, plan, step, hash, now);
+            }
+            Ok(step_at_shelf(board, caller, bays, shelf, plan, step, now))
+        }
+        None => step_at_desk(board, alloc, caller, bays, shelf, None, step, hash, now),
     }
 }
 
@@ -279,11 +282,9 @@ pub(crate) fn step_at_shelf<K: KeyHash + Drop>(
     step: &KeyStep<'_>,
     now: Moment,
 ) -> Reply
-    requires seat { IsAlive board.now.shared.table_id board.now.shared.key.value caller.old }
-    requires step { IsStepAt K.hash_of board.now.shared.key.value step.now plan.hash bays }
-    requires held { caller.old.me ≡ holds_one caller.old.me.0.past bays.0 (OfShelf shelf.value.content) }
-    requires plan { IsPlan plan shelf.value.content step.now now }
-    requires room { HasRoom plan shelf.value step.now }
+    requires held { HoldsShelf K.hash_of board.now.shared.table_id board.now.shared.key.value
+        caller.old step.now plan.hash bays shelf.value }
+    requires plan { IsPlanned plan shelf.value step.now plan.hash now }
     requires no_desk { wants_desk plan.next ≡ false }
     ensures seat { SameSeat caller.old caller.new }
     ensures done { RestsCalled (start_of K.hash_of board.now.shared.key.value) caller.old.me
@@ -304,16 +305,14 @@ fn step_at_desk<K: KeyHash + Drop>(
     caller: &mut Place,
     bays: (usize, usize),
     shelf: Box<Shelf>,
-    plan: Plan<'_>,
+    plan: Option<Plan<'_>>,
     step: &KeyStep<'_>,
+    hash: u64,
     now: Moment,
 ) -> Result<Reply, TryFault>
-    requires seat { IsAlive board.now.shared.table_id board.now.shared.key.value caller.old }
-    requires step { IsStepAt K.hash_of board.now.shared.key.value step.now plan.hash bays }
-    requires held { caller.old.me ≡ holds_one caller.old.me.0.past bays.0 (OfShelf shelf.value.content) }
-    requires plan { IsPlan plan shelf.value.content step.now now }
-    requires room { HasRoom plan shelf.value step.now }
-    requires desk { wants_desk plan.next ≡ true }
+    requires held { HoldsShelf K.hash_of board.now.shared.table_id board.now.shared.key.value
+        caller.old step.now hash bays shelf.value }
+    requires plan { IfSome plan (λ plan. IsPlanned plan shelf.value step.now hash now) }
     ensures came { ComesOut (start_of K.hash_of board.now.shared.key.value) caller.old step.now now
         May result caller.new }
 {
@@ -324,7 +323,9 @@ fn step_at_desk<K: KeyHash + Drop>(
             return Err(TryFault::Busy { bay: bays.1, word });
         }
     };
-    match apply_at_desk(board, alloc, caller, bays, shelf, desk, plan, step, now) {
+    match apply_at_desk(
+        board, alloc, caller, bays, shelf, desk, plan, step, hash, now,
+    ) {
         Ok(reply) => Ok(reply),
         Err(fault) => Err(told(fault)),
     }
@@ -339,26 +340,24 @@ pub(crate) fn apply_at_desk<K: KeyHash + Drop>(
     bays: (usize, usize),
     shelf: Box<Shelf>,
     desk: Box<Desk>,
-    plan: Plan<'_>,
+    plan: Option<Plan<'_>>,
     step: &KeyStep<'_>,
+    hash: u64,
     now: Moment,
 ) -> Result<Reply, StepFault>
     requires seat { IsAlive board.now.shared.table_id board.now.shared.key.value caller.old }
-    requires step { IsStepAt K.hash_of board.now.shared.key.value step.now plan.hash bays }
+    requires step { IsStepAt K.hash_of board.now.shared.key.value step.now hash bays }
     requires held { caller.old.me ≡ holds_two caller.old.me.0.past bays.1 (OfDesk desk.value) bays.0
         (OfShelf shelf.value.content) }
     requires fits { Fitted (start_of K.hash_of board.now.shared.key.value) caller.old.me.0 }
-    requires plan { IsPlan plan shelf.value.content step.now now }
-    requires room { HasRoom plan shelf.value step.now }
-    requires desk { wants_desk plan.next ≡ true }
+    requires plan { IfSome plan (λ plan. IsPlanned plan shelf.value step.now hash now) }
     ensures came { ComesOut (start_of K.hash_of board.now.shared.key.value) caller.old step.now now
         Refuses result caller.new }
 {
     steps_change_one_shelf();
-    refusals_are_plain();
     let mut shelf = shelf;
     let mut desk = desk;
-    match shelf.apply(alloc, plan, step, &mut *desk) {
+    match take_step(alloc, &mut *shelf, &mut *desk, plan, step, hash, now) {
         Ok(reply) => {
             decide_at_desk::<Brand, K>(
                 board, caller, bays.1, desk, bays.0, &*shelf, step, now, &reply,

@@ -1,19 +1,20 @@
 //! Steps that wait for what others hold.
-ghost use Rattle.std.specs.Prelude.{◌≡◌, ◌≤◌, length};
-ghost use Rattle.mc_command.specs.Commands.{key_of};
+ghost use Rattle.std.specs.Prelude.{IfSome};
 ghost use Rattle.mc_command.specs.Laws.{IsOnKey};
 ghost use Rattle.mc_shared.specs.History.{start_of};
-ghost use Rattle.mc_shared.specs.Store.{Refuses};
-ghost use Rattle.mc_shared.specs.Seats.{IsFree, IsStepAt, ComesOut, IsAnswered};
+ghost use Rattle.mc_shared.specs.Store.{IsPlanned, Refuses};
+ghost use Rattle.mc_shared.specs.Seats.{IsFree, IsStepAt, HoldsShelf, MayAsk, ComesOut, IsAnswered};
 
 use crate::bay::Bay;
 use crate::boxed::Boxed;
 use crate::flush::take_waiting;
+use crate::look::look_up;
 use crate::rule::{Board, Place};
 use crate::steps::give;
 use crate::store::{Caller, Shared, apply_at_desk, desk_from, shelf_from, step_at_shelf};
 use mc_command::{KeyStep, Reply, StepFault};
 use mc_hop::KeyHash;
+use mc_shelf::{Plan, Shelf};
 use mc_time::Moment;
 use std::alloc::Global;
 use std::sync::Wait;
@@ -49,16 +50,47 @@ fn step_waiting<K: KeyHash + Drop, R: Wait, G: Gate>(
 {
     let mut shelf = shelf_from(take_waiting(rt, board, caller, bays.0), bays.0, bays.1);
     gate.0.inside(gate.1);
-    let Ok(plan) = shelf.look(alloc, step, hash, now) else {
+    let Ok(found) = look_up(alloc, &mut *shelf, step, hash, now) else {
         give(board, caller, bays.0, Bay::Shelf(Boxed::of(shelf)));
         return Err(StepFault::NoMemory);
     };
-    if plan.needs_desk() {
-        let desk = desk_from(take_waiting(rt, board, caller, bays.1), bays.1);
-        apply_at_desk(board, alloc, caller, bays, shelf, desk, plan, step, now)
-    } else {
-        Ok(step_at_shelf(board, caller, bays, shelf, plan, step, now))
+    match found {
+        Some(plan) => {
+            if plan.needs_desk() {
+                let plan = Some(plan);
+                return step_at_desk_waiting(
+                    rt, board, alloc, caller, bays, shelf, plan, step, hash, now,
+                );
+            }
+            Ok(step_at_shelf(board, caller, bays, shelf, plan, step, now))
+        }
+        None => step_at_desk_waiting(rt, board, alloc, caller, bays, shelf, None, step, hash, now),
     }
+}
+
+/// A step that the desk decides, with the key's shelf held. It waits for the desk.
+fn step_at_desk_waiting<K: KeyHash + Drop, R: Wait>(
+    rt: &R,
+    board: &Board<K>,
+    alloc: Global,
+    caller: &mut Place,
+    bays: (usize, usize),
+    shelf: Box<Shelf>,
+    plan: Option<Plan<'_>>,
+    step: &KeyStep<'_>,
+    hash: u64,
+    now: Moment,
+) -> Result<Reply, StepFault>
+    requires held { HoldsShelf K.hash_of board.now.shared.table_id board.now.shared.key.value
+        caller.old step.now hash bays shelf.value }
+    requires plan { IfSome plan (λ plan. IsPlanned plan shelf.value step.now hash now) }
+    ensures came { ComesOut (start_of K.hash_of board.now.shared.key.value) caller.old step.now now
+        Refuses result caller.new }
+{
+    let desk = desk_from(take_waiting(rt, board, caller, bays.1), bays.1);
+    apply_at_desk(
+        board, alloc, caller, bays, shelf, desk, plan, step, hash, now,
+    )
 }
 
 impl<K: KeyHash + Drop> Shared<K> {
@@ -72,8 +104,7 @@ impl<K: KeyHash + Drop> Shared<K> {
         step: &KeyStep<'_>,
         now: Moment,
     ) -> Result<Reply, StepFault>
-        requires own { caller.old.table ≡ self.now.table }
-        requires key { length (key_of step.now) ≤ 250 }
+        requires { MayAsk self.now caller.old step.now }
         ensures { IsAnswered (start_of K.hash_of self.now.began) caller.old step.now now Refuses
             result caller.new }
     {
@@ -92,8 +123,7 @@ impl<K: KeyHash + Drop> Shared<K> {
         now: Moment,
         gate: &G,
     ) -> Result<Reply, StepFault>
-        requires own { caller.old.table ≡ self.now.table }
-        requires key { length (key_of step.now) ≤ 250 }
+        requires { MayAsk self.now caller.old step.now }
         ensures { IsAnswered (start_of K.hash_of self.now.began) caller.old step.now now Refuses
             result caller.new }
     {
@@ -113,9 +143,8 @@ impl<K: KeyHash + Drop> Shared<K> {
         now: Moment,
         gate: &G,
     ) -> Result<Reply, StepFault>
-        requires own { caller.old.table ≡ self.now.table }
+        requires asks { MayAsk self.now caller.old step.now }
         requires on_key { IsOnKey step.now }
-        requires key { length (key_of step.now) ≤ 250 }
         ensures { IsAnswered (start_of K.hash_of self.now.began) caller.old step.now now Refuses
             result caller.new }
     {

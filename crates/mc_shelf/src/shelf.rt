@@ -153,6 +153,7 @@ impl Shelf {
         ensures room { IfOk result (λ plan. HasRoom plan self.new step.now) }
         ensures content { self.new.content ≡ self.old.content }
         ensures asked { OnErr result (LookTakesMemory step.now now self.old.content) }
+        ensures most { self.old.content.greatest ≤ 1048576 }
     {
         let plan = self.plan(alloc, step, hash, now)?;
         if plan.writes() && plan.place.is_none() {

@@ -1,9 +1,8 @@
 //! Steps with the growth that follows them.
 ghost use Rattle.std.specs.Prelude.{◌≡◌, ◌<◌, ◌≤◌, ℕ, length, Err, IfOk, OnErr};
 ghost use Rattle.mc_command.specs.Commands.{key_of};
-ghost use Rattle.mc_shared.specs.Asking.{AsksOnce};
-ghost use Rattle.mc_shared.specs.History.{start_of, Stepped, Purged};
-ghost use Rattle.mc_shared.specs.Store.{IsSpentAfter};
+ghost use Rattle.mc_shared.specs.Asking.{AsksOnce, AsksStep, AsksInVain};
+ghost use Rattle.mc_shared.specs.History.{start_of, Purged};
 ghost use Rattle.mc_workers.specs.Tending.{asked_by};
 
 use mc_command::{KeyStep, Reply, StepFault, Steps};
@@ -96,10 +95,9 @@ impl<'a, R: Wait, K: KeyHash + Drop, G: Gate> Tending<'a, R, K, G> {
 impl<'a, R: Wait, K: KeyHash + Drop, G: Gate> Steps for Tending<'a, R, K, G> {
     ghost use Rattle.std.specs.Prelude.{◌≡◌, refl};
 
-    ghost took = { λ old step now reply new. AsksOnce (start_of K.hash_of old.began)
-        (Stepped step now reply) old new };
+    ghost took = { AsksStep K.hash_of };
 
-    ghost spent = { λ old step now. IsSpentAfter (start_of K.hash_of old.began) old.past step now };
+    ghost spent = { AsksInVain K.hash_of };
 
     ghost same = { λ old new. new ≡ old };
 

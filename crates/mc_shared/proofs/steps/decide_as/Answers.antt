@@ -19,5 +19,5 @@ compare_exchange-requires g c = let now = c.exchange.ensures.3 in let x = c.requ
       (decides_bay g.D.Says.start _ _ c.args.bay x c.args.value g.D.Says.what g.D.Says.still _ (ap (λ m. m.0.bays) now ∙ (c.requires.may.held.0.1 ∙ ap (λ m. (c.args.bay, x) ∷ rest m.0.bays) (sym now)))
       (ap (λ m. m.1) now ∙ ap (λ m. (c.args.bay, Some c.args.value) ∷ rest m.1) (sym now))
       (subst (λ (m : Mine). Decides g.D.Says.start m.0.bays c.args.bay (content_of c.args.value) g.D.Says.what g.D.Says.still) (sym now) c.requires.may.right)
-      (subst (λ (m : Mine). Lives m.0.past) (sym now) c.requires.may.lives)),
+      (subst (λ (m : Mine). Lives m.0.past) (sym now) c.requires.may.alive.lives)),
 )

@@ -1,20 +1,26 @@
 use Rattle.std.proofs.Common.{rules, arith, Err, refl, ◌≡◌, ℕ, List, [], ◌∷◌, sym, ap, subst, ◌∙◌}
 use Rattle.mc_command.specs.Commands.{key_of}
 use Rattle.mc_shelf.specs.States.{ShelfState}
-use Rattle.mc_shelf.specs.Plans.{IsPlan, IsTaken, writes}
+use Rattle.mc_shelf.specs.Plans.{IsTaken}
 use Rattle.mc_shared.specs.Bays.{Content, OfShelf, OfDesk}
 use Rattle.mc_shared.specs.History.{start_of, Stepped}
-use Rattle.mc_shared.specs.Rule.{AllFit}
 use Rattle.mc_shared.specs.Steps.{Decides}
-use Rattle.mc_shared.proofs.Decisions.{applies_step, can_stand, page_takes, refuses, spent_after, wants_after}
+use Rattle.mc_shared.proofs.Decisions.{applies_step, can_stand, comes_after, refuses, under_hash}
 use Rattle.mc_shared.proofs.Held.{two_held}
 use Rattle.mc_shared.proofs.store.apply_at_desk.Goals as goal
 
-pub apply-requires-clause-stands : goal.apply-requires-clause-stands
-apply-requires-clause-stands g c =
+pub take_step-requires-clause-stands : goal.take_step-requires-clause-stands
+take_step-requires-clause-stands g c =
     let began = start_of g.K.KeyHash.hash_of c.args.board.now.shared.key.value in
     can_stand began c.args.bays.0 c.deref_mut.result.now.content c.deref_mut-2.result.now (key_of c.args.step.now) c.requires.step.own c.args.caller.now.me.0
     (ap (λ m. m.0.bays) c.requires.held ∙ (λ i. (c.requires.step.desk i, OfDesk (sym c.deref_mut-2.ensures.value i)) ∷ (c.args.bays.0, OfShelf (sym c.deref_mut.ensures.value i).content) ∷ [])) c.requires.fits
+
+pub take_step-requires-clause-hash : goal.take_step-requires-clause-hash
+take_step-requires-clause-hash g c stored is =
+    let began = start_of g.K.KeyHash.hash_of c.args.board.now.shared.key.value in
+    under_hash began c.args.bays.0 c.deref_mut.result.now.content c.deref_mut-2.result.now c.args.caller.now.me.0
+    (ap (λ m. m.0.bays) c.requires.held ∙ (λ i. (c.requires.step.desk i, OfDesk (sym c.deref_mut-2.ensures.value i)) ∷ (c.args.bays.0, OfShelf (sym c.deref_mut.ensures.value i).content) ∷ [])) c.requires.fits (key_of c.args.step.now) stored is
+    ∙ sym c.requires.step.hashed
 
 pub decide_at_desk-requires-clause-may : goal.decide_at_desk-requires-clause-may
 decide_at_desk-requires-clause-may g c =
@@ -22,22 +28,20 @@ decide_at_desk-requires-clause-may g c =
     let step = c.args.step.now in
     let old = c.deref_mut.result.now.content in
     let from = c.deref_mut-2.result.now in
-    let new = c.apply.new.self.content in
+    let new = c.take_step.new.shelf.content in
     let all : c.args.caller.now.me.0.bays ≡ (began.shelves, OfDesk from) ∷ (c.args.bays.0, OfShelf old) ∷ [] =
     ap (λ m. m.0.bays) c.requires.held ∙ (λ i. (c.requires.step.desk i, OfDesk (sym c.deref_mut-2.ensures.value i)) ∷ (c.args.bays.0, OfShelf (sym c.deref_mut.ensures.value i).content) ∷ []) in
-    let taken : IsTaken step c.args.now (began.hash_of (key_of step)) old from c.in-Ok.reply new c.apply.new.desk =
-    subst (λ (t : ℕ × ℕ). IsTaken step t.0 t.1 old from c.in-Ok.reply new c.apply.new.desk) (λ i. (c.requires.plan.moment i, c.requires.step.hashed i)) c.in-Ok.ensures.took in
+    let taken : IsTaken step c.args.now (began.hash_of (key_of step)) old from c.in-Ok.reply new c.take_step.new.desk =
+    subst (λ (h : ℕ). IsTaken step c.args.now h old from c.in-Ok.reply new c.take_step.new.desk) c.requires.step.hashed c.in-Ok.ensures.took in
     record {
-      own = c.requires.seat.own;
-      wide = c.requires.seat.wide;
-      lives = c.requires.seat.lives;
-      bay = (let l = c.requires.step.desk in let w = c.requires.seat.wide in omega (arith, l, w));
+      alive = c.requires.seat;
+      bay = (let l = c.requires.step.desk in let w = c.requires.seat.seated.wide in omega (arith, l, w));
       held = two_held c.args.caller.now.me c.args.caller.now.me.0.past c.args.bays.1 (OfDesk c.args.desk.value) c.args.bays.0 (OfShelf c.args.shelf.value.content) c.requires.held;
       right =
-          subst (λ (s : ShelfState). Decides began c.args.caller.now.me.0.bays c.args.bays.1 (OfDesk c.apply.new.desk) (Stepped step c.args.now c.in-Ok.reply) ((c.args.bays.0, OfShelf s.content) ∷ [])) (sym c.deref.ensures)
-          (subst (λ (t : ℕ × List (ℕ × Content)). Decides began t.1 t.0 (OfDesk c.apply.new.desk) (Stepped step c.args.now c.in-Ok.reply) ((c.args.bays.0, OfShelf new) ∷ [])) (λ i. (sym c.requires.step.desk i, sym all i))
-          (applies_step began c.args.bays.0 old new from c.apply.new.desk step c.args.now c.in-Ok.reply
-          (λ m part desk. c.steps_change_one_shelf.ensures.taken began.hash_of began.shelves c.args.bays.0 m step c.args.now c.in-Ok.reply old new from c.apply.new.desk c.requires.plan.on_key c.requires.step.own part desk taken)
+          subst (λ (s : ShelfState). Decides began c.args.caller.now.me.0.bays c.args.bays.1 (OfDesk c.take_step.new.desk) (Stepped step c.args.now c.in-Ok.reply) ((c.args.bays.0, OfShelf s.content) ∷ [])) (sym c.deref.ensures)
+          (subst (λ (t : ℕ × List (ℕ × Content)). Decides began t.1 t.0 (OfDesk c.take_step.new.desk) (Stepped step c.args.now c.in-Ok.reply) ((c.args.bays.0, OfShelf new) ∷ [])) (λ i. (sym c.requires.step.desk i, sym all i))
+          (applies_step began c.args.bays.0 old new from c.take_step.new.desk step c.args.now c.in-Ok.reply
+          (λ m part desk. c.steps_change_one_shelf.ensures.taken began.hash_of began.shelves c.args.bays.0 m step c.args.now c.in-Ok.reply old new from c.take_step.new.desk c.requires.step.on_key c.requires.step.own part desk taken)
           c.requires.step.shelf));
     }
 
@@ -47,22 +51,15 @@ returns-in-Err g c =
     let step = c.args.step.now in
     let shelf = c.deref_mut.result.now.content in
     let desk = c.deref_mut-2.result.now in
-    let plan = subst (λ (s : ShelfState). IsPlan c.args.plan s.content step c.args.now) (sym c.deref_mut.ensures.value) c.requires.plan in
     let bays = ap (λ n. n.0.bays) c.requires.held ∙ (λ i. (c.requires.step.desk i, OfDesk (sym c.deref_mut-2.ensures.value i)) ∷ (c.args.bays.0, OfShelf (sym c.deref_mut.ensures.value i).content) ∷ []) in
     record {
       came = record {
-        seat = search rules;
+        same = search rules;
         ok = search rules;
         err = search rules;
         fault =
             refuses began c.args.caller.now.me.0.past step c.args.now (Err c.in-Err.fault) c.in-Err.fault refl
-            (λ e.
-            wants_after began c.args.bays.0 shelf step c.args.now c.requires.step.own c.args.caller.now.me.0
-            (λ m fits. (subst (AllFit began m) bays fits).1.0.1) c.requires.fits
-            (page_takes shelf step c.args.now c.args.plan.next desk plan.next (c.in-Err.ensures.refused e)))
-            (λ e.
-            let both = c.in-Err.ensures.spent.0 e in
-            spent_after began c.args.bays.0 shelf desk step c.args.now c.requires.step.own c.args.caller.now.me.0 bays c.requires.fits
-            (c.refusals_are_plain.ensures.spent step c.args.now shelf desk c.requires.plan.on_key (ap writes (sym plan.next) ∙ both.0) both.1));
+            (λ e. comes_after began c.args.bays.0 shelf desk step c.args.now c.requires.step.own c.args.caller.now.me.0 bays c.requires.fits _ (c.in-Err.ensures.refused e))
+            (λ e. comes_after began c.args.bays.0 shelf desk step c.args.now c.requires.step.own c.args.caller.now.me.0 bays c.requires.fits _ (c.in-Err.ensures.spent e));
       };
     }

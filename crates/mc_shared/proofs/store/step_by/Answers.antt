@@ -6,8 +6,8 @@ use Rattle.mc_shared.specs.Steps.{holding}
 use Rattle.mc_shared.proofs.Decisions.{held_hash}
 use Rattle.mc_shared.proofs.store.step_by.Goals as goal
 
-pub look-requires-clause-hash : goal.look-requires-clause-hash
-look-requires-clause-hash g c stored is =
+pub look_up-requires-clause-hash : goal.look_up-requires-clause-hash
+look_up-requires-clause-hash g c stored is =
     let began = start_of g.K.KeyHash.hash_of c.args.board.now.shared.key.value in
     held_hash began c.args.bays.0 c.deref_mut.result.now.content c.args.caller.now.me.0.bays (holding c.args.caller.now.me.0 c.args.bays.0 (content_of c.in-Ok.bay))
     ((λ i. (c.args.bays.0, content_of (c.shelf_from-shelf.ensures i)) ∷ c.args.caller.now.me.0.bays) ∙ (λ i. (c.args.bays.0, OfShelf (sym c.deref_mut.ensures.value i).content) ∷ c.args.caller.now.me.0.bays)) c.in-Ok.ensures.ok.2 (key_of c.args.step.now) stored is

@@ -1,0 +1,93 @@
+//! A step on one key, looked up at its shelf and taken there and at the desk.
+ghost use Rattle.std.specs.Prelude.{◌≡◌, ◌≤◌, length, true, Err, IfOk, IfSome, OnErr};
+ghost use Rattle.mc_time.specs.declared.expiry.Expiry.{Expiry as Expires};
+ghost use Rattle.std.specs.Prelude.{Option};
+ghost use Rattle.mc_command.specs.declared.row.Row.TheVariants.{Reads};
+ghost use Rattle.mc_command.specs.Commands.{key_of};
+ghost use Rattle.mc_command.specs.Laws.{IsOnKey};
+ghost use Rattle.mc_shelf.specs.States.{IsHash, CanStand};
+ghost use Rattle.mc_shelf.specs.Plans.{IsSpent, IsTaken, MayWantMemory, row_at};
+ghost use Rattle.mc_shared.specs.Store.{IsPlanned, is_read};
+
+use mc_command::{KeyStep, Reply, StepFault};
+use mc_shelf::{Desk, Plan, Shelf, refusals_are_plain};
+use mc_time::Moment;
+use std::alloc::{AllocError, Global};
+
+/// Looks a step up. A read that is refused memory for the copy of its block is refused. A write that
+/// is refused room for its key's entry has no plan: the desk tells whether it is to be had at all.
+pub(crate) fn look_up<'a>(
+    alloc: Global,
+    shelf: &mut Shelf,
+    step: &KeyStep<'a>,
+    hash: u64,
+    now: Moment,
+) -> Result<Option<Plan<'a>>, AllocError>
+    requires on_key { IsOnKey step.now }
+    requires key { length (key_of step.now) ≤ 250 }
+    requires hash { IsHash shelf.old.content (key_of step.now) hash }
+    ensures plan { IfOk result (λ found. IfSome found (λ plan.
+        IsPlanned plan shelf.new step.now hash now)) }
+    ensures content { shelf.new.content ≡ shelf.old.content }
+    ensures read { OnErr result (is_read step.now ≡ true) }
+    ensures reads { OnErr result ((expiry : Option Expires)
+        × (row_at shelf.old.content step.now now ≡ Reads expiry)) }
+{
+    match shelf.look(alloc, step, hash, now) {
+        Ok(plan) => Ok(Some(plan)),
+        Err(fault) => {
+            if is_read(step) {
+                return Err(fault);
+            }
+            Ok(None)
+        }
+    }
+}
+
+/// Answers whether a step reads an item: get and gets, gat and gats.
+fn is_read(step: &KeyStep<'_>) -> bool
+    ensures { result ≡ is_read step.now }
+{
+    match step {
+        KeyStep::Read { .. } | KeyStep::ReadTouch { .. } => true,
+        KeyStep::Store { .. }
+        | KeyStep::Cas { .. }
+        | KeyStep::Touch { .. }
+        | KeyStep::Delete { .. }
+        | KeyStep::Count { .. }
+        | KeyStep::Flush { .. } => false,
+    }
+}
+
+/// Takes a step at a shelf and the desk, by its plan. With none it is looked up again, and memory is
+/// asked for only where a number and a chunk are to be had.
+pub(crate) fn take_step(
+    alloc: Global,
+    shelf: &mut Shelf,
+    desk: &mut Desk,
+    plan: Option<Plan<'_>>,
+    step: &KeyStep<'_>,
+    hash: u64,
+    now: Moment,
+) -> Result<Reply, StepFault>
+    requires plan { IfSome plan (λ plan. IsPlanned plan shelf.old step.now hash now) }
+    requires on_key { IsOnKey step.now }
+    requires key { length (key_of step.now) ≤ 250 }
+    requires hash { IsHash shelf.old.content (key_of step.now) hash }
+    requires stands { CanStand (key_of step.now) shelf.old.content desk.old }
+    ensures took { IfOk result (λ reply. IsTaken step.now now hash shelf.old.content desk.old reply
+        shelf.new.content desk.new) }
+    ensures spent { result ≡ Err StepFault.NumbersSpent →
+        IsSpent step.now now shelf.old.content desk.old }
+    ensures refused { result ≡ Err StepFault.NoMemory →
+        MayWantMemory step.now now shelf.old.content desk.old }
+    ensures err { OnErr result
+        ((shelf.new.content ≡ shelf.old.content) × (desk.new ≡ desk.old)) }
+{
+    refusals_are_plain();
+    let _number = desk.next_unique();
+    match plan {
+        Some(plan) => shelf.apply(alloc, plan, step, desk),
+        None => shelf.step(alloc, step, hash, now, desk),
+    }
+}
