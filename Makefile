@@ -48,7 +48,7 @@ crate:
 rows:
 	@python3 tests/rows.py $(if $(ONLY),--only $(ONLY))
 
-# Recorded runs of four callers in threads, each explained by an order of their calls: make history CALLS=25000
+# Recorded runs of four callers in threads, each explained by an order of their calls: make history CALLS=1000
 history: bench-build
 	@python3 tests/history_run.py $(if $(CALLS),--calls $(CALLS))
 

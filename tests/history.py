@@ -28,10 +28,15 @@ numbers were spent) changed nothing and are left out.
 For each key by itself the search goes through the orders of the calls on it that keep each caller's own order and what was
 made and joined. That the orders of two keys agree is asked of the unique numbers alone: a write draws a number above all
 that were drawn before it, whatever their keys.
+
+The unique numbers are the clock of a run. A call that met an item's number came before the next number that is known of that key,
+and so did all that its caller had done until then, on every key. So each call has a span of numbers in which it was taken, and the
+search leaves an order as soon as a call is late. Records whose writes have flags of their own are explained in steps that are few
+more than their calls.
 """
 import sys
 from bisect import bisect_left
-from collections import defaultdict
+from collections import Counter, defaultdict
 from functools import lru_cache
 from typing import NamedTuple, Optional
 from urllib.parse import unquote_to_bytes
@@ -39,11 +44,16 @@ from urllib.parse import unquote_to_bytes
 # So many states of one key are searched at most, unless another number is asked for.
 MOST_STATES = 5_000_000
 LIMIT = 2**64
+# Above all numbers.
+NEVER = float("inf")
 
 STORES = ("set", "add", "replace", "append", "prepend")
 # How many arguments stand behind a verb.
 ARGUMENTS = {"cas": 5, "get": 1, "gat": 2, "touch": 2, "delete": 1, "incr": 2, "decr": 2, "flush": 0, "made": 1, "joined": 1}
 ARGUMENTS.update(dict.fromkeys(STORES, 4))
+GIVES_FLAGS = ("set", "add", "replace", "cas")
+# Which argument is the exptime.
+EXPTIME_AT = {"set": 2, "add": 2, "replace": 2, "cas": 2, "gat": 1, "touch": 1}
 # A write with such a reply was refused, and changed nothing.
 REFUSED = ("TOO_LARGE", "NO_CHUNK")
 
@@ -52,42 +62,55 @@ class NotARecord(Exception):
     """A line that says nothing, or lines that no run could have left."""
 
 
-class Call(NamedTuple):
-    """One line of the record."""
+class Call:
+    """One line of the record, and what its words mean."""
 
-    caller: str
-    number: int
-    verb: str
-    arguments: tuple
-    reply: tuple
+    def __init__(self, caller, number, verb, arguments, reply):
+        self.caller, self.number, self.verb, self.arguments, self.reply = caller, number, verb, arguments, reply
+        self.key = arguments[0] if verb not in ("flush", "made", "joined") else None
+        # The flags, number and block of a hit. A number that wasn't told is None.
+        self.hit = None
+        if reply[0] == "HIT":
+            self.hit = int(reply[1]), None if reply[2] == "-" else int(reply[2]), block_of(reply[3])
+        self.wrote = reply[0] in ("STORED", "NUMBER")
+        self.flags = int(arguments[1]) if verb in GIVES_FLAGS else None
+        self.block = block_of(arguments[-1]) if verb in STORES or verb == "cas" else None
+        self.over = verb in EXPTIME_AT and int(arguments[EXPTIME_AT[verb]]) < 0
+        self.unique = int(arguments[3]) if verb == "cas" else None
+        self.delta = int(arguments[1]) if verb in ("incr", "decr") else None
+        # Whether no order lets it change anything. It may still tell the number of what stood.
+        self.keeps = not self.wrote and reply[0] not in ("FLUSHED", "DELETED") and not (self.over and reply[0] in ("HIT", "TOUCHED"))
+        self.span = None
 
-    def key(self):
-        return self.arguments[0] if self.verb not in ("flush", "made", "joined") else None
-
-    def told(self):
-        """The content and number of a hit, if the reply is one."""
-        if self.reply[0] != "HIT":
-            return None
-        flags, unique, block = self.reply[1:]
-        return int(flags), None if unique == "-" else int(unique), block_of(block)
-
-    def stored(self):
-        """The flags and block that the call stored as they were given, if it did."""
-        if self.reply != ("STORED",) or self.verb in ("append", "prepend"):
-            return None
-        return int(self.arguments[1]), block_of(self.arguments[-1])
+    def meets(self):
+        """The number of the item that stood when the call was taken, where the line tells it."""
+        if self.hit:
+            return self.hit[1]
+        if self.verb == "cas" and self.reply[0] in ("STORED", *REFUSED):
+            return self.unique
+        return None
 
     def __str__(self):
         return " ".join([self.caller, str(self.number), self.verb, *self.arguments, *self.reply])
 
 
+class Span(NamedTuple):
+    """Bounds of the last number drawn: of it before the call from least to most, and after it from after to end."""
+
+    least: int
+    most: float
+    after: int
+    end: float
+
+
 class Item(NamedTuple):
-    """What stands under the key. A number that isn't known yet is above the floor."""
+    """What stands under the key. A number that isn't known yet is above the floor, and no greater than the top."""
 
     flags: int
     block: bytes
     unique: Optional[int]
     floor: int
+    top: float
 
 
 class State(NamedTuple):
@@ -182,62 +205,92 @@ def tell_numbers(ordered):
     """The contents that hits told: of each number its key, flags and block; and what is wrong with them."""
     told = {}
     for call, _ in ordered:
-        hit = call.told()
-        if hit and hit[1] is not None:
-            content = (call.key(), hit[0], hit[2])
-            if told.setdefault(hit[1], content) != content:
-                return told, f"the number {hit[1]} is told of two contents: {call}"
+        if call.hit and call.hit[1] is not None:
+            flags, unique, block = call.hit
+            content = (call.key, flags, block)
+            if told.setdefault(unique, content) != content:
+                return told, f"the number {unique} is told of two contents: {call}"
     return told, None
 
 
-def number_writes(ordered, told):
-    """The numbers of the writes that alone can have drawn them."""
-    givers, others = defaultdict(list), defaultdict(int)
+def next_seen(ordered):
+    """Of each number that a call met: the next that one met of the same key. None was drawn for it between that are known."""
+    seen = defaultdict(set)
     for call, _ in ordered:
-        if call.stored():
-            givers[(call.key(), *call.stored())].append(call)
-        elif call.reply[0] in ("STORED", "NUMBER"):
-            others[call.key()] += 1
-    counts = defaultdict(int)
-    for content in told.values():
-        counts[content] += 1
-    numbers = {}
-    for unique, content in told.items():
-        if len(givers[content]) == 1 and counts[content] == 1 and not others[content[0]]:
-            numbers[givers[content][0]] = unique
-    return numbers
+        if call.meets() is not None:
+            seen[call.key].add(call.meets())
+    found = {}
+    for key, numbers in seen.items():
+        rising = sorted(numbers)
+        found.update({(key, unique): later for unique, later in zip(rising, rising[1:])})
+    return found
 
 
-def late_draw(ordered, numbers):
-    """A write whose number isn't above one that was drawn before it in every order, if there is one."""
-    # Of each caller, after each of its lines: the greatest number that it knows to be drawn.
-    greatest = defaultdict(list)
+def draws_of(ordered, told):
+    """Bounds of the numbers that writes drew, from the flags that hits told: above the first, and no greater than the second.
+
+    An item keeps its flags while it is appended to or counted. So where one write alone gave some flags to a key, the numbers
+    that are told with them lie side by side: the write's is the least or below it, and above the last of other flags."""
+    givers = Counter((call.key, call.flags) for call, _ in ordered if call.wrote and call.flags is not None)
+    least, of_key = {}, defaultdict(list)
+    for unique, (key, flags, _) in sorted(told.items()):
+        least.setdefault((key, flags), unique)
+        of_key[key].append(unique)
+    draws = {}
+    for call, _ in ordered:
+        first = least.get((call.key, call.flags)) if call.wrote and call.flags is not None else None
+        if first is not None and givers[call.key, call.flags] == 1:
+            at = bisect_left(of_key[call.key], first)
+            draws[call] = of_key[call.key][at - 1] if at else 0, first
+    return draws
+
+
+def exact_draws(ordered, told, draws):
+    """The same, of those writes where no other can have given what they gave: these drew the very number that is told."""
+    others, counts = set(), Counter(told.values())
+    for call, _ in ordered:
+        if call.verb in ("append", "prepend") and call.wrote and not call.block:
+            others.add(call.key)
+        if call.reply[0] == "NUMBER":
+            others.add((call.key, call.reply[1].encode()))
+    for call, (_, first) in draws.items():
+        content = (call.key, call.flags, call.block)
+        if told[first] == content and counts[content] == 1 and not {call.key, (call.key, call.block)} & others:
+            draws[call] = first - 1, first
+    return draws
+
+
+def span_calls(ordered, told):
+    """Gives each call its span. Answers what is wrong where one has none."""
+    later, draws = next_seen(ordered), exact_draws(ordered, told, draws_of(ordered, told))
+    # Of each caller, after each of its lines: the least that the last number drawn can have been.
+    after, bounds = defaultdict(list), {}
     for call, known in ordered:
-        before = max((greatest[name][count - 1] for name, count in known.before.items() if count), default=0)
-        unique = numbers.get(call)
-        if unique is not None and unique <= before:
-            return f"the number {unique} was drawn when {before} was drawn already: {call}"
-        hit = call.told()
-        seen = hit[1] if hit and hit[1] is not None else 0
-        greatest[call.caller].append(max(before, unique or 0, seen))
-    return None
-
-
-def guess_ranks(ordered, told):
-    """Of each call a guess of the last number that was drawn when it was taken: the search tries the latest first."""
-    written = {content: unique for unique, content in told.items()}
-    ranks, least = {}, defaultdict(int)
-    for call, _ in ordered:
-        hit = call.told()
-        if hit:
-            found = hit[1] or 0
-        else:
-            found = written.get((call.key(), *call.stored()), 0) if call.stored() else 0
+        least = max((after[name][count - 1] for name, count in known.before.items() if count), default=0)
+        least = max(least, call.meets() or 0)
+        above = draws[call][0] if call in draws else 0
+        bounds[call] = least, max(least, above) + 1 if call.wrote else least
+        after[call.caller].append(bounds[call][1])
+    # Of each caller, before each of its lines: the most.
+    most = {}
+    for call, _ in reversed(ordered):
+        end = most.get(call.caller, NEVER)
         if call.verb == "made":
-            least[call.arguments[0]] = least[call.caller]
-        least[call.caller] = max(least[call.caller] + (call.reply[0] in ("STORED", "NUMBER")), found)
-        ranks[call] = least[call.caller]
-    return ranks
+            end = min(end, most.get(call.arguments[0], NEVER))
+        if call in draws:
+            end = min(end, draws[call][1])
+        before = end - call.wrote
+        if call.meets() is not None:
+            before = min(before, later.get((call.key, call.meets()), NEVER) - 1)
+        most[call.caller] = before
+        if call.verb == "joined":
+            other = call.arguments[0]
+            most[other] = min(most.get(other, NEVER), before)
+        least, drawn = bounds[call]
+        call.span = Span(least, before, drawn, end)
+        if least > before or drawn > end:
+            return f"it came after the number {max(least, drawn)} was drawn, and before the number {min(before, end) + 1} was: {call}"
+    return None
 
 
 # ---- the protocol's rules of one key
@@ -252,72 +305,82 @@ def number_of(block):
 
 
 class Rules:
-    """How a call changes the state, if its reply is right there. None where it isn't."""
+    """How a call changes the state of a key, if its reply is right there. None where it isn't."""
 
-    def __init__(self, numbers):
-        self.numbers = numbers
-        self.owned = set(numbers.values())
+    def __init__(self, key, told):
+        self.key = key
+        self.told = told
 
     def step(self, call, state):
+        """The state after a call whose span is kept, too."""
+        least, most, after, _ = call.span
+        if state.drawn < least:
+            state = State(state.item, least)
+        if state.drawn > most:
+            return None
+        new = self.answer(call, state)
+        if new is not None and new.drawn < after:
+            return State(new.item, after)
+        return new
+
+    def answer(self, call, state):
         if call.verb == "flush":
             return State(None, state.drawn) if call.reply == ("FLUSHED",) else None
         if call.verb in STORES:
             return self.store(call, state)
         return getattr(self, call.verb)(call, state)
 
-    def write(self, call, state, flags, block, reply, over=False):
+    @staticmethod
+    def write(call, state, flags, block, reply):
         """A write, refused or not. One that is over at once leaves nothing."""
         if call.reply[0] in REFUSED:
             return state
         if call.reply != reply:
             return None
-        unique = self.numbers.get(call)
-        if unique is not None and unique <= state.drawn:
-            return None
-        drawn = state.drawn + 1 if unique is None else unique
-        return State(None if over else Item(flags, block, unique, state.drawn), drawn)
+        floor = max(state.drawn, call.span.after - 1)
+        return State(None if call.over else Item(flags, block, None, floor, call.span.end), floor + 1)
 
     @staticmethod
     def refusal(call, state, reply):
         return state if call.reply == (reply,) else None
 
     def store(self, call, state):
-        _, flags, exptime, word = call.arguments
-        item, block, over = state.item, block_of(word), int(exptime) < 0
+        item = state.item
         if call.verb == "add" and item or call.verb in ("replace", "append", "prepend") and not item:
             return self.refusal(call, state, "NOT_STORED")
         if call.verb == "append":
-            return self.write(call, state, item.flags, item.block + block, ("STORED",))
+            return self.write(call, state, item.flags, item.block + call.block, ("STORED",))
         if call.verb == "prepend":
-            return self.write(call, state, item.flags, block + item.block, ("STORED",))
-        return self.write(call, state, int(flags), block, ("STORED",), over)
+            return self.write(call, state, item.flags, call.block + item.block, ("STORED",))
+        return self.write(call, state, call.flags, call.block, ("STORED",))
 
     def cas(self, call, state):
-        _, flags, exptime, unique, word = call.arguments
         if not state.item:
             return self.refusal(call, state, "NOT_FOUND")
-        met = self.learn(state, int(unique))
+        met = self.learn(state, call.unique)
         if call.reply == ("EXISTS",):
             return state if met is None or state.item.unique is None else None
         if met is None:
             return None
-        return self.write(call, met, int(flags), block_of(word), ("STORED",), int(exptime) < 0)
+        return self.write(call, met, call.flags, call.block, ("STORED",))
 
     def learn(self, state, unique):
         """The state where the item has this number, if it can have it."""
         item = state.item
         if item.unique == unique:
             return state
-        if item.unique is not None or unique <= item.floor or unique in self.owned:
+        if item.unique is not None or not item.floor < unique <= item.top:
+            return None
+        content = (self.key, item.flags, item.block)
+        if self.told.get(unique, content) != content:
             return None
         return State(item._replace(unique=unique), max(state.drawn, unique))
 
     def get(self, call, state):
-        hit = call.told()
-        if not state.item or not hit:
+        if not state.item or not call.hit:
             return state if not state.item and call.reply == ("MISS",) else None
-        flags, unique, block = hit
-        if (flags, block) != (state.item.flags, state.item.block):
+        flags, unique, block = call.hit
+        if flags != state.item.flags or block != state.item.block:
             return None
         return state if unique is None else self.learn(state, unique)
 
@@ -327,7 +390,7 @@ class Rules:
 
     @staticmethod
     def expiring(call, state):
-        return State(None, state.drawn) if int(call.arguments[1]) < 0 else state
+        return State(None, state.drawn) if call.over else state
 
     def touch(self, call, state):
         if not state.item:
@@ -351,7 +414,7 @@ class Rules:
         number = number_of(state.item.block)
         if number is None:
             return self.refusal(call, state, "NOT_NUMERIC")
-        new = str(counted(number, int(call.arguments[1])))
+        new = str(counted(number, call.delta))
         return self.write(call, state, state.item.flags, new.encode(), ("NUMBER", new))
 
 
@@ -359,7 +422,7 @@ class Rules:
 
 
 class Lane(NamedTuple):
-    """A caller's calls on one key, each with how many calls of the other lanes stand before it."""
+    """A caller's calls on one key; of each, how many calls of which other lanes stand before it."""
 
     calls: list
     needs: list
@@ -371,13 +434,16 @@ def lanes_of(ordered, key):
     for call, known in ordered:
         line = own[call.caller]
         own[call.caller] += 1
-        if call.verb == "flush" or call.key() == key:
+        if call.verb == "flush" or call.key == key:
             names.setdefault(call.caller, len(names))
             places[call.caller].append((line, call, known))
     lines = {name: [line for line, _, _ in places[name]] for name in names}
     lanes = []
     for name in names:
-        needs = [[bisect_left(lines[other], known.before.get(other, 0)) for other in names] for _, _, known in places[name]]
+        needs = []
+        for _, _, known in places[name]:
+            before = [(other, count) for other, count in known.before.items() if count and other != name and other in names]
+            needs.append([(names[other], bisect_left(lines[other], count)) for other, count in before])
         lanes.append(Lane([call for _, call, _ in places[name]], needs))
     return lanes
 
@@ -385,94 +451,95 @@ def lanes_of(ordered, key):
 class Search:
     """A search, depth first, through the orders of the calls of a key; a state is tried once."""
 
-    def __init__(self, lanes, numbers, ranks, most):
+    def __init__(self, key, lanes, told, most):
         self.lanes = lanes
-        self.ranks = ranks
         self.most = most
-        self.rules = Rules(numbers)
-        # The writes whose numbers are known come in the order of these.
-        self.draws = sorted(numbers[call] for lane in lanes for call in lane.calls if call in numbers)
-        self.numbers = numbers
+        self.rules = Rules(key, told)
         self.furthest = (0,) * len(lanes)
         self.met = [self.met_from(lane) for lane in lanes]
+        self.tried = set()
 
     @staticmethod
     def met_from(lane):
         """At each place of a lane the next number that a call there met, as that of the item that stood."""
         found, numbers = None, []
         for call in reversed(lane.calls):
-            hit = call.told()
-            if hit and hit[1] is not None:
-                found = hit[1]
-            if call.verb == "cas" and call.reply == ("STORED",):
-                found = int(call.arguments[3])
+            if call.meets() is not None:
+                found = call.meets()
             numbers.append(found)
         return numbers[::-1] + [None]
 
     def is_lost(self, places, state):
-        """Whether a call is to meet a number that is drawn already and doesn't stand: no later item has it."""
-        item = state.item
-        for met, place in zip(self.met, places):
+        """Whether a call is late, or is to meet a number that is drawn already and doesn't stand: no later item has it."""
+        item, drawn = state
+        for lane, met, place in zip(self.lanes, self.met, places):
+            if place < len(lane.calls) and drawn > lane.calls[place].span.most:
+                return True
             unique = met[place]
-            if unique is None or unique > state.drawn:
+            if unique is None or unique > drawn:
                 continue
             if item is None or (unique <= item.floor if item.unique is None else item.unique != unique):
                 return True
         return False
 
-    def ready(self, places):
-        for at, lane in enumerate(self.lanes):
-            if places[at] < len(lane.calls):
-                needs = lane.needs[places[at]]
-                if all(place >= need for place, need in zip(places, needs)):
-                    yield at, lane.calls[places[at]]
+    def is_ready(self, at, places):
+        """Whether a lane has a call left, and all that stands before it was taken."""
+        place, lane = places[at], self.lanes[at]
+        if place == len(lane.calls):
+            return False
+        for other, count in lane.needs[place]:
+            if places[other] < count:
+                return False
+        return True
 
     def passed(self, places, state):
-        """The places after all calls that are explained here and change nothing: these can wait for no other.
-
-        A flush that finds no item isn't one of them, since it may be wanted to take away a later one."""
+        """The places after all calls that are explained here and change nothing: these can wait for no other."""
+        places = list(places)
         moved = True
         while moved:
             moved = False
-            for at, call in self.ready(places):
-                if call.verb != "flush" and self.rules.step(call, state) == state:
-                    places = places[:at] + (places[at] + 1,) + places[at + 1 :]
+            for at, lane in enumerate(self.lanes):
+                while self.is_ready(at, places):
+                    call = lane.calls[places[at]]
+                    if not call.keeps or self.rules.step(call, state) != state:
+                        break
+                    places[at] += 1
                     moved = True
-                    break
-        return places
+        return tuple(places)
 
-    def nexts(self, places, state, drawn):
-        for at, call in sorted(self.ready(places), key=lambda it: -self.ranks[it[1]]):
-            unique = self.numbers.get(call)
-            if unique is not None and unique != self.draws[drawn]:
-                continue
-            new = self.rules.step(call, state)
+    def nexts(self, places, state):
+        """Where a call more leads to. The one that can wait least comes first."""
+        ready = [(lane.calls[places[at]].span.most, at) for at, lane in enumerate(self.lanes) if self.is_ready(at, places)]
+        for _, at in sorted(ready):
+            new = self.rules.step(self.lanes[at].calls[places[at]], state)
             if new is not None:
-                yield places[:at] + (places[at] + 1,) + places[at + 1 :], new, drawn + (unique is not None)
+                yield places[:at] + (places[at] + 1,) + places[at + 1 :], new
 
     def run(self):
         """Whether an order explains the calls; None where the search was given up."""
         ends = tuple(len(lane.calls) for lane in self.lanes)
-        stack = [((0,) * len(self.lanes), State(None, 0), 0)]
-        tried = set()
-        while stack:
-            places, state, drawn = stack.pop()
-            places = self.passed(places, state)
+        path = [iter([((0,) * len(self.lanes), State(None, 0))])]
+        while path:
+            found = next(path[-1], None)
+            if found is None:
+                path.pop()
+                continue
+            places, state = self.passed(*found), found[1]
             if places == ends:
                 return True
             if sum(places) > sum(self.furthest):
                 self.furthest = places
-            if (places, state) in tried or self.is_lost(places, state):
+            if (places, state) in self.tried or self.is_lost(places, state):
                 continue
-            if len(tried) == self.most:
+            if len(self.tried) == self.most:
                 return None
-            tried.add((places, state))
-            stack.extend(self.nexts(places, state, drawn))
+            self.tried.add((places, state))
+            path.append(self.nexts(places, state))
         return False
 
     def waiting(self):
         """The calls that no order got past, of the longest that was found."""
-        return [str(call) for _, call in self.ready(self.furthest)]
+        return [str(lane.calls[self.furthest[at]]) for at, lane in enumerate(self.lanes) if self.is_ready(at, self.furthest)]
 
 
 def check(text, most=MOST_STATES):
@@ -480,23 +547,22 @@ def check(text, most=MOST_STATES):
     callers = read_record(text)
     ordered = order_of(callers)
     told, fault = tell_numbers(ordered)
-    numbers = number_writes(ordered, told)
-    fault = fault or late_draw(ordered, numbers)
+    fault = fault or span_calls(ordered, told)
     if fault:
         return False, fault
-    ranks = guess_ranks(ordered, told)
-    keys = sorted({call.key() for call, _ in ordered if call.key() is not None})
-    given_up = None
+    keys = sorted({call.key for call, _ in ordered if call.key is not None})
+    given_up, states = None, 0
     for key in keys:
-        search = Search(lanes_of(ordered, key), numbers, ranks, most)
+        search = Search(key, lanes_of(ordered, key), told, most)
         found = search.run()
+        states += len(search.tried)
         if found is False:
             return False, f"no order explains the key {key}; of the next calls none can come:\n" + "\n".join(search.waiting())
         if found is None:
-            given_up = f"the search for the key {key} was given up"
+            given_up = f"the search for the key {key} was given up; of the longest order these come next:\n" + "\n".join(search.waiting())
     if given_up:
         return None, given_up
-    return True, f"{len(ordered)} lines of {len(callers)} callers on {len(keys)} keys are explained"
+    return True, f"{len(ordered)} lines of {len(callers)} callers on {len(keys)} keys are explained, in {states} states"
 
 
 # ---- the checker's own test: small runs whose verdict is plain

@@ -58,6 +58,7 @@ ALSO = {
         "tests::growth_moves_what_is_left",
         "tests::one_of_two_sets_gets_the_one_page",
         "tests::steps_are_answered_as_by_a_store_of_one_thread",
+        "tests::unique_numbers_end",
     ],
 }
 

@@ -1,5 +1,5 @@
 //! Turns of the sessions of one world.
-ghost use Rattle.std.specs.Prelude.{[], ◌∷◌, OnOk};
+ghost use Rattle.std.specs.Prelude.{◌≡◌, [], ◌∷◌, OnOk};
 ghost use Rattle.mc_world.specs.Worlds.{Told};
 
 use mc_command::Bytes;
@@ -62,6 +62,13 @@ fn written(world: &mut World<Fnv>, sessions: u16) -> u64 {
     bytes
 }
 
+/// An event by itself.
+fn alone(event: Event<'_>) -> [Event<'_>; 1]
+    ensures { result ≡ event.entry ∷ [] }
+{
+    [event]
+}
+
 /// One event of the world.
 fn run<K: KeyHash + Drop>(
     world: &mut World<K>,
@@ -70,7 +77,7 @@ fn run<K: KeyHash + Drop>(
 ) -> Result<(), AllocError>
     ensures { OnOk result (Told K.hash_of world.old (event.entry ∷ []) world.new) }
 {
-    match world.run(alloc, &[event]) {
+    match world.run(alloc, &alone(event)) {
         Ok(()) => Ok(()),
         Err(_) => Err(AllocError),
     }
