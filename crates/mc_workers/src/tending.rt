@@ -17,6 +17,11 @@ use std::sync::Wait;
 /// How many entries of a shelf's index move after a step on a key of it.
 const MOVED: usize = 8;
 
+/// How many steps are followed by no growth, once a growth moved nothing. A growth costs as much as a
+/// third of a get, and few shelves grow at a time. One in 8 steps with 8 entries is one entry a step: so
+/// a shelf that alone grows still is through before it has taken as many new entries as it had.
+const REST: u32 = 7;
+
 /// A caller whose steps are each followed by some growth of the key's shelf, and who tidies shelves
 /// in turn. Contracts see what they see of the caller.
 #[derive(Drop)]
@@ -24,6 +29,8 @@ pub struct Tending<'a, R: Wait, K: KeyHash + Drop, G: Gate> {
     asking: Asking<'a, R, K, G>,
     /// The shelf that is tidied next.
     shelf: u32,
+    /// How many steps are followed by no growth.
+    rest: u32,
 }
 
 impl<'a, R: Wait, K: KeyHash + Drop, G: Gate> Model for Tending<'a, R, K, G> {
@@ -54,6 +61,7 @@ impl<'a, R: Wait, K: KeyHash + Drop, G: Gate> Tending<'a, R, K, G> {
         Tending {
             asking: Asking::new(rt, shared, caller, gate),
             shelf: 0,
+            rest: 0,
         }
     }
 
@@ -79,15 +87,22 @@ impl<'a, R: Wait, K: KeyHash + Drop, G: Gate> Tending<'a, R, K, G> {
         self.asking.tidy(shelf, now);
     }
 
-    /// Moves some entries of the step's shelf. A flush is on no shelf.
+    /// Moves some entries of the step's shelf, but not right after a growth that had none to move. A
+    /// flush is on no shelf.
     fn grow_after(&mut self, step: &KeyStep<'_>)
         ensures { self.new ≡ self.old }
     {
+        if self.rest > 0 {
+            self.rest -= 1;
+            return;
+        }
         match step {
             KeyStep::Flush { .. } => {}
             _ => {
                 let shelf = self.asking.shelf_of(step.key());
-                self.asking.grow(shelf, MOVED);
+                if self.asking.grow(shelf, MOVED) == 0 {
+                    self.rest = REST;
+                }
             }
         }
     }
