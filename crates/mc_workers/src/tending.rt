@@ -17,9 +17,9 @@ use std::sync::Wait;
 /// How many entries of a shelf's index move after a step on a key of it.
 const MOVED: usize = 8;
 
-/// How many steps are followed by no growth, once a growth moved nothing. A growth costs as much as a
-/// third of a get, and few shelves grow at a time. One in 8 steps with 8 entries is one entry a step: so
-/// a shelf that alone grows still is through before it has taken as many new entries as it had.
+/// How many steps are followed by no growth, once a growth moved nothing: it hashes the key and takes the
+/// shelf once more, and few shelves grow at a time. A shelf that alone grows so has one entry moved for
+/// each step on it, about; and where that lags, each of its new keys moves 8 by itself.
 const REST: u32 = 7;
 
 /// A caller whose steps are each followed by some growth of the key's shelf, and who tidies shelves
