@@ -43,7 +43,7 @@ ALSO = {
         "steps_tests::storage_commands_store_on_their_condition",
         "steps_tests::the_dead_hold_their_chunks_until_they_are_dropped",
     ],
-    "mc_parse": ["tests::a_push_that_is_refused", "tests::a_stream_in_pieces_of_one_byte"],
+    "mc_parse": ["tests::a_part_that_is_refused", "tests::a_push_that_is_refused", "tests::a_stream_in_pieces_of_one_byte"],
     "mc_reply": ["tests::a_reply_is_a_line", "tests::a_retrieval_tells_what_it_found_and_ends"],
     "mc_session": ["tests::a_refused_turn_tells_whether_its_step_stands", "tests::keys_of_a_get_take_a_turn_each"],
     "mc_shelf": [

@@ -39,6 +39,14 @@ impl Ahead {
         }
     }
 
+    /// Counts the bytes of the unit, where its line announces a block; else none.
+    pub fn announced(&self) -> usize {
+        match self {
+            Ahead::Line(note) => note.announced(),
+            Ahead::Searched(_) | Ahead::Retrieval(_) => 0,
+        }
+    }
+
     /// Tells what the unread bytes begin with. It looks at no line.
     #[inline]
     pub fn peek<'a>(&self, unread: &'a [u8]) -> Peek<'a>

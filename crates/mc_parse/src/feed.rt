@@ -57,7 +57,7 @@ impl Feed {
     {
         let skipped = (piece.len() as u64).min(self.passed);
         let (_, kept) = piece.split_at(skipped as usize);
-        self.unread.push(kept)?;
+        self.unread.push_part(kept, self.ahead.announced())?;
         self.passed -= skipped;
         self.ahead = self.ahead.after(self.greatest, self.unread.as_slice());
         Ok(())

@@ -92,6 +92,20 @@ impl LineNote {
         }
     }
 
+    /// Counts the bytes of the line and of the block that it announces; none where it announces no block.
+    pub fn announced(&self) -> usize {
+        match self.said {
+            Said::Store { len, .. } => self.with_block(len),
+            Said::Cas { len, .. } => self.with_block(len),
+            _ => 0,
+        }
+    }
+
+    /// Counts the bytes of the line, of a block of `len` bytes and of its end.
+    fn with_block(&self, len: u32) -> usize {
+        self.end.saturating_add(3).saturating_add(len as usize)
+    }
+
     /// Tells what the unread bytes begin with. Of the line it looks at nothing.
     #[inline]
     pub fn peek<'a>(&self, unread: &'a [u8]) -> Peek<'a>

@@ -3,6 +3,12 @@ ghost use Rattle.std.specs.Prelude.{◌≡◌, ◌-◌, ◌≤◌, drop, length,
 use std::alloc::{AllocError, Global};
 use std::marker::Model;
 
+/// Of how many parts of a text one is to be there before room is made for all of it.
+const SHARE: usize = 16;
+
+/// For how many bytes behind a text room is made with it: what comes with its last bytes needs no room of its own.
+const BEHIND: usize = 16384;
+
 /// Bytes that are appended behind and taken away in front. While it has none it reserves at most `KEPT` bytes of memory.
 /// Contracts see the bytes that weren't taken yet.
 #[derive(Drop)]
@@ -101,6 +107,31 @@ impl<const KEPT: usize> Queue<KEPT> {
         let result = self.buffer.extend_from_slice(bytes);
         give_back(&mut self.buffer, KEPT, self.alloc);
         result
+    }
+
+    /// Appends bytes of a text that has `whole` bytes, more than `KEPT`, of which the first ones are there. Once a sixteenth of
+    /// it is, room is made for all of it in one, and nothing is moved from then on; so for what is announced and never comes no
+    /// more is reserved than sixteen times what came, and 16384 bytes. Where memory for that is refused, the queue grows as
+    /// bytes come. Refused, it is as it was.
+    pub fn push_part(&mut self, bytes: &[u8], whole: usize) -> Result<(), AllocError>
+        ensures ok { OnOk result (self.new ≡ self.old ++ bytes.now) }
+        ensures err { OnErr result (self.new ≡ self.old) }
+    {
+        self.make_room(whole);
+        self.push(bytes)
+    }
+
+    /// Makes room for `whole` bytes, where a sixteenth of them is there, and for some that come with the last of them.
+    fn make_room(&mut self, whole: usize)
+        ensures { self.new ≡ self.old }
+    {
+        let there = self.len();
+        if KEPT < whole && whole / SHARE <= there {
+            let _ = self
+                .buffer
+                .reserve(whole.saturating_sub(there).saturating_add(BEHIND));
+        }
+        give_back(&mut self.buffer, KEPT, self.alloc);
     }
 
     /// Appends a text. Refused, the queue is as it was.

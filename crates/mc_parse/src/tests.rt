@@ -121,6 +121,34 @@ fn a_large_queue_gives_its_memory_back(rt: HostRuntime) -> Result<(), AllocError
 }
 
 #[test]
+fn room_is_made_at_once_for_a_text_that_has_begun(rt: HostRuntime) -> Result<(), AllocError> {
+    let mut queue: Queue<64> = Queue::new(rt.alloc());
+    queue.push_part(&[b'x'; 99], 1600)?;
+    queue.push_part(b"x", 1600)?;
+    assert!(rt; queue.capacity() < 1600);
+    queue.push_part(b"x", 1600)?;
+    assert!(rt; queue.capacity() >= 1600 && queue.len() == 101);
+    queue.clear();
+    assert!(rt; queue.capacity() <= 64);
+    Ok(())
+}
+
+#[test]
+fn a_part_that_is_refused(rt: HostRuntime) -> Result<(), AllocError> {
+    let mut queue: Queue<64> = Queue::new(rt.alloc());
+    let part = [b'x'; 400];
+    for count in 1..5usize {
+        let there = queue.len();
+        if queue.push_part(&part, 1600).is_err() {
+            assert_eq!(rt; queue.len(), there);
+            queue.push_part(&part, 1600)?;
+        }
+        assert_eq!(rt; queue.len(), 400 * count);
+    }
+    Ok(())
+}
+
+#[test]
 fn a_set_and_what_follows(rt: HostRuntime) {
     let unread = b"set a 5 0 3\r\nabc\r\nget a\r\n";
     let Peek::Whole(command, len) = peek_at(GREATEST, unread) else {

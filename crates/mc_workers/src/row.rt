@@ -105,12 +105,15 @@ impl<L: Link + Drop> Row<L> {
         round(alloc, front, store, now);
     }
 
-    /// Swaps two guests.
+    /// Swaps two guests. It does nothing where they are one.
     pub fn swap(&mut self, one: usize, other: usize)
         requires one { one < self.old }
         requires other { other < self.old }
         ensures { self.new ≡ self.old }
     {
+        if one == other {
+            return;
+        }
         self.guests.as_mut_slice().swap(one, other);
         self.numbers.as_mut_slice().swap(one, other);
         self.note_place(one);
