@@ -1,10 +1,11 @@
 //! Serves connections by workers in threads.
-ghost use Rattle.std.specs.Prelude.{◌≤◌};
+ghost use Rattle.std.specs.Prelude.{◌≡◌, ◌≤◌};
 ghost use Rattle.mc_server.specs.Ends.{EndsListening};
 
 use crate::accepting::accept_all;
 use crate::arrivals::{Arrivals, Share};
 use crate::asker::Asker;
+use crate::clock::AskedClock;
 use crate::end::End;
 use crate::links::{EVENTS, SocketLinks, WAKER};
 use crate::options::Options;
@@ -51,12 +52,13 @@ impl From<AllocError> for Wanting {
 }
 
 /// Listens on 127.0.0.1 at the port of the options, and serves the connections by so many workers over
-/// one store, until the listener fails.
-pub fn listen<R, C>(rt: &R, options: Options, clock: &C) -> End
+/// one store, by the clock that is asked for, until the listener fails.
+pub fn listen<R, S>(rt: &R, options: Options, clock: &AskedClock<S>) -> End
 where
     R: Net + AllocGlobal + Wait + Threads + time::Clock + Eprint + Sync,
-    C: Clock + Sync,
-    requires { 1 ≤ options.pages × options.pages ≤ 65536 }
+    S: Clock + Sync,
+    requires pages { 1 ≤ options.pages × options.pages ≤ 65536 }
+    requires clock { clock.now.asked ≡ options.now }
     ensures { EndsListening result }
 {
     match begin(rt, options, clock) {

@@ -1,5 +1,6 @@
 //! What is served of a command line, over streams that a test holds.
 
+use crate::clock::AskedClock;
 use crate::end::{End, ending};
 use crate::options::Options;
 use crate::serving::serve;
@@ -22,14 +23,12 @@ const SYSTEM: u64 = 2_999_999;
 
 /// How a session is served with the clock that is asked for.
 fn served(alloc: Global, now: Option<u64>, reader: &mut Drip<'_>, writer: &mut Sip) -> End {
-    let system = Fixed(Moment::from_seconds_at_most(SYSTEM));
-    serve(
-        alloc,
-        Options::new(true, now, Some(1), None, None),
-        reader,
-        writer,
-        &system,
-    )
+    let options = Options::new(true, now, Some(1), None, None);
+    let clock = AskedClock {
+        asked: options.now,
+        system: Fixed(Moment::from_seconds_at_most(SYSTEM)),
+    };
+    serve(alloc, options.pages, reader, writer, &clock)
 }
 
 #[test]
