@@ -10,6 +10,7 @@ mod arrivals;
 mod asker;
 mod channel;
 mod clock;
+mod connection;
 mod end;
 mod link;
 mod links;
@@ -32,7 +33,7 @@ use std::{env, io};
 
 fn main(rt: HostRuntime) -> ExitCode {
     let end = match asked(&rt) {
-        Ok(options) => run(&rt, options, &mut rt.stdin(), &mut rt.stdout()),
+        Ok(options) => run(&rt, rt.stderr(), options, &mut rt.stdin(), &mut rt.stdout()),
         Err(end) => end,
     };
     said(&rt, &end)

@@ -10,7 +10,7 @@ use crate::options::Options;
 use crate::serving::serve;
 use mc_time::SystemClock;
 use std::alloc::AllocGlobal;
-use std::io::{Eprint, Read, Write};
+use std::io::{Read, Stderr, Write};
 use std::net::Net;
 use std::sync::Wait;
 use std::thread::Threads;
@@ -19,9 +19,9 @@ use std::time;
 /// Does what the command line asks for: with `--stdin` it serves one session over the reader and the
 /// writer, by the clock that is asked for; without, it listens by that clock, and neither reads nor
 /// writes here.
-pub fn run<H, R, W>(rt: &H, options: Options, reader: &mut R, writer: &mut W) -> End
+pub fn run<H, R, W>(rt: &H, stderr: Stderr, options: Options, reader: &mut R, writer: &mut W) -> End
 where
-    H: Net + AllocGlobal + Wait + Threads + time::Clock + Eprint + Sync,
+    H: Net + AllocGlobal + Wait + Threads + time::Clock + Sync,
     R: Read,
     W: Write,
     requires { 1 ≤ options.pages × options.pages ≤ 65536 }
@@ -40,6 +40,6 @@ where
     if options.stdin {
         serve(rt.alloc(), options.pages, reader, writer, &clock)
     } else {
-        listen(rt, options, &clock)
+        listen(rt, stderr, options, &clock)
     }
 }
