@@ -116,7 +116,7 @@ def memcached(workers):
 
 
 def mcserver(program, workers):
-    return serving.Server(program, pages=PAGES, workers=workers)
+    return serving.Server(program, pages=PAGES, workers=workers, args=["-c", "16384"])
 
 
 def processor_seconds(server):

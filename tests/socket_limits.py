@@ -31,18 +31,21 @@ def ended(program, args, status, said):
 def bad_lines(program):
     """A command line that says what can't be is refused, and nothing listens."""
     lines = [["-p", "0"], ["-p", "65536"], ["-p", "x"], ["-p", "-1"], ["-p"], ["-t", "0"], ["-t", "65"], ["-t", "x"], ["-t", ""]]
+    lines += [["-c", "0"], ["-c", "65537"], ["-c", "x"], ["-c"], ["-l"], ["-l", ""], ["-l", "x"], ["-l", "127.0.0.1:11211"], ["-l", "127.0.0"], ["-l", "01.0.0.1"], ["-l", ":::"]]
     return [fault for words in lines for fault in ended(program, words, 2, rb"error: .*\n")]
 
 
 def taken_port(program):
-    """A port that another program or another server has is no port for this one, which says so and ends."""
+    """A port that another program or another server has is no port for this one, and no address is that of another machine; it says so and ends."""
     said = rb"mcserver: cannot listen\n"
     with socket.create_server((serving.HOST, 0)) as other:
         found = ended(program, ["-p", str(other.getsockname()[1])], 1, said)
     with Server(program) as server:
         found += ended(program, ["-p", str(server.port), "-t", "64"], 1, said)
         with Peer(server.port) as peer:
-            return found + peer.asks(b"get a\r\n", b"END\r\n")
+            found += peer.asks(b"get a\r\n", b"END\r\n")
+    # (192.0.2.0/24 is for documents, and no machine's)
+    return found + ended(program, ["-l", "192.0.2.1"], 1, said)
 
 
 def signals(program):

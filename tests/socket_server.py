@@ -11,6 +11,8 @@ import serving
 from socket_peers import Late, Peer
 
 MOMENT = 1000
+# So many connections may be open at once, unless a test says another number.
+MOST = 15000
 # A well-behaved client is answered so soon, whatever others do.
 ANSWERED = 2
 # So soon the server has given back what a client held that has gone.
@@ -35,8 +37,8 @@ def until(holds, seconds):
 class Server(serving.Started):
     """A running server whose clock stands. A limit is a kind, how much of it the server has, and how much it may be given later."""
 
-    def __init__(self, program, now=MOMENT, pages=rows.PAGES, workers=4, limit=None):
-        args = ["-c", "15000"] if serving.is_memcached(program) else ["--now", str(now)]
+    def __init__(self, program, now=MOMENT, pages=rows.PAGES, workers=4, limit=None, connections=MOST):
+        args = ["-c", str(connections)] + ([] if serving.is_memcached(program) else ["--now", str(now)])
         wrapped = [sys.executable, "-I", "-S", "-c", LIMITED, *map(str, limit)] if limit else []
         for last in [*[False] * (serving.TRIES - 1), True]:
             port = serving.free_port()

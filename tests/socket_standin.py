@@ -1,7 +1,8 @@
 #!/usr/bin/env python3
 """A slow stand-in for the server: tests/model.py behind sockets. It shows that the tests over sockets can fail.
 
-The environment's LIE says in which way it is wrong; without it, it is right. Options as the program's: -p -t -m --now.
+The environment's LIE says in which way it is wrong; without it, it is right. Options as the program's: -p -t -m -c --now,
+but that -c is read and not used.
 """
 import argparse
 import os
@@ -202,7 +203,7 @@ class Standin:
 def main():
     parser = argparse.ArgumentParser()
     parser.add_argument("--now", type=int, default=int(time.time()))
-    for name, default in (("-p", 11211), ("-t", 4), ("-m", 64)):
+    for name, default in (("-p", 11211), ("-t", 4), ("-m", 64), ("-c", 1024)):
         parser.add_argument(name, type=int, default=default)
     if LIE == "stays":
         for which in (signal.SIGTERM, signal.SIGINT):

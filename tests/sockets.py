@@ -19,6 +19,7 @@ import socket_inputs
 import socket_limits
 import socket_many
 import socket_memory
+import socket_options
 import socket_order
 import socket_rows
 
@@ -27,6 +28,9 @@ STANDIN = f"{HERE}/socket_standin.py"
 TESTS = {
     "command lines that say what can't be": socket_limits.bad_lines,
     "a port that is taken": socket_limits.taken_port,
+    "the address that is asked for": socket_options.addresses,
+    "as many connections as are asked for": socket_options.most_connections,
+    "what is told of connections": socket_options.told,
     "signals that end it": socket_limits.signals,
     "200 connections on keys of their own": socket_many.own_keys,
     "shared keys, in rounds": socket_order.shared_in_rounds,
@@ -48,7 +52,14 @@ RANDOM = "random inputs by 16 connections"
 INPUTS = 100_000
 # In which way the stand-in is wrong, and tests that must notice.
 LIES = {
-    "": ["command lines that say what can't be", "a port that is taken", "little memory"],
+    "": [
+        "command lines that say what can't be",
+        "a port that is taken",
+        "little memory",
+        "the address that is asked for",
+        "as many connections as are asked for",
+        "what is told of connections",
+    ],
     "stays": ["signals that end it"],
     "drops answers": ["200 connections on keys of their own", "shared keys, freely", "clients that read late", RANDOM],
     "doubles answers": ["200 connections on keys of their own", "shared keys, in rounds", RANDOM],

@@ -1,5 +1,7 @@
 -- What is taken of the numbers that the command line asks for.
-use Rattle.std.specs.Prelude.{◌≡◌, ◌≤◌, ℕ, Option, Some, None}
+use Rattle.std.specs.Prelude.{◌≡◌, ◌≤◌, ℕ, [], ◌∷◌, Option, Some, None}
+use Rattle.std.specs.Net.Addr.{ipv4_octets, IsV4And}
+use Rattle.std.specs.declared.net.ip_addr.IpAddr.{IpAddr}
 
 -- from 1 up to the most
 abbrev pub IsUpTo : (most taken : ℕ) → Type 0
@@ -11,3 +13,8 @@ pub record IsAskedFor (asked : Option ℕ) (usual most taken : ℕ) : Type 0 whe
   pub unasked : asked ≡ None → taken ≡ usual
   pub asked_for : (n : ℕ) → asked ≡ Some n → 1 ≤ n → n ≤ most → taken ≡ n
   pub range : IsUpTo most taken
+
+-- the address that is asked for, and 127.0.0.1 where none is
+pub record IsAddressFor (asked : Option IpAddr) (taken : IpAddr) : Type 0 where
+  pub unasked : asked ≡ None → IsV4And taken (λ ip. ipv4_octets ip ≡ 127 ∷ 0 ∷ 0 ∷ 1 ∷ [])
+  pub asked_for : (address : IpAddr) → asked ≡ Some address → taken ≡ address

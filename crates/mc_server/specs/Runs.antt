@@ -1,5 +1,5 @@
 -- What the program serves, by its command line.
-use Rattle.std.specs.Prelude.{◌≡◌, ℕ, List, [], Option, Some, None, Result, Ok, Err}
+use Rattle.std.specs.Prelude.{◌≡◌, ◌≤◌, ◌^◌, ℕ, List, [], Option, Some, None, Result, Ok, Err}
 use Rattle.mc_hop.specs.Hash.{fnv}
 use Rattle.mc_command.specs.Plain.{opening}
 use Rattle.mc_world.specs.Worlds.{WorldState, CanStand}
@@ -28,6 +28,10 @@ new_world hasher pages now = record {
   moment = now;
   sessions = [];
 }
+
+-- what the system's clock may give: any moment
+abbrev pub IsSystemMoment : ℕ → Type 0
+IsSystemMoment now = now ≤ 2 ^ 62
 
 -- the moments of the clock that is asked for: one that stands, or the system's
 abbrev pub moments : Option ℕ → (ℕ → Type 0) → ℕ → Type 0

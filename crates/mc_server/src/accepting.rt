@@ -1,10 +1,11 @@
 //! Accepts connections, and hands them to the workers.
 
 use crate::arrivals::Arrivals;
+use crate::connection::{Connection, Crowd, Parting};
 use mio::Waker;
 use mio::net::TcpStream;
-use std::net::TcpListener;
-use std::sync::Wait;
+use std::net::{SocketAddr, TcpListener};
+use std::sync::{Arc, Wait};
 use std::time::{Clock, Duration};
 use std::{io, thread};
 
@@ -21,7 +22,7 @@ const NO_DESCRIPTOR: [i32; 2] = [23, 24];
 /// What came of an accept.
 #[derive(Drop)]
 enum Came {
-    Connection(TcpStream),
+    Connection(Connection),
     /// One that was closed, or failed before it was accepted.
     Nothing,
     /// The listener has failed.
@@ -35,22 +36,32 @@ enum Came {
 struct Door {
     listener: TcpListener,
     spare: Option<TcpListener>,
+    crowd: Arc<Crowd>,
+    /// How many connections were accepted.
+    count: u64,
 }
 
-/// Accepts connections until the listener fails, and wakes a worker for each, turn about.
+/// Accepts connections until the listener fails, and wakes a worker for each, turn about. One more than
+/// the crowd may have is closed.
 pub fn accept_all<R: Wait + Clock>(
     rt: &R,
     listener: TcpListener,
+    crowd: Arc<Crowd>,
     arrivals: &Arrivals,
     wakers: &[Waker],
 ) {
     let spare = listener.try_clone().ok();
-    let mut door = Door { listener, spare };
+    let mut door = Door {
+        listener,
+        spare,
+        crowd,
+        count: 0,
+    };
     let mut turn = 0;
     for _ in rt.forever() {
         match door.accept(rt) {
-            Came::Connection(stream) => {
-                if arrivals.push(rt, stream) {
+            Came::Connection(connection) => {
+                if arrivals.push(rt, connection) {
                     turn = wake_next(wakers, turn);
                 }
             }
@@ -78,7 +89,7 @@ impl Door {
     /// Waits for the next connection.
     fn accept<R: Clock>(&mut self, rt: &R) -> Came {
         match self.listener.accept() {
-            Ok((stream, _peer)) => unblocked(stream),
+            Ok((stream, peer)) => self.let_in(stream, peer),
             Err(error) if is_one_of(&error, &LASTING) => Came::Failed,
             Err(error) if is_one_of(&error, &NO_DESCRIPTOR) && self.spare.is_some() => {
                 self.accept_by_spare()
@@ -96,22 +107,34 @@ impl Door {
         self.spare = None;
         let accepted = self.listener.accept();
         self.spare = self.listener.try_clone().ok();
-        match accepted {
-            Ok((stream, _peer)) if self.spare.is_some() => unblocked(stream),
-            closed => {
-                drop(closed);
-                self.spare = self.listener.try_clone().ok();
-                Came::Nothing
-            }
+        let Ok((stream, peer)) = accepted else {
+            return Came::Nothing;
+        };
+        if self.spare.is_some() {
+            return self.let_in(stream, peer);
+        }
+        if let Some(mut connection) = self.counted(stream, peer) {
+            connection.note(Parting::NoDescriptor);
+        }
+        self.spare = self.listener.try_clone().ok();
+        Came::Nothing
+    }
+
+    /// Lets a connection in, unless there are as many as there may be.
+    fn let_in(&mut self, stream: std::net::TcpStream, peer: SocketAddr) -> Came {
+        match self.counted(stream, peer) {
+            Some(connection) if !connection.is_one_too_many() => Came::Connection(connection),
+            _closed => Came::Nothing,
         }
     }
-}
 
-/// A connection of which no call waits.
-fn unblocked(stream: std::net::TcpStream) -> Came {
-    match stream.set_nonblocking(true) {
-        Ok(()) => Came::Connection(TcpStream::from_std(stream)),
-        Err(_) => Came::Nothing,
+    /// Counts a connection, of which no call waits.
+    fn counted(&mut self, stream: std::net::TcpStream, peer: SocketAddr) -> Option<Connection> {
+        stream.set_nonblocking(true).ok()?;
+        let crowd = self.crowd.clone().ok()?;
+        self.count = self.count.wrapping_add(1);
+        let stream = TcpStream::from_std(stream);
+        Some(Connection::new(crowd, stream, self.count, peer))
     }
 }
 

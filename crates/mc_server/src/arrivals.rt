@@ -1,7 +1,7 @@
 //! Connections that were accepted, on their way to the workers.
 
+use crate::connection::{Connection, Parting};
 use crossbeam_queue::ArrayQueue;
-use mio::net::TcpStream;
 use std::alloc::{AllocError, Global};
 use std::sync::Wait;
 use std::sync::atomic::{AtomicBool, AtomicU64, Ordering};
@@ -13,7 +13,7 @@ pub const WAITING: usize = 1024;
 /// that are awake would take them all, and the others rest.
 #[derive(Drop)]
 pub struct Arrivals {
-    queue: ArrayQueue<TcpStream>,
+    queue: ArrayQueue<Connection>,
     /// How many have waited until now.
     count: AtomicU64,
     is_over: AtomicBool,
@@ -31,16 +31,21 @@ impl Arrivals {
 
     /// Lets a connection wait for a worker, and says whether it does: one that finds the queue full is
     /// closed.
-    pub fn push<R: Wait>(&self, rt: &R, stream: TcpStream) -> bool {
-        let waits = self.queue.push(rt, stream).is_ok();
-        if waits {
-            self.count.fetch_add(1, Ordering::SeqCst);
+    pub fn push<R: Wait>(&self, rt: &R, connection: Connection) -> bool {
+        match self.queue.push(rt, connection) {
+            Ok(()) => {
+                self.count.fetch_add(1, Ordering::SeqCst);
+                true
+            }
+            Err(mut connection) => {
+                connection.note(Parting::QueueFull);
+                false
+            }
         }
-        waits
     }
 
     /// Gives a connection that waits, where one was dealt to this worker.
-    pub fn pop<R: Wait>(&self, rt: &R, share: &mut Share) -> Option<TcpStream> {
+    pub fn pop<R: Wait>(&self, rt: &R, share: &mut Share) -> Option<Connection> {
         if share.next >= self.count.load(Ordering::SeqCst) {
             return None;
         }

@@ -1,7 +1,7 @@
 //! A connection, and what the system last said of it.
 ghost use Rattle.std.specs.Io.{ReadsAtMost, WritesAtMost};
 
-use mio::net::TcpStream;
+use crate::connection::{Connection, Parting};
 use std::alloc::Global;
 use std::cell::Cell;
 use std::io::{self, ErrorKind, IoSlice, Read, Write};
@@ -51,16 +51,16 @@ impl Readiness {
 /// and an event that comes between a call and the next poll waits in the system, so none is lost.
 #[derive(Drop)]
 pub struct Channel {
-    stream: TcpStream,
+    connection: Connection,
     readiness: Rc<Cell<Readiness>>,
     gathered: Vec<u8>,
 }
 
 impl Channel {
-    /// Makes a channel of a stream that doesn't block. It takes no memory.
-    pub fn new(alloc: Global, stream: TcpStream, readiness: Rc<Cell<Readiness>>) -> Channel {
+    /// Makes a channel of a connection that doesn't block. It takes no memory.
+    pub fn new(alloc: Global, connection: Connection, readiness: Rc<Cell<Readiness>>) -> Channel {
         Channel {
-            stream,
+            connection,
             readiness,
             gathered: Vec::new(alloc),
         }
@@ -87,6 +87,7 @@ impl Channel {
         self.flush()?;
         let known = self.readiness.get();
         if known.is_over {
+            self.connection.note(Parting::ListenerFailed);
             return Ok(0);
         }
         if !known.reads {
@@ -100,7 +101,11 @@ impl Channel {
         ensures { ReadsAtMost result piece.new }
     {
         let wanted = piece.len();
-        match self.stream.read(piece) {
+        match self.connection.stream.read(piece) {
+            Ok(0) => {
+                self.connection.note(Parting::Ended);
+                Ok(0)
+            }
             Ok(count) => {
                 // where the other end has closed, its last bytes and the end came as one event
                 if count < wanted && !known.is_final {
@@ -118,7 +123,10 @@ impl Channel {
                 });
                 Err(self.later())
             }
-            Err(error) => Err(error),
+            Err(error) => {
+                self.connection.note(Parting::ReadFault);
+                Err(error)
+            }
         }
     }
 
@@ -163,10 +171,10 @@ impl Channel {
         }
         let before = self.gathered.len();
         let sent = if bytes.is_empty() {
-            self.stream.write(self.gathered.as_slice())
+            self.connection.stream.write(self.gathered.as_slice())
         } else {
             let parts = [IoSlice::new(self.gathered.as_slice()), IoSlice::new(bytes)];
-            self.stream.write_vectored(&parts)
+            self.connection.stream.write_vectored(&parts)
         };
         match sent {
             Ok(count) => {
@@ -187,6 +195,7 @@ impl Channel {
                 Ok(0)
             }
             Err(error) => {
+                self.connection.note(Parting::WriteFault);
                 self.gathered.clear();
                 Err(error)
             }
@@ -210,6 +219,7 @@ impl Channel {
         }
         let known = self.readiness.get();
         if known.is_over {
+            self.connection.note(Parting::ListenerFailed);
             return io::Error::from(ErrorKind::ConnectionAborted);
         }
         self.readiness.set(Readiness {

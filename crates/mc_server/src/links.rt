@@ -2,11 +2,11 @@
 
 use crate::arrivals::{Arrivals, Share, WAITING};
 use crate::channel::{Channel, Readiness};
+use crate::connection::{Connection, Parting};
 use crate::link::SocketLink;
 use crate::yard::Yard;
 use mc_workers::{Links, Next};
 use mio::event::Event;
-use mio::net::TcpStream;
 use mio::{Events, Interest, Poll, Token};
 use std::alloc::Global;
 use std::cell::{Cell, RefCell};
@@ -103,17 +103,21 @@ impl<'a, R: Wait> SocketLinks<'a, R> {
 
     /// Makes a link of a connection. One that can't be registered, or for which there is no memory, is
     /// closed.
-    fn open(&mut self, stream: TcpStream) -> Option<SocketLink> {
-        let mut stream = stream;
+    fn open(&mut self, connection: Connection) -> Option<SocketLink> {
+        let mut connection = connection;
         // an answer is sent at once; where that can't be set it comes later
-        let _ = stream.set_nodelay(true);
+        let _ = connection.stream.set_nodelay(true);
         let readiness = Rc::new(self.alloc, Cell::new(Readiness::NEW)).ok()?;
         let yard = self.shared_yard()?;
         let at = self.settle(&yard, readiness.clone().ok()?)?;
         let both = Interest::READABLE | Interest::WRITABLE;
         let token = Token(at.saturating_add(1));
-        let registered = self.poll.registry().register(&mut stream, token, both);
-        let channel = Channel::new(self.alloc, stream, readiness);
+        let stream = &mut connection.stream;
+        let registered = self.poll.registry().register(stream, token, both);
+        if registered.is_ok() {
+            connection.note(Parting::SessionOver);
+        }
+        let channel = Channel::new(self.alloc, connection, readiness);
         let link = SocketLink::new(channel, at, yard);
         registered.ok()?;
         self.given = self.given.wrapping_add(1);
@@ -194,14 +198,14 @@ impl<'a, R: Wait> Links<SocketLink> for SocketLinks<'a, R> {
             self.look(Duration::ZERO);
         }
         for _one in 0..WAITING {
-            let Some(stream) = self.arrivals.pop(self.rt, &mut self.share) else {
+            let Some(connection) = self.arrivals.pop(self.rt, &mut self.share) else {
                 if self.arrivals.is_over() {
                     self.end_all();
                     return Next::Closed;
                 }
                 return Next::Later;
             };
-            if let Some(link) = self.open(stream) {
+            if let Some(link) = self.open(connection) {
                 return Next::Link(link);
             }
         }

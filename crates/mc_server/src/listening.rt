@@ -1,10 +1,12 @@
 //! Serves connections by workers in threads.
-ghost use Rattle.std.specs.Prelude.{◌≤◌};
+ghost use Rattle.std.specs.Prelude.{◌≡◌, ◌≤◌};
 ghost use Rattle.mc_server.specs.Ends.{EndsListening};
 
 use crate::accepting::accept_all;
 use crate::arrivals::{Arrivals, Share};
 use crate::asker::Asker;
+use crate::clock::AskedClock;
+use crate::connection::Crowd;
 use crate::end::End;
 use crate::links::{EVENTS, SocketLinks, WAKER};
 use crate::options::Options;
@@ -15,9 +17,9 @@ use mc_shared::Shared;
 use mc_time::Clock;
 use mio::{Events, Poll, Waker};
 use std::alloc::{AllocError, AllocGlobal, Global};
-use std::io::{self, Eprint};
-use std::net::{Ipv4Addr, Net, SocketAddr, TcpListener};
-use std::sync::Wait;
+use std::io::{self, Stderr};
+use std::net::{Net, SocketAddr, TcpListener};
+use std::sync::{Arc, Wait};
 use std::thread::{Builder, Threads};
 use std::{thread, time};
 
@@ -50,16 +52,17 @@ impl From<AllocError> for Wanting {
     }
 }
 
-/// Listens on 127.0.0.1 at the port of the options, and serves the connections by so many workers over
-/// one store, until the listener fails.
-pub fn listen<R, C>(rt: &R, options: Options, clock: &C) -> End
+/// Listens at the address and the port of the options, and serves the connections, so many at once, by so
+/// many workers over one store, by the clock that is asked for, until the listener fails.
+pub fn listen<R, S>(rt: &R, stderr: Stderr, options: Options, clock: &AskedClock<S>) -> End
 where
-    R: Net + AllocGlobal + Wait + Threads + time::Clock + Eprint + Sync,
-    C: Clock + Sync,
-    requires { 1 ≤ options.pages × options.pages ≤ 65536 }
+    R: Net + AllocGlobal + Wait + Threads + time::Clock + Sync,
+    S: Clock + Sync,
+    requires pages { 1 ≤ options.pages × options.pages ≤ 65536 }
+    requires clock { clock.now.asked ≡ options.now }
     ensures { EndsListening result }
 {
-    match begin(rt, options, clock) {
+    match begin(rt, stderr, options, clock) {
         Ok(()) => End::Served(Err(ServeFault::Read)),
         Err(Wanting::Listener) => End::CannotListen,
         Err(Wanting::Memory) => End::NoMemory,
@@ -68,25 +71,27 @@ where
 
 /// Makes the listener, the store and the workers' posts, and serves until the listener fails; or says
 /// what was wanting.
-fn begin<R, C>(rt: &R, options: Options, clock: &C) -> Result<(), Wanting>
+fn begin<R, C>(rt: &R, stderr: Stderr, options: Options, clock: &C) -> Result<(), Wanting>
 where
-    R: Net + AllocGlobal + Wait + Threads + time::Clock + Eprint + Sync,
+    R: Net + AllocGlobal + Wait + Threads + time::Clock + Sync,
     C: Clock + Sync,
     requires { 1 ≤ options.pages × options.pages ≤ 65536 }
 {
     let alloc = rt.alloc();
-    let listener = bound(rt, options.port).map_err(|_| Wanting::Listener)?;
+    let address = SocketAddr::from((options.address, options.port));
+    let listener = bound(rt, address).map_err(|_| Wanting::Listener)?;
     let (shared, caller) = Shared::new(alloc, settings_of(options.pages), Fnv)?;
     let arrivals = Arrivals::new(alloc)?;
     let posts = make_posts(rt, alloc, options.workers)?;
-    say(rt, options);
+    let told = if options.verbose { Some(stderr) } else { None };
+    let crowd = Crowd::new(alloc, options.connections, told)?;
+    say(stderr, options, address);
     let asker = Asker::new(&shared, caller);
-    serve_by(rt, alloc, listener, &arrivals, posts, asker, clock)
+    serve_by(rt, alloc, listener, crowd, &arrivals, posts, asker, clock)
 }
 
 /// Binds the listener, whose accepts wait.
-pub fn bound<R: Net>(rt: &R, port: u16) -> io::Result<TcpListener> {
-    let address = SocketAddr::from((Ipv4Addr::LOCALHOST, port));
+pub fn bound<R: Net>(rt: &R, address: SocketAddr) -> io::Result<TcpListener> {
     // std's listener lets 128 connections wait, this one as many as the system allows
     let listener = TcpListener::from(mio::net::TcpListener::bind(rt, address)?);
     listener.set_nonblocking(false)?;
@@ -121,18 +126,18 @@ fn watched<R: Net>(rt: &R) -> io::Result<(Poll, Waker)> {
     Ok((poll, waker))
 }
 
-/// Says on standard error where it listens, and what it has.
-fn say<R: Eprint>(rt: &R, options: Options) {
-    let Options {
-        port,
-        pages,
-        workers,
-        ..
-    } = options;
+/// Says on standard error where it listens, and what it has; and warns where others than this machine can
+/// reach it.
+fn say(stderr: Stderr, options: Options, address: SocketAddr) {
+    let Options { pages, workers, .. } = options;
     // where standard error is closed it serves all the same
-    let _ = eprintln!(rt;
-        "mcserver: listening on 127.0.0.1:{port}, {pages} pages, {workers} workers"
-    );
+    let _ = eprintln!(stderr; "mcserver: listening on {address}, {pages} pages, {workers} workers");
+    let ip = options.address;
+    if !ip.to_canonical().is_loopback() {
+        let _ = eprintln!(stderr;
+            "mcserver: warning: the protocol has no passwords, and {ip} isn't this machine's alone"
+        );
+    }
 }
 
 /// Starts a worker at each post, and accepts connections for them until the listener fails.
@@ -140,6 +145,7 @@ fn serve_by<R, C>(
     rt: &R,
     alloc: Global,
     listener: TcpListener,
+    crowd: Arc<Crowd>,
     arrivals: &Arrivals,
     posts: Posts,
     asker: Asker<'_>,
@@ -163,7 +169,7 @@ where
                     return Err(Wanting::Memory);
                 }
             }
-            accept_all(rt, listener, arrivals, wakers.as_slice());
+            accept_all(rt, listener, crowd, arrivals, wakers.as_slice());
             Ok(())
         },
     )

@@ -9,11 +9,14 @@ mod accepting;
 mod arrivals;
 mod asker;
 mod channel;
+mod clock;
+mod connection;
 mod end;
 mod link;
 mod links;
 mod listening;
 mod options;
+mod running;
 mod serving;
 #[cfg(test)]
 mod tcp_tests;
@@ -23,30 +26,17 @@ mod yard;
 
 use clap::error::ErrorKind;
 use end::End;
-use mc_time::{Fixed, SystemClock};
 use options::Options;
+use running::run;
 use std::process::ExitCode;
 use std::{env, io};
 
 fn main(rt: HostRuntime) -> ExitCode {
     let end = match asked(&rt) {
-        Ok(options) if options.stdin => session(&rt, options),
-        Ok(options) => match options.now {
-            Some(moment) => listening::listen(&rt, options, &Fixed(moment)),
-            None => listening::listen(&rt, options, &SystemClock::new(&rt)),
-        },
+        Ok(options) => run(&rt, rt.stderr(), options, &mut rt.stdin(), &mut rt.stdout()),
         Err(end) => end,
     };
     said(&rt, &end)
-}
-
-/// Serves a session over the program's own streams.
-fn session(rt: &HostRuntime, options: Options) -> End
-    requires { 1 ≤ options.pages × options.pages ≤ 65536 }
-{
-    let (mut input, mut output) = (rt.stdin(), rt.stdout());
-    let system = SystemClock::new(rt);
-    serving::serve(rt.alloc(), options, &mut input, &mut output, &system)
 }
 
 /// What the command line asks for; or how the program ends without it.

@@ -1,10 +1,12 @@
 //! What the command line asks for.
 ghost use Rattle.std.specs.Prelude.{◌≡◌, ◌≤◌, ◌^◌, min, option_map, IfOk};
-ghost use Rattle.mc_server.specs.Asked.{IsAskedFor};
+ghost use Rattle.mc_server.specs.Asked.{IsAskedFor, IsAddressFor};
 
+use clap::error::ErrorKind;
 use clap::{Arg, ArgAction, Command, Error, value_parser};
 use mc_time::Moment;
-use std::alloc::Global;
+use std::alloc::{AllocError, Global};
+use std::net::{AddrParseError, IpAddr, Ipv4Addr};
 
 /// The version of memcached's protocol that is spoken, as `version` answers it.
 const VERSION: &str = "1.6.0";
@@ -14,6 +16,12 @@ const MOST_PAGES: u32 = 65536;
 
 /// The most workers that there may be.
 const MOST_WORKERS: u32 = 64;
+
+/// The most connections that may be open at once, at most.
+const MOST_CONNECTIONS: u32 = 65536;
+
+/// The connections that may be open at once where the command line says nothing of them.
+const CONNECTIONS: u32 = 1024;
 
 /// The port where the command line says nothing of it.
 const PORT: u16 = 11211;
@@ -31,6 +39,27 @@ Exit status:
   1  a read or a write failed, memory ran out, or it can't listen
   2  the command line is bad";
 
+/// What `clap` found on the command line.
+#[derive(Clone, Copy)]
+pub struct Asked {
+    /// `--stdin` is there.
+    pub stdin: bool,
+    /// The seconds of `--now`.
+    pub now: Option<u64>,
+    /// The pages of `-m`.
+    pub pages: Option<u32>,
+    /// The address of `-l`.
+    pub address: Option<IpAddr>,
+    /// The port of `-p`.
+    pub port: Option<u16>,
+    /// The workers of `-t`.
+    pub workers: Option<u32>,
+    /// The connections of `-c`.
+    pub connections: Option<u32>,
+    /// `-v` is there.
+    pub verbose: bool,
+}
+
 /// What the command line asks for.
 #[derive(Clone, Copy)]
 pub struct Options {
@@ -40,45 +69,56 @@ pub struct Options {
     pub now: Option<Moment>,
     /// How many pages of 1 MiB the store may have, 1 to 65536.
     pub pages: u32,
+    /// At which address it listens.
+    pub address: IpAddr,
     /// At which TCP port it listens, 1 to 65535.
     pub port: u16,
     /// How many workers serve the connections, 1 to 64.
     pub workers: u32,
+    /// How many connections may be open at once, 1 to 65536.
+    pub connections: u32,
+    /// Each connection that opens or closes is told of.
+    pub verbose: bool,
 }
 
 impl Options {
-    /// Makes options of what `clap` found: whether `--stdin` is there, the seconds of `--now`, the
-    /// pages of `-m`, the port of `-p` and the workers of `-t`. Where they aren't asked for the store
-    /// has 64 pages, the port is 11211, and there are 4 workers. What is out of range, which `clap`
-    /// refuses, is brought into it.
-    pub fn new(
-        stdin: bool,
-        now: Option<u64>,
-        pages: Option<u32>,
-        port: Option<u16>,
-        workers: Option<u32>,
-    ) -> Options
-        ensures stdin { result.stdin ≡ stdin }
-        ensures now { result.now ≡ option_map (min (2 ^ 62)) now }
-        ensures pages { IsAskedFor pages 64 65536 result.pages }
-        ensures port { IsAskedFor port 11211 65535 result.port }
-        ensures workers { IsAskedFor workers 4 64 result.workers }
+    /// Makes options of what `clap` found. Where they aren't asked for the store has 64 pages, the
+    /// address is 127.0.0.1, the port is 11211, there are 4 workers, and at most 1024 connections are
+    /// open at once. What is out of range, which `clap` refuses, is brought into it.
+    pub fn new(asked: Asked) -> Options
+        ensures stdin { result.stdin ≡ asked.stdin }
+        ensures now { result.now ≡ option_map (min (2 ^ 62)) asked.now }
+        ensures pages { IsAskedFor asked.pages 64 65536 result.pages }
+        ensures address { IsAddressFor asked.address result.address }
+        ensures port { IsAskedFor asked.port 11211 65535 result.port }
+        ensures workers { IsAskedFor asked.workers 4 64 result.workers }
+        ensures connections { IsAskedFor asked.connections 1024 65536 result.connections }
+        ensures verbose { result.verbose ≡ asked.verbose }
     {
         Options {
-            stdin,
-            now: now.map(Moment::from_seconds_at_most),
-            pages: match pages {
+            stdin: asked.stdin,
+            now: asked.now.map(Moment::from_seconds_at_most),
+            pages: match asked.pages {
                 Some(pages) => pages.clamp(1, MOST_PAGES),
                 None => PAGES,
             },
-            port: match port {
+            address: match asked.address {
+                Some(address) => address,
+                None => IpAddr::V4(Ipv4Addr::LOCALHOST),
+            },
+            port: match asked.port {
                 Some(port) => port.max(1),
                 None => PORT,
             },
-            workers: match workers {
+            workers: match asked.workers {
                 Some(workers) => workers.clamp(1, MOST_WORKERS),
                 None => WORKERS,
             },
+            connections: match asked.connections {
+                Some(connections) => connections.clamp(1, MOST_CONNECTIONS),
+                None => CONNECTIONS,
+            },
+            verbose: asked.verbose,
         }
     }
 }
@@ -88,19 +128,58 @@ pub fn parsed(alloc: Global, words: &[String]) -> Result<Options, Error>
     ensures pages { IfOk result (λ options. 1 ≤ options.pages × options.pages ≤ 65536) }
     ensures port { IfOk result (λ options. 1 ≤ options.port) }
     ensures workers { IfOk result (λ options. 1 ≤ options.workers × options.workers ≤ 64) }
+    ensures connections { IfOk result (λ options.
+        1 ≤ options.connections × options.connections ≤ 65536) }
 {
-    let matches = command(alloc)?.try_get_matches_from(words)?;
-    Ok(Options::new(
-        matches.get_flag("stdin"),
-        matches.get_one::<u64>("now"),
-        matches.get_one::<u32>("pages"),
-        matches.get_one::<u16>("port"),
-        matches.get_one::<u32>("workers"),
-    ))
+    let mut command = command(alloc)?;
+    let matches = command.try_get_matches_from_mut(words)?;
+    let address = match matches.try_get_one::<IpAddr>("address") {
+        Ok(address) => address,
+        Err(error) => {
+            let text = matches.get_str("address").unwrap_or("");
+            return Err(no_address(alloc, &mut command, text, &error)?);
+        }
+    };
+    Ok(Options::new(Asked {
+        stdin: matches.get_flag("stdin"),
+        now: matches.get_one::<u64>("now"),
+        pages: matches.get_one::<u32>("pages"),
+        address,
+        port: matches.get_one::<u16>("port"),
+        workers: matches.get_one::<u32>("workers"),
+        connections: matches.get_one::<u32>("connections"),
+        verbose: matches.get_flag("verbose"),
+    }))
+}
+
+/// The error of an address that is none, in the words that `clap` has for a number that is none. The one
+/// error of its own is a refused allocation.
+fn no_address(
+    alloc: Global,
+    command: &mut Command<'_>,
+    text: &str,
+    error: &AddrParseError,
+) -> Result<Error, AllocError> {
+    let message = format!(in alloc; "invalid value '{text}' for '-l <ADDR>': {error}")?;
+    command.error(ErrorKind::ValueValidation, message.as_str())
 }
 
 /// The options that there are.
 fn command<'a>(alloc: Global) -> Result<Command<'a>, Error> {
+    let command = Command::new(alloc, "mcserver")
+        .bin_name("mcserver")?
+        .version(VERSION)
+        .about("A cache server that speaks memcached's text protocol")
+        .after_help(STATUSES);
+    let command = with_session_options(alloc, command)?;
+    Ok(with_listening_options(alloc, command)?)
+}
+
+/// Adds the options of which a session over standard input and output has a use.
+fn with_session_options<'a>(
+    alloc: Global,
+    command: Command<'a>,
+) -> Result<Command<'a>, AllocError> {
     let stdin = Arg::new(alloc, "stdin")
         .long("stdin")
         .action(ArgAction::SetTrue)
@@ -117,27 +196,45 @@ fn command<'a>(alloc: Global) -> Result<Command<'a>, Error> {
         .action(ArgAction::Set)
         .value_parser(value_parser!(u32).range(1..=i64::from(MOST_PAGES)))
         .help("Keep items in at most N pages of 1 MiB, 1 to 65536 [default: 64]");
+    command.arg(stdin)?.arg(now)?.arg(pages)
+}
+
+/// Adds the options of a program that listens.
+fn with_listening_options<'a>(
+    alloc: Global,
+    command: Command<'a>,
+) -> Result<Command<'a>, AllocError> {
+    let address = Arg::new(alloc, "address")
+        .short('l')
+        .value_name("ADDR")
+        .action(ArgAction::Set)
+        .help("Listen at the IP address ADDR [default: 127.0.0.1]");
     let port = Arg::new(alloc, "port")
         .short('p')
         .value_name("N")
         .action(ArgAction::Set)
         .value_parser(value_parser!(u16).range(1..=i64::from(u16::MAX)))
-        .help("Listen on 127.0.0.1 at TCP port N, 1 to 65535 [default: 11211]");
+        .help("Listen at TCP port N, 1 to 65535 [default: 11211]");
     let workers = Arg::new(alloc, "workers")
         .short('t')
         .value_name("N")
         .action(ArgAction::Set)
         .value_parser(value_parser!(u32).range(1..=i64::from(MOST_WORKERS)))
         .help("Serve connections by N workers, 1 to 64 [default: 4]");
-    Command::new(alloc, "mcserver")
-        .bin_name("mcserver")?
-        .version(VERSION)
-        .about("A cache server that speaks memcached's text protocol")
-        .after_help(STATUSES)
-        .arg(stdin)?
-        .arg(now)?
-        .arg(pages)?
+    let connections = Arg::new(alloc, "connections")
+        .short('c')
+        .value_name("N")
+        .action(ArgAction::Set)
+        .value_parser(value_parser!(u32).range(1..=i64::from(MOST_CONNECTIONS)))
+        .help("Have at most N connections open, 1 to 65536 [default: 1024]");
+    let verbose = Arg::new(alloc, "verbose")
+        .short('v')
+        .action(ArgAction::SetTrue)
+        .help("Tell of each connection that opens or closes, on standard error");
+    command
+        .arg(address)?
         .arg(port)?
-        .arg(workers)
-        .map_err(Error::from)
+        .arg(workers)?
+        .arg(connections)?
+        .arg(verbose)
 }

@@ -1,13 +1,12 @@
-//! What the program serves, by its command line.
+//! One session over a reader and a writer.
 ghost use Rattle.std.specs.Prelude.{◌≡◌, ◌≤◌};
-ghost use Rattle.mc_server.specs.Runs.{moments, set_up, Serves, EndsServed};
+ghost use Rattle.mc_server.specs.Runs.{set_up, Serves, EndsServed};
 
 use crate::end::End;
-use crate::options::Options;
 use mc_hop::Fnv;
 use mc_session::ServeFault;
 use mc_shelf::Settings;
-use mc_time::{Clock, Fixed};
+use mc_time::Clock;
 use mc_world::{World, serve_one};
 use std::alloc::Global;
 use std::io::{Read, Write};
@@ -18,29 +17,24 @@ const SHELVES: u32 = 64;
 /// The greatest charge of an item, in bytes: one page.
 const GREATEST: u64 = 1_048_576;
 
-/// Serves what the command line asks for: one session over the reader and the writer, to its end, in
-/// a new world whose store may have the pages that were asked for. Its clock stands where that was
-/// asked for, and is the system's otherwise.
+/// Serves one session over the reader and the writer, to its end, in a new world whose store may have so
+/// many pages, at the clock's moments.
 pub fn serve<R: Read, W: Write, C: Clock>(
     alloc: Global,
-    options: Options,
+    pages: u32,
     reader: &mut R,
     writer: &mut W,
-    system: &C,
+    clock: &C,
 ) -> End
-    requires { 1 ≤ options.pages × options.pages ≤ 65536 }
-    ensures { EndsServed options.pages (moments options.now (C.may_give system.now))
+    requires { 1 ≤ pages × pages ≤ 65536 }
+    ensures { EndsServed pages (C.may_give clock.now)
         (R.remaining reader.old) (R.remaining reader.new)
         (W.contents writer.old) (W.contents writer.new) result }
 {
-    let pages = options.pages;
-    End::Served(match options.now {
-        Some(moment) => session(alloc, pages, reader, writer, &Fixed(moment)),
-        None => session(alloc, pages, reader, writer, system),
-    })
+    End::Served(session(alloc, pages, reader, writer, clock))
 }
 
-/// Serves one session in a new world with a store of so many pages, at the clock's moments.
+/// How a session in a new world ends.
 fn session<R: Read, W: Write, C: Clock>(
     alloc: Global,
     pages: u32,

@@ -2,13 +2,14 @@
 
 use crate::arrivals::{Arrivals, Share};
 use crate::asker::Asker;
+use crate::connection::{Connection, Crowd};
 use crate::links::{EVENTS, SocketLinks};
 use crate::listening::bound;
 use crate::serving::settings_of;
 use mc_hop::Fnv;
 use mc_shared::Shared;
 use mc_time::{Fixed, Moment};
-use mio::net::TcpStream as Connection;
+use mio::net::TcpStream as Stream;
 use mio::{Events, Poll};
 use std::io::{Read, Write};
 use std::net::{Ipv4Addr, Net, Shutdown, SocketAddr, TcpListener, TcpStream};
@@ -21,15 +22,17 @@ where
     R: Net<Listener = TcpListener, Stream = TcpStream> + AllocGlobal + Wait,
 {
     let alloc = rt.alloc();
-    let listener = bound(rt, 0)?;
+    let listener = bound(rt, SocketAddr::from((Ipv4Addr::LOCALHOST, 0)))?;
     let address = SocketAddr::from((Ipv4Addr::LOCALHOST, listener.local_addr()?.port()));
     let mut client = TcpStream::connect(rt, address)?;
     client.write_all(input)?;
     client.shutdown(Shutdown::Write)?;
-    let (stream, _peer) = listener.accept()?;
+    let (stream, peer) = listener.accept()?;
     stream.set_nonblocking(true)?;
     let arrivals = Arrivals::new(alloc)?;
-    arrivals.push(rt, Connection::from_std(stream));
+    let crowd = Crowd::new(alloc, 1, None)?;
+    let stream = Stream::from_std(stream);
+    arrivals.push(rt, Connection::new(crowd, stream, 1, peer));
     arrivals.end();
     let (shared, caller) = Shared::new(alloc, settings_of(1), Fnv)?;
     let events = Events::with_capacity(alloc, EVENTS)?;

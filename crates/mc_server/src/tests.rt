@@ -1,7 +1,8 @@
 //! What is served of a command line, over streams that a test holds.
 
+use crate::clock::AskedClock;
 use crate::end::{End, ending};
-use crate::options::Options;
+use crate::options::{Asked, Options};
 use crate::serving::serve;
 use mc_session::ServeFault;
 use mc_testing::{Drip, Sip};
@@ -22,14 +23,21 @@ const SYSTEM: u64 = 2_999_999;
 
 /// How a session is served with the clock that is asked for.
 fn served(alloc: Global, now: Option<u64>, reader: &mut Drip<'_>, writer: &mut Sip) -> End {
-    let system = Fixed(Moment::from_seconds_at_most(SYSTEM));
-    serve(
-        alloc,
-        Options::new(true, now, Some(1), None, None),
-        reader,
-        writer,
-        &system,
-    )
+    let options = Options::new(Asked {
+        stdin: true,
+        now,
+        pages: Some(1),
+        address: None,
+        port: None,
+        workers: None,
+        connections: None,
+        verbose: false,
+    });
+    let clock = AskedClock {
+        asked: options.now,
+        system: Fixed(Moment::from_seconds_at_most(SYSTEM)),
+    };
+    serve(alloc, options.pages, reader, writer, &clock)
 }
 
 #[test]

@@ -1,0 +1,135 @@
+//! Connections, which are counted while they are open, and told of where that is asked for.
+
+use mio::net::TcpStream;
+use std::alloc::{AllocError, Global};
+use std::io::Stderr;
+use std::net::SocketAddr;
+use std::sync::Arc;
+use std::sync::atomic::{AtomicU32, Ordering};
+
+/// Why a connection is closed.
+#[derive(Clone, Copy, Debug)]
+pub enum Parting {
+    /// There are as many as there may be.
+    OneTooMany,
+    /// The system has no descriptor for it.
+    NoDescriptor,
+    /// As many as may wait for a worker do.
+    QueueFull,
+    /// There is no memory for it, or the system can't watch it.
+    NoRoom,
+    /// The other end sends no more.
+    Ended,
+    ReadFault,
+    WriteFault,
+    /// Its session closed it, or had no memory.
+    SessionOver,
+    /// The listener has failed, and the program ends.
+    ListenerFailed,
+}
+
+impl Parting {
+    /// Gives the words for it.
+    fn text(self) -> &'static str {
+        match self {
+            Parting::OneTooMany => "one more than -c allows",
+            Parting::NoDescriptor => "no descriptor is left",
+            Parting::QueueFull => "too many wait for a worker",
+            Parting::NoRoom => "no memory for it",
+            Parting::Ended => "the client closed it",
+            Parting::ReadFault => "read fault",
+            Parting::WriteFault => "write fault",
+            Parting::SessionOver => "quit, a line too long, or out of memory",
+            Parting::ListenerFailed => "the listener failed",
+        }
+    }
+}
+
+/// The connections that are open.
+#[derive(Drop)]
+pub struct Crowd {
+    /// How many may be open at once.
+    most: u32,
+    open: AtomicU32,
+    /// Where each is told of; none where that isn't asked for.
+    told: Option<Stderr>,
+}
+
+impl Crowd {
+    /// Has no connections yet. The one error is a refused allocation.
+    pub fn new(alloc: Global, most: u32, told: Option<Stderr>) -> Result<Arc<Crowd>, AllocError> {
+        let crowd = Crowd {
+            most,
+            open: AtomicU32::new(0),
+            told,
+        };
+        Arc::new(alloc, crowd).map_err(|_| AllocError)
+    }
+
+    /// Counts a connection, and says whether there were as many as there may be.
+    fn enter(&self, number: u64, peer: SocketAddr) -> bool {
+        if let Some(stderr) = self.told {
+            // where standard error is closed it serves all the same
+            let _ = eprintln!(stderr; "mcserver: connection {number} from {peer} opened");
+        }
+        self.open.fetch_add(1, Ordering::SeqCst) >= self.most
+    }
+
+    /// Counts a connection no more, which was closed for this.
+    fn leave(&self, number: u64, parting: Parting) {
+        self.open.fetch_sub(1, Ordering::SeqCst);
+        if let Some(stderr) = self.told {
+            let why = parting.text();
+            let _ = eprintln!(stderr; "mcserver: connection {number} closed: {why}");
+        }
+    }
+}
+
+/// A connection that doesn't block. It is counted from its making until it is dropped, which closes it.
+pub struct Connection {
+    pub stream: TcpStream,
+    crowd: Arc<Crowd>,
+    number: u64,
+    parting: Parting,
+}
+
+impl Connection {
+    /// Counts one more connection, which has this number among all that were accepted. It takes no
+    /// memory.
+    pub fn new(crowd: Arc<Crowd>, stream: TcpStream, number: u64, peer: SocketAddr) -> Connection {
+        let parting = if crowd.enter(number, peer) {
+            Parting::OneTooMany
+        } else {
+            Parting::NoRoom
+        };
+        Connection {
+            stream,
+            crowd,
+            number,
+            parting,
+        }
+    }
+
+    /// Says whether there were as many before it as there may be.
+    pub fn is_one_too_many(&self) -> bool {
+        matches!(self.parting, Parting::OneTooMany)
+    }
+
+    /// Notes why it will be closed, if it is closed next.
+    pub fn note(&mut self, parting: Parting) {
+        self.parting = parting;
+    }
+}
+
+impl Drop for Connection {
+    fn drop(self) {
+        let Connection {
+            stream,
+            crowd,
+            number,
+            parting,
+        } = self;
+        drop(stream);
+        crowd.leave(number, parting);
+    }
+}

@@ -1,0 +1,45 @@
+//! What the program does, by its command line.
+ghost use Rattle.std.specs.Prelude.{◌≡◌, ◌≤◌, true, false};
+ghost use Rattle.mc_server.specs.Ends.{EndsListening};
+ghost use Rattle.mc_server.specs.Runs.{moments, IsSystemMoment, EndsServed};
+
+use crate::clock::AskedClock;
+use crate::end::End;
+use crate::listening::listen;
+use crate::options::Options;
+use crate::serving::serve;
+use mc_time::SystemClock;
+use std::alloc::AllocGlobal;
+use std::io::{Read, Stderr, Write};
+use std::net::Net;
+use std::sync::Wait;
+use std::thread::Threads;
+use std::time;
+
+/// Does what the command line asks for: with `--stdin` it serves one session over the reader and the
+/// writer, by the clock that is asked for; without, it listens by that clock, and neither reads nor
+/// writes here.
+pub fn run<H, R, W>(rt: &H, stderr: Stderr, options: Options, reader: &mut R, writer: &mut W) -> End
+where
+    H: Net + AllocGlobal + Wait + Threads + time::Clock + Sync,
+    R: Read,
+    W: Write,
+    requires { 1 ≤ options.pages × options.pages ≤ 65536 }
+    ensures serves { options.stdin ≡ true
+        → EndsServed options.pages (moments options.now IsSystemMoment)
+        (R.remaining reader.old) (R.remaining reader.new)
+        (W.contents writer.old) (W.contents writer.new) result }
+    ensures listens { options.stdin ≡ false → EndsListening result }
+    ensures reads_nothing { options.stdin ≡ false → reader.new ≡ reader.old }
+    ensures writes_nothing { options.stdin ≡ false → writer.new ≡ writer.old }
+{
+    let clock = AskedClock {
+        asked: options.now,
+        system: SystemClock::new(rt),
+    };
+    if options.stdin {
+        serve(rt.alloc(), options.pages, reader, writer, &clock)
+    } else {
+        listen(rt, stderr, options, &clock)
+    }
+}
