@@ -116,6 +116,8 @@ def abused(program, faults, keeps, **options):
         had, memory = server.descriptors(), server.memory()
         beside = Beside(server.port)
         beside.start()
+        # (it is there before the others come, which may take all there is)
+        until(lambda: beside.asked or beside.faults, ANSWERED)
         try:
             yield server
         except (OSError, Late):
