@@ -21,8 +21,8 @@ const MOVED: usize = 8;
 /// each step on it, about; and where that lags, each of its new keys moves 8 by itself.
 const REST: u32 = 7;
 
-/// A caller whose steps are each followed by some growth of the key's shelf, and who tidies shelves
-/// in turn. Contracts see what they see of the caller.
+/// A caller whose steps are followed by some growth of the key's shelf while tables grow, and who
+/// tidies shelves in turn. Contracts see what they see of the caller.
 #[derive(Drop)]
 pub struct Tending<'a, R: Wait, K: KeyHash + Drop, G: Gate> {
     asking: Asking<'a, R, K, G>,
