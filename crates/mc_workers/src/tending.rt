@@ -16,20 +16,13 @@ use std::sync::Wait;
 /// How many entries of a shelf's index move after a step on a key of it.
 const MOVED: usize = 8;
 
-/// How many steps are followed by no growth, once a growth moved nothing: it hashes the key and takes the
-/// shelf once more, and few shelves grow at a time. A shelf that alone grows so has one entry moved for
-/// each step on it, about; and where that lags, each of its new keys moves 8 by itself.
-const REST: u32 = 7;
-
-/// A caller whose steps are followed by some growth of the key's shelf while tables grow, and who
-/// tidies shelves in turn. Contracts see what they see of the caller.
+/// A caller whose steps are each followed by some growth of the key's shelf, and who tidies shelves
+/// in turn. Contracts see what they see of the caller.
 #[derive(Drop)]
 pub struct Tending<'a, R: Wait, K: KeyHash + Drop, G: Gate> {
     asking: Asking<'a, R, K, G>,
     /// The shelf that is tidied next.
     shelf: u32,
-    /// How many steps are followed by no growth.
-    rest: u32,
 }
 
 impl<'a, R: Wait, K: KeyHash + Drop, G: Gate> Model for Tending<'a, R, K, G> {
@@ -60,7 +53,6 @@ impl<'a, R: Wait, K: KeyHash + Drop, G: Gate> Tending<'a, R, K, G> {
         Tending {
             asking: Asking::new(rt, shared, caller, gate),
             shelf: 0,
-            rest: 0,
         }
     }
 
@@ -86,22 +78,15 @@ impl<'a, R: Wait, K: KeyHash + Drop, G: Gate> Tending<'a, R, K, G> {
         self.asking.tidy(shelf, now);
     }
 
-    /// Moves some entries of the step's shelf, but not right after a growth that had none to move. A
-    /// flush is on no shelf.
+    /// Moves some entries of the step's shelf. A flush is on no shelf.
     fn grow_after(&mut self, step: &KeyStep<'_>)
         ensures { self.new ≡ self.old }
     {
-        if self.rest > 0 {
-            self.rest -= 1;
-            return;
-        }
         match step {
             KeyStep::Flush { .. } => {}
             _ => {
                 let shelf = self.asking.shelf_of(step.key());
-                if self.asking.grow(shelf, MOVED) == 0 {
-                    self.rest = REST;
-                }
+                self.asking.grow(shelf, MOVED);
             }
         }
     }

@@ -36,9 +36,9 @@ pub trait Links<L> {
 
 /// Serves links until none comes any more and all sessions have ended: makes rounds of the guests
 /// that are awake, and after each asks for the next link once. A step is followed by the growth of
-/// its key's shelf by 8 entries, but for the 7 steps behind one that had none to move; where the clock
-/// has risen, the dead items of the next shelf in turn are dropped. The caller comes back under further
-/// calls alone. A fault of one link, and one session's want of memory, end that session alone.
+/// its key's shelf by 8 entries; where the clock has risen, the dead items of the next shelf in turn
+/// are dropped. The caller comes back under further calls alone. A fault of one link, and one
+/// session's want of memory, end that session alone.
 pub fn work<R: Wait, K: KeyHash + Drop, L: Link + Drop, Q: Links<L>, G: Gate, C: Clock>(
     rt: &R,
     alloc: Global,
