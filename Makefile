@@ -17,7 +17,7 @@ MINUTES ?= 30
 
 # Proves the program and what is below it, and builds it. rt run runs it too: --help ends it at once.
 build:
-	@test -x $(PROGRAM) || echo "The first build proves every crate: about 10 minutes on 4 cores."
+	@test -x $(PROGRAM) || echo "The first build proves every crate: 20 to 30 minutes on 4 cores."
 	@cd crates/mc_server && rt run -- --help < /dev/null > /dev/null
 	@echo "$(PROGRAM) is proved and built"
 
