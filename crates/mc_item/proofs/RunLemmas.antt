@@ -1,6 +1,7 @@
 -- What a run of bytes shows in which a header, a key and a block were written.
 use Rattle.std.proofs.Common.{◌≡◌, ℕ, ◌+◌, ◌^◌, ◌≤◌, List, ◌++◌, length, take, drop, refl, sym, ap, subst, ◌∙◌, append_assoc, arith}
 use Rattle.std.proofs.lemmas.List.{length-take-le, length-drop, take_at, drop_at, drop-drop, drop-take, take-append-drop}
+use Rattle.std.proofs.Math.Seq.{take-add}
 use Rattle.byteorder.specs.Numbers.{little_from-take}
 use Rattle.mc_slab.specs.Classes.{class_holding, size_of}
 use Rattle.mc_slab.specs.Chunks.{IsChunk, chunk_class}
@@ -57,6 +58,24 @@ Lies-Begins header front key block bytes headed b from is k l = record {
   key_is = ap (take (length key)) (behind_front front key block bytes b) ∙ take_at key _ (length key) refl;
   block_is = ap (take (length block)) (behind_key front key block bytes b) ∙ take_at block _ (length block) refl;
 }
+
+-- a header and a key that were written one behind the other, whatever is behind them
+pub Lies-Headed : (header : Header) (key headed bytes : List ℕ) → header_in headed ≡ header → header.key_length ≡ length key → 48 ≤ length headed → 48 + length key + header.block_length ≤ length bytes → take (48 + length key) bytes ≡ take 48 headed ++ key → Lies header key (block_in bytes) bytes
+Lies-Headed header key headed bytes is k long room before =
+    let block : List ℕ = take header.block_length (drop (48 + length key) bytes) in
+    let size : length block ≡ header.block_length = length-take-le header.block_length (drop (48 + length key) bytes) (simp length-drop (omega arith)) in
+    let begins : Begins (take 48 headed) key block bytes = record {
+      size = length-take-le 48 headed long;
+      begins = ap (λ (n : ℕ). take (48 + length key + n) bytes) size
+      ∙ take-add (48 + length key) header.block_length bytes
+      ∙ ap (λ (xs : List ℕ). xs ++ block) before
+      ∙ append_assoc (take 48 headed) key block;
+    } in
+    let lies = Lies-Begins header (take 48 headed) key block bytes headed begins refl is k (sym size) in
+    let k' : key_length_in bytes ≡ length key = ap (λ (h : Header). h.key_length) lies.header_is ∙ k in
+    let l' : block_length_in bytes ≡ header.block_length = ap (λ (h : Header). h.block_length) lies.header_is in
+    let same : block ≡ block_in bytes = rw (k', l') refl in
+    subst (λ (b : List ℕ). Lies header key b bytes) same lies
 
 -- the item that such a run shows
 pub item_in-Lies : (header : Header) (key block bytes old : List ℕ) → Lies header key block bytes → length bytes ≡ length old → item_in bytes ≡ record { hash = header.hash; key = key; flags = header.flags; expiry = header.expiry; block = block; unique = header.unique; updated = header.updated; class = chunk_class old }

@@ -10,7 +10,7 @@ use crate::header::{
     HEADER, Header, block_length_in, expiry_in, flags_in, hash_in, key_length_in, unique_in,
     updated_in,
 };
-use crate::run::{length_in, write_expiry, write_item, write_number};
+use crate::run::{length_in, write_expiry, write_head, write_item, write_number};
 use mc_slab::{Chunk, Class};
 use mc_time::{Expiry, Moment};
 use std::marker::Model;
@@ -87,6 +87,40 @@ impl Item {
             block_length: length_in(bytes, parts.first.len() + parts.second.len()),
         };
         write_item(&mut chunk, header, parts.key, parts.first, parts.second);
+        Item { chunk }
+    }
+
+    /// Writes an item of those parts into a chunk, but for the bytes of its block, which are as many as the parts have, of any
+    /// content: a `rewrite` writes them. It copies the key, and takes no memory. Its cost doesn't grow with the block.
+    pub fn begin(mut chunk: Chunk, parts: Parts<'_>) -> Item
+        requires key { length parts.key.now ≤ longest_key }
+        requires room { header_size + length parts.key.now
+            + length parts.first.now + length parts.second.now ≤ length chunk }
+        ensures value { result ≡ record {
+          hash = parts.entry.hash;
+          key = parts.entry.key.now;
+          flags = parts.entry.flags;
+          expiry = parts.entry.expiry;
+          block = result.block;
+          unique = parts.entry.unique;
+          updated = parts.entry.updated;
+          class = chunk_class chunk.entry;
+        } }
+        ensures length { length result.block
+            ≡ length parts.entry.first.now + length parts.entry.second.now }
+        ensures is_item { IsItem result }
+    {
+        let bytes = chunk.bytes();
+        let header = Header {
+            hash: parts.hash,
+            flags: parts.flags,
+            expiry: parts.expiry,
+            unique: parts.unique,
+            updated: parts.updated,
+            key_length: length_in(bytes, parts.key.len()),
+            block_length: length_in(bytes, parts.first.len() + parts.second.len()),
+        };
+        write_head(&mut chunk, header, parts.key);
         Item { chunk }
     }
 

@@ -3,7 +3,7 @@
 ghost use Rattle.std.specs.Prelude.{◌≡◌, ◌+◌, ◌≤◌, ◌^◌, ◌++◌, length, take, drop, decimal};
 ghost use Rattle.mc_slab.specs.Chunks.{IsChunk, chunk_class};
 ghost use Rattle.mc_item.specs.Items.{header_size, longest_key};
-ghost use Rattle.mc_item.specs.Layout.{header_in, item_in, key_length_in, HoldsItem};
+ghost use Rattle.mc_item.specs.Layout.{block_in, header_in, item_in, key_length_in, HoldsItem};
 
 use crate::header::{HEADER, Header};
 use itoa::Buffer;
@@ -68,6 +68,28 @@ pub(crate) fn write_item(chunk: &mut Chunk, header: Header, key: &[u8], first: &
     put(chunk, HEADER, key);
     put(chunk, block, first);
     put(chunk, block + first.len(), second);
+}
+
+/// Writes an item into a chunk, but for the bytes of its block: those stay as the chunk has them.
+pub(crate) fn write_head(chunk: &mut Chunk, header: Header, key: &[u8])
+    requires short { length key.now ≤ longest_key }
+    requires key_length { header.key_length ≡ length key.now }
+    requires room { header_size + length key.now + header.block_length ≤ length chunk.old }
+    ensures value { item_in chunk.new ≡ record {
+      hash = header.hash;
+      key = key.now;
+      flags = header.flags;
+      expiry = header.expiry;
+      block = block_in chunk.new;
+      unique = header.unique;
+      updated = header.updated;
+      class = chunk_class chunk.old;
+    } }
+    ensures length { length (block_in chunk.new) ≡ header.block_length }
+    ensures holds { HoldsItem chunk.new }
+{
+    put_header(chunk, header);
+    put(chunk, HEADER, key);
 }
 
 /// The block of the item in a chunk becomes the number's digits.

@@ -1,17 +1,57 @@
 -- What an edit of its index makes of a shelf's content.
-use Rattle.std.proofs.Common.{◌≡◌, ◌≢◌, ℕ, List, Option, sym, ap, ◌∙◌}
+use Rattle.std.proofs.Common.{◌≡◌, ◌≢◌, ℕ, List, Option, Some, None, refl, sym, ap, ◌∙◌}
 use Rattle.std.proofs.lemmas.Option.{same_Some, none-some}
 use Rattle.std.specs.FinMap.{get, insert, remove}
 use Rattle.mc_command.specs.Plain.{Entry, Items}
 use Rattle.mc_grow.specs.Indexes.{IndexState}
 use Rattle.mc_shelf.specs.States.{EntryState, ShelfContent, Hashes, IsHash}
 use Rattle.mc_shelf.specs.Places.{items_of, hashes_of, IsChanged, KeyComes, KeyGoes}
-use Rattle.mc_shelf.specs.Plans.{IsDropped, IsPut, OthersStay}
+use Rattle.mc_shelf.specs.Plans.{IsDropped, IsPut, OthersStay, with_item}
 use Rattle.mc_shelf.proofs.KeyLemmas.{get_gone, get_gone_other, get_put, get_put_other}
 
 -- the content of a shelf over an index
 abbrev pub content_of : (greatest : ℕ) → (cut : Option ℕ) → IndexState EntryState → ShelfContent
 content_of greatest cut index = record { greatest = greatest; items = items_of index; hashes = hashes_of index; cut = cut }
+
+module _ (key : List ℕ) (own : ℕ) (old : ShelfContent) where
+  -- an item that was put under the key, with another put over it
+  pub put_again : (mid : ShelfContent) (any item : Entry) → IsPut key own old mid any → IsPut key own old (with_item None key own item mid) item
+  put_again mid any item is = record {
+    item = get_put mid.items key item;
+    others = record {
+      greatest = is.others.greatest;
+      cut = is.others.cut;
+      items = λ other apart. get_put_other mid.items key other item apart ∙ is.others.items other apart;
+      hashes = is.others.hashes;
+    };
+    hash = is.hash;
+  }
+
+  -- an item in the place of the key's
+  pub put_over : (item : Entry) → IsHash old key own → IsPut key own old (with_item None key own item old) item
+  put_over item has = record {
+    item = get_put old.items key item;
+    others = record {
+      greatest = refl;
+      cut = refl;
+      items = λ other apart. get_put_other old.items key other item apart;
+      hashes = λ other apart. refl;
+    };
+    hash = has;
+  }
+
+  -- an item that comes under the key with its hash
+  pub put_new : (chunk : List ℕ) (item : Entry) → IsPut key own old (with_item (Some chunk) key own item old) item
+  put_new chunk item = record {
+    item = get_put old.items key item;
+    others = record {
+      greatest = refl;
+      cut = refl;
+      items = λ other apart. get_put_other old.items key other item apart;
+      hashes = λ other apart. get_put_other old.hashes key other own apart;
+    };
+    hash = λ stored there. sym (same_Some own stored (sym (get_put old.hashes key own) ∙ there));
+  }
 
 module _ (greatest : ℕ) (cut : Option ℕ) (old : ShelfContent) (was : IndexState EntryState) (old_is : content_of greatest cut was ≡ old) (key : List ℕ) (own : ℕ) (new : IndexState EntryState) where
   others_by : ((other : List ℕ) → other ≢ key → get (items_of new) other ≡ get (items_of was) other) → ((other : List ℕ) → other ≢ key → get (hashes_of new) other ≡ get (hashes_of was) other)
@@ -22,6 +62,18 @@ module _ (greatest : ℕ) (cut : Option ℕ) (old : ShelfContent) (was : IndexSt
     items = λ other apart. items other apart ∙ ap (λ (s : ShelfContent). get s.items other) old_is;
     hashes = λ other apart. hashes other apart ∙ ap (λ (s : ShelfContent). get s.hashes other) old_is;
   }
+
+  -- the content after the key's item was changed, and after an entry came under the key
+  pub changed_is : (item : Entry) → IsChanged was new key item → content_of greatest cut new ≡ with_item None key own item old
+  changed_is item is =
+      (λ i. record { greatest = greatest; items = is.items i; hashes = is.hashes i; cut = cut })
+      ∙ ap (with_item None key own item) old_is
+
+  pub came_is : (chunk : List ℕ) (item : Entry) (entry : EntryState) → entry ≡ record { hash = own; key = key; item = item } → KeyComes was new entry → content_of greatest cut new ≡ with_item (Some chunk) key own item old
+  came_is chunk item entry entry_is is =
+      (λ i. record { greatest = greatest; items = is.items i; hashes = is.hashes i; cut = cut })
+      ∙ ap (λ (e : EntryState). with_item (Some chunk) e.key e.hash e.item (content_of greatest cut was)) entry_is
+      ∙ ap (with_item (Some chunk) key own item) old_is
 
   -- the key's item was changed
   pub changed_put : (item : Entry) → IsHash old key own → IsChanged was new key item → IsPut key own old (content_of greatest cut new) item

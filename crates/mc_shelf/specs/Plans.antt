@@ -1,6 +1,6 @@
 -- What a step asks of a shelf.
-use Rattle.std.specs.Prelude.{◌≡◌, ◌≢◌, ◌⊎◌, ℕ, ◌-◌, ◌^◌, ◌<◌, ◌≤◌, ◌==◌, ◌&&◌, ◌||◌, Bool, true, false, List, [], ◌++◌, decimal, length, Option, Some, None, is_some, is_none, nat_lt, if◌then◌else◌}
-use Rattle.std.specs.FinMap.{get}
+use Rattle.std.specs.Prelude.{◌≡◌, ◌≢◌, ◌⊎◌, ℕ, ◌-◌, ◌^◌, ◌<◌, ◌≤◌, ◌==◌, ◌&&◌, ◌||◌, Bool, true, false, List, [], ◌++◌, decimal, length, Option, Some, None, is_some, is_none, IfSome, nat_lt, if◌then◌else◌}
+use Rattle.std.specs.FinMap.{get, insert}
 use Rattle.std.specs.Borrow.{Bor}
 use Rattle.mc_time.specs.declared.expiry.Expiry.{Expiry}
 use Rattle.mc_command.specs.declared.step.KeyStep.{KeyStep}
@@ -13,6 +13,7 @@ use Rattle.mc_command.specs.declared.row.Body.{Body}
 use Rattle.mc_command.specs.declared.row.Body.TheVariants.{Given, Appended, Prepended, Counted}
 use Rattle.mc_command.specs.Rows.{standing_in}
 use Rattle.mc_slab.specs.Classes.{IsClass, class_holding}
+use Rattle.mc_slab.specs.Chunks.{chunk_class}
 use Rattle.mc_slab.specs.Slabs.{IsSlab, SlabState, out_of, chunks_of, pages_left, has_room, given}
 use Rattle.mc_command.specs.Commands.{key_of}
 use Rattle.mc_command.specs.Plain.{Plain, Entry, Outcome, Answered, Spent, MayFail, plain, charge, item_class, alive, hit_of, refusal_reply, block_of, written_block, row_of}
@@ -23,6 +24,8 @@ use Rattle.mc_shelf.specs.declared.plan.Next.{Next}
 use Rattle.mc_shelf.specs.declared.plan.Next.TheVariants.{Answer, Expire, Discard, Write}
 use Rattle.mc_shelf.specs.declared.plan.Plan.{Plan}
 use Rattle.mc_shelf.specs.declared.write.Write.{Write as Writing}
+use Rattle.mc_shelf.specs.declared.begun.Unwritten.{Unwritten}
+use Rattle.mc_shelf.specs.declared.begun.Begun.{Begun}
 
 -- the item of a lent entry
 abbrev pub item_in : Option (Bor EntryState) → Option Entry
@@ -218,6 +221,55 @@ drafted draft block unique updated = record {
 abbrev pub block_beside : ShelfContent → KeyStep → Draft → List ℕ
 block_beside shelf step draft =
     made_block draft.body (block_of step) (block_in (get shelf.items (key_of step)))
+
+-- the item of a write whose block is the step's own
+abbrev pub own_item : Unwritten → KeyStep → Entry
+own_item rest step = drafted rest.write.draft (block_of step) rest.unique rest.write.moment
+
+-- a shelf after this item came under a key: with a hash where a chunk waits for the item, and else into the chunk of the key's item
+abbrev pub with_item : Option (List ℕ) → (key : List ℕ) → (own : ℕ) → Entry → ShelfContent → ShelfContent
+with_item None key own item shelf = record shelf { items = insert shelf.items key item }
+with_item (Some chunk) key own item shelf = record shelf {
+  items = insert shelf.items key item;
+  hashes = insert shelf.hashes key own;
+}
+
+-- a shelf after what is left of a write
+abbrev pub written : Option Unwritten → KeyStep → ShelfContent → ShelfContent
+written None step shelf = shelf
+written (Some rest) step shelf =
+    with_item rest.chunk (key_of step) rest.write.hash (own_item rest step) shelf
+
+-- a shelf after what is left of a step that was begun
+abbrev pub finished : Begun → KeyStep → ShelfContent → ShelfContent
+finished begun step shelf = written begun.rest step shelf
+
+-- a chunk is ready for a key's item with this block: one that waits, and then there is room for the key's entry, or that of
+-- the key's item
+pub record IsChunkFor (chunk : List ℕ) (key block : List ℕ) (shelf : ShelfState) : Type 0 where
+  pub absent : get shelf.content.items key ≡ None
+  pub room : 1 ≤ shelf.room
+  pub class : chunk_class chunk ≡ class_holding (charge key block)
+  pub fits : charge key block ≤ length chunk
+
+pub record LiesInClass (key block : List ℕ) (shelf : ShelfState) : Type 0 where
+  pub item : Entry
+  pub there : get shelf.content.items key ≡ Some item
+  pub class : item_class key item ≡ class_holding (charge key block)
+
+abbrev pub IsReady : Option (List ℕ) → (key block : List ℕ) → ShelfState → Type 0
+IsReady None key block shelf = LiesInClass key block shelf
+IsReady (Some chunk) key block shelf = IsChunkFor chunk key block shelf
+
+-- what is left of a write can be done: the key is known, and a chunk is ready for its block
+pub record CanWriteBlock (rest : Unwritten) (step : KeyStep) (shelf : ShelfState) : Type 0 where
+  pub short : length (key_of step) ≤ 250
+  pub known : IsKnown shelf.content (key_of step) rest.write.hash rest.write.place
+  pub ready : IsReady rest.chunk (key_of step) (block_of step) shelf
+
+-- what is left of a step that was begun can be done
+abbrev pub CanFinish : Begun → KeyStep → ShelfState → Type 0
+CanFinish begun step shelf = IfSome begun.rest (λ rest. CanWriteBlock rest step shelf)
 
 -- a chunk of the key's item is out
 abbrev pub IsOut : List ℕ → ShelfContent → DeskState → Type 0

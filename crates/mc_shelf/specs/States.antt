@@ -33,19 +33,23 @@ block_in parts = parts.first.now ++ parts.second.now
 abbrev pub charge_in : Parts → ℕ
 charge_in parts = charge parts.key.now (block_in parts)
 
--- the entry of parts
-abbrev pub entry_in : (hash : ℕ) → Parts → EntryState
-entry_in hash parts = record {
+-- the entry of parts with this block
+abbrev pub entry_with : (hash : ℕ) → Parts → (block : List ℕ) → EntryState
+entry_with hash parts block = record {
   hash = hash;
   key = parts.key.now;
   item = record {
     flags = parts.flags;
     expiry = parts.expiry;
-    block = block_in parts;
+    block = block;
     unique = parts.unique;
     updated = parts.updated;
   };
 }
+
+-- the entry of parts
+abbrev pub entry_in : (hash : ℕ) → Parts → EntryState
+entry_in hash parts = entry_with hash parts (block_in parts)
 
 -- an entry as a finite map has it
 abbrev pub row : EntryState → List ℕ × Entry

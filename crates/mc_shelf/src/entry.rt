@@ -4,7 +4,7 @@ ghost use Rattle.std.specs.Prelude.{◌≡◌, ◌≤◌, length};
 ghost use Rattle.mc_slab.specs.Classes.{IsClass, class_holding};
 ghost use Rattle.mc_slab.specs.Chunks.{IsChunkOf, chunk_class};
 ghost use Rattle.mc_command.specs.Plain.{item_class};
-ghost use Rattle.mc_shelf.specs.States.{charge_in, entry_in};
+ghost use Rattle.mc_shelf.specs.States.{block_in, charge_in, entry_in, entry_with};
 
 use mc_command::Standing;
 use mc_hop::Keyed;
@@ -44,6 +44,33 @@ impl Entry {
     {
         Entry {
             item: Item::write(
+                chunk,
+                Parts {
+                    hash: parts.hash,
+                    key: parts.key,
+                    first: parts.first,
+                    second: parts.second,
+                    flags: parts.flags,
+                    expiry: parts.expiry,
+                    unique: parts.unique,
+                    updated: parts.updated,
+                },
+            ),
+        }
+    }
+
+    /// Writes the item of those parts into that chunk, but for the bytes of its block, which are as many as the parts have, of
+    /// any content. It copies the key, of at most 250 bytes.
+    pub(crate) fn begin(chunk: Chunk, parts: Parts<'_>) -> Entry
+        requires key { length parts.key.now ≤ 250 }
+        requires class { chunk_class chunk ≡ class_holding (charge_in parts) }
+        requires room { charge_in parts ≤ length chunk }
+        ensures value { result
+            ≡ entry_with parts.entry.hash parts.entry result.item.block }
+        ensures length { length result.item.block ≡ length (block_in parts.entry) }
+    {
+        Entry {
+            item: Item::begin(
                 chunk,
                 Parts {
                     hash: parts.hash,

@@ -1,6 +1,7 @@
 //! The store of one thread, by shelves: the items of some keys each, and the desk that they share.
 #![tactic(auto)]
 
+mod begun;
 #[cfg(test)]
 mod compare_tests;
 mod desk;
@@ -13,6 +14,7 @@ mod soonest;
 mod store;
 mod write;
 
+pub use begun::Begun;
 pub use desk::Desk;
 pub use entry::Entry;
 pub use parts::{flush_parts, refusals_are_plain, steps_change_one_shelf};

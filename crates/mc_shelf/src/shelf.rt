@@ -13,6 +13,7 @@ ghost use Rattle.mc_command.specs.Plain.{Entry as Item};
 ghost use Rattle.mc_command.specs.Laws.{IsOnKey};
 ghost use Rattle.mc_shelf.specs.States.{CanStand, IsHash, nothing_held};
 ghost use Rattle.mc_shelf.specs.Plans.{
+  CanFinish,
   CanSettle,
   CanWrite,
   GivesBack,
@@ -28,6 +29,7 @@ ghost use Rattle.mc_shelf.specs.Plans.{
   LookTakesMemory,
   MayWantMemory,
   NeedsPage,
+  finished,
   has_no_number,
   is_gone,
   item_in,
@@ -37,6 +39,7 @@ ghost use Rattle.mc_shelf.specs.Plans.{
 };
 ghost use Rattle.mc_shelf.specs.Sweeps.{AreOut, GivesFor, IsPurged};
 
+use crate::begun::Begun;
 use crate::desk::Desk;
 use crate::entry::Entry;
 use crate::index::{Index, Place};
@@ -188,10 +191,8 @@ impl Shelf {
         }
     }
 
-    /// Takes the step of a plan, and answers it. A write takes a chunk while the key's old item still has its own; a dead
-    /// item's chunk of the same class is used again, and so is that of a number that incr and decr leave in its class. A page
-    /// that the slab gives to a class is all that takes memory. Refused, or with the unique numbers spent, the shelf holds
-    /// what it held, and the desk is as it was.
+    /// Takes the step of a plan, and answers it: begins it, and finishes it. A page that the slab gives to a class is all that
+    /// takes memory. Refused, or with the unique numbers spent, the shelf holds what it held, and the desk is as it was.
     pub fn apply(
         &mut self,
         alloc: Global,
@@ -212,6 +213,39 @@ impl Shelf {
         ensures err { OnErr result
             ((self.new.content ≡ self.old.content) × (desk.new ≡ desk.old)) }
     {
+        match self.begin(alloc, plan, step, desk) {
+            Ok(begun) => Ok(self.finish(begun, step)),
+            Err(fault) => Err(fault),
+        }
+    }
+
+    /// Does what a plan's step needs the desk for; `finish` does the rest, before the shelf is asked for anything else. A write
+    /// takes a chunk while the key's old item still has its own; a dead item's chunk of the same class is used again, and so is
+    /// that of a number that incr and decr leave in its class. A block that the step brings is left to `finish`, so that the
+    /// cost doesn't grow with it. A page that the slab gives to a class is all that takes memory. Refused, or with the unique
+    /// numbers spent, the shelf holds what it held, and the desk is as it was.
+    pub fn begin(
+        &mut self,
+        alloc: Global,
+        plan: Plan<'_>,
+        step: &KeyStep<'_>,
+        desk: &mut Desk,
+    ) -> Result<Begun, StepFault>
+        requires plan { IsPlan plan self.old.content step.now plan.moment }
+        requires room { CanWrite plan.next desk.old → HasRoom plan self.old step.now }
+        requires key { length (key_of step.now) ≤ 250 }
+        requires stands { CanStand (key_of step.now) self.old.content desk.old }
+        ensures took { IfOk result (λ begun. IsTaken step.now plan.entry.moment plan.entry.hash
+            self.old.content desk.old begun.reply (finished begun step.now self.new.content)
+            desk.new) }
+        ensures left { IfOk result (λ begun. CanFinish begun step.now self.new) }
+        ensures spent { result ≡ Err StepFault.NumbersSpent
+            ↔ ((writes plan.entry.next ≡ true) × has_no_number desk.old) }
+        ensures refused { result ≡ Err StepFault.NoMemory
+            → NeedsPage plan.entry.next desk.old }
+        ensures err { OnErr result
+            ((self.new.content ≡ self.old.content) × (desk.new ≡ desk.old)) }
+    {
         counts_follow();
         let Plan {
             hash,
@@ -221,14 +255,14 @@ impl Shelf {
             ..
         } = plan;
         match next {
-            Next::Answer(reply) => Ok(reply),
+            Next::Answer(reply) => Ok(Begun { reply, rest: None }),
             Next::Expire(expiry, reply) => {
                 self.expire(place, hash, step.key(), expiry);
-                Ok(reply)
+                Ok(Begun { reply, rest: None })
             }
             Next::Discard(reply) => {
                 self.discard(place, hash, step.key(), desk);
-                Ok(reply)
+                Ok(Begun { reply, rest: None })
             }
             Next::Write(charge, draft) => {
                 let write = Write {

@@ -6,11 +6,13 @@ ghost use Rattle.std.specs.FinMap.{get};
 ghost use Rattle.mc_slab.specs.Classes.{class_holding};
 ghost use Rattle.mc_slab.specs.Chunks.{chunk_class};
 ghost use Rattle.mc_command.specs.Commands.{key_of};
-ghost use Rattle.mc_command.specs.Plain.{Entry as Item, block_of, charge, item_class};
+ghost use Rattle.mc_command.specs.Plain.{Entry as Item, block_of, charge};
 ghost use Rattle.mc_shelf.specs.States.{CanStand};
 ghost use Rattle.mc_shelf.specs.Plans as plans;
 ghost use Rattle.mc_shelf.specs.Plans.{
+  CanFinish,
   CanWrite,
+  CanWriteBlock,
   GivesBack,
   IsDropped,
   IsKnown,
@@ -18,17 +20,22 @@ ghost use Rattle.mc_shelf.specs.Plans.{
   IsPut,
   IsTaken,
   IsWriteOf,
+  LiesInClass,
   NeedsPage,
   block_beside,
   drafted,
+  finished,
   has_no_number,
   is_gone,
   item_in,
   made_block,
   own_block,
   reuses,
+  with_item,
+  written,
 };
 
+use crate::begun::{Begun, Unwritten};
 use crate::desk::Desk;
 use crate::entry::Entry;
 use crate::index::Place;
@@ -94,8 +101,35 @@ impl Write {
         }
     }
 
+    /// Makes the entry of a block, but for the block's bytes, which are of any content.
+    fn head_of<'a>(&self, chunk: Chunk, unique: u64, key: &'a [u8], block: &'a [u8]) -> Entry
+        requires key { length key.now ≤ 250 }
+        requires class { chunk_class chunk ≡ class_holding (charge key.now block.now) }
+        requires room { charge key.now block.now ≤ length chunk }
+        ensures value { result ≡ record {
+          hash = self.now.hash;
+          key = key.now;
+          item = drafted self.now.draft result.item.block unique self.now.moment;
+        } }
+        ensures length { length result.item.block ≡ length block.now }
+    {
+        Entry::begin(
+            chunk,
+            Parts {
+                hash: self.hash,
+                key,
+                first: &[],
+                second: block,
+                flags: self.draft.flags,
+                expiry: self.draft.expiry,
+                unique,
+                updated: self.moment,
+            },
+        )
+    }
+
     /// Makes the entry whose block is `first` followed by `second`.
-    fn entry_of<'a>(
+    pub(crate) fn entry_of<'a>(
         &self,
         chunk: Chunk,
         unique: u64,
@@ -141,20 +175,22 @@ fn has_class(found: Option<&Entry>, class: Class) -> bool
 }
 
 impl Shelf {
-    /// Writes the item of a step, in the chunk of the key's item or in one more.
+    /// Begins to write the item of a step, in the chunk of the key's item or in one more.
     pub(crate) fn write(
         &mut self,
         alloc: Global,
         write: &Write,
         step: &KeyStep<'_>,
         desk: &mut Desk,
-    ) -> Result<Reply, StepFault>
+    ) -> Result<Begun, StepFault>
         requires write { IsWriteOf write.now self.old.content step.now }
         requires room { CanWrite (Next.Write write.now.charge write.now.draft) desk.old →
             get self.old.content.items (key_of step.now) ≡ None → 1 ≤ self.old.room }
         requires stands { CanStand (key_of step.now) self.old.content desk.old }
-        ensures took { IfOk result (λ reply. IsTaken step.now write.now.moment write.now.hash
-            self.old.content desk.old reply self.new.content desk.new) }
+        ensures took { IfOk result (λ begun. IsTaken step.now write.now.moment write.now.hash
+            self.old.content desk.old begun.reply (finished begun step.now self.new.content)
+            desk.new) }
+        ensures left { IfOk result (λ begun. CanFinish begun step.now self.new) }
         ensures spent { result ≡ Err StepFault.NumbersSpent ↔ has_no_number desk.old }
         ensures refused { result ≡ Err StepFault.NoMemory
             → NeedsPage (Next.Write write.now.charge write.now.draft) desk.old }
@@ -168,17 +204,22 @@ impl Shelf {
         let class = self.class_for(write.charge);
         if self.reuses(write, class, step.key()) {
             let unique = desk.draw();
-            self.rewrite(write, unique, step);
-            return Ok(write.draft.body.reply());
+            let rest = self.rewrite(write, unique, step);
+            let reply = write.draft.body.reply();
+            return Ok(Begun { reply, rest });
         }
         if !desk.has_room(class) {
             self.drop_dead(write, step.key(), desk);
-            return Ok(Reply::NoChunk);
+            return Ok(Begun {
+                reply: Reply::NoChunk,
+                rest: None,
+            });
         }
         let chunk = desk.take(alloc, class)?;
         let unique = desk.draw();
-        self.put(write, unique, chunk, step, desk);
-        Ok(write.draft.body.reply())
+        let rest = self.put(write, unique, chunk, step, desk);
+        let reply = write.draft.body.reply();
+        Ok(Begun { reply, rest })
     }
 
     /// Answers whether a write goes into the chunk of the key's item: it is one of the class, and the item is dead, or a
@@ -192,47 +233,140 @@ impl Shelf {
         has_class(found, class) && (write.counts() || is_gone(found, self.cut, write.moment))
     }
 
-    /// Writes the step's own block, or a number, in the chunk of the key's item.
-    fn rewrite(&mut self, write: &Write, unique: u64, step: &KeyStep<'_>)
+    /// Writes a number in the chunk of the key's item. The step's own block is left to be written there.
+    fn rewrite(&mut self, write: &Write, unique: u64, step: &KeyStep<'_>) -> Option<Unwritten>
         requires key { length (key_of step.now) ≤ 250 }
         requires known { IsKnown self.old.content (key_of step.now) write.now.hash write.now.place }
-        requires class { (item : Item) → get self.old.content.items (key_of step.now) ≡ Some item →
-            item_class (key_of step.now) item ≡ class_holding
-            (charge (key_of step.now) (own_block write.now.draft.body (block_of step.now))) }
-        ensures { (item : Item) → get self.old.content.items (key_of step.now) ≡ Some item →
-            IsPut (key_of step.now) write.now.hash self.old.content self.new.content
+        requires there { LiesInClass (key_of step.now)
+            (own_block write.now.draft.body (block_of step.now)) self.old }
+        ensures put { IsPut (key_of step.now) write.now.hash self.old.content
+            (written result step.now self.new.content)
             (drafted write.now.draft (own_block write.now.draft.body (block_of step.now))
             unique write.now.moment) }
+        ensures left { IfSome result (λ rest. CanWriteBlock rest step.now self.new) }
     {
         match write.draft.body {
-            Body::Given | Body::Appended | Body::Prepended => {
-                self.overwrite(write, unique, step.key(), step.block());
-            }
+            Body::Given | Body::Appended | Body::Prepended => Some(Unwritten {
+                write: *write,
+                unique,
+                chunk: None,
+            }),
             Body::Counted(number) => {
                 let mut buffer = Buffer::new();
                 let digits = buffer.format(number).as_bytes();
                 self.overwrite(write, unique, step.key(), digits);
+                None
             }
         }
     }
 
     /// Writes a block in the chunk of a key's item.
-    fn overwrite<'a>(&mut self, write: &Write, unique: u64, key: &'a [u8], block: &'a [u8])
+    pub(crate) fn overwrite<'a>(
+        &mut self,
+        write: &Write,
+        unique: u64,
+        key: &'a [u8],
+        block: &'a [u8],
+    )
         requires key { length key.now ≤ 250 }
         requires known { IsKnown self.old.content key.now write.now.hash write.now.place }
-        requires class { (item : Item) → get self.old.content.items key.now ≡ Some item →
-            item_class key.now item ≡ class_holding (charge key.now block.now) }
-        ensures { (item : Item) → get self.old.content.items key.now ≡ Some item →
-            IsPut key.now write.now.hash self.old.content self.new.content
-            (drafted write.now.draft block.now unique write.now.moment) }
+        requires there { LiesInClass key.now block.now self.old }
+        ensures { self.new.content ≡ with_item None key.now write.now.hash
+            (drafted write.now.draft block.now unique write.now.moment) self.old.content }
     {
         if let Some(place) = self.index.find_again(write.place, write.hash, key) {
             self.index.rewrite(place, *write, unique, key, block);
         }
     }
 
-    /// Puts the item of a write into a chunk and under its key. The chunk of the item that stood there goes back.
-    fn put(&mut self, write: &Write, unique: u64, chunk: Chunk, step: &KeyStep<'_>, desk: &mut Desk)
+    /// Puts the item of a write into a chunk and under its key. The chunk of the item that stood there goes back. A block that
+    /// is the step's own is left to be written.
+    fn put(
+        &mut self,
+        write: &Write,
+        unique: u64,
+        chunk: Chunk,
+        step: &KeyStep<'_>,
+        desk: &mut Desk,
+    ) -> Option<Unwritten>
+        requires key { length (key_of step.now) ≤ 250 }
+        requires known { IsKnown self.old.content (key_of step.now) write.now.hash write.now.place }
+        requires class { chunk_class chunk ≡ class_holding
+            (charge (key_of step.now) (block_beside self.old.content step.now write.now.draft)) }
+        requires fits { charge (key_of step.now)
+            (block_beside self.old.content step.now write.now.draft) ≤ length chunk }
+        requires room { get self.old.content.items (key_of step.now) ≡ None → 1 ≤ self.old.room }
+        requires out { IsOut (key_of step.now) self.old.content desk.old }
+        ensures put { IsPut (key_of step.now) write.now.hash self.old.content
+            (written result step.now self.new.content)
+            (drafted write.now.draft (block_beside self.old.content step.now write.now.draft)
+            unique write.now.moment) }
+        ensures given { GivesBack (key_of step.now) (get self.old.content.items (key_of step.now))
+            desk.old desk.new }
+        ensures left { IfSome result (λ rest. CanWriteBlock rest step.now self.new) }
+    {
+        match write.draft.body {
+            Body::Given => Some(self.begin_put(write, unique, chunk, step, desk)),
+            Body::Appended | Body::Prepended | Body::Counted(_) => {
+                self.put_whole(write, unique, chunk, step, desk);
+                None
+            }
+        }
+    }
+
+    /// Puts the item of a write into a chunk and under its key, but for the bytes of its block. The chunk of the item that
+    /// stood there goes back. A new key's chunk waits for the whole.
+    fn begin_put(
+        &mut self,
+        write: &Write,
+        unique: u64,
+        chunk: Chunk,
+        step: &KeyStep<'_>,
+        desk: &mut Desk,
+    ) -> Unwritten
+        requires key { length (key_of step.now) ≤ 250 }
+        requires known { IsKnown self.old.content (key_of step.now) write.now.hash write.now.place }
+        requires class { chunk_class chunk
+            ≡ class_holding (charge (key_of step.now) (block_of step.now)) }
+        requires fits { charge (key_of step.now) (block_of step.now) ≤ length chunk }
+        requires room { get self.old.content.items (key_of step.now) ≡ None → 1 ≤ self.old.room }
+        requires out { IsOut (key_of step.now) self.old.content desk.old }
+        ensures put { IsPut (key_of step.now) write.now.hash self.old.content
+            (written (Some result) step.now self.new.content)
+            (drafted write.now.draft (block_of step.now) unique write.now.moment) }
+        ensures given { GivesBack (key_of step.now) (get self.old.content.items (key_of step.now))
+            desk.old desk.new }
+        ensures left { CanWriteBlock result step.now self.new }
+    {
+        let place = self.index.find_again(write.place, write.hash, step.key());
+        match place {
+            Some(place) => {
+                let entry = write.head_of(chunk, unique, step.key(), step.block());
+                let old = self.index.replace(place, entry);
+                desk.give(old.into_chunk());
+                Unwritten {
+                    write: *write,
+                    unique,
+                    chunk: None,
+                }
+            }
+            None => Unwritten {
+                write: *write,
+                unique,
+                chunk: Some(chunk),
+            },
+        }
+    }
+
+    /// Puts the item of a write into a chunk and under its key, block and all. The chunk of the item that stood there goes back.
+    fn put_whole(
+        &mut self,
+        write: &Write,
+        unique: u64,
+        chunk: Chunk,
+        step: &KeyStep<'_>,
+        desk: &mut Desk,
+    )
         requires key { length (key_of step.now) ≤ 250 }
         requires known { IsKnown self.old.content (key_of step.now) write.now.hash write.now.place }
         requires class { chunk_class chunk ≡ class_holding

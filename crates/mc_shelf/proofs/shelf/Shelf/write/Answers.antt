@@ -6,7 +6,7 @@ use Rattle.mc_command.specs.declared.reply.Reply.{Reply}
 use Rattle.mc_command.specs.Commands.{key_of}
 use Rattle.mc_command.specs.Plain.{block_of, write_reply}
 use Rattle.mc_shelf.specs.States.{DeskState}
-use Rattle.mc_shelf.specs.Plans.{GivesBack, IsDropped, IsOut, IsPut, Takes, block_beside, drafted, is_gone, own_block, reuses}
+use Rattle.mc_shelf.specs.Plans.{GivesBack, IsDropped, IsOut, IsPut, Takes, block_beside, drafted, is_gone, own_block, reuses, written}
 use Rattle.mc_shelf.proofs.TakesLemmas.{beside_is, charge_beside, class_own, drafts, is_out, is_out_taken, others_full, own_is, reused_is, takes_again, takes_anew, takes_full}
 use Rattle.mc_shelf.proofs.shelf.Shelf.write.Goals as goal
 
@@ -15,13 +15,18 @@ class_for-class-requires c =
     let write = c.args.write.now in
     (drafts c.args.self.now.content c.args.step.now write.moment write.charge write.draft (sym c.requires.write.next)).fits
 
-pub rewrite-requires-clause-class : goal.rewrite-requires-clause-class
-rewrite-requires-clause-class c =
+pub rewrite-rest-requires-clause-there : goal.rewrite-rest-requires-clause-there
+rewrite-rest-requires-clause-there c =
     let shelf = c.args.self.now.content in
     let write = c.args.write.now in
     let reused = subst (λ (k : List ℕ). reuses shelf.cut write.moment k (get shelf.items k) c.class_for-class.result write.draft.body ≡ true) c.key.ensures (sym c.reuses.ensures ∙ c.if-reuses.true) in
-    class_own c.counts_follow.ensures.insert c.counts_follow.ensures.remove c.args.step.now write.moment shelf c.args.desk.now c.requires.write.on_key write.charge write.draft (sym c.requires.write.next)
-    c.class_for-class.result c.class_for-class.ensures.value reused
+    let there = reused_is c.counts_follow.ensures.insert c.counts_follow.ensures.remove c.args.step.now write.moment shelf c.args.desk.now c.requires.write.on_key write.charge write.draft (sym c.requires.write.next) c.class_for-class.result c.class_for-class.ensures.value reused in
+    record {
+      item = there.0;
+      there = there.1;
+      class = class_own c.counts_follow.ensures.insert c.counts_follow.ensures.remove c.args.step.now write.moment shelf c.args.desk.now c.requires.write.on_key write.charge write.draft (sym c.requires.write.next)
+          c.class_for-class.result c.class_for-class.ensures.value reused there.0 there.1;
+    }
 
 pub returns-then-reuses-clause-took : goal.returns-then-reuses-clause-took
 returns-then-reuses-clause-took c =
@@ -29,17 +34,16 @@ returns-then-reuses-clause-took c =
     let desk = c.args.desk.now in
     let write = c.args.write.now in
     let step = c.args.step.now in
-    let new = c.rewrite.new.self.content in
+    let new = written c.rewrite-rest.result step c.rewrite-rest.new.self.content in
     let class = c.class_for-class.result in
     let class_is = c.class_for-class.ensures.value in
     let reused = subst (λ (k : List ℕ). reuses shelf.cut write.moment k (get shelf.items k) class write.draft.body ≡ true) c.key.ensures (sym c.reuses.ensures ∙ c.if-reuses.true) in
     let more : desk.next_unique ≢ 2 ^ 64 - 1 = λ e. let less = c.is_spent.ensures.left c.if-is_spent.false in omega (arith, less) in
-    let there = reused_is c.counts_follow.ensures.insert c.counts_follow.ensures.remove step write.moment shelf desk c.requires.write.on_key write.charge write.draft (sym c.requires.write.next) class class_is reused in
     let block = own_is c.counts_follow.ensures.insert c.counts_follow.ensures.remove step write.moment shelf desk c.requires.write.on_key write.charge write.draft (sym c.requires.write.next) class class_is reused in
     let puts = subst (λ (l : List ℕ). IsPut (key_of step) write.hash shelf new (drafted write.draft l desk.next_unique write.moment)) block
-    (subst (λ (n : ℕ). IsPut (key_of step) write.hash shelf new (drafted write.draft (own_block write.draft.body (block_of step)) n write.moment)) c.draw-unique.ensures.number (c.rewrite.ensures there.0 there.1)) in
+    (subst (λ (n : ℕ). IsPut (key_of step) write.hash shelf new (drafted write.draft (own_block write.draft.body (block_of step)) n write.moment)) c.draw-unique.ensures.number c.rewrite-rest.ensures.put) in
     record {
-      takes = subst (λ (r : Reply). Takes step write.moment shelf desk r new c.draw-unique.new.self) (sym c.reply.ensures)
+      takes = subst (λ (r : Reply). Takes step write.moment shelf desk r new c.draw-unique.new.self) (sym c.reply-reply.ensures)
           (subst (λ (d : DeskState). Takes step write.moment shelf desk (write_reply write.draft.body) new d) (sym c.draw-unique.ensures.drawn)
           (takes_again c.counts_follow.ensures.insert c.counts_follow.ensures.remove step write.moment shelf desk c.requires.write.on_key write.charge write.draft (sym c.requires.write.next) class class_is reused c.class_for-class.ensures.is_class c.draw-unique.ensures.slab more write.hash new puts));
       others = puts.others;
@@ -73,20 +77,20 @@ returns-then-not-has_room-clause-took c =
       hash = others.1;
     }
 
-pub put-requires-clause-class : goal.put-requires-clause-class
-put-requires-clause-class c =
+pub put-rest-requires-clause-class : goal.put-rest-requires-clause-class
+put-rest-requires-clause-class c =
     let write = c.args.write.now in
     let charge_is = charge_beside c.counts_follow.ensures.insert c.counts_follow.ensures.remove c.args.step.now write.moment c.args.self.now.content c.args.desk.now c.requires.write.on_key write.charge write.draft (sym c.requires.write.next) in
     c.in_ok-chunk.ensures.chunk.class_is ∙ c.class_for-class.ensures.value ∙ ap class_holding (sym charge_is)
 
-pub put-requires-clause-fits : goal.put-requires-clause-fits
-put-requires-clause-fits c =
+pub put-rest-requires-clause-fits : goal.put-rest-requires-clause-fits
+put-rest-requires-clause-fits c =
     let write = c.args.write.now in
     let charge_is = charge_beside c.counts_follow.ensures.insert c.counts_follow.ensures.remove c.args.step.now write.moment c.args.self.now.content c.args.desk.now c.requires.write.on_key write.charge write.draft (sym c.requires.write.next) in
     subst (λ (n : ℕ). n ≤ length c.in_ok-chunk.chunk) (sym charge_is) (subst (λ (n : ℕ). write.charge ≤ n) (sym c.in_ok-chunk.ensures.chunk.size) c.class_for-class.ensures.holds)
 
-pub put-requires-clause-out : goal.put-requires-clause-out
-put-requires-clause-out c =
+pub put-rest-requires-clause-out : goal.put-rest-requires-clause-out
+put-rest-requires-clause-out c =
     let desk = c.args.desk.now in
     let drawn : c.draw-unique-2.new.self ≡ record { slab = taken desk.slab c.class_for-class.result; next_unique = desk.next_unique + 1 } =
     c.draw-unique-2.ensures.drawn ∙ ap (λ (d : DeskState). record d { next_unique = d.next_unique + 1 }) c.in_ok-chunk.ensures.taken in
@@ -99,7 +103,7 @@ returns-clause-took c =
     let desk = c.args.desk.now in
     let write = c.args.write.now in
     let step = c.args.step.now in
-    let new = c.put.new.self.content in
+    let new = written c.put-rest.result step c.put-rest.new.self.content in
     let class = c.class_for-class.result in
     let class_is = c.class_for-class.ensures.value in
     let reused = subst (λ (k : List ℕ). reuses shelf.cut write.moment k (get shelf.items k) class write.draft.body ≡ false) c.key.ensures (sym c.reuses.ensures ∙ c.if-reuses.false) in
@@ -109,12 +113,12 @@ returns-clause-took c =
     let unique : c.draw-unique-2.result ≡ desk.next_unique = c.draw-unique-2.ensures.number ∙ ap (λ (d : DeskState). d.next_unique) c.in_ok-chunk.ensures.taken in
     let block = beside_is c.counts_follow.ensures.insert c.counts_follow.ensures.remove step write.moment shelf desk c.requires.write.on_key write.charge write.draft (sym c.requires.write.next) in
     let puts = subst (λ (l : List ℕ). IsPut (key_of step) write.hash shelf new (drafted write.draft l desk.next_unique write.moment)) block
-    (subst (λ (n : ℕ). IsPut (key_of step) write.hash shelf new (drafted write.draft (block_beside shelf step write.draft) n write.moment)) unique c.put.ensures.put) in
-    let back = subst (λ (d : DeskState). GivesBack (key_of step) (get shelf.items (key_of step)) d c.put.new.desk) drawn c.put.ensures.given in
+    (subst (λ (n : ℕ). IsPut (key_of step) write.hash shelf new (drafted write.draft (block_beside shelf step write.draft) n write.moment)) unique c.put-rest.ensures.put) in
+    let back = subst (λ (d : DeskState). GivesBack (key_of step) (get shelf.items (key_of step)) d c.put-rest.new.desk) drawn c.put-rest.ensures.given in
     record {
-      takes = subst (λ (r : Reply). Takes step write.moment shelf desk r new c.put.new.desk) (sym c.reply-2.ensures)
+      takes = subst (λ (r : Reply). Takes step write.moment shelf desk r new c.put-rest.new.desk) (sym c.reply-reply-2.ensures)
           (takes_anew c.counts_follow.ensures.insert c.counts_follow.ensures.remove step write.moment shelf desk c.requires.write.on_key write.charge write.draft (sym c.requires.write.next) class class_is reused c.class_for-class.ensures.is_class c.take.ensures.slab
-          (sym c.has_room.ensures.value ∙ c.if-not-has_room.false) more write.hash new c.put.new.desk puts back);
+          (sym c.has_room.ensures.value ∙ c.if-not-has_room.false) more write.hash new c.put-rest.new.desk puts back);
       others = puts.others;
       hash = puts.hash;
     }

@@ -4,7 +4,7 @@ use Rattle.mc_command.specs.Commands.{key_of}
 use Rattle.mc_command.specs.Plain.{Entry}
 use Rattle.mc_shelf.specs.Plans.{GivesBack, IsDropped, IsOut, IsPut}
 use Rattle.mc_shelf.proofs.TakesLemmas.{discarded_is, expired_is, is_out, others_same, takes_answer, takes_discard, takes_expire}
-use Rattle.mc_shelf.proofs.shelf.Shelf.apply.Goals as goal
+use Rattle.mc_shelf.proofs.shelf.Shelf.begin.Goals as goal
 
 pub discard-requires-clause-out : goal.discard-requires-clause-out
 discard-requires-clause-out c =

@@ -1,0 +1,46 @@
+use Rattle.std.proofs.Common.{◌≡◌, List, ℕ, Option, Some, is_some, length, arith, sym, ap, subst, ◌∙◌}
+use Rattle.std.specs.FinMap.{get}
+use Rattle.mc_slab.specs.Classes.{class_holding}
+use Rattle.mc_command.specs.Commands.{key_of}
+use Rattle.mc_command.specs.Plain.{Entry, block_of, charge}
+use Rattle.mc_shelf.specs.States.{EntryState, ShelfState}
+use Rattle.mc_shelf.specs.Places.{IsChanged, items_of}
+use Rattle.mc_shelf.specs.Plans.{IsPut, drafted}
+use Rattle.mc_shelf.proofs.ShelfLemmas.{changed_put, content_of, put_again, put_new}
+use Rattle.mc_shelf.proofs.shelf.Shelf.begin_put.Goals as goal
+
+-- the item whose block is still to be written was put
+head_put : (c : goal.After-result-1) → IsPut (key_of c.args.step.now) c.args.write.now.hash c.args.self.now.content (content_of c.self.inside.greatest c.self.inside.cut c.replace-old.new.self) c.head_of-entry.result.item
+head_put c =
+    let inside = c.self.inside in
+    let key : c.head_of-entry.result.key ≡ key_of c.args.step.now = ap (λ (e : EntryState). e.key) c.head_of-entry.ensures.value ∙ c.key-in-Some.ensures in
+    changed_put inside.greatest inside.cut c.args.self.now.content inside.index (ap (λ (s : ShelfState). s.content) c.self.view_is) (key_of c.args.step.now) c.args.write.now.hash c.replace-old.new.self c.head_of-entry.result.item c.requires.known.hash
+    (subst (λ (k : List ℕ). IsChanged inside.index c.replace-old.new.self k c.head_of-entry.result.item) key c.replace-old.ensures.changed)
+
+pub returns-in-Some-clause-put : goal.returns-in-Some-clause-put
+returns-in-Some-clause-put c =
+    let write = c.args.write.now in
+    put_again (key_of c.args.step.now) write.hash c.args.self.now.content _ c.head_of-entry.result.item (drafted write.draft (block_of c.args.step.now) c.args.unique write.moment) (head_put c)
+
+pub returns-in-Some-clause-left : goal.returns-in-Some-clause-left
+returns-in-Some-clause-left c =
+    let put = head_put c in
+    let key = key_of c.args.step.now in
+    let item = c.head_of-entry.result.item in
+    let block : length item.block ≡ length (block_of c.args.step.now) = c.head_of-entry.ensures.length ∙ ap (length {A = ℕ}) c.block.ensures in
+    let same : charge key item.block ≡ charge key (block_of c.args.step.now) = omega arith in
+    let stood : get c.args.self.now.content.items key ≡ Some c.in-Some.ensures.entry.item =
+    sym (ap (λ (s : ShelfState). get s.content.items key) c.self.view_is) ∙ ap (λ (k : List ℕ). get (items_of c.self.inside.index) k) (sym c.key.ensures) ∙ c.in-Some.ensures.item in
+    record {
+      short = c.requires.key;
+      known = record {
+        hash = put.hash;
+        place = c.requires.known.place ∙ ap (λ (o : Option Entry). is_some o) stood ∙ sym (ap (λ (o : Option Entry). is_some o) put.item);
+      };
+      ready = record { item = item; there = put.item; class = ap class_holding same };
+    }
+
+pub returns-in-None-clause-put : goal.returns-in-None-clause-put
+returns-in-None-clause-put c =
+    let write = c.args.write.now in
+    put_new (key_of c.args.step.now) write.hash c.args.self.now.content c.args.chunk (drafted write.draft (block_of c.args.step.now) c.args.unique write.moment)
