@@ -279,7 +279,7 @@ look_reads f step now is (inl reads) = reads
 look_reads f step now is (inr writes_new) = absurd (read_writes f step now is writes_new.1)
 
 -- what is told of a fault
-pub refuses : (start : Beginning) (p : Past) (step : KeyStep) (now : ℕ) (result : Result Reply StepFault)
+pub refuses : {A : Type 0} (start : Beginning) (p : Past) (step : KeyStep) (now : ℕ) (result : Result A StepFault)
     (fault : StepFault) → result ≡ Err fault
     → (result ≡ Err NoMemory → MayFailAfter start p step now)
     → (result ≡ Err NumbersSpent → IsSpentAfter start p step now) → Refuses start p step now fault

@@ -1,4 +1,4 @@
-//! A step on one key, looked up at its shelf and taken there and at the desk.
+//! A step on one key, looked up at its shelf and begun there and at the desk.
 ghost use Rattle.std.specs.Prelude.{◌≡◌, ◌≤◌, length, true, Err, IfOk, IfSome, OnErr};
 ghost use Rattle.mc_time.specs.declared.expiry.Expiry.{Expiry as Expires};
 ghost use Rattle.std.specs.Prelude.{Option};
@@ -6,11 +6,11 @@ ghost use Rattle.mc_command.specs.declared.row.Row.TheVariants.{Reads};
 ghost use Rattle.mc_command.specs.Commands.{key_of};
 ghost use Rattle.mc_command.specs.Laws.{IsOnKey};
 ghost use Rattle.mc_shelf.specs.States.{IsHash, CanStand};
-ghost use Rattle.mc_shelf.specs.Plans.{IsSpent, IsTaken, MayWantMemory, row_at};
+ghost use Rattle.mc_shelf.specs.Plans.{CanFinish, IsSpent, IsTaken, MayWantMemory, finished, row_at};
 ghost use Rattle.mc_shared.specs.Store.{IsPlanned, is_read};
 
-use mc_command::{KeyStep, Reply, StepFault};
-use mc_shelf::{Desk, Plan, Shelf, refusals_are_plain};
+use mc_command::{KeyStep, StepFault};
+use mc_shelf::{Begun, Desk, Plan, Shelf, refusals_are_plain};
 use mc_time::Moment;
 use std::alloc::{AllocError, Global};
 
@@ -59,9 +59,9 @@ fn is_read(step: &KeyStep<'_>) -> bool
     }
 }
 
-/// Takes a step at a shelf and the desk, by its plan. With none it is looked up again, and memory is
-/// asked for only where a number and a chunk are to be had.
-pub(crate) fn take_step(
+/// Begins a step at a shelf and the desk, by its plan. With none it is looked up again, and memory is asked for only where a
+/// number and a chunk are to be had.
+pub(crate) fn begin_step(
     alloc: Global,
     shelf: &mut Shelf,
     desk: &mut Desk,
@@ -69,14 +69,15 @@ pub(crate) fn take_step(
     step: &KeyStep<'_>,
     hash: u64,
     now: Moment,
-) -> Result<Reply, StepFault>
+) -> Result<Begun, StepFault>
     requires plan { IfSome plan (λ plan. IsPlanned plan shelf.old step.now hash now) }
     requires on_key { IsOnKey step.now }
     requires key { length (key_of step.now) ≤ 250 }
     requires hash { IsHash shelf.old.content (key_of step.now) hash }
     requires stands { CanStand (key_of step.now) shelf.old.content desk.old }
-    ensures took { IfOk result (λ reply. IsTaken step.now now hash shelf.old.content desk.old reply
-        shelf.new.content desk.new) }
+    ensures took { IfOk result (λ begun. IsTaken step.now now hash shelf.old.content desk.old
+        begun.reply (finished begun step.now shelf.new.content) desk.new) }
+    ensures left { IfOk result (λ begun. CanFinish begun step.now shelf.new) }
     ensures spent { result ≡ Err StepFault.NumbersSpent →
         IsSpent step.now now shelf.old.content desk.old }
     ensures refused { result ≡ Err StepFault.NoMemory →
@@ -87,7 +88,10 @@ pub(crate) fn take_step(
     refusals_are_plain();
     let _number = desk.next_unique();
     match plan {
-        Some(plan) => shelf.apply(alloc, plan, step, desk),
-        None => shelf.step(alloc, step, hash, now, desk),
+        Some(plan) => shelf.begin(alloc, plan, step, desk),
+        None => match shelf.step(alloc, step, hash, now, desk) {
+            Ok(reply) => Ok(Begun::of(reply)),
+            Err(fault) => Err(fault),
+        },
     }
 }

@@ -12,7 +12,7 @@ use crate::plays::{Begins, Decide, Fork, Give, Look, Meet, Says, Take};
 use crate::rule::{Board, Place};
 use mc_command::{KeyStep, Reply};
 use mc_hop::KeyHash;
-use mc_shelf::{Desk, Shelf};
+use mc_shelf::{Begun, Desk, Shelf};
 use mc_time::Moment;
 use std::marker::Brand;
 
@@ -118,8 +118,9 @@ pub fn decide_at_shelf<D: Says, K: KeyHash + Drop>(
     decide_as::<D, K>(board, caller, bay, Bay::Shelf(Boxed::of(shelf)));
 }
 
-/// Gives back the desk, and decides a step, while the key's shelf is held with its new content.
-/// What is decided is picked as at a shelf.
+/// Gives back the desk, and decides a step that was begun at the key's shelf, which is still held:
+/// its content is the one that the shelf has when the step is finished. What is decided is picked
+/// as at a shelf.
 pub fn decide_at_desk<D: Says, K: KeyHash + Drop>(
     board: &Board<K>,
     caller: &mut Place,
@@ -127,9 +128,9 @@ pub fn decide_at_desk<D: Says, K: KeyHash + Drop>(
     desk: Box<Desk>,
     _at: usize,
     _shelf: &Shelf,
+    _begun: &Begun,
     _step: &KeyStep<'_>,
     _now: Moment,
-    _reply: &Reply,
 )
     requires began { D.start ≡ start_of K.hash_of board.now.shared.key.value }
     requires may { MayDecide board.now.shared.table_id board.now.shared.key.value caller.old bay

@@ -18,7 +18,7 @@ ghost use Rattle.mc_shared.specs.declared.bay.Bay.{Bay as Held};
 use crate::bay::Bay;
 use crate::boxed::Boxed;
 use crate::fault::TryFault;
-use crate::look::{look_up, take_step};
+use crate::look::{begin_step, look_up};
 use crate::rule::{Board, Place};
 use crate::steps::{decide_at_desk, decide_at_shelf, fork, give, look, meet, take};
 use atomic_table::Table;
@@ -260,15 +260,24 @@ fn step_by<K: KeyHash + Drop>(
         give(board, caller, bays.0, Bay::Shelf(Boxed::of(shelf)));
         return Err(TryFault::NoMemory);
     };
-    match found {
-        Some(plan) => {
-            if plan.needs_desk() {
-                let plan = Some(plan);
-                return step_at_desk(board, alloc, caller, bays, shelf, plan, step, hash, now);
-            }
-            Ok(step_at_shelf(board, caller, bays, shelf, plan, step, now))
+    let plan = match found {
+        Some(plan) if !plan.needs_desk() => {
+            return Ok(step_at_shelf(board, caller, bays, shelf, plan, step, now));
         }
-        None => step_at_desk(board, alloc, caller, bays, shelf, None, step, hash, now),
+        plan => plan,
+    };
+    let desk = match take(board, caller, bays.1) {
+        Ok(bay) => desk_from(bay, bays.1),
+        Err(word) => {
+            give(board, caller, bays.0, Bay::Shelf(Boxed::of(shelf)));
+            return Err(TryFault::Busy { bay: bays.1, word });
+        }
+    };
+    match apply_at_desk(
+        board, alloc, caller, bays, shelf, desk, plan, step, hash, now,
+    ) {
+        Ok(reply) => Ok(reply),
+        Err(fault) => Err(told(fault)),
     }
 }
 
@@ -297,42 +306,8 @@ pub(crate) fn step_at_shelf<K: KeyHash + Drop>(
     reply
 }
 
-/// A step that the desk decides, with the key's shelf held. Where it isn't taken, both go back as
-/// they were.
-fn step_at_desk<K: KeyHash + Drop>(
-    board: &Board<K>,
-    alloc: Global,
-    caller: &mut Place,
-    bays: (usize, usize),
-    shelf: Box<Shelf>,
-    plan: Option<Plan<'_>>,
-    step: &KeyStep<'_>,
-    hash: u64,
-    now: Moment,
-) -> Result<Reply, TryFault>
-    requires held { HoldsShelf K.hash_of board.now.shared.table_id board.now.shared.key.value
-        caller.old step.now hash bays shelf.value }
-    requires plan { IfSome plan (λ plan. IsPlanned plan shelf.value step.now hash now) }
-    ensures came { ComesOut (start_of K.hash_of board.now.shared.key.value) caller.old step.now now
-        May result caller.new }
-{
-    let desk = match take(board, caller, bays.1) {
-        Ok(bay) => desk_from(bay, bays.1),
-        Err(word) => {
-            give(board, caller, bays.0, Bay::Shelf(Boxed::of(shelf)));
-            return Err(TryFault::Busy { bay: bays.1, word });
-        }
-    };
-    match apply_at_desk(
-        board, alloc, caller, bays, shelf, desk, plan, step, hash, now,
-    ) {
-        Ok(reply) => Ok(reply),
-        Err(fault) => Err(told(fault)),
-    }
-}
-
-/// A step that the desk decides, with the key's shelf and the desk held. Both go back, as they were
-/// where it isn't taken.
+/// A step that the desk decides, with the key's shelf and the desk held. The desk goes back with the
+/// decision, and the shelf when the step's block is copied; both as they were where it isn't taken.
 pub(crate) fn apply_at_desk<K: KeyHash + Drop>(
     board: &Board<K>,
     alloc: Global,
@@ -357,11 +332,12 @@ pub(crate) fn apply_at_desk<K: KeyHash + Drop>(
     steps_change_one_shelf();
     let mut shelf = shelf;
     let mut desk = desk;
-    match take_step(alloc, &mut *shelf, &mut *desk, plan, step, hash, now) {
-        Ok(reply) => {
+    match begin_step(alloc, &mut *shelf, &mut *desk, plan, step, hash, now) {
+        Ok(begun) => {
             decide_at_desk::<Brand, K>(
-                board, caller, bays.1, desk, bays.0, &*shelf, step, now, &reply,
+                board, caller, bays.1, desk, bays.0, &*shelf, &begun, step, now,
             );
+            let reply = shelf.finish(begun, step);
             give(board, caller, bays.0, Bay::Shelf(Boxed::of(shelf)));
             Ok(reply)
         }

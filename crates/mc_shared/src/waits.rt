@@ -54,39 +54,12 @@ fn step_waiting<K: KeyHash + Drop, R: Wait, G: Gate>(
         give(board, caller, bays.0, Bay::Shelf(Boxed::of(shelf)));
         return Err(StepFault::NoMemory);
     };
-    match found {
-        Some(plan) => {
-            if plan.needs_desk() {
-                let plan = Some(plan);
-                return step_at_desk_waiting(
-                    rt, board, alloc, caller, bays, shelf, plan, step, hash, now,
-                );
-            }
-            Ok(step_at_shelf(board, caller, bays, shelf, plan, step, now))
+    let plan = match found {
+        Some(plan) if !plan.needs_desk() => {
+            return Ok(step_at_shelf(board, caller, bays, shelf, plan, step, now));
         }
-        None => step_at_desk_waiting(rt, board, alloc, caller, bays, shelf, None, step, hash, now),
-    }
-}
-
-/// A step that the desk decides, with the key's shelf held. It waits for the desk.
-fn step_at_desk_waiting<K: KeyHash + Drop, R: Wait>(
-    rt: &R,
-    board: &Board<K>,
-    alloc: Global,
-    caller: &mut Place,
-    bays: (usize, usize),
-    shelf: Box<Shelf>,
-    plan: Option<Plan<'_>>,
-    step: &KeyStep<'_>,
-    hash: u64,
-    now: Moment,
-) -> Result<Reply, StepFault>
-    requires held { HoldsShelf K.hash_of board.now.shared.table_id board.now.shared.key.value
-        caller.old step.now hash bays shelf.value }
-    requires plan { IfSome plan (λ plan. IsPlanned plan shelf.value step.now hash now) }
-    ensures came { ComesOut (start_of K.hash_of board.now.shared.key.value) caller.old step.now now
-        Refuses result caller.new }
-{
+        plan => plan,
+    };
     let desk = desk_from(take_waiting(rt, board, caller, bays.1), bays.1);
     apply_at_desk(
         board, alloc, caller, bays, shelf, desk, plan, step, hash, now,
