@@ -1,5 +1,5 @@
 -- Which decisions are the plain machine's: those that take a state on by one shelf and the desk.
-use Rattle.std.proofs.Common.{◌≡◌, ◌≢◌, inl, inr, Bool, true, false, true≢false, Option, Some, None, ℕ, ◌<◌, List, [], ◌∷◌, Result, Err, sym, refl, ap, ◌∙◌, subst, arith}
+use Rattle.std.proofs.Common.{◌≡◌, ◌≢◌, inl, inr, Bool, true, false, true≢false, Option, Some, None, IfSome, ℕ, ◌<◌, List, [], ◌∷◌, Result, Err, sym, refl, ap, ◌∙◌, subst, arith}
 use Rattle.mc_time.specs.Death.{expiry_of}
 use Rattle.mc_time.specs.declared.expiry.Expiry.{Expiry}
 use Rattle.mc_command.specs.Plain.{Plain, Entry as Item, Outcome, MayFail, alive, changed, hit_of, plain, read_row, row_of, standing, stepped, without_dead}
@@ -7,12 +7,13 @@ use Rattle.mc_command.specs.declared.step.KeyStep.{KeyStep}
 use Rattle.mc_command.specs.declared.step.KeyStep.TheVariants.{Read, ReadTouch}
 use Rattle.mc_command.specs.declared.reply.Reply.{Reply}
 use Rattle.mc_command.specs.declared.reply.Reply.TheVariants.{Miss}
-use Rattle.mc_shelf.specs.States.{ShelfContent, DeskState, IsHash, IsAt, CanStand}
+use Rattle.mc_shelf.specs.States.{ShelfContent, ShelfState, DeskState, IsHash, IsAt, CanStand}
 use Rattle.mc_command.specs.Commands.{key_of}
 use Rattle.std.specs.FinMap.{get}
 use Rattle.mc_command.specs.Laws.{IsOnKey}
 use Rattle.mc_command.specs.declared.row.Row.TheVariants.{Reads}
-use Rattle.mc_shelf.specs.Plans.{LookTakesMemory, answered, is_gone, next_by, next_of, row_at, writes}
+use Rattle.mc_shelf.specs.Plans.{IsPlan, LookTakesMemory, answered, is_gone, next_by, next_of, row_at, writes}
+use Rattle.mc_shelf.specs.declared.plan.Plan.{Plan}
 use Rattle.mc_shelf.specs.Parts.{IsShelfOf, IsDeskOf, GoesTo, GoesByStep, GoesWithoutDesk}
 use Rattle.mc_shared.specs.Bays.{Content, OfShelf, OfDesk}
 use Rattle.mc_shared.specs.History.{Beginning, Operation, Stepped, shelf_in, left_by, next, after, IsRight}
@@ -22,7 +23,7 @@ use Rattle.mc_shared.specs.Steps.{Decides, Fitted}
 use Rattle.mc_command.specs.declared.step.StepFault.{StepFault}
 use Rattle.mc_command.specs.declared.step.StepFault.TheVariants.{NoMemory, NumbersSpent}
 use Rattle.mc_shared.specs.Past.{Past}
-use Rattle.mc_shared.specs.Store.{CanCome, IsSpentAfter, MayFailAfter, Refuses, May, is_read, told_of}
+use Rattle.mc_shared.specs.Store.{CanCome, IsPlanned, IsSpentAfter, MayFailAfter, Refuses, May, is_read, told_of}
 use Rattle.mc_shared.proofs.StockedKept.{here}
 
 -- a bay that isn't held is another than one that is
@@ -290,3 +291,17 @@ pub tells : (start : Beginning) (p : Past) (step : KeyStep) (now : ℕ) (fault :
     → IsOnKey step → Refuses start p step now fault → May start p step now (told_of fault)
 tells start p step now NoMemory on refused = refused on
 tells start p step now NumbersSpent on refused = refused
+
+-- the plan that was found, if one was, is one of the same shelf
+has_plan : (step : KeyStep) (hash now : ℕ) (shelf : ShelfState) (found : Option Plan)
+    → IfSome found (λ plan. IsPlanned plan shelf step hash now)
+    → IfSome found (λ plan. IsPlan plan shelf.content step now)
+has_plan step hash now shelf None is = tt
+has_plan step hash now shelf (Some plan) is = is.is_plan
+
+pub still_planned : (step : KeyStep) (hash now : ℕ) {found plan : Option Plan} {old new : ShelfState}
+    → found ≡ plan → old ≡ new → IfSome found (λ plan. IsPlanned plan old step hash now)
+    → IfSome plan (λ plan. IsPlan plan new.content step now)
+still_planned step hash now {found} {plan} {old} {new} same shelf is =
+    subst (λ (p : Option Plan). IfSome p (λ plan. IsPlan plan new.content step now)) same
+    (subst (λ (s : ShelfState). IfSome found (λ plan. IsPlan plan s.content step now)) shelf (has_plan step hash now old found is))

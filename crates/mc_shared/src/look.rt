@@ -1,16 +1,19 @@
 //! A step on one key, looked up at its shelf and begun there and at the desk.
-ghost use Rattle.std.specs.Prelude.{◌≡◌, ◌≤◌, length, true, Err, IfOk, IfSome, OnErr};
+ghost use Rattle.std.specs.Prelude.{◌≡◌, ℕ, ◌≤◌, length, true, Err, IfOk, IfSome, OnErr};
 ghost use Rattle.mc_time.specs.declared.expiry.Expiry.{Expiry as Expires};
 ghost use Rattle.std.specs.Prelude.{Option};
 ghost use Rattle.mc_command.specs.declared.row.Row.TheVariants.{Reads};
 ghost use Rattle.mc_command.specs.Commands.{key_of};
 ghost use Rattle.mc_command.specs.Laws.{IsOnKey};
 ghost use Rattle.mc_shelf.specs.States.{IsHash, CanStand};
-ghost use Rattle.mc_shelf.specs.Plans.{CanFinish, IsSpent, IsTaken, MayWantMemory, finished, row_at};
+ghost use Rattle.mc_shelf.specs.Plans.{CanFinish, IsPlan, IsSpent, IsTaken, MayWantMemory, NeedsPage, finished, row_at};
+ghost use Rattle.mc_slab.specs.Classes.{class_holding};
+ghost use Rattle.mc_command.specs.declared.step.KeyStep.{KeyStep as Step};
 ghost use Rattle.mc_shared.specs.Store.{IsPlanned, is_read};
 
 use mc_command::{KeyStep, StepFault};
 use mc_shelf::{Begun, Desk, Plan, Shelf, refusals_are_plain};
+use mc_slab::{Class, Page};
 use mc_time::Moment;
 use std::alloc::{AllocError, Global};
 
@@ -59,12 +62,27 @@ fn is_read(step: &KeyStep<'_>) -> bool
     }
 }
 
+/// Tells of which class a page is asked for where the step of a plan is taken at the desk, and none where none is, or where
+/// there is no plan.
+pub(crate) fn page_wanted(plan: &Option<Plan<'_>>, shelf: &Shelf, desk: &Desk) -> Option<Class>
+    requires { (step : Step) × (now : ℕ)
+        × IfSome plan.now (λ plan. IsPlan plan shelf.now.content step now) }
+    ensures { IfSome result (λ class. IfSome plan.now (λ plan.
+        (needs : NeedsPage plan.next desk.now) × (class ≡ class_holding needs.size))) }
+{
+    match plan {
+        Some(plan) => shelf.page_wanted(plan, desk),
+        None => None,
+    }
+}
+
 /// Begins a step at a shelf and the desk, by its plan. With none it is looked up again, and memory is asked for only where a
 /// number and a chunk are to be had.
 pub(crate) fn begin_step(
     alloc: Global,
     shelf: &mut Shelf,
     desk: &mut Desk,
+    page: Option<Page>,
     plan: Option<Plan<'_>>,
     step: &KeyStep<'_>,
     hash: u64,
@@ -88,7 +106,7 @@ pub(crate) fn begin_step(
     refusals_are_plain();
     let _number = desk.next_unique();
     match plan {
-        Some(plan) => shelf.begin(alloc, plan, step, desk),
+        Some(plan) => shelf.begin(alloc, plan, step, desk, page),
         None => match shelf.step(alloc, step, hash, now, desk) {
             Ok(reply) => Ok(Begun::of(reply)),
             Err(fault) => Err(fault),

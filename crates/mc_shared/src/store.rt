@@ -25,6 +25,7 @@ use atomic_table::Table;
 use mc_command::{KeyStep, Reply, StepFault};
 use mc_hop::KeyHash;
 use mc_shelf::{Desk, Plan, Settings, Shelf, Store, StoreParts, steps_change_one_shelf};
+use mc_slab::Page;
 use mc_time::Moment;
 use std::alloc::{AllocError, Global};
 use std::marker::{Brand, Model};
@@ -273,6 +274,7 @@ fn step_by<K: KeyHash + Drop>(
             return Err(TryFault::Busy { bay: bays.1, word });
         }
     };
+    let desk = (desk, None);
     match apply_at_desk(
         board, alloc, caller, bays, shelf, desk, plan, step, hash, now,
     ) {
@@ -306,7 +308,7 @@ pub(crate) fn step_at_shelf<K: KeyHash + Drop>(
     reply
 }
 
-/// A step that the desk decides, with the key's shelf and the desk held. The desk goes back with the
+/// A step that the desk decides, with the key's shelf and the desk held, and a page if one was made for it. The desk goes back with the
 /// decision, and the shelf when the step's block is copied; both as they were where it isn't taken.
 pub(crate) fn apply_at_desk<K: KeyHash + Drop>(
     board: &Board<K>,
@@ -314,7 +316,7 @@ pub(crate) fn apply_at_desk<K: KeyHash + Drop>(
     caller: &mut Place,
     bays: (usize, usize),
     shelf: Box<Shelf>,
-    desk: Box<Desk>,
+    desk: (Box<Desk>, Option<Page>),
     plan: Option<Plan<'_>>,
     step: &KeyStep<'_>,
     hash: u64,
@@ -322,7 +324,7 @@ pub(crate) fn apply_at_desk<K: KeyHash + Drop>(
 ) -> Result<Reply, StepFault>
     requires seat { IsAlive board.now.shared.table_id board.now.shared.key.value caller.old }
     requires step { IsStepAt K.hash_of board.now.shared.key.value step.now hash bays }
-    requires held { caller.old.me ≡ holds_two caller.old.me.0.past bays.1 (OfDesk desk.value) bays.0
+    requires held { caller.old.me ≡ holds_two caller.old.me.0.past bays.1 (OfDesk desk.0.value) bays.0
         (OfShelf shelf.value.content) }
     requires fits { Fitted (start_of K.hash_of board.now.shared.key.value) caller.old.me.0 }
     requires plan { IfSome plan (λ plan. IsPlanned plan shelf.value step.now hash now) }
@@ -331,8 +333,8 @@ pub(crate) fn apply_at_desk<K: KeyHash + Drop>(
 {
     steps_change_one_shelf();
     let mut shelf = shelf;
-    let mut desk = desk;
-    match begin_step(alloc, &mut *shelf, &mut *desk, plan, step, hash, now) {
+    let (mut desk, page) = desk;
+    match begin_step(alloc, &mut *shelf, &mut *desk, page, plan, step, hash, now) {
         Ok(begun) => {
             decide_at_desk::<Brand, K>(
                 board, caller, bays.1, desk, bays.0, &*shelf, &begun, step, now,

@@ -1,20 +1,23 @@
 //! Steps that wait for what others hold.
-ghost use Rattle.std.specs.Prelude.{IfSome};
+ghost use Rattle.std.specs.Prelude.{◌≡◌};
 ghost use Rattle.mc_command.specs.Laws.{IsOnKey};
 ghost use Rattle.mc_shared.specs.History.{start_of};
-ghost use Rattle.mc_shared.specs.Store.{IsPlanned, Refuses};
-ghost use Rattle.mc_shared.specs.Seats.{IsFree, IsStepAt, HoldsShelf, MayAsk, ComesOut, IsAnswered};
+ghost use Rattle.mc_shared.specs.Bays.{OfShelf, OfDesk};
+ghost use Rattle.mc_shared.specs.Steps.{Fitted};
+ghost use Rattle.mc_shared.specs.Store.{Refuses, holds_two};
+ghost use Rattle.mc_shared.specs.Seats.{SameSeat, IsAlive, IsFree, IsStepAt, MayAsk, ComesOut, IsAnswered};
 
 use crate::bay::Bay;
 use crate::boxed::Boxed;
 use crate::flush::take_waiting;
-use crate::look::look_up;
+use crate::look::{look_up, page_wanted};
 use crate::rule::{Board, Place};
 use crate::steps::give;
 use crate::store::{Caller, Shared, apply_at_desk, desk_from, shelf_from, step_at_shelf};
 use mc_command::{KeyStep, Reply, StepFault};
 use mc_hop::KeyHash;
-use mc_shelf::{Plan, Shelf};
+use mc_shelf::{Desk, Shelf};
+use mc_slab::{Class, Page};
 use mc_time::Moment;
 use std::alloc::Global;
 use std::sync::Wait;
@@ -61,9 +64,42 @@ fn step_waiting<K: KeyHash + Drop, R: Wait, G: Gate>(
         plan => plan,
     };
     let desk = desk_from(take_waiting(rt, board, caller, bays.1), bays.1);
+    let class = page_wanted(&plan, &*shelf, &*desk);
+    let desk = with_page(rt, board, alloc, caller, bays, &*shelf, desk, class);
     apply_at_desk(
         board, alloc, caller, bays, shelf, desk, plan, step, hash, now,
     )
+}
+
+/// Makes a page of a class that wants one while nobody waits for the desk: the desk goes back, and is taken again with the page
+/// in hand. Where memory for it is refused, there is none: the step finds out at the desk.
+fn with_page<K: KeyHash + Drop, R: Wait>(
+    rt: &R,
+    board: &Board<K>,
+    alloc: Global,
+    caller: &mut Place,
+    bays: (usize, usize),
+    _shelf: &Shelf,
+    desk: Box<Desk>,
+    class: Option<Class>,
+) -> (Box<Desk>, Option<Page>)
+    requires seat { IsAlive board.now.shared.table_id board.now.shared.key.value caller.old }
+    requires desk { bays.1 ≡ board.now.shared.key.value.settings.shelves }
+    requires held { caller.old.me ≡ holds_two caller.old.me.0.past bays.1 (OfDesk desk.value) bays.0
+        (OfShelf _shelf.now.content) }
+    requires fits { Fitted (start_of K.hash_of board.now.shared.key.value) caller.old.me.0 }
+    ensures seat { SameSeat caller.old caller.new }
+    ensures held { caller.new.me ≡ holds_two caller.old.me.0.past bays.1 (OfDesk result.0.value)
+        bays.0 (OfShelf _shelf.now.content) }
+    ensures fits { Fitted (start_of K.hash_of board.now.shared.key.value) caller.new.me.0 }
+{
+    let Some(class) = class else {
+        return (desk, None);
+    };
+    give(board, caller, bays.1, Bay::Desk(Boxed::of(desk)));
+    let page = Page::new(alloc, class).ok();
+    let desk = desk_from(take_waiting(rt, board, caller, bays.1), bays.1);
+    (desk, page)
 }
 
 impl<K: KeyHash + Drop> Shared<K> {

@@ -1,12 +1,12 @@
 //! What the shelves of a store share.
 
-ghost use Rattle.std.specs.Prelude.{◌≡◌, ◌+◌, ◌-◌, ◌^◌, ◌<◌, ◌≤◌, true, false, IfOk, IfErr, OnOk, OnErr};
+ghost use Rattle.std.specs.Prelude.{◌≡◌, ◌+◌, ◌-◌, ◌^◌, ◌<◌, ◌≤◌, ◌↔◌, true, false, IfOk, IfErr, OnOk, OnErr};
 ghost use Rattle.mc_slab.specs.Chunks.{IsChunkOf, chunk_class};
 ghost use Rattle.mc_slab.specs.Slabs.{IsSlab, untouched, pages_of, out_of, has_room, taken, given};
 ghost use Rattle.mc_shelf.specs.Plans.{WantsPage};
 
 use mc_command::StepFault;
-use mc_slab::{Account, Chunk, Class, Slab};
+use mc_slab::{Account, Chunk, Class, Page, Slab};
 use std::alloc::{AllocError, Global};
 use std::marker::Model;
 
@@ -96,9 +96,24 @@ impl Desk {
         u64::from(out) < chunks || 0 < self.slab.pages_left()
     }
 
+    /// Answers whether a chunk of the class asks for a page: all its chunks are out, and a page is left.
+    pub(crate) fn wants_page(&self, class: Class) -> bool
+        ensures { (result ≡ true) ↔ WantsPage self.now.slab class }
+    {
+        let Account { pages, out } = self.slab.account(class);
+        let chunks = u64::from(pages) * u64::from(class.chunks_a_page());
+        u64::from(out) == chunks && 0 < self.slab.pages_left()
+    }
+
     /// Takes a chunk of the class, of any content, where one can be had. A page that goes to the class, where all its chunks
-    /// are out, is all that takes memory. Refused, the desk is as it was.
-    pub(crate) fn take(&mut self, alloc: Global, class: Class) -> Result<Chunk, StepFault>
+    /// are out, is all that takes memory; it is the one that is brought, where one of the class is. Refused, the desk is as it
+    /// was.
+    pub(crate) fn take(
+        &mut self,
+        alloc: Global,
+        class: Class,
+        page: Option<Page>,
+    ) -> Result<Chunk, StepFault>
         requires { has_room self.old.slab class ≡ true }
         ensures chunk { IfOk result (IsChunkOf class) }
         ensures taken { OnOk result
@@ -108,7 +123,7 @@ impl Desk {
         ensures err { OnErr result (self.new ≡ self.old) }
         ensures slab { IsSlab self.old.slab }
     {
-        match self.slab.take(alloc, class) {
+        match self.slab.take_with(alloc, class, page) {
             Ok(chunk) => Ok(chunk),
             Err(_) => Err(StepFault::NoMemory),
         }

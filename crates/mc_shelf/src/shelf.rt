@@ -47,7 +47,7 @@ use crate::plan::{Next, Plan, is_gone, next_of};
 use crate::soonest::Soonest;
 use crate::write::Write;
 use mc_command::{Bytes, KeyStep, Reply, StepFault, counts_follow};
-use mc_slab::{Class, class_of};
+use mc_slab::{Class, Page, class_of};
 use mc_time::{Expiry, Moment};
 use std::alloc::{AllocError, Global};
 use std::marker::Model;
@@ -213,23 +213,47 @@ impl Shelf {
         ensures err { OnErr result
             ((self.new.content ≡ self.old.content) × (desk.new ≡ desk.old)) }
     {
-        match self.begin(alloc, plan, step, desk) {
+        match self.begin(alloc, plan, step, desk, None) {
             Ok(begun) => Ok(self.finish(begun, step)),
             Err(fault) => Err(fault),
+        }
+    }
+
+    /// Tells of which class a page is asked for where the step of a plan is taken at the desk, and none where none is. A page
+    /// that is made before the desk is held may be brought to `begin` then.
+    pub fn page_wanted(&self, plan: &Plan<'_>, desk: &Desk) -> Option<Class>
+        requires { (step : Step) × (now : ℕ) × IsPlan plan.now self.now.content step now }
+        ensures wanted { IfSome result (λ class.
+            (needs : NeedsPage plan.now.next desk.now) × (class ≡ class_holding needs.size)) }
+        ensures none { result ≡ None → NeedsPage plan.now.next desk.now → ⊥ }
+    {
+        if desk.is_spent() {
+            return None;
+        }
+        let Next::Write(charge, _) = plan.next else {
+            return None;
+        };
+        let class = self.class_for(charge);
+        if desk.wants_page(class) {
+            Some(class)
+        } else {
+            None
         }
     }
 
     /// Does what a plan's step needs the desk for; `finish` does the rest, before the shelf is asked for anything else. A write
     /// takes a chunk while the key's old item still has its own; a dead item's chunk of the same class is used again, and so is
     /// that of a number that incr and decr leave in its class. A block that the step brings is left to `finish`, so that the
-    /// cost doesn't grow with it. A page that the slab gives to a class is all that takes memory. Refused, or with the unique
-    /// numbers spent, the shelf holds what it held, and the desk is as it was.
+    /// cost doesn't grow with it. A page that the slab gives to a class is all that takes memory; it is the one that is brought,
+    /// where one of that class is. Refused, or with the unique numbers spent, the shelf holds what it held, and the desk is as
+    /// it was.
     pub fn begin(
         &mut self,
         alloc: Global,
         plan: Plan<'_>,
         step: &KeyStep<'_>,
         desk: &mut Desk,
+        page: Option<Page>,
     ) -> Result<Begun, StepFault>
         requires plan { IsPlan plan self.old.content step.now plan.moment }
         requires room { CanWrite plan.next desk.old → HasRoom plan self.old step.now }
@@ -272,7 +296,7 @@ impl Shelf {
                     charge,
                     draft,
                 };
-                self.write(alloc, &write, step, desk)
+                self.write(alloc, &write, step, desk, page)
             }
         }
     }

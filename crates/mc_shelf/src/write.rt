@@ -44,7 +44,7 @@ use crate::shelf::Shelf;
 use itoa::Buffer;
 use mc_command::{Body, Draft, KeyStep, Reply, StepFault, counts_follow};
 use mc_item::Parts;
-use mc_slab::{Chunk, Class};
+use mc_slab::{Chunk, Class, Page};
 use mc_time::Moment;
 use std::alloc::Global;
 
@@ -182,6 +182,7 @@ impl Shelf {
         write: &Write,
         step: &KeyStep<'_>,
         desk: &mut Desk,
+        page: Option<Page>,
     ) -> Result<Begun, StepFault>
         requires write { IsWriteOf write.now self.old.content step.now }
         requires room { CanWrite (Next.Write write.now.charge write.now.draft) desk.old →
@@ -215,7 +216,7 @@ impl Shelf {
                 rest: None,
             });
         }
-        let chunk = desk.take(alloc, class)?;
+        let chunk = desk.take(alloc, class, page)?;
         let unique = desk.draw();
         let rest = self.put(write, unique, chunk, step, desk);
         let reply = write.draft.body.reply();

@@ -11,6 +11,7 @@ mod stock;
 pub use chunk::Chunk;
 pub use class::{Class, class_of};
 pub use laws::table_of_classes;
+pub use run::Page;
 pub use slab::{Slab, TakeFault};
 pub use stock::Account;
 

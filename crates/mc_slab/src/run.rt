@@ -1,6 +1,6 @@
 //! Memory of which no chunk is cut yet, in runs.
 
-ghost use Rattle.std.specs.Prelude.{◌≡◌, ◌+◌, ◌*◌, ◌<◌, ◌≤◌, ◌↔◌, [], IsTrue, IfOk, OnOk, OnErr, vec_len, vec_capacity};
+ghost use Rattle.std.specs.Prelude.{◌≡◌, ◌+◌, ◌*◌, ◌<◌, ◌≤◌, ◌↔◌, [], IsTrue, IfOk, IfSome, OnOk, OnErr, vec_len, vec_capacity};
 ghost use Rattle.std.specs.List.{All};
 ghost use Rattle.mc_slab.specs.Classes.{IsClass, chunks_a_page};
 ghost use Rattle.mc_slab.specs.Chunks.{IsChunkOf};
@@ -23,7 +23,7 @@ struct Run {
 }
 
 impl Model for Run {
-    ghost use Rattle.std.specs.Prelude.{◌≡◌, ◌*◌, vec_capacity};
+    ghost use Rattle.std.specs.Prelude.{◌≤◌, ◌*◌, vec_capacity};
     ghost use Rattle.mc_slab.specs.Classes.{IsClass, size_of};
     ghost use Rattle.mc_slab.specs.Runs.{UncutState, coded_uncut};
 
@@ -34,7 +34,7 @@ impl Model for Run {
     ghost view = { λ r. record { class = r.class; count = r.count } };
 
     ghost invariant = { λ r.
-        IsClass r.class × (r.count * size_of r.class ≡ vec_capacity r.memory) };
+        IsClass r.class × (r.count * size_of r.class ≤ vec_capacity r.memory) };
 }
 
 impl Run {
@@ -51,6 +51,23 @@ impl Run {
         })
     }
 
+    /// Writes its memory, of zeros.
+    fn written(self) -> Run
+        ensures { result ≡ self }
+    {
+        let Run {
+            class,
+            count,
+            mut memory,
+        } = self;
+        write_zeros(&mut memory, count as usize * class.size() as usize);
+        Run {
+            class,
+            count,
+            memory,
+        }
+    }
+
     /// Cuts its chunks, of zeros, for which there is room. They stay with the process.
     fn cut_into(self, chunks: &mut Vec<Chunk>)
         requires none { chunks.old.items ≡ [] }
@@ -65,8 +82,7 @@ impl Run {
             mut memory,
         } = self;
         let size = class.size() as usize;
-        let all = memory.capacity();
-        memory.resize_with(all, || 0).unwrap();
+        write_zeros(&mut memory, count as usize * size);
         let mut rest = memory.leak();
         for _ in 0..count {
             let (first, others) = rest.split_at_mut(size);
@@ -74,6 +90,15 @@ impl Run {
             rest = others;
         }
     }
+}
+
+/// Makes so many bytes of zeros, for which there is room. Where they are there already it writes nothing.
+fn write_zeros(memory: &mut Vec<u8>, length: usize)
+    requires { length ≤ vec_capacity memory.old }
+    ensures length { vec_len memory.new ≡ length }
+    ensures capacity { vec_capacity memory.old ≤ vec_capacity memory.new }
+{
+    memory.resize_with(length, || 0).unwrap();
 }
 
 /// The runs of a class. A page is made as runs, each of one allocation, and cut run by run as its chunks are asked for.
@@ -106,6 +131,13 @@ impl Runs {
         }
     }
 
+    /// The class.
+    fn class(&self) -> Class
+        ensures { result ≡ self.now.class }
+    {
+        self.class
+    }
+
     /// Whether no chunk is to be cut.
     pub(crate) fn is_empty(&self) -> bool
         ensures { IsTrue result ↔ (self.now.count ≡ 0) }
@@ -113,8 +145,34 @@ impl Runs {
         self.runs.is_empty()
     }
 
+    /// Takes the memory of a page that is brought, and asks for it where none is. Refused, what was had of it is given back.
+    pub(crate) fn add_page(&mut self, alloc: Global, page: Option<Page>) -> Result<(), AllocError>
+        requires none { self.old.count ≡ 0 }
+        requires page { IfSome page (λ page. page.class ≡ self.old.class) }
+        ensures ok { OnOk result
+            (self.new ≡ record self.old { count = chunks_a_page self.old.class }) }
+        ensures err { OnErr result (self.new ≡ self.old) }
+    {
+        match page {
+            Some(page) => {
+                self.bring(page);
+                Ok(())
+            }
+            None => self.ask_for_page(alloc),
+        }
+    }
+
+    /// Takes the memory of a page.
+    fn bring(&mut self, page: Page)
+        requires page { page.class ≡ self.old.class }
+        ensures { self.new ≡ record self.old { count = chunks_a_page self.old.class } }
+    {
+        let Page { runs } = page;
+        *self = runs;
+    }
+
     /// Asks for the memory of a page. Refused, what was had of it is given back.
-    pub(crate) fn add_page(&mut self, alloc: Global) -> Result<(), AllocError>
+    fn ask_for_page(&mut self, alloc: Global) -> Result<(), AllocError>
         requires { self.old.count ≡ 0 }
         ensures ok { OnOk result
             (self.new ≡ record self.old { count = chunks_a_page self.old.class }) }
@@ -125,6 +183,15 @@ impl Runs {
             self.runs.clear();
         }
         made
+    }
+
+    /// Writes the run whose chunks are cut first.
+    fn write_next(&mut self)
+        ensures { self.new ≡ self.old }
+    {
+        if let Some(run) = self.runs.pop() {
+            self.runs.push_reserved(run.written());
+        }
     }
 
     /// Cuts the chunks of one run, for which there is room.
@@ -165,4 +232,45 @@ fn make_runs(runs: &mut Vec<Run>, alloc: Global, class: Class) -> Result<(), All
         left -= count;
     }
     Ok(())
+}
+
+/// The memory of a page for a class, had before a slab is asked for a chunk. The run whose chunks are cut first is written.
+/// Contracts see the class. One that is let go gives its memory back.
+#[derive(Drop)]
+pub struct Page {
+    runs: Runs,
+}
+
+impl Model for Page {
+    ghost use Rattle.std.specs.Prelude.{◌≡◌};
+    ghost use Rattle.mc_slab.specs.Classes.{chunks_a_page};
+    ghost use Rattle.mc_slab.specs.Runs.{UncutState, coded_uncut};
+
+    ghost Value = { UncutState };
+
+    ghost coded = { coded_uncut };
+
+    ghost view = { λ p. p.runs };
+
+    ghost invariant = { λ p. p.runs.count ≡ chunks_a_page p.runs.class };
+}
+
+impl Page {
+    /// Asks for the memory of a page of the class, and writes what a slab cuts of it first: 32768 bytes, or one larger chunk.
+    /// The one error is a refused allocation; what was had is then given back.
+    pub fn new(alloc: Global, class: Class) -> Result<Page, AllocError>
+        ensures class { IfOk result (λ page. page.class ≡ class) }
+    {
+        let mut runs = Runs::new(alloc, class);
+        runs.add_page(alloc, None)?;
+        runs.write_next();
+        Ok(Page { runs })
+    }
+
+    /// The class that it is for.
+    pub(crate) fn class(&self) -> Class
+        ensures { result ≡ self.now.class }
+    {
+        self.runs.class()
+    }
 }

@@ -1,6 +1,6 @@
 //! The slab: pages that go to classes, and the chunks that are taken of them.
 
-ghost use Rattle.std.specs.Prelude.{◌≡◌, ℕ, ◌<◌, ◌≤◌, ◌↔◌, ◌⊎◌, map, IfOk, IfErr, OnOk, OnErr, Err};
+ghost use Rattle.std.specs.Prelude.{◌≡◌, ℕ, ◌<◌, ◌≤◌, ◌↔◌, ◌⊎◌, map, IfOk, IfErr, IfSome, OnOk, OnErr, Err};
 ghost use Rattle.std.specs.List.{range_with_len};
 ghost use Rattle.mc_slab.specs.Chunks.{IsChunkOf, chunk_class};
 ghost use Rattle.mc_slab.specs.Slabs.{
@@ -22,6 +22,7 @@ ghost use Rattle.mc_slab.specs.declared.slab.TakeFault.TheVariants.{NoMemory};
 
 use crate::chunk::Chunk;
 use crate::class::{CLASSES, Class};
+use crate::run::Page;
 use crate::stock::{Account, Stock};
 use std::alloc::{AllocError, Global};
 use std::marker::Model;
@@ -104,13 +105,41 @@ impl Slab {
         ensures err { OnErr result (self.new ≡ self.old) }
         ensures is_slab { OnOk result (IsSlab self.new) }
     {
-        self.make_ready(alloc, class)?;
+        self.take_with(alloc, class, None)
+    }
+
+    /// Takes a chunk of the class, as `take` does. A page that goes to the class is the one that is
+    /// brought, where one of the class is: then memory is asked for nothing but the list of its
+    /// chunks. One that isn't wanted is let go.
+    pub fn take_with(
+        &mut self,
+        alloc: Global,
+        class: Class,
+        page: Option<Page>,
+    ) -> Result<Chunk, TakeFault>
+        ensures chunk { IfOk result (IsChunkOf class) }
+        ensures taken { OnOk result (self.new ≡ taken self.old class) }
+        ensures full { (pages out : ℕ) → (result ≡ Err (TakeFault.Full class pages out))
+            ↔ TellsFull self.old class pages out }
+        ensures no_memory { result ≡ Err TakeFault.NoMemory → WantsPage self.old class }
+        ensures faults { IfErr result (λ fault.
+            (fault ≡ TakeFault.NoMemory) ⊎ (fault ≡ full_fault self.old class)) }
+        ensures err { OnErr result (self.new ≡ self.old) }
+        ensures is_slab { OnOk result (IsSlab self.new) }
+    {
+        self.make_ready(alloc, class, of_class(page, class))?;
         let stock = &mut self.stocks[class.index()];
         Ok(stock.take())
     }
 
     /// Gives a page to the class where all its chunks are out.
-    fn make_ready(&mut self, alloc: Global, class: Class) -> Result<(), TakeFault>
+    fn make_ready(
+        &mut self,
+        alloc: Global,
+        class: Class,
+        page: Option<Page>,
+    ) -> Result<(), TakeFault>
+        requires page { IfSome page (λ page. page.class ≡ class) }
         ensures ready { OnOk result (self.new ≡ with_chunk self.old class) }
         ensures free { OnOk result (out_of self.new class < chunks_of self.new class) }
         ensures full { (pages out : ℕ) → (result ≡ Err (TakeFault.Full class pages out))
@@ -128,7 +157,7 @@ impl Slab {
             let Account { pages, out } = stock.account();
             return Err(TakeFault::Full { class, pages, out });
         }
-        stock.add_page(alloc)?;
+        stock.add_page(alloc, page)?;
         self.pages_left -= 1;
         Ok(())
     }
@@ -172,4 +201,14 @@ fn empty_stocks(alloc: Global) -> Result<Vec<Stock>, AllocError>
         stocks.push_reserved(Stock::new(alloc, Class::of(index + 1)));
     }
     Ok(stocks)
+}
+
+/// The page, if it is one of the class.
+fn of_class(page: Option<Page>, class: Class) -> Option<Page>
+    ensures { IfSome result (λ page. page.class ≡ class) }
+{
+    match page {
+        Some(page) if page.class().number() == class.number() => Some(page),
+        _ => None,
+    }
 }

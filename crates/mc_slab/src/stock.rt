@@ -1,6 +1,6 @@
 //! What one class has: its pages, its chunks that are out, and its free ones.
 
-ghost use Rattle.std.specs.Prelude.{◌≡◌, ◌+◌, ◌-◌, ◌*◌, ◌<◌, ◌≤◌, ◌↔◌, IsTrue, OnOk, OnErr, vec_len, vec_capacity};
+ghost use Rattle.std.specs.Prelude.{◌≡◌, ◌+◌, ◌-◌, ◌*◌, ◌<◌, ◌≤◌, ◌↔◌, IsTrue, IfSome, OnOk, OnErr, vec_len, vec_capacity};
 ghost use Rattle.std.specs.List.{All};
 ghost use Rattle.mc_slab.specs.Classes.{IsClass, chunks_a_page};
 ghost use Rattle.mc_slab.specs.Chunks.{IsChunkOf};
@@ -8,7 +8,7 @@ ghost use Rattle.mc_slab.specs.Stocks.{all_chunks};
 
 use crate::chunk::Chunk;
 use crate::class::Class;
-use crate::run::Runs;
+use crate::run::{Page, Runs};
 use std::alloc::{AllocError, Global};
 use std::marker::Model;
 
@@ -80,11 +80,12 @@ impl Stock {
         self.free.is_empty() && self.uncut.is_empty()
     }
 
-    /// One page more. Refused, the stock is as it was: the memory of a page is had whole, with room for its chunks among the
+    /// One page more: the one that is brought, where one is. Refused, the stock is as it was: the memory of a page is had whole, with room for its chunks among the
     /// free ones, or not at all.
-    pub(crate) fn add_page(&mut self, alloc: Global) -> Result<(), AllocError>
+    pub(crate) fn add_page(&mut self, alloc: Global, page: Option<Page>) -> Result<(), AllocError>
         requires all_out { self.old.out ≡ all_chunks self.old }
         requires few { self.old.pages < 65536 }
+        requires page { IfSome page (λ page. page.class ≡ self.old.class) }
         ensures ok { OnOk result (self.new ≡ record self.old { pages = self.old.pages + 1 }) }
         ensures err { OnErr result (self.new ≡ self.old) }
     {
@@ -92,7 +93,7 @@ impl Stock {
         // None is free here, so there is room for all: those that are out, and those of the new page.
         self.free
             .reserve_exact(self.out as usize + chunks as usize)?;
-        self.uncut.add_page(alloc)?;
+        self.uncut.add_page(alloc, page)?;
         self.pages += 1;
         Ok(())
     }

@@ -37,7 +37,7 @@ decide_at_desk-requires-clause-may g c =
     record {
       alive = c.requires.seat;
       bay = (let l = c.requires.step.desk in let w = c.requires.seat.seated.wide in omega (arith, l, w));
-      held = two_held c.args.caller.now.me c.args.caller.now.me.0.past c.args.bays.1 (OfDesk c.args.desk.value) c.args.bays.0 (OfShelf c.args.shelf.value.content) c.requires.held;
+      held = two_held c.args.caller.now.me c.args.caller.now.me.0.past c.args.bays.1 (OfDesk c.args.desk.0.value) c.args.bays.0 (OfShelf c.args.shelf.value.content) c.requires.held;
       right =
           subst (λ (s : ShelfState). Decides began c.args.caller.now.me.0.bays c.args.bays.1 (OfDesk c.begin_step.new.desk) (Stepped step c.args.now c.in-Ok.begun.reply) ((c.args.bays.0, OfShelf (finished c.in-Ok.begun step s.content)) ∷ [])) (sym c.deref.ensures)
           (subst (λ (t : ℕ × List (ℕ × Content)). Decides began t.1 t.0 (OfDesk c.begin_step.new.desk) (Stepped step c.args.now c.in-Ok.begun.reply) ((c.args.bays.0, OfShelf new) ∷ [])) (λ i. (sym c.requires.step.desk i, sym all i))

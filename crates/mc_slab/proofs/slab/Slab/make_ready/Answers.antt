@@ -1,8 +1,9 @@
-use Rattle.std.proofs.Common.{◌≡◌, ◌≢◌, ◌+◌, ◌-◌, ◌*◌, ◌<◌, ◌≤◌, true, false, List, refl, sym, ap, subst, ◌∙◌, arith}
+use Rattle.std.proofs.Common.{◌≡◌, ◌≢◌, ◌+◌, ◌-◌, ◌*◌, ◌<◌, ◌≤◌, true, false, ℕ, IfSome, List, refl, sym, ap, subst, ◌∙◌, arith}
 use Rattle.mc_slab.specs.Classes.{chunks_a_page}
+use Rattle.mc_slab.specs.Runs.{UncutState}
 use Rattle.mc_slab.specs.Stocks.{StockState, all_chunks}
 use Rattle.mc_slab.specs.Slabs.{SlabState, IsFull, state_of, pages_of, out_of, chunks_of}
-use Rattle.mc_slab.proofs.SlabLemmas.{stock_at, within_at, pages_at, out_at, chunks_at, few_at, AreStocks-set, set-same, state_of-page, with_chunk-free, with_chunk-none, free-with_page}
+use Rattle.mc_slab.proofs.SlabLemmas.{stock_at, class_at, within_at, pages_at, out_at, chunks_at, few_at, AreStocks-set, set-same, state_of-page, with_chunk-free, with_chunk-none, free-with_page}
 use Rattle.mc_slab.proofs.slab.Slab.make_ready.Goals as goal
 
 pub returns-then-not-is_all_out-clause-ready : goal.returns-then-not-is_all_out-clause-ready
@@ -74,3 +75,8 @@ pub returns-clause-free : goal.returns-clause-free
 returns-clause-free c =
     let at = stock_at _ _ _ _ _ c.self.invariant c.index.ensures.is_class c.index.ensures.value c.index_mut-stock.ensures.value in
     rw c.in_ok-add_page.ensures.ok (subst (λ (s : SlabState). out_of s c.args.class < chunks_of s c.args.class) (sym (state_of-page _ _ _ _ _ at (omega arith))) (free-with_page _ _ _ _ _ at))
+
+pub add_page-requires-clause-page : goal.add_page-requires-clause-page
+add_page-requires-clause-page c =
+    let at = stock_at _ _ _ _ _ c.self.invariant c.index.ensures.is_class c.index.ensures.value c.index_mut-stock.ensures.value in
+    subst (λ (k : ℕ). IfSome c.args.page (λ (page : UncutState). page.class ≡ k)) (sym (class_at _ _ _ _ _ at)) c.requires.page

@@ -5,7 +5,7 @@ use Rattle.mc_slab.specs.Chunks.{IsChunkOf}
 use Rattle.mc_slab.specs.Stocks.{all_chunks}
 use Rattle.mc_slab.specs.Slabs.{SlabState, state_of, with_chunk, with_out, out_of, chunks_of}
 use Rattle.mc_slab.proofs.SlabLemmas.{stock_at, IsSlab-state_of, class_at, out_at, chunks_at, AreStocks-set, state_of-out}
-use Rattle.mc_slab.proofs.slab.Slab.take.Goals as goal
+use Rattle.mc_slab.proofs.slab.Slab.take_with.Goals as goal
 
 pub take-requires : goal.take-requires
 take-requires c =
