@@ -67,9 +67,9 @@ Lies-Headed header key headed bytes is k long room before =
     let begins : Begins (take 48 headed) key block bytes = record {
       size = length-take-le 48 headed long;
       begins = ap (λ (n : ℕ). take (48 + length key + n) bytes) size
-      ∙ take-add (48 + length key) header.block_length bytes
-      ∙ ap (λ (xs : List ℕ). xs ++ block) before
-      ∙ append_assoc (take 48 headed) key block;
+          ∙ take-add (48 + length key) header.block_length bytes
+          ∙ ap (λ (xs : List ℕ). xs ++ block) before
+          ∙ append_assoc (take 48 headed) key block;
     } in
     let lies = Lies-Begins header (take 48 headed) key block bytes headed begins refl is k (sym size) in
     let k' : key_length_in bytes ≡ length key = ap (λ (h : Header). h.key_length) lies.header_is ∙ k in

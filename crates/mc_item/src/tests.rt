@@ -138,6 +138,90 @@ fn an_item_gives_back_its_numbers(rt: HostRuntime) -> Result<(), Fail> {
     Ok(())
 }
 
+/// The same, but for the bytes of its block, which are left to be written.
+fn begun_of(
+    rt: &impl Abort,
+    alloc: Global,
+    key: &[u8],
+    block: &[u8],
+    numbers: Numbers,
+) -> Result<Item, Fail> {
+    let (k, b) = (key.len(), block.len());
+    assert!(rt; k <= 250 && b <= 1000);
+    let chunk = chunk_for(rt, alloc, (48 + k + b) as u64)?;
+    let parts = Parts {
+        hash: numbers.hash,
+        key,
+        first: &[],
+        second: block,
+        flags: numbers.flags,
+        expiry: numbers.expiry,
+        unique: numbers.unique,
+        updated: Moment::from_seconds_at_most(numbers.updated),
+    };
+    Ok(Item::begin(chunk, parts))
+}
+
+/// Writes an item whole in its chunk.
+fn write_whole(rt: &impl Abort, item: &mut Item, key: &[u8], block: &[u8], numbers: Numbers) {
+    let room = item.class().size() as usize;
+    let (k, b) = (key.len(), block.len());
+    assert!(rt; k <= 250 && b <= 1000 && 48 + k + b <= room);
+    let parts = Parts {
+        hash: numbers.hash,
+        key,
+        first: &[],
+        second: block,
+        flags: numbers.flags,
+        expiry: numbers.expiry,
+        unique: numbers.unique,
+        updated: Moment::from_seconds_at_most(numbers.updated),
+    };
+    item.rewrite(parts);
+}
+
+/// An item has that key and those numbers.
+fn has_head(rt: &impl Abort, item: &Item, key: &[u8], numbers: Numbers) {
+    assert!(rt; item.key() == key);
+    assert_eq!(rt; item.hash(), numbers.hash);
+    assert_eq!(rt; item.flags(), numbers.flags);
+    assert!(rt; item.expiry() == numbers.expiry);
+    assert_eq!(rt; item.unique(), numbers.unique);
+    assert_eq!(rt; item.updated().seconds(), numbers.updated);
+}
+
+#[test]
+fn an_item_is_begun_and_then_written(rt: HostRuntime) -> Result<(), Fail> {
+    let alloc = rt.alloc();
+    let longest = [b'k'; 250];
+    let numbers = Numbers {
+        hash: 11,
+        flags: 7,
+        expiry: Expiry::At(5),
+        unique: 3,
+        updated: 4,
+    };
+    for (key, block, class) in [
+        (b"".as_slice(), b"".as_slice(), 1),
+        (b"key", b"block", 1),
+        (b"eightkey", &longest[..40], 1),
+        (b"eightkey", &longest[..41], 2),
+        (&longest, b"ab", 6),
+    ] {
+        let mut item = begun_of(&rt, alloc, key, block, numbers)?;
+        has_head(&rt, &item, key, numbers);
+        assert_eq!(rt; item.block().len(), block.len());
+        assert_eq!(rt; item.class().number(), class);
+        write_whole(&rt, &mut item, key, block, numbers);
+        let written = item_of(&rt, alloc, key, b"", block, numbers)?;
+        has_head(&rt, &item, key, numbers);
+        has_head(&rt, &written, key, numbers);
+        assert!(rt; item.block() == block && written.block() == block);
+        assert_eq!(rt; item.class().number(), written.class().number());
+    }
+    Ok(())
+}
+
 /// Writes the number at second 9, as the unique number 2.
 fn rewrite(rt: &impl Abort, item: &mut Item, number: u64) {
     let room = item.class().size() as usize;

@@ -2,13 +2,17 @@
 //! 10. Where an allocation is refused the store answers as before, and takes the step when it is
 //! asked again.
 
-ghost use Rattle.std.specs.Prelude.{◌≡◌, ◌≤◌};
+ghost use Rattle.std.specs.Prelude.{◌≡◌, ◌≤◌, length, IfOk, OnErr};
+ghost use Rattle.mc_command.specs.Commands.{key_of};
+ghost use Rattle.mc_command.specs.Laws.{IsOnKey};
+ghost use Rattle.mc_shelf.specs.States.{CanStand, IsHash};
+ghost use Rattle.mc_shelf.specs.Plans.{IsTaken};
 
 use super::*;
 use mc_command::Verb;
 use mc_hop::{Constant, Fnv};
 use mc_slab::class_of;
-use mc_testing::{Ask, Row, Want, asked, filled, first_unlike, set, step_of, told_of};
+use mc_testing::{Ask, Row, Want, asked, filled, first_unlike, is_wanted, set, step_of, told_of};
 use std::process::Abort;
 use std::test::*;
 
@@ -405,5 +409,131 @@ fn entries_are_moved_while_a_table_grows(rt: HostRuntime) -> Result<(), Fail> {
     assert_eq!(rt; store.grow(64, 8), 0);
     assert_eq!(rt; store.grow(0, 8), 8);
     assert_eq!(rt; store.grow(0, 8), 0);
+    Ok(())
+}
+
+/// Takes a step on a shelf's key in two parts, with nothing between them.
+fn step_in_parts(
+    alloc: Global,
+    shelf: &mut Shelf,
+    desk: &mut Desk,
+    step: &KeyStep<'_>,
+    hash: u64,
+    now: Moment,
+) -> Result<Reply, StepFault>
+    requires on_key { IsOnKey step.now }
+    requires key { length (key_of step.now) ≤ 250 }
+    requires hash { IsHash shelf.old.content (key_of step.now) hash }
+    requires stands { CanStand (key_of step.now) shelf.old.content desk.old }
+    ensures took { IfOk result (λ reply. IsTaken step.now now hash shelf.old.content desk.old
+        reply shelf.new.content desk.new) }
+    ensures err { OnErr result
+        ((shelf.new.content ≡ shelf.old.content) × (desk.new ≡ desk.old)) }
+{
+    let plan = shelf.look(alloc, step, hash, now)?;
+    let begun = shelf.begin(alloc, plan, step, desk)?;
+    Ok(shelf.finish(begun, step))
+}
+
+/// Takes a step at its key's shelf in two parts.
+fn begin_and_finish<K: KeyHash + Drop>(
+    store: &mut Store<K>,
+    alloc: Global,
+    step: &KeyStep<'_>,
+    now: Moment,
+) -> Result<Reply, StepFault>
+    requires on_key { IsOnKey step.now }
+    requires key { length (key_of step.now) ≤ 250 }
+{
+    parts::steps_change_one_shelf();
+    let hash = store.parts.hasher.hash(step.key());
+    let at = hash % u64::from(store.parts.settings.shelves);
+    let StoreParts { shelves, desk, .. } = &mut store.parts;
+    let shelf = &mut shelves[at as usize];
+    step_in_parts(alloc, shelf, desk, step, hash, now)
+}
+
+/// Takes a step on one key in two parts, again where memory is refused. A flush is taken whole.
+fn asked_in_parts(
+    store: &mut Store<Fnv>,
+    alloc: Global,
+    step: &KeyStep<'_>,
+    now: Moment,
+) -> Result<Reply, StepFault>
+    requires { length (key_of step.now) ≤ 250 }
+{
+    match step {
+        KeyStep::Flush { .. } => store.step(alloc, step, now),
+        _ => match begin_and_finish(store, alloc, step, now) {
+            Err(StepFault::NoMemory) => begin_and_finish(store, alloc, step, now),
+            answer => answer,
+        },
+    }
+}
+
+/// Answers whether two desks have the same number next, and as many chunks of the two least classes out.
+fn are_alike(desk: &Desk, other: &Desk) -> bool {
+    let mut alike = desk.next_unique() == other.next_unique();
+    for charge in [96, 120] {
+        if let Some(class) = class_of(charge) {
+            alike &= desk.account(class).out == other.account(class).out;
+        }
+    }
+    alike
+}
+
+/// Answers whether a row is answered as it wants both whole and in two parts, and leaves the two stores' desks alike.
+fn goes_alike(
+    alloc: Global,
+    whole: &mut Store<Fnv>,
+    parted: &mut Store<Fnv>,
+    row: Row<'_>,
+) -> bool {
+    let (seconds, key, ask, want) = row;
+    if key.len() > 250 {
+        return false;
+    }
+    let now = Moment::from_seconds_at_most(seconds);
+    let step = step_of(key, ask);
+    is_wanted(&asked(whole, alloc, &step, now), want)
+        && is_wanted(&asked_in_parts(parted, alloc, &step, now), want)
+        && are_alike(&whole.parts.desk, &parted.parts.desk)
+}
+
+/// A step that is begun and then finished answers and leaves what it does whole: of a new key, of a live item that one of its
+/// class replaces and one of another, of a dead item in whose chunk one is written, of a join and of a number.
+#[test]
+fn a_step_in_two_parts_is_the_whole_step(rt: HostRuntime) -> Result<(), Fail> {
+    let long = [b'x'; 62];
+    let rows: [Row<'_>; 16] = [
+        set(1000, b"k", 0, b"x", "stored"),
+        (1000, b"k", Ask::Get, Want::Hit(1, b"x")),
+        set(1000, b"k", 0, b"yy", "stored"),
+        (1000, b"k", Ask::Get, Want::Hit(2, b"yy")),
+        set(1000, b"k", 10, &long[..60], "stored"),
+        (1009, b"k", Ask::Get, Want::Hit(3, &long[..60])),
+        set(1010, b"k", 0, &long[..61], "stored"),
+        (1010, b"k", Ask::Get, Want::Hit(4, &long[..61])),
+        (
+            1010,
+            b"k",
+            Ask::Store(Verb::Append, 0, b"x"),
+            Want::Told("stored"),
+        ),
+        (1010, b"k", Ask::Get, Want::Hit(5, &long)),
+        set(1010, b"k", 0, b"99", "stored"),
+        (1010, b"k", Ask::Incr(1), Want::Number(100)),
+        (1010, b"k", Ask::Get, Want::Hit(7, b"100")),
+        set(1010, b"a", 0, b"", "stored"),
+        (1010, b"k", Ask::Delete, Want::Told("deleted")),
+        (1010, b"k", Ask::Get, Want::Told("miss")),
+    ];
+    let alloc = rt.alloc();
+    let mut whole = open(alloc, 2)?;
+    let mut parted = open(alloc, 2)?;
+    for row in rows {
+        let alike = goes_alike(alloc, &mut whole, &mut parted, row);
+        assert!(rt; alike, "at {}", row.0);
+    }
     Ok(())
 }

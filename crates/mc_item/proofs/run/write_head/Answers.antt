@@ -1,4 +1,4 @@
-use Rattle.std.proofs.Common.{◌≡◌, ◌+◌, length, arith, sym}
+use Rattle.std.proofs.Common.{arith, sym}
 use Rattle.mc_item.specs.Layout.{block_in}
 use Rattle.mc_item.proofs.RunLemmas.{Lies, Lies-Headed, item_in-Lies, HoldsItem-Lies}
 use Rattle.mc_item.proofs.run.write_head.Goals as goal
