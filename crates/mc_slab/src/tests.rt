@@ -111,6 +111,34 @@ fn chunks_of_a_page_lie_apart(rt: HostRuntime) -> Result<(), Fail> {
     Ok(())
 }
 
+/// A page of the class. A run may refuse one allocation, so it is asked for twice.
+fn page_of(alloc: Global, class: Class) -> Result<Page, Fail> {
+    match Page::new(alloc, class) {
+        Ok(page) => Ok(page),
+        Err(_) => Ok(Page::new(alloc, class)?),
+    }
+}
+
+#[test]
+fn a_page_may_be_brought(rt: HostRuntime) -> Result<(), Fail> {
+    let alloc = rt.alloc();
+    // A page of the class that asks for one, and one of another class, which is let go.
+    for (size, brought, out) in [(96, 96, 10922), (17352, 17352, 60), (13880, 1048576, 75)] {
+        let mut slab = slab_of(alloc, 1)?;
+        let class = class_of(size).expect(&rt, "a class");
+        let page = page_of(alloc, class_of(brought).expect(&rt, "a class"))?;
+        let chunk = match slab.take_with(alloc, class, Some(page)) {
+            Ok(chunk) => chunk,
+            Err(_) => slab.take(alloc, class)?,
+        };
+        assert!(rt; slab.account(class) == Account { pages: 1, out: 1 });
+        assert_eq!(rt; slab.pages_left(), 0);
+        give(&rt, &mut slab, chunk);
+        fill_and_empty(&rt, alloc, &mut slab, class, Account { pages: 1, out })?;
+    }
+    Ok(())
+}
+
 #[test]
 fn a_page_stays_with_its_class(rt: HostRuntime) -> Result<(), Fail> {
     let alloc = rt.alloc();

@@ -431,7 +431,7 @@ fn step_in_parts(
         ((shelf.new.content ≡ shelf.old.content) × (desk.new ≡ desk.old)) }
 {
     let plan = shelf.look(alloc, step, hash, now)?;
-    let begun = shelf.begin(alloc, plan, step, desk)?;
+    let begun = shelf.begin(alloc, plan, step, desk, None)?;
     Ok(shelf.finish(begun, step))
 }
 
