@@ -308,8 +308,9 @@ pub(crate) fn step_at_shelf<K: KeyHash + Drop>(
     reply
 }
 
-/// A step that the desk decides, with the key's shelf and the desk held, and a page if one was made for it. The desk goes back with the
-/// decision, and the shelf when the step's block is copied; both as they were where it isn't taken.
+/// A step that the desk decides, with the key's shelf and the desk held, and a page if one was made
+/// for it. The desk goes back with the decision, and the shelf when the step's block is copied; both
+/// as they were where it isn't taken.
 pub(crate) fn apply_at_desk<K: KeyHash + Drop>(
     board: &Board<K>,
     alloc: Global,

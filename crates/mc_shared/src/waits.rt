@@ -71,8 +71,9 @@ fn step_waiting<K: KeyHash + Drop, R: Wait, G: Gate>(
     )
 }
 
-/// Makes a page of a class that wants one while nobody waits for the desk: the desk goes back, and is taken again with the page
-/// in hand. Where memory for it is refused, there is none: the step finds out at the desk.
+/// Makes a page of a class that wants one while nobody waits for the desk: the desk goes back, and
+/// is taken again with the page in hand. Where memory for it is refused, there is none: the step
+/// finds out at the desk.
 fn with_page<K: KeyHash + Drop, R: Wait>(
     rt: &R,
     board: &Board<K>,
@@ -120,8 +121,7 @@ impl<K: KeyHash + Drop> Shared<K> {
         self.step_at(rt, alloc, caller, step, now, &NoGate)
     }
 
-    /// Takes a step. It waits for what others hold, and calls the gate once while the key's shelf
-    /// is
+    /// Takes a step. It waits for what others hold, and calls the gate once while the key's shelf is
     /// held; a flush calls no gate. Where it isn't taken, nothing is decided and no bay is held.
     pub fn step_at<R: Wait, G: Gate>(
         &self,
