@@ -1,11 +1,12 @@
 -- What contracts see of a slab, and what taking and giving a chunk change in it.
-use Rattle.std.specs.Prelude.{◌≡◌, ℕ, ◌+◌, ◌-◌, ◌*◌, ◌≤◌, ◌<◌, ◌==◌, Bool, ◌||◌, nat_lt, List, map, length, replicate, sum, slice_index, slice_set, refl, if◌then◌else◌}
+use Rattle.std.specs.Prelude.{◌≡◌, ◌↔◌, ◌⊎◌, Result, Err, IfOk, IfErr, OnOk, OnErr, ℕ, ◌+◌, ◌-◌, ◌*◌, ◌≤◌, ◌<◌, ◌==◌, Bool, ◌||◌, nat_lt, List, map, length, replicate, sum, slice_index, slice_set, refl, if◌then◌else◌}
 use Rattle.std.specs.Coded.{Coded, code_by, coded×, coded_ℕ, coded_list}
 use Rattle.std.specs.List.{All, range_with_len}
 use Rattle.mc_slab.specs.Classes.{IsClass, chunks_a_page}
+use Rattle.mc_slab.specs.Chunks.{IsChunkOf}
 use Rattle.mc_slab.specs.Stocks.{StockState, all_chunks}
 use Rattle.mc_slab.specs.declared.slab.TakeFault.{TakeFault}
-use Rattle.mc_slab.specs.declared.slab.TakeFault.TheVariants.{Full}
+use Rattle.mc_slab.specs.declared.slab.TakeFault.TheVariants.{Full, NoMemory}
 
 -- how many pages the classes may have together, and of each class, class 1 first, its pages and its chunks that are out
 pub record SlabState : Type 0 where
@@ -93,6 +94,18 @@ TellsFull slab class pages out =
 -- the fault that tells so
 abbrev pub full_fault : SlabState → ℕ → TakeFault
 full_fault slab class = Full class (pages_of slab class) (out_of slab class)
+
+-- How a chunk of the class is asked for. It comes of the class, and is out; or it is told that the class is full, exactly where it
+-- is, or that memory was refused, which is asked for nothing but a page. Not taken, the slab is as it was.
+pub record Takes (class : ℕ) (old : SlabState) (result : Result (List ℕ) TakeFault)
+    (new : SlabState) : Type 0 where
+  pub chunk : IfOk result (IsChunkOf class)
+  pub taken : OnOk result (new ≡ taken old class)
+  pub full : (pages out : ℕ) → (result ≡ Err (Full class pages out)) ↔ TellsFull old class pages out
+  pub no_memory : result ≡ Err NoMemory → WantsPage old class
+  pub faults : IfErr result (λ fault. (fault ≡ NoMemory) ⊎ (fault ≡ full_fault old class))
+  pub err : OnErr result (new ≡ old)
+  pub is_slab : OnOk result (IsSlab new)
 
 -- the stock of a class that has no page
 abbrev pub empty_stock : ℕ → StockState

@@ -2,9 +2,10 @@
 
 ghost use Rattle.std.specs.Prelude.{◌≡◌, ℕ, ◌<◌, ◌≤◌, ◌↔◌, ◌⊎◌, map, IfOk, IfErr, IfSome, OnOk, OnErr, Err};
 ghost use Rattle.std.specs.List.{range_with_len};
-ghost use Rattle.mc_slab.specs.Chunks.{IsChunkOf, chunk_class};
+ghost use Rattle.mc_slab.specs.Chunks.{chunk_class};
 ghost use Rattle.mc_slab.specs.Slabs.{
   IsSlab,
+  Takes,
   WantsPage,
   TellsFull,
   full_fault,
@@ -95,15 +96,7 @@ impl Slab {
     /// chunks are out, and only that takes memory. Refused, the slab is as it was, and what was had
     /// of a page is free again.
     pub fn take(&mut self, alloc: Global, class: Class) -> Result<Chunk, TakeFault>
-        ensures chunk { IfOk result (IsChunkOf class) }
-        ensures taken { OnOk result (self.new ≡ taken self.old class) }
-        ensures full { (pages out : ℕ) → (result ≡ Err (TakeFault.Full class pages out))
-            ↔ TellsFull self.old class pages out }
-        ensures no_memory { result ≡ Err TakeFault.NoMemory → WantsPage self.old class }
-        ensures faults { IfErr result (λ fault.
-            (fault ≡ TakeFault.NoMemory) ⊎ (fault ≡ full_fault self.old class)) }
-        ensures err { OnErr result (self.new ≡ self.old) }
-        ensures is_slab { OnOk result (IsSlab self.new) }
+        ensures { Takes class self.old result self.new }
     {
         self.take_with(alloc, class, None)
     }
@@ -117,15 +110,7 @@ impl Slab {
         class: Class,
         page: Option<Page>,
     ) -> Result<Chunk, TakeFault>
-        ensures chunk { IfOk result (IsChunkOf class) }
-        ensures taken { OnOk result (self.new ≡ taken self.old class) }
-        ensures full { (pages out : ℕ) → (result ≡ Err (TakeFault.Full class pages out))
-            ↔ TellsFull self.old class pages out }
-        ensures no_memory { result ≡ Err TakeFault.NoMemory → WantsPage self.old class }
-        ensures faults { IfErr result (λ fault.
-            (fault ≡ TakeFault.NoMemory) ⊎ (fault ≡ full_fault self.old class)) }
-        ensures err { OnErr result (self.new ≡ self.old) }
-        ensures is_slab { OnOk result (IsSlab self.new) }
+        ensures { Takes class self.old result self.new }
     {
         self.make_ready(alloc, class, of_class(page, class))?;
         let stock = &mut self.stocks[class.index()];
