@@ -244,13 +244,17 @@ written (Some rest) step shelf =
 abbrev pub finished : Begun → KeyStep → ShelfContent → ShelfContent
 finished begun step shelf = written begun.rest step shelf
 
+-- a chunk is of the class that a key and a block ask for
+pub record Suits (chunk : List ℕ) (key block : List ℕ) : Type 0 where
+  pub class : chunk_class chunk ≡ class_holding (charge key block)
+  pub fits : charge key block ≤ length chunk
+
 -- a chunk is ready for a key's item with this block: one that waits, and then there is room for the key's entry, or that of
 -- the key's item
 pub record IsChunkFor (chunk : List ℕ) (key block : List ℕ) (shelf : ShelfState) : Type 0 where
   pub absent : get shelf.content.items key ≡ None
   pub room : 1 ≤ shelf.room
-  pub class : chunk_class chunk ≡ class_holding (charge key block)
-  pub fits : charge key block ≤ length chunk
+  pub suits : Suits chunk key block
 
 pub record LiesInClass (key block : List ℕ) (shelf : ShelfState) : Type 0 where
   pub item : Entry
@@ -276,6 +280,15 @@ abbrev pub IsOut : List ℕ → ShelfContent → DeskState → Type 0
 IsOut key shelf desk =
     (item : Entry) → get shelf.items key ≡ Some item
     → IsClass (item_class key item) → 0 < out_of desk.slab (item_class key item)
+
+-- the item of a write can be put under its key: the key is known, there is room for a new key's entry, and a chunk of the key's
+-- item is out
+pub record CanPut (write : Writing) (step : KeyStep) (shelf : ShelfState) (desk : DeskState) : Type 0
+  where
+    pub short : length (key_of step) ≤ 250
+    pub known : IsKnown shelf.content (key_of step) write.hash write.place
+    pub room : get shelf.content.items (key_of step) ≡ None → 1 ≤ shelf.room
+    pub out : IsOut (key_of step) shelf.content desk
 
 -- the chunk of an item goes back to a desk's slab
 pub record GivesOne (class : ℕ) (old new : DeskState) : Type 0 where

@@ -11,6 +11,7 @@ ghost use Rattle.mc_shelf.specs.States.{CanStand};
 ghost use Rattle.mc_shelf.specs.Plans as plans;
 ghost use Rattle.mc_shelf.specs.Plans.{
   CanFinish,
+  CanPut,
   CanWrite,
   CanWriteBlock,
   GivesBack,
@@ -22,6 +23,7 @@ ghost use Rattle.mc_shelf.specs.Plans.{
   IsWriteOf,
   LiesInClass,
   NeedsPage,
+  Suits,
   block_beside,
   drafted,
   finished,
@@ -290,14 +292,9 @@ impl Shelf {
         step: &KeyStep<'_>,
         desk: &mut Desk,
     ) -> Option<Unwritten>
-        requires key { length (key_of step.now) ≤ 250 }
-        requires known { IsKnown self.old.content (key_of step.now) write.now.hash write.now.place }
-        requires class { chunk_class chunk ≡ class_holding
-            (charge (key_of step.now) (block_beside self.old.content step.now write.now.draft)) }
-        requires fits { charge (key_of step.now)
-            (block_beside self.old.content step.now write.now.draft) ≤ length chunk }
-        requires room { get self.old.content.items (key_of step.now) ≡ None → 1 ≤ self.old.room }
-        requires out { IsOut (key_of step.now) self.old.content desk.old }
+        requires can { CanPut write.now step.now self.old desk.old }
+        requires chunk { Suits chunk (key_of step.now)
+            (block_beside self.old.content step.now write.now.draft) }
         ensures put { IsPut (key_of step.now) write.now.hash self.old.content
             (written result step.now self.new.content)
             (drafted write.now.draft (block_beside self.old.content step.now write.now.draft)
@@ -325,13 +322,8 @@ impl Shelf {
         step: &KeyStep<'_>,
         desk: &mut Desk,
     ) -> Unwritten
-        requires key { length (key_of step.now) ≤ 250 }
-        requires known { IsKnown self.old.content (key_of step.now) write.now.hash write.now.place }
-        requires class { chunk_class chunk
-            ≡ class_holding (charge (key_of step.now) (block_of step.now)) }
-        requires fits { charge (key_of step.now) (block_of step.now) ≤ length chunk }
-        requires room { get self.old.content.items (key_of step.now) ≡ None → 1 ≤ self.old.room }
-        requires out { IsOut (key_of step.now) self.old.content desk.old }
+        requires can { CanPut write.now step.now self.old desk.old }
+        requires chunk { Suits chunk (key_of step.now) (block_of step.now) }
         ensures put { IsPut (key_of step.now) write.now.hash self.old.content
             (written (Some result) step.now self.new.content)
             (drafted write.now.draft (block_of step.now) unique write.now.moment) }
@@ -368,14 +360,9 @@ impl Shelf {
         step: &KeyStep<'_>,
         desk: &mut Desk,
     )
-        requires key { length (key_of step.now) ≤ 250 }
-        requires known { IsKnown self.old.content (key_of step.now) write.now.hash write.now.place }
-        requires class { chunk_class chunk ≡ class_holding
-            (charge (key_of step.now) (block_beside self.old.content step.now write.now.draft)) }
-        requires fits { charge (key_of step.now)
-            (block_beside self.old.content step.now write.now.draft) ≤ length chunk }
-        requires room { get self.old.content.items (key_of step.now) ≡ None → 1 ≤ self.old.room }
-        requires out { IsOut (key_of step.now) self.old.content desk.old }
+        requires can { CanPut write.now step.now self.old desk.old }
+        requires chunk { Suits chunk (key_of step.now)
+            (block_beside self.old.content step.now write.now.draft) }
         ensures put { IsPut (key_of step.now) write.now.hash self.old.content self.new.content
             (drafted write.now.draft (block_beside self.old.content step.now write.now.draft)
             unique write.now.moment) }

@@ -14,7 +14,7 @@ head_put : (c : goal.After-result-1) → IsPut (key_of c.args.step.now) c.args.w
 head_put c =
     let inside = c.self.inside in
     let key : c.head_of-entry.result.key ≡ key_of c.args.step.now = ap (λ (e : EntryState). e.key) c.head_of-entry.ensures.value ∙ c.key-in-Some.ensures in
-    changed_put inside.greatest inside.cut c.args.self.now.content inside.index (ap (λ (s : ShelfState). s.content) c.self.view_is) (key_of c.args.step.now) c.args.write.now.hash c.replace-old.new.self c.head_of-entry.result.item c.requires.known.hash
+    changed_put inside.greatest inside.cut c.args.self.now.content inside.index (ap (λ (s : ShelfState). s.content) c.self.view_is) (key_of c.args.step.now) c.args.write.now.hash c.replace-old.new.self c.head_of-entry.result.item c.requires.can.known.hash
     (subst (λ (k : List ℕ). IsChanged inside.index c.replace-old.new.self k c.head_of-entry.result.item) key c.replace-old.ensures.changed)
 
 pub returns-in-Some-clause-put : goal.returns-in-Some-clause-put
@@ -32,10 +32,10 @@ returns-in-Some-clause-left c =
     let stood : get c.args.self.now.content.items key ≡ Some c.in-Some.ensures.entry.item =
     sym (ap (λ (s : ShelfState). get s.content.items key) c.self.view_is) ∙ ap (λ (k : List ℕ). get (items_of c.self.inside.index) k) (sym c.key.ensures) ∙ c.in-Some.ensures.item in
     record {
-      short = c.requires.key;
+      short = c.requires.can.short;
       known = record {
         hash = put.hash;
-        place = c.requires.known.place ∙ ap (λ (o : Option Entry). is_some o) stood ∙ sym (ap (λ (o : Option Entry). is_some o) put.item);
+        place = c.requires.can.known.place ∙ ap (λ (o : Option Entry). is_some o) stood ∙ sym (ap (λ (o : Option Entry). is_some o) put.item);
       };
       ready = record { item = item; there = put.item; class = ap class_holding same };
     }

@@ -11,8 +11,8 @@ use Rattle.mc_shelf.proofs.shelf.Shelf.put.Goals as goal
 abbrev charge_of_body : goal.After-begin_put-arg-in-Given-1 → Body → ℕ
 charge_of_body c body = charge (key_of c.args.step.now) (made_block body (block_of c.args.step.now) (block_in (get c.args.self.now.content.items (key_of c.args.step.now))))
 
-pub begin_put-requires-clause-class : goal.begin_put-requires-clause-class
-begin_put-requires-clause-class c = c.requires.class ∙ ap (λ (b : Body). class_holding (charge_of_body c b)) c.in-Given.is
-
-pub begin_put-requires-clause-fits : goal.begin_put-requires-clause-fits
-begin_put-requires-clause-fits c = subst (λ (b : Body). charge_of_body c b ≤ length c.args.chunk) c.in-Given.is c.requires.fits
+pub begin_put-requires-clause-chunk : goal.begin_put-requires-clause-chunk
+begin_put-requires-clause-chunk c = record {
+  class = c.requires.chunk.class ∙ ap (λ (b : Body). class_holding (charge_of_body c b)) c.in-Given.is;
+  fits = subst (λ (b : Body). charge_of_body c b ≤ length c.args.chunk) c.in-Given.is c.requires.chunk.fits;
+}

@@ -29,7 +29,7 @@ returns-in-Some-clause-put c =
     let beside : c.block_in-old.result.now ≡ block_in (get old.items (key_of step)) = c.block_in-old.ensures.value ∙ ap block_in ((c.found.ensures c.key.result.now c.find_again-place.ensures).item ∙ ap (λ (s : ShelfState). get s.content.items c.key.result.now) c.self.view_is ∙ ap (λ (k : List ℕ). get old.items k) c.key.ensures) in
     let entry : c.entry_in-entry.result ≡ record { hash = write.hash; key = key_of step; item = item } =
     c.entry_in-entry.ensures ∙ ap (λ (l : List ℕ). record { hash = write.hash; key = key_of step; item = drafted write.draft (made_block write.draft.body (block_of step) l) c.args.unique write.moment }) beside in
-    changed_put inside.greatest inside.cut old inside.index (ap (λ (s : ShelfState). s.content) c.self.view_is) (key_of step) write.hash c.replace-old.new.self item c.requires.known.hash
+    changed_put inside.greatest inside.cut old inside.index (ap (λ (s : ShelfState). s.content) c.self.view_is) (key_of step) write.hash c.replace-old.new.self item c.requires.can.known.hash
     (subst (λ (e : EntryState). IsChanged inside.index c.replace-old.new.self e.key e.item) entry c.replace-old.ensures.changed)
 
 pub returns-in-None-clause-put : goal.returns-in-None-clause-put

@@ -1,4 +1,4 @@
-use Rattle.std.proofs.Common.{◌≡◌, ◌≢◌, ◌+◌, ◌-◌, ◌^◌, ◌≤◌, List, ℕ, true, false, arith, length, sym, ap, subst, ◌∙◌}
+use Rattle.std.proofs.Common.{◌≡◌, ◌≢◌, ◌+◌, ◌-◌, ◌^◌, ◌≤◌, List, ℕ, true, false, arith, rules, length, sym, ap, subst, ◌∙◌}
 use Rattle.std.specs.FinMap.{get}
 use Rattle.mc_slab.specs.Classes.{class_holding}
 use Rattle.mc_slab.specs.Slabs.{taken}
@@ -77,25 +77,27 @@ returns-then-not-has_room-clause-took c =
       hash = others.1;
     }
 
-pub put-rest-requires-clause-class : goal.put-rest-requires-clause-class
-put-rest-requires-clause-class c =
+pub put-rest-requires-clause-chunk : goal.put-rest-requires-clause-chunk
+put-rest-requires-clause-chunk c =
     let write = c.args.write.now in
     let charge_is = charge_beside c.counts_follow.ensures.insert c.counts_follow.ensures.remove c.args.step.now write.moment c.args.self.now.content c.args.desk.now c.requires.write.on_key write.charge write.draft (sym c.requires.write.next) in
-    c.in_ok-chunk.ensures.chunk.class_is ∙ c.class_for-class.ensures.value ∙ ap class_holding (sym charge_is)
+    record {
+      class = c.in_ok-chunk.ensures.chunk.class_is ∙ c.class_for-class.ensures.value ∙ ap class_holding (sym charge_is);
+      fits = subst (λ (n : ℕ). n ≤ length c.in_ok-chunk.chunk) (sym charge_is) (subst (λ (n : ℕ). write.charge ≤ n) (sym c.in_ok-chunk.ensures.chunk.size) c.class_for-class.ensures.holds);
+    }
 
-pub put-rest-requires-clause-fits : goal.put-rest-requires-clause-fits
-put-rest-requires-clause-fits c =
-    let write = c.args.write.now in
-    let charge_is = charge_beside c.counts_follow.ensures.insert c.counts_follow.ensures.remove c.args.step.now write.moment c.args.self.now.content c.args.desk.now c.requires.write.on_key write.charge write.draft (sym c.requires.write.next) in
-    subst (λ (n : ℕ). n ≤ length c.in_ok-chunk.chunk) (sym charge_is) (subst (λ (n : ℕ). write.charge ≤ n) (sym c.in_ok-chunk.ensures.chunk.size) c.class_for-class.ensures.holds)
-
-pub put-rest-requires-clause-out : goal.put-rest-requires-clause-out
-put-rest-requires-clause-out c =
+pub put-rest-requires-clause-can : goal.put-rest-requires-clause-can
+put-rest-requires-clause-can c =
     let desk = c.args.desk.now in
     let drawn : c.draw-unique-2.new.self ≡ record { slab = taken desk.slab c.class_for-class.result; next_unique = desk.next_unique + 1 } =
     c.draw-unique-2.ensures.drawn ∙ ap (λ (d : DeskState). record d { next_unique = d.next_unique + 1 }) c.in_ok-chunk.ensures.taken in
-    subst (λ (d : DeskState). IsOut (key_of c.args.step.now) c.args.self.now.content d) (sym drawn)
-    (is_out_taken c.counts_follow.ensures.insert c.counts_follow.ensures.remove (key_of c.args.step.now) c.args.self.now.content desk c.class_for-class.result c.requires.stands c.take.ensures.slab c.class_for-class.ensures.is_class (desk.next_unique + 1))
+    record {
+      short = c.requires.write.short;
+      known = c.requires.write.known;
+      room = search rules;
+      out = subst (λ (d : DeskState). IsOut (key_of c.args.step.now) c.args.self.now.content d) (sym drawn)
+          (is_out_taken c.counts_follow.ensures.insert c.counts_follow.ensures.remove (key_of c.args.step.now) c.args.self.now.content desk c.class_for-class.result c.requires.stands c.take.ensures.slab c.class_for-class.ensures.is_class (desk.next_unique + 1));
+    }
 
 pub returns-clause-took : goal.returns-clause-took
 returns-clause-took c =
