@@ -1,7 +1,7 @@
 //! What peers may send who mean no good: one hash, bytes one by one, and so many writes that the
 //! unique numbers end. Where memory is refused a test ends early.
 
-use crate::tests::{answers, answers_and_grows, opened, run, take_turns};
+use crate::tests::{answers, answers_and_grows, is_told, opened, run, take_turns};
 use crate::{Event, World};
 use mc_command::Bytes;
 use mc_hop::{Constant, Fnv};
@@ -77,25 +77,14 @@ fn key_is_found(
     answers_and_grows(rt, alloc, world, &get, &found)
 }
 
-fn keys_are_set(rt: &impl Abort, alloc: Global, world: &mut World<Constant>) -> Result<(), Fail> {
+/// Sets the keys, deletes each third, and finds the others.
+fn keys_are_apart(rt: &impl Abort, alloc: Global, world: &mut World<Constant>) -> Result<(), Fail> {
     for key in 1..301 {
         key_is_set(rt, alloc, world, key)?;
     }
-    Ok(())
-}
-
-fn each_third_is_deleted(
-    rt: &impl Abort,
-    alloc: Global,
-    world: &mut World<Constant>,
-) -> Result<(), Fail> {
     for third in 1..101 {
         key_is_deleted(rt, alloc, world, 3 * third)?;
     }
-    Ok(())
-}
-
-fn keys_are_found(rt: &impl Abort, alloc: Global, world: &mut World<Constant>) -> Result<(), Fail> {
     for key in 1..301 {
         key_is_found(rt, alloc, world, key)?;
     }
@@ -105,9 +94,7 @@ fn keys_are_found(rt: &impl Abort, alloc: Global, world: &mut World<Constant>) -
 #[test]
 fn three_hundred_keys_have_one_hash(rt: HostRuntime) -> Result<(), Fail> {
     let mut world = opened(rt.alloc(), Constant(0))?;
-    keys_are_set(&rt, rt.alloc(), &mut world)?;
-    each_third_is_deleted(&rt, rt.alloc(), &mut world)?;
-    keys_are_found(&rt, rt.alloc(), &mut world)
+    keys_are_apart(&rt, rt.alloc(), &mut world)
 }
 
 /// Brings a piece and then an empty one, with a turn after each.
@@ -141,7 +128,7 @@ fn tells(
     output: &[u8],
 ) -> Result<bool, Fail> {
     take_turns(alloc, world, 10)?;
-    assert_eq!(rt; world.out(1), output);
+    is_told(rt, world, 1, output);
     Ok(world.is_closed(1))
 }
 

@@ -257,15 +257,24 @@ fn find_key(
     Ok(())
 }
 
+/// Sets forty keys, and then finds them.
+fn forty_keys_are_apart(
+    rt: &impl Abort,
+    alloc: Global,
+    asker: &mut Asker<Constant>,
+) -> Result<(), AllocError> {
+    for number in 1..41 {
+        set_key(rt, alloc, asker, number)?;
+    }
+    for number in 1..41 {
+        find_key(rt, alloc, asker, number)?;
+    }
+    Ok(())
+}
+
 #[test]
 fn keys_of_one_hash_are_apart_while_tables_grow(rt: HostRuntime) -> Result<(), Fail> {
-    let alloc = rt.alloc();
-    let mut asker = Asker::of(&rt, alloc, world(alloc, Constant(0), 64)?);
-    for number in 1..41 {
-        set_key(&rt, alloc, &mut asker, number)?;
-    }
-    for number in 1..41 {
-        find_key(&rt, alloc, &mut asker, number)?;
-    }
+    let mut asker = Asker::of(&rt, rt.alloc(), world(rt.alloc(), Constant(0), 64)?);
+    forty_keys_are_apart(&rt, rt.alloc(), &mut asker)?;
     Ok(())
 }

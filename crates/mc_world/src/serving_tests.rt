@@ -141,7 +141,22 @@ fn rows_are_written(rt: HostRuntime) -> Result<(), Fail> {
     Ok(())
 }
 
-/// What is written where the read fails behind so many bytes. The session is closed.
+/// Serves a session whose read fails behind so many bytes, and is closed then. Gives what it wrote.
+fn read_fails(
+    rt: &impl Abort,
+    alloc: Global,
+    world: &mut World<Fnv>,
+    input: &[u8],
+    reads: usize,
+) -> Result<Vec<u8>, Fail> {
+    let (ended, out) = run_with_memory(alloc, world, input, reads, NEVER)?;
+    // A session that was closed reads no further.
+    assert!(rt; matches!(ended, Ok(()) | Err(ServeFault::Read)));
+    assert!(rt; world.is_closed(1));
+    Ok(out)
+}
+
+/// The same, in a new world.
 fn written_until_read_fails(
     rt: &impl Abort,
     alloc: Global,
@@ -149,11 +164,7 @@ fn written_until_read_fails(
     reads: usize,
 ) -> Result<Vec<u8>, Fail> {
     let mut world = world(alloc)?;
-    let (ended, out) = run_with_memory(alloc, &mut world, input, reads, NEVER)?;
-    // A session that was closed reads no further.
-    assert!(rt; matches!(ended, Ok(()) | Err(ServeFault::Read)));
-    assert!(rt; world.is_closed(1));
-    Ok(out)
+    read_fails(rt, alloc, &mut world, input, reads)
 }
 
 /// A front of the input is answered where the read behind it fails.
@@ -187,8 +198,7 @@ fn a_failed_read_leaves_what_came_before_answered(rt: HostRuntime) -> Result<(),
     Ok(())
 }
 
-/// A write that fails behind so many bytes leaves the rest in the output of its session, which is
-/// closed.
+/// Serves a session whose write fails behind so many bytes, and is closed then. Gives what it wrote.
 fn write_fails(
     rt: &impl Abort,
     alloc: Global,
@@ -202,15 +212,27 @@ fn write_fails(
     Ok(out)
 }
 
-/// What was written is the front of the output, and what is left goes on with it.
+/// What was written is a front of the output of that length, and what is left goes on with it.
+fn goes_on(
+    rt: &impl Abort,
+    written: Vec<u8>,
+    left: &[u8],
+    writes: usize,
+    output: &[u8],
+) -> Result<(), Fail> {
+    let (front, _) = output.split_at(writes.min(output.len()));
+    assert_eq!(rt; written.as_slice(), front);
+    let mut told = written;
+    told.extend_from_slice(left)?;
+    assert!(rt; output.starts_with(told.as_slice()));
+    Ok(())
+}
+
+/// A write that fails behind so many bytes leaves the rest in the output of its session.
 fn rest_is_left(rt: &impl Abort, alloc: Global, writes: usize, output: &[u8]) -> Result<(), Fail> {
     let mut world = world(alloc)?;
-    let mut out = write_fails(rt, alloc, &mut world, writes)?;
-    let (front, _) = output.split_at(writes.min(output.len()));
-    assert_eq!(rt; out.as_slice(), front);
-    out.extend_from_slice(world.out(1))?;
-    assert!(rt; output.starts_with(out.as_slice()));
-    Ok(())
+    let written = write_fails(rt, alloc, &mut world, writes)?;
+    goes_on(rt, written, world.out(1), writes, output)
 }
 
 #[test]
@@ -244,6 +266,20 @@ fn three_are_closed(rt: &impl Abort, world: &World<Fnv>) {
     }
 }
 
+/// Three sessions of a world write what their rows say, and are closed.
+fn three_write(
+    rt: &impl Abort,
+    alloc: Global,
+    world: &mut World<Fnv>,
+    rows: &[(&'static str, &'static str); 3],
+) -> Result<(), Fail> {
+    for row in rows {
+        session_writes(rt, alloc, world, *row)?;
+    }
+    three_are_closed(rt, world);
+    Ok(())
+}
+
 #[test]
 fn a_second_session_finds_what_the_first_stored(rt: HostRuntime) -> Result<(), Fail> {
     const ROWS: [(&str, &str); 3] = [
@@ -252,9 +288,5 @@ fn a_second_session_finds_what_the_first_stored(rt: HostRuntime) -> Result<(), F
         ("delete a\r\nget a\r\n", "DELETED\r\nEND\r\n"),
     ];
     let mut world = world(rt.alloc())?;
-    for row in &ROWS {
-        session_writes(&rt, rt.alloc(), &mut world, *row)?;
-    }
-    three_are_closed(&rt, &world);
-    Ok(())
+    three_write(&rt, rt.alloc(), &mut world, &ROWS)
 }

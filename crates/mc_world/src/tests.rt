@@ -117,10 +117,20 @@ fn ask<K: KeyHash + Drop>(
     take_turns(alloc, world, 100)
 }
 
+/// This is what is to be written of a session.
+pub(crate) fn is_told<K: KeyHash + Drop>(
+    rt: &impl Abort,
+    world: &World<K>,
+    session: u32,
+    output: &[u8],
+) {
+    assert_eq!(rt; world.out(session), output, "of session {session}");
+}
+
 /// Session 1 is idle and is told this, which is then written.
 fn tells<K: KeyHash + Drop>(rt: &impl Abort, world: &mut World<K>, output: &str) {
     assert!(rt; world.is_idle(1));
-    assert_eq!(rt; world.out(1), output.as_bytes());
+    is_told(rt, world, 1, output.as_bytes());
     let written = world.out(1).len();
     world.sent(1, written);
     assert!(rt; world.out(1).is_empty());
@@ -178,19 +188,25 @@ fn run_acts(world: &mut World<Fnv>, alloc: Global, acts: &[Act]) -> Result<(), A
     run(world, alloc, &events)
 }
 
-/// A session was told that in all, and stands so.
-fn is_told(rt: &impl Abort, world: &World<Fnv>, session: u32, output: &str, stands: &str) {
-    assert_eq!(rt; world.out(session), output.as_bytes());
-    assert_eq!(rt; standing(world, session), stands);
-}
-
-fn rows_are_told(rt: &impl Abort, alloc: Global, rows: &[Row]) -> Result<(), Fail> {
-    let mut world = world(alloc, Fnv)?;
+/// Runs the events of rows one after another, and compares what became of their sessions.
+fn rows_are_told_in(
+    rt: &impl Abort,
+    alloc: Global,
+    world: &mut World<Fnv>,
+    rows: &[Row],
+) -> Result<(), Fail> {
     for (acts, session, output, stands) in rows {
-        run_acts(&mut world, alloc, acts)?;
-        is_told(rt, &world, *session, output, stands);
+        run_acts(world, alloc, acts)?;
+        is_told(rt, world, *session, output.as_bytes());
+        assert_eq!(rt; standing(world, *session), *stands);
     }
     Ok(())
+}
+
+/// The same, in a new world.
+fn rows_are_told(rt: &impl Abort, alloc: Global, rows: &[Row]) -> Result<(), Fail> {
+    let mut world = world(alloc, Fnv)?;
+    rows_are_told_in(rt, alloc, &mut world, rows)
 }
 
 #[test]
@@ -516,13 +532,17 @@ fn left_by_growth(parts: &mut Parts<Constant>, alloc: Global) -> Result<usize, A
     Ok(parts.store.grow(0, 100))
 }
 
+/// The same, in a new world.
+fn left_in_new_world(alloc: Global) -> Result<usize, AllocError> {
+    let mut parts = parts_of_one_hash(alloc)?;
+    left_by_growth(&mut parts, alloc)
+}
+
 /// Of keys of one hash a table takes 32. That of 64 homes grows before the 34th comes, since the
 /// 33rd found no bucket.
 #[test]
 fn an_event_of_growth_moves_eight_entries(rt: HostRuntime) -> Result<(), Fail> {
-    let mut parts = parts_of_one_hash(rt.alloc())?;
-    let left = left_by_growth(&mut parts, rt.alloc())?;
-    assert_eq!(rt; left, 24);
+    assert_eq!(rt; left_in_new_world(rt.alloc())?, 24);
     Ok(())
 }
 
@@ -599,8 +619,13 @@ fn a_dead_item_gives_its_chunk_to_its_own_key(rt: HostRuntime) -> Result<(), Fai
     room_is_made(&rt, rt.alloc(), &[], 'b', "STORED\r\n")
 }
 
-/// Tells whether session 1 set a key. It gets it too. Refused, it is closed.
-fn is_set(rt: &impl Abort, alloc: Global, world: &mut World<Fnv>) -> bool {
+/// What a session is told of `get a` where the set of `a` stands, and where it doesn't.
+pub(crate) const HIT: &[u8] = b"VALUE a 0 1\r\nx\r\nEND\r\n";
+
+pub(crate) const MISS: &[u8] = b"END\r\n";
+
+/// Session 1 sets `a` and gets it. Refused, it is closed. Gives what another one has to find.
+fn first_sets(rt: &impl Abort, alloc: Global, world: &mut World<Fnv>) -> &'static [u8] {
     let events = [
         Event::Piece(1, Bytes::of(b"set a 0 0 1\r\nx\r\nget a\r\n")),
         Event::Turn(1),
@@ -608,18 +633,21 @@ fn is_set(rt: &impl Abort, alloc: Global, world: &mut World<Fnv>) -> bool {
     ];
     match world.run(alloc, &events) {
         Ok(()) => {
-            let told = b"STORED\r\nVALUE a 0 1\r\nx\r\nEND\r\n".as_slice();
-            assert_eq!(rt; world.out(1), told);
-            true
+            is_told(rt, world, 1, b"STORED\r\nVALUE a 0 1\r\nx\r\nEND\r\n");
+            HIT
         }
         Err(refused) => {
             assert!(rt; refused.session == Some(1) && world.is_closed(1));
-            refused.decided || refused.at == 2
+            if refused.decided || refused.at == 2 {
+                HIT
+            } else {
+                MISS
+            }
         }
     }
 }
 
-/// Session 2 gets a key, and finds that.
+/// Session 2 gets `a`, and finds that.
 pub(crate) fn second_finds(
     rt: &impl Abort,
     alloc: Global,
@@ -628,18 +656,17 @@ pub(crate) fn second_finds(
 ) -> Result<(), Fail> {
     let get = Event::Piece(2, Bytes::of(b"get a\r\n"));
     run(world, alloc, &[get, Event::Turn(2)])?;
-    assert_eq!(rt; world.out(2), found);
+    is_told(rt, world, 2, found);
     Ok(())
+}
+
+fn goes_on(rt: &impl Abort, alloc: Global, world: &mut World<Fnv>) -> Result<(), Fail> {
+    let found = first_sets(rt, alloc, world);
+    second_finds(rt, alloc, world, found)
 }
 
 #[test]
 fn a_world_goes_on_after_a_refusal(rt: HostRuntime) -> Result<(), Fail> {
-    let alloc = rt.alloc();
-    let mut world = opened_twice(alloc)?;
-    let found = if is_set(&rt, alloc, &mut world) {
-        "VALUE a 0 1\r\nx\r\nEND\r\n"
-    } else {
-        "END\r\n"
-    };
-    second_finds(&rt, alloc, &mut world, found.as_bytes())
+    let mut world = opened_twice(rt.alloc())?;
+    goes_on(&rt, rt.alloc(), &mut world)
 }

@@ -2,7 +2,8 @@
 //! refused.
 
 use crate::tests::{
-    get_of, hit_of, large_set, opened_twice, run, second_finds, set_of, world, world_of,
+    HIT, MISS, get_of, hit_of, is_told, large_set, opened_twice, run, second_finds, set_of, world,
+    world_of,
 };
 use crate::{Event, World};
 use mc_command::Bytes;
@@ -15,11 +16,6 @@ const SET: &[u8] = b"set a 0 0 1\r\nx\r\n";
 
 const GET: &[u8] = b"get a\r\n";
 
-/// What a session is told of `get a` where the set of `a` stands, and where it doesn't.
-const HIT: &[u8] = b"VALUE a 0 1\r\nx\r\nEND\r\n";
-
-const MISS: &[u8] = b"END\r\n";
-
 /// Takes a turn of session 1 that sets `a`, compares what it is told, and gives what another one
 /// has to find: what was written, where a refusal says that the step was decided, and else nothing.
 fn set_turn(rt: &impl Abort, alloc: Global, world: &mut World<Fnv>) -> &'static [u8] {
@@ -28,19 +24,27 @@ fn set_turn(rt: &impl Abort, alloc: Global, world: &mut World<Fnv>) -> &'static 
         Err(refused) if refused.decided => (b"".as_slice(), HIT),
         Err(_) => (b"".as_slice(), MISS),
     };
-    assert_eq!(rt; world.out(1), told);
+    is_told(rt, world, 1, told);
     found
+}
+
+/// Session 1 sets `a`, and another one finds it where that stands.
+fn second_finds_what_stands(
+    rt: &impl Abort,
+    alloc: Global,
+    world: &mut World<Fnv>,
+) -> Result<(), Fail> {
+    run(world, alloc, &[Event::Piece(1, Bytes::of(SET))])?;
+    let found = set_turn(rt, alloc, world);
+    second_finds(rt, alloc, world, found)
 }
 
 /// Where a refusal says that the step was decided, another session finds what it wrote, and else it
 /// finds nothing.
 #[test]
 fn a_decided_step_stands_where_it_was_refused(rt: HostRuntime) -> Result<(), Fail> {
-    let alloc = rt.alloc();
-    let mut world = opened_twice(alloc)?;
-    run(&mut world, alloc, &[Event::Piece(1, Bytes::of(SET))])?;
-    let found = set_turn(&rt, alloc, &mut world);
-    second_finds(&rt, alloc, &mut world, found)
+    let mut world = opened_twice(rt.alloc())?;
+    second_finds_what_stands(&rt, rt.alloc(), &mut world)
 }
 
 /// A session that was refused is closed and told nothing, and the other one is answered.
@@ -50,7 +54,7 @@ fn both_are_told(rt: &impl Abort, world: &World<Fnv>) {
     } else {
         b"STORED\r\n"
     };
-    assert_eq!(rt; world.out(1), told);
+    is_told(rt, world, 1, told);
     let found = world.out(2);
     if world.is_closed(2) {
         assert!(rt; found.is_empty());
@@ -70,13 +74,13 @@ fn set_and_get(rt: &impl Abort, alloc: Global, world: &mut World<Fnv>) {
     let ended = world.run_through(alloc, &events);
     let closed = u64::from(world.is_closed(1)) + u64::from(world.is_closed(2));
     assert_eq!(rt; ended.refused, closed);
+    both_are_told(rt, world);
 }
 
 #[test]
 fn a_run_goes_on_past_a_refusal(rt: HostRuntime) -> Result<(), Fail> {
     let mut world = opened_twice(rt.alloc())?;
     set_and_get(&rt, rt.alloc(), &mut world);
-    both_are_told(&rt, &world);
     Ok(())
 }
 
@@ -92,7 +96,7 @@ fn tells<K: KeyHash + Drop>(
     if ended.refused > 0 {
         return Err(Fail::from(AllocError));
     }
-    assert_eq!(rt; world.out(1), output);
+    is_told(rt, world, 1, output);
     Ok(())
 }
 
