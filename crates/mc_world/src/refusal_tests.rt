@@ -70,25 +70,34 @@ impl<K: KeyHash + Drop> Asker<K> {
         self.world.run(alloc, &[piece, Event::Turn(self.session)])
     }
 
-    /// Sends a command, and tells whether its step stands. Refused, the session is closed with no text, and another one asks from
-    /// then on.
+    /// Its session is told that, which is then written.
+    fn is_told(&mut self, rt: &impl Abort, text: &[u8]) {
+        let out = self.world.out(self.session);
+        assert!(rt; out == text, "another text");
+        let written = out.len();
+        self.world.sent(self.session, written);
+    }
+
+    /// Its session was refused and is closed with no text. Another one asks from then on.
+    fn is_refused(&mut self, rt: &impl Abort, alloc: Global, refused: &Refused) {
+        assert!(rt; refused.session == Some(self.session), "another session");
+        assert!(rt; self.world.is_closed(self.session), "it is open");
+        assert!(rt;
+            self.world.out(self.session).is_empty(),
+            "a refused turn has a text"
+        );
+        self.open_next(rt, alloc);
+    }
+
+    /// Sends a command, and tells whether its step stands.
     fn stands(&mut self, rt: &impl Abort, alloc: Global, command: &[u8], text: &[u8]) -> bool {
         match self.send(alloc, command) {
             Ok(()) => {
-                let out = self.world.out(self.session);
-                assert!(rt; out == text, "another text");
-                let written = out.len();
-                self.world.sent(self.session, written);
+                self.is_told(rt, text);
                 true
             }
             Err(refused) => {
-                assert!(rt; refused.session == Some(self.session), "another session");
-                assert!(rt; self.world.is_closed(self.session), "it is open");
-                assert!(rt;
-                    self.world.out(self.session).is_empty(),
-                    "a refused turn has a text"
-                );
-                self.open_next(rt, alloc);
+                self.is_refused(rt, alloc, &refused);
                 refused.decided
             }
         }

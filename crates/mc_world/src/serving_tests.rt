@@ -55,10 +55,21 @@ fn run_with_memory(
     }
 }
 
+/// What a session of a world writes, which is served whole.
+fn served(
+    rt: &impl Abort,
+    alloc: Global,
+    world: &mut World<Fnv>,
+    input: &[u8],
+) -> Result<Vec<u8>, Fail> {
+    let (ended, out) = run_with_memory(alloc, world, input, NEVER, NEVER)?;
+    assert!(rt; ended.is_ok());
+    Ok(out)
+}
+
 /// Another session of that world is served.
 fn next_is_served(rt: &impl Abort, alloc: Global, world: &mut World<Fnv>) -> Result<(), Fail> {
-    let (ended, text) = run(alloc, world, b"version\r\n", NEVER, NEVER)?;
-    assert!(rt; ended.is_ok());
+    let text = served(rt, alloc, world, b"version\r\n")?;
     assert!(rt; text.as_slice() == b"VERSION 1.6.0\r\n".as_slice());
     Ok(())
 }
@@ -121,15 +132,18 @@ fn written(rt: &impl Abort, alloc: Global, input: &[u8]) -> Result<Vec<u8>, Fail
 /// What a run writes, once no growth is refused any more.
 fn again(rt: &impl Abort, alloc: Global, input: &[u8]) -> Result<Vec<u8>, Fail> {
     let mut world = world(alloc)?;
-    let (ended, whole) = run(alloc, &mut world, input, NEVER, NEVER)?;
-    assert!(rt; ended.is_ok());
-    Ok(whole)
+    served(rt, alloc, &mut world, input)
+}
+
+/// That input is answered so.
+fn is_output(rt: &impl Abort, out: &[u8], input: &str, output: &str) {
+    assert_eq!(rt; out, output.as_bytes(), "at {input}");
 }
 
 /// A new world writes that.
 fn row_is_written(rt: &impl Abort, alloc: Global, input: &str, output: &str) -> Result<(), Fail> {
     let out = written(rt, alloc, input.as_bytes())?;
-    assert_eq!(rt; out.as_slice(), output.as_bytes(), "at {input}");
+    is_output(rt, &out, input, output);
     Ok(())
 }
 
@@ -229,10 +243,21 @@ fn goes_on(
 }
 
 /// A write that fails behind so many bytes leaves the rest in the output of its session.
+fn rest_is_left_in(
+    rt: &impl Abort,
+    alloc: Global,
+    world: &mut World<Fnv>,
+    writes: usize,
+    output: &[u8],
+) -> Result<(), Fail> {
+    let written = write_fails(rt, alloc, world, writes)?;
+    goes_on(rt, written, world.out(1), writes, output)
+}
+
+/// The same, in a new world.
 fn rest_is_left(rt: &impl Abort, alloc: Global, writes: usize, output: &[u8]) -> Result<(), Fail> {
     let mut world = world(alloc)?;
-    let written = write_fails(rt, alloc, &mut world, writes)?;
-    goes_on(rt, written, world.out(1), writes, output)
+    rest_is_left_in(rt, alloc, &mut world, writes, output)
 }
 
 #[test]
@@ -252,9 +277,8 @@ fn session_writes(
     row: (&str, &str),
 ) -> Result<(), Fail> {
     let (input, output) = row;
-    let (ended, out) = run_with_memory(alloc, world, input.as_bytes(), NEVER, NEVER)?;
-    assert!(rt; ended.is_ok());
-    assert_eq!(rt; out.as_slice(), output.as_bytes(), "at {input}");
+    let out = served(rt, alloc, world, input.as_bytes())?;
+    is_output(rt, &out, input, output);
     Ok(())
 }
 

@@ -87,10 +87,10 @@ pub(crate) fn run<K: KeyHash + Drop>(
     alloc: Global,
     events: &[Event<'_>],
 ) -> Result<(), AllocError> {
-    match world.run(alloc, events) {
-        Ok(()) => Ok(()),
-        Err(_) => Err(AllocError),
+    if world.run(alloc, events).is_err() {
+        return Err(AllocError);
     }
+    Ok(())
 }
 
 /// Takes so many turns of session 1.
@@ -582,14 +582,21 @@ fn fill(rt: &impl Abort, alloc: Global, world: &mut World<Fnv>) -> Result<(), Fa
     large_set_answers(rt, alloc, world, (1001, 'c', 0), NO_CHUNK)
 }
 
-/// A world of one page that is full.
-fn full_world(rt: &impl Abort, alloc: Global) -> Result<World<Fnv>, Fail> {
-    let mut world = world_of(alloc, Fnv, 1)?;
-    fill(rt, alloc, &mut world)?;
-    Ok(world)
+/// Fills a page, and runs acts. Then a key of 600000 bytes is stored, and session 1 was told that.
+fn room_is_made_in(
+    rt: &impl Abort,
+    alloc: Global,
+    world: &mut World<Fnv>,
+    acts: &[Act],
+    key: char,
+    output: &str,
+) -> Result<(), Fail> {
+    fill(rt, alloc, world)?;
+    run_acts(world, alloc, acts)?;
+    large_set_answers(rt, alloc, world, (1001, key, 0), output)
 }
 
-/// Runs acts in such a world. Then it stores a key of 600000 bytes, and session 1 was told that in all.
+/// The same, in a new world of one page.
 fn room_is_made(
     rt: &impl Abort,
     alloc: Global,
@@ -597,9 +604,8 @@ fn room_is_made(
     key: char,
     output: &str,
 ) -> Result<(), Fail> {
-    let mut world = full_world(rt, alloc)?;
-    run_acts(&mut world, alloc, acts)?;
-    large_set_answers(rt, alloc, &mut world, (1001, key, 0), output)
+    let mut world = world_of(alloc, Fnv, 1)?;
+    room_is_made_in(rt, alloc, &mut world, acts, key, output)
 }
 
 #[test]
