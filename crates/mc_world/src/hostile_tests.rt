@@ -1,7 +1,7 @@
 //! What peers may send who mean no good: one hash, bytes one by one, and so many writes that the
 //! unique numbers end. Where memory is refused a test ends early.
 
-use crate::tests::{answers, run, world};
+use crate::tests::{answers, answers_and_grows, is_told, opened, run, take_turns};
 use crate::{Event, World};
 use mc_command::Bytes;
 use mc_hop::{Constant, Fnv};
@@ -11,11 +11,8 @@ use std::alloc::{AllocError, Global};
 use std::process::Abort;
 use std::test::Fail;
 
-/// One write is left, and then each that would draw a number is told that they are spent. All else
-/// is answered as before.
-#[test]
-fn unique_numbers_end(rt: HostRuntime) -> Result<(), Fail> {
-    let alloc = rt.alloc();
+/// A world of which session 1 is open, and of which one unique number is left.
+fn world_of_one_number(alloc: Global) -> Result<World<Fnv>, AllocError> {
     let settings = Settings {
         pages: 64,
         greatest: 1048576,
@@ -24,74 +21,80 @@ fn unique_numbers_end(rt: HostRuntime) -> Result<(), Fail> {
     let now = Moment::from_seconds(1000);
     let mut world = World::starting(alloc, settings, Fnv, now, 18446744073709551614)?;
     run(&mut world, alloc, &[Event::Open])?;
+    Ok(world)
+}
+
+/// One write is left, and then each that would draw a number is told that they are spent. All else
+/// is answered as before.
+#[test]
+fn unique_numbers_end(rt: HostRuntime) -> Result<(), Fail> {
     let input =
         "set a 0 0 1\r\nx\r\ngets a\r\nset a 0 0 1\r\ny\r\nincr a 1\r\nadd a 0 0 1\r\ny\r\nget a\r\ndelete a\r\n";
     let output =
         "STORED\r\nVALUE a 0 1 18446744073709551614\r\nx\r\nEND\r\nSERVER_ERROR out of unique numbers\r\n\
         CLIENT_ERROR cannot increment or decrement non-numeric value\r\nNOT_STORED\r\nVALUE a 0 1\r\nx\r\nEND\r\nDELETED\r\n";
-    answers(&rt, alloc, &mut world, 1000, input, output)
+    let mut world = world_of_one_number(rt.alloc())?;
+    answers(&rt, rt.alloc(), &mut world, 1000, input, output)
 }
 
-/// Asks a world of one hash for a key, and grows its shelf.
-fn answers_key(
+fn key_is_set(
     rt: &impl Abort,
     alloc: Global,
     world: &mut World<Constant>,
-    input: &str,
-    output: &str,
+    key: u32,
 ) -> Result<(), Fail> {
-    answers(rt, alloc, world, 1000, input, output)?;
-    run(world, alloc, &[Event::Grow(0)])?;
+    let set = format!(in alloc; "set k{key:03} 0 0 3\r\n{key:03}\r\n")?;
+    answers_and_grows(rt, alloc, world, &set, "STORED\r\n")
+}
+
+fn key_is_deleted(
+    rt: &impl Abort,
+    alloc: Global,
+    world: &mut World<Constant>,
+    key: u32,
+) -> Result<(), Fail> {
+    let delete = format!(in alloc; "delete k{key:03}\r\n")?;
+    answers_and_grows(rt, alloc, world, &delete, "DELETED\r\n")
+}
+
+/// What a key is found to be of which each third was deleted.
+fn found(alloc: Global, key: u32) -> Result<String, AllocError> {
+    if key % 3 == 0 {
+        format!(in alloc; "END\r\n")
+    } else {
+        format!(in alloc; "VALUE k{key:03} 0 3\r\n{key:03}\r\nEND\r\n")
+    }
+}
+
+fn key_is_found(
+    rt: &impl Abort,
+    alloc: Global,
+    world: &mut World<Constant>,
+    key: u32,
+) -> Result<(), Fail> {
+    let get = format!(in alloc; "get k{key:03}\r\n")?;
+    let found = found(alloc, key)?;
+    answers_and_grows(rt, alloc, world, &get, &found)
+}
+
+/// Sets the keys, deletes each third, and finds the others.
+fn keys_are_apart(rt: &impl Abort, alloc: Global, world: &mut World<Constant>) -> Result<(), Fail> {
+    for key in 1..301 {
+        key_is_set(rt, alloc, world, key)?;
+    }
+    for third in 1..101 {
+        key_is_deleted(rt, alloc, world, 3 * third)?;
+    }
+    for key in 1..301 {
+        key_is_found(rt, alloc, world, key)?;
+    }
     Ok(())
 }
 
 #[test]
 fn three_hundred_keys_have_one_hash(rt: HostRuntime) -> Result<(), Fail> {
-    let alloc = rt.alloc();
-    let mut world = world(alloc, Constant(0))?;
-    run(&mut world, alloc, &[Event::Open])?;
-    for key in 1..301 {
-        let set = format!(in alloc; "set k{key:03} 0 0 3\r\n{key:03}\r\n")?;
-        answers_key(&rt, alloc, &mut world, &set, "STORED\r\n")?;
-    }
-    for key in 1..301 {
-        if key % 3 == 0 {
-            let delete = format!(in alloc; "delete k{key:03}\r\n")?;
-            answers_key(&rt, alloc, &mut world, &delete, "DELETED\r\n")?;
-        }
-    }
-    for key in 1..301 {
-        let get = format!(in alloc; "get k{key:03}\r\n")?;
-        let hit = format!(in alloc; "VALUE k{key:03} 0 3\r\n{key:03}\r\nEND\r\n")?;
-        let found = if key % 3 == 0 {
-            "END\r\n"
-        } else {
-            hit.as_str()
-        };
-        answers_key(&rt, alloc, &mut world, &get, found)?;
-    }
-    Ok(())
-}
-
-/// Takes the turns that are left, and compares what session 1 is told in all.
-fn tells(
-    rt: &impl Abort,
-    alloc: Global,
-    world: &mut World<Fnv>,
-    output: &[u8],
-) -> Result<(), Fail> {
-    for _ in 0..10 {
-        run(world, alloc, &[Event::Turn(1)])?;
-    }
-    assert_eq!(rt; world.out(1), output);
-    Ok(())
-}
-
-/// A world of which session 1 is open.
-fn opened(alloc: Global) -> Result<World<Fnv>, AllocError> {
-    let mut world = world(alloc, Fnv)?;
-    run(&mut world, alloc, &[Event::Open])?;
-    Ok(world)
+    let mut world = opened(rt.alloc(), Constant(0))?;
+    keys_are_apart(&rt, rt.alloc(), &mut world)
 }
 
 /// Brings a piece and then an empty one, with a turn after each.
@@ -105,26 +108,60 @@ fn bring(alloc: Global, world: &mut World<Fnv>, piece: &[u8]) -> Result<(), Allo
     run(world, alloc, &events)
 }
 
-/// A session that reads this in pieces of one byte, with an empty piece and a turn after each, is
-/// told the same as one that reads it whole, and is closed where that one is.
+/// Brings each byte as a piece.
+fn bring_each(alloc: Global, world: &mut World<Fnv>, input: &[u8]) -> Result<(), AllocError> {
+    let mut rest = input;
+    for _byte in 0..input.len() {
+        let (piece, left) = rest.split_at(rest.len().min(1));
+        bring(alloc, world, piece)?;
+        rest = left;
+    }
+    Ok(())
+}
+
+/// Takes the turns that are left, compares what session 1 is told in all, and tells whether it is
+/// closed then.
+fn tells(
+    rt: &impl Abort,
+    alloc: Global,
+    world: &mut World<Fnv>,
+    output: &[u8],
+) -> Result<bool, Fail> {
+    take_turns(alloc, world, 10)?;
+    is_told(rt, world, 1, output);
+    Ok(world.is_closed(1))
+}
+
+/// Compares what a session is told that reads this whole, and tells whether it is closed then.
+fn tells_whole(rt: &impl Abort, alloc: Global, input: &[u8], output: &[u8]) -> Result<bool, Fail> {
+    let mut world = opened(alloc, Fnv)?;
+    bring(alloc, &mut world, input)?;
+    tells(rt, alloc, &mut world, output)
+}
+
+/// The same of one that reads it in pieces of one byte, with an empty piece and a turn after each.
+fn tells_bytewise(
+    rt: &impl Abort,
+    alloc: Global,
+    input: &[u8],
+    output: &[u8],
+) -> Result<bool, Fail> {
+    let mut world = opened(alloc, Fnv)?;
+    bring_each(alloc, &mut world, input)?;
+    tells(rt, alloc, &mut world, output)
+}
+
+/// A session that reads this byte by byte is told the same as one that reads it whole, and is
+/// closed where that one is.
 fn tells_in_any_pieces(
     rt: &impl Abort,
     alloc: Global,
     input: &[u8],
     output: &[u8],
 ) -> Result<(), Fail> {
-    let mut whole = opened(alloc)?;
-    bring(alloc, &mut whole, input)?;
-    tells(rt, alloc, &mut whole, output)?;
-    let mut cut = opened(alloc)?;
-    let mut rest = input;
-    for _byte in 0..input.len() {
-        let (piece, left) = rest.split_at(rest.len().min(1));
-        bring(alloc, &mut cut, piece)?;
-        rest = left;
-    }
-    tells(rt, alloc, &mut cut, output)?;
-    assert!(rt; cut.is_closed(1) == whole.is_closed(1));
+    let whole = tells_whole(rt, alloc, input, output)?;
+    let bytewise = tells_bytewise(rt, alloc, input, output)?;
+    assert!(rt; bytewise == whole);
     Ok(())
 }
 

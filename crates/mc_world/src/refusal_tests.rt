@@ -6,6 +6,7 @@
 ghost use Rattle.std.specs.Prelude.{◌≤◌};
 
 use super::*;
+use crate::tests::{get_of, hit_of, set_of};
 use mc_command::Bytes;
 use mc_hop::{Constant, Fnv, KeyHash};
 use mc_shelf::Settings;
@@ -69,25 +70,34 @@ impl<K: KeyHash + Drop> Asker<K> {
         self.world.run(alloc, &[piece, Event::Turn(self.session)])
     }
 
-    /// Sends a command, and tells whether its step stands. Refused, the session is closed with no text, and another one asks from
-    /// then on.
+    /// Its session is told that, which is then written.
+    fn is_told(&mut self, rt: &impl Abort, text: &[u8]) {
+        let out = self.world.out(self.session);
+        assert!(rt; out == text, "another text");
+        let written = out.len();
+        self.world.sent(self.session, written);
+    }
+
+    /// Its session was refused and is closed with no text. Another one asks from then on.
+    fn is_refused(&mut self, rt: &impl Abort, alloc: Global, refused: &Refused) {
+        assert!(rt; refused.session == Some(self.session), "another session");
+        assert!(rt; self.world.is_closed(self.session), "it is open");
+        assert!(rt;
+            self.world.out(self.session).is_empty(),
+            "a refused turn has a text"
+        );
+        self.open_next(rt, alloc);
+    }
+
+    /// Sends a command, and tells whether its step stands.
     fn stands(&mut self, rt: &impl Abort, alloc: Global, command: &[u8], text: &[u8]) -> bool {
         match self.send(alloc, command) {
             Ok(()) => {
-                let out = self.world.out(self.session);
-                assert!(rt; out == text, "another text");
-                let written = out.len();
-                self.world.sent(self.session, written);
+                self.is_told(rt, text);
                 true
             }
             Err(refused) => {
-                assert!(rt; refused.session == Some(self.session), "another session");
-                assert!(rt; self.world.is_closed(self.session), "it is open");
-                assert!(rt;
-                    self.world.out(self.session).is_empty(),
-                    "a refused turn has a text"
-                );
-                self.open_next(rt, alloc);
+                self.is_refused(rt, alloc, &refused);
                 refused.decided
             }
         }
@@ -121,47 +131,51 @@ impl<K: KeyHash + Drop> Asker<K> {
     }
 }
 
+/// A command, and what it is answered.
+type Row<'a> = (&'a [u8], &'a [u8]);
+
+/// A new world of so many pages answers these, and then one that reads.
+fn are_answered(
+    rt: &impl Abort,
+    alloc: Global,
+    pages: u32,
+    rows: &[Row<'_>],
+    read: Row<'_>,
+) -> Result<(), Fail>
+    requires { (1 ≤ pages) × (pages ≤ 65536) }
+{
+    let mut asker = Asker::of(rt, alloc, world(alloc, Fnv, pages)?);
+    asker.rows(rt, alloc, rows, read);
+    Ok(())
+}
+
 #[test]
 fn a_cas_stores_once(rt: HostRuntime) -> Result<(), Fail> {
-    let alloc = rt.alloc();
-    let mut asker = Asker::of(&rt, alloc, world(alloc, Fnv, 64)?);
-    let rows: [(&[u8], &[u8]); 4] = [
+    const ROWS: [Row<'static>; 4] = [
         (b"set a 0 0 1\r\nx\r\n", b"STORED\r\n"),
         (b"gets a\r\n", b"VALUE a 0 1 1\r\nx\r\nEND\r\n"),
         (b"cas a 0 0 1 1\r\ny\r\n", b"STORED\r\n"),
         (b"cas a 0 0 1 1\r\nz\r\n", b"EXISTS\r\n"),
     ];
-    let read = (
-        b"gets a\r\n".as_slice(),
-        b"VALUE a 0 1 2\r\ny\r\nEND\r\n".as_slice(),
-    );
-    asker.rows(&rt, alloc, &rows, read);
-    Ok(())
+    const READ: Row<'static> = (b"gets a\r\n", b"VALUE a 0 1 2\r\ny\r\nEND\r\n");
+    are_answered(&rt, rt.alloc(), 64, &ROWS, READ)
 }
 
 #[test]
 fn appended_and_prepended_blocks_keep_flags(rt: HostRuntime) -> Result<(), Fail> {
-    let alloc = rt.alloc();
-    let mut asker = Asker::of(&rt, alloc, world(alloc, Fnv, 64)?);
-    let rows: [(&[u8], &[u8]); 4] = [
+    const ROWS: [Row<'static>; 4] = [
         (b"append a 9 9 1\r\nx\r\n", b"NOT_STORED\r\n"),
         (b"set a 7 0 1\r\nb\r\n", b"STORED\r\n"),
         (b"append a 9 0 1\r\nc\r\n", b"STORED\r\n"),
         (b"prepend a 9 0 1\r\na\r\n", b"STORED\r\n"),
     ];
-    let read = (
-        b"gets a\r\n".as_slice(),
-        b"VALUE a 7 3 3\r\nabc\r\nEND\r\n".as_slice(),
-    );
-    asker.rows(&rt, alloc, &rows, read);
-    Ok(())
+    const READ: Row<'static> = (b"gets a\r\n", b"VALUE a 7 3 3\r\nabc\r\nEND\r\n");
+    are_answered(&rt, rt.alloc(), 64, &ROWS, READ)
 }
 
 #[test]
 fn a_number_that_leaves_its_class_finds_no_chunk(rt: HostRuntime) -> Result<(), Fail> {
-    let alloc = rt.alloc();
-    let mut asker = Asker::of(&rt, alloc, world(alloc, Fnv, 1)?);
-    let rows: [(&[u8], &[u8]); 2] = [
+    const ROWS: [Row<'static>; 2] = [
         (
             b"set a_key_of_as_many_bytes_as_leave_room_for_one_01 0 0 1\r\n9\r\n",
             b"STORED\r\n",
@@ -171,12 +185,11 @@ fn a_number_that_leaves_its_class_finds_no_chunk(rt: HostRuntime) -> Result<(), 
             NO_CHUNK,
         ),
     ];
-    let read = (
-        b"get a_key_of_as_many_bytes_as_leave_room_for_one_01\r\n".as_slice(),
-        b"VALUE a_key_of_as_many_bytes_as_leave_room_for_one_01 0 1\r\n9\r\nEND\r\n".as_slice(),
+    const READ: Row<'static> = (
+        b"get a_key_of_as_many_bytes_as_leave_room_for_one_01\r\n",
+        b"VALUE a_key_of_as_many_bytes_as_leave_room_for_one_01 0 1\r\n9\r\nEND\r\n",
     );
-    asker.rows(&rt, alloc, &rows, read);
-    Ok(())
+    are_answered(&rt, rt.alloc(), 1, &ROWS, READ)
 }
 
 /// Bytes of three parts, the middle one 600000 times a letter, asked for again where memory is refused.
@@ -200,51 +213,77 @@ fn around_once(
     Ok(bytes)
 }
 
+/// A world of one page stores the first of these, finds no room for a small item nor for the second,
+/// and then gets the first.
+fn first_is_held<'a>(
+    rt: &impl Abort,
+    alloc: Global,
+    first: &'a [u8],
+    second: &'a [u8],
+    hit: &'a [u8],
+) -> Result<(), Fail> {
+    let rows: [Row<'a>; 3] = [
+        (first, b"STORED\r\n"),
+        (b"set s 0 0 1\r\ny\r\n", NO_CHUNK),
+        (second, NO_CHUNK),
+    ];
+    are_answered(rt, alloc, 1, &rows, (b"get b\r\n", hit))
+}
+
 #[test]
 fn one_page_holds_one_large_item(rt: HostRuntime) -> Result<(), Fail> {
     let alloc = rt.alloc();
-    let mut asker = Asker::of(&rt, alloc, world(alloc, Fnv, 1)?);
     let first = around(alloc, b"set b 0 0 600000\r\n", b'x', b"\r\n")?;
     let second = around(alloc, b"set b 0 0 600000\r\n", b'z', b"\r\n")?;
     let hit = around(alloc, b"VALUE b 0 600000\r\n", b'x', b"\r\nEND\r\n")?;
-    let rows: [(&[u8], &[u8]); 3] = [
-        (first.as_slice(), b"STORED\r\n"),
-        (b"set s 0 0 1\r\ny\r\n", NO_CHUNK),
-        (second.as_slice(), NO_CHUNK),
-    ];
-    asker.rows(&rt, alloc, &rows, (b"get b\r\n", hit.as_slice()));
+    first_is_held(&rt, alloc, &first, &second, &hit)
+}
+
+/// Sets the key of a number, and grows its shelf.
+fn set_key(
+    rt: &impl Abort,
+    alloc: Global,
+    asker: &mut Asker<Constant>,
+    number: u32,
+) -> Result<(), AllocError> {
+    let set = set_of(alloc, number).or_else(|_| set_of(alloc, number))?;
+    asker.answers(rt, alloc, set.as_bytes(), b"STORED\r\n");
+    let grown = asker.world.run(alloc, &[Event::Grow(0)]);
+    assert!(rt; grown.is_ok(), "growth took memory");
     Ok(())
 }
 
-/// What sets the key of a number to its two digits.
-fn set_of(alloc: Global, number: u32) -> Result<String, AllocError> {
-    format!(in alloc; "set k{number:02} 0 0 2\r\n{number:02}\r\n")
+/// Finds the key of a number.
+fn find_key(
+    rt: &impl Abort,
+    alloc: Global,
+    asker: &mut Asker<Constant>,
+    number: u32,
+) -> Result<(), AllocError> {
+    let get = get_of(alloc, number).or_else(|_| get_of(alloc, number))?;
+    let hit = hit_of(alloc, number).or_else(|_| hit_of(alloc, number))?;
+    asker.rows(rt, alloc, &[], (get.as_bytes(), hit.as_bytes()));
+    Ok(())
 }
 
-/// What the key of a number is found to be.
-fn hit_of(alloc: Global, number: u32) -> Result<String, AllocError> {
-    format!(in alloc; "VALUE k{number:02} 0 2\r\n{number:02}\r\nEND\r\n")
-}
-
-/// What gets the key of a number.
-fn get_of(alloc: Global, number: u32) -> Result<String, AllocError> {
-    format!(in alloc; "get k{number:02}\r\n")
+/// Sets forty keys, and then finds them.
+fn forty_keys_are_apart(
+    rt: &impl Abort,
+    alloc: Global,
+    asker: &mut Asker<Constant>,
+) -> Result<(), AllocError> {
+    for number in 1..41 {
+        set_key(rt, alloc, asker, number)?;
+    }
+    for number in 1..41 {
+        find_key(rt, alloc, asker, number)?;
+    }
+    Ok(())
 }
 
 #[test]
 fn keys_of_one_hash_are_apart_while_tables_grow(rt: HostRuntime) -> Result<(), Fail> {
-    let alloc = rt.alloc();
-    let mut asker = Asker::of(&rt, alloc, world(alloc, Constant(0), 64)?);
-    for number in 1..41 {
-        let set = set_of(alloc, number).or_else(|_| set_of(alloc, number))?;
-        asker.answers(&rt, alloc, set.as_bytes(), b"STORED\r\n");
-        let grown = asker.world.run(alloc, &[Event::Grow(0)]);
-        assert!(rt; grown.is_ok(), "growth took memory");
-    }
-    for number in 1..41 {
-        let get = get_of(alloc, number).or_else(|_| get_of(alloc, number))?;
-        let hit = hit_of(alloc, number).or_else(|_| hit_of(alloc, number))?;
-        asker.rows(&rt, alloc, &[], (get.as_bytes(), hit.as_bytes()));
-    }
+    let mut asker = Asker::of(&rt, rt.alloc(), world(rt.alloc(), Constant(0), 64)?);
+    forty_keys_are_apart(&rt, rt.alloc(), &mut asker)?;
     Ok(())
 }

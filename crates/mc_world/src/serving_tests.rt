@@ -55,61 +55,155 @@ fn run_with_memory(
     }
 }
 
+/// What a session of a world writes, which is served whole.
+fn served(
+    rt: &impl Abort,
+    alloc: Global,
+    world: &mut World<Fnv>,
+    input: &[u8],
+) -> Result<Vec<u8>, Fail> {
+    let (ended, out) = run_with_memory(alloc, world, input, NEVER, NEVER)?;
+    assert!(rt; ended.is_ok());
+    Ok(out)
+}
+
+/// Another session of that world is served.
+fn next_is_served(rt: &impl Abort, alloc: Global, world: &mut World<Fnv>) -> Result<(), Fail> {
+    let text = served(rt, alloc, world, b"version\r\n")?;
+    assert!(rt; text.as_slice() == b"VERSION 1.6.0\r\n".as_slice());
+    Ok(())
+}
+
+/// A session that went well is closed and has nothing to be written. Where a growth was refused it is
+/// closed, if it was opened, and the world serves the next one.
+fn is_left_well(
+    rt: &impl Abort,
+    alloc: Global,
+    world: &mut World<Fnv>,
+    ended: Result<(), ServeFault>,
+) -> Result<(), Fail> {
+    if ended.is_ok() {
+        assert!(rt; world.is_closed(1) && world.out(1).is_empty());
+        return Ok(());
+    }
+    assert!(rt; matches!(ended, Err(ServeFault::NoMemory)));
+    assert!(rt; world.opened() == 0 || world.is_closed(1));
+    next_is_served(rt, alloc, world)
+}
+
+/// Whether the first run of a world went well, and what it wrote; nothing where the run has no reader
+/// or writer for want of memory.
+fn first_of(
+    rt: &impl Abort,
+    alloc: Global,
+    world: &mut World<Fnv>,
+    input: &[u8],
+) -> Result<Option<(bool, Vec<u8>)>, Fail> {
+    let Ok((ended, part)) = run(alloc, world, input, NEVER, NEVER) else {
+        return Ok(None);
+    };
+    let is_whole = ended.is_ok();
+    is_left_well(rt, alloc, world, ended)?;
+    Ok(Some((is_whole, part)))
+}
+
+/// The same of a new world; nothing where there is none.
+fn first(rt: &impl Abort, alloc: Global, input: &[u8]) -> Result<Option<(bool, Vec<u8>)>, Fail> {
+    match world(alloc) {
+        Ok(mut world) => first_of(rt, alloc, &mut world, input),
+        Err(_) => Ok(None),
+    }
+}
+
 /// What a run of a new world that is well writes. Where a growth was refused, what was written is a
-/// beginning, the session is closed, and the world serves the next one.
+/// beginning of that.
 fn written(rt: &impl Abort, alloc: Global, input: &[u8]) -> Result<Vec<u8>, Fail> {
-    if let Ok(mut first) = world(alloc) {
-        if let Ok((ended, part)) = run(alloc, &mut first, input, NEVER, NEVER) {
-            if ended.is_ok() {
-                assert!(rt; first.is_closed(1) && first.out(1).is_empty());
-                return Ok(part);
-            }
-            assert!(rt; matches!(ended, Err(ServeFault::NoMemory)));
-            assert!(rt; first.opened() == 0 || first.is_closed(1));
-            let (next, text) = run(alloc, &mut first, b"version\r\n", NEVER, NEVER)?;
-            assert!(rt; next.is_ok() && text.as_slice() == b"VERSION 1.6.0\r\n".as_slice());
+    match first(rt, alloc, input)? {
+        Some((true, whole)) => Ok(whole),
+        Some((false, part)) => {
             let whole = again(rt, alloc, input)?;
             assert!(rt; whole.as_slice().starts_with(part.as_slice()));
-            return Ok(whole);
+            Ok(whole)
         }
+        None => again(rt, alloc, input),
     }
-    again(rt, alloc, input)
 }
 
 /// What a run writes, once no growth is refused any more.
 fn again(rt: &impl Abort, alloc: Global, input: &[u8]) -> Result<Vec<u8>, Fail> {
     let mut world = world(alloc)?;
-    let (ended, whole) = run(alloc, &mut world, input, NEVER, NEVER)?;
-    assert!(rt; ended.is_ok());
-    Ok(whole)
+    served(rt, alloc, &mut world, input)
+}
+
+/// That input is answered so.
+fn is_output(rt: &impl Abort, out: &[u8], input: &str, output: &str) {
+    assert_eq!(rt; out, output.as_bytes(), "at {input}");
+}
+
+/// A new world writes that.
+fn row_is_written(rt: &impl Abort, alloc: Global, input: &str, output: &str) -> Result<(), Fail> {
+    let out = written(rt, alloc, input.as_bytes())?;
+    is_output(rt, &out, input, output);
+    Ok(())
 }
 
 #[test]
 fn rows_are_written(rt: HostRuntime) -> Result<(), Fail> {
-    for (input, output) in SESSIONS {
-        let out = written(&rt, rt.alloc(), input.as_bytes())?;
-        assert_eq!(rt; out.as_slice(), output.as_bytes(), "at {input}");
+    for (input, output) in &SESSIONS {
+        row_is_written(&rt, rt.alloc(), input, output)?;
     }
     Ok(())
 }
 
-/// Each front of the input is answered where the read behind it fails.
+/// Serves a session whose read fails behind so many bytes, and is closed then. Gives what it wrote.
+fn read_fails(
+    rt: &impl Abort,
+    alloc: Global,
+    world: &mut World<Fnv>,
+    input: &[u8],
+    reads: usize,
+) -> Result<Vec<u8>, Fail> {
+    let (ended, out) = run_with_memory(alloc, world, input, reads, NEVER)?;
+    // A session that was closed reads no further.
+    assert!(rt; matches!(ended, Ok(()) | Err(ServeFault::Read)));
+    assert!(rt; world.is_closed(1));
+    Ok(out)
+}
+
+/// The same, in a new world.
+fn written_until_read_fails(
+    rt: &impl Abort,
+    alloc: Global,
+    input: &[u8],
+    reads: usize,
+) -> Result<Vec<u8>, Fail> {
+    let mut world = world(alloc)?;
+    read_fails(rt, alloc, &mut world, input, reads)
+}
+
+/// A front of the input is answered where the read behind it fails.
+fn front_is_answered(
+    rt: &impl Abort,
+    alloc: Global,
+    input: &[u8],
+    reads: usize,
+) -> Result<(), Fail> {
+    let (came, _) = input.split_at(reads.min(input.len()));
+    let out = written_until_read_fails(rt, alloc, input, reads)?;
+    assert_eq!(rt; out, written(rt, alloc, came)?, "after {reads}");
+    Ok(())
+}
+
 fn fronts_are_answered(rt: &impl Abort, alloc: Global, input: &[u8]) -> Result<(), Fail> {
     for reads in 0..input.len() {
-        let (came, _) = input.split_at(reads);
-        let mut world = world(alloc)?;
-        let (ended, out) = run_with_memory(alloc, &mut world, input, reads, NEVER)?;
-        // A session that was closed reads no further.
-        assert!(rt; matches!(ended, Ok(()) | Err(ServeFault::Read)));
-        assert!(rt; world.is_closed(1));
-        assert_eq!(rt; out, written(rt, alloc, came)?, "after {reads}");
+        front_is_answered(rt, alloc, input, reads)?;
     }
     Ok(())
 }
 
 #[test]
 fn a_failed_read_leaves_what_came_before_answered(rt: HostRuntime) -> Result<(), Fail> {
-    for (input, _) in SESSIONS {
+    for (input, _) in &SESSIONS {
         // Each front is run three times: those of the longest sessions would take minutes.
         if input.len() < 60 {
             fronts_are_answered(&rt, rt.alloc(), input.as_bytes())?;
@@ -118,40 +212,105 @@ fn a_failed_read_leaves_what_came_before_answered(rt: HostRuntime) -> Result<(),
     Ok(())
 }
 
+/// Serves a session whose write fails behind so many bytes, and is closed then. Gives what it wrote.
+fn write_fails(
+    rt: &impl Abort,
+    alloc: Global,
+    world: &mut World<Fnv>,
+    writes: usize,
+) -> Result<Vec<u8>, Fail> {
+    let input = b"set a 5 0 3\r\nabc\r\nget a\r\nquit\r\n";
+    let (ended, out) = run_with_memory(alloc, world, input, NEVER, writes)?;
+    assert!(rt; matches!(ended, Err(ServeFault::Write)));
+    assert!(rt; world.is_closed(1));
+    Ok(out)
+}
+
+/// What was written is a front of the output of that length, and what is left goes on with it.
+fn goes_on(
+    rt: &impl Abort,
+    written: Vec<u8>,
+    left: &[u8],
+    writes: usize,
+    output: &[u8],
+) -> Result<(), Fail> {
+    let (front, _) = output.split_at(writes.min(output.len()));
+    assert_eq!(rt; written.as_slice(), front);
+    let mut told = written;
+    told.extend_from_slice(left)?;
+    assert!(rt; output.starts_with(told.as_slice()));
+    Ok(())
+}
+
+/// A write that fails behind so many bytes leaves the rest in the output of its session.
+fn rest_is_left_in(
+    rt: &impl Abort,
+    alloc: Global,
+    world: &mut World<Fnv>,
+    writes: usize,
+    output: &[u8],
+) -> Result<(), Fail> {
+    let written = write_fails(rt, alloc, world, writes)?;
+    goes_on(rt, written, world.out(1), writes, output)
+}
+
+/// The same, in a new world.
+fn rest_is_left(rt: &impl Abort, alloc: Global, writes: usize, output: &[u8]) -> Result<(), Fail> {
+    let mut world = world(alloc)?;
+    rest_is_left_in(rt, alloc, &mut world, writes, output)
+}
+
 #[test]
 fn a_failed_write_leaves_the_rest_in_the_output(rt: HostRuntime) -> Result<(), Fail> {
-    let input = "set a 5 0 3\r\nabc\r\nget a\r\nquit\r\n".as_bytes();
-    let output = "STORED\r\nVALUE a 5 3\r\nabc\r\nEND\r\n".as_bytes();
+    let output = b"STORED\r\nVALUE a 5 3\r\nabc\r\nEND\r\n";
     for writes in 0..output.len() {
-        let (front, _) = output.split_at(writes);
-        let mut world = world(rt.alloc())?;
-        let (ended, out) = run_with_memory(rt.alloc(), &mut world, input, NEVER, writes)?;
-        assert!(rt; matches!(ended, Err(ServeFault::Write)));
-        assert!(rt; world.is_closed(1));
-        assert_eq!(rt; out.as_slice(), front);
-        let mut left = out;
-        left.extend_from_slice(world.out(1))?;
-        assert!(rt; output.starts_with(left.as_slice()));
+        rest_is_left(&rt, rt.alloc(), writes, output)?;
     }
+    Ok(())
+}
+
+/// The next session of a world writes that.
+fn session_writes(
+    rt: &impl Abort,
+    alloc: Global,
+    world: &mut World<Fnv>,
+    row: (&str, &str),
+) -> Result<(), Fail> {
+    let (input, output) = row;
+    let out = served(rt, alloc, world, input.as_bytes())?;
+    is_output(rt, &out, input, output);
+    Ok(())
+}
+
+/// Three sessions were opened, and are closed with nothing to be written.
+fn three_are_closed(rt: &impl Abort, world: &World<Fnv>) {
+    assert!(rt; world.opened() == 3);
+    for session in 1..4 {
+        assert!(rt; world.is_closed(session) && world.out(session).is_empty());
+    }
+}
+
+/// Three sessions of a world write what their rows say, and are closed.
+fn three_write(
+    rt: &impl Abort,
+    alloc: Global,
+    world: &mut World<Fnv>,
+    rows: &[(&'static str, &'static str); 3],
+) -> Result<(), Fail> {
+    for row in rows {
+        session_writes(rt, alloc, world, *row)?;
+    }
+    three_are_closed(rt, world);
     Ok(())
 }
 
 #[test]
 fn a_second_session_finds_what_the_first_stored(rt: HostRuntime) -> Result<(), Fail> {
-    let alloc = rt.alloc();
-    let mut world = world(alloc)?;
-    for (input, output) in [
+    const ROWS: [(&str, &str); 3] = [
         ("set a 7 0 3\r\nabc\r\nquit\r\n", "STORED\r\n"),
         ("get a\r\n", "VALUE a 7 3\r\nabc\r\nEND\r\n"),
         ("delete a\r\nget a\r\n", "DELETED\r\nEND\r\n"),
-    ] {
-        let (ended, out) = run_with_memory(alloc, &mut world, input.as_bytes(), NEVER, NEVER)?;
-        assert!(rt; ended.is_ok());
-        assert_eq!(rt; out.as_slice(), output.as_bytes(), "at {input}");
-    }
-    assert!(rt; world.opened() == 3);
-    for session in 1..4 {
-        assert!(rt; world.is_closed(session) && world.out(session).is_empty());
-    }
-    Ok(())
+    ];
+    let mut world = world(rt.alloc())?;
+    three_write(&rt, rt.alloc(), &mut world, &ROWS)
 }

@@ -1,5 +1,8 @@
 //! Lists of events, and what they make of the sessions' outputs. Where memory is refused a test
 //! ends early.
+//!
+//! Each function does little, and what owns a world does less: a proof takes about the square of a
+//! function's length.
 
 ghost use Rattle.std.specs.Prelude.{◌≤◌};
 
@@ -22,6 +25,27 @@ const SHELF_OF_B: u32 = 37;
 /// What a step is answered that finds no chunk.
 const NO_CHUNK: &str = "SERVER_ERROR out of memory storing object\r\n";
 
+/// What `version` is answered.
+const VERSION: &str = "VERSION 1.6.0\r\n";
+
+/// An event, as a constant may have it.
+#[derive(Clone, Copy)]
+enum Act {
+    Open,
+    Piece(u32, &'static str),
+    Turn(u32),
+    /// The second.
+    Clock(u64),
+    Purge(u32),
+    Close(u32),
+}
+
+/// Events, a session, what it was told in all once they were run, and its `standing` then.
+type Row = (&'static [Act], u32, &'static str, &'static str);
+
+/// At which second session 1 asks, what, and what it is answered.
+type Asked = (u64, &'static str, &'static str);
+
 /// A world at 1000.
 pub(crate) fn world<K: KeyHash + Drop>(alloc: Global, hasher: K) -> Result<World<K>, AllocError> {
     world_of(alloc, hasher, 64)
@@ -43,16 +67,73 @@ pub(crate) fn world_of<K: KeyHash + Drop>(
     World::new(alloc, settings, hasher, Moment::from_seconds(1000))
 }
 
+/// A world at 1000 of which session 1 is open.
+pub(crate) fn opened<K: KeyHash + Drop>(alloc: Global, hasher: K) -> Result<World<K>, AllocError> {
+    let mut world = world(alloc, hasher)?;
+    run(&mut world, alloc, &[Event::Open])?;
+    Ok(world)
+}
+
+/// The same, of which session 2 is open too.
+pub(crate) fn opened_twice(alloc: Global) -> Result<World<Fnv>, AllocError> {
+    let mut world = opened(alloc, Fnv)?;
+    run(&mut world, alloc, &[Event::Open])?;
+    Ok(world)
+}
+
 /// Takes all events, and tells that memory ran out where one was refused.
 pub(crate) fn run<K: KeyHash + Drop>(
     world: &mut World<K>,
     alloc: Global,
     events: &[Event<'_>],
 ) -> Result<(), AllocError> {
-    match world.run(alloc, events) {
-        Ok(()) => Ok(()),
-        Err(_) => Err(AllocError),
+    if world.run(alloc, events).is_err() {
+        return Err(AllocError);
     }
+    Ok(())
+}
+
+/// Takes so many turns of session 1.
+pub(crate) fn take_turns<K: KeyHash + Drop>(
+    alloc: Global,
+    world: &mut World<K>,
+    turns: usize,
+) -> Result<(), AllocError> {
+    for _ in 0..turns {
+        run(world, alloc, &[Event::Turn(1)])?;
+    }
+    Ok(())
+}
+
+/// Brings a piece to session 1 at a second, and takes as many turns as any piece here has.
+fn ask<K: KeyHash + Drop>(
+    alloc: Global,
+    world: &mut World<K>,
+    seconds: u64,
+    piece: &[u8],
+) -> Result<(), AllocError> {
+    let clock = Event::Clock(Moment::from_seconds_at_most(seconds));
+    run(world, alloc, &[clock, Event::Piece(1, Bytes::of(piece))])?;
+    take_turns(alloc, world, 100)
+}
+
+/// This is what is to be written of a session.
+pub(crate) fn is_told<K: KeyHash + Drop>(
+    rt: &impl Abort,
+    world: &World<K>,
+    session: u32,
+    output: &[u8],
+) {
+    assert_eq!(rt; world.out(session), output, "of session {session}");
+}
+
+/// Session 1 is idle and is told this, which is then written.
+fn tells<K: KeyHash + Drop>(rt: &impl Abort, world: &mut World<K>, output: &str) {
+    assert!(rt; world.is_idle(1));
+    is_told(rt, world, 1, output.as_bytes());
+    let written = world.out(1).len();
+    world.sent(1, written);
+    assert!(rt; world.out(1).is_empty());
 }
 
 /// A piece of session 1, so many turns of it at a moment, and what they are answered.
@@ -64,207 +145,354 @@ pub(crate) fn answers<K: KeyHash + Drop>(
     piece: &str,
     output: &str,
 ) -> Result<(), Fail> {
-    answers_bytes(rt, alloc, world, moment, piece.as_bytes(), output)
+    ask(alloc, world, moment, piece.as_bytes())?;
+    tells(rt, world, output);
+    Ok(())
 }
 
-/// The same of a piece of any bytes.
-fn answers_bytes<K: KeyHash + Drop>(
+/// Builds the event of an act.
+fn event_of(act: Act) -> Event<'static> {
+    match act {
+        Act::Open => Event::Open,
+        Act::Piece(session, piece) => Event::Piece(session, Bytes::of(piece.as_bytes())),
+        Act::Turn(session) => Event::Turn(session),
+        Act::Clock(seconds) => Event::Clock(Moment::from_seconds_at_most(seconds)),
+        Act::Purge(shelf) => Event::Purge(shelf),
+        Act::Close(session) => Event::Close(session),
+    }
+}
+
+/// Builds the events of acts.
+fn events_of(alloc: Global, acts: &[Act]) -> Result<Vec<Event<'static>>, AllocError> {
+    let mut events = Vec::new(alloc);
+    for act in acts {
+        events.push(event_of(*act))?;
+    }
+    Ok(events)
+}
+
+/// Names how a session stands: it is closed, it is idle, or neither, as one that a turn is due of
+/// and one that was never opened.
+fn standing(world: &World<Fnv>, session: u32) -> &'static str {
+    match (world.is_closed(session), world.is_idle(session)) {
+        (true, false) => "closed",
+        (false, true) => "idle",
+        (false, false) => "neither",
+        (true, true) => "both",
+    }
+}
+
+/// Runs the events of acts.
+fn run_acts(world: &mut World<Fnv>, alloc: Global, acts: &[Act]) -> Result<(), AllocError> {
+    let events = events_of(alloc, acts)?;
+    run(world, alloc, &events)
+}
+
+/// Runs the events of rows one after another, and compares what became of their sessions.
+fn rows_are_told_in(
     rt: &impl Abort,
     alloc: Global,
-    world: &mut World<K>,
-    moment: u64,
-    piece: &[u8],
-    output: &str,
+    world: &mut World<Fnv>,
+    rows: &[Row],
 ) -> Result<(), Fail> {
-    let clock = Event::Clock(Moment::from_seconds_at_most(moment));
-    run(world, alloc, &[clock, Event::Piece(1, Bytes::of(piece))])?;
-    for _ in 0..100 {
-        run(world, alloc, &[Event::Turn(1)])?;
+    for (acts, session, output, stands) in rows {
+        run_acts(world, alloc, acts)?;
+        is_told(rt, world, *session, output.as_bytes());
+        assert_eq!(rt; standing(world, *session), *stands);
     }
-    assert!(rt; world.is_idle(1));
-    assert_eq!(rt; world.out(1), output.as_bytes());
-    let written = world.out(1).len();
-    world.sent(1, written);
-    assert!(rt; world.out(1).is_empty());
     Ok(())
+}
+
+/// The same, in a new world.
+fn rows_are_told(rt: &impl Abort, alloc: Global, rows: &[Row]) -> Result<(), Fail> {
+    let mut world = world(alloc, Fnv)?;
+    rows_are_told_in(rt, alloc, &mut world, rows)
 }
 
 #[test]
 fn a_session_is_there_once_it_is_opened(rt: HostRuntime) -> Result<(), Fail> {
-    let alloc = rt.alloc();
-    let mut world = world(alloc, Fnv)?;
-    let version = Bytes::of(b"version\r\n");
-    run(&mut world, alloc, &[Event::Piece(1, version)])?;
-    assert!(rt; !world.is_idle(1) && !world.is_closed(1));
-    run(&mut world, alloc, &[Event::Open, Event::Turn(1)])?;
-    assert!(rt; world.out(1).is_empty() && world.is_idle(1));
-    let events = [
-        Event::Piece(1, Bytes::of(b"ver")),
-        Event::Turn(1),
-        Event::Piece(1, Bytes::of(b"sion\r\n")),
-        Event::Turn(1),
-        Event::Turn(1),
+    const ROWS: [Row; 6] = [
+        (&[Act::Piece(1, "version\r\n")], 1, "", "neither"),
+        (&[Act::Open, Act::Turn(1)], 1, "", "idle"),
+        (
+            &[
+                Act::Piece(1, "ver"),
+                Act::Turn(1),
+                Act::Piece(1, "sion\r\n"),
+                Act::Turn(1),
+                Act::Turn(1),
+            ],
+            1,
+            VERSION,
+            "idle",
+        ),
+        (
+            &[
+                Act::Piece(1, "quit\r\nversion\r\n"),
+                Act::Turn(1),
+                Act::Turn(1),
+            ],
+            1,
+            VERSION,
+            "closed",
+        ),
+        (&[], 0, "", "neither"),
+        (&[], 2, "", "neither"),
     ];
-    run(&mut world, alloc, &events)?;
-    assert_eq!(rt; world.out(1), b"VERSION 1.6.0\r\n".as_slice());
-    let events = [
-        Event::Piece(1, Bytes::of(b"quit\r\nversion\r\n")),
-        Event::Turn(1),
-        Event::Turn(1),
-    ];
-    run(&mut world, alloc, &events)?;
-    assert_eq!(rt; world.out(1), b"VERSION 1.6.0\r\n".as_slice());
-    assert!(rt; world.is_closed(1) && !world.is_idle(1));
-    assert!(rt; world.out(0).is_empty() && world.out(2).is_empty());
-    Ok(())
+    rows_are_told(&rt, rt.alloc(), &ROWS)
 }
 
 #[test]
 fn a_closed_session_keeps_its_output(rt: HostRuntime) -> Result<(), Fail> {
-    let alloc = rt.alloc();
-    let mut world = world(alloc, Fnv)?;
-    let events = [
-        Event::Open,
-        Event::Open,
-        Event::Piece(2, Bytes::of(b"version\r\nversion\r\n")),
-        Event::Turn(2),
-        Event::Turn(1),
-        Event::Close(2),
-        Event::Turn(2),
-        Event::Piece(2, Bytes::of(b"version\r\n")),
-        Event::Turn(2),
+    const ROWS: [Row; 2] = [
+        (
+            &[
+                Act::Open,
+                Act::Open,
+                Act::Piece(2, "version\r\nversion\r\n"),
+                Act::Turn(2),
+                Act::Turn(1),
+                Act::Close(2),
+                Act::Turn(2),
+                Act::Piece(2, "version\r\n"),
+                Act::Turn(2),
+            ],
+            2,
+            VERSION,
+            "closed",
+        ),
+        (&[], 1, "", "idle"),
     ];
-    run(&mut world, alloc, &events)?;
-    assert_eq!(rt; world.out(2), b"VERSION 1.6.0\r\n".as_slice());
-    assert!(rt; world.is_closed(2) && world.is_idle(1));
-    assert!(rt; world.out(1).is_empty());
-    Ok(())
+    rows_are_told(&rt, rt.alloc(), &ROWS)
+}
+
+#[test]
+fn keys_of_a_get_are_asked_at_their_turns(rt: HostRuntime) -> Result<(), Fail> {
+    const ROWS: [Row; 2] = [
+        (
+            &[
+                Act::Open,
+                Act::Open,
+                Act::Piece(2, "set a 0 0 1\r\n1\r\nset b 0 0 1\r\n1\r\n"),
+                Act::Turn(2),
+                Act::Turn(2),
+                Act::Piece(1, "get a b\r\n"),
+                Act::Turn(1),
+                Act::Piece(2, "set a 0 0 1\r\n2\r\nset b 0 0 1\r\n2\r\n"),
+                Act::Turn(2),
+                Act::Turn(2),
+                Act::Turn(1),
+            ],
+            1,
+            "VALUE a 0 1\r\n1\r\nVALUE b 0 1\r\n2\r\nEND\r\n",
+            "idle",
+        ),
+        (&[], 2, "STORED\r\nSTORED\r\nSTORED\r\nSTORED\r\n", "idle"),
+    ];
+    rows_are_told(&rt, rt.alloc(), &ROWS)
 }
 
 #[test]
 fn a_dead_item_is_dropped_where_it_is_asked_for(rt: HostRuntime) -> Result<(), Fail> {
-    let alloc = rt.alloc();
-    let mut world = world(alloc, Fnv)?;
-    run(&mut world, alloc, &[Event::Open])?;
-    let set = "set a 0 10 1\r\nx\r\n";
-    answers(&rt, alloc, &mut world, 1000, set, "STORED\r\n")?;
-    answers(&rt, alloc, &mut world, 1010, "get a\r\n", "END\r\n")?;
-    answers(&rt, alloc, &mut world, 1000, "get a\r\n", "END\r\n")?;
-    answers(&rt, alloc, &mut world, 1000, set, "STORED\r\n")?;
-    run(
-        &mut world,
-        alloc,
-        &[Event::Clock(Moment::from_seconds(1010))],
-    )?;
-    let hit = "VALUE a 0 1\r\nx\r\nEND\r\n";
-    answers(&rt, alloc, &mut world, 1000, "get a\r\n", hit)
+    const ROWS: [Row; 3] = [
+        (
+            &[
+                Act::Open,
+                Act::Piece(1, "set a 0 10 1\r\nx\r\n"),
+                Act::Turn(1),
+                Act::Clock(1010),
+                Act::Piece(1, "get a\r\n"),
+                Act::Turn(1),
+            ],
+            1,
+            "STORED\r\nEND\r\n",
+            "idle",
+        ),
+        (
+            &[
+                Act::Clock(1000),
+                Act::Piece(1, "get a\r\n"),
+                Act::Turn(1),
+                Act::Piece(1, "set a 0 10 1\r\nx\r\n"),
+                Act::Turn(1),
+            ],
+            1,
+            "STORED\r\nEND\r\nEND\r\nSTORED\r\n",
+            "idle",
+        ),
+        (
+            &[
+                Act::Clock(1010),
+                Act::Clock(1000),
+                Act::Piece(1, "get a\r\n"),
+                Act::Turn(1),
+            ],
+            1,
+            "STORED\r\nEND\r\nEND\r\nSTORED\r\nVALUE a 0 1\r\nx\r\nEND\r\n",
+            "idle",
+        ),
+    ];
+    rows_are_told(&rt, rt.alloc(), &ROWS)
 }
 
 #[test]
 fn a_purge_drops_what_is_dead_on_its_shelf(rt: HostRuntime) -> Result<(), Fail> {
-    let alloc = rt.alloc();
-    let mut world = world(alloc, Fnv)?;
-    run(&mut world, alloc, &[Event::Open])?;
-    let set = "set a 0 10 1\r\nx\r\n";
-    let hit = "VALUE a 0 1\r\nx\r\nEND\r\n";
-    answers(&rt, alloc, &mut world, 1000, set, "STORED\r\n")?;
-    run(
-        &mut world,
-        alloc,
-        &[
-            Event::Purge(SHELF_OF_A),
-            Event::Clock(Moment::from_seconds(1010)),
-            Event::Purge(SHELF_OF_B),
-            Event::Purge(64),
-        ],
-    )?;
-    answers(&rt, alloc, &mut world, 1000, "get a\r\n", hit)?;
-    let later = Event::Clock(Moment::from_seconds(1010));
-    run(&mut world, alloc, &[later, Event::Purge(SHELF_OF_A)])?;
-    answers(&rt, alloc, &mut world, 1000, "get a\r\n", "END\r\n")
+    const ROWS: [Row; 3] = [
+        (
+            &[
+                Act::Open,
+                Act::Piece(1, "set a 0 10 1\r\nx\r\n"),
+                Act::Turn(1),
+            ],
+            1,
+            "STORED\r\n",
+            "idle",
+        ),
+        (
+            &[
+                Act::Purge(SHELF_OF_A),
+                Act::Clock(1010),
+                Act::Purge(SHELF_OF_B),
+                Act::Purge(64),
+                Act::Clock(1000),
+                Act::Piece(1, "get a\r\n"),
+                Act::Turn(1),
+            ],
+            1,
+            "STORED\r\nVALUE a 0 1\r\nx\r\nEND\r\n",
+            "idle",
+        ),
+        (
+            &[
+                Act::Clock(1010),
+                Act::Purge(SHELF_OF_A),
+                Act::Clock(1000),
+                Act::Piece(1, "get a\r\n"),
+                Act::Turn(1),
+            ],
+            1,
+            "STORED\r\nVALUE a 0 1\r\nx\r\nEND\r\nEND\r\n",
+            "idle",
+        ),
+    ];
+    rows_are_told(&rt, rt.alloc(), &ROWS)
 }
 
-#[test]
-fn an_exptime_of_up_to_thirty_days_counts_from_now(rt: HostRuntime) -> Result<(), Fail> {
-    let alloc = rt.alloc();
-    let mut world = world(alloc, Fnv)?;
-    run(&mut world, alloc, &[Event::Open])?;
-    let sets = "set a 0 2592000 1\r\nx\r\nset b 0 2592001 1\r\ny\r\n";
-    answers(&rt, alloc, &mut world, 1000, sets, "STORED\r\nSTORED\r\n")?;
-    for (moment, input, output) in [
-        (2592000, "get b\r\n", "VALUE b 0 1\r\ny\r\nEND\r\n"),
-        (2592001, "get b\r\n", "END\r\n"),
-        (2592999, "get a\r\n", "VALUE a 0 1\r\nx\r\nEND\r\n"),
-        (2593000, "get a\r\n", "END\r\n"),
-    ] {
-        answers(&rt, alloc, &mut world, moment, input, output)?;
+/// Session 1 of a world asks one after another, and is answered so.
+fn asked_are_answered(
+    rt: &impl Abort,
+    alloc: Global,
+    world: &mut World<Fnv>,
+    rows: &[Asked],
+) -> Result<(), Fail> {
+    for (moment, input, output) in rows {
+        answers(rt, alloc, world, *moment, input, output)?;
     }
     Ok(())
 }
 
+/// The same, of a new world.
+fn new_world_answers(rt: &impl Abort, alloc: Global, rows: &[Asked]) -> Result<(), Fail> {
+    let mut world = opened(alloc, Fnv)?;
+    asked_are_answered(rt, alloc, &mut world, rows)
+}
+
+#[test]
+fn an_exptime_of_up_to_thirty_days_counts_from_now(rt: HostRuntime) -> Result<(), Fail> {
+    const ROWS: [Asked; 5] = [
+        (
+            1000,
+            "set a 0 2592000 1\r\nx\r\nset b 0 2592001 1\r\ny\r\n",
+            "STORED\r\nSTORED\r\n",
+        ),
+        (2592000, "get b\r\n", "VALUE b 0 1\r\ny\r\nEND\r\n"),
+        (2592001, "get b\r\n", "END\r\n"),
+        (2592999, "get a\r\n", "VALUE a 0 1\r\nx\r\nEND\r\n"),
+        (2593000, "get a\r\n", "END\r\n"),
+    ];
+    new_world_answers(&rt, rt.alloc(), &ROWS)
+}
+
 #[test]
 fn a_flush_comes_at_its_moment(rt: HostRuntime) -> Result<(), Fail> {
-    let alloc = rt.alloc();
-    let mut world = world(alloc, Fnv)?;
-    run(&mut world, alloc, &[Event::Open])?;
-    for (moment, input, output) in [
+    const ROWS: [Asked; 6] = [
         (1000, "flush_all 10\r\n", "OK\r\n"),
         (1005, "set a 0 0 1\r\nx\r\n", "STORED\r\n"),
         (1009, "get a\r\n", "VALUE a 0 1\r\nx\r\nEND\r\n"),
         (1010, "get a\r\n", "END\r\n"),
         (1010, "set b 0 0 1\r\ny\r\n", "STORED\r\n"),
         (1011, "get b\r\n", "VALUE b 0 1\r\ny\r\nEND\r\n"),
-    ] {
-        answers(&rt, alloc, &mut world, moment, input, output)?;
-    }
+    ];
+    new_world_answers(&rt, rt.alloc(), &ROWS)
+}
+
+/// What sets the key of a number to its two digits.
+pub(crate) fn set_of(alloc: Global, number: u32) -> Result<String, AllocError> {
+    format!(in alloc; "set k{number:02} 0 0 2\r\n{number:02}\r\n")
+}
+
+/// What gets the key of a number.
+pub(crate) fn get_of(alloc: Global, number: u32) -> Result<String, AllocError> {
+    format!(in alloc; "get k{number:02}\r\n")
+}
+
+/// What the key of a number is found to be.
+pub(crate) fn hit_of(alloc: Global, number: u32) -> Result<String, AllocError> {
+    format!(in alloc; "VALUE k{number:02} 0 2\r\n{number:02}\r\nEND\r\n")
+}
+
+/// Asks a world of one hash for a key, and grows its shelf.
+pub(crate) fn answers_and_grows(
+    rt: &impl Abort,
+    alloc: Global,
+    world: &mut World<Constant>,
+    input: &str,
+    output: &str,
+) -> Result<(), Fail> {
+    answers(rt, alloc, world, 1000, input, output)?;
+    run(world, alloc, &[Event::Grow(0)])?;
     Ok(())
 }
 
-#[test]
-fn keys_of_a_get_are_asked_at_their_turns(rt: HostRuntime) -> Result<(), Fail> {
-    let alloc = rt.alloc();
-    let mut world = world(alloc, Fnv)?;
-    let events = [
-        Event::Open,
-        Event::Open,
-        Event::Piece(2, Bytes::of(b"set a 0 0 1\r\n1\r\nset b 0 0 1\r\n1\r\n")),
-        Event::Turn(2),
-        Event::Turn(2),
-        Event::Piece(1, Bytes::of(b"get a b\r\n")),
-        Event::Turn(1),
-        Event::Piece(2, Bytes::of(b"set a 0 0 1\r\n2\r\nset b 0 0 1\r\n2\r\n")),
-        Event::Turn(2),
-        Event::Turn(2),
-        Event::Turn(1),
-    ];
-    run(&mut world, alloc, &events)?;
-    assert_eq!(rt;
-        world.out(1),
-        b"VALUE a 0 1\r\n1\r\nVALUE b 0 1\r\n2\r\nEND\r\n".as_slice()
-    );
-    assert_eq!(rt;
-        world.out(2),
-        b"STORED\r\nSTORED\r\nSTORED\r\nSTORED\r\n".as_slice()
-    );
+fn key_is_set(
+    rt: &impl Abort,
+    alloc: Global,
+    world: &mut World<Constant>,
+    number: u32,
+) -> Result<(), Fail> {
+    let set = set_of(alloc, number)?;
+    answers_and_grows(rt, alloc, world, &set, "STORED\r\n")
+}
+
+fn key_is_found(
+    rt: &impl Abort,
+    alloc: Global,
+    world: &mut World<Constant>,
+    number: u32,
+) -> Result<(), Fail> {
+    let get = get_of(alloc, number)?;
+    let hit = hit_of(alloc, number)?;
+    answers(rt, alloc, world, 1000, &get, &hit)
+}
+
+fn forty_keys_are_apart(
+    rt: &impl Abort,
+    alloc: Global,
+    world: &mut World<Constant>,
+) -> Result<(), Fail> {
+    for number in 1..41 {
+        key_is_set(rt, alloc, world, number)?;
+    }
+    for number in 1..41 {
+        key_is_found(rt, alloc, world, number)?;
+    }
     Ok(())
 }
 
 #[test]
 fn keys_of_one_hash_are_apart(rt: HostRuntime) -> Result<(), Fail> {
-    let alloc = rt.alloc();
-    let mut world = world(alloc, Constant(0))?;
-    run(&mut world, alloc, &[Event::Open])?;
-    for key in 1..41 {
-        let set = format!(in alloc; "set k{key:02} 0 0 2\r\n{key:02}\r\n")?;
-        answers(&rt, alloc, &mut world, 1000, &set, "STORED\r\n")?;
-        run(&mut world, alloc, &[Event::Grow(0)])?;
-    }
-    for key in 1..41 {
-        let get = format!(in alloc; "get k{key:02}\r\n")?;
-        let hit = format!(in alloc; "VALUE k{key:02} 0 2\r\n{key:02}\r\nEND\r\n")?;
-        answers(&rt, alloc, &mut world, 1000, &get, &hit)?;
-    }
-    Ok(())
+    let mut world = opened(rt.alloc(), Constant(0))?;
+    forty_keys_are_apart(&rt, rt.alloc(), &mut world)
 }
 
 fn happen(parts: &mut Parts<Constant>, alloc: Global, event: &Event<'_>) -> Result<(), AllocError> {
@@ -274,30 +502,47 @@ fn happen(parts: &mut Parts<Constant>, alloc: Global, event: &Event<'_>) -> Resu
     }
 }
 
-/// Of keys of one hash a table takes 32. That of 64 homes grows before the 34th comes, since the
-/// 33rd found no bucket.
-#[test]
-fn an_event_of_growth_moves_eight_entries(rt: HostRuntime) -> Result<(), Fail> {
-    let alloc = rt.alloc();
+/// What a world of one page and one hash has.
+fn parts_of_one_hash(alloc: Global) -> Result<Parts<Constant>, AllocError> {
     let settings = Settings {
         pages: 1,
         greatest: 1048576,
         shelves: 64,
     };
-    let mut parts = Parts {
+    Ok(Parts {
         store: Store::new(alloc, settings, Constant(0))?,
         moment: Moment::from_seconds(1000),
         sessions: Sessions::new(alloc),
-    };
-    happen(&mut parts, alloc, &Event::Open)?;
-    for key in 1..35 {
-        let set = format!(in alloc; "set k{key:02} 0 0 2\r\n{key:02}\r\n")?;
-        let piece = Bytes::of(set.as_bytes());
-        happen(&mut parts, alloc, &Event::Piece(1, piece))?;
-        happen(&mut parts, alloc, &Event::Turn(1))?;
+    })
+}
+
+fn set_key(parts: &mut Parts<Constant>, alloc: Global, number: u32) -> Result<(), AllocError> {
+    let set = set_of(alloc, number)?;
+    happen(parts, alloc, &Event::Piece(1, Bytes::of(set.as_bytes())))?;
+    happen(parts, alloc, &Event::Turn(1))
+}
+
+/// Sets the keys of 1 to 34, and counts what one event of growth leaves in the old table.
+fn left_by_growth(parts: &mut Parts<Constant>, alloc: Global) -> Result<usize, AllocError> {
+    happen(parts, alloc, &Event::Open)?;
+    for number in 1..35 {
+        set_key(parts, alloc, number)?;
     }
-    happen(&mut parts, alloc, &Event::Grow(0))?;
-    assert_eq!(rt; parts.store.grow(0, 100), 24);
+    happen(parts, alloc, &Event::Grow(0))?;
+    Ok(parts.store.grow(0, 100))
+}
+
+/// The same, in a new world.
+fn left_in_new_world(alloc: Global) -> Result<usize, AllocError> {
+    let mut parts = parts_of_one_hash(alloc)?;
+    left_by_growth(&mut parts, alloc)
+}
+
+/// Of keys of one hash a table takes 32. That of 64 homes grows before the 34th comes, since the
+/// 33rd found no bucket.
+#[test]
+fn an_event_of_growth_moves_eight_entries(rt: HostRuntime) -> Result<(), Fail> {
+    assert_eq!(rt; left_in_new_world(rt.alloc())?, 24);
     Ok(())
 }
 
@@ -315,72 +560,119 @@ pub(crate) fn large_set(
     Ok(text)
 }
 
-/// A world of one page at 1000. An item that is dead at 1001 has the page, and so another key finds
-/// no room then.
-fn full_world(rt: &impl Abort, alloc: Global) -> Result<World<Fnv>, Fail> {
+/// Session 1 sets a key to 600000 bytes at a second, and is answered that.
+fn large_set_answers(
+    rt: &impl Abort,
+    alloc: Global,
+    world: &mut World<Fnv>,
+    large: (u64, char, u32),
+    output: &str,
+) -> Result<(), Fail> {
+    let (seconds, key, exptime) = large;
+    let set = large_set(alloc, key, exptime, b'x')?;
+    ask(alloc, world, seconds, &set)?;
+    tells(rt, world, output);
+    Ok(())
+}
+
+/// Fills a page at 1000 with an item that is dead at 1001, and so another key finds no room then.
+fn fill(rt: &impl Abort, alloc: Global, world: &mut World<Fnv>) -> Result<(), Fail> {
+    run(world, alloc, &[Event::Open])?;
+    large_set_answers(rt, alloc, world, (1000, 'b', 1), "STORED\r\n")?;
+    large_set_answers(rt, alloc, world, (1001, 'c', 0), NO_CHUNK)
+}
+
+/// Fills a page, and runs acts. Then a key of 600000 bytes is stored, and session 1 was told that.
+fn room_is_made_in(
+    rt: &impl Abort,
+    alloc: Global,
+    world: &mut World<Fnv>,
+    acts: &[Act],
+    key: char,
+    output: &str,
+) -> Result<(), Fail> {
+    fill(rt, alloc, world)?;
+    run_acts(world, alloc, acts)?;
+    large_set_answers(rt, alloc, world, (1001, key, 0), output)
+}
+
+/// The same, in a new world of one page.
+fn room_is_made(
+    rt: &impl Abort,
+    alloc: Global,
+    acts: &[Act],
+    key: char,
+    output: &str,
+) -> Result<(), Fail> {
     let mut world = world_of(alloc, Fnv, 1)?;
-    run(&mut world, alloc, &[Event::Open])?;
-    let dying = large_set(alloc, 'b', 1, b'x')?;
-    answers_bytes(rt, alloc, &mut world, 1000, &dying, "STORED\r\n")?;
-    let other = large_set(alloc, 'c', 0, b'x')?;
-    answers_bytes(rt, alloc, &mut world, 1001, &other, NO_CHUNK)?;
-    Ok(world)
+    room_is_made_in(rt, alloc, &mut world, acts, key, output)
 }
 
 #[test]
 fn a_purge_makes_room(rt: HostRuntime) -> Result<(), Fail> {
-    let alloc = rt.alloc();
-    let mut world = full_world(&rt, alloc)?;
-    run(&mut world, alloc, &[Event::Purge(SHELF_OF_B)])?;
-    let other = large_set(alloc, 'c', 0, b'x')?;
-    answers_bytes(&rt, alloc, &mut world, 1001, &other, "STORED\r\n")
+    const ACTS: [Act; 1] = [Act::Purge(SHELF_OF_B)];
+    room_is_made(&rt, rt.alloc(), &ACTS, 'c', "STORED\r\n")
 }
 
 #[test]
 fn a_get_of_a_dead_item_makes_room(rt: HostRuntime) -> Result<(), Fail> {
-    let alloc = rt.alloc();
-    let mut world = full_world(&rt, alloc)?;
-    answers(&rt, alloc, &mut world, 1001, "get b\r\n", "END\r\n")?;
-    let other = large_set(alloc, 'c', 0, b'x')?;
-    answers_bytes(&rt, alloc, &mut world, 1001, &other, "STORED\r\n")
+    const ACTS: [Act; 2] = [Act::Piece(1, "get b\r\n"), Act::Turn(1)];
+    room_is_made(&rt, rt.alloc(), &ACTS, 'c', "END\r\nSTORED\r\n")
 }
 
 #[test]
 fn a_dead_item_gives_its_chunk_to_its_own_key(rt: HostRuntime) -> Result<(), Fail> {
-    let alloc = rt.alloc();
-    let mut world = full_world(&rt, alloc)?;
-    let again = large_set(alloc, 'b', 0, b'x')?;
-    answers_bytes(&rt, alloc, &mut world, 1001, &again, "STORED\r\n")
+    room_is_made(&rt, rt.alloc(), &[], 'b', "STORED\r\n")
 }
 
-#[test]
-fn a_world_goes_on_after_a_refusal(rt: HostRuntime) -> Result<(), Fail> {
-    let alloc = rt.alloc();
-    let mut world = world(alloc, Fnv)?;
-    run(&mut world, alloc, &[Event::Open, Event::Open])?;
+/// What a session is told of `get a` where the set of `a` stands, and where it doesn't.
+pub(crate) const HIT: &[u8] = b"VALUE a 0 1\r\nx\r\nEND\r\n";
+
+pub(crate) const MISS: &[u8] = b"END\r\n";
+
+/// Session 1 sets `a` and gets it. Refused, it is closed. Gives what another one has to find.
+fn first_sets(rt: &impl Abort, alloc: Global, world: &mut World<Fnv>) -> &'static [u8] {
     let events = [
         Event::Piece(1, Bytes::of(b"set a 0 0 1\r\nx\r\nget a\r\n")),
         Event::Turn(1),
         Event::Turn(1),
     ];
-    let stands = match world.run(alloc, &events) {
+    match world.run(alloc, &events) {
         Ok(()) => {
-            let told = b"STORED\r\nVALUE a 0 1\r\nx\r\nEND\r\n".as_slice();
-            assert_eq!(rt; world.out(1), told);
-            true
+            is_told(rt, world, 1, b"STORED\r\nVALUE a 0 1\r\nx\r\nEND\r\n");
+            HIT
         }
         Err(refused) => {
             assert!(rt; refused.session == Some(1) && world.is_closed(1));
-            refused.decided || refused.at == 2
+            if refused.decided || refused.at == 2 {
+                HIT
+            } else {
+                MISS
+            }
         }
-    };
-    let hit = if stands {
-        "VALUE a 0 1\r\nx\r\nEND\r\n"
-    } else {
-        "END\r\n"
-    };
-    let events = [Event::Piece(2, Bytes::of(b"get a\r\n")), Event::Turn(2)];
-    run(&mut world, alloc, &events)?;
-    assert_eq!(rt; world.out(2), hit.as_bytes());
+    }
+}
+
+/// Session 2 gets `a`, and finds that.
+pub(crate) fn second_finds(
+    rt: &impl Abort,
+    alloc: Global,
+    world: &mut World<Fnv>,
+    found: &[u8],
+) -> Result<(), Fail> {
+    let get = Event::Piece(2, Bytes::of(b"get a\r\n"));
+    run(world, alloc, &[get, Event::Turn(2)])?;
+    is_told(rt, world, 2, found);
     Ok(())
+}
+
+fn goes_on(rt: &impl Abort, alloc: Global, world: &mut World<Fnv>) -> Result<(), Fail> {
+    let found = first_sets(rt, alloc, world);
+    second_finds(rt, alloc, world, found)
+}
+
+#[test]
+fn a_world_goes_on_after_a_refusal(rt: HostRuntime) -> Result<(), Fail> {
+    let mut world = opened_twice(rt.alloc())?;
+    goes_on(&rt, rt.alloc(), &mut world)
 }

@@ -1,7 +1,10 @@
 //! Runs that go on past refusals. A test that compares a whole run ends early where memory is
 //! refused.
 
-use crate::tests::{large_set, run, world, world_of};
+use crate::tests::{
+    HIT, MISS, get_of, hit_of, is_told, large_set, opened_twice, run, second_finds, set_of, world,
+    world_of,
+};
 use crate::{Event, World};
 use mc_command::Bytes;
 use mc_hop::{Constant, Fnv, KeyHash};
@@ -13,38 +16,55 @@ const SET: &[u8] = b"set a 0 0 1\r\nx\r\n";
 
 const GET: &[u8] = b"get a\r\n";
 
-/// What a session is told of `get a` where the set of `a` stands, and where it doesn't.
-const HIT: &[u8] = b"VALUE a 0 1\r\nx\r\nEND\r\n";
-
-const MISS: &[u8] = b"END\r\n";
-
-/// Where a refusal says that the step was decided, another session finds what it wrote, and else it
-/// finds nothing.
-#[test]
-fn a_decided_step_stands_where_it_was_refused(rt: HostRuntime) -> Result<(), Fail> {
-    let alloc = rt.alloc();
-    let mut world = world(alloc, Fnv)?;
-    let set = Event::Piece(1, Bytes::of(SET));
-    run(&mut world, alloc, &[Event::Open, Event::Open, set])?;
+/// Takes a turn of session 1 that sets `a`, compares what it is told, and gives what another one
+/// has to find: what was written, where a refusal says that the step was decided, and else nothing.
+fn set_turn(rt: &impl Abort, alloc: Global, world: &mut World<Fnv>) -> &'static [u8] {
     let (told, found) = match world.run(alloc, &[Event::Turn(1)]) {
         Ok(()) => (b"STORED\r\n".as_slice(), HIT),
         Err(refused) if refused.decided => (b"".as_slice(), HIT),
         Err(_) => (b"".as_slice(), MISS),
     };
-    assert_eq!(rt; world.out(1), told);
-    let get = Event::Piece(2, Bytes::of(GET));
-    run(&mut world, alloc, &[get, Event::Turn(2)])?;
-    assert_eq!(rt; world.out(2), found);
-    Ok(())
+    is_told(rt, world, 1, told);
+    found
 }
 
-/// The same by one run: a session that was refused is closed and told nothing, and the other one is
-/// answered.
+/// Session 1 sets `a`, and another one finds it where that stands.
+fn second_finds_what_stands(
+    rt: &impl Abort,
+    alloc: Global,
+    world: &mut World<Fnv>,
+) -> Result<(), Fail> {
+    run(world, alloc, &[Event::Piece(1, Bytes::of(SET))])?;
+    let found = set_turn(rt, alloc, world);
+    second_finds(rt, alloc, world, found)
+}
+
+/// Where a refusal says that the step was decided, another session finds what it wrote, and else it
+/// finds nothing.
 #[test]
-fn a_run_goes_on_past_a_refusal(rt: HostRuntime) -> Result<(), Fail> {
-    let alloc = rt.alloc();
-    let mut world = world(alloc, Fnv)?;
-    run(&mut world, alloc, &[Event::Open, Event::Open])?;
+fn a_decided_step_stands_where_it_was_refused(rt: HostRuntime) -> Result<(), Fail> {
+    let mut world = opened_twice(rt.alloc())?;
+    second_finds_what_stands(&rt, rt.alloc(), &mut world)
+}
+
+/// A session that was refused is closed and told nothing, and the other one is answered.
+fn both_are_told(rt: &impl Abort, world: &World<Fnv>) {
+    let told: &[u8] = if world.is_closed(1) {
+        b""
+    } else {
+        b"STORED\r\n"
+    };
+    is_told(rt, world, 1, told);
+    let found = world.out(2);
+    if world.is_closed(2) {
+        assert!(rt; found.is_empty());
+    } else {
+        assert!(rt; found == HIT || world.is_closed(1) && found == MISS);
+    }
+}
+
+/// Session 1 sets `a` and session 2 gets it, by one run, which counts those that were refused.
+fn set_and_get(rt: &impl Abort, alloc: Global, world: &mut World<Fnv>) {
     let events = [
         Event::Piece(1, Bytes::of(SET)),
         Event::Turn(1),
@@ -54,18 +74,13 @@ fn a_run_goes_on_past_a_refusal(rt: HostRuntime) -> Result<(), Fail> {
     let ended = world.run_through(alloc, &events);
     let closed = u64::from(world.is_closed(1)) + u64::from(world.is_closed(2));
     assert_eq!(rt; ended.refused, closed);
-    let told: &[u8] = if world.is_closed(1) {
-        b""
-    } else {
-        b"STORED\r\n"
-    };
-    assert_eq!(rt; world.out(1), told);
-    let found = world.out(2);
-    if world.is_closed(2) {
-        assert!(rt; found.is_empty());
-    } else {
-        assert!(rt; found == HIT || world.is_closed(1) && found == MISS);
-    }
+    both_are_told(rt, world);
+}
+
+#[test]
+fn a_run_goes_on_past_a_refusal(rt: HostRuntime) -> Result<(), Fail> {
+    let mut world = opened_twice(rt.alloc())?;
+    set_and_get(&rt, rt.alloc(), &mut world);
     Ok(())
 }
 
@@ -81,17 +96,21 @@ fn tells<K: KeyHash + Drop>(
     if ended.refused > 0 {
         return Err(Fail::from(AllocError));
     }
-    assert_eq!(rt; world.out(1), output);
+    is_told(rt, world, 1, output);
     Ok(())
 }
 
-/// What a full store is asked and what it tells: an item of the one page, and then what finds no
-/// room.
-fn full_store(alloc: Global) -> Result<(Vec<u8>, Vec<u8>), AllocError> {
+/// What a full store is asked: to store an item of the one page, and then what finds no room.
+fn full_store_asked(alloc: Global) -> Result<Vec<u8>, AllocError> {
     let mut input = large_set(alloc, 'b', 0, b'x')?;
     input.extend_from_slice(b"set s 0 0 1\r\ny\r\n")?;
     input.extend_from_slice(&large_set(alloc, 'b', 0, b'z')?)?;
     input.extend_from_slice(b"get b\r\n")?;
+    Ok(input)
+}
+
+/// What it tells.
+fn full_store_told(alloc: Global) -> Result<Vec<u8>, AllocError> {
     let no_room = b"SERVER_ERROR out of memory storing object\r\n";
     let mut output = Vec::new(alloc);
     output.extend_from_slice(b"STORED\r\n")?;
@@ -100,54 +119,81 @@ fn full_store(alloc: Global) -> Result<(Vec<u8>, Vec<u8>), AllocError> {
     output.extend_from_slice(b"VALUE b 0 600000\r\n")?;
     output.resize(output.len() + 600000, b'x')?;
     output.extend_from_slice(b"\r\nEND\r\n")?;
-    Ok((input, output))
+    Ok(output)
 }
 
-#[test]
-fn a_full_store_is_no_refusal(rt: HostRuntime) -> Result<(), Fail> {
-    let alloc = rt.alloc();
+/// Opens session 1 of a world of one page, brings this to it, and takes four turns.
+fn full_store_tells(
+    rt: &impl Abort,
+    alloc: Global,
+    input: &[u8],
+    output: &[u8],
+) -> Result<(), Fail> {
     let mut world = world_of(alloc, Fnv, 1)?;
-    let (input, output) = full_store(alloc)?;
     let events = [
         Event::Open,
-        Event::Piece(1, Bytes::of(&input)),
+        Event::Piece(1, Bytes::of(input)),
         Event::Turn(1),
         Event::Turn(1),
         Event::Turn(1),
         Event::Turn(1),
     ];
-    tells(&rt, alloc, &mut world, &events, &output)
-}
-
-/// Forty keys that are set and then got, and what is told of them.
-fn forty_keys(alloc: Global) -> Result<(Vec<u8>, Vec<u8>), AllocError> {
-    let mut input = Vec::new(alloc);
-    let mut output = Vec::new(alloc);
-    for key in 1..41 {
-        let set = format!(in alloc; "set k{key:02} 0 0 2\r\n{key:02}\r\n")?;
-        input.extend_from_slice(set.as_bytes())?;
-        output.extend_from_slice(b"STORED\r\n")?;
-    }
-    for key in 1..41 {
-        let get = format!(in alloc; "get k{key:02}\r\n")?;
-        let hit = format!(in alloc; "VALUE k{key:02} 0 2\r\n{key:02}\r\nEND\r\n")?;
-        input.extend_from_slice(get.as_bytes())?;
-        output.extend_from_slice(hit.as_bytes())?;
-    }
-    Ok((input, output))
+    tells(rt, alloc, &mut world, &events, output)
 }
 
 #[test]
-fn growth_is_no_refusal(rt: HostRuntime) -> Result<(), Fail> {
-    let alloc = rt.alloc();
-    let mut world = world(alloc, Constant(0))?;
-    let (input, output) = forty_keys(alloc)?;
+fn a_full_store_is_no_refusal(rt: HostRuntime) -> Result<(), Fail> {
+    let input = full_store_asked(rt.alloc())?;
+    let output = full_store_told(rt.alloc())?;
+    full_store_tells(&rt, rt.alloc(), &input, &output)
+}
+
+/// Forty keys that are set and then got.
+fn forty_keys_asked(alloc: Global) -> Result<Vec<u8>, AllocError> {
+    let mut input = Vec::new(alloc);
+    for key in 1..41 {
+        input.extend_from_slice(set_of(alloc, key)?.as_bytes())?;
+    }
+    for key in 1..41 {
+        input.extend_from_slice(get_of(alloc, key)?.as_bytes())?;
+    }
+    Ok(input)
+}
+
+/// What is told of them.
+fn forty_keys_told(alloc: Global) -> Result<Vec<u8>, AllocError> {
+    let mut output = Vec::new(alloc);
+    for _key in 1..41 {
+        output.extend_from_slice(b"STORED\r\n")?;
+    }
+    for key in 1..41 {
+        output.extend_from_slice(hit_of(alloc, key)?.as_bytes())?;
+    }
+    Ok(output)
+}
+
+/// Opens session 1, brings this to it, and takes eighty turns, each with growth behind it.
+fn turns_with_growth(alloc: Global, input: &[u8]) -> Result<Vec<Event<'_>>, AllocError> {
     let mut events = Vec::new(alloc);
     events.push(Event::Open)?;
-    events.push(Event::Piece(1, Bytes::of(&input)))?;
+    events.push(Event::Piece(1, Bytes::of(input)))?;
     for _ in 0..80 {
         events.push(Event::Turn(1))?;
         events.push(Event::Grow(0))?;
     }
-    tells(&rt, alloc, &mut world, &events, &output)
+    Ok(events)
+}
+
+/// A world of one hash tells that, while it grows.
+fn growing_tells(rt: &impl Abort, alloc: Global, input: &[u8], output: &[u8]) -> Result<(), Fail> {
+    let events = turns_with_growth(alloc, input)?;
+    let mut world = world(alloc, Constant(0))?;
+    tells(rt, alloc, &mut world, &events, output)
+}
+
+#[test]
+fn growth_is_no_refusal(rt: HostRuntime) -> Result<(), Fail> {
+    let input = forty_keys_asked(rt.alloc())?;
+    let output = forty_keys_told(rt.alloc())?;
+    growing_tells(&rt, rt.alloc(), &input, &output)
 }
