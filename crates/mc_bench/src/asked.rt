@@ -106,7 +106,8 @@ pub fn asked(words: &[String]) -> Option<Run>
                 rounds: rounds.parse().ok()?,
             },
         )),
-        _ => None,
+        // other words, or so many that no run takes them
+        _other => None,
     }
 }
 

@@ -51,7 +51,7 @@ pub fn drawn(
     ensures { IfOk result (λ call. call.key < 8) }
 {
     let word = word_drawn(dice);
-    let key = dice.roll(KEYS as u64) as usize;
+    let key = key_drawn(dice);
     let number = match word {
         Word::Cas if dice.roll(4) > 0 => seen[key],
         Word::Flush => dice.roll(2) * 100,
@@ -88,6 +88,13 @@ fn word_drawn(dice: &mut Dice) -> Word {
         198 => Word::Flush,
         _ => Word::Tidy,
     }
+}
+
+/// Draws which of the keys is called for.
+fn key_drawn(dice: &mut Dice) -> usize
+    ensures { result < 8 }
+{
+    dice.roll(KEYS as u64) as usize
 }
 
 /// Draws an exptime: mostly none, seldom one that is past, and else one that never comes.

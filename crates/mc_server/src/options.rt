@@ -1,6 +1,6 @@
 //! What the command line asks for.
 ghost use Rattle.std.specs.Prelude.{◌≡◌, ◌≤◌, ◌^◌, min, option_map, IfOk};
-ghost use Rattle.mc_server.specs.Asked.{IsAskedFor, IsAddressFor};
+ghost use Rattle.mc_server.specs.Asked.{IsUpTo, IsAskedFor, IsAddressFor};
 
 use clap::error::ErrorKind;
 use clap::{Arg, ArgAction, Command, Error, value_parser};
@@ -98,10 +98,7 @@ impl Options {
         Options {
             stdin: asked.stdin,
             now: asked.now.map(Moment::from_seconds_at_most),
-            pages: match asked.pages {
-                Some(pages) => pages.clamp(1, MOST_PAGES),
-                None => PAGES,
-            },
+            pages: taken(asked.pages, PAGES, MOST_PAGES),
             address: match asked.address {
                 Some(address) => address,
                 None => IpAddr::V4(Ipv4Addr::LOCALHOST),
@@ -110,16 +107,21 @@ impl Options {
                 Some(port) => port.max(1),
                 None => PORT,
             },
-            workers: match asked.workers {
-                Some(workers) => workers.clamp(1, MOST_WORKERS),
-                None => WORKERS,
-            },
-            connections: match asked.connections {
-                Some(connections) => connections.clamp(1, MOST_CONNECTIONS),
-                None => CONNECTIONS,
-            },
+            workers: taken(asked.workers, WORKERS, MOST_WORKERS),
+            connections: taken(asked.connections, CONNECTIONS, MOST_CONNECTIONS),
             verbose: asked.verbose,
         }
+    }
+}
+
+/// Gives the number that is asked for, brought into 1 to `most`, and the usual one where none is.
+fn taken(asked: Option<u32>, usual: u32, most: u32) -> u32
+    requires { IsUpTo most usual }
+    ensures { IsAskedFor asked usual most result }
+{
+    match asked {
+        Some(number) => number.clamp(1, most),
+        None => usual,
     }
 }
 

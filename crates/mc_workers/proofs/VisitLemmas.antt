@@ -1,15 +1,16 @@
 -- The parts of a visit.
-use Rattle.std.proofs.Common.{◌≡◌, ℕ, ◌<◌, ◌≤◌, ◌+◌, List, [], ◌∷◌, ◌++◌, length, take, drop, refl, sym, ap, ◌∙◌, subst, arith, get_or}
+use Rattle.std.proofs.Common.{◌≡◌, ℕ, ◌<◌, ◌≤◌, ◌+◌, List, [], ◌∷◌, ◌++◌, length, take, drop, refl, sym, ap, ◌∙◌, subst, arith, get_or, inr, Option}
 use Rattle.std.proofs.Math.ListN.{set}
 use Rattle.std.proofs.lemmas.List.{take_more, take_more_set, get_or-drop, drop-set-lt}
 use Rattle.std.proofs.lemmas.Grind.{drop_more_same}
 use Rattle.mc_command.specs.declared.step.Steps.{Ghosts as Relations}
 use Rattle.std.proofs.lemmas.List.{take-append-drop, length-take-le}
 use Rattle.mc_session.specs.Turns.{SessionState, sent, closed}
-use Rattle.mc_workers.specs.Links.{gave, took}
+use Rattle.mc_workers.specs.Links.{LinkState, gave, took}
 use Rattle.mc_workers.specs.Guests.{GuestState, IsWaiting}
-use Rattle.mc_workers.specs.Visits.{WritesFront, RefusesPiece, Visited, GoesRound, next}
+use Rattle.mc_workers.specs.Visits.{WritesFront, RefusesPiece, Reads, Does, Visited, GoesRound, next}
 use Rattle.mc_workers.specs.declared.guest.Visit.{Visit}
+use Rattle.mc_workers.specs.declared.guest.Visit.TheVariants.{Wrote, Turned, Read, Later, Served, Broken, Refused}
 
 pub writes_front : (old new : GuestState) (n : ℕ) (bytes : List ℕ) → bytes ≡ old.session.out → 0 < n → n ≤ length bytes → new.session ≡ sent old.session n → new.link ≡ took old.link (take n bytes) → WritesFront old new
 writes_front old new n bytes is some low s l = record {
@@ -47,3 +48,24 @@ refuses_piece old new between piece waits same s l = record {
   session = s ∙ ap closed same;
   link = l;
 }
+
+-- a guest of these parts
+abbrev pub guest_of : SessionState → LinkState → Option Visit → GuestState
+guest_of session link last = record { session = session; link = link; last = last }
+
+reads_so : {S : Type 0} (relations : Relations S) (now : ℕ) (answer : Visit) (old new : GuestState) (before after : S)
+    → after ≡ before → Reads answer old new → Does relations now answer old new before after
+reads_so relations now Wrote old new before after same r = elim r [ ]
+reads_so relations now Turned old new before after same r = elim r [ ]
+reads_so relations now Read old new before after same r = (r, same)
+reads_so relations now Later old new before after same r = (r, same)
+reads_so relations now Served old new before after same r = (r, same)
+reads_so relations now Broken old new before after same r = (r, same)
+reads_so relations now Refused old new before after same r = inr (r, same)
+
+-- where no turn was due, what comes of the read is what is done
+pub reads_does : {S : Type 0} (relations : Relations S) (now : ℕ) (answer : Visit) (link : LinkState) (last : Option Visit) (s t : SessionState) (old new : GuestState) (before after : S)
+    → s ≡ t → guest_of t link last ≡ old → after ≡ before → Reads answer (guest_of s link last) new → Does relations now answer old new before after
+reads_does relations now answer link last s t old new before after session is same r =
+    let whole = ap (λ (x : SessionState). guest_of x link last) session ∙ is in
+    reads_so relations now answer old new before after same (subst (λ (g : GuestState). Reads answer g new) whole r)

@@ -1,4 +1,5 @@
-use Rattle.std.proofs.Common.{◌≡◌, subst, take, arith}
+use Rattle.std.proofs.Common.{◌≡◌, subst, take, arith, Ok, Err, true}
+use Rattle.mc_session.specs.declared.serving.ServeFault.TheVariants.{Read}
 use Rattle.std.specs.Io.KnownBytes.{Consumes}
 use Rattle.mc_session.specs.Rounds.{read_piece, read_nothing}
 use Rattle.mc_session.proofs.ExchangeLemmas.{Consumes-kept}
@@ -17,3 +18,6 @@ returns-then-eq-clause-reads g c = λ _. read_nothing (Consumes-kept (g.R.Read.r
 
 pub returns-else-eq-clause-reads : goal.returns-else-eq-clause-reads
 returns-else-eq-clause-reads g c = λ _. read_nothing (Consumes-kept (g.R.Read.remaining c.args.reader.now) (g.R.Read.remaining c.read.new.self) c.in-Err.ensures.bytes)
+
+pub returns-else-eq-clause-end : goal.returns-else-eq-clause-end
+returns-else-eq-clause-end g c = λ ended. let no : Err Read ≡ Ok true = ended in cc

@@ -1,3 +1,5 @@
+use Rattle.std.proofs.Common.{ap, ◌∙◌, ℕ, List}
+use Rattle.mc_session.specs.Turns.{closed}
 use Rattle.mc_parse.specs.Peeks.{unit_of}
 use Rattle.mc_session.specs.contracts.session.Session.{the_view}
 use Rattle.mc_session.proofs.TurnLemmas.{decides_next, takes_told, none_found, may_go_on, tells_next}
@@ -24,3 +26,8 @@ pub returns-in-Err-clause-decided : goal.returns-in-Err-clause-decided
 returns-in-Err-clause-decided g c = λ decided.
     rw (← c.self.view_is) (decides_next g.S.Steps c.args.now c.no_spelling_begins_another.ensures (the_view c.self.inside) c.args.store.now c.answer.new.store (unit_of c.peek_after-found.result) c.peek_after-found.ensures.found c.self.invariant c.if-not-self.false
     (c.in-Err.ensures.decided decided))
+
+pub returns-in-Err-clause-err : goal.returns-in-Err-clause-err
+returns-in-Err-clause-err g c =
+    let kept = ap (λ (out : List ℕ). closed (record (the_view c.self.inside) { out = out })) c.in-Err.ensures.err in
+    c.close.ensures ∙ kept ∙ ap closed c.self.view_is

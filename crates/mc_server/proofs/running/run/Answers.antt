@@ -1,0 +1,14 @@
+use Rattle.std.proofs.Common.{◌≡◌, ◌∙◌, sym, true, false}
+use Rattle.mc_server.proofs.running.run.Goals as goal
+
+pub returns-then-options-clause-listens : goal.returns-then-options-clause-listens
+returns-then-options-clause-listens g c = λ not. let no : true ≡ false = sym c.if-options.true ∙ not in cc
+
+pub returns-then-options-clause-reads_nothing : goal.returns-then-options-clause-reads_nothing
+returns-then-options-clause-reads_nothing g c = λ not. let no : true ≡ false = sym c.if-options.true ∙ not in cc
+
+pub returns-then-options-clause-writes_nothing : goal.returns-then-options-clause-writes_nothing
+returns-then-options-clause-writes_nothing g c = λ not. let no : true ≡ false = sym c.if-options.true ∙ not in cc
+
+pub returns-else-options-clause-serves : goal.returns-else-options-clause-serves
+returns-else-options-clause-serves g c = λ is. let no : true ≡ false = sym is ∙ c.if-options.false in cc

@@ -1,0 +1,5 @@
+use Rattle.std.proofs.Common.{◌∙◌}
+use Rattle.mc_server.proofs.said.Goals as goal
+
+pub returns : goal.returns
+returns c = c.from.ensures ∙ c.ending-status.ensures.status
