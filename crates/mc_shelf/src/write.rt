@@ -50,6 +50,10 @@ use mc_slab::{Chunk, Class, Page};
 use mc_time::Moment;
 use std::alloc::Global;
 
+/// From how many bytes on a block is copied when the desk has been given back. An item that is written in two parts costs some 400
+/// instructions more.
+const LARGE: usize = 4096;
+
 /// A write that comes next.
 #[derive(Clone, Copy)]
 pub(crate) struct Write {
@@ -73,6 +77,16 @@ impl Write {
         match self.draft.body {
             Body::Given | Body::Appended | Body::Prepended => false,
             Body::Counted(_) => true,
+        }
+    }
+
+    /// Answers whether the step's own block is written, and is so large that copying it costs more than coming back for it.
+    fn leaves_block(&self, step: &KeyStep<'_>) -> bool
+        ensures { result ≡ true → self.now.draft.body ≡ Body.Given }
+    {
+        match self.draft.body {
+            Body::Given => LARGE <= step.block().len(),
+            Body::Appended | Body::Prepended | Body::Counted(_) => false,
         }
     }
 
@@ -282,8 +296,8 @@ impl Shelf {
         }
     }
 
-    /// Puts the item of a write into a chunk and under its key. The chunk of the item that stood there goes back. A block that
-    /// is the step's own is left to be written.
+    /// Puts the item of a write into a chunk and under its key. The chunk of the item that stood there goes back. A large block
+    /// that is the step's own is left to be written.
     fn put(
         &mut self,
         write: &Write,
@@ -303,13 +317,11 @@ impl Shelf {
             desk.old desk.new }
         ensures left { IfSome result (λ rest. CanWriteBlock rest step.now self.new) }
     {
-        match write.draft.body {
-            Body::Given => Some(self.begin_put(write, unique, chunk, step, desk)),
-            Body::Appended | Body::Prepended | Body::Counted(_) => {
-                self.put_whole(write, unique, chunk, step, desk);
-                None
-            }
+        if write.leaves_block(step) {
+            return Some(self.begin_put(write, unique, chunk, step, desk));
         }
+        self.put_whole(write, unique, chunk, step, desk);
+        None
     }
 
     /// Puts the item of a write into a chunk and under its key, but for the bytes of its block. The chunk of the item that
