@@ -243,7 +243,7 @@ impl Shelf {
 
     /// Does what a plan's step needs the desk for; `finish` does the rest, before the shelf is asked for anything else. A write
     /// takes a chunk while the key's old item still has its own; a dead item's chunk of the same class is used again, and so is
-    /// that of a number that incr and decr leave in its class. A block that the step brings is left to `finish`, so that the
+    /// that of a number that incr and decr leave in its class. A large block that the step brings is left to `finish`, so that the
     /// cost doesn't grow with it. A page that the slab gives to a class is all that takes memory; it is the one that is brought,
     /// where one of that class is. Refused, or with the unique numbers spent, the shelf holds what it held, and the desk is as
     /// it was.

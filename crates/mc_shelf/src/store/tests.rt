@@ -501,11 +501,13 @@ fn goes_alike(
 }
 
 /// A step that is begun and then finished answers and leaves what it does whole: of a new key, of a live item that one of its
-/// class replaces and one of another, of a dead item in whose chunk one is written, of a join and of a number.
+/// class replaces and one of another, of a dead item in whose chunk one is written, of a join and of a number; and of large
+/// blocks, which are copied last.
 #[test]
 fn a_step_in_two_parts_is_the_whole_step(rt: HostRuntime) -> Result<(), Fail> {
     let long = [b'x'; 62];
-    let rows: [Row<'_>; 16] = [
+    let large = [b'y'; 6000];
+    let rows: [Row<'_>; 22] = [
         set(1000, b"k", 0, b"x", "stored"),
         (1000, b"k", Ask::Get, Want::Hit(1, b"x")),
         set(1000, b"k", 0, b"yy", "stored"),
@@ -527,10 +529,16 @@ fn a_step_in_two_parts_is_the_whole_step(rt: HostRuntime) -> Result<(), Fail> {
         set(1010, b"a", 0, b"", "stored"),
         (1010, b"k", Ask::Delete, Want::Told("deleted")),
         (1010, b"k", Ask::Get, Want::Told("miss")),
+        set(1010, b"k", 0, &large[..4096], "stored"),
+        set(1010, b"k", 0, &large[..4100], "stored"),
+        (1010, b"k", Ask::Get, Want::Hit(10, &large[..4100])),
+        set(1010, b"k", 10, &large, "stored"),
+        set(1020, b"k", 0, &large[..5999], "stored"),
+        (1020, b"k", Ask::Get, Want::Hit(12, &large[..5999])),
     ];
     let alloc = rt.alloc();
-    let mut whole = open(alloc, 2)?;
-    let mut parted = open(alloc, 2)?;
+    let mut whole = open(alloc, 4)?;
+    let mut parted = open(alloc, 4)?;
     for row in rows {
         let alike = goes_alike(alloc, &mut whole, &mut parted, row);
         assert!(rt; alike, "at {}", row.0);
