@@ -27,10 +27,22 @@ use std::marker::Brand;
 use std::sync::Wait;
 use std::{hint, mem, thread};
 
-/// How often a bay is tried before another thread has its turn.
-const TRIES: u32 = 64;
+/// How often a bay that is held is looked at before another thread has its turn.
+const LOOKS: u32 = 10;
 
-/// Tries to take a bay, again and again, as most are given back soon.
+/// The most that pauses double between two looks: 64 pauses are the longest.
+const DOUBLINGS: u32 = 6;
+
+/// Lets so many pauses pass.
+fn pause(count: u32) {
+    for _ in 0..count {
+        hint::spin_loop();
+    }
+}
+
+/// Tries to take a bay, as most are free or given back soon. While it is held it is only looked at,
+/// after pauses that grow: a look leaves the word where it is, so that who holds it gives it back
+/// undisturbed.
 fn take_spinning<K: KeyHash + Drop>(board: &Board<K>, caller: &mut Place, bay: usize) -> Option<Bay>
     requires seat { IsAlive board.now.shared.table_id board.now.shared.key.value caller.old }
     requires bay { bay < board.now.shared.table_id.words }
@@ -39,11 +51,16 @@ fn take_spinning<K: KeyHash + Drop>(board: &Board<K>, caller: &mut Place, bay: u
         (start_of K.hash_of board.now.shared.key.value) caller.old.me bay value caller.new.me) }
     ensures free { result ≡ None → caller.new.me ≡ caller.old.me }
 {
-    for _ in 0..TRIES {
-        if let Ok(value) = take(board, caller, bay) {
-            return Some(value);
+    if let Ok(value) = take(board, caller, bay) {
+        return Some(value);
+    }
+    for look in 0..LOOKS {
+        pause(1 << look.min(DOUBLINGS));
+        if board.shared.peek(bay) == 0 {
+            if let Ok(value) = take(board, caller, bay) {
+                return Some(value);
+            }
         }
-        hint::spin_loop();
     }
     None
 }
