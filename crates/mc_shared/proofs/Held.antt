@@ -1,7 +1,7 @@
 -- A seat that holds one bay, or two.
 use Rattle.std.proofs.Common.{◌≡◌, ℕ, List, [], ◌∷◌, None, sym, ap, ◌∙◌, subst}
 use Rattle.atomic_table.specs.Table.{rest}
-use Rattle.mc_shared.specs.Bays.{Content}
+use Rattle.mc_shared.specs.Bays.{Content, place}
 use Rattle.mc_shared.specs.Past.{Past, Lives}
 use Rattle.mc_shared.specs.View.{SeatView}
 use Rattle.mc_shared.specs.Steps.{Mine, holding, newcomer, met, next_name}
@@ -14,12 +14,12 @@ use Rattle.atomic_table.specs.Seated.{TableId}
 pub top_of : {S : Type 0} → (xs : List (ℕ × S)) (x : ℕ × S) (ys : List (ℕ × S)) → xs ≡ x ∷ ys → xs ≡ x ∷ rest xs
 top_of xs x ys e = e ∙ ap (λ zs. x ∷ rest zs) (sym e)
 
-pub one_held : (me : Mine) (p : Past) (at : ℕ) (x : Content) → me ≡ holds_one p at x → ((y : Content) × (me.0.bays ≡ (at, y) ∷ rest me.0.bays)) × (me.1 ≡ (at, None) ∷ rest me.1)
-one_held me p at x e = ((x, top_of me.0.bays (at, x) [] (ap (λ m. m.0.bays) e)), top_of me.1 (at, None) [] (ap (λ m. m.1) e))
+pub one_held : (me : Mine) (p : Past) (at : ℕ) (x : Content) → me ≡ holds_one p at x → ((y : Content) × (me.0.bays ≡ (at, y) ∷ rest me.0.bays)) × (me.1 ≡ (place at, None) ∷ rest me.1)
+one_held me p at x e = ((x, top_of me.0.bays (at, x) [] (ap (λ m. m.0.bays) e)), top_of me.1 (place at, None) [] (ap (λ m. m.1) e))
 
 -- a bay that was taken last is held
-pub taken_held : (me was : Mine) (b : ℕ) (x : Content) → me ≡ (holding was.0 b x, (b, None) ∷ was.1) → ((y : Content) × (me.0.bays ≡ (b, y) ∷ rest me.0.bays)) × (me.1 ≡ (b, None) ∷ rest me.1)
-taken_held me was b x e = ((x, top_of me.0.bays (b, x) was.0.bays (ap (λ m. m.0.bays) e)), top_of me.1 (b, None) was.1 (ap (λ m. m.1) e))
+pub taken_held : (me was : Mine) (b : ℕ) (x : Content) → me ≡ (holding was.0 b x, (place b, None) ∷ was.1) → ((y : Content) × (me.0.bays ≡ (b, y) ∷ rest me.0.bays)) × (me.1 ≡ (place b, None) ∷ rest me.1)
+taken_held me was b x e = ((x, top_of me.0.bays (b, x) was.0.bays (ap (λ m. m.0.bays) e)), top_of me.1 (place b, None) was.1 (ap (λ m. m.1) e))
 
 -- a seat's caller lives on while its past stays
 pub lives_on : {K : Type 0} (table : TableId) (began : StoreState K) (old new : Sitter) (m : Mine)
@@ -38,5 +38,5 @@ pub met_rests : (now me was : Mine) (o : SeatView) → now ≡ me → me ≡ (me
 met_rests now me was o same is rests = let e : now ≡ (met was.0 o, was.1) = same ∙ is in
     (ap (λ m. m.1) e ∙ rests.0, ap (λ m. m.0.bays) e ∙ rests.1, subst (λ (m : Mine). Lives m.0.past) (sym e) (lives_both was.0.past o.past rests.2))
 
-pub two_held : (me : Mine) (p : Past) (b : ℕ) (y : Content) (at : ℕ) (x : Content) → me ≡ holds_two p b y at x → ((z : Content) × (me.0.bays ≡ (b, z) ∷ rest me.0.bays)) × (me.1 ≡ (b, None) ∷ rest me.1)
-two_held me p b y at x e = ((y, top_of me.0.bays (b, y) ((at, x) ∷ []) (ap (λ m. m.0.bays) e)), top_of me.1 (b, None) ((at, None) ∷ []) (ap (λ m. m.1) e))
+pub two_held : (me : Mine) (p : Past) (b : ℕ) (y : Content) (at : ℕ) (x : Content) → me ≡ holds_two p b y at x → ((z : Content) × (me.0.bays ≡ (b, z) ∷ rest me.0.bays)) × (me.1 ≡ (place b, None) ∷ rest me.1)
+two_held me p b y at x e = ((y, top_of me.0.bays (b, y) ((at, x) ∷ []) (ap (λ m. m.0.bays) e)), top_of me.1 (place b, None) ((place at, None) ∷ []) (ap (λ m. m.1) e))

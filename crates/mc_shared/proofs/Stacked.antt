@@ -11,7 +11,7 @@ use Rattle.mc_command.specs.declared.reply.Reply.TheVariants.{Flushed}
 use Rattle.mc_shelf.specs.States.{ShelfState, DeskState}
 use Rattle.mc_shelf.specs.Parts.{IsShelfOf, ArePartsOf}
 use Rattle.mc_shared.specs.declared.bay.Bay.{Bay}
-use Rattle.mc_shared.specs.Bays.{Content, OfShelf, OfDesk, content_of}
+use Rattle.mc_shared.specs.Bays.{Content, OfShelf, OfDesk, content_of, place}
 use Rattle.mc_shared.specs.Sums.{total}
 use Rattle.mc_shared.specs.History.{Beginning, Operation, Stepped, after}
 use Rattle.mc_shared.specs.Rule.{Fits, AllFit, KeepsLimits, holds_bay}
@@ -106,21 +106,21 @@ flushes began xs ys d d' delay now all some same parts = record {
   others = λ m h c z none fits. absurd (none_else began m xs d c z all none fits);
 }
 
-top : (p : Past) (xs : List ShelfState) (x : ShelfState) → holds_all p (xs ++ x ∷ []) ≡ (record { past = p; bays = (length xs, OfShelf x.content) ∷ stacked xs }, (length xs, None) ∷ hollow (stacked xs))
+top : (p : Past) (xs : List ShelfState) (x : ShelfState) → holds_all p (xs ++ x ∷ []) ≡ (record { past = p; bays = (length xs, OfShelf x.content) ∷ stacked xs }, (place (length xs), None) ∷ hollow (stacked xs))
 top p xs x = λ i. (record { past = p; bays = stacked_snoc xs x i }, hollow (stacked_snoc xs x i))
 
-pub held_top : (m : Mine) (p : Past) (xs : List ShelfState) (x : ShelfState) (n : ℕ) → m ≡ holds_all p (xs ++ x ∷ []) → n ≡ length xs → (m.0.bays ≡ (n, OfShelf x.content) ∷ rest m.0.bays) × (m.1 ≡ (n, None) ∷ rest m.1)
+pub held_top : (m : Mine) (p : Past) (xs : List ShelfState) (x : ShelfState) (n : ℕ) → m ≡ holds_all p (xs ++ x ∷ []) → n ≡ length xs → (m.0.bays ≡ (n, OfShelf x.content) ∷ rest m.0.bays) × (m.1 ≡ (place n, None) ∷ rest m.1)
 held_top m p xs x n is len = let e = is ∙ top p xs x in (
   ap (λ z. z.0.bays) e ∙ (λ i. (sym len i, OfShelf x.content) ∷ rest (sym e i).0.bays),
-  ap (λ z. z.1) e ∙ (λ i. (sym len i, None) ∷ rest (sym e i).1),
+  ap (λ z. z.1) e ∙ (λ i. (place (sym len i), None) ∷ rest (sym e i).1),
 )
 
 pub without_top : (m : Mine) (p : Past) (xs : List ShelfState) (x : ShelfState) → m ≡ holds_all p (xs ++ x ∷ []) → without m ≡ holds_all p xs
 without_top m p xs x is = ap without (is ∙ top p xs x)
 
 -- a shelf that was taken lies on top
-pub take_top : (m m' : Mine) (p : Past) (xs : List ShelfState) (x : ShelfState) (n : ℕ) → m ≡ holds_all p xs → n ≡ length xs → m' ≡ (holding m.0 n (OfShelf x.content), (n, None) ∷ m.1) → m' ≡ holds_all p (xs ++ x ∷ [])
-take_top m m' p xs x n is len got = got ∙ (λ i. (holding (is i).0 (len i) (OfShelf x.content), (len i, None) ∷ (is i).1)) ∙ sym (top p xs x)
+pub take_top : (m m' : Mine) (p : Past) (xs : List ShelfState) (x : ShelfState) (n : ℕ) → m ≡ holds_all p xs → n ≡ length xs → m' ≡ (holding m.0 n (OfShelf x.content), (place n, None) ∷ m.1) → m' ≡ holds_all p (xs ++ x ∷ [])
+take_top m m' p xs x n is len got = got ∙ (λ i. (holding (is i).0 (len i) (OfShelf x.content), (place (len i), None) ∷ (is i).1)) ∙ sym (top p xs x)
 
 -- one more of those that stand side by side, and one fewer
 pub one_more : (xs : List ShelfState) (n : ℕ) (x : ShelfState) → n < length xs → take (suc n) (slice_set xs n x) ≡ take n xs ++ x ∷ []
@@ -161,10 +161,10 @@ hollow_same : (n : ℕ) (xs ys : List ShelfState) (b d : List (ℕ × Content)) 
 hollow_same n [] [] b d l e = e
 hollow_same n [] (y ∷ ys) b d l e = absurd (omega (arith, l))
 hollow_same n (x ∷ xs) [] b d l e = absurd (omega (arith, l))
-hollow_same n (x ∷ xs) (y ∷ ys) b d l e = hollow_same (n + 1) xs ys ((n, OfShelf x.content) ∷ b) ((n, OfShelf y.content) ∷ d) (omega (arith, l)) (ap (λ (hs : List (ℕ × Slot)). (n, None) ∷ hs) e)
+hollow_same n (x ∷ xs) (y ∷ ys) b d l e = hollow_same (n + 1) xs ys ((n, OfShelf x.content) ∷ b) ((n, OfShelf y.content) ∷ d) (omega (arith, l)) (ap (λ (hs : List (ℕ × Slot)). (place n, None) ∷ hs) e)
 
 -- after the desk has decided, the held shelves have their new content
-pub decided_all : (m m' : Mine) (p : Past) (xs ys : List ShelfState) (x : Content) (n : ℕ) (what : Operation) → m ≡ (holding (holds_all p xs).0 n x, (n, None) ∷ hollow (stacked xs)) → m' ≡ decided_by m what (stacked ys) → length xs ≡ length ys
+pub decided_all : (m m' : Mine) (p : Past) (xs ys : List ShelfState) (x : Content) (n : ℕ) (what : Operation) → m ≡ (holding (holds_all p xs).0 n x, (place n, None) ∷ hollow (stacked xs)) → m' ≡ decided_by m what (stacked ys) → length xs ≡ length ys
     → m' ≡ holds_all m'.0.past ys
 decided_all m m' p xs ys x n what is did same = let eb : m'.0.bays ≡ stacked ys = ap (λ (z : Mine). z.0.bays) did in
     let es : m'.1 ≡ hollow (stacked ys) = ap (λ (z : Mine). z.1) did ∙ (ap (λ (z : Mine). rest z.1) is ∙ hollow_same 0 xs ys [] [] same refl) in

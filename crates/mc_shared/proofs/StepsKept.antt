@@ -10,7 +10,7 @@ use Rattle.atomic_table.specs.Table.{State, Act, keeps, takes, gives, step, step
 use Rattle.atomic_table.proofs.Lists.{at_set, set_here, set_again, exchanged}
 use Rattle.mc_shared.specs.declared.bay.Bay.{Bay}
 use Rattle.mc_shared.specs.declared.bay.Bay.TheVariants.{Shelf, Desk}
-use Rattle.mc_shared.specs.Bays.{Content, content_of}
+use Rattle.mc_shared.specs.Bays.{Content, content_of, place}
 use Rattle.mc_shared.specs.Sums.{total}
 use Rattle.mc_shared.specs.History.{Beginning, HistoryEntry, Operation, after, next}
 use Rattle.mc_shared.specs.Past.{name_of, Lives, Whole}
@@ -34,19 +34,19 @@ get_below (x ∷ xs) zero v e = omega arith
 get_below (x ∷ xs) (suc id) v e = let l = get_below xs id v e in omega (arith, l)
 
 -- where the past is whole, a bay that is taken is held by this seat
-pub whole_holds : (began : Beginning) (s : State Slot SeatView) (k : Kept began s) (id : ℕ) (v : SeatView) → get_elem? s.views id ≡ some v → Whole v.past → (b : ℕ) → b < began.shelves + 1 → get_or s.words b 0 ≢ 0 → 1 ≤ times b v
+pub whole_holds : (began : Beginning) (s : State Slot SeatView) (k : Kept began s) (id : ℕ) (v : SeatView) → get_elem? s.views id ≡ some v → Whole v.past → (b : ℕ) → b < began.shelves + 1 → get_or s.words (place b) 0 ≢ 0 → 1 ≤ times b v
 whole_holds began s k id v at whole b l busy = let t = k.stocked.taken b l in
     let mine : total (times b) s.views ≡ times b v = total_one (times b) s.views id v at (λ j u ne a. ⊎_elim
     (λ (lives : Lives u.past). absurd (alone began k.log s.views k.story k.named id v at whole (name_of u.past) j u ne a lives)) (λ (none : u.bays ≡ []). ap (total (holds_bay b)) none) (k.named.idle j u a)) in omega (arith, t, mine, busy)
 
 -- A bay is taken
-pub takes_bay : (began : Beginning) (slots id b : ℕ) (me : Mine) → b < began.shelves + 1 → Lives me.0.past → Allows (Kept began) slots id me b (λ n. either (eqb n 0) 1 n) (took began (step slots b 0 1 none) me)
-takes_bay began slots id b me l lives s k deep at small = let n : ℕ = get_or s.words b 0 in let v : SeatView = me.0 in
-    let F : ℕ → Type 0 = λ y. (w : SeatView) × (a : Act Slot) × Valid s.homes me.1 a × Kept began (stepped s b y id me.1 w a) × took began (step slots b 0 1 none) me n (w, carried_after me.1 a) in
+pub takes_bay : (began : Beginning) (slots id b : ℕ) (me : Mine) → b < began.shelves + 1 → Lives me.0.past → Allows (Kept began) slots id me (place b) (λ n. either (eqb n 0) 1 n) (took began b (step slots (place b) 0 1 none) me)
+takes_bay began slots id b me l lives s k deep at small = let n : ℕ = get_or s.words (place b) 0 in let v : SeatView = me.0 in
+    let F : ℕ → Type 0 = λ y. (w : SeatView) × (a : Act Slot) × Valid s.homes me.1 a × Kept began (stepped s (place b) y id me.1 w a) × took began b (step slots (place b) 0 1 none) me n (w, carried_after me.1 a) in
     exchanged n 0 1 F
     (λ free. let was = k.stocked.home b l free in let x : Bay = was.0 in let w : SeatView = holding v b (content_of x) in (
       w,
-      takes b (Some x),
+      takes (place b) (Some x),
       was.1,
       record {
         log = k.log;
@@ -60,7 +60,7 @@ takes_bay began slots id b me l lives s k deep at small = let n : ℕ = get_or s
       v,
       keeps,
       tt,
-      subst (λ (z : List ℕ × List SeatView). Kept began record { words = z.0; homes = s.homes; views = z.1 }) (λ i. (sym (set-get_or s.words b 0) i, sym (set_again s.views id v at) i)) k,
+      subst (λ (z : List ℕ × List SeatView). Kept began record { words = z.0; homes = s.homes; views = z.1 }) (λ i. (sym (set-get_or s.words (place b) 0) i, sym (set_again s.views id v at) i)) k,
       ((λ free. absurd (busy free)), (λ ne. (omega (arith, low, ne), refl, λ whole. whole_holds began s k id v at whole b l ne))),
     ))
 
@@ -68,14 +68,14 @@ abbrev Home : Type 0
 Home = List (maybe.Option Slot)
 
 -- A bay is given back, and nothing is decided
-pub gives_bay : (began : Beginning) (slots id b : ℕ) (x : Bay) (me : Mine) → me.0.bays ≡ (b, content_of x) ∷ rest me.0.bays → me.1 ≡ (b, Some x) ∷ rest me.1
-    → Allows (Kept began) slots id me b (λ _. 0) (λ _. gave began (step slots b 0 0 none) me 0)
+pub gives_bay : (began : Beginning) (slots id b : ℕ) (x : Bay) (me : Mine) → me.0.bays ≡ (b, content_of x) ∷ rest me.0.bays → me.1 ≡ (place b, Some x) ∷ rest me.1
+    → Allows (Kept began) slots id me (place b) (λ _. 0) (λ _. gave began (step slots (place b) 0 0 none) me 0)
 gives_bay began slots id b x me is out s k deep at small = let v : SeatView = me.0 in let m : Plain = after began began.plain k.log in let w : SeatView = (without me).0 in
     let fits : AllFit began m ((b, content_of x) ∷ rest v.bays) = subst (AllFit began m) is (k.stocked.out id v at) in (
       w,
       gives,
       tt,
-      subst (λ (z : List (ℕ × Slot)). Kept began (stepped s b 0 id z w gives)) (sym out) record {
+      subst (λ (z : List (ℕ × Slot)). Kept began (stepped s (place b) 0 id z w gives)) (sym out) record {
         log = k.log;
         story = story_same began k.log s.views id v w k.story at refl;
         named = named_same k.log s.views id v w k.named at refl (⊎_elim (λ (h : Lives v.past). inl h) (λ (none : v.bays ≡ []). inr (ap rest none)) (k.named.idle id v at));
@@ -85,25 +85,25 @@ gives_bay began slots id b x me is out s k deep at small = let v : SeatView = me
     )
 
 -- A bay is given back, and a step is decided
-pub decides_bay : (began : Beginning) (slots id b : ℕ) (x : Content) (y : Bay) (d : Operation) (still : List (ℕ × Content)) (me : Mine) → me.0.bays ≡ (b, x) ∷ rest me.0.bays → me.1 ≡ (b, Some y) ∷ rest me.1 → Decides began me.0.bays b (content_of y) d still → Lives me.0.past
-    → Allows (Kept began) slots id me b (λ n. either (eqb n 1) 0 n) (decided began d still (step slots b 1 0 none) me)
+pub decides_bay : (began : Beginning) (slots id b : ℕ) (x : Content) (y : Bay) (d : Operation) (still : List (ℕ × Content)) (me : Mine) → me.0.bays ≡ (b, x) ∷ rest me.0.bays → me.1 ≡ (place b, Some y) ∷ rest me.1 → Decides began me.0.bays b (content_of y) d still → Lives me.0.past
+    → Allows (Kept began) slots id me (place b) (λ n. either (eqb n 1) 0 n) (decided began d still (step slots (place b) 1 0 none) me)
 decides_bay began slots id b x y d still me is out right lives s k deep at small = let v : SeatView = me.0 in let m : Plain = after began began.plain k.log in let m' : Plain = next began m d in
-    let w : SeatView = (decided_by me d still).0 in let e : HistoryEntry = entry_of v.past d in let n : ℕ = get_or s.words b 0 in
+    let w : SeatView = (decided_by me d still).0 in let e : HistoryEntry = entry_of v.past d in let n : ℕ = get_or s.words (place b) 0 in
     let fits : AllFit began m v.bays = k.stocked.out id v at in
     let one : n ≡ 1 = held_word began m s.words s.homes s.views id b v x (rest v.bays) k.stocked at is in
     let story : Story began (k.log ++ e ∷ []) (set s.views id w) = story_call began k.log s.views id v w e k.story at refl (right.right m fits) in
     let named : Named (k.log ++ e ∷ []) (set s.views id w) = named_call began k.log s.views id v w d k.story k.named at refl lives in
-    let F : ℕ → Type 0 = λ z. (w : SeatView) × (a : Act Slot) × Valid s.homes me.1 a × Kept began (stepped s b z id me.1 w a) × decided began d still (step slots b 1 0 none) me n (w, carried_after me.1 a) in
+    let F : ℕ → Type 0 = λ z. (w : SeatView) × (a : Act Slot) × Valid s.homes me.1 a × Kept began (stepped s (place b) z id me.1 w a) × decided began d still (step slots (place b) 1 0 none) me n (w, carried_after me.1 a) in
     exchanged n 1 0 F
     (λ _. (
       w,
       gives,
       tt,
-      subst (λ (z : List (ℕ × Slot)). Kept began (stepped s b 0 id z w gives)) (sym out) record {
+      subst (λ (z : List (ℕ × Slot)). Kept began (stepped s (place b) 0 id z w gives)) (sym out) record {
         log = k.log ++ e ∷ [];
         story = story;
         named = named;
-        stocked = subst (λ (z : Plain). Stocked began z (set s.words b 0) (set s.homes b (some (Some y))) (set s.views id w)) (sym (after_snoc began began.plain k.log e))
+        stocked = subst (λ (z : Plain). Stocked began z (set s.words (place b) 0) (set s.homes (place b) (some (Some y))) (set s.views id w)) (sym (after_snoc began began.plain k.log e))
             (stocked_give began m m' s.words s.homes s.views id b v w x y (rest v.bays) k.stocked at is right.places (right.given m fits) (right.kept m fits) (right.others m fits) (right.limits m fits k.stocked.limits));
       },
       (refl, agrees began (k.log ++ e ∷ []) (set s.views id w) id w story named (set_here s.views id w (get_below s.views id v at))),

@@ -1,10 +1,15 @@
 -- What lies in a bay, and what of it shows.
-use Rattle.std.specs.Prelude.{◌≡◌, refl}
+use Rattle.std.specs.Prelude.{◌≡◌, ℕ, ◌*◌, refl}
 use mathlib.Core.Logic.{inl, inr, ◌⊎◌}
 use Rattle.std.specs.Coded.{Coded, code_by, coded⊎}
 use Rattle.mc_shelf.specs.States.{ShelfContent, DeskState, coded_content, coded_desk}
 use Rattle.mc_shared.specs.declared.bay.Bay.{Bay}
 use Rattle.mc_shared.specs.declared.bay.Bay.TheVariants.{Shelf, Desk}
+
+-- Where a bay lies in the table. Its word and its slot are eight apart from the next one's, so that no
+-- two lie in one line of a cache; nothing lies between.
+abbrev pub place : ℕ → ℕ
+place b = b * 8
 
 -- what a bay holds: the content of a shelf, whose room and growth don't show, or the desk
 pub data Content : Type 0 where

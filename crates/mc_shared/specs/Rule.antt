@@ -8,7 +8,7 @@ use Rattle.mc_shelf.specs.Parts.{IsShelfOf, IsDeskOf}
 use Rattle.mc_shelf.specs.Stores.{StoreState}
 use Rattle.mc_shared.specs.Sums.{total}
 use Rattle.mc_shared.specs.declared.bay.Bay.{Bay}
-use Rattle.mc_shared.specs.Bays.{Content, OfShelf, OfDesk, content_of}
+use Rattle.mc_shared.specs.Bays.{Content, OfShelf, OfDesk, content_of, place}
 use Rattle.mc_shared.specs.History.{Beginning, start_of, Name, HistoryEntry, after, IsLegal}
 use Rattle.mc_shared.specs.Past.{Past, held, callers, makes, name_of, numbered, Ordered, Sound, Lives}
 use Rattle.mc_shared.specs.Past as past
@@ -54,12 +54,12 @@ pub record Named (log : List HistoryEntry) (views : List SeatView) : Type 0 wher
 -- the bays, against the state: those below the number of shelves, and the desk
 pub record Stocked (start : Beginning) (m : Plain) (words : List ℕ)
     (homes : List (mathlib.Core.Option.Option (Option Bay))) (views : List SeatView) : Type 0 where
-  pub wide : length words ≡ start.shelves + 1
-  pub deep : length homes ≡ start.shelves + 1
-  pub low : (b : ℕ) → b < start.shelves + 1 → slice_index words b ≤ 1
-  pub taken : (b : ℕ) → b < start.shelves + 1 → total (times b) views ≡ slice_index words b
-  pub home : (b : ℕ) → b < start.shelves + 1 → slice_index words b ≡ 0 → (x : Bay)
-      × (get_elem? homes b ≡ some (some (Some x))) × Fits start m b (content_of x)
+  pub wide : length words ≡ place (start.shelves + 1)
+  pub deep : length homes ≡ place (start.shelves + 1)
+  pub low : (b : ℕ) → b < start.shelves + 1 → slice_index words (place b) ≤ 1
+  pub taken : (b : ℕ) → b < start.shelves + 1 → total (times b) views ≡ slice_index words (place b)
+  pub home : (b : ℕ) → b < start.shelves + 1 → slice_index words (place b) ≡ 0 → (x : Bay)
+      × (get_elem? homes (place b) ≡ some (some (Some x))) × Fits start m b (content_of x)
   pub limits : KeepsLimits start m
   pub out : (id : ℕ) (v : SeatView) → get_elem? views id ≡ some v → AllFit start m v.bays
 

@@ -8,7 +8,7 @@ use Rattle.mc_command.specs.Commands.{key_of}
 use Rattle.mc_command.specs.Laws.{IsOnKey}
 use Rattle.mc_shelf.specs.States.{ShelfState}
 use Rattle.mc_shelf.specs.Stores.{StoreState}
-use Rattle.mc_shared.specs.Bays.{Content, OfShelf}
+use Rattle.mc_shared.specs.Bays.{Content, OfShelf, place}
 use Rattle.mc_shared.specs.History.{Beginning, Operation, start_of, shelf_in}
 use Rattle.mc_shared.specs.Past.{Past, Lives}
 use Rattle.mc_shared.specs.View.{SeatView}
@@ -27,7 +27,7 @@ SameSeat old new = (new.table_id ≡ old.table_id) × (new.id ≡ old.id)
 pub record IsSeatOf {K : Type 0} (table : TableId) (began : StoreState K) (seat : Sitter) : Type 0
   where
     pub own : seat.table_id ≡ table
-    pub wide : table.words ≡ began.settings.shelves + 1
+    pub wide : table.words ≡ place (began.settings.shelves + 1)
 
 -- the same, and its caller lives
 pub record IsAlive {K : Type 0} (table : TableId) (began : StoreState K) (seat : Sitter) : Type 0
@@ -47,7 +47,7 @@ pub record MayDecide {K : Type 0} (table : TableId) (began : StoreState K) (seat
     (start : Beginning) (y : Content) (what : Operation) (still : List (ℕ × Content)) : Type 0
   where
     pub alive : IsAlive table began seat
-    pub bay : b < table.words
+    pub bay : place b < table.words
     pub held : HoldsLast seat.me b
     pub right : Decides start seat.me.0.bays b y what still
 

@@ -1,7 +1,7 @@
 -- Shelves that are held, the last one first.
 use Rattle.std.specs.Prelude.{ℕ, ◌+◌, List, [], ◌∷◌, None}
 use Rattle.mc_shelf.specs.States.{ShelfState}
-use Rattle.mc_shared.specs.Bays.{Content, OfShelf}
+use Rattle.mc_shared.specs.Bays.{Content, OfShelf, place}
 use Rattle.mc_shared.specs.Past.{Past}
 use Rattle.mc_shared.specs.Steps.{Slot, Mine}
 
@@ -15,7 +15,7 @@ stacked xs = stacked_on 0 xs []
 -- the slots of held bays, each with nothing in it
 abbrev pub hollow : List (ℕ × Content) → List (ℕ × Slot)
 hollow [] = []
-hollow (x ∷ xs) = (x.0, None) ∷ hollow xs
+hollow (x ∷ xs) = (place x.0, None) ∷ hollow xs
 
 abbrev pub holds_all : Past → List ShelfState → Mine
 holds_all p xs = (record { past = p; bays = stacked xs }, hollow (stacked xs))

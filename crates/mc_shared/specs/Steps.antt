@@ -4,7 +4,7 @@ use Rattle.mc_command.specs.Plain.{Plain, opening}
 use Rattle.atomic_table.specs.Table.{Me, Step, rest}
 use Rattle.mc_shared.specs.declared.bay.Bay.{Bay}
 use Rattle.mc_shared.specs.declared.bay.Bay.TheVariants.{Shelf, Desk}
-use Rattle.mc_shared.specs.Bays.{Content, content_of}
+use Rattle.mc_shared.specs.Bays.{Content, content_of, place}
 use Rattle.mc_shared.specs.Sums.{total}
 use Rattle.mc_shared.specs.History.{Beginning, Name, HistoryEntry, Operation, Purged, next, IsRight, after, IsLegal}
 use Rattle.mc_shared.specs.Past.{Past, spent, start, call, made, both, name_of, held, makes, count_calls, count_made, KeptBy, Whole}
@@ -30,12 +30,12 @@ entry_of p what = record { by = name_of p; number = count_calls (name_of p) (hel
 
 -- the seat took this bay last, and has its content; its slot is empty
 abbrev pub HoldsThis : Mine → ℕ → Content → Type 0
-HoldsThis m b x = (m.0.bays ≡ (b, x) ∷ rest m.0.bays) × (m.1 ≡ (b, None) ∷ rest m.1)
+HoldsThis m b x = (m.0.bays ≡ (b, x) ∷ rest m.0.bays) × (m.1 ≡ (place b, None) ∷ rest m.1)
 
 -- the seat took this bay last
 abbrev pub HoldsLast : Mine → ℕ → Type 0
 HoldsLast m b =
-    ((x : Content) × (m.0.bays ≡ (b, x) ∷ rest m.0.bays)) × (m.1 ≡ (b, None) ∷ rest m.1)
+    ((x : Content) × (m.0.bays ≡ (b, x) ∷ rest m.0.bays)) × (m.1 ≡ (place b, None) ∷ rest m.1)
 
 -- after the last bay taken was given back
 abbrev pub without : Mine → Mine
@@ -68,11 +68,11 @@ abbrev pub IsBusy : Mine → ℕ → (word : ℕ) → Mine → Type 0
 IsBusy m b word m' = (word ≡ 1) × (m' ≡ m) × (Whole m.0.past → 1 ≤ times b m.0)
 
 -- the word was 0, and the bay is held from then on; or it was 1
-abbrev pub took : Beginning → Step Slot → Mine → ℕ → Mine → Type 0
-took began st m n m' = (n ≡ 0 → (x : Bay) × IsAt began.shelves st.word x
-    × (m' ≡ (holding m.0 st.word (content_of x), (st.word, Some x) ∷ m.1))
-    × Fitted began (holding m.0 st.word (content_of x)))
-    × (n ≢ 0 → IsBusy m st.word n m')
+abbrev pub took : Beginning → (bay : ℕ) → Step Slot → Mine → ℕ → Mine → Type 0
+took began b st m n m' = (n ≡ 0 → (x : Bay) × IsAt began.shelves b x
+    × (m' ≡ (holding m.0 b (content_of x), (st.word, Some x) ∷ m.1))
+    × Fitted began (holding m.0 b (content_of x)))
+    × (n ≢ 0 → IsBusy m b n m')
 
 abbrev pub gave : Beginning → Step Slot → Mine → ℕ → Mine → Type 0
 gave began st m n m' = (m' ≡ without m) × Fitted began m.0
@@ -83,7 +83,7 @@ decided began what bays st m n m' = (m' ≡ decided_by m what bays) × Agrees be
 -- the bay is held from then on with its content, and all that is held fits some such history
 abbrev pub HasTaken : Beginning → Mine → ℕ → Bay → Mine → Type 0
 HasTaken began m b x m' =
-    IsAt began.shelves b x × (m' ≡ (holding m.0 b (content_of x), (b, None) ∷ m.1))
+    IsAt began.shelves b x × (m' ≡ (holding m.0 b (content_of x), (place b, None) ∷ m.1))
     × Fitted began (holding m.0 b (content_of x))
 
 -- the last bay taken was given back with a decision, and these are still held

@@ -1,5 +1,5 @@
 -- What the calls of the shared store promise.
-use Rattle.std.specs.Prelude.{◌≡◌, ℕ, ◌≤◌, ◌⊎◌, Bool, true, false, List, [], ◌∷◌, Some, None}
+use Rattle.std.specs.Prelude.{◌≡◌, ℕ, ◌≤◌, ◌⊎◌, Bool, true, false, List, [], ◌∷◌, ◌++◌, Some, None}
 use Rattle.mc_command.specs.declared.step.KeyStep.{KeyStep}
 use Rattle.mc_command.specs.declared.step.KeyStep.TheVariants.{Store, Cas, Read, ReadTouch, Touch, Delete, Count, Flush}
 use Rattle.mc_command.specs.declared.reply.Reply.{Reply}
@@ -12,7 +12,7 @@ use Rattle.mc_shelf.specs.States.{ShelfState, DeskState}
 use Rattle.mc_shelf.specs.Plans.{IsPlan, HasRoom}
 use Rattle.mc_shelf.specs.declared.plan.Plan.{Plan}
 use Rattle.mc_shared.specs.declared.bay.Bay.TheVariants.{Shelf, Desk}
-use Rattle.mc_shared.specs.Bays.{Content}
+use Rattle.mc_shared.specs.Bays.{Content, place}
 use Rattle.mc_shared.specs.declared.fault.TryFault.{TryFault}
 use Rattle.mc_shared.specs.declared.fault.TryFault.TheVariants.{Busy, NoMemory, NumbersSpent}
 use Rattle.mc_shared.specs.History.{Beginning, HistoryEntry, Stepped, shelf_in, after, IsLegal}
@@ -25,7 +25,7 @@ resting p = (record { past = p; bays = [] }, [])
 
 -- a seat that holds one bay, whose content it has
 abbrev pub holds_one : Past → ℕ → Content → Mine
-holds_one p at x = (record { past = p; bays = (at, x) ∷ [] }, (at, None) ∷ [])
+holds_one p at x = (record { past = p; bays = (at, x) ∷ [] }, (place at, None) ∷ [])
 
 -- the past with a call more
 abbrev pub with_call : Past → KeyStep → ℕ → Reply → Past
@@ -97,11 +97,20 @@ shelf_slot shelf = Some (Shelf shelf)
 abbrev pub desk_slot : DeskState → Slot
 desk_slot desk = Some (Desk desk)
 
+-- a slot, and those up to the next place, which nothing lies in
+abbrev pub slot_alone : Slot → List Slot
+slot_alone x = x ∷ None ∷ None ∷ None ∷ None ∷ None ∷ None ∷ None ∷ []
+
+-- the slots of bays, one after another
+abbrev pub spaced : List Slot → List Slot
+spaced [] = []
+spaced (x ∷ xs) = slot_alone x ++ spaced xs
+
 -- a seat that holds two bays, the first of them taken last
 abbrev pub holds_two : Past → ℕ → Content → ℕ → Content → Mine
 holds_two p b y at x = (
   record { past = p; bays = (b, y) ∷ (at, x) ∷ [] },
-  (b, None) ∷ (at, None) ∷
+  (place b, None) ∷ (place at, None) ∷
       [],
 )
 

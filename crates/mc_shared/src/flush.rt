@@ -10,13 +10,13 @@ ghost use Rattle.mc_shared.specs.Steps.{HasTaken, HasDecided};
 ghost use Rattle.mc_shared.specs.Store.{resting, HasCalled, RestsCalled};
 ghost use Rattle.mc_shared.specs.Seats.{SameSeat, IsSeatOf, IsAlive, IsFree, MayDecide};
 ghost use Rattle.mc_shared.specs.Stacks.{holds_all};
-ghost use Rattle.mc_shared.specs.Bays.{OfDesk};
+ghost use Rattle.mc_shared.specs.Bays.{OfDesk, place};
 
 use crate::bay::Bay;
 use crate::boxed::Boxed;
 use crate::plays::Says;
 use crate::rule::{Board, Place};
-use crate::steps::{decide_as, give, take};
+use crate::steps::{decide_as, give, place_of, take};
 use crate::store::{Caller, Shared, desk_from, shelf_from};
 use mc_command::Reply;
 use mc_hop::KeyHash;
@@ -45,7 +45,7 @@ fn pause(count: u32) {
 /// undisturbed.
 fn take_spinning<K: KeyHash + Drop>(board: &Board<K>, caller: &mut Place, bay: usize) -> Option<Bay>
     requires seat { IsAlive board.now.shared.table_id board.now.shared.key.value caller.old }
-    requires bay { bay < board.now.shared.table_id.words }
+    requires bay { place bay < board.now.shared.table_id.words }
     ensures seat { SameSeat caller.old caller.new }
     ensures taken { IfSome result (λ value. HasTaken
         (start_of K.hash_of board.now.shared.key.value) caller.old.me bay value caller.new.me) }
@@ -54,9 +54,10 @@ fn take_spinning<K: KeyHash + Drop>(board: &Board<K>, caller: &mut Place, bay: u
     if let Ok(value) = take(board, caller, bay) {
         return Some(value);
     }
+    let place = place_of(board, bay);
     for look in 0..LOOKS {
         pause(1 << look.min(DOUBLINGS));
-        if board.shared.peek(bay) == 0 {
+        if board.shared.peek(place) == 0 {
             if let Ok(value) = take(board, caller, bay) {
                 return Some(value);
             }
@@ -73,7 +74,7 @@ pub(crate) fn take_waiting<K: KeyHash + Drop, R: Wait>(
     bay: usize,
 ) -> Bay
     requires seat { IsAlive board.now.shared.table_id board.now.shared.key.value caller.old }
-    requires bay { bay < board.now.shared.table_id.words }
+    requires bay { place bay < board.now.shared.table_id.words }
     ensures seat { SameSeat caller.old caller.new }
     ensures taken { HasTaken (start_of K.hash_of board.now.shared.key.value) caller.old.me bay
         result caller.new.me }

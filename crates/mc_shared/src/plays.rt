@@ -41,14 +41,32 @@ impl Says for Brand {
     ghost still = { [] };
 }
 
-pub struct Take<B> {
-    begins: PhantomData<B>,
+/// What the store began with, and which bay is taken. Each call that takes one picks it.
+pub trait Takes {
+    ghost use Rattle.std.specs.Prelude.{ℕ};
+    ghost use Rattle.mc_shared.specs.History.{Beginning};
+
+    ghost start: { Beginning };
+
+    ghost bay: { ℕ };
 }
 
-impl<B: Begins> Play<Option<Bay>, View> for Take<B> {
+impl Takes for Brand {
+    ghost use Rattle.mc_shared.specs.Steps.{nothing_began};
+
+    ghost start = { nothing_began };
+
+    ghost bay = { 0 };
+}
+
+pub struct Take<B> {
+    takes: PhantomData<B>,
+}
+
+impl<B: Takes> Play<Option<Bay>, View> for Take<B> {
     ghost use Rattle.mc_shared.specs.Steps.{took};
 
-    ghost then = { took B.start };
+    ghost then = { took B.start B.bay };
 }
 
 pub struct Give<B> {

@@ -1,14 +1,14 @@
 //! A bay is taken and given back.
 ghost use Rattle.std.specs.Prelude.{◌≡◌, ◌<◌, [], IfOk, IfErr};
 ghost use Rattle.mc_shared.specs.History.{start_of};
-ghost use Rattle.mc_shared.specs.Bays.{OfShelf, OfDesk, content_of};
+ghost use Rattle.mc_shared.specs.Bays.{OfShelf, OfDesk, content_of, place};
 ghost use Rattle.mc_shared.specs.Steps.{without, maker, newcomer, met, Agrees, Fitted};
 ghost use Rattle.mc_shared.specs.Steps.{HoldsThis, HasTaken, HasDecided, IsBusy};
 ghost use Rattle.mc_shared.specs.Seats.{SameSeat, IsSeatOf, IsAlive, MayDecide};
 
 use crate::bay::Bay;
 use crate::boxed::Boxed;
-use crate::plays::{Begins, Decide, Fork, Give, Look, Meet, Says, Take};
+use crate::plays::{Begins, Decide, Fork, Give, Look, Meet, Says, Take, Takes};
 use crate::rule::{Board, Place};
 use mc_command::{KeyStep, Reply};
 use mc_hop::KeyHash;
@@ -16,23 +16,39 @@ use mc_shelf::{Begun, Desk, Shelf};
 use mc_time::Moment;
 use std::marker::Brand;
 
-fn take_as<B: Begins, K: KeyHash + Drop>(
+/// How many words and slots stand from one bay to the next: no two bays lie in one line of a cache.
+pub(crate) const APART: usize = 8;
+
+/// Finds where a bay lies in the table.
+pub(crate) fn place_of<K: KeyHash + Drop>(board: &Board<K>, bay: usize) -> usize
+    requires { place bay < board.now.shared.table_id.words }
+    ensures { result ≡ place bay }
+{
+    let _words = board.word_count();
+    bay * APART
+}
+
+fn take_as<B: Takes, K: KeyHash + Drop>(
     board: &Board<K>,
     caller: &mut Place,
     bay: usize,
 ) -> Result<Bay, u64>
     requires began { B.start ≡ start_of K.hash_of board.now.shared.key.value }
+    requires picked { B.bay ≡ bay }
     requires seat { IsAlive board.now.shared.table_id board.now.shared.key.value caller.old }
-    requires bay { bay < board.now.shared.table_id.words }
+    requires bay { place bay < board.now.shared.table_id.words }
     ensures seat { SameSeat caller.old caller.new }
     ensures ok { IfOk result (λ x. HasTaken B.start caller.old.me bay x caller.new.me) }
     ensures err { IfErr result (λ word. IsBusy caller.old.me bay word caller.new.me) }
 {
-    let word = board.shared.compare_exchange::<Take<B>>(caller, bay, 0, 1);
+    let place = place_of(board, bay);
+    let word = board
+        .shared
+        .compare_exchange::<Take<B>>(caller, place, 0, 1);
     if word != 0 {
         return Err(word);
     }
-    match board.shared.exchange(caller, bay, None) {
+    match board.shared.exchange(caller, place, None) {
         Some(value) => Ok(value),
         None => unreachable!(),
     }
@@ -41,7 +57,7 @@ fn take_as<B: Begins, K: KeyHash + Drop>(
 /// Takes a bay, if it is free.
 pub fn take<K: KeyHash + Drop>(board: &Board<K>, caller: &mut Place, bay: usize) -> Result<Bay, u64>
     requires seat { IsAlive board.now.shared.table_id board.now.shared.key.value caller.old }
-    requires bay { bay < board.now.shared.table_id.words }
+    requires bay { place bay < board.now.shared.table_id.words }
     ensures seat { SameSeat caller.old caller.new }
     ensures ok { IfOk result (λ x. HasTaken (start_of K.hash_of board.now.shared.key.value)
         caller.old.me bay x caller.new.me) }
@@ -58,19 +74,20 @@ fn give_as<B: Begins, K: KeyHash + Drop>(
 )
     requires began { B.start ≡ start_of K.hash_of board.now.shared.key.value }
     requires seat { IsSeatOf board.now.shared.table_id board.now.shared.key.value caller.old }
-    requires bay { bay < board.now.shared.table_id.words }
+    requires bay { place bay < board.now.shared.table_id.words }
     requires held { HoldsThis caller.old.me bay (content_of value) }
     ensures seat { SameSeat caller.old caller.new }
     ensures view { (caller.new.me ≡ without caller.old.me) × Fitted (B.start) caller.old.me.0 }
 {
-    board.shared.exchange(caller, bay, Some(value));
-    board.shared.store::<Give<B>>(caller, bay, 0);
+    let place = place_of(board, bay);
+    board.shared.exchange(caller, place, Some(value));
+    board.shared.store::<Give<B>>(caller, place, 0);
 }
 
 /// Gives back the bay that was taken last, as it was.
 pub fn give<K: KeyHash + Drop>(board: &Board<K>, caller: &mut Place, bay: usize, value: Bay)
     requires seat { IsSeatOf board.now.shared.table_id board.now.shared.key.value caller.old }
-    requires bay { bay < board.now.shared.table_id.words }
+    requires bay { place bay < board.now.shared.table_id.words }
     requires held { HoldsThis caller.old.me bay (content_of value) }
     ensures seat { SameSeat caller.old caller.new }
     ensures view { (caller.new.me ≡ without caller.old.me)
@@ -92,10 +109,11 @@ pub(crate) fn decide_as<D: Says, K: KeyHash + Drop>(
     ensures seat { SameSeat caller.old caller.new }
     ensures view { HasDecided D.start caller.old.me D.what D.still caller.new.me }
 {
-    board.shared.exchange(caller, bay, Some(value));
+    let place = place_of(board, bay);
+    board.shared.exchange(caller, place, Some(value));
     board
         .shared
-        .compare_exchange::<Decide<D>>(caller, bay, 1, 0);
+        .compare_exchange::<Decide<D>>(caller, place, 1, 0);
 }
 
 /// Gives back a shelf, and decides a step that the shelf decides alone. What is decided is picked

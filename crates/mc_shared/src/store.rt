@@ -1,6 +1,6 @@
 //! The store for many threads.
-ghost use Rattle.std.specs.Prelude.{◌≡◌, ◌+◌, ◌<◌, ◌≤◌, length, [], ◌∷◌, ◌++◌, map, replicate};
-ghost use Rattle.std.specs.Prelude.{false, IfOk, IfSome};
+ghost use Rattle.std.specs.Prelude.{◌≡◌, ◌+◌, ◌<◌, ◌≤◌, length, [], ◌∷◌, ◌++◌, map, replicate, OnOk};
+ghost use Rattle.std.specs.Prelude.{Some, false, IfOk, IfSome};
 ghost use Rattle.mc_command.specs.Commands.{key_of};
 ghost use Rattle.mc_command.specs.Laws.{IsOnKey};
 ghost use Rattle.mc_command.specs.Plain.{opening};
@@ -9,10 +9,10 @@ ghost use Rattle.mc_shelf.specs.Plans.{wants_desk};
 ghost use Rattle.mc_shared.specs.History.{start_of, shelf_in};
 ghost use Rattle.mc_shared.specs.Past.{start, spent, made, both};
 ghost use Rattle.mc_shared.specs.Steps.{next_name, IsAt, Agrees, Fitted};
-ghost use Rattle.mc_shared.specs.Store.{shelf_slot, desk_slot, holds_one, holds_two};
+ghost use Rattle.mc_shared.specs.Store.{shelf_slot, desk_slot, slot_alone, spaced, holds_one, holds_two};
 ghost use Rattle.mc_shared.specs.Store.{IsPlanned, RestsCalled, told_of, May, Refuses};
 ghost use Rattle.mc_shared.specs.Seats.{SameSeat, IsAlive, IsFree, IsStepAt, HoldsShelf, MayAsk, ComesOut, IsAnswered};
-ghost use Rattle.mc_shared.specs.Bays.{OfShelf, OfDesk};
+ghost use Rattle.mc_shared.specs.Bays.{OfShelf, OfDesk, place};
 ghost use Rattle.mc_shared.specs.declared.bay.Bay.{Bay as Held};
 
 use crate::bay::Bay;
@@ -20,7 +20,7 @@ use crate::boxed::Boxed;
 use crate::fault::TryFault;
 use crate::look::{begin_step, look_up};
 use crate::rule::{Board, Place};
-use crate::steps::{decide_at_desk, decide_at_shelf, fork, give, look, meet, take};
+use crate::steps::{APART, decide_at_desk, decide_at_shelf, fork, give, look, meet, take};
 use atomic_table::Table;
 use mc_command::{KeyStep, Reply, StepFault};
 use mc_hop::KeyHash;
@@ -42,6 +42,7 @@ pub struct Shared<K: KeyHash + Drop> {
 impl<K: KeyHash + Drop> Model for Shared<K> {
     ghost use Rattle.std.specs.Prelude.{◌≡◌, ◌+◌, ◌<◌};
     ghost use Rattle.mc_shelf.specs.Stores.{IsSetUp};
+    ghost use Rattle.mc_shared.specs.Bays.{place};
     ghost use Rattle.mc_shared.specs.Shown.{SharedState, coded_shared};
 
     ghost Value = { SharedState K };
@@ -54,7 +55,7 @@ impl<K: KeyHash + Drop> Model for Shared<K> {
           s.board.shared.key.value;
     } };
 
-    ghost invariant = { λ s. (s.board.shared.table_id.words ≡ s.settings.shelves + 1)
+    ghost invariant = { λ s. (s.board.shared.table_id.words ≡ place (s.settings.shelves + 1))
         × (s.board.shared.key.value.settings ≡ s.settings)
         × (s.board.shared.key.value.hasher ≡ s.hasher) × IsSetUp s.settings
         s.board.shared.key.value.plain × (0 < s.settings.shelves) };
@@ -210,11 +211,11 @@ impl<K: KeyHash + Drop> Shared<K> {
     }
 }
 
-/// So many words, and one more, of free bays.
+/// The words of so many free bays, and of one more.
 fn free_words(alloc: Global, shelves: u32) -> Result<Vec<u64>, AllocError>
-    ensures { IfOk result (λ v. v.items ≡ replicate (shelves + 1) 0) }
+    ensures { IfOk result (λ v. v.items ≡ replicate (place (shelves + 1)) 0) }
 {
-    vec![in alloc; 0; shelves as usize + 1]
+    vec![in alloc; 0; (shelves as usize + 1) * APART]
 }
 
 /// The shelves and behind them the desk, each in its slot.
@@ -224,15 +225,30 @@ fn slots_of(
     shelves: Vec<Shelf>,
     desk: Desk,
 ) -> Result<Vec<Option<Bay>>, AllocError>
-    ensures { IfOk result (λ v. v.items ≡ map {A = ShelfState} shelf_slot shelves.items ++ desk_slot
-        desk ∷ []) }
+    ensures { IfOk result (λ v. v.items ≡ spaced (map {A = ShelfState} shelf_slot shelves.items)
+        ++ slot_alone (desk_slot desk)) }
 {
-    let mut slots = Vec::with_capacity(alloc, count as usize + 1)?;
+    let mut slots = Vec::with_capacity(alloc, (count as usize + 1) * APART)?;
     for shelf in shelves {
-        slots.push(Some(Bay::Shelf(Boxed::new(alloc, shelf)?)))?;
+        push_alone(&mut slots, Bay::Shelf(Boxed::new(alloc, shelf)?))?;
     }
-    slots.push(Some(Bay::Desk(Boxed::new(alloc, desk)?)))?;
+    push_alone(&mut slots, Bay::Desk(Boxed::new(alloc, desk)?))?;
     Ok(slots)
+}
+
+/// Puts a bay into the next slot, and nothing into those up to the next place.
+fn push_alone(slots: &mut Vec<Option<Bay>>, bay: Bay) -> Result<(), AllocError>
+    ensures { OnOk result (slots.new.items ≡ slots.old.items ++ slot_alone (Some bay)) }
+{
+    slots.push(Some(bay))?;
+    slots.push(None)?;
+    slots.push(None)?;
+    slots.push(None)?;
+    slots.push(None)?;
+    slots.push(None)?;
+    slots.push(None)?;
+    slots.push(None)?;
+    Ok(())
 }
 
 /// A step on one key: its shelf is taken, and where it is needed the desk.

@@ -1,7 +1,7 @@
 use Rattle.std.proofs.Common.{rules, arith, ◌≡◌, length, sym, ap, subst, ◌∙◌, ◌∷◌, None}
 use Rattle.mc_shared.specs.Past.{Whole}
 use Rattle.mc_shared.specs.declared.bay.Bay.TheVariants.{Shelf}
-use Rattle.mc_shared.specs.Bays.{content_of}
+use Rattle.mc_shared.specs.Bays.{content_of, place}
 use Rattle.mc_shared.specs.Steps.{holding}
 use Rattle.mc_shared.specs.Stacks.{holds_all}
 use Rattle.mc_shared.proofs.Stacked.{take_top, not_held}
@@ -14,7 +14,7 @@ loop-held-preserved g c = let inv = c.loop-held.invariant in let len = c.push_re
       c.take.ensures.seat.1 ∙ inv.1,
       omega arith,
       omega (arith, room, inv.3),
-      take_top _ _ p c.loop-held.held.items c.into_inner.result c.len-at.result inv.4 (search rules) (got ∙ (λ i. (holding c.loop-held.caller.me.0 c.len-at.result (content_of (bay i)), (c.len-at.result, None) ∷ c.loop-held.caller.me.1)))
+      take_top _ _ p c.loop-held.held.items c.into_inner.result c.len-at.result inv.4 (search rules) (got ∙ (λ i. (holding c.loop-held.caller.me.0 c.len-at.result (content_of (bay i)), (place c.len-at.result, None) ∷ c.loop-held.caller.me.1)))
           ∙ ap (holds_all p) (sym c.push_reserved.ensures.items),
     )
 

@@ -1,5 +1,5 @@
 use Rattle.std.proofs.Common.{rules, arith, ◌≡◌, ◌<◌, suc, length, take, vec_len, sym, ap, ◌∙◌, ◌∷◌, None}
-use Rattle.mc_shared.specs.Bays.{content_of}
+use Rattle.mc_shared.specs.Bays.{content_of, place}
 use Rattle.mc_shared.specs.Steps.{holding}
 use Rattle.mc_shared.specs.Stacks.{holds_all}
 use Rattle.mc_shared.proofs.Stacked.{take_top, one_more, so_many}
@@ -20,6 +20,6 @@ loop-boxes-preserved g c = let inv = c.loop-boxes.invariant in let len = c.push_
       omega (arith, room, inv.3),
       c.change_places.ensures.len ∙ inv.4,
       take_top _ _ p (take at old) shelf at (inv.5 ∙ (λ i. holds_all p (take (here i) old))) (so_many old at (omega (arith, below)))
-          (got ∙ (λ i. (holding c.loop-boxes.caller.me.0 at (content_of (c.shelf_from-shelf.ensures i)), (at, None) ∷ c.loop-boxes.caller.me.1)))
+          (got ∙ (λ i. (holding c.loop-boxes.caller.me.0 at (content_of (c.shelf_from-shelf.ensures i)), (place at, None) ∷ c.loop-boxes.caller.me.1)))
           ∙ ap (holds_all p) (sym (one_more old at shelf below)) ∙ (λ i. holds_all p (take (sym more i) (sym c.change_places.ensures.held i))),
     )

@@ -1,7 +1,7 @@
 use Rattle.std.proofs.Common.{◌≡◌, ◌++◌, map}
 use Rattle.mc_shelf.specs.States.{ShelfState}
-use Rattle.mc_shared.specs.Store.{shelf_slot}
+use Rattle.mc_shared.specs.Store.{shelf_slot, spaced}
 use Rattle.mc_shared.proofs.store.slots_of.Given as goal
 
 abbrev pub invariant-loop-shelf : goal.invariant-loop-shelf
-invariant-loop-shelf l = l.slots.items ++ map {A = ShelfState} shelf_slot l.shelf-iterator.rest.items ≡ map {A = ShelfState} shelf_slot l.fn.shelves.items
+invariant-loop-shelf l = l.slots.items ++ spaced (map {A = ShelfState} shelf_slot l.shelf-iterator.rest.items) ≡ spaced (map {A = ShelfState} shelf_slot l.fn.shelves.items)
