@@ -94,6 +94,15 @@ impl<'a, R: Wait, K: KeyHash + Drop, G: Gate> Asking<'a, R, K, G> {
         self.shared.grow(self.rt, &mut self.caller, shelf, n)
     }
 
+    /// Does what `grow` does at the shelf of the last step. Where that step left none of the shelf's
+    /// entries to move, no shelf is taken.
+    pub fn grow_after(&mut self, n: usize) -> usize
+        ensures same { self.new ≡ self.old }
+        ensures moved { result ≤ n }
+    {
+        self.shared.grow_after(self.rt, &mut self.caller, n)
+    }
+
     /// Drops the items of a shelf that are dead at a moment.
     pub fn tidy(&mut self, shelf: u32, now: Moment)
         requires { shelf < self.old.began.settings.shelves }

@@ -99,7 +99,7 @@ impl<K: KeyHash + Drop> Shared<K> {
             settings,
             hasher,
         } = self;
-        let Caller { mut seat } = caller;
+        let Caller { mut seat, .. } = caller;
         match gather(&board, &mut seat, room, count) {
             Ok((shelves, desk)) => Ok(Store::from_parts(StoreParts {
                 settings,

@@ -19,12 +19,14 @@ use std::alloc::{AllocError, Global};
 
 /// Looks a step up. A read that is refused memory for the copy of its block is refused. A write that
 /// is refused room for its key's entry has no plan: the desk tells whether it is to be had at all.
+/// With a plan, how many entries are left to move is noted; the step begins no growth from then on.
 pub(crate) fn look_up<'a>(
     alloc: Global,
     shelf: &mut Shelf,
     step: &KeyStep<'a>,
     hash: u64,
     now: Moment,
+    left: &mut usize,
 ) -> Result<Option<Plan<'a>>, AllocError>
     requires on_key { IsOnKey step.now }
     requires key { length (key_of step.now) ≤ 250 }
@@ -37,7 +39,10 @@ pub(crate) fn look_up<'a>(
         × (row_at shelf.old.content step.now now ≡ Reads expiry)) }
 {
     match shelf.look(alloc, step, hash, now) {
-        Ok(plan) => Ok(Some(plan)),
+        Ok(plan) => {
+            *left = shelf.left();
+            Ok(Some(plan))
+        }
         Err(fault) => {
             if is_read(step) {
                 return Err(fault);

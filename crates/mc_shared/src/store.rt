@@ -65,6 +65,8 @@ impl<K: KeyHash + Drop> Model for Shared<K> {
 #[derive(Drop)]
 pub struct Caller {
     pub(crate) seat: Place,
+    /// The shelf of its last step, where entries of it may be left to move.
+    pub(crate) grows: Option<u32>,
 }
 
 impl Model for Caller {
@@ -105,7 +107,7 @@ impl<K: KeyHash + Drop> Shared<K> {
                     settings,
                     hasher,
                 },
-                Caller { seat },
+                Caller { seat, grows: None },
             )),
             Err(_) => Err(AllocError),
         }
@@ -142,6 +144,7 @@ impl<K: KeyHash + Drop> Shared<K> {
     {
         Caller {
             seat: fork(&self.board, &mut maker.seat),
+            grows: None,
         }
     }
 
@@ -153,7 +156,7 @@ impl<K: KeyHash + Drop> Shared<K> {
             × (into.new.past ≡ both into.old.past from.past) }
         ensures kept { Agrees (start_of K.hash_of self.now.began) into.new.past }
     {
-        let Caller { seat } = from;
+        let Caller { seat, .. } = from;
         meet(&self.board, &mut into.seat, seat);
         look(&self.board, &mut into.seat);
     }
@@ -273,7 +276,8 @@ fn step_by<K: KeyHash + Drop>(
         }
     };
     let mut shelf = shelf_from(bay, bays.0, bays.1);
-    let Ok(found) = look_up(alloc, &mut *shelf, step, hash, now) else {
+    let mut left = 0;
+    let Ok(found) = look_up(alloc, &mut *shelf, step, hash, now, &mut left) else {
         give(board, caller, bays.0, Bay::Shelf(Boxed::of(shelf)));
         return Err(TryFault::NoMemory);
     };

@@ -142,4 +142,20 @@ impl<K: KeyHash + Drop> Shared<K> {
         let count = self.settings.shelves as usize;
         grow_by(rt, &self.board, &mut caller.seat, shelf as usize, count, n)
     }
+
+    /// Does what `grow` does at the shelf of the caller's last step. Where that step left none of the
+    /// shelf's entries to move, or it was done since, no shelf is taken.
+    pub fn grow_after<R: Wait>(&self, rt: &R, caller: &mut Caller, n: usize) -> usize
+        requires own { caller.old.table ≡ self.now.table }
+        ensures same { (caller.new.table ≡ caller.old.table) × (caller.new.past ≡ caller.old.past) }
+        ensures moved { result ≤ n }
+    {
+        match caller.grows {
+            Some(shelf) if shelf < self.settings.shelves => {
+                caller.grows = None;
+                self.grow(rt, caller, shelf, n)
+            }
+            _ => 0,
+        }
+    }
 }

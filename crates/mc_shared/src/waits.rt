@@ -34,7 +34,8 @@ impl Gate for NoGate {
     fn inside(&self, _shelf: u32) {}
 }
 
-/// A step on one key, which waits for its shelf and for the desk.
+/// A step on one key, which waits for its shelf and for the desk. How many entries of the shelf are
+/// left to move is noted where it is known.
 fn step_waiting<K: KeyHash + Drop, R: Wait, G: Gate>(
     rt: &R,
     board: &Board<K>,
@@ -45,6 +46,7 @@ fn step_waiting<K: KeyHash + Drop, R: Wait, G: Gate>(
     step: &KeyStep<'_>,
     hash: u64,
     now: Moment,
+    left: &mut usize,
 ) -> Result<Reply, StepFault>
     requires seat { IsFree board.now.shared.table_id board.now.shared.key.value caller.old }
     requires step { IsStepAt K.hash_of board.now.shared.key.value step.now hash bays }
@@ -53,7 +55,7 @@ fn step_waiting<K: KeyHash + Drop, R: Wait, G: Gate>(
 {
     let mut shelf = shelf_from(take_waiting(rt, board, caller, bays.0), bays.0, bays.1);
     gate.0.inside(gate.1);
-    let Ok(found) = look_up(alloc, &mut *shelf, step, hash, now) else {
+    let Ok(found) = look_up(alloc, &mut *shelf, step, hash, now, left) else {
         give(board, caller, bays.0, Bay::Shelf(Boxed::of(shelf)));
         return Err(StepFault::NoMemory);
     };
@@ -160,17 +162,20 @@ impl<K: KeyHash + Drop> Shared<K> {
         let hash = self.hasher.hash(step.key());
         let desk = self.settings.shelves as usize;
         let at = hash % u64::from(self.settings.shelves);
-        let seat = &mut caller.seat;
-        step_waiting(
+        let mut left = 1;
+        let answer = step_waiting(
             rt,
             &self.board,
             alloc,
-            seat,
+            &mut caller.seat,
             (at as usize, desk),
             (gate, at as u32),
             step,
             hash,
             now,
-        )
+            &mut left,
+        );
+        caller.grows = if left == 0 { None } else { Some(at as u32) };
+        answer
     }
 }

@@ -231,6 +231,13 @@ impl Index {
         self.entries.filled_from(at)
     }
 
+    /// Counts the entries of an old table, which are left to move.
+    pub(crate) fn left(&self) -> usize
+        ensures { result ≡ left self.now }
+    {
+        self.entries.left()
+    }
+
     /// Answers whether no entry is there.
     pub(crate) fn is_empty(&self) -> bool
         ensures items { result ≡ true → items_of self.now ≡ empty }

@@ -366,6 +366,13 @@ impl Shelf {
         self.index.move_some(n)
     }
 
+    /// Counts the entries of an old table that are left to move.
+    pub fn left(&self) -> usize
+        ensures { result ≡ self.now.left }
+    {
+        self.index.left()
+    }
+
     /// Finds out what a step at a moment does, and makes no room. A hit's block is copied, and nothing else takes memory.
     fn plan<'a>(
         &self,

@@ -78,17 +78,12 @@ impl<'a, R: Wait, K: KeyHash + Drop, G: Gate> Tending<'a, R, K, G> {
         self.asking.tidy(shelf, now);
     }
 
-    /// Moves some entries of the step's shelf. A flush is on no shelf.
-    fn grow_after(&mut self, step: &KeyStep<'_>)
+    /// Moves some entries of the last step's shelf, where some are left to move. A flush is on no
+    /// shelf.
+    fn grow_after(&mut self)
         ensures { self.new ≡ self.old }
     {
-        match step {
-            KeyStep::Flush { .. } => {}
-            _ => {
-                let shelf = self.asking.shelf_of(step.key());
-                self.asking.grow(shelf, MOVED);
-            }
-        }
+        self.asking.grow_after(MOVED);
     }
 }
 
@@ -105,7 +100,7 @@ impl<'a, R: Wait, K: KeyHash + Drop, G: Gate> Steps for Tending<'a, R, K, G> {
 
     fn step(&mut self, alloc: Global, step: &KeyStep<'_>, now: Moment) -> Result<Reply, StepFault> {
         let answer = self.asking.step(alloc, step, now);
-        self.grow_after(step);
+        self.grow_after();
         answer
     }
 }
