@@ -1,5 +1,6 @@
 -- What a change of the key's item makes of a plain state that stands for a shelf and a desk.
-use Rattle.std.proofs.Common.{◌≡◌, ◌≢◌, ℕ, ◌+◌, ◌-◌, ◌*◌, ◌<◌, ◌≤◌, ◌^◌, ◌||◌, Bool, true, false, ltb, ltb-false, List, length, get_or, set, sum, Option, Some, None, eqb, if◌then◌else◌, refl, sym, ap, ◌∙◌, arith, get_or-set_same, get_or-set_other, lt-ltb, le-ltb, eq-eqb, ne_eqb, eqb-true, true≢false, inl, inr}
+use Rattle.std.proofs.Common.{◌≡◌, ◌≢◌, ℕ, ◌+◌, ◌-◌, ◌*◌, ◌<◌, ◌≤◌, ◌^◌, ◌||◌, Bool, true, false, ltb, ltb-false, List, length, get_or, set, sum, Option, Some, None, eqb, if◌then◌else◌, refl, sym, ap, ◌∙◌, arith, get_or-set_same, get_or-set_other, lt-ltb, le-ltb, eq-eqb, ne_eqb, eqb-true, true≢false, inl, inr, subst, set-set, length-set}
+use lib.Seq.{set-get_or}
 use Rattle.std.proofs.lemmas.Bool.{cases_lt}
 use Rattle.std.specs.FinMap.{get, insert, remove}
 use Rattle.mc_time.specs.declared.expiry.Expiry.{Expiry}
@@ -76,6 +77,39 @@ module _ (slab : SlabState) (class : ℕ) (is_class : IsClass class) where
     where
       out_at_pages : (pages : List ℕ) → length slab.out ≡ 40 → (n other : ℕ) → IsClass other → out_of (slabs.with_out (record slab { pages = pages }) class n) other ≡ (if eqb class other then n else out_of slab other)
       out_at_pages pages long n other is_other = out-with_out long n other is_other
+
+  -- ---- where a chunk of the class is free
+
+  pub taken_free : out_of slab class < slabs.chunks_of slab class → taken slab class ≡ slabs.with_out slab class (out_of slab class + 1)
+  taken_free l =
+      let apart : out_of slab class ≢ slabs.chunks_of slab class = λ same. omega (arith, l, same) in
+      ap (λ (b : Bool). slabs.with_out (if b then slabs.with_page slab class else slab) class (out_of (if b then slabs.with_page slab class else slab) class + 1)) (ne_eqb (out_of slab class) (slabs.chunks_of slab class) apart)
+
+  pub room_by_free : out_of slab class < slabs.chunks_of slab class → slabs.has_room slab class ≡ true
+  room_by_free l = ap (λ (b : Bool). b || ltb 0 (slabs.pages_left slab)) (lt-ltb (out_of slab class) (slabs.chunks_of slab class) l)
+
+  -- one is taken and one is given back: the slab is as it was
+  pub given_taken : length slab.out ≡ 40 → out_of slab class < slabs.chunks_of slab class → given (taken slab class) class ≡ slab
+  given_taken long l =
+      let inside : class - 1 < length slab.out = omega arith in
+      let one : get_or (set slab.out (class - 1) (out_of slab class + 1)) (class - 1) 0 ≡ out_of slab class + 1 = get_or-set_same slab.out (class - 1) (out_of slab class + 1) 0 inside in
+      let less : get_or (set slab.out (class - 1) (out_of slab class + 1)) (class - 1) 0 - 1 ≡ out_of slab class = omega (arith, one) in
+      ap (λ (t : SlabState). given t class) (taken_free l)
+      ∙ ap (λ (ys : List ℕ). record slab { out = ys })
+      (ap (λ (m : ℕ). set (set slab.out (class - 1) (out_of slab class + 1)) (class - 1) m) less ∙ set-set slab.out (class - 1) (out_of slab class + 1) (out_of slab class) ∙ set-get_or slab.out (class - 1) 0)
+
+  pub taken_is_slab : IsSlab slab → out_of slab class < slabs.chunks_of slab class → IsSlab (taken slab class)
+  taken_is_slab is l = subst IsSlab (sym (taken_free l)) record {
+    pages = is.pages;
+    out = length-set slab.out (class - 1) (out_of slab class + 1) ∙ is.out;
+    within = λ other is_other. subst (λ (m : ℕ). m ≤ slabs.chunks_of slab other) (sym (out-with_out is.out (out_of slab class + 1) other is_other))
+        (elim (eqb class other) as (λ b. eqb class other ≡ b → (if b then out_of slab class + 1 else out_of slab other) ≤ slabs.chunks_of slab other) [
+          | true ↦ λ e. subst (λ (k : ℕ). out_of slab class + 1 ≤ slabs.chunks_of slab k) (eqb-true class other e) (omega (arith, l))
+          | false ↦ λ e. is.within other is_other
+        ] refl);
+    limit = is.limit;
+    most = is.most;
+  }
 
 -- ---- the key's item
 

@@ -1,5 +1,5 @@
 -- What a shelf and a desk make of a plan is what the plain machine makes of the step.
-use Rattle.std.proofs.Common.{◌≡◌, ◌≢◌, ℕ, ◌+◌, ◌-◌, ◌≤◌, ◌^◌, Bool, true, false, ◌&&◌, ◌||◌, List, [], decimal, Option, Some, None, is_some, is_none, eqb, eqb-true, if◌then◌else◌, refl, sym, ap, subst, ◌∙◌, arith, eq-eqb, true≢false}
+use Rattle.std.proofs.Common.{◌≡◌, ◌≢◌, ℕ, ◌+◌, ◌-◌, ◌<◌, ◌≤◌, ◌^◌, Bool, true, false, ◌&&◌, ◌||◌, List, [], decimal, Option, Some, None, is_some, is_none, eqb, eqb-true, if◌then◌else◌, refl, sym, ap, subst, ◌∙◌, arith, eq-eqb, true≢false}
 use Rattle.std.proofs.lemmas.Option.{same_Some}
 use Rattle.std.specs.FinMap.{empty, get, insert, remove}
 use Rattle.mc_time.specs.declared.expiry.Expiry.{Expiry}
@@ -20,7 +20,7 @@ use Rattle.mc_shelf.specs.declared.plan.Next.{Next}
 use Rattle.mc_shelf.specs.declared.plan.Next.TheVariants.{Answer, Expire, Discard, Write}
 use Rattle.mc_shelf.specs.States.{ShelfContent, DeskState, CanStand, IsAt, IsHash}
 use Rattle.mc_shelf.specs.Plans.{GivesBack, GivesOne, IsDropped, IsOut, IsPut, IsSpent, OthersStay, Takes, block_beside, counts, drafted, has_class, is_gone, next_of, own_block, reuses, row_at, stood}
-use Rattle.mc_shelf.proofs.StandLemmas.{InsertCounts, RemoveCounts, base, step_is, at_none, at_dropped, at_put_again, at_wrote, bump, full_of, limit-taken, out-given, out-taken, out_some, pages_after, pages-taken, room_free, room_none, room_not_full, room_some, wrote_full, wrote_kept, wrote_spent}
+use Rattle.mc_shelf.proofs.StandLemmas.{InsertCounts, RemoveCounts, base, step_is, at_none, at_dropped, at_put_again, at_wrote, bump, full_of, limit-taken, out-given, out-taken, out_some, pages_after, pages-taken, room_free, given_taken, room_by_free, taken_is_slab, room_none, room_not_full, room_some, wrote_full, wrote_kept, wrote_spent}
 use Rattle.mc_shelf.proofs.PlanLemmas.{Does, IsDrafted, alive_found, block_at, dead_found, found_in, made_beside, next_does, row_does, row_speaks, wrote_at}
 
 pub others_same : (key : List ℕ) (shelf : ShelfContent) → OthersStay key shelf shelf
@@ -346,6 +346,29 @@ module _ (insert_counts : InsertCounts) (remove_counts : RemoveCounts) (step : K
           wrote_is s at ∙ ap (λ (b : Bool). machine.wrote b (write_reply draft.body) its_key draft.flags draft.expiry block under now) (keeps_none e) ∙ wrote.1,
           subst (λ (n : ℕ). IsAt its_key new (record { slab = desk'.slab; next_unique = n }) wrote.0) (sym after.0) wrote.2,
         )
+
+    -- the item goes into the chunk of the key's item, where another of the class is free
+    pub item_given : has_class its_key its_found class ≡ true → draft.body ≡ Given → (old : Entry) × (its_found ≡ Some old) × (item_class its_key old ≡ class_holding (charge its_key (own_block draft.body (block_of step))))
+    item_given has given =
+        let there = class_of_found its_key its_found class has in
+        (there.0, there.1, there.2 ∙ class_charge ∙ ap (λ (l : List ℕ). class_holding (charge its_key l)) (sym (own_given draft.body given)))
+
+    pub block_given : draft.body ≡ Given → own_block draft.body (block_of step) ≡ block
+    block_given given = own_given draft.body given
+
+    pub takes_in_place : Reuses false → has_class its_key its_found class ≡ true → IsClass class → IsSlab desk.slab → out_of desk.slab class < slabs.chunks_of desk.slab class → desk.next_unique ≢ 2 ^ 64 - 1 → (own : ℕ) (new : ShelfContent)
+        → IsPut its_key own shelf new (drafted draft block desk.next_unique now) → Takes step now shelf desk (write_reply draft.body) new (record desk { next_unique = desk.next_unique + 1 })
+    takes_in_place e has is_class is free more own new puts =
+        let there = class_of_found its_key its_found class has in
+        let room : slabs.has_room desk.slab class ≡ true = room_by_free desk.slab class is_class free in
+        let back : GivesOne class (record { slab = taken desk.slab class; next_unique = desk.next_unique + 1 }) (record desk { next_unique = desk.next_unique + 1 }) = record {
+          given_is = λ i. record { slab = sym (given_taken desk.slab class is_class is.out free) i; next_unique = desk.next_unique + 1 };
+          is_class = is_class;
+          is_slab = taken_is_slab desk.slab class is_class is free;
+        } in
+        takes_anew e is_class is room more own new (record desk { next_unique = desk.next_unique + 1 }) puts
+        (subst (λ (o : Option Entry). GivesBack its_key o (record { slab = taken desk.slab class; next_unique = desk.next_unique + 1 }) (record desk { next_unique = desk.next_unique + 1 })) (sym there.1)
+        (subst (λ (k : ℕ). GivesOne k (record { slab = taken desk.slab class; next_unique = desk.next_unique + 1 }) (record desk { next_unique = desk.next_unique + 1 })) (sym there.2) back))
 
     -- no chunk is left
     pub takes_full : Reuses false → IsClass class → IsSlab desk.slab → slabs.has_room desk.slab class ≡ false → desk.next_unique ≢ 2 ^ 64 - 1 → (own : ℕ) (new : ShelfContent) (desk' : DeskState)

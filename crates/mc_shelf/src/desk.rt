@@ -2,7 +2,7 @@
 
 ghost use Rattle.std.specs.Prelude.{◌≡◌, ◌+◌, ◌-◌, ◌^◌, ◌<◌, ◌≤◌, ◌↔◌, true, false, IfOk, IfErr, OnOk, OnErr};
 ghost use Rattle.mc_slab.specs.Chunks.{IsChunkOf, chunk_class};
-ghost use Rattle.mc_slab.specs.Slabs.{IsSlab, untouched, pages_of, out_of, has_room, taken, given};
+ghost use Rattle.mc_slab.specs.Slabs.{IsSlab, untouched, pages_of, chunks_of, out_of, has_room, taken, given};
 ghost use Rattle.mc_shelf.specs.Plans.{WantsPage};
 
 use mc_command::StepFault;
@@ -94,6 +94,14 @@ impl Desk {
         let Account { pages, out } = self.slab.account(class);
         let chunks = u64::from(pages) * u64::from(class.chunks_a_page());
         u64::from(out) < chunks || 0 < self.slab.pages_left()
+    }
+
+    /// Answers whether a chunk of the class is free.
+    pub(crate) fn has_free(&self, class: Class) -> bool
+        ensures { result ≡ true → out_of self.now.slab class < chunks_of self.now.slab class }
+    {
+        let Account { pages, out } = self.slab.account(class);
+        u64::from(out) < u64::from(pages) * u64::from(class.chunks_a_page())
     }
 
     /// Answers whether a chunk of the class asks for a page: all its chunks are out, and a page is left.

@@ -1,9 +1,10 @@
 //! Writing the item of a step: in the chunk of the key's item, or in one more.
 
-ghost use Rattle.std.specs.Prelude.{◌≡◌, ◌↔◌, ◌++◌, ℕ, ◌≤◌, List, length};
+ghost use Rattle.std.specs.Prelude.{◌≡◌, ◌↔◌, ◌++◌, ℕ, ◌≤◌, ◌<◌, ◌-◌, ◌^◌, List, length};
 ghost use Rattle.std.specs.Prelude.{Option, Some, None, Err, IfOk, IfSome, OnErr, true, false};
 ghost use Rattle.std.specs.FinMap.{get};
-ghost use Rattle.mc_slab.specs.Classes.{class_holding};
+ghost use Rattle.mc_slab.specs.Classes.{IsClass, class_holding};
+ghost use Rattle.mc_slab.specs.Slabs.{chunks_of, out_of};
 ghost use Rattle.mc_slab.specs.Chunks.{chunk_class};
 ghost use Rattle.mc_command.specs.Commands.{key_of};
 ghost use Rattle.mc_command.specs.Plain.{Entry as Item, block_of, charge};
@@ -232,11 +233,62 @@ impl Shelf {
                 rest: None,
             });
         }
+        if self.overwrites(write, class, step, desk) {
+            return Ok(self.write_again(write, class, step, desk));
+        }
         let chunk = desk.take(alloc, class, page)?;
         let unique = desk.draw();
         let rest = self.put(write, unique, chunk, step, desk);
         let reply = write.draft.body.reply();
         Ok(Begun { reply, rest })
+    }
+
+    /// Answers whether the item of a write may go into the chunk of the key's item: it is one of the class, of which another
+    /// is free, and the block is the step's own.
+    fn overwrites(&self, write: &Write, class: Class, step: &KeyStep<'_>, desk: &Desk) -> bool
+        requires known { IsKnown self.now.content (key_of step.now) write.now.hash write.now.place }
+        ensures class { result ≡ true → plans.has_class (key_of step.now)
+            (get self.now.content.items (key_of step.now)) class ≡ true }
+        ensures given { result ≡ true → write.now.draft.body ≡ Body.Given }
+        ensures free { result ≡ true → out_of desk.now.slab class < chunks_of desk.now.slab class }
+    {
+        match write.draft.body {
+            Body::Given => {
+                let found = self.entry(write.place, write.hash, step.key());
+                has_class(found, class) && desk.has_free(class)
+            }
+            Body::Appended | Body::Prepended | Body::Counted(_) => false,
+        }
+    }
+
+    /// Writes the item of a step in the chunk of the key's item. To take the chunk of the class that is free, and give the
+    /// item's back, would leave the slab as it is.
+    fn write_again(
+        &mut self,
+        write: &Write,
+        class: Class,
+        step: &KeyStep<'_>,
+        desk: &mut Desk,
+    ) -> Begun
+        requires write { IsWriteOf write.now self.old.content step.now }
+        requires value { class ≡ class_holding write.now.charge }
+        requires is_class { IsClass class }
+        requires anew { reuses self.old.content.cut write.now.moment (key_of step.now)
+            (get self.old.content.items (key_of step.now)) class write.now.draft.body ≡ false }
+        requires there { plans.has_class (key_of step.now)
+            (get self.old.content.items (key_of step.now)) class ≡ true }
+        requires given { write.now.draft.body ≡ Body.Given }
+        requires free { out_of desk.old.slab class < chunks_of desk.old.slab class }
+        requires numbers { desk.old.next_unique < 2 ^ 64 - 1 }
+        ensures took { IsTaken step.now write.now.moment write.now.hash self.old.content desk.old
+            result.reply (finished result step.now self.new.content) desk.new }
+        ensures left { CanFinish result step.now self.new }
+    {
+        counts_follow();
+        let unique = desk.draw();
+        let rest = self.rewrite(write, unique, step);
+        let reply = write.draft.body.reply();
+        Begun { reply, rest }
     }
 
     /// Answers whether a write goes into the chunk of the key's item: it is one of the class, and the item is dead, or a

@@ -50,6 +50,11 @@ returns-then-reuses-clause-took c =
       hash = puts.hash;
     }
 
+pub write_again-requires-clause-anew : goal.write_again-requires-clause-anew
+write_again-requires-clause-anew c =
+    let shelf = c.args.self.now.content in
+    subst (λ (k : List ℕ). reuses shelf.cut c.args.write.now.moment k (get shelf.items k) c.class_for-class.result c.args.write.now.draft.body ≡ false) c.key.ensures (sym c.reuses.ensures ∙ c.if-reuses.false)
+
 pub drop_dead-requires-clause-out : goal.drop_dead-requires-clause-out
 drop_dead-requires-clause-out c =
     subst (λ (k : List ℕ). IsOut k c.args.self.now.content c.args.desk.now) (sym c.key-then-not-has_room.ensures)
