@@ -45,7 +45,7 @@ RESIDENT = [100_000, 400_000, 1_000_000, 4_000_000]
 VERSION = b"VERSION 1.6.0\r\n"
 REFUSED = b"SERVER_ERROR out of memory storing object\r\n"
 # what takes the steps, by how many threads, and which steps they are
-STEPPED = [("store", 1), *((over, count) for over in ("own", "same") for count in (1, 2, 4))]
+STEPPED = [("store", 1), *((over, count) for over in ("own", "side", "same") for count in (1, 2, 4))]
 MIXES = ["gets", "sets", "mixed"]
 # what a session is told in a round, of a set and a get of its key
 TOLD = b"STORED\r\nVALUE key 0 1\r\nx\r\nEND\r\n"

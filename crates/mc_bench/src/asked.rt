@@ -54,6 +54,8 @@ pub enum Over {
     Store,
     /// The shared store, a key for each thread.
     Own,
+    /// The shared store, a key for each thread, on shelves side by side.
+    Side,
     /// The shared store, one key for all threads.
     Same,
 }
@@ -116,6 +118,7 @@ fn over_of(word: &str) -> Option<Over> {
     match word {
         "store" => Some(Over::Store),
         "own" => Some(Over::Own),
+        "side" => Some(Over::Side),
         "same" => Some(Over::Same),
         _ => None,
     }

@@ -4,8 +4,9 @@
 //!   key and gets it again, which is two turns of it. All of them use one key, so that whatever the number of sessions the store is
 //!   the same. What is printed is how many bytes the sessions were told.
 //! - `mc_bench steps OVER MIX THREADS ROUNDS`: each of 1, 2 or 4 threads takes so many steps. OVER is `store`, which is that of one
-//!   thread, `own`, a shared store with a key for each thread, or `same`, with one key for all. MIX is `gets`, `sets`, or `mixed`,
-//!   nine gets to a set. What is printed is how many steps were answered as they should be.
+//!   thread, `own`, a shared store with a key for each thread, `side`, the same with keys whose shelves lie side by side, or `same`,
+//!   with one key for all. MIX is `gets`, `sets`, or `mixed`, nine gets to a set. What is printed is how many steps were answered as
+//!   they should be.
 //! - `mc_bench record SEED [CALLS]`: four callers in threads of their own make so many random calls each of one shared store, 25,000
 //!   where it isn't said. What is printed is each
 //!   call with its answer, in each caller's order.

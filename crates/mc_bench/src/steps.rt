@@ -53,14 +53,20 @@ fn filled(alloc: Global) -> Result<Store<Fnv>, AllocError> {
     };
     let mut store = Store::new(alloc, settings, Fnv)?;
     for thread in 0..4 {
-        let load = Load {
-            over: Over::Own,
-            mix: Mix::Sets,
-            rounds: 1,
-        };
-        let _ = work(&mut store, alloc, load, thread);
+        set_key(&mut store, alloc, Over::Own, thread);
+        set_key(&mut store, alloc, Over::Side, thread);
     }
     Ok(store)
+}
+
+/// Sets the key that the thread of this number has.
+fn set_key(store: &mut Store<Fnv>, alloc: Global, over: Over, thread: u8) {
+    let load = Load {
+        over,
+        mix: Mix::Sets,
+        rounds: 1,
+    };
+    let _ = work(store, alloc, load, thread);
 }
 
 /// So many threads take their steps.
@@ -154,7 +160,8 @@ fn work<S: Steps>(store: &mut S, alloc: Global, load: Load, number: u8) -> u64 {
     answered
 }
 
-/// The key of the thread of this number. Those of different threads lie on different shelves.
+/// The key of the thread of this number. Those of different threads lie on different shelves: `a` on
+/// shelf 12, `b`, `k` and `z` far from it and from each other, `Z`, `_` and `P` on 13, 14 and 15.
 fn key_of(over: Over, number: u8) -> &'static [u8]
     ensures { length result.now ≤ 250 }
 {
@@ -162,6 +169,9 @@ fn key_of(over: Over, number: u8) -> &'static [u8]
         (Over::Own, 1) => b"b",
         (Over::Own, 2) => b"k",
         (Over::Own, 3) => b"z",
+        (Over::Side, 1) => b"Z",
+        (Over::Side, 2) => b"_",
+        (Over::Side, 3) => b"P",
         _ => b"a",
     }
 }
