@@ -2,8 +2,8 @@
 use Rattle.std.proofs.Common.{◌≡◌, ℕ, ◌+◌, ◌-◌, ◌<◌, ◌≤◌, Bool, cond, List, Option, Some, None, length, get_or, sym, ap, ◌∙◌, arith, ⊎_elim}
 use Rattle.std.proofs.lemmas.Bool.{cases_eq, eq-eqb}
 use Rattle.std.specs.Int.{bit_at}
-use Rattle.mc_hop.specs.Tables.{HopState, home_in, homed}
-use Rattle.mc_displace.specs.Moves.{IsMovable}
+use Rattle.mc_hop.specs.Tables.{HopState, NoneFree, home_in, homed}
+use Rattle.mc_displace.specs.Moves.{IsMovable, IsStuck}
 use Rattle.mc_hop.specs.Contents.{content}
 
 same_Some : {X : Type 0} (x y : X) → Some x ≡ Some y → x ≡ y
@@ -42,3 +42,9 @@ pub record Brought {X : Type 0} (hash_of : X → ℕ) (key_of : X → List ℕ) 
   pub inside : free < length table.items
   pub low : home ≤ free
   pub nearer : free + turn ≤ start
+  pub filled : NoneFree first.items home start → NoneFree table.items home free
+  pub unmoved : IsStuck hash_of first.k first.items home start → (table ≡ first) × (free ≡ start)
+
+-- the buckets before the one whose entry was moved are filled as they were
+pub none_free : {X : Type 0} (old new : List (Option X)) (home free at : ℕ) → at < free → ((k : ℕ) → k < at → get_or new k None ≡ get_or old k None) → NoneFree old home free → NoneFree new home at
+none_free old new home free at before same filled k low high none = filled k low (omega (arith, before, high)) (sym (same k high) ∙ none)

@@ -1,7 +1,7 @@
 //! Brings an empty bucket near a home.
 
-ghost use Rattle.std.specs.Prelude.{◌≡◌, ◌+◌, ◌<◌, ◌≤◌, None, IfSome, IsNone, IfOk, IfErr, length};
-ghost use Rattle.mc_hop.specs.Tables.{bucket_at};
+ghost use Rattle.std.specs.Prelude.{◌≡◌, ℕ, ◌+◌, ◌<◌, ◌≤◌, None, IsOk, IsErr, IfSome, IsNone, IfOk, IfErr, length};
+ghost use Rattle.mc_hop.specs.Tables.{NoneFree, bucket_at};
 ghost use Rattle.mc_hop.specs.Contents.{content};
 ghost use Rattle.mc_displace.specs.Moves.{IsMovable, CanMove, HasHome, NoneMovable};
 ghost use Rattle.mc_displace.specs.Moves.{IsNear, IsStuck};
@@ -36,6 +36,7 @@ fn shift<T: Keyed + Drop>(hop: &mut Hop<T>, home: usize, at: usize, free: usize)
     ensures content { content T.hash_of T.key_of hop.new.items ≡
         content T.hash_of T.key_of hop.old.items }
     ensures free { bucket_at hop.new.items at ≡ None }
+    ensures before { (k : ℕ) → k < at → bucket_at hop.new.items k ≡ bucket_at hop.old.items k }
     ensures size { (hop.new.k ≡ hop.old.k) × (length hop.new.items ≡ length hop.old.items) }
 {
     let entry = hop.remove(at);
@@ -56,7 +57,10 @@ pub fn bring_near<T: Keyed + Drop>(
         content T.hash_of T.key_of hop.old.items }
     ensures size { (hop.new.k ≡ hop.old.k) × (length hop.new.items ≡ length hop.old.items) }
     ensures near { IfOk result (IsNear hop.new.items home) }
+    ensures first { NoneFree hop.old.items home free → IfErr result (NoneFree hop.new.items home) }
+    ensures near_is_ok { free ≤ home + 31 → IsOk result }
     ensures stuck { IfErr result (IsStuck T.hash_of hop.new.k hop.new.items home) }
+    ensures stuck_is_err { IsStuck T.hash_of hop.old.k hop.old.items home free → IsErr result }
 {
     let mut free = free;
     for _turn in 0..256u32 {

@@ -18,26 +18,30 @@ use Rattle.mc_grow.specs.Adding.AreAdded.{none_added}
 
 module _ {X : Type 0} (hash_of : X → ℕ) (key_of : X → List ℕ) where
   -- where no growth runs nothing moves
-  pub nothing_moved : (old new : IndexState X) → old.draining ≡ [] → old.growing ≡ false → new.k ≡ old.k → new.draining ≡ [] → new.growing ≡ false → side_of new ≡ side_of old → AreMoved hash_of key_of 0 old new
-  nothing_moved old new none rests same_k none_now rests_now same = record {
-    same_k = same_k;
+  pub nothing_moved : (old new : IndexState X) → old.draining ≡ [] → old.growing ≡ false → new ≡ old → AreMoved hash_of key_of 0 old new
+  nothing_moved old new none rests same = record {
+    same_k = ap (λ (s : IndexState X). s.k) same;
+    idle = λ _. same;
     after = side_of old;
     moved = record {
       entries = [];
       many = refl;
-      taken = ap (content hash_of key_of) (none_now ∙ sym none);
+      taken = ap (λ (s : IndexState X). content hash_of key_of s.draining) same;
       added = none_added (side_of old);
     };
-    goes_on = λ _. same;
+    goes_on = λ _. ap side_of same;
     ends = λ e _. absurd (true≢false (sym e ∙ rests));
     dropped = λ _. none_now;
-    growing = rests_now ∙ sym (ap (λ (d : List (Option X)). nat_lt 0 (filled d)) none_now);
-  }
+    growing = ap (λ (s : IndexState X). s.growing) same ∙ rests ∙ sym (ap (λ (d : List (Option X)). nat_lt 0 (filled d)) none_now);
+  } where
+    none_now : new.draining ≡ []
+    none_now = ap (λ (s : IndexState X). s.draining) same ∙ none
 
   -- the last entries were moved
-  pub moved_to_the_end : (old new : IndexState X) (n k k_then k_now : ℕ) (first drained : List (Option X)) (start side last : Side X) → ContentLaws hash_of key_of → first ≡ old.draining → k ≡ old.k → start ≡ side_of old → AreTaken hash_of key_of k n first drained start side → filled drained ≡ 0 → AreTried hash_of key_of k_then side last → k_then ≡ k → k_now ≡ k_then → new.k ≡ k_now → new.draining ≡ [] → new.growing ≡ false → side_of new ≡ last → AreMoved hash_of key_of n old new
-  moved_to_the_end old new n k k_then k_now first drained start side last laws drain kept beside taken empty tried same_then same_now new_k none_now rests_now ends = record {
+  pub moved_to_the_end : (old new : IndexState X) (n k k_then k_now : ℕ) (first drained : List (Option X)) (start side last : Side X) → ContentLaws hash_of key_of → old.growing ≡ true → first ≡ old.draining → k ≡ old.k → start ≡ side_of old → AreTaken hash_of key_of k n first drained start side → filled drained ≡ 0 → AreTried hash_of key_of k_then side last → k_then ≡ k → k_now ≡ k_then → new.k ≡ k_now → new.draining ≡ [] → new.growing ≡ false → side_of new ≡ last → AreMoved hash_of key_of n old new
+  moved_to_the_end old new n k k_then k_now first drained start side last laws runs drain kept beside taken empty tried same_then same_now new_k none_now rests_now ends = record {
     same_k = new_k ∙ same_now ∙ same_then ∙ kept;
+    idle = λ e. absurd (true≢false (sym runs ∙ e));
     after = side;
     moved = record {
       entries = taken.entries;
@@ -54,9 +58,10 @@ module _ {X : Type 0} (hash_of : X → ℕ) (key_of : X → List ℕ) where
     none_left d e l = omega (arith, ap filled e, l)
 
   -- entries were moved, and some are left
-  pub moved_some : (old new : IndexState X) (n k k_now : ℕ) (first drained : List (Option X)) (start side : Side X) → first ≡ old.draining → k ≡ old.k → start ≡ side_of old → AreTaken hash_of key_of k n first drained start side → (filled drained ≡ 0 → ⊥) → k_now ≡ k → new.k ≡ k_now → new.draining ≡ drained → new.growing ≡ true → side_of new ≡ side → AreMoved hash_of key_of n old new
-  moved_some old new n k k_now first drained start side drain kept beside taken some same_now new_k left grows is = record {
+  pub moved_some : (old new : IndexState X) (n k k_now : ℕ) (first drained : List (Option X)) (start side : Side X) → old.growing ≡ true → first ≡ old.draining → k ≡ old.k → start ≡ side_of old → AreTaken hash_of key_of k n first drained start side → (filled drained ≡ 0 → ⊥) → k_now ≡ k → new.k ≡ k_now → new.draining ≡ drained → new.growing ≡ true → side_of new ≡ side → AreMoved hash_of key_of n old new
+  moved_some old new n k k_now first drained start side runs drain kept beside taken some same_now new_k left grows is = record {
     same_k = new_k ∙ same_now ∙ kept;
+    idle = λ e. absurd (true≢false (sym runs ∙ e));
     after = side;
     moved = record {
       entries = taken.entries;

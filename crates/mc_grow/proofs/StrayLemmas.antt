@@ -14,7 +14,7 @@ use Rattle.std.specs.FinMap.{get, insert}
 use Rattle.mc_hop.specs.Tables.{AreApart, HasEntry, home_in}
 use Rattle.mc_hop.specs.Contents.{AreDisjoint, content}
 use Rattle.mc_grow.specs.Moving.{ContentLaws, HoldsAll, IsTried}
-use Rattle.mc_grow.specs.Adding.{AreAdded, AreTried, IsFull, Side, cells_of}
+use Rattle.mc_grow.specs.Adding.{AreAdded, AreTried, IsFull, NoneNear, Side, cells_of}
 use Rattle.mc_grow.specs.Adding.AreAdded.{none_added, one_added}
 use Rattle.mc_grow.proofs.MoveLemmas.{Map, same, same_key, same_self, same_Some, at_its_key, none_beside, none_before, disjoint_first, disjoint_less_second}
 
@@ -211,11 +211,11 @@ none_tried hash_of key_of k side apart = record {
   held = record { same = refl; apart = apart };
 }
 
-pub tried_put : {X : Type 0} (hash_of : X → ℕ) (key_of : X → List ℕ) (k k_now turn kept : ℕ) (start side side_now : Side X) → TriedSoFar hash_of key_of k turn kept start side → IsTried hash_of key_of k_now kept true side side_now → HoldsAll hash_of key_of (cells_of side) (cells_of side_now) → TriedSoFar hash_of key_of k (turn + 1) kept start side_now
-tried_put {X} hash_of key_of k k_now turn kept start side side_now before one held =
+pub tried_put : {X : Type 0} (hash_of : X → ℕ) (key_of : X → List ℕ) (k k_now turn kept : ℕ) (start side side_now : Side X) → TriedSoFar hash_of key_of k turn kept start side → IsTried hash_of key_of k_now kept true side side_now → k_now ≡ k → HoldsAll hash_of key_of (cells_of side) (cells_of side_now) → TriedSoFar hash_of key_of k (turn + 1) kept start side_now
+tried_put {X} hash_of key_of k k_now turn kept start side side_now before one is held =
     let x = one.entry in
-    let out = swapped_out side.strays side_now.strays kept x one.inside one.there one.outcome.1 in
-    let fewer : length side_now.strays + 1 ≡ length side.strays = ap (λ (l : List X). length l + 1) one.outcome.1 ∙ shorter side.strays kept x one.inside in
+    let out = swapped_out side.strays side_now.strays kept x one.inside one.there one.outcome.2 in
+    let fewer : length side_now.strays + 1 ≡ length side.strays = ap (λ (l : List X). length l + 1) one.outcome.2 ∙ shorter side.strays kept x one.inside in
     record {
       tried = before.tried ++ (x ∷ []);
       each = IsPermutation-trans start.strays (before.tried ++ drop kept side.strays) ((before.tried ++ (x ∷ [])) ++ drop kept side_now.strays) before.each
@@ -224,7 +224,11 @@ tried_put {X} hash_of key_of k k_now turn kept start side side_now before one he
       many = omega (arith, before.many, fewer, one.inside);
       inside = omega (arith, fewer, one.inside);
       added = one_added before.tried x (record start { strays = [] }) (record side { strays = take kept side.strays }) (record side_now { strays = take kept side_now.strays }) before.added
-          (inl (record { placed = one.outcome.0; strays = out.0 }));
+          (inl (record {
+            had = subst (λ (n : ℕ). IsFull hash_of n side.items (home_in n (hash_of x)) → ⊥) is one.outcome.1;
+            placed = one.outcome.0;
+            strays = out.0;
+          }));
       held = record { same = held.same ∙ before.held.same; apart = held.apart };
     } where
       shorter : (xs : List X) (at : ℕ) (y : X) → at < length xs → length (swap_remove xs at y) + 1 ≡ length xs
@@ -233,7 +237,7 @@ tried_put {X} hash_of key_of k k_now turn kept start side side_now before one he
 pub tried_kept : {X : Type 0} (hash_of : X → ℕ) (key_of : X → List ℕ) (k k_now turn kept : ℕ) (start side side_now : Side X) → TriedSoFar hash_of key_of k turn kept start side → IsTried hash_of key_of k_now kept false side side_now → k_now ≡ k → HoldsAll hash_of key_of (cells_of side) (cells_of side_now) → TriedSoFar hash_of key_of k (turn + 1) (kept + 1) start side_now
 tried_kept {X} hash_of key_of k k_now turn kept start side side_now before one is held =
     let x = one.entry in
-    let stays : side_now.strays ≡ side.strays = one.outcome.2 in
+    let stays : side_now.strays ≡ side.strays = one.outcome.3 in
     let front : drop kept side.strays ≡ x ∷ drop (kept + 1) side.strays = drop-cons side.strays kept x one.inside ∙ ap (λ (y : X). y ∷ drop (suc kept) side.strays) (sym one.there) ∙ ap (λ (n : ℕ). x ∷ drop n side.strays) (add-one kept) in
     let taken : take (kept + 1) side.strays ≡ take kept side.strays ++ (x ∷ []) = ap (λ (n : ℕ). take n side.strays) (sym (add-one kept)) ∙ take-suc side.strays kept x one.inside ∙ ap (λ (y : X). take kept side.strays ++ (y ∷ [])) (sym one.there) in
     record {
@@ -244,8 +248,9 @@ tried_kept {X} hash_of key_of k k_now turn kept start side side_now before one i
       inside = omega (arith, ap length stays, one.inside);
       added = one_added before.tried x (record start { strays = [] }) (record side { strays = take kept side.strays }) (record side_now { strays = take (kept + 1) side_now.strays }) before.added
           (inr (record {
+            none_near = subst (λ (n : ℕ). NoneNear side.items (home_in n (hash_of x))) is one.outcome.1;
             same = one.outcome.0;
-            full = subst (λ (n : ℕ). IsFull hash_of n side_now.items (home_in n (hash_of x))) is one.outcome.1;
+            full = subst (λ (n : ℕ). IsFull hash_of n side_now.items (home_in n (hash_of x))) is one.outcome.2;
             strays = ap (take (kept + 1)) stays ∙ taken;
           }));
       held = record { same = held.same ∙ before.held.same; apart = held.apart };
@@ -263,6 +268,6 @@ all_tried {X} hash_of key_of k turn kept start side so_far done =
 
 pub tried_more : {X : Type 0} (hash_of : X → ℕ) (key_of : X → List ℕ) (k k_now turn kept kept_now : ℕ) (put : Bool) (start side side_now : Side X) → TriedSoFar hash_of key_of k turn kept start side → IsTried hash_of key_of k_now kept put side side_now → k_now ≡ k → HoldsAll hash_of key_of (cells_of side) (cells_of side_now) → (put ≡ true → kept_now ≡ kept) → (put ≡ false → kept_now ≡ kept + 1) → TriedSoFar hash_of key_of k (turn + 1) kept_now start side_now
 tried_more hash_of key_of k k_now turn kept kept_now true start side side_now before one is held goes stays =
-    subst (λ (n : ℕ). TriedSoFar hash_of key_of k (turn + 1) n start side_now) (sym (goes refl)) (tried_put hash_of key_of k k_now turn kept start side side_now before one held)
+    subst (λ (n : ℕ). TriedSoFar hash_of key_of k (turn + 1) n start side_now) (sym (goes refl)) (tried_put hash_of key_of k k_now turn kept start side side_now before one is held)
 tried_more hash_of key_of k k_now turn kept kept_now false start side side_now before one is held goes stays =
     subst (λ (n : ℕ). TriedSoFar hash_of key_of k (turn + 1) n start side_now) (sym (stays refl)) (tried_kept hash_of key_of k k_now turn kept start side side_now before one is held)

@@ -6,7 +6,7 @@ use Rattle.std.specs.Option.{option_or}
 use Rattle.mc_hop.specs.Cells.{filled}
 use Rattle.mc_hop.specs.Contents.{AreDisjoint, content}
 use Rattle.mc_hop.specs.Tables.{AreApart, HasEntry, IsAbsent, home_in}
-use Rattle.mc_grow.specs.Adding.{IsAdded, IsFull, Side}
+use Rattle.mc_grow.specs.Adding.{IsAdded, IsFull, NoneNear, Side}
 
 -- the laws of the content of buckets that moves want, as `mc_hop` says them
 pub record ContentLaws {X : Type 0} (hash_of : X → ℕ) (key_of : X → List ℕ) : Type 0 where
@@ -36,15 +36,15 @@ pub record IsTaken {X : Type 0} (hash_of : X → ℕ) (key_of : X → List ℕ) 
   pub taken : content hash_of key_of drained_old ≡ insert (content hash_of key_of drained_new) (hash_of entry ∷ key_of entry) entry
   pub added : IsAdded hash_of key_of k entry old new
 
--- what a try of a stray brings: the stray goes to the table, and the last stray takes its place, or it stays, as no bucket
--- can be had near its home
+-- what a try of a stray brings: the stray goes to the table, where a bucket could be had near its home, and the last stray takes its
+-- place, or it stays, as no bucket was near and none can be had
 abbrev pub IsOutcome : {X : Type 0} → (X → ℕ) → (X → List ℕ) → ℕ → (at : ℕ) → X → Bool → (old new : Side X) → Type 0
 IsOutcome hash_of key_of k at entry true old new =
     (content hash_of key_of new.items ≡ insert (content hash_of key_of old.items) (hash_of entry ∷ key_of entry) entry)
-    × (new.strays ≡ swap_remove old.strays at entry)
+    × (IsFull hash_of k old.items (home_in k (hash_of entry)) → ⊥) × (new.strays ≡ swap_remove old.strays at entry)
 IsOutcome hash_of key_of k at entry false old new =
     (content hash_of key_of new.items ≡ content hash_of key_of old.items)
-    × IsFull hash_of k new.items (home_in k (hash_of entry)) × (new.strays ≡ old.strays)
+    × NoneNear old.items (home_in k (hash_of entry)) × IsFull hash_of k new.items (home_in k (hash_of entry)) × (new.strays ≡ old.strays)
 
 -- the stray of that number was tried
 pub record IsTried {X : Type 0} (hash_of : X → ℕ) (key_of : X → List ℕ) (k at : ℕ) (put : Bool) (old new : Side X) : Type 0 where

@@ -1,10 +1,10 @@
 //! Adds an entry to one table.
 
-ghost use Rattle.std.specs.Prelude.{◌≡◌, ℕ, ◌^◌, ◌<◌, ◌∷◌, Some, None, IfOk, IfErr, length, slice_index_or};
+ghost use Rattle.std.specs.Prelude.{◌≡◌, ℕ, ◌^◌, ◌<◌, ◌∷◌, Some, None, IfOk, IfErr, IsErr, length, slice_index_or};
 ghost use Rattle.std.specs.FinMap.{insert};
 ghost use Rattle.mc_hop.specs.Contents.{content};
 ghost use Rattle.mc_hop.specs.Tables.{IsAbsent, IsAt, home_in};
-ghost use Rattle.mc_grow.specs.Adding.{IsFull};
+ghost use Rattle.mc_grow.specs.Adding.{IsFull, NoneNear};
 
 use mc_displace::bring_near;
 use mc_hop::{Hop, Keyed, content_has_each_entry};
@@ -20,6 +20,10 @@ pub(crate) fn add<T: Keyed + Drop>(table: &mut Hop<T>, entry: T) -> Result<usize
         (T.hash_of entry ∷ T.key_of entry) entry) }
     ensures place { IfOk result (λ at.
         slice_index_or table.new.items at None ≡ Some entry) }
+    ensures had { IsFull T.hash_of table.old.k table.old.items
+        (home_in table.old.k (T.hash_of entry)) → IsErr result }
+    ensures near { IfErr result (λ _.
+        NoneNear table.old.items (home_in table.old.k (T.hash_of entry))) }
     ensures inside { IfOk result (λ at. at < 2 ^ 25) }
     ensures full { IfErr result (λ back. (back ≡ entry)
         × (content T.hash_of T.key_of table.new.items ≡ content T.hash_of T.key_of table.old.items)

@@ -17,6 +17,7 @@ returns-in-Ok-clause-content g c =
 pub returns-clause-added : goal.returns-clause-added
 returns-clause-added g c =
     inr (record {
+      none_near = c.in-Err.ensures.near;
       same = c.in-Err.ensures.full.1;
       full = subst (λ (k : ℕ). IsFull g.T.Keyed.hash_of k c.add.new.table.items (home_in k (g.T.Keyed.hash_of c.args.entry))) c.add.ensures.size.0 c.in-Err.ensures.full.2;
       strays = c.push_reserved.ensures.items ∙ ap (λ (e : g.row.T.Denot). c.args.strays.now.items ++ (e ∷ [])) c.in-Err.ensures.full.0;

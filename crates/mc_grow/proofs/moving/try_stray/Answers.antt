@@ -1,4 +1,4 @@
-use Rattle.std.proofs.Common.{◌≡◌, ◌<◌, ◌++◌, length, map, Some, ℕ, List, subst, sym, arith}
+use Rattle.std.proofs.Common.{true≢false, ◌≡◌, ◌<◌, ◌++◌, length, map, Some, ℕ, List, subst, sym, arith}
 use Rattle.mc_hop.specs.Links.{IsSwapped}
 use Rattle.mc_hop.specs.Tables.{home_in}
 use Rattle.mc_grow.specs.Adding.{IsFull}
@@ -18,7 +18,7 @@ returns-in-Ok-clause-tried g c = record {
   entry = c.swap_remove-entry.result;
   inside = omega (arith, c.requires.inside, c.args.strays.now.ok.0);
   there = c.swap_remove-entry.ensures.value;
-  outcome = (c.in-Ok.ensures.put, c.swap_remove-entry.ensures.items);
+  outcome = (c.in-Ok.ensures.put, (λ full. true≢false (sym (c.in-Ok.ensures.had full))), c.swap_remove-entry.ensures.items);
 }
 
 pub returns-in-Ok-clause-content : goal.returns-in-Ok-clause-content
@@ -37,6 +37,7 @@ returns-clause-tried g c =
       there = c.swap_remove-entry.ensures.value;
       outcome = (
         c.in-Err.ensures.full.1,
+        c.in-Err.ensures.near,
         subst (λ (k : ℕ). IsFull g.T.Keyed.hash_of k c.add.new.table.items (home_in k (g.T.Keyed.hash_of c.swap_remove-entry.result))) c.add.ensures.size.0 c.in-Err.ensures.full.2,
         c.put_back.ensures.items c.args.strays.now.items inside (same_read c.args.strays.now.items c.args.at _ _ same c.swap_remove-entry.ensures.value) out,
       );

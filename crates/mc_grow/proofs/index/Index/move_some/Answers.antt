@@ -1,5 +1,6 @@
-use Rattle.std.proofs.Common.{◌≡◌, true, ap, subst, sym, refl, is_some, ◌∙◌, arith}
-use Rattle.mc_hop.specs.Tables.{AreApart}
+use Rattle.std.proofs.Common.{◌≡◌, ◌+◌, ◌-◌, Option, vec_len, vec_capacity, true, ap, subst, sym, refl, is_some, ◌∙◌, arith}
+use Rattle.mc_hop.specs.Cells.{filled}
+use Rattle.mc_hop.specs.Tables.{AreApart, HopState}
 use Rattle.mc_grow.specs.Adding.{beside, cells_of, side_of}
 use Rattle.mc_grow.specs.Indexes.{IndexState, cells}
 use Rattle.mc_grow.specs.Parts.{drained_items}
@@ -9,11 +10,20 @@ use Rattle.mc_grow.proofs.index.Index.move_some.Goals.{in-Some-1, in-None-1}
 
 pub returns-in_default-clause-moves : goal.returns-in_default-clause-moves
 returns-in_default-clause-moves g c =
+    let i = c.self.inside in
+    let seen : Option (HopState g.row.T.Denot) → IndexState g.row.T.Denot =
+    λ d. record {
+      k = i.table.k;
+      draining = drained_items d;
+      table = i.table.items;
+      strays = i.strays.items;
+      growing = is_some d;
+      spare = vec_capacity i.strays - (vec_len i.strays + filled (drained_items d));
+    } in
     nothing_moved g.T.Keyed.hash_of g.T.Keyed.key_of c.args.self.now _
     (sym (ap drained_items c.in_default.ensures.value ∙ ap (λ (s : IndexState g.row.T.Denot). s.draining) c.self.view_is))
     (sym (ap is_some c.in_default.ensures.value ∙ ap (λ (s : IndexState g.row.T.Denot). s.growing) c.self.view_is))
-    (ap (λ (s : IndexState g.row.T.Denot). s.k) c.self.view_is) (ap drained_items c.take.ensures.after) (ap is_some c.take.ensures.after)
-    (ap side_of c.self.view_is)
+    (ap seen (c.take.ensures.after ∙ c.in_default.ensures.value) ∙ c.self.view_is)
 
 pub try_strays-requires : goal.try_strays-requires
 try_strays-requires g c = record {
@@ -25,6 +35,7 @@ returns-then-len-eq0-clause-moves g c =
     moved_to_the_end g.T.Keyed.hash_of g.T.Keyed.key_of c.args.self.now _ c.move_entries-moved.result c.self.inside.table.k c.move_entries-moved.new.table.k c.try_strays.new.table.k
     c.in-Some.draining.items c.move_entries-moved.new.draining.items (beside c.self.inside.table c.self.inside.strays.items) (beside c.move_entries-moved.new.table c.move_entries-moved.new.strays.items) (beside c.try_strays.new.table c.try_strays.new.strays.items)
     c.content_laws.ensures
+    (sym (ap is_some c.in-Some.ensures.value ∙ ap (λ (s : IndexState g.row.T.Denot). s.growing) c.self.view_is))
     (ap drained_items c.in-Some.ensures.value ∙ ap (λ (s : IndexState g.row.T.Denot). s.draining) c.self.view_is)
     (ap (λ (s : IndexState g.row.T.Denot). s.k) c.self.view_is) (ap side_of c.self.view_is)
     c.move_entries-moved.ensures.taken (omega (arith, c.len.ensures, c.if-len-eq0.true)) c.try_strays.ensures.tried c.move_entries-moved.ensures.k c.try_strays.ensures.k
@@ -39,6 +50,7 @@ returns-else-len-eq0-clause-moves g c =
     ] in
     moved_some g.T.Keyed.hash_of g.T.Keyed.key_of c.args.self.now c.match-self.self c.move_entries-moved.result c.self.inside.table.k c.move_entries-moved.new.table.k
     c.in-Some.draining.items c.move_entries-moved.new.draining.items (beside c.self.inside.table c.self.inside.strays.items) (beside c.move_entries-moved.new.table c.move_entries-moved.new.strays.items)
+    (sym (ap is_some c.in-Some.ensures.value ∙ ap (λ (s : IndexState g.row.T.Denot). s.growing) c.self.view_is))
     (ap drained_items c.in-Some.ensures.value ∙ ap (λ (s : IndexState g.row.T.Denot). s.draining) c.self.view_is)
     (ap (λ (s : IndexState g.row.T.Denot). s.k) c.self.view_is) (ap side_of c.self.view_is)
     c.move_entries-moved.ensures.taken (λ e. omega (arith, c.len.ensures, c.if-len-eq0.false, e)) c.move_entries-moved.ensures.k
