@@ -1,5 +1,5 @@
 -- The numbers of buckets and the places of values: what putting and taking a value changes.
-use Rattle.std.proofs.Common.{◌≡◌, ◌≢◌, ℕ, zero, suc, ◌+◌, ◌-◌, ◌<◌, ◌≤◌, ◌^◌, Bool, true, cond, List, [], ◌∷◌, ◌++◌, Option, Some, None, is_some, true≢false, replicate, map, length, length-set, length-append, get_or, set, refl, sym, ap, subst, ◌∙◌, arith, ⊎_elim}
+use Rattle.std.proofs.Common.{◌≡◌, ◌≢◌, ℕ, zero, suc, ◌+◌, ◌-◌, ◌<◌, ◌≤◌, ◌^◌, ◌*◌, ◌%◌, Bool, true, cond, List, [], ◌∷◌, ◌++◌, Option, Some, None, is_some, true≢false, replicate, map, length, length-set, length-append, get_or, set, refl, sym, ap, subst, ◌∙◌, arith, ⊎_elim}
 use Rattle.std.proofs.lemmas.Bool.{cases_eq, cases_lt, lt-ltb, le-ltb}
 use Rattle.std.proofs.lemmas.Option.{none-some, slice_get_read, get_or_from_slice_get}
 use Rattle.std.proofs.Math.Seq.{get_or-append_seam}
@@ -7,7 +7,11 @@ use Rattle.std.proofs.lemmas.List.{length-replicate, get_or_past, map-set, get_o
 use Rattle.std.specs.Prelude.{slice_get}
 use Rattle.mc_hop.specs.Cells.{CellsState, filled}
 use Rattle.mc_hop.specs.declared.cells.Cell.{Cell}
-use Rattle.mc_hop.specs.Links.{ats_of, words_of, IsLinked, IsSwapped, item_of, renumbered, used}
+use Rattle.mc_hop.specs.Links.{ats_of, tags_of, words_of, IsLinked, IsSwapped, item_of, renumbered, used}
+
+-- the number below a tag is read back
+pub number_above : (tag number : ℕ) → number < 2 ^ 25 → (tag * 2 ^ 25 + number) % 2 ^ 25 ≡ number
+number_above tag number small = omega (arith, small)
 
 -- a value stands at each place below the length
 stands : {X : Type 0} (xs : List X) (i : ℕ) → i < length xs → slice_get xs i ≡ None → ⊥
@@ -115,7 +119,7 @@ module _ {X : Type 0} (ats : List ℕ) (items : List X) (places : List ℕ) (ite
     count = used-fill ats at (length items) l e ∙ ap (λ (n : ℕ). n + 1) links.count ∙ sym longer;
     room = subst (λ (n : ℕ). n ≤ item_room) (sym same) links.room;
     more = subst (λ (n : ℕ). n ≤ place_room) (sym same) links.more;
-    small = subst (λ (n : ℕ). n < 2 ^ 32 - 1) (sym same) links.small;
+    small = subst (λ (n : ℕ). n < 2 ^ 25 - 1) (sym same) links.small;
   } where
     new : List ℕ
     new = set ats at (suc (length items))
@@ -274,7 +278,7 @@ module _ {X : Type 0} (ats : List ℕ) (items : List X) (places : List ℕ) (ite
     count = omega (arith, count_now, links.count, places_swapped.shorter);
     room = subst (λ (n : ℕ). n ≤ item_room) (sym same_length) links.room;
     more = subst (λ (n : ℕ). n ≤ place_room) (sym same_length) links.more;
-    small = subst (λ (n : ℕ). n < 2 ^ 32 - 1) (sym same_length) links.small;
+    small = subst (λ (n : ℕ). n < 2 ^ 25 - 1) (sym same_length) links.small;
   } where
     case_of : (b : ℕ) → (get_or now b 0 ≤ length places_new) × (0 < get_or now b 0 → get_or places_new (get_or now b 0 - 1) 0 ≡ b)
     case_of b =
@@ -332,20 +336,23 @@ module _ {X : Type 0} (ats : List ℕ) (items : List X) (places : List ℕ) (ite
 
 -- ---- the same as the code shows it
 
-pub same_state : {X : Type 0} {words words_to : List ℕ} {items items_to : List (Option X)} → words ≡ words_to → items ≡ items_to → ◌≡◌ {A = CellsState X} (record { words = words; items = items }) (record { words = words_to; items = items_to })
-same_state p q = λ k. record { words = p k; items = q k }
+pub same_state : {X : Type 0} {words words_to tags tags_to : List ℕ} {items items_to : List (Option X)} → words ≡ words_to → tags ≡ tags_to → items ≡ items_to → ◌≡◌ {A = CellsState X} (record { words = words; tags = tags; items = items }) (record { words = words_to; tags = tags_to; items = items_to })
+same_state p q r = λ k. record { words = p k; tags = q k; items = r k }
 
-pub seen_items : {X : Type 0} {words : List ℕ} {items : List (Option X)} {s : CellsState X} → ◌≡◌ {A = CellsState X} (record { words = words; items = items }) s → items ≡ s.items
+pub seen_items : {X : Type 0} {words tags : List ℕ} {items : List (Option X)} {s : CellsState X} → ◌≡◌ {A = CellsState X} (record { words = words; tags = tags; items = items }) s → items ≡ s.items
 seen_items {X} e = ap (λ (s : CellsState X). s.items) e
 
-pub seen_words : {X : Type 0} {words : List ℕ} {items : List (Option X)} {s : CellsState X} → ◌≡◌ {A = CellsState X} (record { words = words; items = items }) s → words ≡ s.words
+pub seen_words : {X : Type 0} {words tags : List ℕ} {items : List (Option X)} {s : CellsState X} → ◌≡◌ {A = CellsState X} (record { words = words; tags = tags; items = items }) s → words ≡ s.words
 seen_words {X} e = ap (λ (s : CellsState X). s.words) e
+
+pub seen_tags : {X : Type 0} {words tags : List ℕ} {items : List (Option X)} {s : CellsState X} → ◌≡◌ {A = CellsState X} (record { words = words; tags = tags; items = items }) s → tags ≡ s.tags
+seen_tags {X} e = ap (λ (s : CellsState X). s.tags) e
 
 pub inside_by : {X : Type 0} (ats : List ℕ) (items : List X) (old : List (Option X)) (at : ℕ) → map (item_of items) ats ≡ old → at < length old → at < length ats
 inside_by ats items old at e l = subst (λ (n : ℕ). at < n) (sym (ap length e) ∙ length-map ats (item_of items)) l
 
 module _ {X : Type 0} (ats : List ℕ) (items : List X) (places : List ℕ) (item_room place_room : ℕ) (links : IsLinked ats items places item_room place_room) (old : List (Option X)) (at : ℕ) where
-  pub put_room : map (item_of items) ats ≡ old → at < length old → get_or old at None ≡ None → (length items < item_room) × ((length places < place_room) × (length items + 1 < 2 ^ 32))
+  pub put_room : map (item_of items) ats ≡ old → at < length old → get_or old at None ≡ None → (length items < item_room) × ((length places < place_room) × (length items + 1 < 2 ^ 25))
   put_room e l empty =
       let below = some_room ats items places item_room place_room links at (inside_by ats items old at e l) (ap (λ (os : List (Option X)). get_or os at None) e ∙ empty) in
       (omega (arith, below, links.room), (omega (arith, below, links.more, links.same_length), omega (arith, below, links.small)))
@@ -376,7 +383,7 @@ module _ {X : Type 0} (ats : List ℕ) (items : List X) (places : List ℕ) (ite
       absurd (true≢false (sym some ∙ ap (λ (os : List (Option X)). is_some (get_or os at None)) (sym e) ∙ ap is_some (get_or_past (map (item_of items) ats) at None (subst (λ (n : ℕ). n ≤ at) (sym (length-map ats (item_of items))) g)))))
       (cases_lt at (length ats))
 
-  pub take_small : map (item_of items) ats ≡ old → is_some (get_or old at None) ≡ true → length places < 2 ^ 32 - 1
+  pub take_small : map (item_of items) ats ≡ old → is_some (get_or old at None) ≡ true → length places < 2 ^ 25 - 1
   take_small e some = omega (arith, used-le ats, links.count, links.small)
 
   pub take_linked : {p number item_room_new place_room_new : ℕ} {items_new : List X} {places_new ats_cleared ats_new : List ℕ} → map (item_of items) ats ≡ old → is_some (get_or old at None) ≡ true → number ≡ get_or ats at 0 → p ≡ number - 1 → IsSwapped items items_new p → IsSwapped places places_new p → ats_cleared ≡ set ats at 0 → ats_new ≡ renumbered ats_cleared places_new p → item_room_new ≡ item_room → place_room_new ≡ place_room → IsLinked ats_new items_new places_new item_room_new place_room_new
@@ -426,7 +433,7 @@ zero_there zero b = refl
 zero_there (suc n) zero = refl
 zero_there (suc n) (suc b) = zero_there n b
 
-pub IsLinked-none : {X : Type 0} (n : ℕ) {items : List X} {places ats : List ℕ} {item_room place_room : ℕ} → ats ≡ replicate n 0 → items ≡ [] → places ≡ [] → n ≤ item_room → n ≤ place_room → n < 2 ^ 32 - 1 → IsLinked ats items places item_room place_room
+pub IsLinked-none : {X : Type 0} (n : ℕ) {items : List X} {places ats : List ℕ} {item_room place_room : ℕ} → ats ≡ replicate n 0 → items ≡ [] → places ≡ [] → n ≤ item_room → n ≤ place_room → n < 2 ^ 25 - 1 → IsLinked ats items places item_room place_room
 IsLinked-none n {item_room = item_room} {place_room = place_room} as_are is ps ir pr small = rw (as_are, is, ps) (record {
   same_length = refl;
   inside = λ i l. absurd (omega (arith, l));
@@ -436,7 +443,7 @@ IsLinked-none n {item_room = item_room} {place_room = place_room} as_are is ps i
   count = used-none n;
   room = subst (λ (m : ℕ). m ≤ item_room) (sym (length-replicate n 0)) ir;
   more = subst (λ (m : ℕ). m ≤ place_room) (sym (length-replicate n 0)) pr;
-  small = subst (λ (m : ℕ). m < 2 ^ 32 - 1) (sym (length-replicate n 0)) small;
+  small = subst (λ (m : ℕ). m < 2 ^ 25 - 1) (sym (length-replicate n 0)) small;
 })
 
 pub items-none : {X : Type 0} (n : ℕ) {items : List X} {ats : List ℕ} → ats ≡ replicate n 0 → items ≡ [] → map (item_of items) ats ≡ replicate n None
@@ -453,6 +460,12 @@ no_words n cells e = ap words_of e ∙ words n where
   words : (n : ℕ) → words_of (replicate n (record { word = 0; at = 0 })) ≡ replicate n 0
   words zero = refl
   words (suc n) = ap (λ (l : List ℕ). 0 ∷ l) (words n)
+
+pub no_tags : (n : ℕ) (cells : List Cell) → cells ≡ replicate n (record { word = 0; at = 0 }) → tags_of cells ≡ replicate n 0
+no_tags n cells e = ap tags_of e ∙ tags n where
+  tags : (n : ℕ) → tags_of (replicate n (record { word = 0; at = 0 })) ≡ replicate n 0
+  tags zero = refl
+  tags (suc n) = ap (λ (l : List ℕ). 0 ∷ l) (tags n)
 
 -- the bucket of a place has a value
 pub filled_at_place : {X : Type 0} (ats : List ℕ) (items : List X) (places : List ℕ) (item_room place_room : ℕ) → IsLinked ats items places item_room place_room → (old : List (Option X)) → map (item_of items) ats ≡ old → (i at : ℕ) → i < length places → at ≡ get_or places i 0 → is_some (get_or old at None) ≡ true

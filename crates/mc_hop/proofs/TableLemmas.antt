@@ -6,7 +6,8 @@ use Rattle.std.proofs.lemmas.List.{length-replicate, get_or-set_same, get_or-set
 use Rattle.std.proofs.lemmas.Nat.{mod_below, pow_pos}
 use Rattle.std.proofs.lemmas.Nat.Bits.{bit_at-zero}
 use Rattle.std.specs.Int.{bit_at}
-use Rattle.mc_hop.specs.Tables.{HopState, IsAt, IsAbsent, IsTable, home_in, homed}
+use Rattle.mc_hop.specs.Cells.{CellsState, empty_cells}
+use Rattle.mc_hop.specs.Tables.{HopState, IsAt, IsAbsent, IsTable, IsTagged, home_in, homed, tag_in}
 
 pub same_Some : {A : Type 0} (x y : A) → Some x ≡ Some y → x ≡ y
 same_Some x y e = cc
@@ -187,6 +188,10 @@ inside_by {X} hash_of key_of s k words items home at hash seen table is high =
     let below : home < 2 ^ k = subst (λ (n : ℕ). n < 2 ^ k) (sym (is ∙ ap (λ (n : ℕ). home_in n hash) (sym k_is))) (home_below k hash) in
     subst (λ (n : ℕ). at < n) (sym (ap length (sym items_are) ∙ table.items_length)) (omega (arith, below, high))
 
+pub inside_of : {X : Type 0} (hash_of : X → ℕ) (key_of : X → List ℕ) (s : HopState X) (k : ℕ) (words : List ℕ) (items : List (Option X)) (home at hash : ℕ) → record { k = k; items = items } ≡ s → IsTable hash_of key_of k words items → home ≡ home_in s.k hash → at ≤ home + 31 → at < length items
+inside_of {X} hash_of key_of s k words items home at hash seen table is high =
+    subst (λ (t : HopState X). at < length t.items) (sym seen) (inside_by hash_of key_of s k words items home at hash seen table is high)
+
 -- no other bucket has the key of an entry
 pub alone : {X : Type 0} (hash_of : X → ℕ) (key_of : X → List ℕ) (k : ℕ) (words : List ℕ) (items : List (Option X)) → IsTable hash_of key_of k words items → (at : ℕ) (x : X) → get_or items at None ≡ Some x → (other : ℕ) (y : X) → get_or items other None ≡ Some y → hash_of y ≡ hash_of x → key_of y ≡ key_of x → other ≡ at
 alone hash_of key_of k words items table at x there other y elsewhere hashes keys = table.apart other at y x elsewhere there hashes keys
@@ -236,3 +241,44 @@ IsTable-over {X} hash_of key_of k words items at x y table there same_hash same_
       (x, ap (λ (n : ℕ). get_or items n None) e ∙ there, sym same_hash ∙ ap hash_of is, sym same_keys ∙ ap key_of is))
       (λ (n : p ≡ at → ⊥). (z, sym (get_or-set_other items at p (Some y) None n) ∙ got, refl, refl))
       (cases_eq p at)
+
+-- the same with tags: an entry put, or put in the place of another, one taken out, and a table with no entry
+module _ {X : Type 0} (hash_of : X → ℕ) (key_of : X → List ℕ) (k : ℕ) (cells : CellsState X) (before : IsTagged hash_of key_of k cells) (at : ℕ) (inside : at < length cells.items) where
+  pub IsTagged-put : (words : List ℕ) (x : X) (tag : ℕ) → tag ≡ tag_in (hash_of x) → IsTable hash_of key_of k words (set cells.items at (Some x))
+      → IsTagged hash_of key_of k (record { words = words; tags = set cells.tags at tag; items = set cells.items at (Some x) })
+  IsTagged-put words x tag is table = record {
+    table = table;
+    tags_length = length-set cells.tags at tag ∙ before.tags_length ∙ sym (length-set cells.items at (Some x));
+    tagged = λ p y there.
+        ⊎_elim
+        (λ (e : p ≡ at).
+        let same : x ≡ y = same_Some x y (sym (get_or-set_same cells.items at (Some x) None inside) ∙ ap (λ (n : ℕ). get_or (set cells.items at (Some x)) n None) (sym e) ∙ there) in
+        ap (λ (n : ℕ). get_or (set cells.tags at tag) n 0) e
+        ∙ get_or-set_same cells.tags at tag 0 (subst (λ (n : ℕ). at < n) (sym before.tags_length) inside)
+        ∙ is ∙ ap (λ (z : X). tag_in (hash_of z)) same)
+        (λ (n : p ≡ at → ⊥). get_or-set_other cells.tags at p tag 0 n ∙ before.tagged p y (sym (get_or-set_other cells.items at p (Some x) None n) ∙ there))
+        (cases_eq p at);
+  }
+
+  pub IsTagged-remove : (words : List ℕ) → IsTable hash_of key_of k words (set cells.items at None)
+      → IsTagged hash_of key_of k (record { words = words; tags = cells.tags; items = set cells.items at None })
+  IsTagged-remove words table = record {
+    table = table;
+    tags_length = before.tags_length ∙ sym (length-set cells.items at None);
+    tagged = λ p y there.
+        ⊎_elim
+        (λ (e : p ≡ at). absurd (none-some y (sym (get_or-set_same cells.items at None None inside) ∙ ap (λ (n : ℕ). get_or (set cells.items at None) n None) (sym e) ∙ there)))
+        (λ (n : p ≡ at → ⊥). before.tagged p y (sym (get_or-set_other cells.items at p None None n) ∙ there))
+        (cases_eq p at);
+  }
+
+pub IsTagged-none : {X : Type 0} (hash_of : X → ℕ) (key_of : X → List ℕ) (k : ℕ) → 6 ≤ k → k ≤ 24 → (n : ℕ) → n ≡ 2 ^ k + 255 → IsTagged {X = X} hash_of key_of k (empty_cells n)
+IsTagged-none {X} hash_of key_of k least most n is = record {
+  table = IsTable-none hash_of key_of k least most n is;
+  tags_length = length-replicate n 0 ∙ sym (length-replicate n None);
+  tagged = λ at x there. absurd (none-some x (sym (none n at) ∙ there));
+} where
+  none : (n at : ℕ) → get_or {A = Option X} (replicate n None) at None ≡ None
+  none zero at = refl
+  none (suc n) zero = refl
+  none (suc n) (suc at) = none n at

@@ -1,13 +1,16 @@
 -- How the buckets and the list of values point to each other.
-use Rattle.std.specs.Prelude.{◌≡◌, ◌≢◌, nat_lt, if◌then◌else◌, slice_set, ℕ, zero, suc, ◌+◌, ◌-◌, ◌<◌, ◌≤◌, ◌^◌, List, [], ◌∷◌, Option, None, map, length, slice_get, slice_index_or}
+use Rattle.std.specs.Prelude.{◌≡◌, ◌≢◌, nat_lt, if◌then◌else◌, slice_set, ℕ, zero, suc, ◌+◌, ◌-◌, ◌<◌, ◌≤◌, ◌^◌, ◌/◌, ◌%◌, List, [], ◌∷◌, Option, None, map, length, slice_get, slice_index_or}
 use Rattle.mc_hop.specs.declared.cells.Cell.{Cell}
 
--- the words of buckets, and their numbers: one more than the place of the value, or 0
+-- the words of buckets, their numbers: one more than the place of the value, or 0, and their tags
 abbrev pub words_of : List Cell → List ℕ
 words_of cells = map (λ cell. cell.word) cells
 
 abbrev pub ats_of : List Cell → List ℕ
-ats_of cells = map (λ cell. cell.at) cells
+ats_of cells = map (λ cell. cell.at % 2 ^ 25) cells
+
+abbrev pub tags_of : List Cell → List ℕ
+tags_of cells = map (λ cell. cell.at / 2 ^ 25) cells
 
 -- the value that a number stands for
 abbrev pub item_of : {X : Type 0} → List X → ℕ → Option X
@@ -32,7 +35,7 @@ pub record IsLinked {X : Type 0} (ats : List ℕ) (items : List X) (places : Lis
   pub count : used ats ≡ length places
   pub room : length ats ≤ item_room
   pub more : length ats ≤ place_room
-  pub small : length ats < 2 ^ 32 - 1
+  pub small : length ats < 2 ^ 25 - 1
 
 -- the numbers once the value at the last place stands at another one, unless that was the last
 abbrev pub renumbered : List ℕ → List ℕ → ℕ → List ℕ

@@ -2,13 +2,16 @@
 
 ghost use Rattle.std.specs.Prelude.{◌≡◌, ◌+◌, ◌-◌, ◌<◌, ◌≤◌, ◌^◌, ◌↔◌, IsTrue, Some, None, IfOk, IfSome, IsNone, option_copied, false, vec_len, is_some, true, length, replicate, slice_index_or, slice_set};
 ghost use Rattle.mc_hop.specs.Cells.{empty_cells, filled};
-ghost use Rattle.mc_hop.specs.Links.{ats_of, words_of, renumbered};
+ghost use Rattle.mc_hop.specs.Links.{ats_of, tags_of, words_of, renumbered};
 
 use std::alloc::{AllocError, Global};
 use std::marker::Model;
 
-/// A bucket: its word, and one more than the place of its value among the values, or 0 where it has
-/// none.
+/// How many numbers a bucket can have. Its tag stands above them in one word.
+const NUMBERS: u32 = 1 << 25;
+
+/// A bucket: its word, and its tag and its number. The number is one more than the place of its value
+/// among the values, or 0 where it has none; the tag stands above the number's 25 bits.
 #[derive(Clone, Copy)]
 struct Cell {
     word: u32,
@@ -29,24 +32,48 @@ fn number_of(cells: &Vec<Cell>, at: usize) -> usize
     requires { at < vec_len cells.now }
     ensures { result ≡ slice_index_or (ats_of cells.now.items) at 0 }
 {
-    cells[at].at as usize
+    (cells[at].at % NUMBERS) as usize
 }
 
-/// Sets the number of a bucket. Its word stays.
+/// Returns the tag of a bucket.
+fn tag_of(cells: &Vec<Cell>, at: usize) -> u32
+    requires { at < vec_len cells.now }
+    ensures value { result ≡ slice_index_or (tags_of cells.now.items) at 0 }
+    ensures small { result < 128 }
+{
+    cells[at].at / NUMBERS
+}
+
+/// Sets the number of a bucket. Its word and its tag stay.
 fn set_number(cells: &mut Vec<Cell>, at: usize, number: usize)
     requires inside { at < vec_len cells.old }
-    requires small { number < 2 ^ 32 }
+    requires small { number < 2 ^ 25 }
     ensures numbers { ats_of cells.new.items ≡ slice_set (ats_of cells.old.items) at number }
+    ensures tags { tags_of cells.new.items ≡ tags_of cells.old.items }
     ensures words { words_of cells.new.items ≡ words_of cells.old.items }
     ensures len { vec_len cells.new ≡ vec_len cells.old }
 {
-    cells[at].at = number as u32;
+    let tag = tag_of(cells, at);
+    cells[at].at = tag * NUMBERS + number as u32;
 }
 
-/// Sets the word of a bucket. Its number stays.
+/// Sets the number of a bucket, and its tag. Its word stays.
+fn set_tagged(cells: &mut Vec<Cell>, at: usize, number: usize, tag: u32)
+    requires inside { at < vec_len cells.old }
+    requires small { number < 2 ^ 25 }
+    requires tag { tag < 128 }
+    ensures numbers { ats_of cells.new.items ≡ slice_set (ats_of cells.old.items) at number }
+    ensures tags { tags_of cells.new.items ≡ slice_set (tags_of cells.old.items) at tag }
+    ensures words { words_of cells.new.items ≡ words_of cells.old.items }
+{
+    cells[at].at = tag * NUMBERS + number as u32;
+}
+
+/// Sets the word of a bucket. Its number and its tag stay.
 fn set_word_in(cells: &mut Vec<Cell>, at: usize, word: u32)
     requires { at < vec_len cells.old }
     ensures numbers { ats_of cells.new.items ≡ ats_of cells.old.items }
+    ensures tags { tags_of cells.new.items ≡ tags_of cells.old.items }
     ensures words { words_of cells.new.items ≡ slice_set (words_of cells.old.items) at word }
 {
     cells[at].word = word;
@@ -56,9 +83,10 @@ fn set_word_in(cells: &mut Vec<Cell>, at: usize, word: u32)
 fn renumber(cells: &mut Vec<Cell>, places: &Vec<u32>, place: usize)
     requires inside { place < vec_len places.now →
         slice_index_or places.now.items place 0 < vec_len cells.old }
-    requires small { vec_len places.now < 2 ^ 32 - 1 }
+    requires small { vec_len places.now < 2 ^ 25 - 1 }
     ensures numbers { ats_of cells.new.items ≡
         renumbered (ats_of cells.old.items) places.now.items place }
+    ensures tags { tags_of cells.new.items ≡ tags_of cells.old.items }
     ensures words { words_of cells.new.items ≡ words_of cells.old.items }
 {
     if place < places.len() {
@@ -66,9 +94,9 @@ fn renumber(cells: &mut Vec<Cell>, places: &Vec<u32>, place: usize)
     }
 }
 
-/// A row of buckets, each with a word and at most one value. The values lie side by side in a list of
-/// their own, in no order, so an empty bucket takes 8 bytes alone. Contracts see the words and the
-/// values, bucket by bucket.
+/// A row of buckets, each with a word, a tag and at most one value. The values lie side by side in a list
+/// of their own, in no order, so an empty bucket takes 8 bytes alone. Contracts see the words, the tags
+/// and the values, bucket by bucket.
 #[derive(Drop)]
 pub struct Cells<T: Drop> {
     cells: Vec<Cell>,
@@ -79,7 +107,7 @@ pub struct Cells<T: Drop> {
 impl<T: Drop> Model for Cells<T> {
     ghost use Rattle.std.specs.Prelude.{map, vec_capacity};
     ghost use Rattle.mc_hop.specs.Cells.{CellsState, coded_cells};
-    ghost use Rattle.mc_hop.specs.Links.{IsLinked, ats_of, words_of, item_of};
+    ghost use Rattle.mc_hop.specs.Links.{IsLinked, ats_of, tags_of, words_of, item_of};
 
     ghost Value = { CellsState T };
 
@@ -87,6 +115,7 @@ impl<T: Drop> Model for Cells<T> {
 
     ghost view = { λ c. record {
       words = words_of c.cells.items;
+      tags = tags_of c.cells.items;
       items = map (item_of c.items.items) (ats_of c.cells.items);
     } };
 
@@ -95,9 +124,9 @@ impl<T: Drop> Model for Cells<T> {
 }
 
 impl<T: Drop> Cells<T> {
-    /// Makes so many empty buckets, whose words are 0, with room for a value of each.
+    /// Makes so many empty buckets, whose words and tags are 0, with room for a value of each.
     pub fn new(alloc: Global, len: usize) -> Result<Cells<T>, AllocError>
-        requires { len < 2 ^ 32 - 1 }
+        requires { len < 2 ^ 25 - 1 }
         ensures { IfOk result (λ cells. cells ≡ empty_cells len) }
     {
         Ok(Cells {
@@ -161,6 +190,15 @@ impl<T: Drop> Cells<T> {
         number_of(&self.cells, at) == 0
     }
 
+    /// Tells whether a bucket has that tag.
+    pub fn has_tag(&self, at: usize, tag: u32) -> bool
+        requires { at < length self.now.items }
+        ensures yes { slice_index_or self.now.tags at 0 ≡ tag → result ≡ true }
+        ensures no { result ≡ true → slice_index_or self.now.tags at 0 ≡ tag }
+    {
+        tag_of(&self.cells, at) == tag
+    }
+
     /// Lends the value of a bucket, if it has one.
     pub fn get(&self, at: usize) -> Option<&T>
         requires { at < length self.now.items }
@@ -174,19 +212,23 @@ impl<T: Drop> Cells<T> {
         }
     }
 
-    /// Puts a value into an empty bucket. It takes no memory.
-    pub fn put(&mut self, at: usize, value: T)
+    /// Puts a value into an empty bucket, and gives the bucket a tag. It takes no memory.
+    pub fn put(&mut self, at: usize, value: T, tag: u32)
         requires inside { at < length self.old.items }
         requires empty { slice_index_or self.old.items at None ≡ None }
-        ensures { self.new ≡ record self.old { items = slice_set self.old.items at (Some value) } }
+        requires tag { tag < 128 }
+        ensures { self.new ≡ record self.old {
+          tags = slice_set self.old.tags at tag;
+          items = slice_set self.old.items at (Some value);
+        } }
     {
         let number = self.items.len() + 1;
         self.items.push_reserved(value);
         self.places.push_reserved(at as u32);
-        set_number(&mut self.cells, at, number);
+        set_tagged(&mut self.cells, at, number, tag);
     }
 
-    /// Takes the value out of a bucket that has one.
+    /// Takes the value out of a bucket that has one. Its tag stays.
     pub fn take(&mut self, at: usize) -> T
         requires { is_some (slice_index_or self.old.items at None) ≡ true }
         ensures here { slice_index_or self.old.items at None ≡ Some result }

@@ -4,7 +4,7 @@ ghost use Rattle.std.specs.Prelude.{◌≡◌, ℕ, ◌+◌, ◌<◌, ◌≤◌,
 ghost use Rattle.std.specs.Prelude.{option_copied, is_some, true, length};
 ghost use Rattle.mc_hop.specs.Contents.{content, content_with, content_without};
 ghost use Rattle.mc_hop.specs.Cells.{filled};
-ghost use Rattle.mc_hop.specs.Tables.{AreApart, KeepsKey, home_in, IsAt, IsAbsent, IsFirstFree, NoneFree};
+ghost use Rattle.mc_hop.specs.Tables.{AreApart, KeepsKey, home_in, tag_in, IsAt, IsAbsent, IsFirstFree, NoneFree};
 ghost use Rattle.mc_hop.specs.Tables.{AreHops, AreNear, IsNearHome, IsFound};
 ghost use Rattle.mc_hop.specs.Tables.{empty_table, with_bucket, bucket_at};
 
@@ -24,6 +24,14 @@ fn home_among(k: u32, hash: u64) -> usize
     ((hash / 256) % (1u64 << k)) as usize
 }
 
+/// Finds the tag of a hash.
+fn tag_of(hash: u64) -> u32
+    ensures value { result ≡ tag_in hash }
+    ensures small { result < 128 }
+{
+    (hash / (1u64 << 57)) as u32
+}
+
 /// One hopscotch table of 2^k homes and 255 further buckets. Contracts see k and the buckets; bit j of
 /// a bucket's word is set exactly where the bucket j behind it holds an entry whose home it is.
 #[derive(Drop)]
@@ -33,7 +41,7 @@ pub struct Hop<T: Keyed + Drop> {
 }
 
 impl<T: Keyed + Drop> Model for Hop<T> {
-    ghost use Rattle.mc_hop.specs.Tables.{HopState, coded_hop, IsTable};
+    ghost use Rattle.mc_hop.specs.Tables.{HopState, coded_hop, IsTagged};
 
     ghost Value = { HopState T };
 
@@ -41,7 +49,7 @@ impl<T: Keyed + Drop> Model for Hop<T> {
 
     ghost view = { λ h. record { k = h.k; items = h.cells.items } };
 
-    ghost invariant = { λ h. IsTable T.hash_of T.key_of h.k h.cells.words h.cells.items };
+    ghost invariant = { λ h. IsTagged T.hash_of T.key_of h.k h.cells };
 }
 
 impl<T: Keyed + Drop> Hop<T> {
@@ -114,7 +122,7 @@ impl<T: Keyed + Drop> Hop<T> {
     }
 
     /// Tells whether a bucket holds the entry of that hash and key. It is the one read of a bucket that
-    /// a walk makes.
+    /// a walk makes, and reads the entry only where the bucket has the tag of the hash.
     fn holds<C: Counts>(&self, at: usize, hash: u64, key: &[u8], reads: &mut C) -> bool
         requires { at < length self.now.items }
         ensures reads { C.count reads.new ≤ C.count reads.old + 1 }
@@ -122,6 +130,9 @@ impl<T: Keyed + Drop> Hop<T> {
         ensures no { IsAt T.hash_of T.key_of self.now.items hash key.now at → result ≡ true }
     {
         reads.tick();
+        if !self.cells.has_tag(at, tag_of(hash)) {
+            return false;
+        }
         match self.get(at) {
             Some(entry) => entry.hash() == hash && entry.key() == key,
             None => false,
@@ -190,7 +201,8 @@ impl<T: Keyed + Drop> Hop<T> {
         let bit = (at - home) as u32;
         let word = self.cells.word(home);
         self.cells.set_word(home, with_bit(word, bit));
-        self.cells.put(at, entry);
+        let tag = tag_of(entry.hash());
+        self.cells.put(at, entry, tag);
     }
 
     /// Changes the entry of a bucket that has one, by a closure that keeps its hash and its key, and
@@ -207,7 +219,8 @@ impl<T: Keyed + Drop> Hop<T> {
     {
         let entry = self.cells.take(at);
         let (entry, answer) = change(entry);
-        self.cells.put(at, entry);
+        let tag = tag_of(entry.hash());
+        self.cells.put(at, entry, tag);
         answer
     }
 

@@ -1,5 +1,5 @@
 use Rattle.std.proofs.Common.{refl, ◌∙◌, arith}
-use Rattle.mc_hop.proofs.LinkLemmas.{take_small, take_linked, take_items, take_here, same_state, seen_items, seen_words, swapped}
+use Rattle.mc_hop.proofs.LinkLemmas.{take_small, take_linked, take_items, take_here, same_state, seen_items, seen_tags, seen_words, swapped}
 use Rattle.mc_hop.proofs.cells.Cells.take.Goals as goal
 
 pub renumber-requires-clause-small : goal.renumber-requires-clause-small
@@ -18,6 +18,7 @@ returns-clause-here g c = take_here _ _ _ _ _ c.self.invariant _ c.args.at (seen
 pub returns-clause-taken : goal.returns-clause-taken
 returns-clause-taken g c =
     same_state (c.renumber.ensures.words ∙ c.set_number.ensures.words ∙ seen_words c.self.view_is)
+    (c.renumber.ensures.tags ∙ c.set_number.ensures.tags ∙ seen_tags c.self.view_is)
     (take_items _ _ _ _ _ c.self.invariant _ c.args.at (seen_items c.self.view_is) c.requires c.number_of-place.ensures refl
     (swapped c.self.inside.items.ok.0 c.swap_remove-value.new.self.ok.0 c.swap_remove-value.ensures.len c.swap_remove-value.ensures.by_index)
     (swapped c.self.inside.places.ok.0 c.swap_remove.new.self.ok.0 c.swap_remove.ensures.len c.swap_remove.ensures.by_index)

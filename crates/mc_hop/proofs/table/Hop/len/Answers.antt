@@ -4,5 +4,5 @@ use Rattle.mc_hop.proofs.table.Hop.len.Goals as goal
 
 pub returns-clause-most : goal.returns-clause-most
 returns-clause-most g c =
-    let homes : 2 ^ c.self.inside.k ≤ 2 ^ 24 = pow-le-pow_right (omega arith) c.self.invariant.most in
-    omega (arith, homes, c.count.ensures.most, c.self.invariant.items_length)
+    let homes : 2 ^ c.self.inside.k ≤ 2 ^ 24 = pow-le-pow_right (omega arith) c.self.invariant.table.most in
+    omega (arith, homes, c.count.ensures.most, c.self.invariant.table.items_length)
