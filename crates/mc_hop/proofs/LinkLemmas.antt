@@ -1,5 +1,5 @@
 -- The numbers of buckets and the places of values: what putting and taking a value changes.
-use Rattle.std.proofs.Common.{◌≡◌, ◌≢◌, ℕ, zero, suc, ◌+◌, ◌-◌, ◌<◌, ◌≤◌, ◌^◌, ◌*◌, ◌%◌, Bool, true, cond, List, [], ◌∷◌, ◌++◌, Option, Some, None, is_some, true≢false, replicate, map, length, length-set, length-append, get_or, set, refl, sym, ap, subst, ◌∙◌, arith, ⊎_elim}
+use Rattle.std.proofs.Common.{◌≡◌, ◌≢◌, ℕ, zero, suc, ◌+◌, ◌-◌, ◌<◌, ◌≤◌, ◌^◌, Bool, true, cond, List, [], ◌∷◌, ◌++◌, Option, Some, None, is_some, true≢false, replicate, map, length, length-set, length-append, get_or, set, refl, sym, ap, subst, ◌∙◌, arith, ⊎_elim}
 use Rattle.std.proofs.lemmas.Bool.{cases_eq, cases_lt, lt-ltb, le-ltb}
 use Rattle.std.proofs.lemmas.Option.{none-some, slice_get_read, get_or_from_slice_get}
 use Rattle.std.proofs.Math.Seq.{get_or-append_seam}
@@ -8,10 +8,6 @@ use Rattle.std.specs.Prelude.{slice_get}
 use Rattle.mc_hop.specs.Cells.{CellsState, filled}
 use Rattle.mc_hop.specs.declared.cells.Cell.{Cell}
 use Rattle.mc_hop.specs.Links.{ats_of, tags_of, words_of, IsLinked, IsSwapped, item_of, renumbered, used}
-
--- the number below a tag is read back
-pub number_above : (tag number : ℕ) → number < 2 ^ 25 → (tag * 2 ^ 25 + number) % 2 ^ 25 ≡ number
-number_above tag number small = omega (arith, small)
 
 -- a value stands at each place below the length
 stands : {X : Type 0} (xs : List X) (i : ℕ) → i < length xs → slice_get xs i ≡ None → ⊥
@@ -449,21 +445,21 @@ IsLinked-none n {item_room = item_room} {place_room = place_room} as_are is ps i
 pub items-none : {X : Type 0} (n : ℕ) {items : List X} {ats : List ℕ} → ats ≡ replicate n 0 → items ≡ [] → map (item_of items) ats ≡ replicate n None
 items-none n as_are is = rw (as_are, is) (none-none n)
 
-pub no_ats : (n : ℕ) (cells : List Cell) → cells ≡ replicate n (record { word = 0; at = 0 }) → ats_of cells ≡ replicate n 0
+pub no_ats : (n : ℕ) (cells : List Cell) → cells ≡ replicate n (record { word = 0; tagged = 0 }) → ats_of cells ≡ replicate n 0
 no_ats n cells e = ap ats_of e ∙ numbers n where
-  numbers : (n : ℕ) → ats_of (replicate n (record { word = 0; at = 0 })) ≡ replicate n 0
+  numbers : (n : ℕ) → ats_of (replicate n (record { word = 0; tagged = 0 })) ≡ replicate n 0
   numbers zero = refl
   numbers (suc n) = ap (λ (l : List ℕ). 0 ∷ l) (numbers n)
 
-pub no_words : (n : ℕ) (cells : List Cell) → cells ≡ replicate n (record { word = 0; at = 0 }) → words_of cells ≡ replicate n 0
+pub no_words : (n : ℕ) (cells : List Cell) → cells ≡ replicate n (record { word = 0; tagged = 0 }) → words_of cells ≡ replicate n 0
 no_words n cells e = ap words_of e ∙ words n where
-  words : (n : ℕ) → words_of (replicate n (record { word = 0; at = 0 })) ≡ replicate n 0
+  words : (n : ℕ) → words_of (replicate n (record { word = 0; tagged = 0 })) ≡ replicate n 0
   words zero = refl
   words (suc n) = ap (λ (l : List ℕ). 0 ∷ l) (words n)
 
-pub no_tags : (n : ℕ) (cells : List Cell) → cells ≡ replicate n (record { word = 0; at = 0 }) → tags_of cells ≡ replicate n 0
+pub no_tags : (n : ℕ) (cells : List Cell) → cells ≡ replicate n (record { word = 0; tagged = 0 }) → tags_of cells ≡ replicate n 0
 no_tags n cells e = ap tags_of e ∙ tags n where
-  tags : (n : ℕ) → tags_of (replicate n (record { word = 0; at = 0 })) ≡ replicate n 0
+  tags : (n : ℕ) → tags_of (replicate n (record { word = 0; tagged = 0 })) ≡ replicate n 0
   tags zero = refl
   tags (suc n) = ap (λ (l : List ℕ). 0 ∷ l) (tags n)
 

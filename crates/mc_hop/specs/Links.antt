@@ -7,10 +7,10 @@ abbrev pub words_of : List Cell → List ℕ
 words_of cells = map (λ cell. cell.word) cells
 
 abbrev pub ats_of : List Cell → List ℕ
-ats_of cells = map (λ cell. cell.at % 2 ^ 25) cells
+ats_of cells = map (λ cell. cell.tagged % 2 ^ 25) cells
 
 abbrev pub tags_of : List Cell → List ℕ
-tags_of cells = map (λ cell. cell.at / 2 ^ 25) cells
+tags_of cells = map (λ cell. cell.tagged / 2 ^ 25) cells
 
 -- the value that a number stands for
 abbrev pub item_of : {X : Type 0} → List X → ℕ → Option X

@@ -1,30 +1,40 @@
 //! Buckets, each with a word of 32 bits and at most one value.
 
-ghost use Rattle.std.specs.Prelude.{◌≡◌, ◌+◌, ◌-◌, ◌<◌, ◌≤◌, ◌^◌, ◌↔◌, IsTrue, Some, None, IfOk, IfSome, IsNone, option_copied, false, vec_len, is_some, true, length, replicate, slice_index_or, slice_set};
+ghost use Rattle.std.specs.Prelude.{◌≡◌, ◌+◌, ◌-◌, ◌<◌, ◌≤◌, ◌^◌, ◌/◌, ◌%◌, ◌↔◌, IsTrue, Some, None, IfOk, IfSome, IsNone, option_copied, false, vec_len, is_some, true, length, replicate, slice_index_or, slice_set};
 ghost use Rattle.mc_hop.specs.Cells.{empty_cells, filled};
 ghost use Rattle.mc_hop.specs.Links.{ats_of, tags_of, words_of, renumbered};
 
 use std::alloc::{AllocError, Global};
 use std::marker::Model;
 
-/// How many numbers a bucket can have. Its tag stands above them in one word.
+/// How many numbers a bucket can have. Its tag stands above their 25 bits.
 const NUMBERS: u32 = 1 << 25;
 
-/// A bucket: its word, and its tag and its number. The number is one more than the place of its value
-/// among the values, or 0 where it has none; the tag stands above the number's 25 bits.
+/// A bucket: its word, and its number below its tag. The number is one more than the place of its value
+/// among the values, or 0 where it has none. The tag is what a search compares before it reads the value.
 #[derive(Clone, Copy)]
 struct Cell {
     word: u32,
-    at: u32,
+    tagged: u32,
 }
 
 /// Makes so many buckets with no value, whose words are 0.
 fn empty_list(alloc: Global, len: usize) -> Result<Vec<Cell>, AllocError>
-    ensures { IfOk result (λ cells. cells.items ≡ replicate len (record { word = 0; at = 0 })) }
+    ensures { IfOk result (λ cells. cells.items ≡ replicate len (record { word = 0; tagged = 0 })) }
 {
     let mut cells = Vec::with_capacity(alloc, len)?;
-    cells.resize(len, Cell { word: 0, at: 0 })?;
+    cells.resize(len, Cell { word: 0, tagged: 0 })?;
     Ok(cells)
+}
+
+/// Puts a number below a tag.
+fn tagged(tag: u32, number: usize) -> u32
+    requires tag { tag < 128 }
+    requires small { number < 2 ^ 25 }
+    ensures number { result % 2 ^ 25 ≡ number }
+    ensures tag { result / 2 ^ 25 ≡ tag }
+{
+    tag * NUMBERS + number as u32
 }
 
 /// Returns the number of a bucket: one more than the place of its value, or 0.
@@ -32,7 +42,7 @@ fn number_of(cells: &Vec<Cell>, at: usize) -> usize
     requires { at < vec_len cells.now }
     ensures { result ≡ slice_index_or (ats_of cells.now.items) at 0 }
 {
-    (cells[at].at % NUMBERS) as usize
+    (cells[at].tagged % NUMBERS) as usize
 }
 
 /// Returns the tag of a bucket.
@@ -41,7 +51,7 @@ fn tag_of(cells: &Vec<Cell>, at: usize) -> u32
     ensures value { result ≡ slice_index_or (tags_of cells.now.items) at 0 }
     ensures small { result < 128 }
 {
-    cells[at].at / NUMBERS
+    cells[at].tagged / NUMBERS
 }
 
 /// Sets the number of a bucket. Its word and its tag stay.
@@ -54,7 +64,7 @@ fn set_number(cells: &mut Vec<Cell>, at: usize, number: usize)
     ensures len { vec_len cells.new ≡ vec_len cells.old }
 {
     let tag = tag_of(cells, at);
-    cells[at].at = tag * NUMBERS + number as u32;
+    cells[at].tagged = tagged(tag, number);
 }
 
 /// Sets the number of a bucket, and its tag. Its word stays.
@@ -66,7 +76,7 @@ fn set_tagged(cells: &mut Vec<Cell>, at: usize, number: usize, tag: u32)
     ensures tags { tags_of cells.new.items ≡ slice_set (tags_of cells.old.items) at tag }
     ensures words { words_of cells.new.items ≡ words_of cells.old.items }
 {
-    cells[at].at = tag * NUMBERS + number as u32;
+    cells[at].tagged = tagged(tag, number);
 }
 
 /// Sets the word of a bucket. Its number and its tag stay.

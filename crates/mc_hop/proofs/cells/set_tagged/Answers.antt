@@ -1,21 +1,19 @@
 use Rattle.std.proofs.Common.{ℕ, ◌/◌, ◌%◌, ◌^◌, set, ap, ◌∙◌}
 use Rattle.std.proofs.Math.Seq.{map-set_same}
 use Rattle.std.proofs.lemmas.List.{map-set}
-use Rattle.std.proofs.lemmas.Nat.{div-mul-add}
 use Rattle.mc_hop.specs.declared.cells.Cell.{Cell}
 use Rattle.mc_hop.specs.Links.{ats_of, tags_of}
-use Rattle.mc_hop.proofs.LinkLemmas.{number_above}
 use Rattle.mc_hop.proofs.cells.set_tagged.Goals as goal
 
 pub returns-clause-numbers : goal.returns-clause-numbers
 returns-clause-numbers c =
-    map-set (λ (cell : Cell). cell.at % 2 ^ 25) c.args.cells.now.items c.args.at _
-    ∙ ap (λ (n : ℕ). set (ats_of c.args.cells.now.items) c.args.at n) (number_above c.args.tag c.args.number c.requires.small)
+    map-set (λ (cell : Cell). cell.tagged % 2 ^ 25) c.args.cells.now.items c.args.at _
+    ∙ ap (λ (n : ℕ). set (ats_of c.args.cells.now.items) c.args.at n) c.tagged.ensures.number
 
 pub returns-clause-tags : goal.returns-clause-tags
 returns-clause-tags c =
-    map-set (λ (cell : Cell). cell.at / 2 ^ 25) c.args.cells.now.items c.args.at _
-    ∙ ap (λ (n : ℕ). set (tags_of c.args.cells.now.items) c.args.at n) (div-mul-add c.args.tag (2 ^ 25) c.args.number c.requires.small)
+    map-set (λ (cell : Cell). cell.tagged / 2 ^ 25) c.args.cells.now.items c.args.at _
+    ∙ ap (λ (n : ℕ). set (tags_of c.args.cells.now.items) c.args.at n) c.tagged.ensures.tag
 
 pub returns-clause-words : goal.returns-clause-words
 returns-clause-words c = map-set_same (λ (cell : Cell). cell.word) c.args.cells.now.items c.args.at _ c.index_mut.result.now (ap (λ (cell : Cell). cell.word) c.index_mut.ensures.value)
