@@ -1,7 +1,8 @@
 -- The shape of a command, and its steps.
 use Rattle.std.specs.Prelude.{◌≡◌, refl, ℕ, ℤ, Bool, true, false, IsTrue, List, [], ◌∷◌, map, length, drop, Option, Some, None, ◌≤◌, All}
 use Rattle.mc_command.specs.declared.command.Command.{Command}
-use Rattle.mc_command.specs.declared.command.Command.TheVariants.{Store, Cas, Get, GetTouch, Touch, Delete, Count, FlushAll, Version, Quit}
+use Rattle.mc_command.specs.declared.command.Command.TheVariants.{Store, Cas, Get, GetTouch, Touch, Delete, Count, FlushAll, Lone as LoneCommand}
+use Rattle.mc_command.specs.declared.lone.Lone.{Lone}
 use Rattle.mc_command.specs.declared.step.KeyStep.{KeyStep}
 use Rattle.mc_command.specs.declared.step.KeyStep.TheVariants.{Store as StoreStep, Cas as CasStep, Read as ReadStep, ReadTouch as ReadTouchStep, Touch as TouchStep, Delete as DeleteStep, Count as CountStep, Flush as FlushStep}
 
@@ -16,13 +17,11 @@ retrieval None keys with_unique = Get keys with_unique
 retrieval (Some exptime) keys with_unique = GetTouch exptime keys with_unique
 
 -- What a command asks for: one step, with a block behind its line or without, of which a quiet one's
--- reply isn't told; a step of each key of a retrieval; the version, without a step; or the end of
--- the session.
+-- reply isn't told; a step of each key of a retrieval; or no step.
 pub data Shape : Type 0 where
   Single : KeyStep → (has_block quiet : Bool) → Shape
   Retrieval : (exptime : Option ℤ) → (keys : List (List ℕ)) → (with_unique : Bool) → Shape
-  TellsVersion : Shape
-  Parting : Shape
+  Alone : Lone → Shape
 
 -- a command's shape
 abbrev pub shape : Command → Shape
@@ -36,15 +35,13 @@ shape (Touch key exptime quiet) = Single (TouchStep key exptime) false quiet
 shape (Delete key quiet) = Single (DeleteStep key) false quiet
 shape (Count key up by quiet) = Single (CountStep key up by) false quiet
 shape (FlushAll delay quiet) = Single (FlushStep delay) false quiet
-shape Version = TellsVersion
-shape Quit = Parting
+shape (LoneCommand lone) = Alone lone
 
 -- what a command of a shape asks of keys, in order
 abbrev pub steps_by : Shape → List KeyStep
 steps_by (Single step has_block quiet) = step ∷ []
 steps_by (Retrieval exptime keys with_unique) = map (λ key. read_step exptime key) keys
-steps_by TellsVersion = []
-steps_by Parting = []
+steps_by (Alone lone) = []
 
 -- what a command asks of keys, in order
 abbrev pub steps : Command → List KeyStep
@@ -54,8 +51,7 @@ steps command = steps_by (shape command)
 abbrev pub IsSingleBy : Shape → Type 0
 IsSingleBy (Single step has_block quiet) = Unit {0}
 IsSingleBy (Retrieval exptime keys with_unique) = ⊥
-IsSingleBy TellsVersion = ⊥
-IsSingleBy Parting = ⊥
+IsSingleBy (Alone lone) = ⊥
 
 -- a command that asks one step of one key, or of all
 abbrev pub IsSingle : Command → Type 0
@@ -65,8 +61,7 @@ IsSingle command = IsSingleBy (shape command)
 abbrev pub HasBlockBy : Shape → Type 0
 HasBlockBy (Single step has_block quiet) = IsTrue has_block
 HasBlockBy (Retrieval exptime keys with_unique) = ⊥
-HasBlockBy TellsVersion = ⊥
-HasBlockBy Parting = ⊥
+HasBlockBy (Alone lone) = ⊥
 
 -- a block comes after its line
 abbrev pub HasBlock : Command → Type 0
@@ -76,8 +71,7 @@ HasBlock command = HasBlockBy (shape command)
 abbrev pub is_quiet_by : Shape → Bool
 is_quiet_by (Single step has_block quiet) = quiet
 is_quiet_by (Retrieval exptime keys with_unique) = false
-is_quiet_by TellsVersion = false
-is_quiet_by Parting = false
+is_quiet_by (Alone lone) = false
 
 -- it ended in noreply
 abbrev pub is_quiet : Command → Bool
@@ -88,8 +82,7 @@ abbrev pub after_by : Shape → Command → ℕ → Command
 after_by (Single step has_block quiet) command taken = command
 after_by (Retrieval exptime keys with_unique) command taken =
     retrieval exptime (drop taken keys) with_unique
-after_by TellsVersion command taken = command
-after_by Parting command taken = command
+after_by (Alone lone) command taken = command
 
 -- what is left of a command after so many of its steps
 abbrev pub after_steps : Command → ℕ → Command
@@ -100,8 +93,7 @@ abbrev pub shape_left : Shape → ℕ → Shape
 shape_left (Single step has_block quiet) taken = Single step has_block quiet
 shape_left (Retrieval exptime keys with_unique) taken =
     Retrieval exptime (drop taken keys) with_unique
-shape_left TellsVersion taken = TellsVersion
-shape_left Parting taken = Parting
+shape_left (Alone lone) taken = Alone lone
 
 -- a retrieval has the shape of one
 pub retrieval-shape : (exptime : Option ℤ) (keys : List (List ℕ)) (with_unique : Bool)
@@ -114,8 +106,7 @@ after_by-shape : (its : Shape) (command : Command) (taken : ℕ) → shape comma
 after_by-shape (Single step has_block quiet) command taken is = is
 after_by-shape (Retrieval exptime keys with_unique) command taken is =
     retrieval-shape exptime (drop taken keys) with_unique
-after_by-shape TellsVersion command taken is = is
-after_by-shape Parting command taken is = is
+after_by-shape (Alone lone) command taken is = is
 
 -- what is left of a command has that shape
 pub after_steps-shape : (command : Command) (taken : ℕ)

@@ -1,5 +1,6 @@
 pub mod Words
 pub mod Numbers
+pub mod Lones
 pub mod Commands
 pub mod Plain
 pub mod Rows

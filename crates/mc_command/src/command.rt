@@ -3,6 +3,7 @@ ghost use Rattle.mc_command.specs.Commands.{steps, is_quiet, HasBlock, IsSingle}
 
 use crate::bytes::Bytes;
 use crate::keys::Keys;
+use crate::lone::Lone;
 use crate::step::{KeyStep, Verb};
 
 /// A command whose keys and block lie in the input. A quiet one ended in `noreply`.
@@ -60,18 +61,18 @@ pub enum Command<'a> {
         delay: u64,
         quiet: bool,
     },
-    Version,
-    Quit,
+    /// version, quit
+    Lone(Lone),
 }
 
-/// Counts the steps of a command: one a key for a retrieval, none for version and quit, one for
-/// every other.
+/// Counts the steps of a command: one a key for a retrieval, none for one that is its name alone,
+/// one for every other.
 pub fn steps_of(command: &Command<'_>) -> usize
     ensures { result ≡ length (steps command.now) }
 {
     match command {
         Command::Get { keys, .. } | Command::GetTouch { keys, .. } => keys.len(),
-        Command::Version | Command::Quit => 0,
+        Command::Lone(_) => 0,
         _ => 1,
     }
 }
@@ -87,7 +88,7 @@ pub fn is_quiet(command: &Command<'_>) -> bool
         | Command::Delete { quiet, .. }
         | Command::Count { quiet, .. }
         | Command::FlushAll { quiet, .. } => *quiet,
-        Command::Get { .. } | Command::GetTouch { .. } | Command::Version | Command::Quit => false,
+        Command::Get { .. } | Command::GetTouch { .. } | Command::Lone(_) => false,
     }
 }
 
@@ -138,8 +139,7 @@ fn only_step<'a>(command: &Command<'a>) -> KeyStep<'a>
             by: *by,
         },
         Command::FlushAll { delay, .. } => KeyStep::Flush { delay: *delay },
-        Command::Get { .. } | Command::GetTouch { .. } | Command::Version | Command::Quit =>
-            unreachable!(),
+        Command::Get { .. } | Command::GetTouch { .. } | Command::Lone(_) => unreachable!(),
     }
 }
 

@@ -7,6 +7,7 @@ mod command;
 mod fault;
 mod keys;
 mod laws;
+mod lone;
 mod number;
 mod plain;
 mod reply;
@@ -23,6 +24,7 @@ pub use laws::{
     counts_follow, flushes_empty, one_key_decides, other_keys_stay, pages_stay,
     refused_without_room, the_dead_stay_dead,
 };
+pub use lone::Lone;
 pub use number::{counted, number_of, number_up_to};
 pub use plain::{KeyTest, PlainStore};
 pub use reply::Reply;

@@ -5,7 +5,7 @@ use Rattle.std.proofs.lemmas.List.{append-nil, drop-drop, take-take, take-append
 use Rattle.std.specs.Str.Lines.{strip_carriage_return}
 use Rattle.std.specs.List.{slice_index}
 use Rattle.mc_command.specs.Words.{words}
-use Rattle.mc_command.specs.Commands.{Shape, Single, Retrieval, TellsVersion, Parting, shape, retrieval, after_by, after_steps, retrieval-shape}
+use Rattle.mc_command.specs.Commands.{Shape, Single, Retrieval, Alone, shape, retrieval, after_by, after_steps, retrieval-shape}
 use Rattle.mc_command.specs.declared.command.Command.{Command}
 use Rattle.mc_command.specs.declared.fault.LineFault.{LineFault}
 use Rattle.mc_parse.specs.declared.line.Line.{Line}
@@ -27,8 +27,7 @@ more_by (Retrieval exptime keys with_unique) command taken more is =
     let left : Command = retrieval exptime (drop taken keys) with_unique in
     ap (λ s. after_by s left more) (retrieval-shape exptime (drop taken keys) with_unique)
     ∙ ap (λ ks. retrieval exptime ks with_unique) (drop-drop more taken keys)
-more_by TellsVersion command taken more is = ap (λ s. after_by s command more) is
-more_by Parting command taken more is = ap (λ s. after_by s command more) is
+more_by (Alone lone) command taken more is = ap (λ s. after_by s command more) is
 
 step_more : (command : Command) (taken more : ℕ) → after_steps (after_steps command taken) more ≡ after_steps command (taken + more)
 step_more command taken more = more_by (shape command) command taken more refl

@@ -7,7 +7,7 @@ use Rattle.std.specs.Str.Lines.{strip_carriage_return}
 use Rattle.std.proofs.lemmas.List.{drop-map}
 use Rattle.std.proofs.lemmas.List.Elements.{All-drop}
 use Rattle.mc_command.specs.Words.{words}
-use Rattle.mc_command.specs.Commands.{Shape, Single, Retrieval, TellsVersion, Parting, shape, shape_left, steps_by, read_step, HasShortKeys, after_steps, after_steps-shape, key_of}
+use Rattle.mc_command.specs.Commands.{Shape, Single, Retrieval, Alone, shape, shape_left, steps_by, read_step, HasShortKeys, after_steps, after_steps-shape, key_of}
 use Rattle.mc_command.specs.declared.command.Command.{Command}
 use Rattle.mc_command.specs.declared.step.KeyStep.{KeyStep}
 use Rattle.mc_command.specs.declared.fault.LineFault.{LineFault}
@@ -51,8 +51,7 @@ keys_left : (its : Shape) (taken : ℕ) → All IsShortStep (steps_by its) → A
 keys_left (Single step has_block quiet) taken short = short
 keys_left (Retrieval exptime keys with_unique) taken short =
     subst (All IsShortStep) (drop-map (λ key. read_step exptime key) taken keys) (All-drop IsShortStep taken (map (λ key. read_step exptime key) keys) short)
-keys_left TellsVersion taken short = short
-keys_left Parting taken short = short
+keys_left (Alone lone) taken short = short
 
 pub left_keys : (command : Command) (taken : ℕ) → HasShortKeys command → HasShortKeys (after_steps command taken)
 left_keys command taken short = subst (λ its. All IsShortStep (steps_by its)) (sym (after_steps-shape command taken)) (keys_left (shape command) taken short)

@@ -1,3 +1,4 @@
+mod NameLemmas
 pub mod LineLemmas
 pub mod LineWords
 pub mod UnitLemmas

@@ -13,9 +13,10 @@ use Rattle.mc_command.specs.Numbers.{number_up_to, is_numeral}
 use Rattle.mc_command.specs.Commands.{HasShortKeys, key_of}
 use Rattle.mc_command.specs.declared.step.KeyStep.{KeyStep}
 use Rattle.mc_command.specs.declared.step.KeyStep.TheVariants.{Store as StoreStep, Cas as CasStep, Read as ReadStep, ReadTouch as ReadTouchStep, Touch as TouchStep, Delete as DeleteStep, Count as CountStep, Flush as FlushStep}
+use Rattle.mc_command.specs.declared.lone.Lone.{Lone}
 use Rattle.mc_command.specs.declared.step.Verb.{Verb}
 use Rattle.mc_command.specs.declared.command.Command.{Command}
-use Rattle.mc_command.specs.declared.command.Command.TheVariants.{FlushAll, Version, Quit}
+use Rattle.mc_command.specs.declared.command.Command.TheVariants.{FlushAll}
 use Rattle.mc_command.specs.declared.fault.LineFault.{LineFault}
 use Rattle.mc_command.specs.declared.fault.LineFault.TheVariants.{Unknown, BadFormat, BadDelta, TooLarge}
 use Rattle.mc_parse.specs.declared.line.Line.{Line}
@@ -23,7 +24,7 @@ use Rattle.mc_parse.specs.declared.line.Line.TheVariants.{Bare, Block}
 use Rattle.mc_parse.specs.declared.line.Head.{Head}
 use Rattle.mc_parse.specs.declared.line.Head.TheVariants.{Store, Cas}
 use Rattle.mc_parse.specs.declared.name.Name.{Name}
-use Rattle.mc_parse.specs.declared.name.Name.TheVariants.{Store as StoreName, Cas as CasName, Get as GetName, GetTouch as GetTouchName, Touch as TouchName, Delete as DeleteName, Count as CountName, FlushAll as FlushName, Version as VersionName, Quit as QuitName}
+use Rattle.mc_parse.specs.declared.name.Name.TheVariants.{Store as StoreName, Cas as CasName, Get as GetName, GetTouch as GetTouchName, Touch as TouchName, Delete as DeleteName, Count as CountName, FlushAll as FlushName, Lone as LoneName}
 use Rattle.mc_parse.specs.Exptimes.{exptime_of, delay_of}
 use Rattle.mc_parse.specs.Lines.{◌>>=◌, formed, is_key, key_formed, keys_formed, ending, delete_ending, delayed, fitting, name_of, store_line, cas_line, get_line, get_touch_line, touch_line, delete_line, count_line, flush_line, lone_line, named_line, meaning, IsWord, IsKey, IsKeyed, HasKeys}
 use Rattle.mc_parse.specs.Units.{with_block}
@@ -169,9 +170,9 @@ module _ (P : List ℕ → Type 0) where
       chosen (λ r. IfOk r IsLineOf) (bytes_eq word (codes "noreply")) (Ok (Bare (FlushAll 0 true))) (delayed word false) (λ _. flush-of 0 true) (λ _. delayed-of word false)
   flush_line-of (delay ∷ word ∷ rest) = after IsLineOf (ending (word ∷ rest)) _ (λ quiet. delayed-of delay quiet)
 
-  lone_line-of : (command : Command) (args : List (List ℕ)) → HasKeys P command → IfOk (lone_line command args) IsLineOf
-  lone_line-of command [] keyed = keyed
-  lone_line-of command (word ∷ args) keyed = tt
+  lone_line-of : (lone : Lone) (args : List (List ℕ)) → IfOk (lone_line lone args) IsLineOf
+  lone_line-of lone [] = All-nil (IsKeyed P)
+  lone_line-of lone (word ∷ args) = tt
 
   named_line-of : (greatest : ℕ) (name : Name) (args : List (List ℕ)) → Holds args → IfOk (named_line greatest name args) IsLineOf
   named_line-of greatest (StoreName verb) args held = store_line-of greatest verb args held
@@ -182,8 +183,7 @@ module _ (P : List ℕ → Type 0) where
   named_line-of greatest DeleteName args held = delete_line-of args held
   named_line-of greatest (CountName up) args held = count_line-of up args held
   named_line-of greatest FlushName args held = flush_line-of args
-  named_line-of greatest VersionName args held = lone_line-of Version args (All-nil (IsKeyed P))
-  named_line-of greatest QuitName args held = lone_line-of Quit args (All-nil (IsKeyed P))
+  named_line-of greatest (LoneName lone) args held = lone_line-of lone args
 
   -- what any line says
   pub meaning-of : (greatest : ℕ) (ws : List (List ℕ)) → Holds ws → IfOk (meaning greatest ws) IsLineOf

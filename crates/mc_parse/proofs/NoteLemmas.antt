@@ -3,15 +3,15 @@ use Rattle.std.proofs.Common.{◌≡◌, ◌<◌, ◌≤◌, ◌+◌, ◌-◌, �
 use Rattle.std.proofs.lemmas.List.{drop-take, take-take, take-append-le, drop-append-le, length-take, length-take-le, take-append-drop}
 use Rattle.std.specs.Str.Lines.{strip_carriage_return}
 use Rattle.mc_command.specs.Words.{words}
-use Rattle.mc_command.specs.Commands.{Shape, Single, Retrieval, TellsVersion, Parting, shape, HasBlockBy, after_steps}
+use Rattle.mc_command.specs.Commands.{Shape, Single, Retrieval, Alone, shape, HasBlockBy, after_steps}
 use Rattle.mc_command.specs.declared.command.Command.{Command}
-use Rattle.mc_command.specs.declared.command.Command.TheVariants.{Touch as TouchCommand, Delete as DeleteCommand, Count as CountCommand, FlushAll as FlushCommand, Version as VersionCommand, Quit as QuitCommand}
+use Rattle.mc_command.specs.declared.command.Command.TheVariants.{Touch as TouchCommand, Delete as DeleteCommand, Count as CountCommand, FlushAll as FlushCommand, Lone as LoneCommand}
 use Rattle.mc_command.specs.declared.fault.LineFault.{LineFault}
 use Rattle.mc_parse.specs.declared.line.Line.{Line}
 use Rattle.mc_parse.specs.declared.line.Line.TheVariants.{Bare}
 use Rattle.mc_parse.specs.declared.line.Head.TheVariants.{Store as StoreHead, Cas as CasHead}
 use Rattle.mc_parse.specs.declared.note.Said.{Said}
-use Rattle.mc_parse.specs.declared.note.Said.TheVariants.{Fault as SaidFault, Store, Cas, Touch, Delete, Count, FlushAll, Version, Quit}
+use Rattle.mc_parse.specs.declared.note.Said.TheVariants.{Fault as SaidFault, Store, Cas, Touch, Delete, Count, FlushAll, Lone}
 use Rattle.mc_parse.specs.declared.note.LineNote.{LineNote}
 use Rattle.mc_parse.specs.Lines.{meaning}
 use Rattle.mc_parse.specs.Units.{ProtocolUnit, Request, Fault, LongLine, IsLine, Completes, with_block}
@@ -31,8 +31,7 @@ first_of (w ∷ ws) word is = let e : w ≡ word = cc in (ws, ap (λ k. k ∷ ws
 stands : (its : Shape) (args : List (List ℕ)) → KeysBy its args → HasBlockBy its → ⊥
 stands (Single step has_block quiet) args h has = let no = h.0 in cc
 stands (Retrieval exptime keys with_unique) args h has = has
-stands TellsVersion args h has = has
-stands Parting args h has = has
+stands (Alone lone) args h has = has
 
 pub meaning_stands : (greatest : ℕ) (ws : List (List ℕ)) (command : Command) → meaning greatest ws ≡ Ok (Bare command) → StandsInLine command
 meaning_stands greatest ws command is = stands (shape command) (drop 1 ws) (subst (λ m. Tells m (drop 1 ws)) is (meaning-tells greatest ws))
@@ -46,8 +45,7 @@ key_there ws (Touch exptime quiet) key tells none = inl tells.1
 key_there ws (Delete quiet) key tells none = inl tells.1
 key_there ws (Count up by quiet) key tells none = inl tells.1
 key_there ws (FlushAll delay quiet) key tells none = inr (none refl)
-key_there ws Version key tells none = inr (none refl)
-key_there ws Quit key tells none = inr (none refl)
+key_there ws (Lone lone) key tells none = inr (none refl)
 
 no_key : (key rest : List ℕ) → key ≡ [] → key ≡ take (length key) rest
 no_key [] rest e = refl
@@ -134,14 +132,10 @@ whole_said (FlushAll delay quiet) key rest command taken h =
     let e = h.1 in
     let is : command ≡ FlushCommand delay quiet = cc in
     still command (FlushCommand delay quiet) taken is refl
-whole_said Version key rest command taken h =
+whole_said (Lone lone) key rest command taken h =
     let e = h.1 in
-    let is : command ≡ VersionCommand = cc in
-    still command VersionCommand taken is refl
-whole_said Quit key rest command taken h =
-    let e = h.1 in
-    let is : command ≡ QuitCommand = cc in
-    still command QuitCommand taken is refl
+    let is : command ≡ LoneCommand lone = cc in
+    still command (LoneCommand lone) taken is refl
 
 pub noted_whole : (greatest : ℕ) (note : LineNote) (bytes : List ℕ) (unit : ProtocolUnit) (len taken : ℕ) → IsNoted greatest note bytes → IsSpelled greatest (unit, len) bytes → left_of unit taken ≡ unit
 noted_whole greatest note bytes (Fault fault) len taken is h = refl

@@ -6,8 +6,9 @@ use Rattle.std.specs.List.{list_all}
 use Rattle.std.specs.Str.{bytes_eq}
 use Rattle.mc_command.specs.Numbers.{number_up_to}
 use Rattle.mc_command.specs.declared.command.Command.{Command}
-use Rattle.mc_command.specs.declared.command.Command.TheVariants.{FlushAll, Version, Quit}
-use Rattle.mc_command.specs.Commands.{Shape, Single, Retrieval, TellsVersion, Parting, shape, retrieval}
+use Rattle.mc_command.specs.declared.command.Command.TheVariants.{FlushAll}
+use Rattle.mc_command.specs.Commands.{Shape, Single, Retrieval, Alone, shape, retrieval}
+use Rattle.mc_command.specs.declared.lone.Lone.{Lone}
 use Rattle.mc_command.specs.declared.step.Verb.{Verb}
 use Rattle.mc_command.specs.declared.fault.LineFault.{LineFault}
 use Rattle.mc_command.specs.declared.fault.LineFault.TheVariants.{Unknown, BadFormat, BadDelta, TooLarge}
@@ -16,7 +17,7 @@ use Rattle.mc_parse.specs.declared.line.Line.TheVariants.{Bare, Block}
 use Rattle.mc_parse.specs.declared.line.Head.{Head}
 use Rattle.mc_parse.specs.declared.line.Head.TheVariants.{Store, Cas}
 use Rattle.mc_parse.specs.declared.name.Name.{Name}
-use Rattle.mc_parse.specs.declared.name.Name.TheVariants.{Store as StoreName, Cas as CasName, Get as GetName, GetTouch as GetTouchName, Touch as TouchName, Delete as DeleteName, Count as CountName, FlushAll as FlushName, Version as VersionName, Quit as QuitName}
+use Rattle.mc_parse.specs.declared.name.Name.TheVariants.{Store as StoreName, Cas as CasName, Get as GetName, GetTouch as GetTouchName, Touch as TouchName, Delete as DeleteName, Count as CountName, FlushAll as FlushName, Lone as LoneName}
 use Rattle.mc_parse.specs.Exptimes.{exptime_of, delay_of}
 use Rattle.mc_parse.specs.Lines.{◌>>=◌, formed, is_key, key_formed, keys_formed, ending, delete_ending, delayed, fitting, name_of, store_line, cas_line, get_touch_line, touch_line, delete_line, count_line, flush_line, lone_line, named_line, meaning, IsKeyed}
 use Rattle.mc_parse.specs.Cursors.{words_before}
@@ -30,8 +31,7 @@ abbrev pub KeysBy : Shape → List (List ℕ) → Type 0
 KeysBy (Single step has_block quiet) args = IsFalse has_block × IsKeyed (λ key. KeyIs key args) step
 KeysBy (Retrieval None keys with_unique) args = args ≡ keys
 KeysBy (Retrieval (Some exptime) keys with_unique) args = drop 1 args ≡ keys
-KeysBy TellsVersion args = Unit {0}
-KeysBy Parting args = Unit {0}
+KeysBy (Alone lone) args = Unit {0}
 
 -- and so are the command's
 abbrev pub KeysAre : Command → List (List ℕ) → Type 0
@@ -139,13 +139,9 @@ flush_line-tells (word ∷ []) = either (word ∷ []) (bytes_eq word (codes "nor
 flush_line-tells (delay ∷ word ∷ rest) =
     after (delay ∷ word ∷ rest) (ending (word ∷ rest)) _ (λ quiet. delayed-tells (delay ∷ word ∷ rest) delay quiet)
 
-version_line-tells : (args : List (List ℕ)) → Tells (lone_line Version args) args
-version_line-tells [] = tt
-version_line-tells (word ∷ args) = tt
-
-quit_line-tells : (args : List (List ℕ)) → Tells (lone_line Quit args) args
-quit_line-tells [] = tt
-quit_line-tells (word ∷ args) = tt
+lone_line-tells : (lone : Lone) (args : List (List ℕ)) → Tells (lone_line lone args) args
+lone_line-tells lone [] = tt
+lone_line-tells lone (word ∷ args) = tt
 
 named_line-tells : (greatest : ℕ) (name : Name) (args : List (List ℕ)) → Tells (named_line greatest name args) args
 named_line-tells greatest (StoreName verb) args = store_line-tells greatest verb args
@@ -156,8 +152,7 @@ named_line-tells greatest TouchName args = touch_line-tells args
 named_line-tells greatest DeleteName args = delete_line-tells args
 named_line-tells greatest (CountName up) args = count_line-tells up args
 named_line-tells greatest FlushName args = flush_line-tells args
-named_line-tells greatest VersionName args = version_line-tells args
-named_line-tells greatest QuitName args = quit_line-tells args
+named_line-tells greatest (LoneName lone) args = lone_line-tells lone args
 
 pub meaning-tells : (greatest : ℕ) (ws : List (List ℕ)) → Tells (meaning greatest ws) (drop 1 ws)
 meaning-tells greatest [] = tt

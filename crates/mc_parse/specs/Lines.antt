@@ -6,9 +6,9 @@ use Rattle.mc_command.specs.Words.{is_nonempty}
 use Rattle.mc_command.specs.Numbers.{number_up_to}
 use Rattle.mc_command.specs.Commands.{steps}
 use Rattle.mc_command.specs.declared.command.Command.{Command}
-use Rattle.mc_command.specs.declared.command.Command.TheVariants.{Get, GetTouch, Touch, Delete, Count, FlushAll, Version, Quit}
+use Rattle.mc_command.specs.declared.command.Command.TheVariants.{Get, GetTouch, Touch, Delete, Count, FlushAll, Lone as LoneCommand}
+use Rattle.mc_command.specs.declared.lone.Lone.{Lone}
 use Rattle.mc_command.specs.declared.step.Verb.{Verb}
-use Rattle.mc_command.specs.declared.step.Verb.TheVariants.{Set, Add, Replace, Append, Prepend}
 use Rattle.mc_command.specs.declared.step.KeyStep.{KeyStep}
 use Rattle.mc_command.specs.declared.step.KeyStep.TheVariants.{Store as StoreStep, Cas as CasStep, Read as ReadStep, ReadTouch as ReadTouchStep, Touch as TouchStep, Delete as DeleteStep, Count as CountStep, Flush as FlushStep}
 use Rattle.mc_command.specs.declared.fault.LineFault.{LineFault}
@@ -18,30 +18,18 @@ use Rattle.mc_parse.specs.declared.line.Line.TheVariants.{Bare, Block}
 use Rattle.mc_parse.specs.declared.line.Head.{Head}
 use Rattle.mc_parse.specs.declared.line.Head.TheVariants.{Store, Cas}
 use Rattle.mc_parse.specs.declared.name.Name.{Name}
-use Rattle.mc_parse.specs.declared.name.Name.TheVariants.{Store as StoreName, Cas as CasName, Get as GetName, GetTouch as GetTouchName, Touch as TouchName, Delete as DeleteName, Count as CountName, FlushAll as FlushName, Version as VersionName, Quit as QuitName}
+use Rattle.mc_parse.specs.declared.name.Name.TheVariants.{Store as StoreName, Cas as CasName, Get as GetName, GetTouch as GetTouchName, Touch as TouchName, Delete as DeleteName, Count as CountName, FlushAll as FlushName, Lone as LoneName}
+use Rattle.mc_parse.specs.declared.name.TheConstants.{NAMES}
 use Rattle.mc_parse.specs.Exptimes.{exptime_of, delay_of}
+
+-- what the first row with this word names
+abbrev pub named : {R : Type 0} → (bytes_of : R → List ℕ) → List (R × Name) → List ℕ → Option Name
+named bytes_of [] word = None
+named bytes_of (row ∷ rows) word = if bytes_eq (bytes_of row.0) word then Some row.1 else named bytes_of rows word
 
 -- the command that a word names
 abbrev pub name_of : List ℕ → Option Name
-name_of word =
-    if bytes_eq word (codes "get") then Some (GetName false)
-    else if bytes_eq word (codes "set") then Some (StoreName Set)
-    else if bytes_eq word (codes "gets") then Some (GetName true)
-    else if bytes_eq word (codes "add") then Some (StoreName Add)
-    else if bytes_eq word (codes "replace") then Some (StoreName Replace)
-    else if bytes_eq word (codes "append") then Some (StoreName Append)
-    else if bytes_eq word (codes "prepend") then Some (StoreName Prepend)
-    else if bytes_eq word (codes "cas") then Some CasName
-    else if bytes_eq word (codes "gat") then Some (GetTouchName false)
-    else if bytes_eq word (codes "gats") then Some (GetTouchName true)
-    else if bytes_eq word (codes "touch") then Some TouchName
-    else if bytes_eq word (codes "delete") then Some DeleteName
-    else if bytes_eq word (codes "incr") then Some (CountName true)
-    else if bytes_eq word (codes "decr") then Some (CountName false)
-    else if bytes_eq word (codes "flush_all") then Some FlushName
-    else if bytes_eq word (codes "version") then Some VersionName
-    else if bytes_eq word (codes "quit") then Some QuitName
-    else None
+name_of word = named (λ name. name.now) NAMES word
 
 -- the first fault comes
 infixl 10 ◌>>=◌
@@ -158,9 +146,9 @@ flush_line (delay ∷ word ∷ rest) = do
   delayed delay quiet
 
 -- nothing more
-abbrev pub lone_line : Command → List (List ℕ) → Result Line LineFault
-lone_line command [] = Ok (Bare command)
-lone_line command (word ∷ args) = Err Unknown
+abbrev pub lone_line : Lone → List (List ℕ) → Result Line LineFault
+lone_line lone [] = Ok (Bare (LoneCommand lone))
+lone_line lone (word ∷ args) = Err Unknown
 
 -- what a line of this name says
 abbrev pub named_line : ℕ → Name → List (List ℕ) → Result Line LineFault
@@ -172,8 +160,7 @@ named_line greatest TouchName args = touch_line args
 named_line greatest DeleteName args = delete_line args
 named_line greatest (CountName up) args = count_line up args
 named_line greatest FlushName args = flush_line args
-named_line greatest VersionName args = lone_line Version args
-named_line greatest QuitName args = lone_line Quit args
+named_line greatest (LoneName lone) args = lone_line lone args
 
 -- what the words of a line say, where a charge may be at most greatest
 abbrev pub meaning : ℕ → List (List ℕ) → Result Line LineFault

@@ -4,13 +4,13 @@ use Rattle.std.specs.Str.Lines.{strip_carriage_return}
 use Rattle.mc_command.specs.Words.{words}
 use Rattle.mc_command.specs.Commands.{HasBlock, retrieval}
 use Rattle.mc_command.specs.declared.command.Command.{Command}
-use Rattle.mc_command.specs.declared.command.Command.TheVariants.{Touch as TouchCommand, Delete as DeleteCommand, Count as CountCommand, FlushAll as FlushCommand, Version as VersionCommand, Quit as QuitCommand}
+use Rattle.mc_command.specs.declared.command.Command.TheVariants.{Touch as TouchCommand, Delete as DeleteCommand, Count as CountCommand, FlushAll as FlushCommand, Lone as LoneCommand}
 use Rattle.mc_command.specs.declared.fault.LineFault.{LineFault}
 use Rattle.mc_parse.specs.declared.line.Line.{Line}
 use Rattle.mc_parse.specs.declared.line.Line.TheVariants.{Bare, Block}
 use Rattle.mc_parse.specs.declared.line.Head.TheVariants.{Store as StoreHead, Cas as CasHead}
 use Rattle.mc_parse.specs.declared.note.Said.{Said}
-use Rattle.mc_parse.specs.declared.note.Said.TheVariants.{Fault, Store, Cas, Touch, Delete, Count, FlushAll, Version, Quit}
+use Rattle.mc_parse.specs.declared.note.Said.TheVariants.{Fault, Store, Cas, Touch, Delete, Count, FlushAll, Lone}
 use Rattle.mc_parse.specs.declared.note.Kept.{Kept}
 use Rattle.mc_parse.specs.declared.note.Kept.TheVariants.{Keyed, Retrieval}
 use Rattle.mc_parse.specs.declared.note.LineNote.{LineNote}
@@ -26,8 +26,7 @@ said_of (Touch exptime quiet) key = Ok (Bare (TouchCommand key exptime quiet))
 said_of (Delete quiet) key = Ok (Bare (DeleteCommand key quiet))
 said_of (Count up by quiet) key = Ok (Bare (CountCommand key up by quiet))
 said_of (FlushAll delay quiet) key = Ok (Bare (FlushCommand delay quiet))
-said_of Version key = Ok (Bare VersionCommand)
-said_of Quit key = Ok (Bare QuitCommand)
+said_of (Lone lone) key = Ok (Bare (LoneCommand lone))
 
 abbrev pub is_keyed : Said → Bool
 is_keyed (Fault fault) = false
@@ -37,8 +36,7 @@ is_keyed (Touch exptime quiet) = true
 is_keyed (Delete quiet) = true
 is_keyed (Count up by quiet) = true
 is_keyed (FlushAll delay quiet) = false
-is_keyed Version = false
-is_keyed Quit = false
+is_keyed (Lone lone) = false
 
 -- a line's command has no block
 abbrev pub StandsInLine : Command → Type 0

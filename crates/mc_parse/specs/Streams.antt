@@ -2,7 +2,8 @@
 use Rattle.std.specs.Prelude.{◌≡◌, ℕ, Bool, true, false, List, [], ◌∷◌, ◌++◌, drop}
 use Rattle.std.specs.Bool.{MatchBool}
 use Rattle.mc_command.specs.declared.command.Command.{Command}
-use Rattle.mc_command.specs.Commands.{Shape, Single, Retrieval, TellsVersion, Parting, shape}
+use Rattle.mc_command.specs.Commands.{Shape, Single, Retrieval, Alone, shape}
+use Rattle.mc_command.specs.Lones.{closes}
 use Rattle.mc_command.specs.declared.fault.LineFault.{LineFault}
 use Rattle.mc_command.specs.declared.fault.LineFault.TheVariants.{Unknown, BadFormat, BadDelta, TooLarge, BadChunk}
 use Rattle.mc_parse.specs.Units.{ProtocolUnit, Request, Fault, LongLine, Spells}
@@ -12,8 +13,7 @@ use Rattle.mc_parse.specs.Peeks.{BeginsWithNone}
 abbrev pub is_quit_by : Shape → Bool
 is_quit_by (Single step has_block quiet) = false
 is_quit_by (Retrieval exptime keys with_unique) = false
-is_quit_by TellsVersion = false
-is_quit_by Parting = true
+is_quit_by (Alone lone) = closes lone
 
 -- a command ends its stream
 abbrev pub is_quit : Command → Bool

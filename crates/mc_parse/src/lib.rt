@@ -20,7 +20,7 @@ pub use laws::{
 };
 pub use line::{Head, Line, line_of};
 pub use line_laws::{keys_of_a_line_are_keys, words_hold_no_space_or_feed};
-pub use name::Name;
+pub use name::{NAMES, Name};
 pub use peek::{Peek, peek_at};
 pub use queue::{Append, Queue};
 

@@ -27,7 +27,7 @@ ghost use Rattle.mc_parse.specs.Lines.{
 use crate::exptime::{delay_of, exptime_of};
 use crate::name::{Name, name_of};
 use mc_command::{
-    Bytes, Command, Keys, LineFault, Verb, Words, first_key, first_word, number_up_to,
+    Bytes, Command, Keys, LineFault, Lone, Verb, Words, first_key, first_word, number_up_to,
 };
 
 /// What a line says.
@@ -78,8 +78,7 @@ pub fn line_of(greatest: u64, text: &[u8]) -> Result<Line<'_>, LineFault>
         Name::Delete => delete_line(args),
         Name::Count { up } => count_line(up, args),
         Name::FlushAll => flush_line(args),
-        Name::Version => lone_line(Command::Version, args),
-        Name::Quit => lone_line(Command::Quit, args),
+        Name::Lone(lone) => lone_line(lone, args),
     }
 }
 
@@ -214,11 +213,11 @@ fn flush_line(args: &[u8]) -> Result<Line<'_>, LineFault>
 }
 
 /// Reads the line of a command that is its name alone.
-fn lone_line<'a>(command: Command<'a>, args: &[u8]) -> Result<Line<'a>, LineFault>
-    ensures { result ≡ lone_line command.entry (words args.now) }
+fn lone_line(lone: Lone, args: &[u8]) -> Result<Line<'_>, LineFault>
+    ensures { result ≡ lone_line lone (words args.now) }
 {
     match first_word(args) {
-        None => Ok(Line::Bare(command)),
+        None => Ok(Line::Bare(Command::Lone(lone))),
         Some(_) => Err(LineFault::Unknown),
     }
 }

@@ -1,7 +1,10 @@
 ghost use Rattle.std.specs.Prelude.{◌≡◌};
-ghost use Rattle.mc_parse.specs.Lines.{name_of};
+ghost use Rattle.std.specs.List.{find};
+ghost use Rattle.std.specs.Option.{option_map};
+ghost use Rattle.std.specs.Str.{bytes_eq};
+ghost use Rattle.mc_parse.specs.Lines.{name_of, named};
 
-use mc_command::Verb;
+use mc_command::{Lone, Verb};
 
 /// The commands as their first word names them.
 #[derive(Clone, Copy, Debug, PartialEq, Eq)]
@@ -18,50 +21,50 @@ pub enum Name {
     /// incr counts up, decr down
     Count { up: bool },
     FlushAll,
-    Version,
-    Quit,
+    /// version, quit
+    Lone(Lone),
 }
 
-/// Finds the command that a word names. Those that come most often are asked for first.
+/// The names of the commands. Those that come most often stand first.
+pub const NAMES: [(&[u8], Name); 17] = [
+    (b"get", Name::Get { with_unique: false }),
+    (b"set", Name::Store(Verb::Set)),
+    (b"gets", Name::Get { with_unique: true }),
+    (b"add", Name::Store(Verb::Add)),
+    (b"replace", Name::Store(Verb::Replace)),
+    (b"append", Name::Store(Verb::Append)),
+    (b"prepend", Name::Store(Verb::Prepend)),
+    (b"cas", Name::Cas),
+    (b"gat", Name::GetTouch { with_unique: false }),
+    (b"gats", Name::GetTouch { with_unique: true }),
+    (b"touch", Name::Touch),
+    (b"delete", Name::Delete),
+    (b"incr", Name::Count { up: true }),
+    (b"decr", Name::Count { up: false }),
+    (b"flush_all", Name::FlushAll),
+    (b"version", Name::Lone(Lone::Version)),
+    (b"quit", Name::Lone(Lone::Quit)),
+];
+
+/// Finds the command that a word names.
 pub(crate) fn name_of(word: &[u8]) -> Option<Name>
     ensures { result ≡ name_of word.now }
 {
-    let name = if word == b"get".as_slice() {
-        Name::Get { with_unique: false }
-    } else if word == b"set".as_slice() {
-        Name::Store(Verb::Set)
-    } else if word == b"gets".as_slice() {
-        Name::Get { with_unique: true }
-    } else if word == b"add".as_slice() {
-        Name::Store(Verb::Add)
-    } else if word == b"replace".as_slice() {
-        Name::Store(Verb::Replace)
-    } else if word == b"append".as_slice() {
-        Name::Store(Verb::Append)
-    } else if word == b"prepend".as_slice() {
-        Name::Store(Verb::Prepend)
-    } else if word == b"cas".as_slice() {
-        Name::Cas
-    } else if word == b"gat".as_slice() {
-        Name::GetTouch { with_unique: false }
-    } else if word == b"gats".as_slice() {
-        Name::GetTouch { with_unique: true }
-    } else if word == b"touch".as_slice() {
-        Name::Touch
-    } else if word == b"delete".as_slice() {
-        Name::Delete
-    } else if word == b"incr".as_slice() {
-        Name::Count { up: true }
-    } else if word == b"decr".as_slice() {
-        Name::Count { up: false }
-    } else if word == b"flush_all".as_slice() {
-        Name::FlushAll
-    } else if word == b"version".as_slice() {
-        Name::Version
-    } else if word == b"quit".as_slice() {
-        Name::Quit
-    } else {
-        return None;
-    };
-    Some(name)
+    named(&NAMES, word)
+}
+
+/// Finds what the first row with this word names.
+fn named(rows: &[(&[u8], Name)], word: &[u8]) -> Option<Name>
+    ensures { result ≡ named (λ name. name.now) rows.now word.now }
+{
+    row_named(rows, word)
+}
+
+/// Finds what the first row with this word names, as `find` says it.
+fn row_named(rows: &[(&[u8], Name)], word: &[u8]) -> Option<Name>
+    ensures { result ≡ option_map (λ row. row.1)
+        (find (λ row. bytes_eq row.0.now word.now) rows.now) }
+{
+    let (_, name) = rows.iter().find(|row| row.0 == word)?;
+    Some(*name)
 }

@@ -7,7 +7,7 @@ ghost use Rattle.mc_parse.specs.declared.line.Line.TheVariants.{Bare, Block};
 
 use crate::line::{Head, Line};
 use crate::peek::{Peek, peek_said};
-use mc_command::{Bytes, Command, LineFault, Verb, first_word_len, spaces_len};
+use mc_command::{Bytes, Command, LineFault, Lone, Verb, first_word_len, spaces_len};
 
 /// What a line other than a retrieval's says beside its key. It lends nothing, so it can be kept.
 #[derive(Clone, Copy)]
@@ -45,8 +45,7 @@ pub enum Said {
         delay: u64,
         quiet: bool,
     },
-    Version,
-    Quit,
+    Lone(Lone),
 }
 
 /// What is kept of a line.
@@ -169,8 +168,7 @@ fn line_again(said: Said, key: &[u8]) -> Result<Line<'_>, LineFault>
         Said::Delete { quiet } => Ok(Line::Bare(Command::Delete { key, quiet })),
         Said::Count { up, by, quiet } => Ok(Line::Bare(Command::Count { key, up, by, quiet })),
         Said::FlushAll { delay, quiet } => Ok(Line::Bare(Command::FlushAll { delay, quiet })),
-        Said::Version => Ok(Line::Bare(Command::Version)),
-        Said::Quit => Ok(Line::Bare(Command::Quit)),
+        Said::Lone(lone) => Ok(Line::Bare(Command::Lone(lone))),
     }
 }
 
@@ -261,8 +259,7 @@ fn kept_command(command: Command<'_>) -> Kept<'_>
         Command::Delete { key, quiet } => Kept::Keyed(Said::Delete { quiet }, key),
         Command::Count { key, up, by, quiet } => Kept::Keyed(Said::Count { up, by, quiet }, key),
         Command::FlushAll { delay, quiet } => keyless(Said::FlushAll { delay, quiet }),
-        Command::Version => keyless(Said::Version),
-        Command::Quit => keyless(Said::Quit),
+        Command::Lone(lone) => keyless(Said::Lone(lone)),
         Command::Store { .. } | Command::Cas { .. } => unreachable!(),
     }
 }

@@ -3,7 +3,7 @@ ghost use Rattle.std.specs.Option.{option_map};
 ghost use Rattle.mc_parse.specs.Peeks.{unit_of};
 
 use super::*;
-use mc_command::{Command, LineFault, Verb};
+use mc_command::{Command, LineFault, Lone, Verb};
 use std::alloc::{AllocError, Global};
 use std::test::*;
 
@@ -192,10 +192,10 @@ fn faults_and_more(rt: HostRuntime) {
         );
     }
     let version = peek_at(GREATEST, b"  version  \r\n");
-    assert!(rt; matches!(version, Peek::Whole(Command::Version, 13)));
+    assert!(rt; matches!(version, Peek::Whole(Command::Lone(Lone::Version), 13)));
     // A line feed ends a line by itself, and one carriage return before it says nothing.
     let version = peek_at(GREATEST, b"version\n");
-    assert!(rt; matches!(version, Peek::Whole(Command::Version, 8)));
+    assert!(rt; matches!(version, Peek::Whole(Command::Lone(Lone::Version), 8)));
     let twice = peek_at(GREATEST, b"version\r\r\n");
     assert!(rt; matches!(twice, Peek::Bad(LineFault::Unknown, 10)));
     assert!(rt; matches!(peek_at(GREATEST, b"set a 0 0 5\r\nab"), Peek::More));
@@ -211,7 +211,7 @@ fn the_longest_line(rt: HostRuntime) -> Result<(), AllocError> {
     assert!(rt;
         matches!(
             peek_at(GREATEST, &longest),
-            Peek::Whole(Command::Version, 65537)
+            Peek::Whole(Command::Lone(Lone::Version), 65537)
         )
     );
     let mut longer = long_line(rt.alloc(), 65537)?;
@@ -239,12 +239,12 @@ fn a_block_that_is_passed_over(rt: HostRuntime) -> Result<(), AllocError> {
         assert!(rt; matches!(feed.peek(), Peek::More));
     }
     assert!(rt; push_at_last(&mut feed, b"version\r\nqu")?);
-    assert!(rt; matches!(feed.peek(), Peek::Whole(Command::Version, 9)));
+    assert!(rt; matches!(feed.peek(), Peek::Whole(Command::Lone(Lone::Version), 9)));
     assert_eq!(rt; pass_unit(&mut feed), Some(9));
     assert_eq!(rt; feed.held(), 2);
     assert!(rt; matches!(feed.peek(), Peek::More));
     assert!(rt; push_at_last(&mut feed, b"it\r\n")?);
-    assert!(rt; matches!(feed.peek(), Peek::Whole(Command::Quit, 6)));
+    assert!(rt; matches!(feed.peek(), Peek::Whole(Command::Lone(Lone::Quit), 6)));
     feed.clear();
     assert_eq!(rt; feed.held(), 0);
     Ok(())
@@ -273,7 +273,7 @@ fn what_is_passed_over_is_never_held(rt: HostRuntime) -> Result<(), AllocError> 
     assert!(rt; feed.held() == 0 && matches!(feed.peek(), Peek::More));
     assert!(rt; push_at_last(&mut feed, b"version\r\n")?);
     assert_eq!(rt; feed.held(), 9);
-    assert!(rt; matches!(feed.peek(), Peek::Whole(Command::Version, 9)));
+    assert!(rt; matches!(feed.peek(), Peek::Whole(Command::Lone(Lone::Version), 9)));
     Ok(())
 }
 
@@ -292,7 +292,12 @@ fn a_retrieval_in_turns(rt: HostRuntime) -> Result<(), AllocError> {
     }
     assert!(rt; is_gats_60(feed.peek_after(usize::MAX), 0, b""));
     assert_eq!(rt; pass_unit(&mut feed), Some(25));
-    assert!(rt; matches!(feed.peek_after(1), Peek::Whole(Command::Quit, 6)));
+    assert!(rt;
+        matches!(
+            feed.peek_after(1),
+            Peek::Whole(Command::Lone(Lone::Quit), 6)
+        )
+    );
     Ok(())
 }
 
@@ -341,7 +346,12 @@ fn the_longest_line_in_pieces(rt: HostRuntime) -> Result<(), AllocError> {
     assert_eq!(rt; feed.held(), 65536);
     assert!(rt; matches!(feed.peek(), Peek::More));
     assert!(rt; push_at_last(&mut feed, b"\n")?);
-    assert!(rt; matches!(feed.peek(), Peek::Whole(Command::Version, 65537)));
+    assert!(rt;
+        matches!(
+            feed.peek(),
+            Peek::Whole(Command::Lone(Lone::Version), 65537)
+        )
+    );
     Ok(())
 }
 

@@ -2,8 +2,10 @@
 use Rattle.std.specs.Prelude.{ℕ, ◌+◌, ◌<◌, ◌==◌, Bool, true, false, List, [], ◌++◌, length, vec_capacity, codes, decimal, if◌then◌else◌, Option, Some, None, slice_get}
 use Rattle.std.specs.declared.vec.Vec.{Vec}
 use Rattle.std.specs.declared.alloc.Global.{Global}
-use Rattle.mc_command.specs.Commands.{Shape, Single, Retrieval, TellsVersion, Parting, shape, is_quiet}
+use Rattle.mc_command.specs.Commands.{Shape, Single, Retrieval, Alone, shape, is_quiet}
 use Rattle.mc_command.specs.declared.command.Command.{Command}
+use Rattle.mc_command.specs.declared.lone.Lone.{Lone}
+use Rattle.mc_command.specs.declared.lone.Lone.TheVariants.{Version, Quit}
 use Rattle.mc_command.specs.declared.reply.Reply.{Reply}
 use Rattle.mc_command.specs.declared.reply.Reply.TheVariants.{Stored, NotStored, Exists, NotFound, Miss, Hit, Touched, Deleted, Number, NotNumeric, TooLarge, NoChunk, Flushed}
 use Rattle.mc_command.specs.declared.fault.LineFault.{LineFault}
@@ -86,23 +88,22 @@ abbrev pub reply_text_by : Shape → ℕ → Reply → List ℕ
 reply_text_by (Single step has_block quiet) at reply = unless_quiet quiet (said reply)
 reply_text_by (Retrieval exptime keys with_unique) at reply =
     retrieval_text keys with_unique at reply
-reply_text_by TellsVersion at reply = []
-reply_text_by Parting at reply = []
+reply_text_by (Alone lone) at reply = []
 
 -- the text of the reply to step `at` of a command
 abbrev pub reply_text : Command → ℕ → Reply → List ℕ
 reply_text command at reply = reply_text_by (shape command) at reply
 
--- what version is answered
-abbrev pub version_text : List ℕ
-version_text = codes "VERSION 1.6.0\r\n"
+-- what a command is answered that is its name alone
+abbrev pub lone_text : Lone → List ℕ
+lone_text Version = codes "VERSION 1.6.0\r\n"
+lone_text Quit = []
 
 -- the text of a command of a shape that takes no step
 abbrev pub plain_text_by : Shape → List ℕ
 plain_text_by (Single step has_block quiet) = []
 plain_text_by (Retrieval exptime keys with_unique) = []
-plain_text_by TellsVersion = version_text
-plain_text_by Parting = []
+plain_text_by (Alone lone) = lone_text lone
 
 -- the text of a command that takes no step
 abbrev pub plain_text : Command → List ℕ

@@ -1,5 +1,5 @@
 use super::*;
-use mc_command::{Block, Bytes, Command, Keys, LineFault, Reply, Verb, steps_of};
+use mc_command::{Block, Bytes, Command, Keys, LineFault, Lone, Reply, Verb, steps_of};
 use std::alloc::{AllocError, Global};
 use std::process::Abort;
 use std::test::Fail;
@@ -217,8 +217,11 @@ fn faults_and_plain_commands_have_their_texts(rt: HostRuntime) -> Result<(), Fai
             "CLIENT_ERROR bad data chunk\r\n",
         ),
         (Call::TooLong, "CLIENT_ERROR line too long\r\n"),
-        (Call::Plain(&Command::Version), "VERSION 1.6.0\r\n"),
-        (Call::Plain(&Command::Quit), ""),
+        (
+            Call::Plain(&Command::Lone(Lone::Version)),
+            "VERSION 1.6.0\r\n",
+        ),
+        (Call::Plain(&Command::Lone(Lone::Quit)), ""),
     ] {
         expect(&rt, alloc, call, want)?;
     }

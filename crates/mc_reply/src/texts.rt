@@ -1,11 +1,11 @@
 ghost use Rattle.std.specs.Prelude.{◌≡◌, ◌++◌, ◌<◌, ◌+◌, length, codes, decimal, OnOk, OnErr};
 ghost use Rattle.mc_command.specs.Commands.{steps};
 ghost use Rattle.mc_reply.specs.Texts.{reply_text, fault_text, plain_text, long_text};
-ghost use Rattle.mc_reply.specs.Texts.{spent_text, said, HasNoRoom};
+ghost use Rattle.mc_reply.specs.Texts.{lone_text, spent_text, said, HasNoRoom};
 
 use crate::numbers::Numbers;
 use crate::retrieval::write_retrieval;
-use mc_command::{Command, LineFault, Reply, is_quiet};
+use mc_command::{Command, LineFault, Lone, Reply, is_quiet};
 use std::alloc::AllocError;
 
 /// Appends the text of the reply to step `at`, with `END` after the last key of a retrieval, and
@@ -92,7 +92,7 @@ fn fault_bytes(fault: &LineFault) -> &'static [u8]
     }
 }
 
-/// Appends the text of version, and nothing for quit or a command with steps. It is refused as
+/// Appends the text of a command that is its name alone, and nothing for one with steps. It is refused as
 /// `write` is.
 pub fn write_plain(command: &Command<'_>, out: &mut Vec<u8>) -> Result<(), AllocError>
     ensures ok { OnOk result (out.new.items ≡ out.old.items ++ plain_text command.now) }
@@ -100,8 +100,18 @@ pub fn write_plain(command: &Command<'_>, out: &mut Vec<u8>) -> Result<(), Alloc
     ensures full { OnErr result (HasNoRoom out.old (plain_text command.now)) }
 {
     match command {
-        Command::Version => out.extend_from_slice(b"VERSION 1.6.0\r\n"),
+        Command::Lone(lone) => out.extend_from_slice(lone_bytes(*lone)),
         _ => Ok(()),
+    }
+}
+
+/// Returns the text of a command that is its name alone.
+fn lone_bytes(lone: Lone) -> &'static [u8]
+    ensures { result.now ≡ lone_text lone }
+{
+    match lone {
+        Lone::Version => b"VERSION 1.6.0\r\n",
+        Lone::Quit => b"",
     }
 }
 

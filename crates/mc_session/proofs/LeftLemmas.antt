@@ -3,7 +3,7 @@ use Rattle.std.proofs.Common.{◌≡◌, ◌<◌, ◌+◌, ◌-◌, ◌==◌, �
 use Rattle.std.proofs.lemmas.Bool.{cases_eq}
 use Rattle.std.proofs.lemmas.Option.{slice_get_past}
 use Rattle.std.proofs.lemmas.List.{drop-map, length-map, length-drop}
-use Rattle.mc_command.specs.Commands.{Shape, Single, Retrieval, TellsVersion, Parting, shape, shape_left, steps_by, read_step, is_quiet_by, steps, after_steps, after_steps-shape}
+use Rattle.mc_command.specs.Commands.{Shape, Single, Retrieval, Alone, shape, shape_left, steps_by, read_step, is_quiet_by, steps, after_steps, after_steps-shape}
 use Rattle.mc_command.specs.declared.command.Command.{Command}
 use Rattle.mc_command.specs.declared.step.KeyStep.{KeyStep}
 use Rattle.mc_command.specs.declared.step.Steps.{Ghosts as Relations}
@@ -35,8 +35,7 @@ same_test a b c d there back =
 steps_by_left : (its : Shape) (taken : ℕ) → taken < max 1 (length (steps_by its)) → steps_by (shape_left its taken) ≡ drop taken (steps_by its)
 steps_by_left (Single step has_block quiet) taken due = let none : taken ≡ 0 = omega arith in rw none refl
 steps_by_left (Retrieval exptime keys with_unique) taken due = sym (drop-map _ taken keys)
-steps_by_left TellsVersion taken due = let none : taken ≡ 0 = omega arith in rw none refl
-steps_by_left Parting taken due = let none : taken ≡ 0 = omega arith in rw none refl
+steps_by_left (Alone lone) taken due = let none : taken ≡ 0 = omega arith in rw none refl
 
 steps_left : (command : Command) (taken : ℕ) → taken < max 1 (length (steps command)) → steps (after_steps command taken) ≡ drop taken (steps command)
 steps_left command taken due = ap steps_by (after_steps-shape command taken) ∙ steps_by_left (shape command) taken due
@@ -62,8 +61,7 @@ retrieval_left keys with_unique taken reply due =
 reply_by_left : (its : Shape) (taken : ℕ) (reply : Reply) → taken < max 1 (length (steps_by its)) → reply_text_by (shape_left its taken) 0 reply ≡ reply_text_by its taken reply
 reply_by_left (Single step has_block quiet) taken reply due = refl
 reply_by_left (Retrieval exptime keys with_unique) taken reply due = retrieval_left keys with_unique taken reply (omega (arith, due, length-map keys (λ key. read_step exptime key)))
-reply_by_left TellsVersion taken reply due = refl
-reply_by_left Parting taken reply due = refl
+reply_by_left (Alone lone) taken reply due = refl
 
 reply_left : (command : Command) (taken : ℕ) (reply : Reply) → taken < max 1 (length (steps command)) → reply_text (after_steps command taken) 0 reply ≡ reply_text command taken reply
 reply_left command taken reply due = ap (λ its. reply_text_by its 0 reply) (after_steps-shape command taken) ∙ reply_by_left (shape command) taken reply due
@@ -77,8 +75,7 @@ pub record IsLike (one other : Shape) : Type 0 where
 like_by : (its : Shape) (taken : ℕ) → IsLike (shape_left its taken) its
 like_by (Single step has_block quiet) taken = record { quiet = refl; quit = refl; plain = refl }
 like_by (Retrieval exptime keys with_unique) taken = record { quiet = refl; quit = refl; plain = refl }
-like_by TellsVersion taken = record { quiet = refl; quit = refl; plain = refl }
-like_by Parting taken = record { quiet = refl; quit = refl; plain = refl }
+like_by (Alone lone) taken = record { quiet = refl; quit = refl; plain = refl }
 
 like_left : (command : Command) (taken : ℕ) → IsLike (shape (after_steps command taken)) (shape command)
 like_left command taken = subst (λ its. IsLike its (shape command)) (sym (after_steps-shape command taken)) (like_by (shape command) taken)

@@ -5,7 +5,7 @@ use Rattle.std.proofs.Math.Seq.{drop-nil}
 use Rattle.std.proofs.Math.ListN.{drop_of_length-le}
 use Rattle.std.proofs.lemmas.Bool.{cases_lt, eqb-true}
 use Rattle.std.proofs.lemmas.List.{append_cancel_left}
-use Rattle.mc_command.specs.Commands.{Shape, Single, Retrieval, TellsVersion, Parting, shape, steps_by}
+use Rattle.mc_command.specs.Commands.{Shape, Single, Retrieval, Alone, shape, steps_by}
 use Rattle.mc_command.specs.declared.step.Steps.{Ghosts as Relations}
 use Rattle.mc_parse.specs.Units.{ProtocolUnit, Request, Fault, LongLine}
 use Rattle.mc_parse.specs.Peeks.{BeginsWithNone}
@@ -55,8 +55,7 @@ drop_whole unit at (suc n) more = drop_whole unit (at + 1) n more
 once_by : (its : Shape) → is_quit_by its ≡ true → max 1 (length (steps_by its)) ≡ 1
 once_by (Single step has_block quiet) last = refl
 once_by (Retrieval exptime keys with_unique) last = absurd (cc)
-once_by TellsVersion last = refl
-once_by Parting last = refl
+once_by (Alone lone) last = refl
 
 -- a last unit has one turn
 last_once : (unit : ProtocolUnit) → is_last unit ≡ true → turn_count unit ≡ 1

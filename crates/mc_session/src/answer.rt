@@ -117,21 +117,13 @@ fn next_after(command: &Command<'_>, len: usize) -> AfterTurn
     }
 }
 
-/// Says whether a command ends its stream.
+/// Returns whether a command ends its stream.
 fn is_quit(command: &Command<'_>) -> bool
     ensures { result ≡ is_quit command.now }
 {
     match command {
-        Command::Quit => true,
-        Command::Version
-        | Command::Store { .. }
-        | Command::Cas { .. }
-        | Command::Get { .. }
-        | Command::GetTouch { .. }
-        | Command::Touch { .. }
-        | Command::Delete { .. }
-        | Command::Count { .. }
-        | Command::FlushAll { .. } => false,
+        Command::Lone(lone) => lone.closes(),
+        _ => false,
     }
 }
 
