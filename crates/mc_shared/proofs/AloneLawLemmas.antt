@@ -10,10 +10,10 @@ use Rattle.mc_shared.specs.Laws.{IsAlone, Call, with_calls, PlainAnswers}
 use Rattle.mc_shared.proofs.OrderLawLemmas.{sum_append}
 
 -- how many
-abbrev count : List HistoryEntry → ℕ
+abbrev pub count : List HistoryEntry → ℕ
 count = total (λ _. 1)
 
-none_left : (es : List HistoryEntry) → count es ≤ 0 → es ≡ []
+pub none_left : (es : List HistoryEntry) → count es ≤ 0 → es ≡ []
 none_left [] le = refl
 none_left (e ∷ es) le = absurd (omega (arith, le))
 

@@ -106,7 +106,7 @@ module _ (began : Beginning) (key : List ℕ) where
   step_rises : (m new : Plain) (step : KeyStep) (now : ℕ) (reply : Reply) → plain m step now ≡ Answered reply new → Rises m step now (Answered reply new)
   step_rises m new step now reply is = subst (Rises m step now) is (plain_rises m step now)
 
-  never_falls : (m : Plain) (what : Operation) → IsRight m what → m.next_unique ≤ (next began m what).next_unique
+  pub never_falls : (m : Plain) (what : Operation) → IsRight m what → m.next_unique ≤ (next began m what).next_unique
   never_falls m (Stepped step now reply) right =
       let is : (left_by m (plain m step now)).next_unique ≡ right.0.next_unique = ap (λ o. (left_by m o).next_unique) right.1 in
       let up = (step_rises m right.0 step now reply right.1).0 in omega (arith, is, up)
@@ -171,6 +171,11 @@ module _ (began : Beginning) (key : List ℕ) where
         let drew = draws.0 in
         let here : Above m.next_unique (next began front e.what) = (omega (arith, up, drew), λ i is. let number = draws.1 i is in omega (arith, up, number)) in
         subst (Above m.next_unique) (sym (after_parts began m b (e ∷ r))) (all_above m.next_unique (next began front e.what) r parts.1.1 here)
+
+pub written_numbers : OthersStay → (began : Beginning) (key : List ℕ) (m : Plain) (b r : List HistoryEntry) (e : HistoryEntry) → IsLegal began m (b ++ e ∷ r) → Wrote key e.what
+    → (i : Item) → get (after began m (b ++ e ∷ r)).items key ≡ Some i → m.next_unique ≤ i.unique
+unfolding Above
+written_numbers stay began key m b r e legal wrote = (fresh began key stay m b r e legal wrote).1
 
 -- ---- a cas that stored met its number
 abbrev Met : Plain → List ℕ → ℕ → Outcome → Type 0

@@ -14,3 +14,5 @@ pub mod ReadLawLemmas
 pub mod OnlyLawLemmas
 pub mod CasLawLemmas
 pub mod CountLawLemmas
+pub mod BackLawLemmas
+pub mod TogetherLawLemmas

@@ -17,7 +17,7 @@ module _ (f : HistoryEntry → ℕ) where
       (λ none. let rest = find es (omega (arith, some, none)) in (rest.0, stands_behind x rest.0 es rest.1, rest.2))
       (λ weighs. (x, ([], es, refl), weighs))
 
-  weight_in : (es : List HistoryEntry) (e : HistoryEntry) → StandsIn es e → f e ≤ total f es
+  pub weight_in : (es : List HistoryEntry) (e : HistoryEntry) → StandsIn es e → f e ≤ total f es
   weight_in es e s = let is : total f es ≡ total f (s.0 ++ e ∷ s.1) = ap (total f) s.2 in omega (arith, is, sum_append f s.0 (e ∷ s.1))
 
 -- what stands in two lists one after the other
@@ -28,7 +28,7 @@ in_either (x ∷ xs) ys e s = ⊎_elim
     (λ (more : StandsIn (xs ++ ys) e). ⊎_elim (λ (front : StandsIn xs e). inl (stands_behind x e xs front)) inr (in_either xs ys e more))
     (first_or_behind x e (xs ++ ys) s)
 
-held_has : (p : Past) (e : HistoryEntry) → StandsIn (held p) e → Has p e
+pub held_has : (p : Past) (e : HistoryEntry) → StandsIn (held p) e → Has p e
 held_has spent e s = none_stands e s
 held_has (start c seen) e s = absurd (none_stands e s)
 held_has (call p d) e s = ⊎_elim (λ (front : StandsIn (held p) e). inr (held_has p e front))

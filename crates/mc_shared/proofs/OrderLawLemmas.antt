@@ -5,7 +5,7 @@ use Rattle.mc_shared.specs.Sums.{total}
 use Rattle.mc_shared.specs.History.{Name, Operation, HistoryEntry}
 use Rattle.mc_shared.specs.Past.{Past, spent, start, call, made, both, name_of, held, Ordered, same, called_by, count_calls, KeptBy}
 use Rattle.mc_shared.specs.Steps.{entry_of}
-use Rattle.mc_shared.specs.Laws.{StandsIn, StandsBefore, Has, IsWithin, WentOn}
+use Rattle.mc_shared.specs.Laws.{StandsIn, StandsBefore, Has, IsWithin, Knew, WentOn}
 
 -- in a longer history it stands too
 pub stands_longer : (log more : List HistoryEntry) (e : HistoryEntry) → StandsIn log e → StandsIn (log ++ more) e
@@ -69,6 +69,16 @@ keeps_order log p q r e first kept inner outer has =
       rest = s.rest ++ f.1;
       is = f.2 ∙ ap (λ es. es ++ f.1) s.is ∙ append_assoc (s.before ++ first ∷ s.between) (e ∷ s.rest) f.1;
     }
+
+within_itself : (p : Past) → IsWithin p p
+within_itself spent = refl
+within_itself (start c seen) = inl refl
+within_itself (call p e) = inl refl
+within_itself (made p d) = inl refl
+within_itself (both p q) = inl refl
+
+pub knew_before : (log : List HistoryEntry) (p : Past) (later known : HistoryEntry) → KeptBy log p → Knew p later known → StandsBefore log known later
+knew_before log p later known kept knew = keeps_order log knew.0 knew.0 p later known kept knew.1 (within_itself knew.0) knew.2
 
 pub keeps_all : (log : List HistoryEntry) (p : Past) (e : HistoryEntry) → KeptBy log p → Has p e → StandsIn log e
 keeps_all log p e kept has = stands_in p log e kept.ordered has

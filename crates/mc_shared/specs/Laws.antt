@@ -1,10 +1,10 @@
 -- What the laws of a shared store speak of.
-use Rattle.std.specs.Prelude.{◌≡◌, ℕ, ◌*◌, ◌<◌, ◌⊎◌, true, List, [], ◌∷◌, ◌++◌, Option, Some, None}
+use Rattle.std.specs.Prelude.{◌≡◌, ℕ, ◌*◌, ◌<◌, ◌≤◌, ◌⊎◌, true, List, [], ◌∷◌, ◌++◌, Option, Some, None}
 use Rattle.std.specs.FinMap.{get}
 use Rattle.mc_time.specs.Death.{expiry_of}
 use Rattle.mc_command.specs.declared.step.Verb.TheVariants.{Append, Prepend}
 use Rattle.mc_command.specs.declared.step.KeyStep.{KeyStep}
-use Rattle.mc_command.specs.declared.step.KeyStep.TheVariants.{Store, Cas, Read, Count, Flush}
+use Rattle.mc_command.specs.declared.step.KeyStep.TheVariants.{Store, Cas, Read, ReadTouch, Count, Flush}
 use Rattle.mc_command.specs.declared.reply.Reply.{Reply}
 use Rattle.mc_command.specs.declared.reply.Reply.TheVariants.{Stored, Hit, Number}
 use Rattle.mc_command.specs.Commands.{key_of}
@@ -18,7 +18,8 @@ use Rattle.mc_shared.specs.Store.{with_call}
 
 -- an entry stands in a history
 abbrev pub StandsIn : List HistoryEntry → HistoryEntry → Type 0
-StandsIn log e = (before : List HistoryEntry) × (rest : List HistoryEntry) × (log ≡ before ++ e ∷ rest)
+StandsIn log e =
+    (before : List HistoryEntry) × (rest : List HistoryEntry) × (log ≡ before ++ e ∷ rest)
 
 -- an entry stands in a history before another
 pub record StandsBefore (log : List HistoryEntry) (first second : HistoryEntry) : Type 0 where
@@ -44,6 +45,11 @@ IsWithin p (start c seen) = (p ≡ start c seen) ⊎ IsWithin p seen
 IsWithin p (call q e) = (p ≡ call q e) ⊎ IsWithin p q
 IsWithin p (made q d) = (p ≡ made q d) ⊎ IsWithin p q
 IsWithin p (both q o) = (p ≡ both q o) ⊎ (IsWithin p q ⊎ IsWithin p o)
+
+-- The caller of a call knew of another when it made it: that was its own, or one that its maker had
+-- before it made it, or one of a caller that was joined into it.
+abbrev pub Knew : Past → (later known : HistoryEntry) → Type 0
+Knew p later known = (before : Past) × IsWithin (call before later) p × Has before known
 
 -- a caller had the past, and went on to the other
 abbrev pub WentOn : Past → Past → Type 0
@@ -159,6 +165,27 @@ abbrev pub Wrote : List ℕ → Operation → Type 0
 Wrote key (Stepped step now Stored) = key_of step ≡ key
 Wrote key (Stepped step now (Number number)) = key_of step ≡ key
 Wrote key what = ⊥
+
+-- what a hit tells of an item
+pub record Found : Type 0 where
+  pub flags : ℕ
+  pub unique : ℕ
+  pub block : List ℕ
+
+-- the reply that tells it
+abbrev pub hit : Found → Reply
+hit found = Hit found.flags found.unique found.block
+
+-- a read of a key, a get or a gat, that hit and was told this
+abbrev pub IsHit : List ℕ → Found → Operation → Type 0
+IsHit key found (Stepped (Read other) now reply) = (other ≡ key) × (reply ≡ hit found)
+IsHit key found (Stepped (ReadTouch other exptime) now reply) = (other ≡ key) × (reply ≡ hit found)
+IsHit key found what = ⊥
+
+-- what is found is no older than what was: its unique number is no smaller, and where that is the
+-- same, so are the flags and the block
+abbrev pub IsNoOlder : (was is : Found) → Type 0
+IsNoOlder was is = (was.unique ≤ is.unique) × (is.unique ≡ was.unique → is ≡ was)
 
 -- the unique number of each item was drawn: it is below the next one
 abbrev pub HasDrawnNumbers : Plain → Type 0

@@ -12,3 +12,4 @@ pub mod Stacks
 pub mod Close
 pub mod Asking
 pub mod Laws
+pub mod Together

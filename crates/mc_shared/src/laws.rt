@@ -3,22 +3,43 @@
 //! They speak of every legal history that keeps a caller's past; that there is one is what each
 //! call promises. So they tell what callers read of one another, whichever history it was.
 
-ghost use Rattle.std.specs.Prelude.{◌≡◌, ◌+◌, ◌%◌, ◌^◌, ◌<◌, ◌≤◌, ◌⊎◌, ℕ, ℤ, List, [], ◌∷◌, ◌++◌, Some, None};
+ghost use Rattle.std.specs.Prelude.{◌≡◌, ◌+◌, ◌%◌, ◌^◌, ◌<◌, ◌≤◌, ◌⊎◌, ℕ, ℤ};
+ghost use Rattle.std.specs.Prelude.{List, [], ◌∷◌, ◌++◌, Some, None};
 ghost use Rattle.mc_command.specs.declared.step.KeyStep.{KeyStep};
 ghost use Rattle.mc_command.specs.declared.reply.Reply.{Reply};
 ghost use Rattle.mc_command.specs.Commands.{key_of};
 ghost use Rattle.mc_command.specs.Laws.{IsOnKey};
-ghost use Rattle.mc_command.specs.Plain.{opening};
+ghost use Rattle.mc_command.specs.Plain.{Plain, opening};
 ghost use Rattle.mc_command.specs.Plain.{Entry as Item};
 ghost use Rattle.mc_shared.specs.Sums.{total};
-ghost use Rattle.mc_shared.specs.History.{Beginning, Operation, Stepped, HistoryEntry, after, IsLegal};
+ghost use Rattle.mc_shared.specs.History.{Beginning, Operation, Stepped, HistoryEntry};
+ghost use Rattle.mc_shared.specs.History.{after, IsLegal};
 ghost use Rattle.mc_shared.specs.Past.{Past, spent, call, held, callers, times, Whole, KeptBy};
 ghost use Rattle.mc_shared.specs.Past as past;
 ghost use Rattle.mc_shared.specs.Steps.{entry_of, Agrees};
 ghost use Rattle.mc_shared.specs.Store.{with_call};
-ghost use Rattle.mc_shared.specs.Laws.{StandsIn, StandsBefore, Has, IsWithin, WentOn, IsAlone, Call, with_calls, PlainAnswers, MayChange, ReadsLatest, ReadsWrite, item_after, item_given, HasItem, Wrote, HasDrawnNumbers, IsWrittenIn, IsNumber, IsCount, counts_up};
+ghost use Rattle.mc_shared.specs.Close.{IsAfter};
+ghost use Rattle.mc_shared.specs.Laws.{StandsIn, StandsBefore, Has, IsWithin, Knew, WentOn};
+ghost use Rattle.mc_shared.specs.Laws.{IsAlone, Call, with_calls, PlainAnswers};
+ghost use Rattle.mc_shared.specs.Laws.{MayChange, ReadsLatest, ReadsWrite, item_after, item_given};
+ghost use Rattle.mc_shared.specs.Laws.{Found, IsHit, IsNoOlder, HasItem, Wrote, HasDrawnNumbers};
+ghost use Rattle.mc_shared.specs.Laws.{IsWrittenIn, IsNumber, IsCount, counts_up};
+ghost use Rattle.mc_shared.specs.Together.{AreAnswered};
 
 use mc_command::other_keys_stay;
+
+/// States what all callers have together, in however many threads: one plain store. There is one
+/// list of all calls that a caller's past has, each once, in which each call stands behind all that
+/// its caller knew when it made it; and the plain machine, asked them one after another from what
+/// the store began with, answers each as its caller was answered. Calls by others may stand in the
+/// list too; once all callers are joined it has exactly their calls. A store that is closed has the
+/// state in which such a list leaves the plain machine.
+pub fn callers_share_a_plain_store()
+    ensures one { (began : Beginning) (p : Past) → Agrees began p →
+        (calls : List HistoryEntry) × (left : Plain) × AreAnswered began p calls left }
+    ensures closed { (began : Beginning) (p : Past) (left : Plain) → IsAfter began p left →
+        (calls : List HistoryEntry) × AreAnswered began p calls left }
+{}
 
 /// States that calls stand in the history as they were made: what a caller's past had when it made
 /// a call stands before that call. So a caller's own calls stand in their order, what a maker had
@@ -72,11 +93,11 @@ pub fn a_known_write_is_read()
 /// before it. So a write that a caller knows is read, or something later is; and of two such writes
 /// the later is read, or something later still.
 ///
-/// What an entry left under a key is the item that it stored as it was given, with the unique number
-/// that it drew; of a delete it is nothing.
+/// What an entry left under a key is the item that it stored as it was given, with the unique
+/// number that it drew; of a delete it is nothing.
 pub fn a_caller_reads_what_it_knows()
-    ensures latest { (began : Beginning) (log : List HistoryEntry) (p : Past) (key : List ℕ) (now : ℕ)
-        (reply : Reply) (known : HistoryEntry) →
+    ensures latest { (began : Beginning) (log : List HistoryEntry) (p : Past) (key : List ℕ)
+        (now : ℕ) (reply : Reply) (known : HistoryEntry) →
         IsLegal began began.plain log → KeptBy log (with_call p (KeyStep.Read key) now reply) →
         Has p known → MayChange began key known.what →
         ReadsLatest began log p key now reply (entry_of p (Stepped (KeyStep.Read key) now reply)) }
@@ -86,11 +107,37 @@ pub fn a_caller_reads_what_it_knows()
         write.what ≡ Stepped step then Reply.Stored →
         item_given step then (after began began.plain before).next_unique ≡ Some item →
         item_after began (before ++ write ∷ []) (key_of step) ≡ Some item }
-    ensures deleted { (began : Beginning) (log before rest : List HistoryEntry) (delete : HistoryEntry)
-        (key : List ℕ) (then : ℕ) (reply : Reply) →
+    ensures deleted { (began : Beginning) (log before rest : List HistoryEntry)
+        (delete : HistoryEntry) (key : List ℕ) (then : ℕ) (reply : Reply) →
         IsLegal began began.plain log → log ≡ before ++ delete ∷ rest →
         delete.what ≡ Stepped (KeyStep.Delete key) then reply →
         item_after began (before ++ delete ∷ []) key ≡ None }
+{
+    other_keys_stay();
+}
+
+/// States that no read goes back. Where a get or a gat hits, and its caller knows of an earlier hit
+/// of the key (its own, one that its maker had before it made it, or one of a caller that was
+/// joined into it), it is told no smaller unique number; and where it is told the same number, the
+/// same flags and the same block. That holds of any two hits of a key in the history, whoever made
+/// them; and the same number twice says that no entry between them wrote the key. It holds where
+/// the number of each item was drawn, which it was in a new store, and stays so.
+pub fn no_read_goes_back()
+    ensures known { (began : Beginning) (p : Past) (first second : HistoryEntry) (key : List ℕ)
+        (was is : Found) →
+        HasDrawnNumbers began.plain → Agrees began p → Knew p second first →
+        IsHit key was first.what → IsHit key is second.what → IsNoOlder was is }
+    ensures history { (began : Beginning) (log : List HistoryEntry) (first second : HistoryEntry)
+        (key : List ℕ) (was is : Found) →
+        HasDrawnNumbers began.plain → IsLegal began began.plain log →
+        StandsBefore log first second →
+        IsHit key was first.what → IsHit key is second.what → IsNoOlder was is }
+    ensures written { (began : Beginning) (log : List HistoryEntry)
+        (first second other : HistoryEntry) (key : List ℕ) (was is : Found) →
+        HasDrawnNumbers began.plain → IsLegal began began.plain log →
+        (places : StandsBefore log first second) →
+        IsHit key was first.what → IsHit key is second.what →
+        StandsIn places.between other → Wrote key other.what → was.unique < is.unique }
 {
     other_keys_stay();
 }
@@ -99,7 +146,8 @@ pub fn a_caller_reads_what_it_knows()
 /// past has its calls, in their order, and nothing else; so each reply is the plain machine's, from
 /// the state that the store began with.
 pub fn a_caller_alone_has_a_plain_store()
-    ensures history { (log : List HistoryEntry) (p : Past) → IsAlone p → KeptBy log p → log ≡ held p }
+    ensures history { (log : List HistoryEntry) (p : Past) →
+        IsAlone p → KeptBy log p → log ≡ held p }
     ensures legal { (began : Beginning) (p : Past) →
         IsAlone p → Agrees began p → IsLegal began began.plain (held p) }
     ensures replies { (began : Beginning) (calls : List Call) →
@@ -110,8 +158,8 @@ pub fn a_caller_alone_has_a_plain_store()
 /// the store began, or one of the entries before the read wrote it, with the unique number that
 /// that entry drew.
 pub fn nothing_is_made_up()
-    ensures { (began : Beginning) (log front rest : List HistoryEntry) (read : HistoryEntry) (step : KeyStep)
-        (now flags unique : ℕ) (block : List ℕ) →
+    ensures { (began : Beginning) (log front rest : List HistoryEntry) (read : HistoryEntry)
+        (step : KeyStep) (now flags unique : ℕ) (block : List ℕ) →
         IsLegal began began.plain log → log ≡ front ++ read ∷ rest →
         read.what ≡ Stepped step now (Reply.Hit flags unique block) →
         HasItem began.plain (key_of step) flags unique block
@@ -128,12 +176,14 @@ pub fn a_cas_is_of_what_was_read()
     ensures stays { (began : Beginning) (log : List HistoryEntry) →
         HasDrawnNumbers began.plain → IsLegal began began.plain log →
         HasDrawnNumbers (after began began.plain log) }
-    ensures unwritten { (began : Beginning) (log : List HistoryEntry) (read cas other : HistoryEntry) (step : KeyStep)
-        (then now flags unique more : ℕ) (exptime : ℤ) (block brought : List ℕ) →
+    ensures unwritten { (began : Beginning) (log : List HistoryEntry)
+        (read cas other : HistoryEntry) (step : KeyStep) (then now flags unique more : ℕ)
+        (exptime : ℤ) (block brought : List ℕ) →
         HasDrawnNumbers began.plain → IsLegal began began.plain log →
         (places : StandsBefore log read cas) →
         read.what ≡ Stepped step then (Reply.Hit flags unique block) →
-        cas.what ≡ Stepped (KeyStep.Cas (key_of step) more exptime brought unique) now Reply.Stored →
+        cas.what
+        ≡ Stepped (KeyStep.Cas (key_of step) more exptime brought unique) now Reply.Stored →
         StandsIn places.between other → Wrote (key_of step) other.what → ⊥ }
 {
     other_keys_stay();
@@ -149,9 +199,11 @@ pub fn no_count_is_lost()
         ((e : HistoryEntry) → StandsIn log e → MayChange began key e.what → IsCount key e.what) →
         IsNumber (after began began.plain (front ++ log)) key
         ((n + total (counts_up key) log) % (2 ^ 64)) }
-    ensures whole { (began : Beginning) (log : List HistoryEntry) (p : Past) (key : List ℕ) (n : ℕ) →
+    ensures whole { (began : Beginning) (log : List HistoryEntry) (p : Past) (key : List ℕ)
+        (n : ℕ) →
         IsLegal began began.plain log → KeptBy log p → Whole p → IsNumber began.plain key n →
-        ((e : HistoryEntry) → StandsIn (held p) e → MayChange began key e.what → IsCount key e.what) →
+        ((e : HistoryEntry) → StandsIn (held p) e → MayChange began key e.what →
+        IsCount key e.what) →
         IsNumber (after began began.plain log) key
         ((n + total (counts_up key) (held p)) % (2 ^ 64)) }
 {

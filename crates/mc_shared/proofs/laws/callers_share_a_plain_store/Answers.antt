@@ -1,0 +1,8 @@
+use Rattle.mc_shared.proofs.TogetherLawLemmas.{one_order, closed_order}
+use Rattle.mc_shared.proofs.laws.callers_share_a_plain_store.Goals as goal
+
+pub returns-clause-one : goal.returns-clause-one
+returns-clause-one c = one_order
+
+pub returns-clause-closed : goal.returns-clause-closed
+returns-clause-closed c = closed_order
