@@ -16,3 +16,4 @@ pub mod CasLawLemmas
 pub mod CountLawLemmas
 pub mod BackLawLemmas
 pub mod TogetherLawLemmas
+pub mod MixLawLemmas

@@ -1,11 +1,11 @@
 -- One order of all callers' calls, which one plain machine answers.
-use Rattle.std.specs.Prelude.{◌≡◌, ◌≤◌, ◌==◌, List, [], ◌∷◌}
+use Rattle.std.specs.Prelude.{◌≡◌, ◌≤◌, ◌⊎◌, ◌==◌, List, [], ◌∷◌}
 use Rattle.std.specs.List.Sorted.{IsPermutation}
 use Rattle.mc_command.specs.Plain.{Plain, Answered, plain}
 use Rattle.mc_command.specs.Purge.{purged}
 use Rattle.mc_shared.specs.History.{Beginning, Operation, Stepped, Purged, HistoryEntry, shelf_in}
-use Rattle.mc_shared.specs.Past.{Past, held, callers, times, Whole}
-use Rattle.mc_shared.specs.Laws.{StandsIn, StandsBefore, Has, Knew}
+use Rattle.mc_shared.specs.Past.{Past, spent, start, made, both, held, callers, times, Whole}
+use Rattle.mc_shared.specs.Laws.{StandsIn, StandsBefore, Has, Knew, Call, with_calls}
 
 -- the plain machine, asked for a step, gives that reply and leaves that state; a purge, which has no
 -- reply, drops the dead items of its shelf
@@ -35,3 +35,16 @@ pub record AreAnswered (began : Beginning) (p : Past) (calls : List HistoryEntry
       → StandsIn (held p) e
   pub exactly : Whole p → IsPermutation (held p) calls
   pub answers : AnswersEach began began.plain calls left
+
+-- The first caller made another, each made its calls, and then the other was joined into the first.
+abbrev pub two_callers : (first second : List Call) → Past
+two_callers first second =
+    both (with_calls (made (start [] spent) (0 ∷ [])) first)
+    (with_calls (start (0 ∷ []) (start [] spent)) second)
+
+-- the calls of two lists in one, those of each in their order
+abbrev pub IsMixOf : (first second mix : List Call) → Type 0
+IsMixOf first second [] = (first ≡ []) × (second ≡ [])
+IsMixOf first second (c ∷ mix) =
+    ((rest : List Call) × (first ≡ c ∷ rest) × IsMixOf rest second mix)
+    ⊎ ((rest : List Call) × (second ≡ c ∷ rest) × IsMixOf first rest mix)

@@ -24,7 +24,7 @@ ghost use Rattle.mc_shared.specs.Laws.{IsAlone, Call, with_calls, PlainAnswers};
 ghost use Rattle.mc_shared.specs.Laws.{MayChange, ReadsLatest, ReadsWrite, item_after, item_given};
 ghost use Rattle.mc_shared.specs.Laws.{Found, IsHit, IsNoOlder, HasItem, Wrote, HasDrawnNumbers};
 ghost use Rattle.mc_shared.specs.Laws.{IsWrittenIn, IsNumber, IsCount, counts_up};
-ghost use Rattle.mc_shared.specs.Together.{AreAnswered};
+ghost use Rattle.mc_shared.specs.Together.{AreAnswered, two_callers, IsMixOf};
 
 use mc_command::other_keys_stay;
 
@@ -34,11 +34,18 @@ use mc_command::other_keys_stay;
 /// the store began with, answers each as its caller was answered. Calls by others may stand in the
 /// list too; once all callers are joined it has exactly their calls. A store that is closed has the
 /// state in which such a list leaves the plain machine.
+///
+/// So where the first caller made another, each made its calls, and they were joined, there is one
+/// mix of the two, in which the calls of each stand in their order, that the plain machine answers
+/// so.
 pub fn callers_share_a_plain_store()
     ensures one { (began : Beginning) (p : Past) → Agrees began p →
         (calls : List HistoryEntry) × (left : Plain) × AreAnswered began p calls left }
     ensures closed { (began : Beginning) (p : Past) (left : Plain) → IsAfter began p left →
         (calls : List HistoryEntry) × AreAnswered began p calls left }
+    ensures two { (began : Beginning) (first second : List Call) →
+        Agrees began (two_callers first second) →
+        (mix : List Call) × IsMixOf first second mix × PlainAnswers began.plain mix }
 {}
 
 /// States that calls stand in the history as they were made: what a caller's past had when it made
