@@ -17,3 +17,4 @@ pub mod CountLawLemmas
 pub mod BackLawLemmas
 pub mod TogetherLawLemmas
 pub mod MixLawLemmas
+pub mod LawUses
