@@ -6,6 +6,7 @@ ghost use Rattle.mc_shared.specs.History.{start_of, shelf_in, Purged};
 ghost use Rattle.mc_shared.specs.Past.{call};
 ghost use Rattle.mc_shared.specs.Steps.{entry_of, Agrees};
 
+use crate::steps::look;
 use crate::store::{Caller, Shared};
 use crate::waits::Gate;
 use mc_command::{KeyStep, Reply, StepFault, Steps};
@@ -14,6 +15,18 @@ use mc_time::Moment;
 use std::alloc::Global;
 use std::marker::Model;
 use std::sync::Wait;
+
+impl<K: KeyHash + Drop> Shared<K> {
+    /// Agrees with a caller on its past: there is a legal history that keeps it. Nothing changes,
+    /// nothing is waited for, and no memory is taken.
+    pub fn agree(&self, caller: &mut Caller)
+        requires { caller.old.table ≡ self.now.table }
+        ensures same { (caller.new.table ≡ caller.old.table) × (caller.new.past ≡ caller.old.past) }
+        ensures kept { Agrees (start_of K.hash_of self.now.began) caller.new.past }
+    {
+        look(&self.board, &mut caller.seat);
+    }
+}
 
 /// A caller with its store, its gate and leave to wait. Contracts see whose it is, what the store
 /// began with, and the past.
@@ -68,6 +81,15 @@ impl<'a, R: Wait, K: KeyHash + Drop, G: Gate> Asking<'a, R, K, G> {
     {
         let Asking { caller, .. } = self;
         caller
+    }
+
+    /// Agrees with the store on the caller's past: there is a legal history that keeps it. Nothing
+    /// changes, and nothing is waited for.
+    pub fn agree(&mut self)
+        ensures same { self.new ≡ self.old }
+        ensures kept { Agrees (start_of K.hash_of self.new.began) self.new.past }
+    {
+        self.shared.agree(&mut self.caller);
     }
 
     /// Tells how many shelves the store has.

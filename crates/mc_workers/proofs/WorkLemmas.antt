@@ -10,7 +10,7 @@ use Rattle.mc_parse.specs.Units.{ProtocolUnit, Request, Fault, LongLine}
 use Rattle.mc_session.specs.Turns.{Answers, AnswersStep}
 use Rattle.mc_shared.specs.History.{Beginning, Operation}
 use Rattle.mc_shared.specs.Past.{Past}
-use Rattle.mc_shared.specs.Asking.{AskingState, AsksOnce, Further, nothing, more, GoesFurther}
+use Rattle.mc_shared.specs.Asking.{AskingState, AsksOnce, moment_of, Further, nothing, more, GoesFurther}
 use Rattle.mc_workers.specs.Guests.{GuestState}
 use Rattle.mc_workers.specs.Visits.{Does, Visited, GoesRound, nobody, next}
 use Rattle.mc_workers.specs.declared.guest.Visit.{Visit}
@@ -66,27 +66,37 @@ module _ {S : Type 0} (relations : Relations S) (now : ℕ) (Keeps : S → S →
   round_keeps both olds news a c (next {old = old} {new = new} {between = b} goes answer visit) =
       both a b c (round_keeps both _ _ a b goes) (visit_keeps answer old new b c visit)
 
-further_both : (p q r : Past) → Further p q → Further q r → Further p r
-further_both p q r a nothing = a
-further_both p q r a (more what b) = more what (further_both p q _ a b)
+module _ (may_give : ℕ → Type 0) where
+  further_both : (p q r : Past) → Further may_give p q → Further may_give q r → Further may_give p r
+  further_both p q r a nothing = a
+  further_both p q r a (more what gives b) = more what gives (further_both p q _ a b)
 
-pub goes_none : {K : Type 0} (s : AskingState K) → GoesFurther s s
-goes_none s = record { began = refl; table = refl; calls = nothing }
+  pub goes_none : {K : Type 0} (s : AskingState K) → GoesFurther may_give s s
+  goes_none s = record { began = refl; table = refl; calls = nothing }
 
-pub goes_both : {K : Type 0} (a b c : AskingState K) → GoesFurther a b → GoesFurther b c → GoesFurther a c
-goes_both a b c f g = record {
-  began = g.began ∙ f.began;
-  table = g.table ∙ f.table;
-  calls = further_both a.past b.past c.past f.calls g.calls;
-}
+  pub goes_both : {K : Type 0} (a b c : AskingState K) → GoesFurther may_give a b → GoesFurther may_give b c → GoesFurther may_give a c
+  goes_both a b c f g = record {
+    began = g.began ∙ f.began;
+    table = g.table ∙ f.table;
+    calls = further_both a.past b.past c.past f.calls g.calls;
+  }
 
-pub goes_once : {K : Type 0} (start : Beginning) (what : Operation) (old new : AskingState K)
-    → AsksOnce start what old new → GoesFurther old new
-goes_once {K} start what old new asks = record {
-  began = ap (λ (s : AskingState K). s.began) asks.past;
-  table = ap (λ (s : AskingState K). s.table) asks.past;
-  calls = subst (λ (s : AskingState K). Further old.past s.past) (sym asks.past) (more what nothing);
-}
+  pub goes_once : {K : Type 0} (start : Beginning) (what : Operation) (old new : AskingState K)
+      → may_give (moment_of what) → AsksOnce start what old new → GoesFurther may_give old new
+  goes_once {K} start what old new gives asks = record {
+    began = ap (λ (s : AskingState K). s.began) asks.past;
+    table = ap (λ (s : AskingState K). s.table) asks.past;
+    calls = subst (λ (s : AskingState K). Further may_give old.past s.past) (sym asks.past) (more what gives nothing);
+  }
 
-pub goes_same : {K : Type 0} (a b : AskingState K) → b ≡ a → GoesFurther a b
-goes_same a b e = subst (GoesFurther a) (sym e) (goes_none a)
+  pub goes_same : {K : Type 0} (a b : AskingState K) → b ≡ a → GoesFurther may_give a b
+  goes_same a b e = subst (GoesFurther may_give a) (sym e) (goes_none a)
+
+-- calls at one moment are calls at moments that may be given, where this one is
+module _ (may_give : ℕ → Type 0) (now : ℕ) (gives : may_give now) where
+  further_at : (p q : Past) → Further (λ moment. moment ≡ now) p q → Further may_give p q
+  further_at p q nothing = nothing
+  further_at p q (more what is calls) = more what (subst may_give (sym is) gives) (further_at p _ calls)
+
+  pub goes_at : {K : Type 0} (a b : AskingState K) → GoesFurther (λ moment. moment ≡ now) a b → GoesFurther may_give a b
+  goes_at a b f = record { began = f.began; table = f.table; calls = further_at a.past b.past f.calls }

@@ -3,6 +3,7 @@ ghost use Rattle.std.specs.Prelude.{◌≡◌, ◌<◌, ◌≤◌, ℕ, length, 
 ghost use Rattle.mc_command.specs.Commands.{key_of};
 ghost use Rattle.mc_shared.specs.Asking.{AsksOnce, AsksStep, AsksInVain};
 ghost use Rattle.mc_shared.specs.History.{start_of, Purged};
+ghost use Rattle.mc_shared.specs.Steps.{Agrees};
 ghost use Rattle.mc_workers.specs.Tending.{asked_by};
 
 use mc_command::{KeyStep, Reply, StepFault, Steps};
@@ -56,11 +57,13 @@ impl<'a, R: Wait, K: KeyHash + Drop, G: Gate> Tending<'a, R, K, G> {
         }
     }
 
-    /// Gives the caller back.
+    /// Gives the caller back, whose past a legal history keeps.
     pub fn into_caller(self) -> Caller
-        ensures { (result.table ≡ self.entry.table) × (result.past ≡ self.entry.past) }
+        ensures same { (result.table ≡ self.entry.table) × (result.past ≡ self.entry.past) }
+        ensures kept { Agrees (start_of K.hash_of self.entry.began) result.past }
     {
-        let Tending { asking, .. } = self;
+        let Tending { mut asking, .. } = self;
+        asking.agree();
         asking.into_caller()
     }
 

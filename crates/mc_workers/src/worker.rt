@@ -1,6 +1,8 @@
 //! A worker's loop.
 ghost use Rattle.std.specs.Prelude.{◌≡◌, ◌<◌, ◌≤◌};
 ghost use Rattle.mc_shared.specs.Asking.{GoesFurther, Further};
+ghost use Rattle.mc_shared.specs.History.{start_of};
+ghost use Rattle.mc_shared.specs.Steps.{Agrees};
 
 use crate::guests::{Guests, WorkEnd};
 use crate::link::Link;
@@ -37,8 +39,11 @@ pub trait Links<L> {
 /// Serves links until none comes any more and all sessions have ended: makes rounds of the guests
 /// that are awake, and after each asks for the next link once. A step is followed by the growth of
 /// its key's shelf by 8 entries; where the clock has risen, the dead items of the next shelf in turn
-/// are dropped. The caller comes back under further calls alone. A fault of one link, and one
-/// session's want of memory, end that session alone.
+/// are dropped. The clock is asked once a round, for all of its visits.
+///
+/// The caller comes back under further calls alone, each at a moment that the clock may give, and there
+/// is a legal history that keeps its past. A fault of one link, and one session's want of memory, end
+/// that session alone.
 pub fn work<R: Wait, K: KeyHash + Drop, L: Link + Drop, Q: Links<L>, G: Gate, C: Clock>(
     rt: &R,
     alloc: Global,
@@ -50,7 +55,8 @@ pub fn work<R: Wait, K: KeyHash + Drop, L: Link + Drop, Q: Links<L>, G: Gate, C:
 ) -> (Caller, WorkEnd)
     requires own { caller.table ≡ shared.now.table }
     ensures same { result.0.table ≡ caller.table }
-    ensures calls { Further caller.past result.0.past }
+    ensures calls { Further (C.may_give clock.now) caller.past result.0.past }
+    ensures kept { Agrees (start_of K.hash_of shared.now.began) result.0.past }
 {
     let mut tending = Tending::new(rt, shared, caller, gate);
     let mut door = Door {
@@ -77,7 +83,7 @@ pub fn work<R: Wait, K: KeyHash + Drop, L: Link + Drop, Q: Links<L>, G: Gate, C:
 }
 
 /// Makes a round of those that are awake, and drops the dead items of one shelf where the clock has
-/// risen.
+/// risen, all at one moment.
 fn make_round<R: Wait, K: KeyHash + Drop, L: Link + Drop, G: Gate>(
     alloc: Global,
     guests: &mut Guests<L>,
@@ -85,7 +91,7 @@ fn make_round<R: Wait, K: KeyHash + Drop, L: Link + Drop, G: Gate>(
     before: Moment,
     now: Moment,
 )
-    ensures { GoesFurther tending.old tending.new }
+    ensures { GoesFurther (λ moment. moment ≡ now) tending.old tending.new }
 {
     guests.visit_all(alloc, tending, now);
     if before.seconds() < now.seconds() {
