@@ -14,11 +14,11 @@ use Rattle.mc_workers.specs.Telling.{TakenTurn, Visits, nothing, visit, texts, t
 use Rattle.mc_workers.specs.declared.guest.Visit.{Visit}
 use Rattle.mc_workers.specs.declared.guest.Visit.TheVariants.{Wrote, Turned, Read, Later, Served, Broken, Refused}
 
-grown_nothing : (known : Option (List ℕ)) → grown known [] ≡ known
+pub grown_nothing : (known : Option (List ℕ)) → grown known [] ≡ known
 grown_nothing None = refl
 grown_nothing (Some bytes) = ap (λ (l : List ℕ). Some l) (append-nil bytes)
 
-grown_twice : (known : Option (List ℕ)) (a b : List ℕ) → grown (grown known a) b ≡ grown known (a ++ b)
+pub grown_twice : (known : Option (List ℕ)) (a b : List ℕ) → grown (grown known a) b ≡ grown known (a ++ b)
 grown_twice None a b = refl
 grown_twice (Some bytes) a b = ap (λ (l : List ℕ). Some l) (append_assoc bytes a b)
 
@@ -41,7 +41,7 @@ out_of true whole x y z out a b c = a
 out_of false true x y z out a b c = b
 out_of false false x y z out a b c = c
 
-moved_out : (s : SessionState) (unit : ProtocolUnit) (rest text : List ℕ) → (moved s unit rest text).out ≡ s.out ++ text
+pub moved_out : (s : SessionState) (unit : ProtocolUnit) (rest text : List ℕ) → (moved s unit rest text).out ≡ s.out ++ text
 moved_out s unit rest text = out_of (is_last unit) (s.taken + 1 == turn_count unit) _ _ _ (s.out ++ text) refl refl refl
 
 fed_by : (is_open : Bool) (x y : SessionState) (out : List ℕ) → x.out ≡ out → y.out ≡ out
@@ -49,11 +49,11 @@ fed_by : (is_open : Bool) (x y : SessionState) (out : List ℕ) → x.out ≡ ou
 fed_by true x y out a b = a
 fed_by false x y out a b = b
 
-fed_out : (s : SessionState) (piece : List ℕ) → (fed s piece).out ≡ s.out
+pub fed_out : (s : SessionState) (piece : List ℕ) → (fed s piece).out ≡ s.out
 fed_out s piece = fed_by s.is_open _ _ s.out refl refl
 
 module _ {S : Type 0} (relations : Relations S) where
-  texts_append : (turns later : List (TakenTurn relations))
+  pub texts_append : (turns later : List (TakenTurn relations))
       → texts relations (turns ++ later) ≡ texts relations turns ++ texts relations later
   texts_append [] later = refl
   texts_append (turn ∷ turns) later =
@@ -134,7 +134,7 @@ module _ {S : Type 0} (relations : Relations S) where
   serves_written now Broken old new before after does is = absurd (cc)
   serves_written now Refused old new before after does is = absurd (cc)
 
-  served_written : (turns : List (TakenTurn relations)) (greatest : ℕ) (link : LinkState) (new : GuestState)
+  pub served_written : (turns : List (TakenTurn relations)) (greatest : ℕ) (link : LinkState) (new : GuestState)
       → Visits relations turns (welcomed greatest link) new → new.last ≡ Some Served → new.session.out ≡ []
   served_written turns greatest link new nothing served = refl
   served_written turns greatest link new (visit {turns = earlier} {old = mid} now answer visits (inl ended)) served =

@@ -1,12 +1,13 @@
 -- What visits tell: the bytes that a link took, and those that wait for it.
 use mathlib.Core.Logic.{inl, inr}
-use Rattle.std.specs.Prelude.{ℕ, List, [], ◌∷◌, ◌++◌}
+use Rattle.std.specs.Prelude.{◌≡◌, ℕ, List, [], ◌∷◌, ◌++◌, map}
 use Rattle.mc_command.specs.declared.step.Steps.{Ghosts as Relations}
-use Rattle.mc_session.specs.Turns.{SessionState, TakesTurn}
+use Rattle.mc_parse.specs.Units.{ProtocolUnit}
+use Rattle.mc_session.specs.Turns.{SessionState, TakesTurn, turns}
 use Rattle.mc_workers.specs.Guests.{GuestState}
-use Rattle.mc_workers.specs.Visits.{Visited}
+use Rattle.mc_workers.specs.Visits.{Does, Visited}
 use Rattle.mc_workers.specs.declared.guest.Visit.{Visit}
-use Rattle.mc_workers.specs.declared.guest.Visit.TheVariants.{Turned}
+use Rattle.mc_workers.specs.declared.guest.Visit.TheVariants.{Wrote, Turned, Read, Refused}
 
 module _ {S : Type 0} (relations : Relations S) where
   -- A turn that a session took at a moment, with a store. Its text is the one that answers it, by the
@@ -47,3 +48,57 @@ module _ {S : Type 0} (relations : Relations S) where
         (answer : Visit) → Visits turns first old
         → (visited : Visited relations now answer old new before after)
         → Visits (turns ++ turns_of now answer old new before after visited) first new
+
+  -- the piece that was read where memory ran out, and none where it ran out over a turn
+  abbrev pub refused_piece : (now : ℕ) (old new : GuestState) (before after : S)
+      → Does relations now Refused old new before after → List ℕ
+  refused_piece now old new before after (inl turn) = []
+  refused_piece now old new before after (inr piece) = piece.0.piece
+
+  -- the bytes that the link gave in a visit: the piece that was read, also where there was no memory
+  -- for it
+  abbrev pub piece_of : (now : ℕ) (answer : Visit) (old new : GuestState) (before after : S)
+      → Visited relations now answer old new before after → List ℕ
+  piece_of now answer old new before after (inl ended) = []
+  piece_of now Read old new before after (inr due) = due.does.0.piece
+  piece_of now Refused old new before after (inr due) = refused_piece now old new before after due.does
+  piece_of now answer old new before after (inr due) = []
+
+  -- the bytes that the link took in a visit: the part of the output that was written
+  abbrev pub part_of : (now : ℕ) (answer : Visit) (old new : GuestState) (before after : S)
+      → Visited relations now answer old new before after → List ℕ
+  part_of now answer old new before after (inl ended) = []
+  part_of now Wrote old new before after (inr due) = due.does.0.part
+  part_of now answer old new before after (inr due) = []
+
+  -- the bytes that the link gave in visits, one piece after another
+  abbrev pub bytes_given : {turns : List TakenTurn} {old new : GuestState} → Visits turns old new
+      → List ℕ
+  bytes_given nothing = []
+  bytes_given (visit now answer visits visited) =
+      bytes_given visits ++ piece_of now answer _ _ _ _ visited
+
+  -- the bytes that the link took in visits, one part after another
+  abbrev pub bytes_taken : {turns : List TakenTurn} {old new : GuestState} → Visits turns old new
+      → List ℕ
+  bytes_taken nothing = []
+  bytes_taken (visit now answer visits visited) =
+      bytes_taken visits ++ part_of now answer _ _ _ _ visited
+
+  -- of which unit a turn is, and which of its turns
+  abbrev pub turn_of : TakenTurn → ProtocolUnit × ℕ
+  turn_of turn = (turn.takes.unit, turn.old.taken)
+
+  -- These bytes answer the first turns of these units: they are the texts of turns that were taken,
+  -- and these are the units' turns in their order, from the first on.
+  pub record AnswerFirst (units : List ProtocolUnit) (taken : List TakenTurn) (bytes : List ℕ)
+      : Type 0 where
+    pub later : List (ProtocolUnit × ℕ)
+    pub first : turns units ≡ map turn_of taken ++ later
+    pub told : bytes ≡ texts taken
+
+  -- the same of all their turns
+  pub record AnswerAll (units : List ProtocolUnit) (taken : List TakenTurn) (bytes : List ℕ)
+      : Type 0 where
+    pub all : turns units ≡ map turn_of taken
+    pub told : bytes ≡ texts taken

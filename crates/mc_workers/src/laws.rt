@@ -5,9 +5,13 @@ ghost use Rattle.mc_workers.specs.Links.{LinkState, grown};
 ghost use Rattle.mc_workers.specs.Guests.{GuestState, welcomed, told};
 ghost use Rattle.mc_workers.specs.Visits.{Visited, GoesRound};
 ghost use Rattle.mc_workers.specs.Telling.{TakenTurn, Visits, texts, turns_of};
+ghost use Rattle.mc_workers.specs.Telling.{bytes_given, bytes_taken, AnswerFirst, AnswerAll};
+ghost use Rattle.mc_parse.specs.Units.{ProtocolUnit};
+ghost use Rattle.mc_parse.specs.Streams.{AreUnits};
 
 use crate::guest::Visit;
 use mc_command::Steps;
+use mc_parse::no_spelling_begins_another;
 
 /// States that links take the texts of turns, in their order, and nothing else. What a link took and
 /// the output that waits for it, one behind the other, grow with each visit by the text of the turn
@@ -33,6 +37,34 @@ pub fn links_take_texts_of_turns<S: Steps>()
         Visits S.Steps turns (welcomed greatest link) new → new.last ≡ Some Visit.Served →
         new.link.taken ≡ Some (texts S.Steps turns) }
 {}
+
+/// States that a link is answered what it gave. The turns that the visits of a guest took are the
+/// first turns of the units of the bytes that its link gave, in their order; and what the link took,
+/// and behind it the output that waits, are the texts of these turns. Once a visit has answered
+/// Served they are all the turns of that stream, and the link took all their texts.
+///
+/// The bytes are those that the visits read and wrote, so that this is said of every link, also of one
+/// whose bytes nobody can know. Of any other they are the bytes that it shows.
+pub fn links_are_answered_what_they_gave<S: Steps>()
+    ensures first { (turns : List (TakenTurn S.Steps)) (greatest : ℕ) (link : LinkState)
+        (new : GuestState) (units : List ProtocolUnit) →
+        (visits : Visits S.Steps turns (welcomed greatest link) new) →
+        AreUnits greatest 0 (bytes_given S.Steps visits) units →
+        AnswerFirst S.Steps units turns (bytes_taken S.Steps visits ++ new.session.out) }
+    ensures all { (turns : List (TakenTurn S.Steps)) (greatest : ℕ) (link : LinkState)
+        (new : GuestState) (units : List ProtocolUnit) →
+        (visits : Visits S.Steps turns (welcomed greatest link) new) →
+        AreUnits greatest 0 (bytes_given S.Steps visits) units → new.last ≡ Some Visit.Served →
+        AnswerAll S.Steps units turns (bytes_taken S.Steps visits) }
+    ensures given { (turns : List (TakenTurn S.Steps)) (old new : GuestState) →
+        (visits : Visits S.Steps turns old new) →
+        new.link.given ≡ grown old.link.given (bytes_given S.Steps visits) }
+    ensures taken { (turns : List (TakenTurn S.Steps)) (old new : GuestState) →
+        (visits : Visits S.Steps turns old new) →
+        new.link.taken ≡ grown old.link.taken (bytes_taken S.Steps visits) }
+{
+    no_spelling_begins_another();
+}
 
 /// States that a round is a visit of each of its guests, and that visits go on from one round to the
 /// next: their turns stand one behind the other.

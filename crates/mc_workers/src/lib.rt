@@ -20,7 +20,7 @@ mod worker;
 
 pub use guest::{Guest, Visit};
 pub use guests::WorkEnd;
-pub use laws::{links_take_texts_of_turns, rounds_are_visits};
+pub use laws::{links_are_answered_what_they_gave, links_take_texts_of_turns, rounds_are_visits};
 pub use link::{Got, Link, LinkFault, Took};
 pub use mc_shared::{Gate, NoGate};
 pub use rounds::round;
