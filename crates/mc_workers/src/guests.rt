@@ -1,5 +1,5 @@
 //! The guests of one worker.
-ghost use Rattle.std.specs.Prelude.{◌≡◌, ◌<◌, ◌+◌};
+ghost use Rattle.std.specs.Prelude.{◌≡◌, ◌<◌, ◌≤◌, ◌+◌};
 ghost use Rattle.mc_workers.specs.Visits.{MakesRound};
 
 use crate::guest::{Guest, Visit};
@@ -88,26 +88,23 @@ impl<L: Link + Drop> Guests<L> {
     }
 
     /// Lets go of those that have ended, which are counted, and lets those sleep that answered
-    /// `Later`.
+    /// `Later`. The last comes first: where all behind a guest fall asleep too, none is moved.
     pub fn settle(&mut self, end: &mut WorkEnd) {
-        let mut at = 0;
-        for _guest in 0..self.awake {
-            at = self.settle_at(at, end);
+        for at in (0..self.awake).rev() {
+            self.settle_at(at, end);
         }
     }
 
-    /// Settles one that is awake, and says at which place the next stands.
-    fn settle_at(&mut self, at: usize, end: &mut WorkEnd) -> usize {
-        if at >= self.awake {
-            return at;
-        }
-        let last = self.row.last(at);
-        match fate_of(last, end) {
-            Fate::GoesOn => return at + 1,
+    /// Settles one that is awake.
+    fn settle_at(&mut self, at: usize, end: &mut WorkEnd)
+        requires { at < self.old }
+        ensures { self.old ≤ self.new + 1 }
+    {
+        match fate_of(self.row.last(at), end) {
+            Fate::GoesOn => {}
             Fate::Sleeps => self.put_behind(at),
             Fate::Ended => self.let_go(at),
         }
-        at
     }
 
     /// Wakes the guest whose link has this number, if it sleeps.
