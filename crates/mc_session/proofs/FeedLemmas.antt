@@ -7,6 +7,7 @@ use Rattle.std.specs.Result.{OnOk, OnErr}
 use Rattle.std.specs.Prelude.{Result, Ok, Err}
 use Rattle.mc_parse.specs.Units.{ProtocolUnit, Request, Fault, LongLine, Spells}
 use Rattle.mc_parse.specs.Feeds.{Unread, pushed, settled}
+use Rattle.mc_parse.specs.Peeks.{BeginsWithNone}
 use Rattle.mc_session.specs.Answers.{IsWithin, at_start, inside}
 
 abbrev unread_of : ℕ → ℕ → List ℕ → Unread
@@ -64,3 +65,11 @@ within_more u taken more (inside unit front rest parts spelled due few) =
 pub either_way : {T E V : Type 0} (P : V → Type 0) (r : Result T E) (old more new : V) → OnOk r (new ≡ more) → OnErr r (new ≡ old) → P more → P old → P new
 either_way P (Ok x) old more new ok err p q = subst P (sym ok) p
 either_way P (Err e) old more new ok err p q = subst P (sym err) q
+
+-- where no byte is unread, nothing is spelled
+pub none_spelled : (u : Unread) → length u.bytes ≡ 0 → BeginsWithNone u.greatest (drop u.passed u.bytes)
+none_spelled u nothing = record {
+  none = λ unit front more parts spelled.
+      let some = spells_bytes u.greatest unit front spelled in
+      omega (arith, ap length parts, length-append front more, length-drop u.passed u.bytes);
+}

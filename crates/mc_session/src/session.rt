@@ -127,6 +127,9 @@ impl Session {
         if !self.is_open {
             return Ok(Turn::Closed);
         }
+        if self.has_nothing_unread() {
+            return Ok(Turn::Idle);
+        }
         no_spelling_begins_another();
         let found = self.feed.peek_after(self.taken);
         match answer(alloc, found, store, now, &mut self.out) {
@@ -140,6 +143,13 @@ impl Session {
                 Err(fault)
             }
         }
+    }
+
+    /// Returns whether no byte is unread, so that no turn is due.
+    fn has_nothing_unread(&self) -> bool
+        ensures { IsTrue result → NoTurnDue self.now }
+    {
+        self.feed.held() == 0
     }
 
     /// Goes on with what comes after a turn.
