@@ -43,8 +43,9 @@ pub fn links_take_texts_of_turns<S: Steps>()
 /// and behind it the output that waits, are the texts of these turns. Once a visit has answered
 /// Served they are all the turns of that stream, and the link took all their texts.
 ///
-/// The bytes are those that the visits read and wrote, so that this is said of every link, also of one
-/// whose bytes nobody can know. Of any other they are the bytes that it shows.
+/// The bytes are those that the visits brought to the session and those that left its output, so that
+/// this is said of every link, also of one whose bytes nobody can know. Of any other they are the bytes
+/// that it shows.
 pub fn links_are_answered_what_they_gave<S: Steps>()
     ensures first { (turns : List (TakenTurn S.Steps)) (greatest : ℕ) (link : LinkState)
         (new : GuestState) (units : List ProtocolUnit) →
