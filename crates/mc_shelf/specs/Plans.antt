@@ -16,7 +16,7 @@ use Rattle.mc_slab.specs.Classes.{IsClass, class_holding}
 use Rattle.mc_slab.specs.Chunks.{chunk_class}
 use Rattle.mc_slab.specs.Slabs.{IsSlab, SlabState, out_of, chunks_of, pages_left, has_room, given}
 use Rattle.mc_command.specs.Commands.{key_of}
-use Rattle.mc_command.specs.Plain.{Plain, Entry, Outcome, Answered, Spent, MayFail, plain, charge, item_class, alive, hit_of, refusal_reply, block_of, written_block, row_of}
+use Rattle.mc_command.specs.Plain.{Plain, Entry, Outcome, Answered, Spent, MayFail, plain, charge, item_class, alive, hit_of, refusal_reply, block_of, written_block, write_reply, row_of}
 use Rattle.mc_command.specs.Laws.{IsOnKey}
 use Rattle.mc_shelf.specs.States.{EntryState, ShelfContent, ShelfState, DeskState, IsAt, IsHash}
 use Rattle.mc_grow.specs.declared.index.Place.{Place}
@@ -26,6 +26,7 @@ use Rattle.mc_shelf.specs.declared.plan.Plan.{Plan}
 use Rattle.mc_shelf.specs.declared.write.Write.{Write as Writing}
 use Rattle.mc_shelf.specs.declared.begun.Unwritten.{Unwritten}
 use Rattle.mc_shelf.specs.declared.begun.Begun.{Begun}
+use Rattle.mc_shelf.specs.declared.begun.Begun.TheVariants.{Done, Full, Left}
 
 -- the item of a lent entry
 abbrev pub item_in : Option (Bor EntryState) → Option Entry
@@ -223,8 +224,8 @@ block_beside shelf step draft =
     made_block draft.body (block_of step) (block_in (get shelf.items (key_of step)))
 
 -- the item of a write whose block is the step's own
-abbrev pub own_item : Unwritten → KeyStep → Entry
-own_item rest step = drafted rest.write.draft (block_of step) rest.unique rest.write.moment
+abbrev pub own_item : Writing → Unwritten → KeyStep → Entry
+own_item write rest step = drafted write.draft (block_of step) rest.unique write.moment
 
 -- a shelf after this item came under a key: with a hash where a chunk waits for the item, and else into the chunk of the key's item
 abbrev pub with_item : Option (List ℕ) → (key : List ℕ) → (own : ℕ) → Entry → ShelfContent → ShelfContent
@@ -235,14 +236,51 @@ with_item (Some chunk) key own item shelf = record shelf {
 }
 
 -- a shelf after what is left of a write
-abbrev pub written : Option Unwritten → KeyStep → ShelfContent → ShelfContent
-written None step shelf = shelf
-written (Some rest) step shelf =
-    with_item rest.chunk (key_of step) rest.write.hash (own_item rest step) shelf
+abbrev pub written : Writing → Option Unwritten → KeyStep → ShelfContent → ShelfContent
+written write None step shelf = shelf
+written write (Some rest) step shelf =
+    with_item rest.chunk (key_of step) write.hash (own_item write rest step) shelf
+
+-- the write of a plan
+abbrev pub write_of : Plan → (charge : ℕ) → Draft → Writing
+write_of plan charge draft = record {
+  hash = plan.hash;
+  place = plan.place;
+  moment = plan.moment;
+  charge = charge;
+  draft = draft;
+}
+
+-- what is left of a step that was begun
+abbrev pub left_of : Begun → Option Unwritten
+left_of Done = None
+left_of Full = None
+left_of (Left rest) = Some rest
+
+-- a shelf after what is left of a step that comes next so was written
+abbrev pub written_next : Plan → Next → Option Unwritten → KeyStep → ShelfContent → ShelfContent
+written_next plan (Answer reply) rest step shelf = shelf
+written_next plan (Expire expiry reply) rest step shelf = shelf
+written_next plan (Discard reply) rest step shelf = shelf
+written_next plan (Write charge draft) rest step shelf =
+    written (write_of plan charge draft) rest step shelf
 
 -- a shelf after what is left of a step that was begun
-abbrev pub finished : Begun → KeyStep → ShelfContent → ShelfContent
-finished begun step shelf = written begun.rest step shelf
+abbrev pub finished : Plan → Begun → KeyStep → ShelfContent → ShelfContent
+finished plan begun step shelf = written_next plan plan.next (left_of begun) step shelf
+
+-- the answer of a write that was begun
+abbrev pub write_told : Body → Begun → Reply
+write_told body Done = write_reply body
+write_told body Full = NoChunk
+write_told body (Left rest) = write_reply body
+
+-- the answer of a step that comes next so and was begun
+abbrev pub told_next : Next → Begun → Reply
+told_next (Answer reply) begun = reply
+told_next (Expire expiry reply) begun = reply
+told_next (Discard reply) begun = reply
+told_next (Write charge draft) begun = write_told draft.body begun
 
 -- a chunk is of the class that a key and a block ask for
 pub record Suits (chunk : List ℕ) (key block : List ℕ) : Type 0 where
@@ -266,14 +304,23 @@ IsReady None key block shelf = LiesInClass key block shelf
 IsReady (Some chunk) key block shelf = IsChunkFor chunk key block shelf
 
 -- what is left of a write can be done: the key is known, and a chunk is ready for its block
-pub record CanWriteBlock (rest : Unwritten) (step : KeyStep) (shelf : ShelfState) : Type 0 where
-  pub short : length (key_of step) ≤ 250
-  pub known : IsKnown shelf.content (key_of step) rest.write.hash rest.write.place
-  pub ready : IsReady rest.chunk (key_of step) (block_of step) shelf
+pub record CanWriteBlock (write : Writing) (rest : Unwritten) (step : KeyStep) (shelf : ShelfState) : Type 0
+  where
+    pub short : length (key_of step) ≤ 250
+    pub known : IsKnown shelf.content (key_of step) write.hash write.place
+    pub ready : IsReady rest.chunk (key_of step) (block_of step) shelf
+
+abbrev pub CanWriteNext : Plan → Next → Unwritten → KeyStep → ShelfState → Type 0
+CanWriteNext plan (Answer reply) rest step shelf = Unit {0}
+CanWriteNext plan (Expire expiry reply) rest step shelf = Unit {0}
+CanWriteNext plan (Discard reply) rest step shelf = Unit {0}
+CanWriteNext plan (Write charge draft) rest step shelf =
+    CanWriteBlock (write_of plan charge draft) rest step shelf
 
 -- what is left of a step that was begun can be done
-abbrev pub CanFinish : Begun → KeyStep → ShelfState → Type 0
-CanFinish begun step shelf = IfSome begun.rest (λ rest. CanWriteBlock rest step shelf)
+abbrev pub CanFinish : Plan → Begun → KeyStep → ShelfState → Type 0
+CanFinish plan begun step shelf =
+    IfSome (left_of begun) (λ rest. CanWriteNext plan plan.next rest step shelf)
 
 -- a chunk of the key's item is out
 abbrev pub IsOut : List ℕ → ShelfContent → DeskState → Type 0

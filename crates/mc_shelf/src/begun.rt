@@ -1,73 +1,101 @@
 //! A step in two parts: what the desk is needed for, and the copying of the step's block, which it isn't.
 
-ghost use Rattle.std.specs.Prelude.{◌≡◌, Some, None};
-ghost use Rattle.mc_shelf.specs.Plans.{CanFinish, CanWriteBlock, finished, written};
+ghost use Rattle.std.specs.Prelude.{◌≡◌, Some};
+ghost use Rattle.mc_shelf.specs.Plans.{
+  CanFinish,
+  CanWriteBlock,
+  finished,
+  told_next,
+  write_told,
+  written,
+};
 
+use crate::plan::{Next, Plan};
 use crate::shelf::Shelf;
 use crate::write::Write;
-use mc_command::{KeyStep, Reply};
+use mc_command::{Draft, KeyStep, Reply};
 use mc_slab::Chunk;
 
 /// What is left of a write whose block is the step's own.
 #[derive(Drop)]
-pub(crate) struct Unwritten {
-    /// What is written.
-    pub(crate) write: Write,
+pub struct Unwritten {
     /// The number that it drew.
     pub(crate) unique: u64,
     /// The chunk of a new key's item; with none the item goes into the chunk of the key's item.
     pub(crate) chunk: Option<Chunk>,
 }
 
-/// A step that the desk has decided. A shelf that is given no other step before `finish` then holds what the step makes.
+/// How far the desk has brought a plan's step. A shelf that is given no other step before `finish` then holds what the step makes.
 #[derive(Drop)]
-pub struct Begun {
-    /// The step's answer.
-    pub(crate) reply: Reply,
-    /// What is left to be written; with none the shelf holds it already.
-    pub(crate) rest: Option<Unwritten>,
+pub enum Begun {
+    /// The shelf holds what the step makes already.
+    Done,
+    /// No chunk is left for the item that the step writes. The shelf holds none that is dead under its key.
+    Full,
+    /// The item that the step writes is still to be written, with the step's block.
+    Left(Unwritten),
 }
 
 impl Begun {
-    /// Makes a step of which nothing is left to be done.
-    pub fn of(reply: Reply) -> Begun
-        ensures { result ≡ record { reply = reply; rest = None } }
+    /// Gives the answer of a write that was begun.
+    fn told(&self, draft: Draft) -> Reply
+        ensures { result ≡ write_told draft.body self.now }
     {
-        Begun { reply, rest: None }
+        match self {
+            Begun::Full => Reply::NoChunk,
+            Begun::Done | Begun::Left(_) => draft.body.reply(),
+        }
     }
 }
 
 impl Shelf {
-    /// Does what is left of a step that was begun at this shelf, with no other step between, and answers it. Copies the block of
-    /// an item that is written, and takes no memory.
-    pub fn finish(&mut self, begun: Begun, step: &KeyStep<'_>) -> Reply
-        requires { CanFinish begun step.now self.old }
-        ensures reply { result ≡ begun.entry.reply }
-        ensures content { self.new.content ≡ finished begun.entry step.now self.old.content }
+    /// Does what is left of a plan's step that was begun at this shelf, with no other step between, and answers it. Copies the
+    /// block of an item that is written, and takes no memory.
+    pub fn finish(&mut self, plan: Plan<'_>, begun: Begun, step: &KeyStep<'_>) -> Reply
+        requires { CanFinish plan begun step.now self.old }
+        ensures reply { result ≡ told_next plan.entry.next begun.entry }
+        ensures content { self.new.content
+            ≡ finished plan.entry begun.entry step.now self.old.content }
     {
-        let Begun { reply, rest } = begun;
-        if let Some(rest) = rest {
-            self.write_block(rest, step);
+        let Plan {
+            hash,
+            place,
+            next,
+            moment,
+            ..
+        } = plan;
+        match next {
+            Next::Answer(reply) | Next::Expire(_, reply) | Next::Discard(reply) => reply,
+            Next::Write(charge, draft) => {
+                let reply = begun.told(draft);
+                if let Begun::Left(rest) = begun {
+                    let write = Write {
+                        hash,
+                        place,
+                        moment,
+                        charge,
+                        draft,
+                    };
+                    self.write_block(&write, rest, step);
+                }
+                reply
+            }
         }
-        reply
     }
 
     /// Writes the item of a write with the step's block.
-    fn write_block(&mut self, rest: Unwritten, step: &KeyStep<'_>)
-        requires { CanWriteBlock rest step.now self.old }
-        ensures { self.new.content ≡ written (Some rest.entry) step.now self.old.content }
+    fn write_block(&mut self, write: &Write, rest: Unwritten, step: &KeyStep<'_>)
+        requires { CanWriteBlock write.now rest step.now self.old }
+        ensures { self.new.content
+            ≡ written write.now (Some rest.entry) step.now self.old.content }
     {
-        let Unwritten {
-            write,
-            unique,
-            chunk,
-        } = rest;
+        let Unwritten { unique, chunk } = rest;
         match chunk {
             Some(chunk) => {
                 let entry = write.entry_of(chunk, unique, step.key(), &[], step.block());
                 self.index.insert_reserved(entry);
             }
-            None => self.overwrite(&write, unique, step.key(), step.block()),
+            None => self.overwrite(write, unique, step.key(), step.block()),
         }
     }
 }

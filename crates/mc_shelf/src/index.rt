@@ -173,7 +173,7 @@ impl Index {
     pub(crate) fn rewrite<'a>(
         &mut self,
         place: Place,
-        write: Write,
+        write: &Write,
         unique: u64,
         key: &'a [u8],
         block: &'a [u8],
@@ -183,14 +183,14 @@ impl Index {
         requires class { (at : IsKeyAt self.old key.now place) →
             item_class key.now at.entry.item ≡ class_holding (charge key.now block.now) }
         ensures { IsChanged self.old self.new key.now
-            (drafted write.draft block.now unique write.moment) }
+            (drafted write.now.draft block.now unique write.now.moment) }
     {
         let Write {
             hash,
             moment,
             draft,
             ..
-        } = write;
+        } = *write;
         self.soonest = self.soonest.with(draft.expiry, moment);
         self.entries.update(place, |mut entry| {
             entry.rewrite(Parts {

@@ -14,7 +14,7 @@ mod soonest;
 mod store;
 mod write;
 
-pub use begun::Begun;
+pub use begun::{Begun, Unwritten};
 pub use desk::Desk;
 pub use entry::Entry;
 pub use parts::{flush_parts, refusals_are_plain, steps_change_one_shelf};

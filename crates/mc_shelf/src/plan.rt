@@ -7,6 +7,7 @@ ghost use Rattle.mc_command.specs.declared.row.Row.TheVariants.{Reads};
 ghost use Rattle.mc_command.specs.Commands.{key_of};
 ghost use Rattle.mc_command.specs.Plain as machine;
 ghost use Rattle.mc_command.specs.Plain.{hit_of, row_of};
+ghost use Rattle.mc_shelf.specs.declared.plan.Next.TheVariants.{Answer};
 ghost use Rattle.mc_shelf.specs.States.{CanStand, DeskState, ShelfContent};
 ghost use Rattle.mc_shelf.specs.Plans as plans;
 ghost use Rattle.mc_shelf.specs.Plans.{
@@ -62,6 +63,19 @@ pub struct Plan<'a> {
 }
 
 impl<'a> Plan<'a> {
+    /// Makes the plan of a step that has been taken, with that answer.
+    pub fn of(reply: Reply) -> Plan<'a>
+        ensures { result.next ≡ Answer reply }
+    {
+        Plan {
+            key: Bytes::of(&[]),
+            hash: 0,
+            place: None,
+            next: Next::Answer(reply),
+            moment: Moment::from_seconds_at_most(0),
+        }
+    }
+
     /// Answers whether the step needs the desk: it drops an item that is dead or deleted, or writes one, also where no chunk
     /// is left or the unique numbers are spent. No other step does.
     pub fn needs_desk(&self) -> bool

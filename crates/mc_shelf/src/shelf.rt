@@ -35,6 +35,7 @@ ghost use Rattle.mc_shelf.specs.Plans.{
   item_in,
   next_of,
   row_at,
+  told_next,
   writes,
 };
 ghost use Rattle.mc_shelf.specs.Sweeps.{AreOut, GivesFor, IsPurged};
@@ -213,8 +214,11 @@ impl Shelf {
         ensures err { OnErr result
             ((self.new.content ≡ self.old.content) × (desk.new ≡ desk.old)) }
     {
-        match self.begin(alloc, plan, step, desk, None) {
-            Ok(begun) => Ok(self.finish(begun, step)),
+        if !plan.needs_desk() {
+            return Ok(self.settle(plan));
+        }
+        match self.begin(alloc, &plan, step, desk, None) {
+            Ok(begun) => Ok(self.finish(plan, begun, step)),
             Err(fault) => Err(fault),
         }
     }
@@ -250,49 +254,41 @@ impl Shelf {
     pub fn begin(
         &mut self,
         alloc: Global,
-        plan: Plan<'_>,
+        plan: &Plan<'_>,
         step: &KeyStep<'_>,
         desk: &mut Desk,
         page: Option<Page>,
     ) -> Result<Begun, StepFault>
-        requires plan { IsPlan plan self.old.content step.now plan.moment }
-        requires room { CanWrite plan.next desk.old → HasRoom plan self.old step.now }
+        requires plan { IsPlan plan.now self.old.content step.now plan.now.moment }
+        requires room { CanWrite plan.now.next desk.old → HasRoom plan.now self.old step.now }
         requires key { length (key_of step.now) ≤ 250 }
         requires stands { CanStand (key_of step.now) self.old.content desk.old }
-        ensures took { IfOk result (λ begun. IsTaken step.now plan.entry.moment plan.entry.hash
-            self.old.content desk.old begun.reply (finished begun step.now self.new.content)
-            desk.new) }
-        ensures left { IfOk result (λ begun. CanFinish begun step.now self.new) }
+        ensures took { IfOk result (λ begun. IsTaken step.now plan.now.moment plan.now.hash
+            self.old.content desk.old (told_next plan.now.next begun)
+            (finished plan.now begun step.now self.new.content) desk.new) }
+        ensures left { IfOk result (λ begun. CanFinish plan.now begun step.now self.new) }
         ensures spent { result ≡ Err StepFault.NumbersSpent
-            ↔ ((writes plan.entry.next ≡ true) × has_no_number desk.old) }
-        ensures refused { result ≡ Err StepFault.NoMemory
-            → NeedsPage plan.entry.next desk.old }
+            ↔ ((writes plan.now.next ≡ true) × has_no_number desk.old) }
+        ensures refused { result ≡ Err StepFault.NoMemory → NeedsPage plan.now.next desk.old }
         ensures err { OnErr result
             ((self.new.content ≡ self.old.content) × (desk.new ≡ desk.old)) }
     {
         counts_follow();
-        let Plan {
-            hash,
-            place,
-            next,
-            moment,
-            ..
-        } = plan;
-        match next {
-            Next::Answer(reply) => Ok(Begun { reply, rest: None }),
-            Next::Expire(expiry, reply) => {
-                self.expire(place, hash, step.key(), expiry);
-                Ok(Begun { reply, rest: None })
+        match plan.next {
+            Next::Answer(_) => Ok(Begun::Done),
+            Next::Expire(expiry, _) => {
+                self.expire(plan.place, plan.hash, step.key(), expiry);
+                Ok(Begun::Done)
             }
-            Next::Discard(reply) => {
-                self.discard(place, hash, step.key(), desk);
-                Ok(Begun { reply, rest: None })
+            Next::Discard(_) => {
+                self.discard(plan.place, plan.hash, step.key(), desk);
+                Ok(Begun::Done)
             }
             Next::Write(charge, draft) => {
                 let write = Write {
-                    hash,
-                    place,
-                    moment,
+                    hash: plan.hash,
+                    place: plan.place,
+                    moment: plan.moment,
                     charge,
                     draft,
                 };
@@ -442,7 +438,10 @@ impl Shelf {
         let Next::Write(charge, _) = plan.next else {
             return false;
         };
-        desk.has_room(self.class_for(charge)) && plan.place.is_none()
+        if plan.place.is_some() {
+            return false;
+        }
+        desk.has_room(self.class_for(charge))
     }
 
     /// Gives the class that holds a charge of at most the greatest.

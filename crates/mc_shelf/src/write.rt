@@ -7,11 +7,10 @@ ghost use Rattle.mc_slab.specs.Classes.{IsClass, class_holding};
 ghost use Rattle.mc_slab.specs.Slabs.{chunks_of, out_of};
 ghost use Rattle.mc_slab.specs.Chunks.{chunk_class};
 ghost use Rattle.mc_command.specs.Commands.{key_of};
-ghost use Rattle.mc_command.specs.Plain.{Entry as Item, block_of, charge};
+ghost use Rattle.mc_command.specs.Plain.{block_of, charge, write_reply};
 ghost use Rattle.mc_shelf.specs.States.{CanStand};
 ghost use Rattle.mc_shelf.specs.Plans as plans;
 ghost use Rattle.mc_shelf.specs.Plans.{
-  CanFinish,
   CanPut,
   CanWrite,
   CanWriteBlock,
@@ -27,14 +26,15 @@ ghost use Rattle.mc_shelf.specs.Plans.{
   Suits,
   block_beside,
   drafted,
-  finished,
   has_no_number,
   is_gone,
   item_in,
+  left_of,
   made_block,
   own_block,
   reuses,
   with_item,
+  write_told,
   written,
 };
 
@@ -45,7 +45,7 @@ use crate::index::Place;
 use crate::plan::{Next, block_in, is_gone};
 use crate::shelf::Shelf;
 use itoa::Buffer;
-use mc_command::{Body, Draft, KeyStep, Reply, StepFault, counts_follow};
+use mc_command::{Body, Draft, KeyStep, StepFault, counts_follow};
 use mc_item::Parts;
 use mc_slab::{Chunk, Class, Page};
 use mc_time::Moment;
@@ -78,6 +78,19 @@ impl Write {
         match self.draft.body {
             Body::Given | Body::Appended | Body::Prepended => false,
             Body::Counted(_) => true,
+        }
+    }
+
+    /// Answers whether the item may go into the chunk of the key's item all the same: that is one of the class, of which
+    /// another is free, and the block is the step's own.
+    fn goes_over(&self, same: bool, class: Class, desk: &Desk) -> bool
+        ensures class { result ≡ true → same ≡ true }
+        ensures given { result ≡ true → self.now.draft.body ≡ Body.Given }
+        ensures free { result ≡ true → out_of desk.now.slab class < chunks_of desk.now.slab class }
+    {
+        match self.draft.body {
+            Body::Given => same && desk.has_free(class),
+            Body::Appended | Body::Prepended | Body::Counted(_) => false,
         }
     }
 
@@ -180,6 +193,14 @@ impl Write {
     }
 }
 
+/// How the chunk of a key's item suits a write.
+struct Fit {
+    /// It is of the class that the write asks for.
+    same: bool,
+    /// And the write goes there in any case, since the item is dead, or a number that is counted.
+    reused: bool,
+}
+
 /// Answers whether the item that is found has a chunk of the class.
 fn has_class(found: Option<&Entry>, class: Class) -> bool
     ensures { (key : List ℕ) → IfSome found.entry (λ entry. entry.now.key ≡ key) →
@@ -206,9 +227,10 @@ impl Shelf {
             get self.old.content.items (key_of step.now) ≡ None → 1 ≤ self.old.room }
         requires stands { CanStand (key_of step.now) self.old.content desk.old }
         ensures took { IfOk result (λ begun. IsTaken step.now write.now.moment write.now.hash
-            self.old.content desk.old begun.reply (finished begun step.now self.new.content)
-            desk.new) }
-        ensures left { IfOk result (λ begun. CanFinish begun step.now self.new) }
+            self.old.content desk.old (write_told write.now.draft.body begun)
+            (written write.now (left_of begun) step.now self.new.content) desk.new) }
+        ensures left { IfOk result (λ begun.
+            IfSome (left_of begun) (λ rest. CanWriteBlock write.now rest step.now self.new)) }
         ensures spent { result ≡ Err StepFault.NumbersSpent ↔ has_no_number desk.old }
         ensures refused { result ≡ Err StepFault.NoMemory
             → NeedsPage (Next.Write write.now.charge write.now.draft) desk.old }
@@ -220,45 +242,35 @@ impl Shelf {
             return Err(StepFault::NumbersSpent);
         }
         let class = self.class_for(write.charge);
-        if self.reuses(write, class, step.key()) {
+        let Fit { same, reused } = self.fit(write, class, step.key());
+        if reused {
             let unique = desk.draw();
-            let rest = self.rewrite(write, unique, step);
-            let reply = write.draft.body.reply();
-            return Ok(Begun { reply, rest });
+            return Ok(self.rewrite(write, unique, step));
+        }
+        if write.goes_over(same, class, desk) {
+            return Ok(self.write_again(write, class, step, desk));
         }
         if !desk.has_room(class) {
             self.drop_dead(write, step.key(), desk);
-            return Ok(Begun {
-                reply: Reply::NoChunk,
-                rest: None,
-            });
-        }
-        if self.overwrites(write, class, step, desk) {
-            return Ok(self.write_again(write, class, step, desk));
+            return Ok(Begun::Full);
         }
         let chunk = desk.take(alloc, class, page)?;
         let unique = desk.draw();
-        let rest = self.put(write, unique, chunk, step, desk);
-        let reply = write.draft.body.reply();
-        Ok(Begun { reply, rest })
+        Ok(self.put(write, unique, chunk, step, desk))
     }
 
-    /// Answers whether the item of a write may go into the chunk of the key's item: it is one of the class, of which another
-    /// is free, and the block is the step's own.
-    fn overwrites(&self, write: &Write, class: Class, step: &KeyStep<'_>, desk: &Desk) -> bool
-        requires known { IsKnown self.now.content (key_of step.now) write.now.hash write.now.place }
-        ensures class { result ≡ true → plans.has_class (key_of step.now)
-            (get self.now.content.items (key_of step.now)) class ≡ true }
-        ensures given { result ≡ true → write.now.draft.body ≡ Body.Given }
-        ensures free { result ≡ true → out_of desk.now.slab class < chunks_of desk.now.slab class }
+    /// Finds out how the chunk of the key's item suits a write. The item is looked for where it was found before.
+    fn fit(&self, write: &Write, class: Class, key: &[u8]) -> Fit
+        requires { IsKnown self.now.content key.now write.now.hash write.now.place }
+        ensures same { result.same
+            ≡ plans.has_class key.now (get self.now.content.items key.now) class }
+        ensures reused { result.reused ≡ reuses self.now.content.cut write.now.moment key.now
+            (get self.now.content.items key.now) class write.now.draft.body }
     {
-        match write.draft.body {
-            Body::Given => {
-                let found = self.entry(write.place, write.hash, step.key());
-                has_class(found, class) && desk.has_free(class)
-            }
-            Body::Appended | Body::Prepended | Body::Counted(_) => false,
-        }
+        let found = self.entry(write.place, write.hash, key);
+        let same = has_class(found, class);
+        let reused = same && (write.counts() || is_gone(found, self.cut, write.moment));
+        Fit { same, reused }
     }
 
     /// Writes the item of a step in the chunk of the key's item. To take the chunk of the class that is free, and give the
@@ -281,42 +293,32 @@ impl Shelf {
         requires free { out_of desk.old.slab class < chunks_of desk.old.slab class }
         requires numbers { desk.old.next_unique < 2 ^ 64 - 1 }
         ensures took { IsTaken step.now write.now.moment write.now.hash self.old.content desk.old
-            result.reply (finished result step.now self.new.content) desk.new }
-        ensures left { CanFinish result step.now self.new }
+            (write_told write.now.draft.body result)
+            (written write.now (left_of result) step.now self.new.content) desk.new }
+        ensures left { IfSome (left_of result) (λ rest.
+            CanWriteBlock write.now rest step.now self.new) }
     {
         counts_follow();
         let unique = desk.draw();
-        let rest = self.rewrite(write, unique, step);
-        let reply = write.draft.body.reply();
-        Begun { reply, rest }
-    }
-
-    /// Answers whether a write goes into the chunk of the key's item: it is one of the class, and the item is dead, or a
-    /// number that is counted.
-    fn reuses(&self, write: &Write, class: Class, key: &[u8]) -> bool
-        requires { IsKnown self.now.content key.now write.now.hash write.now.place }
-        ensures { result ≡ reuses self.now.content.cut write.now.moment key.now
-            (get self.now.content.items key.now) class write.now.draft.body }
-    {
-        let found = self.entry(write.place, write.hash, key);
-        has_class(found, class) && (write.counts() || is_gone(found, self.cut, write.moment))
+        self.rewrite(write, unique, step)
     }
 
     /// Writes a number in the chunk of the key's item. The step's own block is left to be written there.
-    fn rewrite(&mut self, write: &Write, unique: u64, step: &KeyStep<'_>) -> Option<Unwritten>
+    fn rewrite(&mut self, write: &Write, unique: u64, step: &KeyStep<'_>) -> Begun
         requires key { length (key_of step.now) ≤ 250 }
         requires known { IsKnown self.old.content (key_of step.now) write.now.hash write.now.place }
         requires there { LiesInClass (key_of step.now)
             (own_block write.now.draft.body (block_of step.now)) self.old }
+        ensures told { write_told write.now.draft.body result ≡ write_reply write.now.draft.body }
         ensures put { IsPut (key_of step.now) write.now.hash self.old.content
-            (written result step.now self.new.content)
+            (written write.now (left_of result) step.now self.new.content)
             (drafted write.now.draft (own_block write.now.draft.body (block_of step.now))
             unique write.now.moment) }
-        ensures left { IfSome result (λ rest. CanWriteBlock rest step.now self.new) }
+        ensures left { IfSome (left_of result) (λ rest.
+            CanWriteBlock write.now rest step.now self.new) }
     {
         match write.draft.body {
-            Body::Given | Body::Appended | Body::Prepended => Some(Unwritten {
-                write: *write,
+            Body::Given | Body::Appended | Body::Prepended => Begun::Left(Unwritten {
                 unique,
                 chunk: None,
             }),
@@ -324,7 +326,7 @@ impl Shelf {
                 let mut buffer = Buffer::new();
                 let digits = buffer.format(number).as_bytes();
                 self.overwrite(write, unique, step.key(), digits);
-                None
+                Begun::Done
             }
         }
     }
@@ -344,7 +346,7 @@ impl Shelf {
             (drafted write.now.draft block.now unique write.now.moment) self.old.content }
     {
         if let Some(place) = self.index.find_again(write.place, write.hash, key) {
-            self.index.rewrite(place, *write, unique, key, block);
+            self.index.rewrite(place, write, unique, key, block);
         }
     }
 
@@ -357,23 +359,25 @@ impl Shelf {
         chunk: Chunk,
         step: &KeyStep<'_>,
         desk: &mut Desk,
-    ) -> Option<Unwritten>
+    ) -> Begun
         requires can { CanPut write.now step.now self.old desk.old }
         requires chunk { Suits chunk (key_of step.now)
             (block_beside self.old.content step.now write.now.draft) }
+        ensures told { write_told write.now.draft.body result ≡ write_reply write.now.draft.body }
         ensures put { IsPut (key_of step.now) write.now.hash self.old.content
-            (written result step.now self.new.content)
+            (written write.now (left_of result) step.now self.new.content)
             (drafted write.now.draft (block_beside self.old.content step.now write.now.draft)
             unique write.now.moment) }
         ensures given { GivesBack (key_of step.now) (get self.old.content.items (key_of step.now))
             desk.old desk.new }
-        ensures left { IfSome result (λ rest. CanWriteBlock rest step.now self.new) }
+        ensures left { IfSome (left_of result) (λ rest.
+            CanWriteBlock write.now rest step.now self.new) }
     {
         if write.leaves_block(step) {
-            return Some(self.begin_put(write, unique, chunk, step, desk));
+            return Begun::Left(self.begin_put(write, unique, chunk, step, desk));
         }
         self.put_whole(write, unique, chunk, step, desk);
-        None
+        Begun::Done
     }
 
     /// Puts the item of a write into a chunk and under its key, but for the bytes of its block. The chunk of the item that
@@ -389,11 +393,11 @@ impl Shelf {
         requires can { CanPut write.now step.now self.old desk.old }
         requires chunk { Suits chunk (key_of step.now) (block_of step.now) }
         ensures put { IsPut (key_of step.now) write.now.hash self.old.content
-            (written (Some result) step.now self.new.content)
+            (written write.now (Some result) step.now self.new.content)
             (drafted write.now.draft (block_of step.now) unique write.now.moment) }
         ensures given { GivesBack (key_of step.now) (get self.old.content.items (key_of step.now))
             desk.old desk.new }
-        ensures left { CanWriteBlock result step.now self.new }
+        ensures left { CanWriteBlock write.now result step.now self.new }
     {
         let place = self.index.find_again(write.place, write.hash, step.key());
         match place {
@@ -402,13 +406,11 @@ impl Shelf {
                 let old = self.index.replace(place, entry);
                 desk.give(old.into_chunk());
                 Unwritten {
-                    write: *write,
                     unique,
                     chunk: None,
                 }
             }
             None => Unwritten {
-                write: *write,
                 unique,
                 chunk: Some(chunk),
             },

@@ -431,8 +431,8 @@ fn step_in_parts(
         ((shelf.new.content ≡ shelf.old.content) × (desk.new ≡ desk.old)) }
 {
     let plan = shelf.look(alloc, step, hash, now)?;
-    let begun = shelf.begin(alloc, plan, step, desk, None)?;
-    Ok(shelf.finish(begun, step))
+    let begun = shelf.begin(alloc, &plan, step, desk, None)?;
+    Ok(shelf.finish(plan, begun, step))
 }
 
 /// Takes a step at its key's shelf in two parts.

@@ -1,10 +1,21 @@
-use Rattle.std.proofs.Common.{◌≡◌, List, ℕ, Some, sym, ap, subst, ◌∙◌}
+use Rattle.std.proofs.Common.{◌≡◌, List, ℕ, Some, None, sym, ap, subst, ◌∙◌}
 use Rattle.std.specs.FinMap.{get}
 use Rattle.mc_command.specs.Commands.{key_of}
 use Rattle.mc_command.specs.Plain.{Entry}
 use Rattle.mc_shelf.specs.Plans.{GivesBack, IsDropped, IsOut, IsPut}
 use Rattle.mc_shelf.proofs.TakesLemmas.{discarded_is, expired_is, is_out, others_same, takes_answer, takes_discard, takes_expire}
+use Rattle.mc_command.specs.declared.step.KeyStep.{KeyStep}
+use Rattle.mc_shelf.specs.States.{DeskState, ShelfContent}
+use Rattle.mc_shelf.specs.declared.plan.Next.{Next}
+use Rattle.mc_shelf.specs.declared.plan.Plan.{Plan}
+use Rattle.mc_shelf.specs.declared.begun.Begun.TheVariants.{Done}
+use Rattle.mc_shelf.specs.Plans.{IsTaken, told_next, written_next}
 use Rattle.mc_shelf.proofs.shelf.Shelf.begin.Goals as goal
+
+-- of what comes next, that is what was taken
+taken_as : (plan : Plan) (next one : Next) → next ≡ one → (step : KeyStep) (old : ShelfContent) (desk : DeskState) (new : ShelfContent) (desk' : DeskState)
+    → IsTaken step plan.moment plan.hash old desk (told_next one Done) (written_next plan one None step new) desk' → IsTaken step plan.moment plan.hash old desk (told_next next Done) (written_next plan next None step new) desk'
+taken_as plan next one is step old desk new desk' = subst (λ (n : Next). IsTaken step plan.moment plan.hash old desk (told_next n Done) (written_next plan n None step new) desk') (sym is)
 
 pub discard-requires-clause-out : goal.discard-requires-clause-out
 discard-requires-clause-out c =
@@ -12,11 +23,12 @@ discard-requires-clause-out c =
     (is_out c.counts_follow.ensures.insert c.counts_follow.ensures.remove (key_of c.args.step.now) c.args.self.now.content c.args.desk.now c.requires.stands)
 
 pub returns-in-Answer-clause-took : goal.returns-in-Answer-clause-took
-returns-in-Answer-clause-took c = record {
-  takes = takes_answer c.counts_follow.ensures.insert c.counts_follow.ensures.remove c.args.step.now c.args.plan.moment c.args.self.now.content c.args.desk.now c.requires.plan.on_key c.in-Answer.reply (sym c.in-Answer.is ∙ c.requires.plan.next);
-  others = others_same (key_of c.args.step.now) c.args.self.now.content;
-  hash = c.requires.plan.known.hash;
-}
+returns-in-Answer-clause-took c =
+    taken_as c.args.plan.now c.args.plan.now.next _ c.in-Answer.is c.args.step.now c.args.self.now.content c.args.desk.now c.args.self.now.content c.args.desk.now (record {
+      takes = takes_answer c.counts_follow.ensures.insert c.counts_follow.ensures.remove c.args.step.now c.args.plan.now.moment c.args.self.now.content c.args.desk.now c.requires.plan.on_key c.in-Answer.field-0 (sym c.in-Answer.is ∙ c.requires.plan.next);
+      others = others_same (key_of c.args.step.now) c.args.self.now.content;
+      hash = c.requires.plan.known.hash;
+    })
 
 pub returns-in-Expire-clause-took : goal.returns-in-Expire-clause-took
 returns-in-Expire-clause-took c =
@@ -25,15 +37,15 @@ returns-in-Expire-clause-took c =
     let step = c.args.step.now in
     let next = sym c.in-Expire.is ∙ c.requires.plan.next in
     let key = c.key.ensures in
-    let puts = λ (item : Entry) (found : get old.items (key_of step) ≡ Some item). subst (λ (k : List ℕ). IsPut k c.args.plan.hash old new (record item { expiry = c.in-Expire.expiry })) key
+    let puts = λ (item : Entry) (found : get old.items (key_of step) ≡ Some item). subst (λ (k : List ℕ). IsPut k c.args.plan.now.hash old new (record item { expiry = c.in-Expire.expiry })) key
     (c.expire.ensures item (ap (λ (k : List ℕ). get old.items k) key ∙ found)) in
-    let there = expired_is old step c.args.plan.moment c.in-Expire.expiry c.in-Expire.reply next in
+    let there = expired_is old step c.args.plan.now.moment c.in-Expire.expiry c.in-Expire.field-1 next in
     let put = puts there.0 there.1 in
-    record {
-      takes = takes_expire c.counts_follow.ensures.insert c.counts_follow.ensures.remove step c.args.plan.moment old c.args.desk.now c.requires.plan.on_key c.in-Expire.expiry c.in-Expire.reply c.args.plan.hash new puts next;
+    taken_as c.args.plan.now c.args.plan.now.next _ c.in-Expire.is step old c.args.desk.now new c.args.desk.now (record {
+      takes = takes_expire c.counts_follow.ensures.insert c.counts_follow.ensures.remove step c.args.plan.now.moment old c.args.desk.now c.requires.plan.on_key c.in-Expire.expiry c.in-Expire.field-1 c.args.plan.now.hash new puts next;
       others = put.others;
       hash = put.hash;
-    }
+    })
 
 pub returns-in-Discard-clause-took : goal.returns-in-Discard-clause-took
 returns-in-Discard-clause-took c =
@@ -42,13 +54,13 @@ returns-in-Discard-clause-took c =
     let step = c.args.step.now in
     let next = sym c.in-Discard.is ∙ c.requires.plan.next in
     let key = c.key-in-Discard.ensures in
-    let drops = λ (item : Entry) (found : get old.items (key_of step) ≡ Some item). subst (λ (k : List ℕ). IsDropped k c.args.plan.hash old new) key
+    let drops = λ (item : Entry) (found : get old.items (key_of step) ≡ Some item). subst (λ (k : List ℕ). IsDropped k c.args.plan.now.hash old new) key
     (c.discard.ensures.dropped item (ap (λ (k : List ℕ). get old.items k) key ∙ found)) in
-    let there = discarded_is old step c.args.plan.moment c.in-Discard.reply next in
+    let there = discarded_is old step c.args.plan.now.moment c.in-Discard.field-0 next in
     let dropped = drops there.0 there.1 in
-    record {
-      takes = takes_discard c.counts_follow.ensures.insert c.counts_follow.ensures.remove step c.args.plan.moment old c.args.desk.now c.requires.plan.on_key c.in-Discard.reply c.args.plan.hash new c.discard.new.desk drops
+    taken_as c.args.plan.now c.args.plan.now.next _ c.in-Discard.is step old c.args.desk.now new c.discard.new.desk (record {
+      takes = takes_discard c.counts_follow.ensures.insert c.counts_follow.ensures.remove step c.args.plan.now.moment old c.args.desk.now c.requires.plan.on_key c.in-Discard.field-0 c.args.plan.now.hash new c.discard.new.desk drops
           (subst (λ (k : List ℕ). GivesBack k (get old.items k) c.args.desk.now c.discard.new.desk) key c.discard.ensures.given) next;
       others = dropped.others;
       hash = dropped.hash;
-    }
+    })

@@ -6,7 +6,7 @@ use Rattle.mc_command.specs.declared.reply.Reply.{Reply}
 use Rattle.mc_command.specs.Commands.{key_of}
 use Rattle.mc_command.specs.Plain.{block_of, write_reply}
 use Rattle.mc_shelf.specs.States.{DeskState}
-use Rattle.mc_shelf.specs.Plans.{GivesBack, IsDropped, IsOut, IsPut, Takes, block_beside, drafted, is_gone, own_block, reuses, written}
+use Rattle.mc_shelf.specs.Plans.{GivesBack, IsDropped, IsOut, IsPut, Takes, block_beside, drafted, is_gone, left_of, own_block, reuses, written}
 use Rattle.mc_shelf.proofs.TakesLemmas.{beside_is, charge_beside, class_own, drafts, is_out, is_out_taken, others_full, own_is, reused_is, takes_again, takes_anew, takes_full}
 use Rattle.mc_shelf.proofs.shelf.Shelf.write.Goals as goal
 
@@ -15,11 +15,11 @@ class_for-class-requires c =
     let write = c.args.write.now in
     (drafts c.args.self.now.content c.args.step.now write.moment write.charge write.draft (sym c.requires.write.next)).fits
 
-pub rewrite-rest-requires-clause-there : goal.rewrite-rest-requires-clause-there
-rewrite-rest-requires-clause-there c =
+pub rewrite-requires-clause-there : goal.rewrite-requires-clause-there
+rewrite-requires-clause-there c =
     let shelf = c.args.self.now.content in
     let write = c.args.write.now in
-    let reused = subst (λ (k : List ℕ). reuses shelf.cut write.moment k (get shelf.items k) c.class_for-class.result write.draft.body ≡ true) c.key.ensures (sym c.reuses.ensures ∙ c.if-reuses.true) in
+    let reused = subst (λ (k : List ℕ). reuses shelf.cut write.moment k (get shelf.items k) c.class_for-class.result write.draft.body ≡ true) c.key.ensures (sym c.fit-same.ensures.reused ∙ c.if-reused.true) in
     let there = reused_is c.counts_follow.ensures.insert c.counts_follow.ensures.remove c.args.step.now write.moment shelf c.args.desk.now c.requires.write.on_key write.charge write.draft (sym c.requires.write.next) c.class_for-class.result c.class_for-class.ensures.value reused in
     record {
       item = there.0;
@@ -28,22 +28,22 @@ rewrite-rest-requires-clause-there c =
           c.class_for-class.result c.class_for-class.ensures.value reused there.0 there.1;
     }
 
-pub returns-then-reuses-clause-took : goal.returns-then-reuses-clause-took
-returns-then-reuses-clause-took c =
+pub returns-then-reused-clause-took : goal.returns-then-reused-clause-took
+returns-then-reused-clause-took c =
     let shelf = c.args.self.now.content in
     let desk = c.args.desk.now in
     let write = c.args.write.now in
     let step = c.args.step.now in
-    let new = written c.rewrite-rest.result step c.rewrite-rest.new.self.content in
+    let new = written write (left_of c.rewrite.result) step c.rewrite.new.self.content in
     let class = c.class_for-class.result in
     let class_is = c.class_for-class.ensures.value in
-    let reused = subst (λ (k : List ℕ). reuses shelf.cut write.moment k (get shelf.items k) class write.draft.body ≡ true) c.key.ensures (sym c.reuses.ensures ∙ c.if-reuses.true) in
+    let reused = subst (λ (k : List ℕ). reuses shelf.cut write.moment k (get shelf.items k) class write.draft.body ≡ true) c.key.ensures (sym c.fit-same.ensures.reused ∙ c.if-reused.true) in
     let more : desk.next_unique ≢ 2 ^ 64 - 1 = λ e. let less = c.is_spent.ensures.left c.if-is_spent.false in omega (arith, less) in
     let block = own_is c.counts_follow.ensures.insert c.counts_follow.ensures.remove step write.moment shelf desk c.requires.write.on_key write.charge write.draft (sym c.requires.write.next) class class_is reused in
     let puts = subst (λ (l : List ℕ). IsPut (key_of step) write.hash shelf new (drafted write.draft l desk.next_unique write.moment)) block
-    (subst (λ (n : ℕ). IsPut (key_of step) write.hash shelf new (drafted write.draft (own_block write.draft.body (block_of step)) n write.moment)) c.draw-unique.ensures.number c.rewrite-rest.ensures.put) in
+    (subst (λ (n : ℕ). IsPut (key_of step) write.hash shelf new (drafted write.draft (own_block write.draft.body (block_of step)) n write.moment)) c.draw-unique.ensures.number c.rewrite.ensures.put) in
     record {
-      takes = subst (λ (r : Reply). Takes step write.moment shelf desk r new c.draw-unique.new.self) (sym c.reply-reply.ensures)
+      takes = subst (λ (r : Reply). Takes step write.moment shelf desk r new c.draw-unique.new.self) (sym c.rewrite.ensures.told)
           (subst (λ (d : DeskState). Takes step write.moment shelf desk (write_reply write.draft.body) new d) (sym c.draw-unique.ensures.drawn)
           (takes_again c.counts_follow.ensures.insert c.counts_follow.ensures.remove step write.moment shelf desk c.requires.write.on_key write.charge write.draft (sym c.requires.write.next) class class_is reused c.class_for-class.ensures.is_class c.draw-unique.ensures.slab more write.hash new puts));
       others = puts.others;
@@ -53,7 +53,7 @@ returns-then-reuses-clause-took c =
 pub write_again-requires-clause-anew : goal.write_again-requires-clause-anew
 write_again-requires-clause-anew c =
     let shelf = c.args.self.now.content in
-    subst (λ (k : List ℕ). reuses shelf.cut c.args.write.now.moment k (get shelf.items k) c.class_for-class.result c.args.write.now.draft.body ≡ false) c.key.ensures (sym c.reuses.ensures ∙ c.if-reuses.false)
+    subst (λ (k : List ℕ). reuses shelf.cut c.args.write.now.moment k (get shelf.items k) c.class_for-class.result c.args.write.now.draft.body ≡ false) c.key.ensures (sym c.fit-same.ensures.reused ∙ c.if-reused.false)
 
 pub drop_dead-requires-clause-out : goal.drop_dead-requires-clause-out
 drop_dead-requires-clause-out c =
@@ -70,7 +70,7 @@ returns-then-not-has_room-clause-took c =
     let desk' = c.drop_dead.new.desk in
     let class = c.class_for-class.result in
     let class_is = c.class_for-class.ensures.value in
-    let reused = subst (λ (k : List ℕ). reuses shelf.cut write.moment k (get shelf.items k) class write.draft.body ≡ false) c.key.ensures (sym c.reuses.ensures ∙ c.if-reuses.false) in
+    let reused = subst (λ (k : List ℕ). reuses shelf.cut write.moment k (get shelf.items k) class write.draft.body ≡ false) c.key.ensures (sym c.fit-same.ensures.reused ∙ c.if-reused.false) in
     let more : desk.next_unique ≢ 2 ^ 64 - 1 = λ e. let less = c.is_spent.ensures.left c.if-is_spent.false in omega (arith, less) in
     let dead = subst (λ (k : List ℕ). is_gone shelf.cut write.moment (get shelf.items k) ≡ true → IsDropped k write.hash shelf new × GivesBack k (get shelf.items k) desk desk') c.key-then-not-has_room.ensures c.drop_dead.ensures.dead in
     let alive = subst (λ (k : List ℕ). is_gone shelf.cut write.moment (get shelf.items k) ≡ false → (new ≡ shelf) × (desk' ≡ desk)) c.key-then-not-has_room.ensures c.drop_dead.ensures.alive in
@@ -82,8 +82,8 @@ returns-then-not-has_room-clause-took c =
       hash = others.1;
     }
 
-pub put-rest-requires-clause-chunk : goal.put-rest-requires-clause-chunk
-put-rest-requires-clause-chunk c =
+pub put-requires-clause-chunk : goal.put-requires-clause-chunk
+put-requires-clause-chunk c =
     let write = c.args.write.now in
     let charge_is = charge_beside c.counts_follow.ensures.insert c.counts_follow.ensures.remove c.args.step.now write.moment c.args.self.now.content c.args.desk.now c.requires.write.on_key write.charge write.draft (sym c.requires.write.next) in
     record {
@@ -91,8 +91,8 @@ put-rest-requires-clause-chunk c =
       fits = subst (λ (n : ℕ). n ≤ length c.in_ok-chunk.chunk) (sym charge_is) (subst (λ (n : ℕ). write.charge ≤ n) (sym c.in_ok-chunk.ensures.chunk.size) c.class_for-class.ensures.holds);
     }
 
-pub put-rest-requires-clause-can : goal.put-rest-requires-clause-can
-put-rest-requires-clause-can c =
+pub put-requires-clause-can : goal.put-requires-clause-can
+put-requires-clause-can c =
     let desk = c.args.desk.now in
     let drawn : c.draw-unique-2.new.self ≡ record { slab = taken desk.slab c.class_for-class.result; next_unique = desk.next_unique + 1 } =
     c.draw-unique-2.ensures.drawn ∙ ap (λ (d : DeskState). record d { next_unique = d.next_unique + 1 }) c.in_ok-chunk.ensures.taken in
@@ -110,22 +110,22 @@ returns-clause-took c =
     let desk = c.args.desk.now in
     let write = c.args.write.now in
     let step = c.args.step.now in
-    let new = written c.put-rest.result step c.put-rest.new.self.content in
+    let new = written write (left_of c.put.result) step c.put.new.self.content in
     let class = c.class_for-class.result in
     let class_is = c.class_for-class.ensures.value in
-    let reused = subst (λ (k : List ℕ). reuses shelf.cut write.moment k (get shelf.items k) class write.draft.body ≡ false) c.key.ensures (sym c.reuses.ensures ∙ c.if-reuses.false) in
+    let reused = subst (λ (k : List ℕ). reuses shelf.cut write.moment k (get shelf.items k) class write.draft.body ≡ false) c.key.ensures (sym c.fit-same.ensures.reused ∙ c.if-reused.false) in
     let more : desk.next_unique ≢ 2 ^ 64 - 1 = λ e. let less = c.is_spent.ensures.left c.if-is_spent.false in omega (arith, less) in
     let drawn : c.draw-unique-2.new.self ≡ record { slab = taken desk.slab class; next_unique = desk.next_unique + 1 } =
     c.draw-unique-2.ensures.drawn ∙ ap (λ (d : DeskState). record d { next_unique = d.next_unique + 1 }) c.in_ok-chunk.ensures.taken in
     let unique : c.draw-unique-2.result ≡ desk.next_unique = c.draw-unique-2.ensures.number ∙ ap (λ (d : DeskState). d.next_unique) c.in_ok-chunk.ensures.taken in
     let block = beside_is c.counts_follow.ensures.insert c.counts_follow.ensures.remove step write.moment shelf desk c.requires.write.on_key write.charge write.draft (sym c.requires.write.next) in
     let puts = subst (λ (l : List ℕ). IsPut (key_of step) write.hash shelf new (drafted write.draft l desk.next_unique write.moment)) block
-    (subst (λ (n : ℕ). IsPut (key_of step) write.hash shelf new (drafted write.draft (block_beside shelf step write.draft) n write.moment)) unique c.put-rest.ensures.put) in
-    let back = subst (λ (d : DeskState). GivesBack (key_of step) (get shelf.items (key_of step)) d c.put-rest.new.desk) drawn c.put-rest.ensures.given in
+    (subst (λ (n : ℕ). IsPut (key_of step) write.hash shelf new (drafted write.draft (block_beside shelf step write.draft) n write.moment)) unique c.put.ensures.put) in
+    let back = subst (λ (d : DeskState). GivesBack (key_of step) (get shelf.items (key_of step)) d c.put.new.desk) drawn c.put.ensures.given in
     record {
-      takes = subst (λ (r : Reply). Takes step write.moment shelf desk r new c.put-rest.new.desk) (sym c.reply-reply-2.ensures)
+      takes = subst (λ (r : Reply). Takes step write.moment shelf desk r new c.put.new.desk) (sym c.put.ensures.told)
           (takes_anew c.counts_follow.ensures.insert c.counts_follow.ensures.remove step write.moment shelf desk c.requires.write.on_key write.charge write.draft (sym c.requires.write.next) class class_is reused c.class_for-class.ensures.is_class c.take.ensures.slab
-          (sym c.has_room.ensures.value ∙ c.if-not-has_room.false) more write.hash new c.put-rest.new.desk puts back);
+          (sym c.has_room.ensures.value ∙ c.if-not-has_room.false) more write.hash new c.put.new.desk puts back);
       others = puts.others;
       hash = puts.hash;
     }
