@@ -6,7 +6,7 @@ ghost use Rattle.mc_command.specs.declared.row.Row.TheVariants.{Reads};
 ghost use Rattle.mc_command.specs.Commands.{key_of};
 ghost use Rattle.mc_command.specs.Laws.{IsOnKey};
 ghost use Rattle.mc_shelf.specs.States.{IsHash, CanStand};
-ghost use Rattle.mc_shelf.specs.Plans.{CanFinish, IsPlan, IsSpent, IsTaken, MayWantMemory, NeedsPage, finished, row_at};
+ghost use Rattle.mc_shelf.specs.Plans.{CanFinish, IsPlan, IsSpent, IsTaken, MayWantMemory, NeedsPage, finished, row_at, told_next};
 ghost use Rattle.mc_slab.specs.Classes.{class_holding};
 ghost use Rattle.mc_command.specs.declared.step.KeyStep.{KeyStep as Step};
 ghost use Rattle.mc_shared.specs.Store.{IsPlanned, is_read};
@@ -83,24 +83,25 @@ pub(crate) fn page_wanted(plan: &Option<Plan<'_>>, shelf: &Shelf, desk: &Desk) -
 
 /// Begins a step at a shelf and the desk, by its plan. With none it is looked up again, and memory is asked for only where a
 /// number and a chunk are to be had.
-pub(crate) fn begin_step(
+pub(crate) fn begin_step<'a>(
     alloc: Global,
     shelf: &mut Shelf,
     desk: &mut Desk,
     page: Option<Page>,
-    plan: Option<Plan<'_>>,
+    plan: Option<Plan<'a>>,
     step: &KeyStep<'_>,
     hash: u64,
     now: Moment,
-) -> Result<Begun, StepFault>
+) -> Result<(Plan<'a>, Begun), StepFault>
     requires plan { IfSome plan (λ plan. IsPlanned plan shelf.old step.now hash now) }
     requires on_key { IsOnKey step.now }
     requires key { length (key_of step.now) ≤ 250 }
     requires hash { IsHash shelf.old.content (key_of step.now) hash }
     requires stands { CanStand (key_of step.now) shelf.old.content desk.old }
     ensures took { IfOk result (λ begun. IsTaken step.now now hash shelf.old.content desk.old
-        begun.reply (finished begun step.now shelf.new.content) desk.new) }
-    ensures left { IfOk result (λ begun. CanFinish begun step.now shelf.new) }
+        (told_next begun.0.next begun.1) (finished begun.0 begun.1 step.now shelf.new.content)
+        desk.new) }
+    ensures left { IfOk result (λ begun. CanFinish begun.0 begun.1 step.now shelf.new) }
     ensures spent { result ≡ Err StepFault.NumbersSpent →
         IsSpent step.now now shelf.old.content desk.old }
     ensures refused { result ≡ Err StepFault.NoMemory →
@@ -111,9 +112,12 @@ pub(crate) fn begin_step(
     refusals_are_plain();
     let _number = desk.next_unique();
     match plan {
-        Some(plan) => shelf.begin(alloc, plan, step, desk, page),
+        Some(plan) => match shelf.begin(alloc, &plan, step, desk, page) {
+            Ok(begun) => Ok((plan, begun)),
+            Err(fault) => Err(fault),
+        },
         None => match shelf.step(alloc, step, hash, now, desk) {
-            Ok(reply) => Ok(Begun::of(reply)),
+            Ok(reply) => Ok((Plan::of(reply), Begun::Done)),
             Err(fault) => Err(fault),
         },
     }

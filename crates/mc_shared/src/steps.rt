@@ -12,7 +12,7 @@ use crate::plays::{Begins, Decide, Fork, Give, Look, Meet, Says, Take, Takes};
 use crate::rule::{Board, Place};
 use mc_command::{KeyStep, Reply};
 use mc_hop::KeyHash;
-use mc_shelf::{Begun, Desk, Shelf};
+use mc_shelf::{Begun, Desk, Plan, Shelf};
 use mc_time::Moment;
 use std::marker::Brand;
 
@@ -146,6 +146,7 @@ pub fn decide_at_desk<D: Says, K: KeyHash + Drop>(
     desk: Box<Desk>,
     _at: usize,
     _shelf: &Shelf,
+    _plan: &Plan<'_>,
     _begun: &Begun,
     _step: &KeyStep<'_>,
     _now: Moment,
