@@ -15,6 +15,7 @@ use crate::shelf::Shelf;
 use crate::write::Write;
 use mc_command::{Draft, KeyStep, Reply};
 use mc_slab::Chunk;
+use std::mem;
 
 /// What is left of a write whose block is the step's own.
 #[derive(Drop)]
@@ -38,8 +39,8 @@ pub enum Begun {
 
 impl Begun {
     /// Gives the answer of a write that was begun.
-    fn told(&self, draft: Draft) -> Reply
-        ensures { result ≡ write_told draft.body self.now }
+    fn told(&self, draft: &Draft) -> Reply
+        ensures { result ≡ write_told draft.now.body self.now }
     {
         match self {
             Begun::Full => Reply::NoChunk,
@@ -49,32 +50,27 @@ impl Begun {
 }
 
 impl Shelf {
-    /// Does what is left of a plan's step that was begun at this shelf, with no other step between, and answers it. Copies the
-    /// block of an item that is written, and takes no memory.
-    pub fn finish(&mut self, plan: Plan<'_>, begun: Begun, step: &KeyStep<'_>) -> Reply
-        requires { CanFinish plan begun step.now self.old }
-        ensures reply { result ≡ told_next plan.entry.next begun.entry }
+    /// Does what is left of a plan's step that was begun at this shelf, with no other step between, and answers it; the plan
+    /// has no answer then. Copies the block of an item that is written, and takes no memory.
+    pub fn finish(&mut self, plan: &mut Plan<'_>, begun: Begun, step: &KeyStep<'_>) -> Reply
+        requires { CanFinish plan.old begun step.now self.old }
+        ensures reply { result ≡ told_next plan.old.next begun.entry }
         ensures content { self.new.content
-            ≡ finished plan.entry begun.entry step.now self.old.content }
+            ≡ finished plan.old begun.entry step.now self.old.content }
     {
-        let Plan {
-            hash,
-            place,
-            next,
-            moment,
-            ..
-        } = plan;
-        match next {
-            Next::Answer(reply) | Next::Expire(_, reply) | Next::Discard(reply) => reply,
+        match &mut plan.next {
+            Next::Answer(reply) => mem::replace(reply, Reply::Miss),
+            Next::Expire(_, reply) => mem::replace(reply, Reply::Miss),
+            Next::Discard(reply) => mem::replace(reply, Reply::Miss),
             Next::Write(charge, draft) => {
                 let reply = begun.told(draft);
                 if let Begun::Left(rest) = begun {
                     let write = Write {
-                        hash,
-                        place,
-                        moment,
-                        charge,
-                        draft,
+                        hash: plan.hash,
+                        place: plan.place,
+                        moment: plan.moment,
+                        charge: *charge,
+                        draft: *draft,
                     };
                     self.write_block(&write, rest, step);
                 }

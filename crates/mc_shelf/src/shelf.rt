@@ -217,8 +217,9 @@ impl Shelf {
         if !plan.needs_desk() {
             return Ok(self.settle(plan));
         }
+        let mut plan = plan;
         match self.begin(alloc, &plan, step, desk, None) {
-            Ok(begun) => Ok(self.finish(plan, begun, step)),
+            Ok(begun) => Ok(self.finish(&mut plan, begun, step)),
             Err(fault) => Err(fault),
         }
     }

@@ -248,7 +248,12 @@ impl Shelf {
             return Ok(self.rewrite(write, unique, step));
         }
         if write.goes_over(same, class, desk) {
-            return Ok(self.write_again(write, class, step, desk));
+            // To take the chunk of the class that is free, and give the item's back, would leave the slab as it is.
+            let unique = desk.draw();
+            return Ok(Begun::Left(Unwritten {
+                unique,
+                chunk: None,
+            }));
         }
         if !desk.has_room(class) {
             self.drop_dead(write, step.key(), desk);
@@ -271,36 +276,6 @@ impl Shelf {
         let same = has_class(found, class);
         let reused = same && (write.counts() || is_gone(found, self.cut, write.moment));
         Fit { same, reused }
-    }
-
-    /// Writes the item of a step in the chunk of the key's item. To take the chunk of the class that is free, and give the
-    /// item's back, would leave the slab as it is.
-    fn write_again(
-        &mut self,
-        write: &Write,
-        class: Class,
-        step: &KeyStep<'_>,
-        desk: &mut Desk,
-    ) -> Begun
-        requires write { IsWriteOf write.now self.old.content step.now }
-        requires value { class ≡ class_holding write.now.charge }
-        requires is_class { IsClass class }
-        requires anew { reuses self.old.content.cut write.now.moment (key_of step.now)
-            (get self.old.content.items (key_of step.now)) class write.now.draft.body ≡ false }
-        requires there { plans.has_class (key_of step.now)
-            (get self.old.content.items (key_of step.now)) class ≡ true }
-        requires given { write.now.draft.body ≡ Body.Given }
-        requires free { out_of desk.old.slab class < chunks_of desk.old.slab class }
-        requires numbers { desk.old.next_unique < 2 ^ 64 - 1 }
-        ensures took { IsTaken step.now write.now.moment write.now.hash self.old.content desk.old
-            (write_told write.now.draft.body result)
-            (written write.now (left_of result) step.now self.new.content) desk.new }
-        ensures left { IfSome (left_of result) (λ rest.
-            CanWriteBlock write.now rest step.now self.new) }
-    {
-        counts_follow();
-        let unique = desk.draw();
-        self.rewrite(write, unique, step)
     }
 
     /// Writes a number in the chunk of the key's item. The step's own block is left to be written there.

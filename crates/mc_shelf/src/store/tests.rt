@@ -430,9 +430,9 @@ fn step_in_parts(
     ensures err { OnErr result
         ((shelf.new.content ≡ shelf.old.content) × (desk.new ≡ desk.old)) }
 {
-    let plan = shelf.look(alloc, step, hash, now)?;
+    let mut plan = shelf.look(alloc, step, hash, now)?;
     let begun = shelf.begin(alloc, &plan, step, desk, None)?;
-    Ok(shelf.finish(plan, begun, step))
+    Ok(shelf.finish(&mut plan, begun, step))
 }
 
 /// Takes a step at its key's shelf in two parts.

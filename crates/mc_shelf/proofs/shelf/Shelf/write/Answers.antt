@@ -1,13 +1,15 @@
-use Rattle.std.proofs.Common.{◌≡◌, ◌≢◌, ◌+◌, ◌-◌, ◌^◌, ◌≤◌, List, ℕ, true, false, arith, rules, length, sym, ap, subst, ◌∙◌}
+use Rattle.std.proofs.Common.{None, ◌≡◌, ◌≢◌, ◌+◌, ◌-◌, ◌^◌, ◌≤◌, List, ℕ, true, false, arith, rules, length, sym, ap, subst, ◌∙◌}
 use Rattle.std.specs.FinMap.{get}
 use Rattle.mc_slab.specs.Classes.{class_holding}
 use Rattle.mc_slab.specs.Slabs.{taken}
 use Rattle.mc_command.specs.declared.reply.Reply.{Reply}
 use Rattle.mc_command.specs.Commands.{key_of}
-use Rattle.mc_command.specs.Plain.{block_of, write_reply}
+use Rattle.mc_command.specs.Plain.{Entry, block_of, charge, write_reply}
 use Rattle.mc_shelf.specs.States.{DeskState}
-use Rattle.mc_shelf.specs.Plans.{GivesBack, IsDropped, IsOut, IsPut, Takes, block_beside, drafted, is_gone, left_of, own_block, reuses, written}
-use Rattle.mc_shelf.proofs.TakesLemmas.{beside_is, charge_beside, class_own, drafts, is_out, is_out_taken, others_full, own_is, reused_is, takes_again, takes_anew, takes_full}
+use Rattle.mc_command.specs.declared.row.Body.{Body}
+use Rattle.mc_shelf.proofs.ShelfLemmas.{put_over}
+use Rattle.mc_shelf.specs.Plans.{has_class, with_item, GivesBack, IsDropped, IsOut, IsPut, Takes, block_beside, drafted, is_gone, left_of, own_block, reuses, written}
+use Rattle.mc_shelf.proofs.TakesLemmas.{beside_is, block_given, item_given, takes_in_place, charge_beside, class_own, drafts, is_out, is_out_taken, others_full, own_is, reused_is, takes_again, takes_anew, takes_full}
 use Rattle.mc_shelf.proofs.shelf.Shelf.write.Goals as goal
 
 pub class_for-class-requires : goal.class_for-class-requires
@@ -50,10 +52,45 @@ returns-then-reused-clause-took c =
       hash = puts.hash;
     }
 
-pub write_again-requires-clause-anew : goal.write_again-requires-clause-anew
-write_again-requires-clause-anew c =
+pub returns-then-goes_over-clause-left : goal.returns-then-goes_over-clause-left
+returns-then-goes_over-clause-left c =
     let shelf = c.args.self.now.content in
-    subst (λ (k : List ℕ). reuses shelf.cut c.args.write.now.moment k (get shelf.items k) c.class_for-class.result c.args.write.now.draft.body ≡ false) c.key.ensures (sym c.fit-same.ensures.reused ∙ c.if-reused.false)
+    let write = c.args.write.now in
+    let step = c.args.step.now in
+    let same = subst (λ (k : List ℕ). has_class k (get shelf.items k) c.class_for-class.result ≡ true) c.key.ensures (sym c.fit-same.ensures.same ∙ c.goes_over.ensures.class c.if-goes_over.true) in
+    let given = c.goes_over.ensures.given c.if-goes_over.true in
+    let there = item_given c.counts_follow.ensures.insert c.counts_follow.ensures.remove step write.moment shelf c.args.desk.now c.requires.write.on_key write.charge write.draft (sym c.requires.write.next) c.class_for-class.result c.class_for-class.ensures.value same given in
+    record {
+      short = c.requires.write.short;
+      known = c.requires.write.known;
+      ready = record { item = there.0; there = there.1; class = there.2 ∙ ap (λ (b : Body). class_holding (charge (key_of step) (own_block b (block_of step)))) given };
+    }
+
+pub returns-then-goes_over-clause-took : goal.returns-then-goes_over-clause-took
+returns-then-goes_over-clause-took c =
+    let shelf = c.args.self.now.content in
+    let desk = c.args.desk.now in
+    let write = c.args.write.now in
+    let step = c.args.step.now in
+    let class = c.class_for-class.result in
+    let class_is = c.class_for-class.ensures.value in
+    let anew = subst (λ (k : List ℕ). reuses shelf.cut write.moment k (get shelf.items k) c.class_for-class.result write.draft.body ≡ false) c.key.ensures (sym c.fit-same.ensures.reused ∙ c.if-reused.false) in
+    let same = subst (λ (k : List ℕ). has_class k (get shelf.items k) c.class_for-class.result ≡ true) c.key.ensures (sym c.fit-same.ensures.same ∙ c.goes_over.ensures.class c.if-goes_over.true) in
+    let given = c.goes_over.ensures.given c.if-goes_over.true in
+    let unique = c.draw-unique-then-goes_over.result in
+    let own : List ℕ → ℕ → Entry = λ l n. drafted write.draft l n write.moment in
+    let new = with_item None (key_of step) write.hash (own (block_of step) unique) shelf in
+    let more : desk.next_unique ≢ 2 ^ 64 - 1 = λ e. let less = c.is_spent.ensures.left c.if-is_spent.false in omega (arith, less) in
+    let block = ap (λ (b : Body). own_block b (block_of step)) (sym given) ∙ block_given c.counts_follow.ensures.insert c.counts_follow.ensures.remove step write.moment shelf desk c.requires.write.on_key write.charge write.draft (sym c.requires.write.next) class class_is given in
+    let puts = subst (λ (l : List ℕ). IsPut (key_of step) write.hash shelf new (own l desk.next_unique)) block
+    (subst (λ (n : ℕ). IsPut (key_of step) write.hash shelf new (own (block_of step) n)) c.draw-unique-then-goes_over.ensures.number
+    (put_over (key_of step) write.hash shelf (own (block_of step) unique) c.requires.write.known.hash)) in
+    record {
+      takes = subst (λ (d : DeskState). Takes step write.moment shelf desk (write_reply write.draft.body) new d) (sym c.draw-unique-then-goes_over.ensures.drawn)
+          (takes_in_place c.counts_follow.ensures.insert c.counts_follow.ensures.remove step write.moment shelf desk c.requires.write.on_key write.charge write.draft (sym c.requires.write.next) class class_is anew same c.class_for-class.ensures.is_class c.draw-unique-then-goes_over.ensures.slab (c.goes_over.ensures.free c.if-goes_over.true) more write.hash new puts);
+      others = puts.others;
+      hash = puts.hash;
+    }
 
 pub drop_dead-requires-clause-out : goal.drop_dead-requires-clause-out
 drop_dead-requires-clause-out c =
