@@ -356,11 +356,11 @@ pub(crate) fn apply_at_desk<K: KeyHash + Drop>(
     let mut shelf = shelf;
     let (mut desk, page) = desk;
     match begin_step(alloc, &mut *shelf, &mut *desk, page, plan, step, hash, now) {
-        Ok((plan, begun)) => {
+        Ok((mut plan, begun)) => {
             decide_at_desk::<Brand, K>(
                 board, caller, bays.1, desk, bays.0, &*shelf, &plan, &begun, step, now,
             );
-            let reply = shelf.finish(plan, begun, step);
+            let reply = shelf.finish(&mut plan, begun, step);
             give(board, caller, bays.0, Bay::Shelf(Boxed::of(shelf)));
             Ok(reply)
         }
