@@ -47,6 +47,9 @@ ALSO = {
     "mc_reply": ["tests::a_reply_is_a_line", "tests::a_retrieval_tells_what_it_found_and_ends"],
     "mc_session": ["tests::a_refused_turn_tells_whether_its_step_stands", "tests::keys_of_a_get_take_a_turn_each"],
     "mc_shelf": [
+        "store::overwrite_tests::no_chunk_is_free_and_a_page_comes",
+        "store::overwrite_tests::the_account_of_the_class_stays",
+        "store::overwrite_tests::the_item_is_the_new_one",
         "store::tests::a_chunk_that_comes_back_serves_another_shelf",
         "store::tests::a_flush_reaches_all_shelves",
         "store::tests::each_key_has_its_item",

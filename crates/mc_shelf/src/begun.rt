@@ -17,7 +17,8 @@ use mc_command::{Draft, KeyStep, Reply};
 use mc_slab::Chunk;
 use std::mem;
 
-/// What is left of a write whose block is the step's own.
+/// What is left of a write whose block is the step's own: a large block of a new key, or a block of any size that goes into the
+/// chunk of the key's item.
 #[derive(Drop)]
 pub struct Unwritten {
     /// The number that it drew.

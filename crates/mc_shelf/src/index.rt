@@ -74,7 +74,7 @@ impl Index {
     {
         Ok(Index {
             entries: mc_grow::Index::new(alloc, LEAST_EXPONENT)?,
-            soonest: Soonest::of_none(),
+            soonest: Soonest::empty(),
         })
     }
 

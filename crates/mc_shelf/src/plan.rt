@@ -76,8 +76,7 @@ impl<'a> Plan<'a> {
         }
     }
 
-    /// Answers whether the step needs the desk: it drops an item that is dead or deleted, or writes one, also where no chunk
-    /// is left or the unique numbers are spent. No other step does.
+    /// Returns whether the step needs the desk: it does if it removes or writes an item, even if the write is then refused.
     pub fn needs_desk(&self) -> bool
         ensures told { result ≡ wants_desk self.now.next }
         ensures needed { (shelf : ShelfContent) (desk : DeskState) (step : Step) (now : ℕ) →
@@ -90,7 +89,7 @@ impl<'a> Plan<'a> {
         }
     }
 
-    /// Answers whether the step writes an item, if there is a unique number and a chunk.
+    /// Returns whether the step writes an item, if there is a unique number and a chunk.
     pub(crate) fn writes(&self) -> bool
         ensures { result ≡ writes self.now.next }
     {
@@ -116,8 +115,8 @@ pub(crate) fn next_of(
     ensures refused { OnErr result ((expiry : Option Expires)
         × (row_of step.now now (machine.alive cut now (item_in found.entry)) ≡ Reads expiry)) }
 {
-    let item = alive(found, cut, now);
     let dead = is_gone(found, cut, now);
+    let item = standing(found, dead);
     match command::row_of(step, item, now) {
         Row::Refuses(refusal) => Ok(answered(dead, refusal.reply())),
         Row::Reads(None) => Ok(answered(dead, hit(alloc, item)?)),
@@ -160,21 +159,15 @@ fn hit(alloc: Global, item: Option<&Entry>) -> Result<Reply, AllocError>
     }
 }
 
-/// Lends the item that stands: one that isn't dead.
-pub(crate) fn alive<'a>(
-    found: Option<&'a Entry>,
-    cut: Option<u64>,
-    now: Moment,
-) -> Option<&'a Entry>
-    ensures { item_in result ≡ machine.alive cut now (item_in found.entry) }
+/// Lends the item that stands: the one that is found, unless it is dead.
+fn standing<'a>(found: Option<&'a Entry>, dead: bool) -> Option<&'a Entry>
+    ensures { (cut : Option ℕ) (now : ℕ) → dead ≡ is_gone cut now (item_in found.entry) →
+        item_in result ≡ machine.alive cut now (item_in found.entry) }
 {
-    match found {
-        Some(entry) if !is_dead(entry.expiry(), entry.updated(), cut, now) => Some(entry),
-        _ => None,
-    }
+    if dead { None } else { found }
 }
 
-/// Answers whether the item that is found is dead.
+/// Returns whether the item that is found is dead.
 pub(crate) fn is_gone(found: Option<&Entry>, cut: Option<u64>, now: Moment) -> bool
     ensures { result ≡ is_gone cut now (item_in found.entry) }
 {

@@ -186,9 +186,8 @@ impl Shelf {
                 self.expire(place, hash, key.as_slice(), expiry);
                 reply
             }
-            // These need the desk, and don't come here.
-            Next::Discard(reply) => reply,
-            Next::Write(_, draft) => draft.body.reply(),
+            // A plan that needs the desk isn't settled, by what this call requires.
+            Next::Discard(_) | Next::Write(..) => unreachable!(),
         }
     }
 
@@ -246,12 +245,16 @@ impl Shelf {
         }
     }
 
-    /// Does what a plan's step needs the desk for; `finish` does the rest, before the shelf is asked for anything else. A write
-    /// takes a chunk while the key's old item still has its own; a dead item's chunk of the same class is used again, and so is
-    /// that of a number that incr and decr leave in its class. A large block that the step brings is left to `finish`, so that the
-    /// cost doesn't grow with it. A page that the slab gives to a class is all that takes memory; it is the one that is brought,
-    /// where one of that class is. Refused, or with the unique numbers spent, the shelf holds what it held, and the desk is as
-    /// it was.
+    /// Does what a plan's step needs the desk for; `finish` does the rest over the same plan, before the shelf is asked for
+    /// anything else.
+    ///
+    /// A write goes into the chunk of the key's old item if that is of its class, and the item is dead, or a number that incr and
+    /// decr count, or another chunk of the class is free and the block is the step's own. Any other write takes a chunk while the
+    /// old item still has its own. A block that the step brings is left to `finish` if it goes into the old item's chunk, or is
+    /// large, so that the cost doesn't grow with it.
+    ///
+    /// A page that the slab gives to a class is all that takes memory; it is the one that is brought, where one of that class is.
+    /// Refused, or with the unique numbers spent, the shelf holds what it held, and the desk is as it was.
     pub fn begin(
         &mut self,
         alloc: Global,
@@ -309,7 +312,7 @@ impl Shelf {
         if !self.index.may_have_dead(self.cut, now) {
             return;
         }
-        let mut soonest = Soonest::of_none();
+        let mut soonest = Soonest::empty();
         let mut at = 0;
         while let Some((number, place)) = self.index.filled_from(at) {
             if is_gone(self.index.get(place), self.cut, now) {
@@ -342,7 +345,7 @@ impl Shelf {
             desk.give(entry.into_chunk());
             at = number;
         }
-        self.index.keep_soonest(Soonest::of_none());
+        self.index.keep_soonest(Soonest::empty());
     }
 
     /// Sets the moment from which on what was updated before it is dead; with none, no flush is waiting or has come.

@@ -10,8 +10,8 @@ use crate::entry::Entry;
 use mc_command::Standing;
 use mc_time::{Expiry, Moment, is_dead};
 
-/// No item of some expires sooner than this expiry, and none was last written sooner than this moment. So at a moment when an
-/// item of these two isn't dead, none of them is, whatever flush there is.
+/// Bounds over a set of items: none expires before `expiry`, and none was written before `updated`. As long as an item with
+/// exactly these two would be alive, all of them are.
 #[derive(Clone, Copy)]
 pub(crate) struct Soonest {
     /// The soonest expiry.
@@ -21,15 +21,15 @@ pub(crate) struct Soonest {
 }
 
 impl Soonest {
-    /// Makes that of no items.
-    pub(crate) fn of_none() -> Soonest {
+    /// Returns the bounds of no items.
+    pub(crate) fn empty() -> Soonest {
         Soonest {
             expiry: Expiry::Never,
             updated: Moment::from_seconds(Moment::LATEST),
         }
     }
 
-    /// Makes that of these items and one more, of that expiry, which was last written at that moment.
+    /// Adds an item.
     pub(crate) fn with(self, expiry: Expiry, updated: Moment) -> Soonest
         ensures one { (item : Item) → item.expiry ≡ expiry → item.updated ≡ updated →
             DiesNoSooner result item }
@@ -41,7 +41,7 @@ impl Soonest {
         }
     }
 
-    /// Makes that of these items, one of which now has that expiry.
+    /// Sets the expiry of one of the items.
     pub(crate) fn with_expiry(self, expiry: Expiry) -> Soonest
         ensures one { (item : Item) → DiesNoSooner self item →
             DiesNoSooner result (record item { expiry = expiry }) }
@@ -53,7 +53,7 @@ impl Soonest {
         }
     }
 
-    /// Makes that of these items and of the one that is found, if one is.
+    /// Adds the item that is found, if one is.
     pub(crate) fn with_found(self, found: Option<&Entry>) -> Soonest
         ensures found { (item : Item) → item_in found.entry ≡ Some item → DiesNoSooner result item }
         ensures others { (item : Item) → DiesNoSooner self item → DiesNoSooner result item }
@@ -64,7 +64,7 @@ impl Soonest {
         }
     }
 
-    /// Answers whether one of the items may be dead at a moment, with a flush at `cut`.
+    /// Returns whether one of the items may be dead at a moment, with a flush at `cut`.
     pub(crate) fn may_be_dead(self, cut: Option<u64>, now: Moment) -> bool
         ensures { result ≡ is_dead self.expiry self.updated cut now }
     {

@@ -4,6 +4,8 @@
 #[cfg(test)]
 mod lag_tests;
 #[cfg(test)]
+mod overwrite_tests;
+#[cfg(test)]
 mod tests;
 
 ghost use Rattle.std.specs.Prelude.{◌≡◌, ◌↔◌, ◌-◌, ◌≤◌, min, length, replicate, slice_index, slice_set, IfOk, OnErr, Err, refl};

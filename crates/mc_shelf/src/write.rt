@@ -51,8 +51,7 @@ use mc_slab::{Chunk, Class, Page};
 use mc_time::Moment;
 use std::alloc::Global;
 
-/// From how many bytes on a block is copied when the desk has been given back. An item that is written in two parts costs some 400
-/// instructions more.
+/// From how many bytes on the block of an item that takes another chunk is copied when the desk has been given back.
 const LARGE: usize = 4096;
 
 /// A write that comes next.
@@ -71,7 +70,7 @@ pub(crate) struct Write {
 }
 
 impl Write {
-    /// Answers whether the block is a number's digits.
+    /// Returns whether the block is a number's digits.
     fn counts(&self) -> bool
         ensures { result ≡ plans.counts self.now.draft.body }
     {
@@ -81,7 +80,7 @@ impl Write {
         }
     }
 
-    /// Answers whether the item may go into the chunk of the key's item all the same: that is one of the class, of which
+    /// Returns whether the item may go into the chunk of the key's item all the same: that is one of the class, of which
     /// another is free, and the block is the step's own.
     fn goes_over(&self, same: bool, class: Class, desk: &Desk) -> bool
         ensures class { result ≡ true → same ≡ true }
@@ -94,7 +93,7 @@ impl Write {
         }
     }
 
-    /// Answers whether the step's own block is written, and is so large that copying it costs more than coming back for it.
+    /// Returns whether the step's own block is written, and is so large that copying it costs more than coming back for it.
     fn leaves_block(&self, step: &KeyStep<'_>) -> bool
         ensures { result ≡ true → self.now.draft.body ≡ Body.Given }
     {
@@ -201,7 +200,7 @@ struct Fit {
     reused: bool,
 }
 
-/// Answers whether the item that is found has a chunk of the class.
+/// Returns whether the item that is found has a chunk of the class.
 fn has_class(found: Option<&Entry>, class: Class) -> bool
     ensures { (key : List ℕ) → IfSome found.entry (λ entry. entry.now.key ≡ key) →
         result ≡ plans.has_class key (item_in found.entry) class }
