@@ -13,6 +13,8 @@ from socket_server import ANSWERED, MOMENT, Server, until
 
 # The warning where others than this machine can connect.
 WARNING = rb"mcserver: warning: .* no passwords"
+# What one more connection than there may be is told.
+TOO_MANY = b"ERROR Too many open connections\r\n"
 
 
 @contextlib.contextmanager
@@ -76,7 +78,7 @@ def addresses(program):
 
 
 def most_connections(program):
-    """So many connections are answered and one more is closed; after one has gone another is answered, again and again."""
+    """So many connections are answered, and one more is told that there are too many and closed; after one has gone another is answered, again and again."""
     found, most = [], 3
     with Server(program, connections=most) as server:
         for turn in range(3):
@@ -93,10 +95,12 @@ def most_connections(program):
 
 
 def one_more(server):
-    """What is wrong where one more connection than there may be isn't closed at once."""
+    """What is wrong where one more connection than there may be isn't told so and closed at once."""
     try:
         with Peer(server.port, seconds=ANSWERED) as peer:
-            return [] if peer.is_closed() else ["one more connection than there may be is open"]
+            got = peer.upto(b"\r\n")
+            found = [] if got == TOO_MANY else [f"one more connection than there may be is told {got!r}, wanted {TOO_MANY!r}"]
+            return found + ([] if peer.is_closed() else ["one more connection than there may be is open"])
     except (ConnectionError, Late) as error:
         return [] if isinstance(error, ConnectionError) else [f"one more connection than there may be: {error}"]
 

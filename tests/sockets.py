@@ -19,6 +19,7 @@ import socket_inputs
 import socket_limits
 import socket_many
 import socket_memory
+import socket_newcomers
 import socket_options
 import socket_order
 import socket_rows
@@ -33,6 +34,11 @@ TESTS = {
     "what is told of connections": socket_options.told,
     "signals that end it": socket_limits.signals,
     "200 connections on keys of their own": socket_many.own_keys,
+    "connections that come at once": socket_newcomers.bursts,
+    "newcomers beside a worker that is busy": socket_newcomers.busy_worker,
+    "who asked first": socket_newcomers.oldest_first,
+    "urgent data": socket_newcomers.urgent,
+    "how often workers wake": socket_newcomers.rests,
     "shared keys, in rounds": socket_order.shared_in_rounds,
     "shared keys, freely": socket_order.shared_freely,
     "half lines": socket_abuse.half_lines,

@@ -2,7 +2,6 @@
 
 use crate::arrivals::Arrivals;
 use crate::connection::{Connection, Crowd, Parting};
-use mio::Waker;
 use mio::net::TcpStream;
 use std::net::{SocketAddr, TcpListener};
 use std::sync::{Arc, Wait};
@@ -41,14 +40,13 @@ struct Door {
     count: u64,
 }
 
-/// Accepts connections until the listener fails, and wakes a worker for each, turn about. One more than
-/// the crowd may have is closed.
+/// Accepts connections until the listener fails, and deals them to the workers turn about. One more than
+/// the crowd may have is told so, and closed.
 pub fn accept_all<R: Wait + Clock>(
     rt: &R,
     listener: TcpListener,
     crowd: Arc<Crowd>,
     arrivals: &Arrivals,
-    wakers: &[Waker],
 ) {
     let spare = listener.try_clone().ok();
     let mut door = Door {
@@ -62,7 +60,7 @@ pub fn accept_all<R: Wait + Clock>(
         match door.accept(rt) {
             Came::Connection(connection) => {
                 if arrivals.push(rt, connection) {
-                    turn = wake_next(wakers, turn);
+                    turn = arrivals.call(turn);
                 }
             }
             Came::Nothing => {}
@@ -70,19 +68,6 @@ pub fn accept_all<R: Wait + Clock>(
         }
     }
     arrivals.end();
-    for waker in wakers {
-        let _ = waker.wake();
-    }
-}
-
-/// Wakes the worker whose turn it is, and says whose turn is next.
-fn wake_next(wakers: &[Waker], turn: usize) -> usize {
-    let turn = if turn < wakers.len() { turn } else { 0 };
-    if let Some(waker) = wakers.get(turn) {
-        // where that fails it looks by itself, within its rest
-        let _ = waker.wake();
-    }
-    turn.saturating_add(1)
 }
 
 impl Door {
@@ -120,12 +105,16 @@ impl Door {
         Came::Nothing
     }
 
-    /// Lets a connection in, unless there are as many as there may be.
+    /// Lets a connection in, unless there are as many as there may be: it is then told so, and closed.
     fn let_in(&mut self, stream: std::net::TcpStream, peer: SocketAddr) -> Came {
-        match self.counted(stream, peer) {
-            Some(connection) if !connection.is_one_too_many() => Came::Connection(connection),
-            _closed => Came::Nothing,
+        let Some(mut connection) = self.counted(stream, peer) else {
+            return Came::Nothing;
+        };
+        if connection.is_one_too_many() {
+            connection.refuse();
+            return Came::Nothing;
         }
+        Came::Connection(connection)
     }
 
     /// Counts a connection, of which no call waits.

@@ -9,6 +9,7 @@ use mc_workers::{NoGate, work};
 use std::alloc::Global;
 use std::marker::Model;
 use std::sync::Wait;
+use std::time;
 
 /// A caller of a store, with the store.
 #[derive(Drop)]
@@ -44,7 +45,7 @@ impl<'a> Asker<'a> {
     }
 
     /// Serves links until none comes any more and all sessions have ended.
-    pub fn work<R: Wait, C: Clock>(
+    pub fn work<R: Wait + time::Clock, C: Clock>(
         self,
         rt: &R,
         alloc: Global,

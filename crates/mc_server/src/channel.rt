@@ -28,6 +28,8 @@ pub struct Readiness {
     pub leaves: bool,
     /// It is to end, since no more connections can come.
     pub is_over: bool,
+    /// Urgent data came, at which a read stops short of what is behind it.
+    pub is_marked: bool,
 }
 
 impl Readiness {
@@ -39,6 +41,7 @@ impl Readiness {
         waits: false,
         leaves: false,
         is_over: false,
+        is_marked: false,
     };
 }
 
@@ -47,21 +50,31 @@ impl Readiness {
 ///
 /// A call says that it would block only after the system itself said so, by an error or by a count
 /// that was short, and then lowers the flag: from there on the system reports the next change, and the
-/// event raises the flag again. Flags are lowered by calls and raised by events of one thread alone,
+/// event raises the flag again. A read is short at urgent data too; from the event that tells of such data
+/// on, which the system reports where a read has stopped there, only an error lowers the flag. Flags are lowered by calls and raised by events of one thread alone,
 /// and an event that comes between a call and the next poll waits in the system, so none is lost.
 #[derive(Drop)]
 pub struct Channel {
     connection: Connection,
     readiness: Rc<Cell<Readiness>>,
+    /// How many bytes all channels of the worker moved.
+    moved: Rc<Cell<usize>>,
     gathered: Vec<u8>,
 }
 
 impl Channel {
-    /// Makes a channel of a connection that doesn't block. It takes no memory.
-    pub fn new(alloc: Global, connection: Connection, readiness: Rc<Cell<Readiness>>) -> Channel {
+    /// Makes a channel of a connection that doesn't block, which adds what it moves to `moved`. It takes
+    /// no memory.
+    pub fn new(
+        alloc: Global,
+        connection: Connection,
+        readiness: Rc<Cell<Readiness>>,
+        moved: Rc<Cell<usize>>,
+    ) -> Channel {
         Channel {
             connection,
             readiness,
+            moved,
             gathered: Vec::new(alloc),
         }
     }
@@ -107,8 +120,9 @@ impl Channel {
                 Ok(0)
             }
             Ok(count) => {
+                self.count(count);
                 // where the other end has closed, its last bytes and the end came as one event
-                if count < wanted && !known.is_final {
+                if count < wanted && !known.is_final && !known.is_marked {
                     self.readiness.set(Readiness {
                         reads: false,
                         ..known
@@ -178,6 +192,7 @@ impl Channel {
         };
         match sent {
             Ok(count) => {
+                self.count(count);
                 if count < before.saturating_add(bytes.len()) {
                     self.readiness.set(Readiness {
                         writes: false,
@@ -200,6 +215,11 @@ impl Channel {
                 Err(error)
             }
         }
+    }
+
+    /// Counts bytes that were moved.
+    fn count(&self, bytes: usize) {
+        self.moved.set(self.moved.get().saturating_add(bytes));
     }
 
     /// Drops a front of what is gathered, which was sent.

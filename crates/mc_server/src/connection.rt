@@ -2,10 +2,13 @@
 
 use mio::net::TcpStream;
 use std::alloc::{AllocError, Global};
-use std::io::Stderr;
+use std::io::{Stderr, Write};
 use std::net::SocketAddr;
 use std::sync::Arc;
 use std::sync::atomic::{AtomicU32, Ordering};
+
+/// What is said to a connection where there are as many as there may be.
+const TOO_MANY: &[u8] = b"ERROR Too many open connections\r\n";
 
 /// Why a connection is closed.
 #[derive(Clone, Copy, Debug)]
@@ -113,6 +116,12 @@ impl Connection {
     /// Says whether there were as many before it as there may be.
     pub fn is_one_too_many(&self) -> bool {
         matches!(self.parting, Parting::OneTooMany)
+    }
+
+    /// Tells the other end that there are as many as there may be. What the system doesn't take at once
+    /// isn't said.
+    pub fn refuse(&mut self) {
+        let _ = self.stream.write(TOO_MANY);
     }
 
     /// Notes why it will be closed, if it is closed next.

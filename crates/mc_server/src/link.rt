@@ -1,4 +1,5 @@
 //! Links over sockets.
+ghost use Rattle.std.specs.Prelude.{◌≤◌, length};
 
 use crate::channel::Channel;
 use crate::yard::Yard;
@@ -6,6 +7,9 @@ use mc_workers::{Got, Link, LinkFault, Took};
 use std::cell::RefCell;
 use std::io::{self, ErrorKind};
 use std::rc::Rc;
+
+/// How many bytes are written at once at most, so that others needn't wait for long.
+const LONGEST_WRITE: usize = 131_072;
 
 /// A link over a socket. Nobody can know which bytes reach a socket or leave it, so contracts see how
 /// often it failed and whether it is at its end. Where it is dropped, what the system doesn't take at
@@ -63,7 +67,7 @@ impl Link for SocketLink {
         if self.faults == u64::MAX {
             return Ok(Took::Later);
         }
-        match self.channel.write(bytes) {
+        match self.channel.write(front_of(bytes)) {
             Ok(count) => Ok(Took::Bytes(count)),
             Err(error) if is_later(&error) => Ok(Took::Later),
             Err(_) => {
@@ -93,6 +97,14 @@ impl Drop for SocketLink {
             yard.take_in(place, channel);
         }
     }
+}
+
+/// Gives the bytes that are written at once.
+fn front_of(bytes: &[u8]) -> &[u8]
+    ensures { length result.now ≤ length bytes.now }
+{
+    let (front, _) = bytes.split_at(bytes.len().min(LONGEST_WRITE));
+    front
 }
 
 /// Says whether a call would have had to wait.

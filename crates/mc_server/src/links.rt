@@ -1,6 +1,6 @@
 //! Where a worker's links come from.
 
-use crate::arrivals::{Arrivals, Share, WAITING};
+use crate::arrivals::{Arrivals, Share};
 use crate::channel::{Channel, Readiness};
 use crate::connection::{Connection, Parting};
 use crate::link::SocketLink;
@@ -10,9 +10,10 @@ use mio::event::Event;
 use mio::{Events, Interest, Poll, Token};
 use std::alloc::Global;
 use std::cell::{Cell, RefCell};
+use std::collections::VecDeque;
 use std::rc::Rc;
 use std::sync::Wait;
-use std::time::Duration;
+use std::time::{Clock, Duration};
 
 /// The token of a worker's waker. That of a link is its place and 1 more.
 pub const WAKER: Token = Token(0);
@@ -23,8 +24,11 @@ pub const EVENTS: usize = 1024;
 /// After how many rounds the system is asked for events, where there is always something to do.
 const ROUNDS: u32 = 16;
 
-/// How long a worker rests at most, in milliseconds.
-const REST: u64 = 100;
+/// After how many bytes that were moved it is asked for them too.
+const MOVED: usize = 262_144;
+
+/// How many connections that can't be served are passed over at most in the search for one that can.
+const PASSED: usize = 1024;
 
 /// What is known of a link.
 #[derive(Drop)]
@@ -34,9 +38,36 @@ struct Place {
     readiness: Rc<Cell<Readiness>>,
 }
 
+/// What the links of one worker share.
+#[derive(Drop)]
+struct Common {
+    /// What they leave behind.
+    yard: Rc<RefCell<Yard>>,
+    /// How many bytes they moved since the system was asked for events.
+    moved: Rc<Cell<usize>>,
+}
+
+impl Common {
+    /// Makes what the first link shares with those that come. The one error is a refused allocation.
+    fn new(alloc: Global) -> Option<Common> {
+        Some(Common {
+            yard: Rc::new(alloc, RefCell::new(Yard::new(alloc))).ok()?,
+            moved: Rc::new(alloc, Cell::new(0)).ok()?,
+        })
+    }
+
+    /// Shares it once more.
+    fn another(&self) -> Option<Common> {
+        Some(Common {
+            yard: self.yard.clone().ok()?,
+            moved: self.moved.clone().ok()?,
+        })
+    }
+}
+
 /// The links of one worker, over the connections that it takes from those that arrived.
 #[derive(Drop)]
-pub struct SocketLinks<'a, R: Wait> {
+pub struct SocketLinks<'a, R: Wait + Clock> {
     rt: &'a R,
     alloc: Global,
     arrivals: &'a Arrivals,
@@ -44,17 +75,18 @@ pub struct SocketLinks<'a, R: Wait> {
     poll: Poll,
     events: Events,
     places: Vec<Place>,
-    /// What links leave behind; there is none before the first link.
-    yard: Option<Rc<RefCell<Yard>>>,
-    /// The links to be named. A link that waits is named once, so there are at most as many as places.
-    named: Vec<u64>,
+    /// What the links share; there is none before the first link.
+    common: Option<Common>,
+    /// The links to be named, the oldest first. A link that waits is named once, so there are at most as
+    /// many as places.
+    named: VecDeque<u64>,
     /// How many links were handed out.
     given: u64,
     /// How many rounds went by since the system was asked for events.
     rounds: u32,
 }
 
-impl<'a, R: Wait> SocketLinks<'a, R> {
+impl<'a, R: Wait + Clock> SocketLinks<'a, R> {
     /// Has no links yet. It takes no memory.
     pub fn new(
         rt: &'a R,
@@ -72,8 +104,8 @@ impl<'a, R: Wait> SocketLinks<'a, R> {
             poll,
             events,
             places: Vec::new(alloc),
-            yard: None,
-            named: Vec::new(alloc),
+            common: None,
+            named: VecDeque::new(alloc),
             given: 0,
             rounds: 0,
         }
@@ -82,6 +114,9 @@ impl<'a, R: Wait> SocketLinks<'a, R> {
     /// Asks the system for events, and waits so long for the first.
     fn look(&mut self, timeout: Duration) {
         self.rounds = 0;
+        if let Some(common) = &self.common {
+            common.moved.set(0);
+        }
         if self.poll.poll(&mut self.events, Some(timeout)).is_err() {
             return;
         }
@@ -94,8 +129,8 @@ impl<'a, R: Wait> SocketLinks<'a, R> {
             }
         }
         if has_left
-            && let Some(yard) = &self.yard
-            && let Ok(mut yard) = yard.try_borrow_mut()
+            && let Some(common) = &self.common
+            && let Ok(mut yard) = common.yard.try_borrow_mut()
         {
             yard.send_rest();
         }
@@ -108,16 +143,16 @@ impl<'a, R: Wait> SocketLinks<'a, R> {
         // an answer is sent at once; where that can't be set it comes later
         let _ = connection.stream.set_nodelay(true);
         let readiness = Rc::new(self.alloc, Cell::new(Readiness::NEW)).ok()?;
-        let yard = self.shared_yard()?;
+        let Common { yard, moved } = self.shared()?;
         let at = self.settle(&yard, readiness.clone().ok()?)?;
-        let both = Interest::READABLE | Interest::WRITABLE;
+        let all = Interest::READABLE | Interest::WRITABLE | Interest::PRIORITY;
         let token = Token(at.saturating_add(1));
         let stream = &mut connection.stream;
-        let registered = self.poll.registry().register(stream, token, both);
+        let registered = self.poll.registry().register(stream, token, all);
         if registered.is_ok() {
             connection.note(Parting::SessionOver);
         }
-        let channel = Channel::new(self.alloc, connection, readiness);
+        let channel = Channel::new(self.alloc, connection, readiness, moved);
         let link = SocketLink::new(channel, at, yard);
         registered.ok()?;
         self.given = self.given.wrapping_add(1);
@@ -151,14 +186,23 @@ impl<'a, R: Wait> SocketLinks<'a, R> {
         Some(at)
     }
 
-    /// Gives the yard, which is made for the first link.
-    fn shared_yard(&mut self) -> Option<Rc<RefCell<Yard>>> {
-        if let Some(yard) = &self.yard {
-            return yard.clone().ok();
+    /// Gives what the links share, which is made for the first one.
+    fn shared(&mut self) -> Option<Common> {
+        if let Some(common) = &self.common {
+            return common.another();
         }
-        let yard = Rc::new(self.alloc, RefCell::new(Yard::new(self.alloc))).ok()?;
-        self.yard = Some(yard.clone().ok()?);
-        Some(yard)
+        let common = Common::new(self.alloc)?;
+        self.common = Some(common.another()?);
+        Some(common)
+    }
+
+    /// Says whether it is time to ask the system for events.
+    fn is_due(&self) -> bool {
+        let moved = match &self.common {
+            Some(common) => common.moved.get(),
+            None => 0,
+        };
+        self.rounds >= ROUNDS || moved >= MOVED
     }
 
     /// Ends all connections.
@@ -168,36 +212,37 @@ impl<'a, R: Wait> SocketLinks<'a, R> {
                 is_over: true,
                 ..place.readiness.get()
             });
-            let _ = self.named.push(place.number);
+            let _ = self.named.push_back(place.number);
         }
     }
 }
 
 /// Notes what an event says of a link, and names it where it waits. Says whether the link is gone.
-fn note(event: &Event, place: &Place, named: &mut Vec<u64>) -> bool {
+fn note(event: &Event, place: &Place, named: &mut VecDeque<u64>) -> bool {
     let known = place.readiness.get();
     let is_final = event.is_read_closed() || event.is_error();
     place.readiness.set(Readiness {
         reads: known.reads || event.is_readable() || is_final,
         writes: known.writes || event.is_writable() || is_final,
         is_final: known.is_final || is_final,
+        is_marked: known.is_marked || event.is_priority(),
         waits: false,
         ..known
     });
     if known.waits {
         // there is room, which was made with its place
-        let _ = named.push(place.number);
+        let _ = named.push_back(place.number);
     }
     known.leaves
 }
 
-impl<'a, R: Wait> Links<SocketLink> for SocketLinks<'a, R> {
+impl<'a, R: Wait + Clock> Links<SocketLink> for SocketLinks<'a, R> {
     fn next(&mut self) -> Next<SocketLink> {
         self.rounds = self.rounds.saturating_add(1);
-        if self.rounds >= ROUNDS {
+        if self.is_due() {
             self.look(Duration::ZERO);
         }
-        for _one in 0..WAITING {
+        for _one in 0..PASSED {
             let Some(connection) = self.arrivals.pop(self.rt, &mut self.share) else {
                 if self.arrivals.is_over() {
                     self.end_all();
@@ -213,10 +258,12 @@ impl<'a, R: Wait> Links<SocketLink> for SocketLinks<'a, R> {
     }
 
     fn ready(&mut self) -> Option<u64> {
-        self.named.pop()
+        self.named.pop_front()
     }
 
     fn rest(&mut self) {
-        self.look(Duration::from_millis(REST));
+        let time = self.arrivals.begin_rest(self.rt, &mut self.share);
+        self.look(time);
+        self.arrivals.end_rest(&self.share);
     }
 }

@@ -3,7 +3,7 @@ ghost use Rattle.std.specs.Prelude.{◌≡◌, ◌≤◌};
 ghost use Rattle.mc_server.specs.Ends.{EndsListening};
 
 use crate::accepting::accept_all;
-use crate::arrivals::{Arrivals, Share};
+use crate::arrivals::{Arrivals, Bell, Share};
 use crate::asker::Asker;
 use crate::clock::AskedClock;
 use crate::connection::Crowd;
@@ -31,11 +31,11 @@ struct Post {
     events: Events,
 }
 
-/// The workers' posts, and what wakes them, in the same order.
+/// The workers' posts, and what calls them, in the same order.
 #[derive(Drop)]
 struct Posts {
     posts: Vec<Post>,
-    wakers: Vec<Waker>,
+    bells: Vec<Bell>,
 }
 
 /// What is wanting to begin.
@@ -81,8 +81,8 @@ where
     let address = SocketAddr::from((options.address, options.port));
     let listener = bound(rt, address).map_err(|_| Wanting::Listener)?;
     let (shared, caller) = Shared::new(alloc, settings_of(options.pages), Fnv)?;
-    let arrivals = Arrivals::new(alloc)?;
-    let posts = make_posts(rt, alloc, options.workers)?;
+    let Posts { posts, bells } = make_posts(rt, alloc, options.workers)?;
+    let arrivals = Arrivals::new(alloc, options.connections, bells)?;
     let told = if options.verbose { Some(stderr) } else { None };
     let crowd = Crowd::new(alloc, options.connections, told)?;
     say(stderr, options, address);
@@ -101,7 +101,7 @@ pub fn bound<R: Net>(rt: &R, address: SocketAddr) -> io::Result<TcpListener> {
 /// Makes so many posts.
 fn make_posts<R: Net>(rt: &R, alloc: Global, count: u32) -> Result<Posts, Wanting> {
     let mut posts = Vec::new(alloc);
-    let mut wakers = Vec::new(alloc);
+    let mut bells = Vec::new(alloc);
     for worker in 0..count {
         let Ok((poll, waker)) = watched(rt) else {
             return Err(Wanting::Listener);
@@ -112,11 +112,11 @@ fn make_posts<R: Net>(rt: &R, alloc: Global, count: u32) -> Result<Posts, Wantin
             poll,
             events,
         };
-        if posts.push(post).is_err() || wakers.push(waker).is_err() {
+        if posts.push(post).is_err() || bells.push(Bell::new(waker)).is_err() {
             return Err(Wanting::Memory);
         }
     }
-    Ok(Posts { posts, wakers })
+    Ok(Posts { posts, bells })
 }
 
 /// A set of sources, and what wakes the one who waits for them.
@@ -147,7 +147,7 @@ fn serve_by<R, C>(
     listener: TcpListener,
     crowd: Arc<Crowd>,
     arrivals: &Arrivals,
-    posts: Posts,
+    posts: Vec<Post>,
     asker: Asker<'_>,
     clock: &C,
 ) -> Result<(), Wanting>
@@ -155,7 +155,6 @@ where
     R: Wait + Threads + time::Clock + Sync,
     C: Clock + Sync,
 {
-    let Posts { posts, wakers } = posts;
     thread::scope(
         thread::scope_env(),
         rt,
@@ -169,14 +168,14 @@ where
                     return Err(Wanting::Memory);
                 }
             }
-            accept_all(rt, listener, crowd, arrivals, wakers.as_slice());
+            accept_all(rt, listener, crowd, arrivals);
             Ok(())
         },
     )
 }
 
 /// Serves connections at a post until no more can come.
-fn man<R: Wait, C: Clock>(
+fn man<R: Wait + time::Clock, C: Clock>(
     rt: &R,
     alloc: Global,
     asker: Asker<'_>,

@@ -15,11 +15,12 @@ use std::io::{Read, Write};
 use std::net::{Ipv4Addr, Net, Shutdown, SocketAddr, TcpListener, TcpStream};
 use std::sync::Wait;
 use std::test::*;
+use std::time::Clock;
 
 /// Sends the input of a client, serves it, and gives what the client then reads.
 fn told<R>(rt: &R, input: &[u8]) -> Result<Vec<u8>, Fail>
 where
-    R: Net<Listener = TcpListener, Stream = TcpStream> + AllocGlobal + Wait,
+    R: Net<Listener = TcpListener, Stream = TcpStream> + AllocGlobal + Wait + Clock,
 {
     let alloc = rt.alloc();
     let listener = bound(rt, SocketAddr::from((Ipv4Addr::LOCALHOST, 0)))?;
@@ -29,7 +30,7 @@ where
     client.shutdown(Shutdown::Write)?;
     let (stream, peer) = listener.accept()?;
     stream.set_nonblocking(true)?;
-    let arrivals = Arrivals::new(alloc)?;
+    let arrivals = Arrivals::new(alloc, 1, Vec::new(alloc))?;
     let crowd = Crowd::new(alloc, 1, None)?;
     let stream = Stream::from_std(stream);
     arrivals.push(rt, Connection::new(crowd, stream, 1, peer));
