@@ -2,6 +2,7 @@
 import contextlib
 import ctypes
 import os
+import selectors
 import signal
 import socket
 import time
@@ -153,6 +154,8 @@ def rests(program):
     with Server(program) as server, clients(server.port, 20) as peers:
         for peer in peers:
             faults += peer.asks(b"get a\r\n", MISS)
+        if len(workers(server)) != 4:
+            return [f"a server with four workers has {len(workers(server))}"]
         time.sleep(0.6)
         before, began = wakings(server), time.monotonic()
         time.sleep(2)
@@ -171,3 +174,51 @@ def wakings(server):
         with open(f"/proc/{server.pid}/task/{thread}/status") as it:
             found[thread] = next(int(line.split()[1]) for line in it if line.startswith("voluntary"))
     return found
+
+
+# Connections that ask for large items, and how many bytes they get while others ask for small ones; how many of them one answer to
+# the others may cost.
+HEAVY, POLITE, MOVED, EACH = 20, 50, 400_000_000, 1_000_000
+LARGE = b"l" * 1_000_000
+
+
+class Asker:
+    """A connection that asks for an item again and again, some of its answers ahead."""
+
+    def __init__(self, peer, asked, answer, ahead):
+        self.socket, self.asked, self.answer, self.came = peer.socket, asked, answer, 0
+        self.socket.setblocking(False)
+        self.socket.send(asked * ahead)
+
+    def reads(self, room):
+        """Reads what is there, asks as often again as answers came whole, and gives the count of bytes."""
+        count = self.socket.recv_into(room)
+        whole = (self.came + count) // self.answer
+        self.came = (self.came + count) % self.answer
+        if whole:
+            self.socket.send(self.asked * whole)
+        return count
+
+
+def large_and_small(program):
+    """Those that ask for small items are answered beside those that ask for large ones, by one worker: so often for so many bytes."""
+    small, room = b"VALUE small 0 1\r\nx\r\nEND\r\n", memoryview(bytearray(2**18))
+    large = len(b"VALUE large 0 1000000\r\n\r\nEND\r\n") + len(LARGE)
+    with Server(program, workers=1) as server, clients(server.port, HEAVY + POLITE) as peers:
+        faults = peers[0].asks(b"set large 0 0 1000000\r\n%s\r\n" % LARGE, b"STORED\r\n")
+        faults += peers[0].asks(b"set small 0 0 1\r\nx\r\n", b"STORED\r\n")
+        askers = [Asker(it, b"get large\r\n", large, 20) for it in peers[:HEAVY]]
+        askers += [Asker(it, b"get small\r\n", len(small), 1) for it in peers[HEAVY:]]
+        got = {asker: 0 for asker in askers}
+        end = time.monotonic() + 60
+        with selectors.DefaultSelector() as chooser:
+            for asker in askers:
+                chooser.register(asker.socket, selectors.EVENT_READ, asker)
+            while sum(got[it] for it in askers[:HEAVY]) < MOVED and time.monotonic() < end:
+                for key, _ in chooser.select(1):
+                    got[key.data] += key.data.reads(room)
+        answers = sum(got[it] for it in askers[HEAVY:]) // len(small)
+        print(f"    {answers} answers beside {MOVED // 1_000_000} MB")
+        if answers < MOVED // EACH:
+            faults.append(f"{answers} small items were told beside {MOVED} bytes of large ones, wanted {MOVED // EACH}")
+    return faults

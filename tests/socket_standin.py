@@ -5,6 +5,7 @@ The environment's LIE says in which way it is wrong; without it, it is right. Op
 but that -c is read and not used.
 """
 import argparse
+import fcntl
 import os
 import selectors
 import signal
@@ -18,6 +19,8 @@ LIE = os.environ.get("LIE", "")
 # Each so many-th answer or write is the wrong one.
 EACH = 13
 READ = 16384
+# Asks the system whether the next byte of a socket is the one behind urgent data.
+SIOCATMARK = 0x8905
 
 
 class Turns(model.Session):
@@ -143,6 +146,8 @@ class Standin:
             link.ends = True
         if LIE == "stalls" and data and not data.endswith(b"\n"):
             time.sleep(3)
+        if LIE == "stalls at urgent data" and fcntl.ioctl(link.socket, SIOCATMARK, bytes(4)) != bytes(4):
+            time.sleep(3)
         if LIE == "loses pieces" and data and not data.endswith(b"\n"):
             data = b""
         if LIE == "keeps input":
@@ -178,7 +183,8 @@ class Standin:
     def run(self):
         self.spare, last = open("/dev/null"), time.monotonic()
         while True:
-            for key, events in self.chooser.select(0 if LIE == "never rests" else None):
+            ready = self.chooser.select(0 if LIE == "never rests" else None)
+            for key, events in reversed(ready) if LIE == "serves the last first" else ready:
                 if key.data:
                     self.serve(key.data, events)
                 else:

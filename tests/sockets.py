@@ -37,6 +37,7 @@ TESTS = {
     "connections that come at once": socket_newcomers.bursts,
     "newcomers beside a worker that is busy": socket_newcomers.busy_worker,
     "who asked first": socket_newcomers.oldest_first,
+    "large items beside small ones": socket_newcomers.large_and_small,
     "urgent data": socket_newcomers.urgent,
     "how often workers wake": socket_newcomers.rests,
     "shared keys, in rounds": socket_order.shared_in_rounds,
@@ -65,6 +66,10 @@ LIES = {
         "the address that is asked for",
         "as many connections as are asked for",
         "what is told of connections",
+        "connections that come at once",
+        "newcomers beside a worker that is busy",
+        "how often workers wake",
+        "large items beside small ones",
     ],
     "stays": ["signals that end it"],
     "drops answers": ["200 connections on keys of their own", "shared keys, freely", "clients that read late", RANDOM],
@@ -81,6 +86,8 @@ LIES = {
     "keeps descriptors": ["half lines", "connections that are reset", "10,000 connections that come and go"],
     "never rests": ["500 idle connections"],
     "spins": ["more connections than descriptors"],
+    "serves the last first": ["who asked first"],
+    "stalls at urgent data": ["urgent data"],
     "leaves when stopped": ["a server that is stopped for two seconds"],
 }
 # For the stand-in, which is slow.
