@@ -1,6 +1,9 @@
 -- What the shell is told of an end of the program, and what is said on standard error.
-use Rattle.std.specs.Prelude.{ℕ, List, Ok, Err, codes}
+use Rattle.std.specs.Prelude.{◌≡◌, ℕ, List, Ok, Err, codes}
+use Rattle.std.specs.declared.net.ip_addr.IpAddr.{IpAddr}
 use Rattle.mc_session.specs.declared.serving.ServeFault.TheVariants as fault
+use Rattle.mc_server.specs.declared.end.Obstacle.{Obstacle}
+use Rattle.mc_server.specs.declared.end.Obstacle.TheVariants.{Taken, NotAllowed, NotHere, NoDescriptor, Other}
 use Rattle.mc_server.specs.declared.end.End.{End}
 use Rattle.mc_server.specs.declared.end.End.TheVariants as end
 
@@ -8,30 +11,45 @@ use Rattle.mc_server.specs.declared.end.End.TheVariants as end
 abbrev pub status_of : End → ℕ
 status_of (end.Served (Ok _)) = 0
 status_of (end.Served (Err _)) = 1
-status_of end.CannotListen = 1
+status_of (end.CannotListen _) = 1
 status_of end.BadCommandLine = 2
 status_of end.NotText = 2
 status_of end.Shown = 0
 status_of end.NotShown = 1
 status_of end.NoMemory = 1
 
--- what is wrong; of a bad command line clap has said it
+-- what is wrong; of a bad command line clap has said it, and where it can't listen the address and the
+-- reason stand behind it
 abbrev pub text_of : End → List ℕ
 text_of (end.Served (Ok _)) = codes ""
 text_of (end.Served (Err fault.Read)) = codes "mcserver: read fault"
 text_of (end.Served (Err fault.Write)) = codes "mcserver: write fault"
 text_of (end.Served (Err fault.NoMemory)) = codes "mcserver: out of memory"
-text_of end.CannotListen = codes "mcserver: cannot listen"
+text_of (end.CannotListen _) = codes "mcserver: cannot listen"
 text_of end.BadCommandLine = codes ""
 text_of end.NotText = codes "error: invalid UTF-8 was detected in one or more arguments"
 text_of end.Shown = codes ""
 text_of end.NotShown = codes "mcserver: write fault"
 text_of end.NoMemory = codes "mcserver: out of memory"
 
--- the ends of a program that was to listen: it can't, memory ran out before the first connection, or
--- the listener failed
-abbrev pub EndsListening : End → Type 0
-EndsListening end.CannotListen = Unit {0}
-EndsListening end.NoMemory = Unit {0}
-EndsListening (end.Served (Err fault.Read)) = Unit {0}
-EndsListening _ = ⊥
+-- why it can't listen
+abbrev pub reason_of : Obstacle → List ℕ
+reason_of Taken = codes "something listens there already"
+reason_of NotAllowed = codes "the port isn't allowed to this user"
+reason_of NotHere = codes "the address isn't one of this machine"
+reason_of NoDescriptor = codes "the system gives too few descriptors (ulimit -n)"
+reason_of Other = codes "the system refuses it"
+
+-- an obstacle for which std has no kind of error
+abbrev pub IsUnnamed : Obstacle → Type 0
+IsUnnamed NoDescriptor = Unit {0}
+IsUnnamed Other = Unit {0}
+IsUnnamed _ = ⊥
+
+-- the ends of a program that was to listen there: it can't, and names this address and port, memory ran
+-- out before the first connection, or the listener failed
+abbrev pub EndsListening : IpAddr → (port : ℕ) → End → Type 0
+EndsListening address port (end.CannotListen it) = (it.address ≡ address) × (it.port ≡ port)
+EndsListening address port end.NoMemory = Unit {0}
+EndsListening address port (end.Served (Err fault.Read)) = Unit {0}
+EndsListening address port _ = ⊥

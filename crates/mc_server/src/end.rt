@@ -1,12 +1,13 @@
 //! How the program ends: its status, and what it says on standard error.
 
 ghost use Rattle.std.specs.Prelude.{◌≡◌};
-ghost use Rattle.mc_server.specs.Ends.{status_of, text_of};
+ghost use Rattle.mc_server.specs.Ends.{IsUnnamed, status_of, text_of};
 
 use clap::error::ErrorKind;
 use mc_session::ServeFault;
 use std::alloc::AllocError;
 use std::io;
+use std::net::IpAddr;
 
 /// How the program ends.
 #[derive(Debug, Drop)]
@@ -15,7 +16,7 @@ pub enum End {
     /// which is a fault of reading.
     Served(Result<(), ServeFault>),
     /// It was to listen, and can't.
-    CannotListen,
+    CannotListen(Refusal),
     /// The command line is bad, and `clap` has said why.
     BadCommandLine,
     /// A word of the command line isn't text.
@@ -26,6 +27,83 @@ pub enum End {
     NotShown,
     /// Memory ran out while the command line was read, or before the first connection.
     NoMemory,
+}
+
+/// Where it can't listen, and why.
+#[derive(Clone, Copy, Debug, Drop)]
+pub struct Refusal {
+    pub address: IpAddr,
+    pub port: u16,
+    pub why: Obstacle,
+}
+
+/// Why it can't listen.
+#[derive(Clone, Copy, Debug, Drop)]
+pub enum Obstacle {
+    /// Something listens there already.
+    Taken,
+    /// The port isn't allowed to this user.
+    NotAllowed,
+    /// The address isn't one of this machine.
+    NotHere,
+    /// The system gives too few descriptors.
+    NoDescriptor,
+    /// What has no name here.
+    Other,
+}
+
+/// The errors by which the system says that there is no descriptor: `ENFILE` and `EMFILE`.
+const NO_DESCRIPTOR: [i32; 2] = [23, 24];
+
+impl Obstacle {
+    ghost use Rattle.std.specs.Prelude.{◌≡◌, ◌≢◌};
+    ghost use Rattle.std.specs.IoError.{error_kind};
+    ghost use Rattle.std.specs.declared.io.ErrorKind.TheVariants as io_kind;
+    ghost use Rattle.mc_server.specs.Ends.{reason_of, IsUnnamed};
+
+    /// Gives what stood in the way, by the system's error.
+    pub fn of(error: &io::Error) -> Obstacle
+        ensures taken { error_kind error.now ≡ io_kind.AddrInUse → result ≡ Obstacle.Taken }
+        ensures not_allowed { error_kind error.now ≡ io_kind.PermissionDenied → result ≡ Obstacle.NotAllowed }
+        ensures not_here { error_kind error.now ≡ io_kind.AddrNotAvailable → result ≡ Obstacle.NotHere }
+        ensures others { error_kind error.now ≢ io_kind.AddrInUse
+            → error_kind error.now ≢ io_kind.PermissionDenied
+            → error_kind error.now ≢ io_kind.AddrNotAvailable → IsUnnamed result }
+    {
+        if error.kind() == io::ErrorKind::AddrInUse {
+            return Obstacle::Taken;
+        }
+        if error.kind() == io::ErrorKind::PermissionDenied {
+            return Obstacle::NotAllowed;
+        }
+        if error.kind() == io::ErrorKind::AddrNotAvailable {
+            return Obstacle::NotHere;
+        }
+        unnamed(error)
+    }
+
+    /// Gives the words for it, which stand behind the address.
+    pub fn reason(self) -> &'static str
+        ensures { result.now ≡ reason_of self }
+    {
+        match self {
+            Obstacle::Taken => "something listens there already",
+            Obstacle::NotAllowed => "the port isn't allowed to this user",
+            Obstacle::NotHere => "the address isn't one of this machine",
+            Obstacle::NoDescriptor => "the system gives too few descriptors (ulimit -n)",
+            Obstacle::Other => "the system refuses it",
+        }
+    }
+}
+
+/// Tells want of descriptors from what has no name here.
+fn unnamed(error: &io::Error) -> Obstacle
+    ensures { IsUnnamed result }
+{
+    match error.raw_os_error() {
+        Some(number) if NO_DESCRIPTOR.contains(&number) => Obstacle::NoDescriptor,
+        _ => Obstacle::Other,
+    }
 }
 
 impl From<AllocError> for End {
@@ -84,7 +162,8 @@ impl End {
     }
 
     /// Gives the status that the shell is told, and what is said on standard error, which is empty
-    /// where there is nothing to say. It takes no memory.
+    /// where there is nothing to say. Of an end that can't listen the address and the reason stand
+    /// behind it. It takes no memory.
     pub fn ending(&self) -> (u8, &'static str)
         ensures status { result.0 ≡ status_of self.now }
         ensures text { result.1.now ≡ text_of self.now }
@@ -92,7 +171,7 @@ impl End {
         match self {
             End::Served(answer) => ending(answer),
             End::Shown => (0, ""),
-            End::CannotListen => (1, "mcserver: cannot listen"),
+            End::CannotListen(_) => (1, "mcserver: cannot listen"),
             End::BadCommandLine => (2, ""),
             End::NotText => (
                 2,

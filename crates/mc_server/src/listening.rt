@@ -7,7 +7,7 @@ use crate::arrivals::{Arrivals, Bell, Share};
 use crate::asker::Asker;
 use crate::clock::AskedClock;
 use crate::connection::Crowd;
-use crate::end::End;
+use crate::end::{End, Obstacle, Refusal};
 use crate::links::{EVENTS, SocketLinks, WAKER};
 use crate::options::Options;
 use crate::serving::settings_of;
@@ -38,12 +38,38 @@ struct Posts {
     bells: Vec<Bell>,
 }
 
+/// Where it listens, and whom it serves there.
+#[derive(Drop)]
+struct Opening {
+    listener: TcpListener,
+    crowd: Arc<Crowd>,
+    posts: Vec<Post>,
+    notice: Notice,
+}
+
+/// What it says of itself when it serves.
+#[derive(Clone, Copy, Drop)]
+struct Notice {
+    stderr: Stderr,
+    options: Options,
+}
+
 /// What is wanting to begin.
 #[derive(Debug, Drop)]
 enum Wanting {
     /// The port, or a descriptor.
-    Listener,
+    Listener(Obstacle),
     Memory,
+}
+
+impl From<io::Error> for Wanting {
+    fn from(error: io::Error) -> Wanting {
+        if error.kind() == io::ErrorKind::OutOfMemory {
+            Wanting::Memory
+        } else {
+            Wanting::Listener(Obstacle::of(&error))
+        }
+    }
 }
 
 impl From<AllocError> for Wanting {
@@ -53,18 +79,20 @@ impl From<AllocError> for Wanting {
 }
 
 /// Listens at the address and the port of the options, and serves the connections, so many at once, by so
-/// many workers over one store, by the clock that is asked for, until the listener fails.
+/// many workers over one store, by the clock that is asked for, until the listener fails; or ends at once
+/// where it can't listen there, or memory runs out.
 pub fn listen<R, S>(rt: &R, stderr: Stderr, options: Options, clock: &AskedClock<S>) -> End
 where
     R: Net + AllocGlobal + Wait + Threads + time::Clock + Sync,
     S: Clock + Sync,
     requires pages { 1 ≤ options.pages × options.pages ≤ 65536 }
     requires clock { clock.now.asked ≡ options.now }
-    ensures { EndsListening result }
+    ensures { EndsListening options.address options.port result }
 {
+    let Options { address, port, .. } = options;
     match begin(rt, stderr, options, clock) {
         Ok(()) => End::Served(Err(ServeFault::Read)),
-        Err(Wanting::Listener) => End::CannotListen,
+        Err(Wanting::Listener(why)) => End::CannotListen(Refusal { address, port, why }),
         Err(Wanting::Memory) => End::NoMemory,
     }
 }
@@ -79,15 +107,20 @@ where
 {
     let alloc = rt.alloc();
     let address = SocketAddr::from((options.address, options.port));
-    let listener = bound(rt, address).map_err(|_| Wanting::Listener)?;
+    let listener = bound(rt, address)?;
     let (shared, caller) = Shared::new(alloc, settings_of(options.pages), Fnv)?;
     let Posts { posts, bells } = make_posts(rt, alloc, options.workers)?;
     let arrivals = Arrivals::new(alloc, options.connections, bells)?;
+    look_for_descriptors(&listener)?;
     let told = if options.verbose { Some(stderr) } else { None };
-    let crowd = Crowd::new(alloc, options.connections, told)?;
-    say(stderr, options, address);
+    let opening = Opening {
+        listener,
+        crowd: Crowd::new(alloc, options.connections, told)?,
+        posts,
+        notice: Notice { stderr, options },
+    };
     let asker = Asker::new(&shared, caller);
-    serve_by(rt, alloc, listener, crowd, &arrivals, posts, asker, clock)
+    serve_by(rt, opening, &arrivals, asker, clock)
 }
 
 /// Binds the listener, whose accepts wait.
@@ -98,14 +131,19 @@ pub fn bound<R: Net>(rt: &R, address: SocketAddr) -> io::Result<TcpListener> {
     Ok(listener)
 }
 
+/// Fails where the system hasn't a descriptor for one connection, and the one that is kept spare.
+fn look_for_descriptors(listener: &TcpListener) -> io::Result<()> {
+    let _spare = listener.try_clone()?;
+    let _connection = listener.try_clone()?;
+    Ok(())
+}
+
 /// Makes so many posts.
 fn make_posts<R: Net>(rt: &R, alloc: Global, count: u32) -> Result<Posts, Wanting> {
     let mut posts = Vec::new(alloc);
     let mut bells = Vec::new(alloc);
     for worker in 0..count {
-        let Ok((poll, waker)) = watched(rt) else {
-            return Err(Wanting::Listener);
-        };
+        let (poll, waker) = watched(rt)?;
         let events = Events::with_capacity(alloc, EVENTS)?;
         let post = Post {
             share: Share::new(worker, count),
@@ -128,8 +166,10 @@ fn watched<R: Net>(rt: &R) -> io::Result<(Poll, Waker)> {
 
 /// Says on standard error where it listens, and what it has; and warns where others than this machine can
 /// reach it.
-fn say(stderr: Stderr, options: Options, address: SocketAddr) {
+fn say(notice: Notice) {
+    let Notice { stderr, options } = notice;
     let Options { pages, workers, .. } = options;
+    let address = SocketAddr::from((options.address, options.port));
     // where standard error is closed it serves all the same
     let _ = eprintln!(stderr; "mcserver: listening on {address}, {pages} pages, {workers} workers");
     let ip = options.address;
@@ -140,21 +180,26 @@ fn say(stderr: Stderr, options: Options, address: SocketAddr) {
     }
 }
 
-/// Starts a worker at each post, and accepts connections for them until the listener fails.
+/// Starts a worker at each post, says that it listens, and accepts connections for them until the listener
+/// fails.
 fn serve_by<R, C>(
     rt: &R,
-    alloc: Global,
-    listener: TcpListener,
-    crowd: Arc<Crowd>,
+    opening: Opening,
     arrivals: &Arrivals,
-    posts: Vec<Post>,
     asker: Asker<'_>,
     clock: &C,
 ) -> Result<(), Wanting>
 where
-    R: Wait + Threads + time::Clock + Sync,
+    R: AllocGlobal + Wait + Threads + time::Clock + Sync,
     C: Clock + Sync,
 {
+    let alloc = rt.alloc();
+    let Opening {
+        listener,
+        crowd,
+        posts,
+        notice,
+    } = opening;
     thread::scope(
         thread::scope_env(),
         rt,
@@ -168,6 +213,7 @@ where
                     return Err(Wanting::Memory);
                 }
             }
+            say(notice);
             accept_all(rt, listener, crowd, arrivals);
             Ok(())
         },

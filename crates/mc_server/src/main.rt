@@ -22,12 +22,14 @@ mod serving;
 mod tcp_tests;
 #[cfg(test)]
 mod tests;
+mod unserved;
 mod yard;
 
 use clap::error::ErrorKind;
 use end::End;
 use options::Options;
 use running::run;
+use std::net::SocketAddr;
 use std::process::ExitCode;
 use std::{env, io};
 
@@ -71,9 +73,15 @@ fn said(rt: &HostRuntime, end: &End) -> ExitCode
     ensures { exit_status result ≡ status_of end.now }
 {
     let (status, text) = end.ending();
-    if !text.is_empty() {
-        // where standard error is closed too, the status alone tells
-        let _ = eprintln!(rt; "{text}");
-    }
+    // where standard error is closed too, the status alone tells
+    let _ = if let End::CannotListen(refusal) = end {
+        let place = SocketAddr::from((refusal.address, refusal.port));
+        let reason = refusal.why.reason();
+        eprintln!(rt; "{text} on {place}: {reason}")
+    } else if text.is_empty() {
+        Ok(())
+    } else {
+        eprintln!(rt; "{text}")
+    };
     ExitCode::from(status)
 }

@@ -1,15 +1,18 @@
 //! What the command line asks for.
 ghost use Rattle.std.specs.Prelude.{◌≡◌, ◌≤◌, ◌^◌, min, option_map, IfOk};
+ghost use Rattle.std.specs.Option.{option_or};
 ghost use Rattle.mc_server.specs.Asked.{IsUpTo, IsAskedFor, IsAddressFor};
 
+use crate::unserved::{not_served, with_unserved};
 use clap::error::ErrorKind;
-use clap::{Arg, ArgAction, Command, Error, value_parser};
+use clap::{Arg, ArgAction, ArgMatches, Command, Error, value_parser};
 use mc_time::Moment;
 use std::alloc::{AllocError, Global};
-use std::net::{AddrParseError, IpAddr, Ipv4Addr};
+use std::net::{IpAddr, Ipv4Addr, Ipv6Addr, SocketAddr};
 
-/// The version of memcached's protocol that is spoken, as `version` answers it.
-const VERSION: &str = "1.6.0";
+/// The program's own version, and that of memcached's protocol that is spoken, as `version` answers
+/// it.
+const VERSION: &str = "0.9.0 (memcached's protocol 1.6.0)";
 
 /// The most pages that a store may have.
 const MOST_PAGES: u32 = 65536;
@@ -32,6 +35,19 @@ const WORKERS: u32 = 4;
 /// The pages of a store where the command line says nothing of them.
 const PAGES: u32 = 64;
 
+/// What is said of a UDP port.
+const NO_UDP: &str = "'-U' ('--udp-port') takes 0 alone: there is no UDP; clients reach it by TCP";
+
+/// What is said of several addresses.
+const ONE_ADDRESS: &str =
+    "'-l' ('--listen') takes one address: '0.0.0.0' stands for all of version \
+4, '::' for all of version 6 and mostly of version 4 too; else start a server for each";
+
+/// What is said of an address that is none.
+const NO_ADDRESS: &str =
+    "invalid IP address syntax; names aren't looked up, and a port may follow, \
+as in 10.0.0.5, ::1, 10.0.0.5:11211 and [::1]:11211";
+
 /// What stands below the options in the help.
 const STATUSES: &str = "\
 Exit status:
@@ -50,6 +66,8 @@ pub struct Asked {
     pub pages: Option<u32>,
     /// The address of `-l`.
     pub address: Option<IpAddr>,
+    /// The port that stands behind the address of `-l`.
+    pub address_port: Option<u16>,
     /// The port of `-p`.
     pub port: Option<u16>,
     /// The workers of `-t`.
@@ -84,13 +102,14 @@ pub struct Options {
 impl Options {
     /// Makes options of what `clap` found. Where they aren't asked for the store has 64 pages, the
     /// address is 127.0.0.1, the port is 11211, there are 4 workers, and at most 1024 connections are
-    /// open at once. What is out of range, which `clap` refuses, is brought into it.
+    /// open at once. A port behind the address goes before the one of `-p`. What is out of range, which
+    /// is refused before, is brought into it.
     pub fn new(asked: Asked) -> Options
         ensures stdin { result.stdin ≡ asked.stdin }
         ensures now { result.now ≡ option_map (min (2 ^ 62)) asked.now }
         ensures pages { IsAskedFor asked.pages 64 65536 result.pages }
         ensures address { IsAddressFor asked.address result.address }
-        ensures port { IsAskedFor asked.port 11211 65535 result.port }
+        ensures port { IsAskedFor (option_or asked.address_port asked.port) 11211 65535 result.port }
         ensures workers { IsAskedFor asked.workers 4 64 result.workers }
         ensures connections { IsAskedFor asked.connections 1024 65536 result.connections }
         ensures verbose { result.verbose ≡ asked.verbose }
@@ -103,7 +122,7 @@ impl Options {
                 Some(address) => address,
                 None => IpAddr::V4(Ipv4Addr::LOCALHOST),
             },
-            port: match asked.port {
+            port: match asked.address_port.or(asked.port) {
                 Some(port) => port.max(1),
                 None => PORT,
             },
@@ -135,35 +154,100 @@ pub fn parsed(alloc: Global, words: &[String]) -> Result<Options, Error>
 {
     let mut command = command(alloc)?;
     let matches = command.try_get_matches_from_mut(words)?;
-    let address = match matches.try_get_one::<IpAddr>("address") {
-        Ok(address) => address,
-        Err(error) => {
-            let text = matches.get_str("address").unwrap_or("");
-            return Err(no_address(alloc, &mut command, text, &error)?);
-        }
-    };
+    refuse_unserved(alloc, &mut command, &matches)?;
+    let place = place_in(alloc, &mut command, &matches)?;
     Ok(Options::new(Asked {
         stdin: matches.get_flag("stdin"),
         now: matches.get_one::<u64>("now"),
         pages: matches.get_one::<u32>("pages"),
-        address,
+        address: place.map(|place| place.address),
+        address_port: place.and_then(|place| place.port),
         port: matches.get_one::<u16>("port"),
         workers: matches.get_one::<u32>("workers"),
         connections: matches.get_one::<u32>("connections"),
-        verbose: matches.get_flag("verbose"),
+        verbose: matches.get_count("verbose") > 0,
     }))
 }
 
-/// The error of an address that is none, in the words that `clap` has for a number that is none. The one
-/// error of its own is a refused allocation.
-fn no_address(
+/// Refuses what memcached has and this program doesn't, in words that say what to do in its place.
+fn refuse_unserved(
     alloc: Global,
     command: &mut Command<'_>,
-    text: &str,
-    error: &AddrParseError,
-) -> Result<Error, AllocError> {
-    let message = format!(in alloc; "invalid value '{text}' for '-l <ADDR>': {error}")?;
-    command.error(ErrorKind::ValueValidation, message.as_str())
+    matches: &ArgMatches<'_>,
+) -> Result<(), Error> {
+    for option in not_served() {
+        if option.is_in(matches) {
+            let (short, long, instead) = (option.short, option.long, option.instead);
+            let message = format!(in alloc; "'-{short}' ('--{long}') isn't served: {instead}")?;
+            return Err(command.error(ErrorKind::UnknownArgument, message.as_str())?);
+        }
+    }
+    match matches.get_one::<u32>("udp-port") {
+        None | Some(0) => Ok(()),
+        Some(_port) => Err(command.error(ErrorKind::ValueValidation, NO_UDP)?),
+    }
+}
+
+/// An address to listen at, and the port that stands behind it.
+#[derive(Clone, Copy)]
+struct Place {
+    address: IpAddr,
+    port: Option<u16>,
+}
+
+/// Reads where to listen, of `-l`.
+fn place_in(
+    alloc: Global,
+    command: &mut Command<'_>,
+    matches: &ArgMatches<'_>,
+) -> Result<Option<Place>, Error> {
+    let text = match matches.get_strs("address") {
+        None | Some([]) => return Ok(None),
+        Some([text]) => *text,
+        Some(_several) => return Err(command.error(ErrorKind::TooManyValues, ONE_ADDRESS)?),
+    };
+    if text.contains(',') {
+        return Err(command.error(ErrorKind::TooManyValues, ONE_ADDRESS)?);
+    }
+    match place_of(text) {
+        Some(place) => Ok(Some(place)),
+        None => {
+            let value = "invalid value";
+            let message = format!(in alloc;
+                "{value} '{text}' for '--listen <ADDR>': {NO_ADDRESS}"
+            )?;
+            Err(command.error(ErrorKind::ValueValidation, message.as_str())?)
+        }
+    }
+}
+
+/// Reads an address, alone or with a port: `10.0.0.5`, `10.0.0.5:80`, `::1`, `[::1]`, `[::1]:80`.
+fn place_of(text: &str) -> Option<Place> {
+    if let Ok(address) = text.parse::<IpAddr>() {
+        return Some(Place {
+            address,
+            port: None,
+        });
+    }
+    if let Some(inside) = bracketed(text) {
+        let address = IpAddr::V6(inside.parse::<Ipv6Addr>().ok()?);
+        return Some(Place {
+            address,
+            port: None,
+        });
+    }
+    match text.parse::<SocketAddr>() {
+        Ok(place) if place.port() > 0 => Some(Place {
+            address: place.ip(),
+            port: Some(place.port()),
+        }),
+        _ => None,
+    }
+}
+
+/// Gives what stands between `[` and `]`.
+fn bracketed(text: &str) -> Option<&str> {
+    text.strip_prefix('[')?.strip_suffix(']')
 }
 
 /// The options that there are.
@@ -172,9 +256,12 @@ fn command<'a>(alloc: Global) -> Result<Command<'a>, Error> {
         .bin_name("mcserver")?
         .version(VERSION)
         .about("A cache server that speaks memcached's text protocol")
-        .after_help(STATUSES);
+        .after_help(STATUSES)
+        .args_override_self(true);
     let command = with_session_options(alloc, command)?;
-    Ok(with_listening_options(alloc, command)?)
+    let command = with_listening_options(alloc, command)?;
+    let command = with_options_without_effect(alloc, command)?;
+    Ok(with_unserved(alloc, command)?)
 }
 
 /// Adds the options of which a session over standard input and output has a use.
@@ -194,6 +281,7 @@ fn with_session_options<'a>(
         .help("Let the clock stand at N seconds after 1970 [default: the system's clock]");
     let pages = Arg::new(alloc, "pages")
         .short('m')
+        .long("memory-limit")
         .value_name("N")
         .action(ArgAction::Set)
         .value_parser(value_parser!(u32).range(1..=i64::from(MOST_PAGES)))
@@ -208,30 +296,35 @@ fn with_listening_options<'a>(
 ) -> Result<Command<'a>, AllocError> {
     let address = Arg::new(alloc, "address")
         .short('l')
+        .long("listen")
         .value_name("ADDR")
-        .action(ArgAction::Set)
-        .help("Listen at the IP address ADDR [default: 127.0.0.1]");
+        .action(ArgAction::Append)
+        .help("Listen at the IP address ADDR, behind which a port may stand [default: 127.0.0.1]");
     let port = Arg::new(alloc, "port")
         .short('p')
+        .long("port")
         .value_name("N")
         .action(ArgAction::Set)
         .value_parser(value_parser!(u16).range(1..=i64::from(u16::MAX)))
         .help("Listen at TCP port N, 1 to 65535 [default: 11211]");
     let workers = Arg::new(alloc, "workers")
         .short('t')
+        .long("threads")
         .value_name("N")
         .action(ArgAction::Set)
         .value_parser(value_parser!(u32).range(1..=i64::from(MOST_WORKERS)))
         .help("Serve connections by N workers, 1 to 64 [default: 4]");
     let connections = Arg::new(alloc, "connections")
         .short('c')
+        .long("conn-limit")
         .value_name("N")
         .action(ArgAction::Set)
         .value_parser(value_parser!(u32).range(1..=i64::from(MOST_CONNECTIONS)))
         .help("Have at most N connections open, 1 to 65536 [default: 1024]");
     let verbose = Arg::new(alloc, "verbose")
         .short('v')
-        .action(ArgAction::SetTrue)
+        .long("verbose")
+        .action(ArgAction::Count)
         .help("Tell of each connection that opens or closes, on standard error");
     command
         .arg(address)?
@@ -239,4 +332,24 @@ fn with_listening_options<'a>(
         .arg(workers)?
         .arg(connections)?
         .arg(verbose)
+}
+
+/// Adds what memcached's command lines have, and what is so without it.
+fn with_options_without_effect<'a>(
+    alloc: Global,
+    command: Command<'a>,
+) -> Result<Command<'a>, AllocError> {
+    let evictions = Arg::new(alloc, "disable-evictions")
+        .short('M')
+        .long("disable-evictions")
+        .action(ArgAction::SetTrue)
+        .help("Change nothing: nothing is ever evicted, and a full store refuses");
+    let udp = Arg::new(alloc, "udp-port")
+        .short('U')
+        .long("udp-port")
+        .value_name("0")
+        .action(ArgAction::Set)
+        .value_parser(value_parser!(u32))
+        .help("Change nothing: there is no UDP, and 0 is all that is taken");
+    command.arg(evictions)?.arg(udp)
 }

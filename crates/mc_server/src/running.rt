@@ -17,8 +17,8 @@ use std::thread::Threads;
 use std::time;
 
 /// Does what the command line asks for: with `--stdin` it serves one session over the reader and the
-/// writer, by the clock that is asked for; without, it listens by that clock, and neither reads nor
-/// writes here.
+/// writer, by the clock that is asked for; without, it listens at the address and the port by that clock,
+/// and neither reads nor writes here.
 pub fn run<H, R, W>(rt: &H, stderr: Stderr, options: Options, reader: &mut R, writer: &mut W) -> End
 where
     H: Net + AllocGlobal + Wait + Threads + time::Clock + Sync,
@@ -29,7 +29,7 @@ where
         → EndsServed options.pages (moments options.now IsSystemMoment)
         (R.remaining reader.old) (R.remaining reader.new)
         (W.contents writer.old) (W.contents writer.new) result }
-    ensures listens { options.stdin ≡ false → EndsListening result }
+    ensures listens { options.stdin ≡ false → EndsListening options.address options.port result }
     ensures reads_nothing { options.stdin ≡ false → reader.new ≡ reader.old }
     ensures writes_nothing { options.stdin ≡ false → writer.new ≡ writer.old }
 {

@@ -28,6 +28,7 @@ fn served(alloc: Global, now: Option<u64>, reader: &mut Drip<'_>, writer: &mut S
         now,
         pages: Some(1),
         address: None,
+        address_port: None,
         port: None,
         workers: None,
         connections: None,
