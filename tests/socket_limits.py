@@ -31,13 +31,17 @@ def ended(program, args, status, said):
 def bad_lines(program):
     """A command line that says what can't be is refused, and nothing listens."""
     lines = [["-p", "0"], ["-p", "65536"], ["-p", "x"], ["-p", "-1"], ["-p"], ["-t", "0"], ["-t", "65"], ["-t", "x"], ["-t", ""]]
-    lines += [["-c", "0"], ["-c", "65537"], ["-c", "x"], ["-c"], ["-l"], ["-l", ""], ["-l", "x"], ["-l", "127.0.0.1:11211"], ["-l", "127.0.0"], ["-l", "01.0.0.1"], ["-l", ":::"]]
-    return [fault for words in lines for fault in ended(program, words, 2, rb"error: .*\n")]
+    lines += [["-c", "0"], ["-c", "65537"], ["-c", "x"], ["-c"], ["-l"], ["-l", ""], ["-l", "x"], ["-l", "127.0.0.1:0"], ["-l", "127.0.0.1:x"], ["-l", "127.0.0.1,::1"], ["-l", "127.0.0.1", "-l", "::1"], ["-U", "1"], ["-U"], ["-l", "127.0.0"], ["-l", "01.0.0.1"], ["-l", ":::"]]
+    found = [fault for words in lines for fault in ended(program, words, 2, rb"error: .*\n")]
+    # what memcached has and this program doesn't is refused by what to do in its place
+    flags, valued = "dSZkLrCFAXWi", "uPsaYoIfnRbBDeN"
+    unserved = [["-" + it] for it in flags] + [["-" + it, "1"] for it in valued]
+    return found + [fault for words in unserved for fault in ended(program, words, 2, rb"error: '%s' \('--[a-z-]+'\) isn't served: .*\n" % words[0].encode())]
 
 
 def taken_port(program):
     """A port that another program or another server has is no port for this one, and no address is that of another machine; it says so and ends."""
-    said = rb"mcserver: cannot listen\n"
+    said = rb"mcserver: cannot listen on 127\.0\.0\.1:\d+: something listens there already\n"
     with socket.create_server((serving.HOST, 0)) as other:
         found = ended(program, ["-p", str(other.getsockname()[1])], 1, said)
     with Server(program) as server:
@@ -45,7 +49,7 @@ def taken_port(program):
         with Peer(server.port) as peer:
             found += peer.asks(b"get a\r\n", b"END\r\n")
     # (192.0.2.0/24 is for documents, and no machine's)
-    return found + ended(program, ["-l", "192.0.2.1"], 1, said)
+    return found + ended(program, ["-l", "192.0.2.1"], 1, rb"mcserver: cannot listen on 192\.0\.2\.1:11211: the address isn't one of this machine\n")
 
 
 def signals(program):

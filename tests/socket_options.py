@@ -11,6 +11,10 @@ from socket_abuse import clients
 from socket_peers import Late, Peer
 from socket_server import ANSWERED, MOMENT, Server, until
 
+# Whether an address of all of version 6 is of that version alone.
+with open("/proc/sys/net/ipv6/bindv6only") as setting:
+    BINDS_APART = setting.read().strip() == "1"
+
 # The warning where others than this machine can connect.
 WARNING = rb"mcserver: warning: .* no passwords"
 # What one more connection than there may be is told.
@@ -55,6 +59,8 @@ def addresses(program):
         ("0.0.0.0", "0.0.0.0:%d", "127.0.0.3", "", True),
         ("::1", "[::1]:%d", "::1", "127.0.0.1", False),
         ("::", "[::]:%d", "::1", "", True),
+        # (of version 4 too, unless the system keeps them apart)
+        ("::", "[::]:%d", "::1" if BINDS_APART else "127.0.0.1", "", True),
     ]
     found = []
     for host, said, there, elsewhere, warns in rows_of:
@@ -143,4 +149,43 @@ def told(program):
         rest = process.stderr.read()
         if rest:
             found.append(f"without -v it says {rows.shown(rest)}")
+    return found
+
+
+def ports_in_addresses(program):
+    """A port behind the address goes before the one of -p."""
+    found = []
+    for host, shape in (("127.0.0.1", "127.0.0.1:%d"), ("::1", "[::1]:%d")):
+        try:
+            with socket.socket(socket.AF_INET6 if ":" in host else socket.AF_INET) as it:
+                it.bind((host, 0))
+                port = it.getsockname()[1]
+        except OSError:
+            print(f"    {host} isn't an address of this machine")
+            continue
+        words = [program, "-l", shape % port, "-p", "1", "--now", str(MOMENT)]
+        with subprocess.Popen(words, stdin=subprocess.DEVNULL, stderr=subprocess.PIPE, preexec_fn=serving.die_with_parent) as process:
+            line = process.stderr.readline()
+            if b"listening on %s," % (shape % port).encode() not in line or not until(lambda: answers(host, port), ANSWERED):
+                found.append(f"{words[1:]}: it says {line!r}, or doesn't answer")
+            process.kill()
+    return found
+
+
+def descriptors(program):
+    """It ends where the system has no descriptor for a connection, and warns where -c allows more of them than there are descriptors."""
+    found = []
+    few = ["sh", "-c", 'ulimit -n "$1"; shift; exec "$@"', "sh"]
+    for allowed, options, said in [
+        (12, [], rb"mcserver: cannot listen on .*: the system gives too few descriptors \(ulimit -n\)\n"),
+        (100, ["-c", "100"], rb"mcserver: listening on .*\n"),
+        (100, ["-c", "101"], rb"mcserver: listening on .*\nmcserver: warning: -c allows 101 connections, and the system 100 descriptors \(ulimit -n\)\n"),
+    ]:
+        words = [*few, str(allowed), program, "-p", str(serving.free_port()), *options]
+        with subprocess.Popen(words, stdin=subprocess.DEVNULL, stderr=subprocess.PIPE, preexec_fn=serving.die_with_parent) as process:
+            time.sleep(0.5)
+            process.kill()
+            rest = process.stderr.read()
+            if not re.fullmatch(said, rest):
+                found.append(f"{allowed} descriptors, {options}: it says {rest!r}")
     return found

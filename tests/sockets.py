@@ -30,6 +30,8 @@ TESTS = {
     "command lines that say what can't be": socket_limits.bad_lines,
     "a port that is taken": socket_limits.taken_port,
     "the address that is asked for": socket_options.addresses,
+    "a port behind the address": socket_options.ports_in_addresses,
+    "few descriptors": socket_options.descriptors,
     "as many connections as are asked for": socket_options.most_connections,
     "what is told of connections": socket_options.told,
     "signals that end it": socket_limits.signals,

@@ -7,6 +7,7 @@ use crate::arrivals::{Arrivals, Bell, Share};
 use crate::asker::Asker;
 use crate::clock::AskedClock;
 use crate::connection::Crowd;
+use crate::descriptors::allowed;
 use crate::end::{End, Obstacle, Refusal};
 use crate::links::{EVENTS, SocketLinks, WAKER};
 use crate::options::Options;
@@ -17,6 +18,7 @@ use mc_shared::Shared;
 use mc_time::Clock;
 use mio::{Events, Poll, Waker};
 use std::alloc::{AllocError, AllocGlobal, Global};
+use std::fs::Files;
 use std::io::{self, Stderr};
 use std::net::{Net, SocketAddr, TcpListener};
 use std::sync::{Arc, Wait};
@@ -52,6 +54,8 @@ struct Opening {
 struct Notice {
     stderr: Stderr,
     options: Options,
+    /// How many descriptors it may have, where the system tells.
+    descriptors: Option<u64>,
 }
 
 /// What is wanting to begin.
@@ -83,7 +87,7 @@ impl From<AllocError> for Wanting {
 /// where it can't listen there, or memory runs out.
 pub fn listen<R, S>(rt: &R, stderr: Stderr, options: Options, clock: &AskedClock<S>) -> End
 where
-    R: Net + AllocGlobal + Wait + Threads + time::Clock + Sync,
+    R: Net + Files + AllocGlobal + Wait + Threads + time::Clock + Sync,
     S: Clock + Sync,
     requires pages { 1 ≤ options.pages × options.pages ≤ 65536 }
     requires clock { clock.now.asked ≡ options.now }
@@ -101,7 +105,7 @@ where
 /// what was wanting.
 fn begin<R, C>(rt: &R, stderr: Stderr, options: Options, clock: &C) -> Result<(), Wanting>
 where
-    R: Net + AllocGlobal + Wait + Threads + time::Clock + Sync,
+    R: Net + Files + AllocGlobal + Wait + Threads + time::Clock + Sync,
     C: Clock + Sync,
     requires { 1 ≤ options.pages × options.pages ≤ 65536 }
 {
@@ -117,7 +121,11 @@ where
         listener,
         crowd: Crowd::new(alloc, options.connections, told)?,
         posts,
-        notice: Notice { stderr, options },
+        notice: Notice {
+            stderr,
+            options,
+            descriptors: allowed(rt),
+        },
     };
     let asker = Asker::new(&shared, caller);
     serve_by(rt, opening, &arrivals, asker, clock)
@@ -165,9 +173,13 @@ fn watched<R: Net>(rt: &R) -> io::Result<(Poll, Waker)> {
 }
 
 /// Says on standard error where it listens, and what it has; and warns where others than this machine can
-/// reach it.
+/// reach it, and where more connections are asked for than there can be descriptors.
 fn say(notice: Notice) {
-    let Notice { stderr, options } = notice;
+    let Notice {
+        stderr,
+        options,
+        descriptors,
+    } = notice;
     let Options { pages, workers, .. } = options;
     let address = SocketAddr::from((options.address, options.port));
     // where standard error is closed it serves all the same
@@ -176,6 +188,15 @@ fn say(notice: Notice) {
     if !ip.to_canonical().is_loopback() {
         let _ = eprintln!(stderr;
             "mcserver: warning: the protocol has no passwords, and {ip} isn't this machine's alone"
+        );
+    }
+    let Some(most) = descriptors else {
+        return;
+    };
+    let connections = options.connections;
+    if u64::from(connections) > most {
+        let _ = eprintln!(stderr;
+            "mcserver: warning: -c allows {connections} connections, and the system {most} descriptors (ulimit -n)"
         );
     }
 }

@@ -11,6 +11,7 @@ mod asker;
 mod channel;
 mod clock;
 mod connection;
+mod descriptors;
 mod end;
 mod link;
 mod links;

@@ -10,6 +10,7 @@ use crate::options::Options;
 use crate::serving::serve;
 use mc_time::SystemClock;
 use std::alloc::AllocGlobal;
+use std::fs::Files;
 use std::io::{Read, Stderr, Write};
 use std::net::Net;
 use std::sync::Wait;
@@ -21,7 +22,7 @@ use std::time;
 /// and neither reads nor writes here.
 pub fn run<H, R, W>(rt: &H, stderr: Stderr, options: Options, reader: &mut R, writer: &mut W) -> End
 where
-    H: Net + AllocGlobal + Wait + Threads + time::Clock + Sync,
+    H: Net + Files + AllocGlobal + Wait + Threads + time::Clock + Sync,
     R: Read,
     W: Write,
     requires { 1 ≤ options.pages × options.pages ≤ 65536 }
