@@ -7,19 +7,29 @@ SERVED = $(if $(filter crates/%,$(PROGRAM)),build)
 PREFIX ?= /usr/local
 BIN = $(DESTDIR)$(PREFIX)/bin
 MAN = $(DESTDIR)$(PREFIX)/share/man/man1
+DOC = $(DESTDIR)$(PREFIX)/share/doc/mcserver
 UNITS = $(DESTDIR)$(PREFIX)/lib/systemd/system
+USER_UNITS = $(DESTDIR)$(PREFIX)/share/systemd/user
+DEFAULTS = $(DESTDIR)/etc/default
+DOCS = LICENSE CHANGELOG.md README.md docs/OPERATING.md docs/PROTOCOL.md docs/CLIENTS.md docs/SCALING.md
+# Where the prefix is below a home, nothing of the system's is touched: of units there is at most the user's own.
+IN_HOME = $(filter $(HOME)/% /home/% /root/%,$(PREFIX)/)
+# The program's own version, as --version prints it.
+VERSION = $(shell sed -n 's/^const VERSION: .*"\([0-9.]*\) .*/\1/p' crates/mc_server/src/options.rt)
 ARGS ?=
 JOBS ?= $(shell nproc)
 MINUTES ?= 30
 
 .PHONY: build bench-build run test check crate rows history fmt bench bench-tcp clean
-.PHONY: test-clients test-scaling soak man install uninstall
+.PHONY: test-clients test-scaling soak man install uninstall deb is-built
 
-# Proves the program and what is below it, and builds it. rt run runs it too: --help ends it at once.
+# Proves the program and what is below it, and builds it. rt run runs it too: --help ends it at once. What it says goes to standard
+# error, so that `make run` writes what the program writes alone. Beside the program it notes what it was built of.
 build:
-	@test -x $(PROGRAM) || echo "The first build proves every crate: 20 to 30 minutes on 4 cores."
+	@test -x $(PROGRAM) || echo "The first build proves every crate: 20 to 30 minutes on 4 cores." >&2
 	@cd crates/mc_server && rt run -- --help < /dev/null > /dev/null
-	@echo "$(PROGRAM) is proved and built"
+	@printf 'commit %s\ntoolchain %s\n' "$$(git describe --always --dirty 2> /dev/null)" "$$(rt version)" > $(dir $(PROGRAM))BUILD
+	@echo "$(PROGRAM) is proved and built" >&2
 
 # The same for the program that is measured and records calls.
 bench-build:
@@ -79,16 +89,43 @@ soak: $(SERVED)
 man: $(SERVED)
 	@man/check.sh $(PROGRAM)
 
-# The program, its manual page and the service of systemd: make install PREFIX=/usr DESTDIR=/tmp/root
-install: build
-	install -d $(BIN) $(MAN) $(UNITS)
+# It builds nothing, so that whoever installs needs no toolchain.
+is-built:
+	@test -x $(PROGRAM) || { echo "$(PROGRAM) isn't there: run make build first, as the user who has the toolchain" >&2; exit 1; }
+
+# The program, its manual page, its documents, and services of systemd: make install PREFIX=/usr DESTDIR=/tmp/root
+install: is-built
+	install -d $(BIN) $(MAN) $(DOC)
 	install -m 755 $(PROGRAM) $(BIN)/mcserver
 	install -m 644 man/mcserver.1 $(MAN)/mcserver.1
+	install -m 644 $(DOCS) $(DOC)
+	test ! -f $(dir $(PROGRAM))BUILD || install -m 644 $(dir $(PROGRAM))BUILD $(DOC)/BUILD
+ifeq ($(IN_HOME),)
+	install -d $(UNITS) $(DEFAULTS)
 	sed 's|/usr/local/bin/|$(PREFIX)/bin/|' mcserver.service > $(UNITS)/mcserver.service
-	chmod 644 $(UNITS)/mcserver.service
+	sed -f packaging/instance.sed $(UNITS)/mcserver.service > $(UNITS)/mcserver@.service
+	chmod 644 $(UNITS)/mcserver.service $(UNITS)/mcserver@.service
+	test -e $(DEFAULTS)/mcserver || install -m 644 packaging/mcserver.default $(DEFAULTS)/mcserver
+else ifeq ($(PREFIX),$(HOME)/.local)
+	install -d $(USER_UNITS)
+	install -m 644 packaging/mcserver.user.service $(USER_UNITS)/mcserver.service
+else
+	@echo "no service is installed: a user's own systemd looks below $(HOME)/.local alone" >&2
+endif
 
+# What was installed, but for /etc/default/mcserver, in which there may be options.
 uninstall:
-	rm -f $(BIN)/mcserver $(MAN)/mcserver.1 $(UNITS)/mcserver.service
+	rm -f $(BIN)/mcserver $(MAN)/mcserver.1
+	rm -rf $(DOC)
+ifeq ($(IN_HOME),)
+	rm -f $(UNITS)/mcserver.service $(UNITS)/mcserver@.service
+else
+	rm -f $(USER_UNITS)/mcserver.service
+endif
+
+# A package of Debian: out/mcserver_VERSION_amd64.deb
+deb: is-built
+	@sh packaging/deb.sh $(VERSION)-1 out
 
 clean:
 	rm -rf crates/*/out

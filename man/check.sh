@@ -7,7 +7,7 @@ if [ -n "$said" ]; then
     printf 'man --warnings says:\n%s\n' "$said"
     exit 1
 fi
-options() { grep -oE -- '--?[a-zA-Z][a-z]*' | sort -u; }
+options() { grep -oE -- '--?[a-zA-Z][a-z-]*' | sort -u; }
 of_page=$(sed 's/\\-/-/g' "$page" | sed -n '/^\.SH OPTIONS/,/^\.SH EXIT/p' | grep -A1 '^\.TP' | grep -E '^\.(B|BI|BR) ' | options)
 of_program=$("$1" --help | sed -n 's/^  *\(-.*\)/\1/p' | sed 's/   *.*//' | options)
 if [ -z "$of_program" ] || [ "$of_page" != "$of_program" ]; then
