@@ -212,9 +212,8 @@ fn place_in(
     match place_of(text) {
         Some(place) => Ok(Some(place)),
         None => {
-            let value = "invalid value";
             let message = format!(in alloc;
-                "{value} '{text}' for '--listen <ADDR>': {NO_ADDRESS}"
+                "invalid value '{text}' for '--listen <ADDR>': {NO_ADDRESS}"
             )?;
             Err(command.error(ErrorKind::ValueValidation, message.as_str())?)
         }
@@ -223,6 +222,10 @@ fn place_in(
 
 /// Reads an address, alone or with a port: `10.0.0.5`, `10.0.0.5:80`, `::1`, `[::1]`, `[::1]:80`.
 fn place_of(text: &str) -> Option<Place> {
+    // a scope, as in `[fe80::1%2]:80`, would be lost
+    if text.contains('%') {
+        return None;
+    }
     if let Ok(address) = text.parse::<IpAddr>() {
         return Some(Place {
             address,
