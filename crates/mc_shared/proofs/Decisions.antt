@@ -23,7 +23,7 @@ use Rattle.mc_shared.specs.Steps.{Decides, Fitted}
 use Rattle.mc_command.specs.declared.step.StepFault.{StepFault}
 use Rattle.mc_command.specs.declared.step.StepFault.TheVariants.{NoMemory, NumbersSpent}
 use Rattle.mc_shared.specs.Past.{Past}
-use Rattle.mc_shared.specs.Store.{CanCome, IsPlanned, IsSpentAfter, MayFailAfter, Refuses, May, is_read, told_of}
+use Rattle.mc_shared.specs.Store.{CanCome, IsPlanned, IsSpentAfter, MayFailAfter, Refuses, May, is_read}
 use Rattle.mc_shared.proofs.StockedKept.{here}
 
 -- a bay that isn't held is another than one that is
@@ -286,22 +286,3 @@ pub refuses : {A : Type 0} (start : Beginning) (p : Past) (step : KeyStep) (now 
     → (result ≡ Err NumbersSpent → IsSpentAfter start p step now) → Refuses start p step now fault
 refuses start p step now result NoMemory is wants spent = λ _. wants is
 refuses start p step now result NumbersSpent is wants spent = spent is
-
-pub tells : (start : Beginning) (p : Past) (step : KeyStep) (now : ℕ) (fault : StepFault)
-    → IsOnKey step → Refuses start p step now fault → May start p step now (told_of fault)
-tells start p step now NoMemory on refused = refused on
-tells start p step now NumbersSpent on refused = refused
-
--- the plan that was found, if one was, is one of the same shelf
-has_plan : (step : KeyStep) (hash now : ℕ) (shelf : ShelfState) (found : Option Plan)
-    → IfSome found (λ plan. IsPlanned plan shelf step hash now)
-    → IfSome found (λ plan. IsPlan plan shelf.content step now)
-has_plan step hash now shelf None is = tt
-has_plan step hash now shelf (Some plan) is = is.is_plan
-
-pub still_planned : (step : KeyStep) (hash now : ℕ) {found plan : Option Plan} {old new : ShelfState}
-    → found ≡ plan → old ≡ new → IfSome found (λ plan. IsPlanned plan old step hash now)
-    → IfSome plan (λ plan. IsPlan plan new.content step now)
-still_planned step hash now {found} {plan} {old} {new} same shelf is =
-    subst (λ (p : Option Plan). IfSome p (λ plan. IsPlan plan new.content step now)) same
-    (subst (λ (s : ShelfState). IfSome found (λ plan. IsPlan plan s.content step now)) shelf (has_plan step hash now old found is))

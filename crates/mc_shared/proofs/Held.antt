@@ -7,7 +7,19 @@ use Rattle.mc_shared.specs.View.{SeatView}
 use Rattle.mc_shared.specs.Steps.{Mine, holding, newcomer, met, next_name}
 use Rattle.mc_shared.proofs.NamedKept.{lives_start, lives_both}
 use Rattle.mc_shared.specs.Store.{holds_one, holds_two}
-use Rattle.mc_shared.specs.Seats.{Sitter, SameSeat, IsAlive}
+use Rattle.std.proofs.Common.{◌<◌, ◌+◌, arith}
+use Rattle.mc_command.specs.declared.step.KeyStep.{KeyStep}
+use Rattle.mc_command.specs.Commands.{key_of}
+use Rattle.mc_command.specs.Plain.{Plain, Outcome, plain}
+use Rattle.mc_shelf.specs.States.{ShelfContent, DeskState, CanStand, IsAt}
+use Rattle.mc_shared.specs.Bays.{OfShelf, OfDesk}
+use Rattle.mc_shared.specs.History.{Operation, start_of, shelf_in}
+use Rattle.mc_shared.specs.Steps.{Decides}
+use Rattle.mc_shared.specs.Store.{CanCome}
+use Rattle.mc_shared.specs.Shown.{SharedState}
+use Rattle.mc_shared.specs.Holds.{HoldsShelf, HoldsBoth}
+use Rattle.mc_shared.proofs.Decisions.{can_stand, comes_after}
+use Rattle.mc_shared.specs.Seats.{Sitter, SameSeat, IsAlive, MayDecide}
 use Rattle.mc_shelf.specs.Stores.{StoreState}
 use Rattle.atomic_table.specs.Seated.{TableId}
 
@@ -40,3 +52,46 @@ met_rests now me was o same is rests = let e : now ≡ (met was.0 o, was.1) = sa
 
 pub two_held : (me : Mine) (p : Past) (b : ℕ) (y : Content) (at : ℕ) (x : Content) → me ≡ holds_two p b y at x → ((z : Content) × (me.0.bays ≡ (b, z) ∷ rest me.0.bays)) × (me.1 ≡ (place b, None) ∷ rest me.1)
 two_held me p b y at x e = ((y, top_of me.0.bays (b, y) ((at, x) ∷ []) (ap (λ m. m.0.bays) e)), top_of me.1 (place b, None) ((place at, None) ∷ []) (ap (λ m. m.1) e))
+
+-- a hold of a shelf may decide what its shelf decides
+pub at_shelf : {K : Type 0} (hash_of : K → List ℕ → ℕ) (table : TableId) (began : StoreState K) (shared : SharedState K)
+    (seat : Sitter) (at : ℕ) (f : ShelfContent) (y : Content) (what : Operation) (still : List (ℕ × Content))
+    → record { table = table; began = began } ≡ shared → table.words ≡ place (began.settings.shelves + 1) → HoldsShelf hash_of shared seat at f
+    → (at < began.settings.shelves → Decides (start_of hash_of began) ((at, OfShelf f) ∷ []) at y what still)
+    → MayDecide table began seat at (start_of hash_of began) y what still
+at_shelf {K} hash_of table began shared seat at f y what still is wide holds decides =
+    let h = subst (λ (s : SharedState K). HoldsShelf hash_of s seat at f) (sym is) holds in
+    record {
+      alive = record { seated = record { own = h.own; wide = wide }; lives = h.lives };
+      bay = (let l = h.inside in omega (arith, l, wide));
+      held = one_held seat.me seat.me.0.past at (OfShelf f) h.held;
+      right = subst (λ bays. Decides (start_of hash_of began) bays at y what still) (sym (ap (λ (m : Mine). m.0.bays) h.held)) (decides h.inside);
+    }
+
+-- a hold of a shelf and the desk may decide what the desk decides
+pub at_both : {K : Type 0} (hash_of : K → List ℕ → ℕ) (table : TableId) (began : StoreState K) (shared : SharedState K)
+    (seat : Sitter) (at n : ℕ) (f : ShelfContent) (d : DeskState) (y : Content) (what : Operation) (still : List (ℕ × Content))
+    → record { table = table; began = began } ≡ shared → table.words ≡ place (began.settings.shelves + 1) → began.settings.shelves ≡ n → HoldsBoth hash_of shared seat at f d
+    → (at < began.settings.shelves → Decides (start_of hash_of began) ((began.settings.shelves, OfDesk d) ∷ (at, OfShelf f) ∷ []) began.settings.shelves y what still)
+    → MayDecide table began seat n (start_of hash_of began) y what still
+at_both {K} hash_of table began shared seat at n f d y what still is wide desk holds decides =
+    let h = subst (λ (s : SharedState K). HoldsBoth hash_of s seat at f d) (sym is) holds in
+    subst (λ k. MayDecide table began seat k (start_of hash_of began) y what still) desk record {
+      alive = record { seated = record { own = h.own; wide = wide }; lives = h.lives };
+      bay = omega (arith, wide);
+      held = two_held seat.me seat.me.0.past began.settings.shelves (OfDesk d) at (OfShelf f) h.held;
+      right = subst (λ bays. Decides (start_of hash_of began) bays began.settings.shelves y what still) (sym (ap (λ (m : Mine). m.0.bays) h.held)) (decides h.inside);
+    }
+
+-- what is held stands for a state
+pub both_stand : {K : Type 0} (hash_of : K → List ℕ → ℕ) (shared : SharedState K) (seat : Sitter) (at : ℕ) (f : ShelfContent) (d : DeskState) (key : List ℕ)
+    → shelf_in (start_of hash_of shared.began) key ≡ at → HoldsBoth hash_of shared seat at f d → CanStand key f d
+both_stand hash_of shared seat at f d key own h =
+    can_stand (start_of hash_of shared.began) at f d key own seat.me.0 (ap (λ (m : Mine). m.0.bays) h.held) h.fits
+
+-- what comes of a step in each state that is held comes of it after some history
+pub both_come : {K : Type 0} (hash_of : K → List ℕ → ℕ) (shared : SharedState K) (seat : Sitter) (at : ℕ) (f : ShelfContent) (d : DeskState) (step : KeyStep) (now : ℕ)
+    → shelf_in (start_of hash_of shared.began) (key_of step) ≡ at → HoldsBoth hash_of shared seat at f d
+    → (so : Outcome → Type 0) → ((m : Plain) → IsAt (key_of step) f d m → so (plain m step now)) → CanCome (start_of hash_of shared.began) seat.me.0.past step now so
+both_come hash_of shared seat at f d step now own h so comes =
+    comes_after (start_of hash_of shared.began) at f d step now own seat.me.0 (ap (λ (m : Mine). m.0.bays) h.held) h.fits so comes

@@ -16,7 +16,7 @@ use Rattle.mc_shared.specs.History.{Beginning, HistoryEntry, Operation, after, n
 use Rattle.mc_shared.specs.Past.{name_of, Lives, Whole}
 use Rattle.mc_shared.specs.View.{SeatView}
 use Rattle.mc_shared.specs.Rule.{Fits, AllFit, holds_bay, times, Story, Named, Stocked, Kept}
-use Rattle.mc_shared.specs.Steps.{Slot, Mine, IsAt, holding, entry_of, without, decided_by, Agrees, took, gave, decided, looked, Decides, next_name, maker, newcomer, met, gone}
+use Rattle.mc_shared.specs.Steps.{Slot, Mine, IsAt, holding, entry_of, without, decided_by, Agrees, took, gave, decided, reloaded, Decides, next_name, maker, newcomer, met, gone}
 use Rattle.mc_shared.proofs.StoryKept.{after_snoc, story_same, story_call, story_made, story_both}
 use Rattle.mc_shared.proofs.NamedKept.{total_one, alone, kept_by, named_same, named_call, named_made, named_both}
 use Rattle.mc_shared.proofs.StockedKept.{stocked_take, stocked_give, stocked_same, stocked_snoc, held_word}
@@ -61,7 +61,7 @@ takes_bay began slots id b me l lives s k deep at small = let n : ℕ = get_or s
       keeps,
       tt,
       subst (λ (z : List ℕ × List SeatView). Kept began record { words = z.0; homes = s.homes; views = z.1 }) (λ i. (sym (set-get_or s.words (place b) 0) i, sym (set_again s.views id v at) i)) k,
-      ((λ free. absurd (busy free)), (λ ne. (omega (arith, low, ne), refl, λ whole. whole_holds began s k id v at whole b l ne))),
+      ((λ free. absurd (busy free)), (λ ne. (omega (arith, low, ne), refl, λ whole. whole_holds began s k id v at whole b l ne, agrees began k.log s.views id v k.story k.named at))),
     ))
 
 abbrev Home : Type 0
@@ -130,8 +130,8 @@ joins_seats began id other v o bare s k at ne far = let w : SeatView = met v o i
     }
 
 -- a load that changes nothing, and tells that a history keeps the past
-pub looks_at : (began : Beginning) (slots id b : ℕ) (me : Mine) → Allows (Kept began) slots id me b (λ n. n) (looked began (step slots b 0 0 none) me)
-looks_at began slots id b me s k deep at small = (
+pub reloads : (began : Beginning) (slots id b : ℕ) (me : Mine) → Allows (Kept began) slots id me b (λ n. n) (reloaded began (step slots b 0 0 none) me)
+reloads began slots id b me s k deep at small = (
   me.0,
   keeps,
   tt,

@@ -9,6 +9,8 @@ pub mod Store
 pub mod Shown
 pub mod Seats
 pub mod Stacks
+pub mod Holds
+pub mod Decisions
 pub mod Close
 pub mod Asking
 pub mod Laws

@@ -64,15 +64,16 @@ pub record Fitted (start : Beginning) (v : SeatView) : Type 0 where
 
 -- the bay is held by another, as its word was 1: not by this seat, nor by any where its past is
 -- whole
-abbrev pub IsBusy : Mine → ℕ → (word : ℕ) → Mine → Type 0
-IsBusy m b word m' = (word ≡ 1) × (m' ≡ m) × (Whole m.0.past → 1 ≤ times b m.0)
+abbrev pub IsBusy : Beginning → Mine → ℕ → (word : ℕ) → Mine → Type 0
+IsBusy began m b word m' =
+    (word ≡ 1) × (m' ≡ m) × (Whole m.0.past → 1 ≤ times b m.0) × Agrees began m'.0.past
 
 -- the word was 0, and the bay is held from then on; or it was 1
 abbrev pub took : Beginning → (bay : ℕ) → Step Slot → Mine → ℕ → Mine → Type 0
 took began b st m n m' = (n ≡ 0 → (x : Bay) × IsAt began.shelves b x
     × (m' ≡ (holding m.0 b (content_of x), (st.word, Some x) ∷ m.1))
     × Fitted began (holding m.0 b (content_of x)))
-    × (n ≢ 0 → IsBusy m b n m')
+    × (n ≢ 0 → IsBusy began m b n m')
 
 abbrev pub gave : Beginning → Step Slot → Mine → ℕ → Mine → Type 0
 gave began st m n m' = (m' ≡ without m) × Fitted began m.0
@@ -120,8 +121,8 @@ abbrev pub gone : SeatView
 gone = record { past = spent; bays = [] }
 
 -- nothing changed
-abbrev pub looked : Beginning → Step Slot → Mine → ℕ → Mine → Type 0
-looked began st m n m' = (m' ≡ m) × Agrees began m.0.past
+abbrev pub reloaded : Beginning → Step Slot → Mine → ℕ → Mine → Type 0
+reloaded began st m n m' = (m' ≡ m) × Agrees began m.0.past
 
 -- what a marker stands for where none is picked
 abbrev pub nothing_began : Beginning

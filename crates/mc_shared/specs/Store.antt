@@ -36,11 +36,6 @@ abbrev pub HasCalled : Beginning → (old : Past) → KeyStep → (now : ℕ) �
 HasCalled start old step now reply new =
     (new ≡ with_call old step now reply) × Agrees start new
 
--- the same of a seat, which holds nothing from then on
-abbrev pub RestsCalled : Beginning → Mine → KeyStep → (now : ℕ) → Reply → Mine → Type 0
-RestsCalled start m step now reply m' =
-    (m' ≡ resting (with_call m.0.past step now reply)) × Agrees start m'.0.past
-
 -- what the plain machine makes of a step comes out so, after some legal history that keeps the past
 pub record CanCome (began : Beginning) (p : Past) (step : KeyStep) (now : ℕ)
     (so : Outcome → Type 0) : Type 0 where
@@ -84,11 +79,6 @@ May began p step now (Busy bay word) =
     × ((bay ≡ shelf_in began (key_of step)) ⊎ (bay ≡ began.shelves))
 May began p step now NoMemory = MayFailAfter began p step now
 May began p step now NumbersSpent = IsSpentAfter began p step now
-
--- what a caller is told of a shelf's fault
-abbrev pub told_of : StepFault → TryFault
-told_of OutOfMemory = NoMemory
-told_of OutOfNumbers = NumbersSpent
 
 -- a bay at home
 abbrev pub shelf_slot : ShelfState → Slot

@@ -6,9 +6,9 @@ ghost use Rattle.mc_shared.specs.History.{start_of, shelf_in, Purged};
 ghost use Rattle.mc_shared.specs.Past.{call};
 ghost use Rattle.mc_shared.specs.Steps.{entry_of, Agrees};
 
-use crate::steps::look;
+use crate::patience::Gate;
+use crate::steps::reload;
 use crate::store::{Caller, Shared};
-use crate::waits::Gate;
 use mc_command::{KeyStep, Reply, StepFault, Steps};
 use mc_hop::KeyHash;
 use mc_time::Moment;
@@ -24,7 +24,7 @@ impl<K: KeyHash + Drop> Shared<K> {
         ensures same { (caller.new.table ≡ caller.old.table) × (caller.new.past ≡ caller.old.past) }
         ensures kept { Agrees (start_of K.hash_of self.now.began) caller.new.past }
     {
-        look(&self.board, &mut caller.seat);
+        reload(&self.board, &mut caller.seat);
     }
 }
 

@@ -7,9 +7,10 @@ ghost use Rattle.mc_shared.specs.Seats.{SameSeat, IsFree};
 ghost use Rattle.mc_shared.specs.Stacks.{holds_all};
 ghost use Rattle.mc_shared.specs.Close.{Gathered, IsAfter};
 
-use crate::rule::{Board, Place};
+use crate::hold::{desk_from, shelf_from};
+use crate::rule::{Board, Seat};
 use crate::steps::take;
-use crate::store::{Caller, Shared, desk_from, shelf_from};
+use crate::store::{Caller, Shared};
 use mc_hop::KeyHash;
 use mc_shelf::{Desk, Shelf, Store, StoreParts};
 use std::alloc::Global;
@@ -26,22 +27,23 @@ pub enum CloseFault<K: KeyHash + Drop> {
 /// Takes all shelves, in rising order, or tells which was taken.
 fn take_all<K: KeyHash + Drop>(
     board: &Board<K>,
-    caller: &mut Place,
+    seat: &mut Seat,
     held: Vec<Shelf>,
     count: usize,
 ) -> Result<Vec<Shelf>, (usize, u64)>
-    requires seat { IsFree board.now.shared.table_id board.now.shared.key.value caller.old }
+    requires seat { IsFree board.now.shared.table_id board.now.shared.key.value seat.old }
     requires count { count ≡ board.now.shared.key.value.settings.shelves }
     requires room { (held.items ≡ []) × (count ≤ vec_capacity held) }
-    ensures seat { SameSeat caller.old caller.new }
+    ensures seat { SameSeat seat.old seat.new }
     ensures ok { IfOk result (λ v. (vec_len v ≡ count) ×
-        (caller.new.me ≡ holds_all caller.old.me.0.past v.items)) }
-    ensures err { IfErr result (λ e. (e.1 ≡ 1) × (Whole caller.old.me.0.past → ⊥)) }
+        (seat.new.me ≡ holds_all seat.old.me.0.past v.items)) }
+    ensures err { IfErr result (λ e. (e.1 ≡ 1) × (Whole seat.old.me.0.past → ⊥)
+        × (e.0 ≤ count)) }
 {
     let mut held = held;
     while held.len() < count {
         let at = held.len();
-        match take(board, caller, at) {
+        match take(board, seat, at) {
             Ok(bay) => held.push_reserved(Box::into_inner(shelf_from(bay, at, count))),
             Err(word) => return Err((at, word)),
         }
@@ -52,24 +54,25 @@ fn take_all<K: KeyHash + Drop>(
 /// Takes all shelves and the desk, or tells which was taken.
 fn gather<K: KeyHash + Drop>(
     board: &Board<K>,
-    caller: &mut Place,
+    seat: &mut Seat,
     held: Vec<Shelf>,
     count: usize,
 ) -> Result<(Vec<Shelf>, Desk), (usize, u64)>
-    requires seat { IsFree board.now.shared.table_id board.now.shared.key.value caller.old }
+    requires seat { IsFree board.now.shared.table_id board.now.shared.key.value seat.old }
     requires count { count ≡ board.now.shared.key.value.settings.shelves }
     requires some_shelf { 0 < board.now.shared.key.value.settings.shelves }
     requires room { (held.items ≡ []) × (count ≤ vec_capacity held) }
     ensures ok { IfOk result (λ r. (vec_len r.0 ≡ count)
-        × Gathered (start_of K.hash_of board.now.shared.key.value) caller.old.me.0.past r.0.items
+        × Gathered (start_of K.hash_of board.now.shared.key.value) seat.old.me.0.past r.0.items
         r.1) }
-    ensures err { IfErr result (λ e. (e.1 ≡ 1) × (Whole caller.old.me.0.past → ⊥)) }
+    ensures err { IfErr result (λ e. (e.1 ≡ 1) × (Whole seat.old.me.0.past → ⊥)
+        × (e.0 ≤ count)) }
 {
-    let held = match take_all(board, caller, held, count) {
+    let held = match take_all(board, seat, held, count) {
         Ok(held) => held,
         Err(fault) => return Err(fault),
     };
-    match take(board, caller, count) {
+    match take(board, seat, count) {
         Ok(bay) => Ok((held, Box::into_inner(desk_from(bay, count)))),
         Err(word) => Err((count, word)),
     }
@@ -86,7 +89,7 @@ impl<K: KeyHash + Drop> Shared<K> {
         ensures state { IfOk result (λ store. IsAfter (start_of K.hash_of self.began) caller.past
             store.plain) }
         ensures held { (bay word : ℕ) → result ≡ Err (CloseFault.Held bay word) → (word ≡ 1)
-            × (Whole caller.past → ⊥) }
+            × (Whole caller.past → ⊥) × (bay ≤ self.began.settings.shelves) }
         ensures refused { (shared : SharedState K) (back : CallerState)
             → result ≡ Err (CloseFault.NoMemory shared back) → (shared ≡ self) × (back ≡ caller) }
     {

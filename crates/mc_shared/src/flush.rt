@@ -1,92 +1,31 @@
 //! All shelves are held at once.
-ghost use Rattle.std.specs.Prelude.{ℕ, List, ◌≡◌, ◌+◌, ◌<◌, ◌≤◌, [], length, None, Some};
-ghost use Rattle.std.specs.Prelude.{slice_get, slice_set, vec_len, vec_capacity, IfOk, IfSome, OnErr};
+ghost use Rattle.std.specs.Prelude.{ℕ, List, ◌≡◌, ◌<◌, ◌≤◌, [], Some, slice_get, slice_set};
+ghost use Rattle.std.specs.Prelude.{vec_len, vec_capacity, IfOk, OnErr};
 ghost use Rattle.mc_command.specs.declared.step.KeyStep.{KeyStep as Step};
 ghost use Rattle.mc_command.specs.declared.reply.Reply.{Reply as Told};
 ghost use Rattle.mc_command.specs.Plain.{Plain, flushed};
 ghost use Rattle.mc_shelf.specs.Parts.{ArePartsOf};
 ghost use Rattle.mc_shared.specs.History.{start_of};
-ghost use Rattle.mc_shared.specs.Steps.{HasTaken, HasDecided};
-ghost use Rattle.mc_shared.specs.Store.{resting, HasCalled, RestsCalled};
-ghost use Rattle.mc_shared.specs.Seats.{SameSeat, IsSeatOf, IsAlive, IsFree, MayDecide};
+ghost use Rattle.mc_shared.specs.Steps.{Agrees};
+ghost use Rattle.mc_shared.specs.Store.{resting, with_call, HasCalled};
+ghost use Rattle.mc_shared.specs.Seats.{SameSeat, IsSeatOf, IsFree};
 ghost use Rattle.mc_shared.specs.Stacks.{holds_all};
-ghost use Rattle.mc_shared.specs.Bays.{OfDesk, place};
 
 use crate::bay::Bay;
 use crate::boxed::Boxed;
-use crate::plays::Says;
-use crate::rule::{Board, Place};
-use crate::steps::{decide_as, give, place_of, take};
-use crate::store::{Caller, Shared, desk_from, shelf_from};
+use crate::decision::Decision;
+use crate::hold::{desk_from, shelf_from};
+use crate::patience::take_waiting;
+use crate::rule::{Board, Seat};
+use crate::steps::{decide, give, reload};
+use crate::store::{Caller, Shared};
 use mc_command::Reply;
 use mc_hop::KeyHash;
 use mc_shelf::{Desk, Shelf, flush_parts};
 use mc_time::Moment;
 use std::alloc::{AllocError, Global};
-use std::marker::Brand;
+use std::mem;
 use std::sync::Wait;
-use std::{hint, mem, thread};
-
-/// How often a bay that is held is looked at before another thread has its turn.
-const LOOKS: u32 = 10;
-
-/// The most that pauses double between two looks: 64 pauses are the longest.
-const DOUBLINGS: u32 = 6;
-
-/// Lets so many pauses pass.
-fn pause(count: u32) {
-    for _ in 0..count {
-        hint::spin_loop();
-    }
-}
-
-/// Tries to take a bay, as most are free or given back soon. While it is held it is only looked at,
-/// after pauses that grow: a look leaves the word where it is, so that who holds it gives it back
-/// undisturbed.
-fn take_spinning<K: KeyHash + Drop>(board: &Board<K>, caller: &mut Place, bay: usize) -> Option<Bay>
-    requires seat { IsAlive board.now.shared.table_id board.now.shared.key.value caller.old }
-    requires bay { place bay < board.now.shared.table_id.words }
-    ensures seat { SameSeat caller.old caller.new }
-    ensures taken { IfSome result (λ value. HasTaken
-        (start_of K.hash_of board.now.shared.key.value) caller.old.me bay value caller.new.me) }
-    ensures free { result ≡ None → caller.new.me ≡ caller.old.me }
-{
-    if let Ok(value) = take(board, caller, bay) {
-        return Some(value);
-    }
-    let place = place_of(board, bay);
-    for look in 0..LOOKS {
-        pause(1 << look.min(DOUBLINGS));
-        if board.shared.peek(place) == 0 {
-            if let Ok(value) = take(board, caller, bay) {
-                return Some(value);
-            }
-        }
-    }
-    None
-}
-
-/// Takes a bay, and tries again until it is free.
-pub(crate) fn take_waiting<K: KeyHash + Drop, R: Wait>(
-    rt: &R,
-    board: &Board<K>,
-    caller: &mut Place,
-    bay: usize,
-) -> Bay
-    requires seat { IsAlive board.now.shared.table_id board.now.shared.key.value caller.old }
-    requires bay { place bay < board.now.shared.table_id.words }
-    ensures seat { SameSeat caller.old caller.new }
-    ensures taken { HasTaken (start_of K.hash_of board.now.shared.key.value) caller.old.me bay
-        result caller.new.me }
-{
-    for _ in rt.forever() {
-        if let Some(value) = take_spinning(board, caller, bay) {
-            return value;
-        }
-        thread::yield_now();
-    }
-    unreachable!()
-}
 
 /// Changes a shelf for one that lies in a box.
 fn change_places(held: &mut Vec<Shelf>, at: usize, other: &mut Box<Shelf>)
@@ -103,17 +42,17 @@ fn change_places(held: &mut Vec<Shelf>, at: usize, other: &mut Box<Shelf>)
 fn hold_all<K: KeyHash + Drop, R: Wait>(
     rt: &R,
     board: &Board<K>,
-    caller: &mut Place,
+    seat: &mut Seat,
     spares: Vec<Shelf>,
     boxes: Vec<Box<Shelf>>,
     count: usize,
 ) -> (Vec<Shelf>, Vec<Box<Shelf>>)
-    requires seat { IsFree board.now.shared.table_id board.now.shared.key.value caller.old }
+    requires seat { IsFree board.now.shared.table_id board.now.shared.key.value seat.old }
     requires count { count ≡ board.now.shared.key.value.settings.shelves }
     requires spares { vec_len spares ≡ count }
     requires room { (boxes.items ≡ []) × (count ≤ vec_capacity boxes) }
-    ensures seat { SameSeat caller.old caller.new }
-    ensures held { (vec_len result.0 ≡ count) × (caller.new.me ≡ holds_all caller.old.me.0.past
+    ensures seat { SameSeat seat.old seat.new }
+    ensures held { (vec_len result.0 ≡ count) × (seat.new.me ≡ holds_all seat.old.me.0.past
         result.0.items) }
     ensures boxes { vec_len result.1 ≡ count }
 {
@@ -121,7 +60,7 @@ fn hold_all<K: KeyHash + Drop, R: Wait>(
     let mut boxes = boxes;
     while boxes.len() < count {
         let at = boxes.len();
-        let mut shelf = shelf_from(take_waiting(rt, board, caller, at), at, count);
+        let mut shelf = shelf_from(take_waiting(rt, board, seat, at), at, count);
         change_places(&mut held, at, &mut shelf);
         boxes.push_reserved(shelf);
     }
@@ -131,21 +70,21 @@ fn hold_all<K: KeyHash + Drop, R: Wait>(
 /// Gives back all shelves, each in its box, the last one first.
 fn give_all<K: KeyHash + Drop>(
     board: &Board<K>,
-    caller: &mut Place,
+    seat: &mut Seat,
     mut held: Vec<Shelf>,
     mut boxes: Vec<Box<Shelf>>,
 )
-    requires seat { IsSeatOf board.now.shared.table_id board.now.shared.key.value caller.old }
+    requires seat { IsSeatOf board.now.shared.table_id board.now.shared.key.value seat.old }
     requires count { vec_len held ≤ board.now.shared.key.value.settings.shelves }
     requires boxes { vec_len boxes ≡ vec_len held }
-    requires held { caller.old.me ≡ holds_all caller.old.me.0.past held.items }
-    ensures { SameSeat caller.old caller.new
-        × (caller.new.me ≡ resting caller.old.me.0.past) }
+    requires held { seat.old.me ≡ holds_all seat.old.me.0.past held.items }
+    ensures { SameSeat seat.old seat.new
+        × (seat.new.me ≡ resting seat.old.me.0.past) }
 {
     while let Some(mut shelf) = boxes.pop() {
         let at = boxes.len();
         change_places(&mut held, at, &mut shelf);
-        give(board, caller, at, Bay::Shelf(Boxed::of(shelf)));
+        give(board, seat, at, Bay::Shelf(Boxed::of(shelf)));
     }
 }
 
@@ -160,26 +99,6 @@ fn empty_shelves(alloc: Global, count: usize) -> Result<Vec<Shelf>, AllocError>
     Ok(shelves)
 }
 
-/// Gives back the desk, and decides a flush, while all shelves are held. What is decided is picked
-/// as at a shelf.
-fn decide_flush<D: Says, K: KeyHash + Drop>(
-    board: &Board<K>,
-    caller: &mut Place,
-    bay: usize,
-    desk: Box<Desk>,
-    _held: &Vec<Shelf>,
-    _delay: u64,
-    _now: Moment,
-)
-    requires began { D.start ≡ start_of K.hash_of board.now.shared.key.value }
-    requires may { MayDecide board.now.shared.table_id board.now.shared.key.value caller.old bay
-        D.start (OfDesk desk.value) D.what D.still }
-    ensures seat { SameSeat caller.old caller.new }
-    ensures view { HasDecided D.start caller.old.me D.what D.still caller.new.me }
-{
-    decide_as::<D, K>(board, caller, bay, Bay::Desk(Boxed::of(desk)));
-}
-
 /// Flushes shelves that are with the desk the parts of a state.
 fn flush_held(held: &mut Vec<Shelf>, desk: &mut Desk, delay: u64, now: Moment)
     requires { (hash_of : List ℕ → ℕ) × (state : Plain) × (count : ℕ)
@@ -192,31 +111,48 @@ fn flush_held(held: &mut Vec<Shelf>, desk: &mut Desk, delay: u64, now: Moment)
     flush_parts(held.as_mut_slice(), desk, delay, now);
 }
 
+/// Shelves and boxes that stand in for those that a flush holds: as many as the store has.
+struct Spares {
+    shelves: Vec<Shelf>,
+    boxes: Vec<Box<Shelf>>,
+    count: usize,
+}
+
 /// A flush, for which all shelves and the desk are held at once.
 fn flush_by<K: KeyHash + Drop, R: Wait>(
     rt: &R,
     board: &Board<K>,
-    caller: &mut Place,
-    spares: Vec<Shelf>,
-    boxes: Vec<Box<Shelf>>,
-    count: usize,
+    seat: &mut Seat,
+    spares: Spares,
     delay: u64,
     now: Moment,
 )
-    requires seat { IsFree board.now.shared.table_id board.now.shared.key.value caller.old }
-    requires count { count ≡ board.now.shared.key.value.settings.shelves }
-    requires some { 0 < count }
-    requires spares { vec_len spares ≡ count }
-    requires room { (boxes.items ≡ []) × (count ≤ vec_capacity boxes) }
-    ensures seat { SameSeat caller.old caller.new }
-    ensures done { RestsCalled (start_of K.hash_of board.now.shared.key.value) caller.old.me
-        (Step.Flush delay) now Told.Flushed caller.new.me }
+    requires seat { IsFree board.now.shared.table_id board.now.shared.key.value seat.old }
+    requires count { spares.count ≡ board.now.shared.key.value.settings.shelves }
+    requires some { 0 < spares.count }
+    requires spares { vec_len spares.shelves ≡ spares.count }
+    requires room { (spares.boxes.items ≡ []) × (spares.count ≤ vec_capacity spares.boxes) }
+    ensures seat { SameSeat seat.old seat.new }
+    ensures done { (seat.new.me ≡ resting
+        (with_call seat.old.me.0.past (Step.Flush delay) now Told.Flushed))
+        × Agrees (start_of K.hash_of board.now.shared.key.value) seat.new.me.0.past }
 {
-    let (mut held, boxes) = hold_all(rt, board, caller, spares, boxes, count);
-    let mut desk = desk_from(take_waiting(rt, board, caller, count), count);
+    let Spares {
+        shelves,
+        boxes,
+        count,
+    } = spares;
+    let (mut held, boxes) = hold_all(rt, board, seat, shelves, boxes, count);
+    let mut desk = desk_from(take_waiting(rt, board, seat, count), count);
     flush_held(&mut held, &mut *desk, delay, now);
-    decide_flush::<Brand, K>(board, caller, count, desk, &held, delay, now);
-    give_all(board, caller, held, boxes);
+    let decision = Decision::Flushed {
+        delay,
+        moment: now,
+        shelves: &held,
+    };
+    let value = Bay::Desk(Boxed::of(desk));
+    decide(board, seat, count, value, &decision);
+    give_all(board, seat, held, boxes);
 }
 
 impl<K: KeyHash + Drop> Shared<K> {
@@ -237,20 +173,34 @@ impl<K: KeyHash + Drop> Shared<K> {
         ensures ok { IfOk result (λ reply. HasCalled (start_of K.hash_of self.now.began)
             caller.old.past (Step.Flush delay) now reply caller.new.past) }
         ensures err { OnErr result (caller.new.past ≡ caller.old.past) }
+        ensures agrees { Agrees (start_of K.hash_of self.now.began) caller.new.past }
+    {
+        match self.spares(alloc) {
+            Ok(spares) => {
+                flush_by(rt, &self.board, &mut caller.seat, spares, delay, now);
+                Ok(Reply::Flushed)
+            }
+            Err(refused) => {
+                reload(&self.board, &mut caller.seat);
+                Err(refused)
+            }
+        }
+    }
+
+    /// Makes what stands in for the shelves in a flush.
+    fn spares(&self, alloc: Global) -> Result<Spares, AllocError>
+        ensures { IfOk result (λ spares.
+            (spares.count ≡ self.now.began.settings.shelves)
+            × (vec_len spares.shelves ≡ spares.count) × (spares.boxes.items ≡ [])
+            × (spares.count ≤ vec_capacity spares.boxes)) }
     {
         let count = self.settings.shelves as usize;
-        let spares = empty_shelves(alloc, count)?;
+        let shelves = empty_shelves(alloc, count)?;
         let boxes = Vec::with_capacity(alloc, count)?;
-        flush_by(
-            rt,
-            &self.board,
-            &mut caller.seat,
-            spares,
+        Ok(Spares {
+            shelves,
             boxes,
             count,
-            delay,
-            now,
-        );
-        Ok(Reply::Flushed)
+        })
     }
 }

@@ -89,14 +89,14 @@ impl<D: Says> Play<Option<Bay>, View> for Decide<D> {
     ghost then = { decided D.start D.what D.still };
 }
 
-pub struct Look<B> {
+pub struct Reload<B> {
     begins: PhantomData<B>,
 }
 
-impl<B: Begins> Play<Option<Bay>, View> for Look<B> {
-    ghost use Rattle.mc_shared.specs.Steps.{looked};
+impl<B: Begins> Play<Option<Bay>, View> for Reload<B> {
+    ghost use Rattle.mc_shared.specs.Steps.{reloaded};
 
-    ghost then = { looked B.start };
+    ghost then = { reloaded B.start };
 }
 
 pub struct Fork;

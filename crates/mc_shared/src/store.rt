@@ -1,34 +1,22 @@
 //! The store for many threads.
-ghost use Rattle.std.specs.Prelude.{◌≡◌, ◌+◌, ◌<◌, ◌≤◌, length, [], ◌∷◌, ◌++◌, map, replicate, OnOk};
-ghost use Rattle.std.specs.Prelude.{Some, false, IfOk, IfSome};
-ghost use Rattle.mc_command.specs.Commands.{key_of};
-ghost use Rattle.mc_command.specs.Laws.{IsOnKey};
+ghost use Rattle.std.specs.Prelude.{◌≡◌, ◌+◌, ◌<◌, ◌≤◌, [], ◌++◌, map, replicate, OnOk, Some, IfOk};
 ghost use Rattle.mc_command.specs.Plain.{opening};
 ghost use Rattle.mc_shelf.specs.States.{ShelfState};
-ghost use Rattle.mc_shelf.specs.Plans.{wants_desk};
 ghost use Rattle.mc_shared.specs.History.{start_of, shelf_in};
 ghost use Rattle.mc_shared.specs.Past.{start, spent, made, both};
-ghost use Rattle.mc_shared.specs.Steps.{next_name, IsAt, Agrees, Fitted};
-ghost use Rattle.mc_shared.specs.Store.{shelf_slot, desk_slot, slot_alone, spaced, holds_one, holds_two};
-ghost use Rattle.mc_shared.specs.Store.{IsPlanned, RestsCalled, told_of, May, Refuses};
-ghost use Rattle.mc_shared.specs.Seats.{SameSeat, IsAlive, IsFree, IsStepAt, HoldsShelf, MayAsk, ComesOut, IsAnswered};
-ghost use Rattle.mc_shared.specs.Bays.{OfShelf, OfDesk, place};
-ghost use Rattle.mc_shared.specs.declared.bay.Bay.{Bay as Held};
+ghost use Rattle.mc_shared.specs.Steps.{next_name, Agrees};
+ghost use Rattle.mc_shared.specs.Store.{shelf_slot, desk_slot, slot_alone, spaced};
+ghost use Rattle.mc_shared.specs.Bays.{place};
 
 use crate::bay::Bay;
 use crate::boxed::Boxed;
-use crate::fault::TryFault;
-use crate::look::{begin_step, look_up};
-use crate::rule::{Board, Place};
-use crate::steps::{APART, decide_at_desk, decide_at_shelf, fork, give, look, meet, take};
+use crate::rule::{Board, Seat};
+use crate::steps::{APART, fork, meet, reload};
 use atomic_table::Table;
-use mc_command::{KeyStep, Reply, StepFault};
 use mc_hop::KeyHash;
-use mc_shelf::{Desk, Plan, Settings, Shelf, Store, StoreParts, steps_change_one_shelf};
-use mc_slab::Page;
-use mc_time::Moment;
+use mc_shelf::{Desk, Settings, Shelf, Store, StoreParts};
 use std::alloc::{AllocError, Global};
-use std::marker::{Brand, Model};
+use std::marker::Model;
 use std::snapshot::Snapshot;
 
 /// A store for many threads. Contracts see which it is, and what it began with.
@@ -64,7 +52,7 @@ impl<K: KeyHash + Drop> Model for Shared<K> {
 /// Who makes calls. It holds no bay between calls. Contracts see whose it is, and its past.
 #[derive(Drop)]
 pub struct Caller {
-    pub(crate) seat: Place,
+    pub(crate) seat: Seat,
     /// The shelf of its last step, where entries of it may be left to move.
     pub(crate) grows: Option<u32>,
 }
@@ -88,8 +76,9 @@ impl<K: KeyHash + Drop> Shared<K> {
     /// Makes a shared store that begins with a store's state, and its first caller. The one error
     /// is a refused allocation; the store is then dropped.
     pub fn over(alloc: Global, store: Store<K>) -> Result<(Shared<K>, Caller), AllocError>
-        ensures { IfOk result (λ r. (r.0.began ≡ store) × (r.1.table ≡ r.0.table)
+        ensures made { IfOk result (λ r. (r.0.began ≡ store) × (r.1.table ≡ r.0.table)
             × (r.1.past ≡ start [] spent)) }
+        ensures agrees { IfOk result (λ r. Agrees (start_of K.hash_of store) r.1.past) }
     {
         let began = Snapshot::of(&store);
         let StoreParts {
@@ -101,14 +90,15 @@ impl<K: KeyHash + Drop> Shared<K> {
         let words = free_words(alloc, settings.shelves)?;
         let slots = slots_of(alloc, settings.shelves, shelves, desk)?;
         match Table::new(alloc, words.as_slice(), slots, &began) {
-            Ok((board, seat)) => Ok((
-                Shared {
+            Ok((board, mut seat)) => {
+                reload(&board, &mut seat);
+                let shared = Shared {
                     board,
                     settings,
                     hasher,
-                },
-                Caller { seat, grows: None },
-            )),
+                };
+                Ok((shared, Caller { seat, grows: None }))
+            }
             Err(_) => Err(AllocError),
         }
     }
@@ -129,6 +119,8 @@ impl<K: KeyHash + Drop> Shared<K> {
             (made.0.began.settings ≡ settings) × (made.0.began.hasher ≡ hasher)) }
         ensures caller { IfOk result (λ made.
             (made.1.table ≡ made.0.table) × (made.1.past ≡ start [] spent)) }
+        ensures agrees { IfOk result (λ made.
+            Agrees (start_of K.hash_of made.0.began) made.1.past) }
     {
         Shared::over(alloc, Store::new(alloc, settings, hasher)?)
     }
@@ -141,11 +133,13 @@ impl<K: KeyHash + Drop> Shared<K> {
             × (maker.new.past ≡ made maker.old.past (next_name maker.old.past)) }
         ensures new { (result.table ≡ maker.old.table) ×
             (result.past ≡ start (next_name maker.old.past) maker.old.past) }
+        ensures agrees { Agrees (start_of K.hash_of self.now.began) maker.new.past
+            × Agrees (start_of K.hash_of self.now.began) result.past }
     {
-        Caller {
-            seat: fork(&self.board, &mut maker.seat),
-            grows: None,
-        }
+        let mut seat = fork(&self.board, &mut maker.seat);
+        reload(&self.board, &mut maker.seat);
+        reload(&self.board, &mut seat);
+        Caller { seat, grows: None }
     }
 
     /// Joins a caller into another: from then on the other's calls stand after all that both made.
@@ -158,7 +152,7 @@ impl<K: KeyHash + Drop> Shared<K> {
     {
         let Caller { seat, .. } = from;
         meet(&self.board, &mut into.seat, seat);
-        look(&self.board, &mut into.seat);
+        reload(&self.board, &mut into.seat);
     }
 
     /// Tells the greatest charge of an item, in bytes.
@@ -182,35 +176,6 @@ impl<K: KeyHash + Drop> Shared<K> {
         ensures inside { result < self.now.began.settings.shelves }
     {
         (self.hasher.hash(key) % u64::from(self.settings.shelves)) as u32
-    }
-
-    /// Tries a step on one key, and waits for nobody. The key's shelf and, where the step needs it,
-    /// the desk are held while it is taken. Where it isn't taken, the caller's past stays, nothing
-    /// is decided and no bay is held.
-    pub fn try_step(
-        &self,
-        alloc: Global,
-        caller: &mut Caller,
-        step: &KeyStep<'_>,
-        now: Moment,
-    ) -> Result<Reply, TryFault>
-        requires asks { MayAsk self.now caller.old step.now }
-        requires on_key { IsOnKey step.now }
-        ensures { IsAnswered (start_of K.hash_of self.now.began) caller.old step.now now May
-            result caller.new }
-    {
-        let hash = self.hasher.hash(step.key());
-        let desk = self.settings.shelves as usize;
-        let at = (hash % u64::from(self.settings.shelves)) as usize;
-        step_by(
-            &self.board,
-            alloc,
-            &mut caller.seat,
-            (at, desk),
-            step,
-            hash,
-            now,
-        )
     }
 }
 
@@ -252,152 +217,4 @@ fn push_alone(slots: &mut Vec<Option<Bay>>, bay: Bay) -> Result<(), AllocError>
     slots.push(None)?;
     slots.push(None)?;
     Ok(())
-}
-
-/// A step on one key: its shelf is taken, and where it is needed the desk.
-fn step_by<K: KeyHash + Drop>(
-    board: &Board<K>,
-    alloc: Global,
-    caller: &mut Place,
-    bays: (usize, usize),
-    step: &KeyStep<'_>,
-    hash: u64,
-    now: Moment,
-) -> Result<Reply, TryFault>
-    requires seat { IsFree board.now.shared.table_id board.now.shared.key.value caller.old }
-    requires step { IsStepAt K.hash_of board.now.shared.key.value step.now hash bays }
-    ensures came { ComesOut (start_of K.hash_of board.now.shared.key.value) caller.old step.now now
-        May result caller.new }
-{
-    let bay = match take(board, caller, bays.0) {
-        Ok(bay) => bay,
-        Err(word) => {
-            return Err(TryFault::Busy { bay: bays.0, word });
-        }
-    };
-    let mut shelf = shelf_from(bay, bays.0, bays.1);
-    let mut left = 0;
-    let Ok(found) = look_up(alloc, &mut *shelf, step, hash, now, &mut left) else {
-        give(board, caller, bays.0, Bay::Shelf(Boxed::of(shelf)));
-        return Err(TryFault::NoMemory);
-    };
-    let plan = match found {
-        Some(plan) if !plan.needs_desk() => {
-            return Ok(step_at_shelf(board, caller, bays, shelf, plan, step, now));
-        }
-        plan => plan,
-    };
-    let desk = match take(board, caller, bays.1) {
-        Ok(bay) => desk_from(bay, bays.1),
-        Err(word) => {
-            give(board, caller, bays.0, Bay::Shelf(Boxed::of(shelf)));
-            return Err(TryFault::Busy { bay: bays.1, word });
-        }
-    };
-    let desk = (desk, None);
-    match apply_at_desk(
-        board, alloc, caller, bays, shelf, desk, plan, step, hash, now,
-    ) {
-        Ok(reply) => Ok(reply),
-        Err(fault) => Err(told(fault)),
-    }
-}
-
-/// A step that the key's shelf decides alone. The shelf is held, and goes back with the decision.
-pub(crate) fn step_at_shelf<K: KeyHash + Drop>(
-    board: &Board<K>,
-    caller: &mut Place,
-    bays: (usize, usize),
-    shelf: Box<Shelf>,
-    plan: Plan<'_>,
-    step: &KeyStep<'_>,
-    now: Moment,
-) -> Reply
-    requires held { HoldsShelf K.hash_of board.now.shared.table_id board.now.shared.key.value
-        caller.old step.now plan.hash bays shelf.value }
-    requires plan { IsPlanned plan shelf.value step.now plan.hash now }
-    requires no_desk { wants_desk plan.next ≡ false }
-    ensures seat { SameSeat caller.old caller.new }
-    ensures done { RestsCalled (start_of K.hash_of board.now.shared.key.value) caller.old.me
-        step.now now result caller.new.me }
-{
-    steps_change_one_shelf();
-    let mut shelf = shelf;
-    let reply = shelf.settle(plan);
-    decide_at_shelf::<Brand, K>(board, caller, bays.0, shelf, step, now, &reply);
-    reply
-}
-
-/// A step that the desk decides, with the key's shelf and the desk held, and a page if one was made
-/// for it. The desk goes back with the decision, and the shelf when the step's block is copied; both
-/// as they were where it isn't taken.
-pub(crate) fn apply_at_desk<K: KeyHash + Drop>(
-    board: &Board<K>,
-    alloc: Global,
-    caller: &mut Place,
-    bays: (usize, usize),
-    shelf: Box<Shelf>,
-    desk: (Box<Desk>, Option<Page>),
-    plan: Option<Plan<'_>>,
-    step: &KeyStep<'_>,
-    hash: u64,
-    now: Moment,
-) -> Result<Reply, StepFault>
-    requires seat { IsAlive board.now.shared.table_id board.now.shared.key.value caller.old }
-    requires step { IsStepAt K.hash_of board.now.shared.key.value step.now hash bays }
-    requires held { caller.old.me ≡ holds_two caller.old.me.0.past bays.1 (OfDesk desk.0.value) bays.0
-        (OfShelf shelf.value.content) }
-    requires fits { Fitted (start_of K.hash_of board.now.shared.key.value) caller.old.me.0 }
-    requires plan { IfSome plan (λ plan. IsPlanned plan shelf.value step.now hash now) }
-    ensures came { ComesOut (start_of K.hash_of board.now.shared.key.value) caller.old step.now now
-        Refuses result caller.new }
-{
-    steps_change_one_shelf();
-    let mut shelf = shelf;
-    let (mut desk, page) = desk;
-    match begin_step(alloc, &mut *shelf, &mut *desk, page, plan, step, hash, now) {
-        Ok((mut plan, begun)) => {
-            decide_at_desk::<Brand, K>(
-                board, caller, bays.1, desk, bays.0, &*shelf, &plan, &begun, step, now,
-            );
-            let reply = shelf.finish(&mut plan, begun, step);
-            give(board, caller, bays.0, Bay::Shelf(Boxed::of(shelf)));
-            Ok(reply)
-        }
-        Err(fault) => {
-            give(board, caller, bays.1, Bay::Desk(Boxed::of(desk)));
-            give(board, caller, bays.0, Bay::Shelf(Boxed::of(shelf)));
-            Err(fault)
-        }
-    }
-}
-
-/// Why a step was not taken.
-fn told(fault: StepFault) -> TryFault
-    ensures { result ≡ told_of fault }
-{
-    match fault {
-        StepFault::NoMemory => TryFault::NoMemory,
-        StepFault::NumbersSpent => TryFault::NumbersSpent,
-    }
-}
-
-pub(crate) fn shelf_from(bay: Bay, at: usize, shelves: usize) -> Box<Shelf>
-    requires { IsAt shelves at bay × (at < shelves) }
-    ensures { bay ≡ Held.Shelf result.value }
-{
-    match bay {
-        Bay::Shelf(shelf) => shelf.into_box(),
-        Bay::Desk(_) => unreachable!(),
-    }
-}
-
-pub(crate) fn desk_from(bay: Bay, shelves: usize) -> Box<Desk>
-    requires { IsAt shelves shelves bay }
-    ensures { bay ≡ Held.Desk result.value }
-{
-    match bay {
-        Bay::Desk(desk) => desk.into_box(),
-        Bay::Shelf(_) => unreachable!(),
-    }
 }

@@ -1,0 +1,127 @@
+-- What is held for a caller: a shelf, or a shelf and the desk.
+use Rattle.std.specs.Prelude.{◌≡◌, ℕ, ◌<◌, ◌≤◌, ◌⊎◌, List, [], ◌∷◌, length, true, Option, refl}
+use Rattle.std.specs.Coded.{Coded, code_by, coded×, coded_ℕ}
+use Rattle.mc_command.specs.declared.step.KeyStep.{KeyStep}
+use Rattle.mc_command.specs.declared.reply.Reply.{Reply}
+use Rattle.mc_command.specs.declared.step.StepFault.{StepFault}
+use Rattle.mc_command.specs.Commands.{key_of}
+use Rattle.mc_command.specs.Laws.{IsOnKey}
+use Rattle.mc_shelf.specs.States.{ShelfState, ShelfContent, DeskState, coded_shelf, coded_desk}
+use Rattle.mc_shelf.specs.Plans.{writes, next_of}
+use Rattle.mc_shared.specs.Bays.{OfShelf, OfDesk}
+use Rattle.mc_shared.specs.History.{Beginning, Purged, start_of, shelf_in}
+use Rattle.mc_shared.specs.Past.{Past, Lives, Whole, call}
+use Rattle.mc_shared.specs.View.{past_code}
+use Rattle.mc_shared.specs.Steps.{Fitted, Agrees, entry_of}
+use Rattle.mc_shared.specs.Store.{IsPlanned, Refuses, holds_one, holds_two}
+use Rattle.mc_shared.specs.Seats.{Sitter}
+use Rattle.mc_shared.specs.Shown.{SharedState, CallerState, coded_shared}
+use Rattle.mc_shared.specs.declared.patience.Busy.{Busy}
+use Rattle.mc_command.specs.declared.step.StepFault.TheVariants.{NoMemory as OutOfMemory, NumbersSpent as OutOfNumbers}
+use Rattle.mc_shared.specs.declared.fault.TryFault.{TryFault}
+use Rattle.mc_shared.specs.declared.fault.TryFault.TheVariants.{Busy as IsBusy, NoMemory, NumbersSpent}
+use Rattle.mc_shared.specs.declared.ask.Ask.{Ask}
+use Rattle.mc_shared.specs.declared.ask.Looked.{Looked}
+use Rattle.mc_shared.specs.declared.ask.Looked.TheVariants.{Planned, AskAgainAtDesk}
+use Rattle.mc_shared.specs.declared.ask.Untaken.{Untaken}
+use Rattle.mc_shared.specs.declared.ask.Untaken.TheVariants.{Met, Refused}
+
+-- a shelf that is held: of which store, for a caller with which past, which it is, and what it holds
+pub record ShelfHold (K : Type 0) : Type 0 where
+  pub shared : SharedState K
+  pub past : Past
+  pub at : ℕ
+  pub shelf : ShelfState
+
+abbrev pub coded_shelf_hold : {K : Type 0} → Coded K → Coded (ShelfHold K)
+coded_shelf_hold {K} hasher =
+    code_by (SharedState K × (Past × (ℕ × ShelfState)))
+    (coded× (coded_shared hasher) (coded× past_code (coded× coded_ℕ coded_shelf)))
+    (λ h. (h.shared, (h.past, (h.at, h.shelf))))
+    (λ p. record { shared = p.0; past = p.1.0; at = p.1.1.0; shelf = p.1.1.1 })
+    (λ _. refl)
+
+-- the seat is the store's, its caller lives, and it holds this shelf alone, which fits a history
+pub record HoldsShelf {K : Type 0} (hash_of : K → List ℕ → ℕ) (shared : SharedState K) (seat : Sitter)
+    (at : ℕ) (shelf : ShelfContent) : Type 0 where
+  pub own : seat.table_id ≡ shared.table
+  pub lives : Lives seat.me.0.past
+  pub inside : at < shared.began.settings.shelves
+  pub held : seat.me ≡ holds_one seat.me.0.past at (OfShelf shelf)
+  pub fits : Fitted (start_of hash_of shared.began) seat.me.0
+
+-- the same with the desk
+pub record BothHold (K : Type 0) : Type 0 where
+  pub shared : SharedState K
+  pub past : Past
+  pub at : ℕ
+  pub shelf : ShelfState
+  pub desk : DeskState
+
+abbrev pub coded_both_hold : {K : Type 0} → Coded K → Coded (BothHold K)
+coded_both_hold {K} hasher =
+    code_by (SharedState K × (Past × (ℕ × (ShelfState × DeskState))))
+    (coded× (coded_shared hasher) (coded× past_code (coded× coded_ℕ (coded× coded_shelf coded_desk))))
+    (λ h. (h.shared, (h.past, (h.at, (h.shelf, h.desk)))))
+    (λ p. record { shared = p.0; past = p.1.0; at = p.1.1.0; shelf = p.1.1.1.0; desk = p.1.1.1.1 })
+    (λ _. refl)
+
+abbrev pub with_desk : {K : Type 0} → ShelfHold K → DeskState → BothHold K
+with_desk hold desk =
+    record { shared = hold.shared; past = hold.past; at = hold.at; shelf = hold.shelf; desk = desk }
+
+abbrev pub without_desk : {K : Type 0} → BothHold K → ShelfHold K
+without_desk hold = record { shared = hold.shared; past = hold.past; at = hold.at; shelf = hold.shelf }
+
+-- the seat is the store's, its caller lives, and it holds this shelf and the desk, which fit a history
+pub record HoldsBoth {K : Type 0} (hash_of : K → List ℕ → ℕ) (shared : SharedState K) (seat : Sitter)
+    (at : ℕ) (shelf : ShelfContent) (desk : DeskState) : Type 0 where
+  pub own : seat.table_id ≡ shared.table
+  pub lives : Lives seat.me.0.past
+  pub inside : at < shared.began.settings.shelves
+  pub held : seat.me
+      ≡ holds_two seat.me.0.past shared.began.settings.shelves (OfDesk desk) at (OfShelf shelf)
+  pub fits : Fitted (start_of hash_of shared.began) seat.me.0
+
+-- the caller that a hold gives back
+abbrev pub caller_of : {K : Type 0} → SharedState K → Past → CallerState
+caller_of shared past = record { table = shared.table; past = past }
+
+-- a step on a key, with the key's hash and its shelf in this store
+pub record IsAsked {K : Type 0} (hash_of : K → List ℕ → ℕ) (shared : SharedState K) (ask : Ask)
+    : Type 0 where
+  pub on_key : IsOnKey ask.step.now
+  pub short : length (key_of ask.step.now) ≤ 250
+  pub hashed : ask.hash ≡ hash_of shared.began.hasher (key_of ask.step.now)
+  pub own : shelf_in (start_of hash_of shared.began) (key_of ask.step.now) ≡ ask.at
+  pub inside : ask.at < shared.began.settings.shelves
+
+-- what a look at a shelf found: a plan of the step, or that the desk has to tell
+abbrev pub IsLooked : Looked → ShelfState → Ask → Type 0
+IsLooked (Planned plan) shelf ask = IsPlanned plan shelf ask.step.now ask.hash ask.moment
+IsLooked AskAgainAtDesk shelf ask = writes (next_of shelf.content ask.step.now ask.moment) ≡ true
+
+-- the bay was held by another, as its word was 1, which it is not where the past is whole
+pub record IsBusyTo (p : Past) (bay : ℕ) (busy : Busy) : Type 0 where
+  pub same : busy.bay ≡ bay
+  pub odd : busy.word ≡ 1
+  pub other : Whole p → ⊥
+
+-- the past has the purge as one call more, and a legal history keeps it
+pub record HasPurged {K : Type 0} (hash_of : K → List ℕ → ℕ) (shared : SharedState K) (old : Past)
+    (at now : ℕ) (new : CallerState) : Type 0 where
+  pub table : new.table ≡ shared.table
+  pub past : new.past ≡ call old (entry_of old (Purged at now))
+  pub agrees : Agrees (start_of hash_of shared.began) new.past
+
+-- Why a step was not taken: the key's shelf or the desk was held by another, or it was refused.
+abbrev pub Unmet : {B : Type 0} → (Past → ℕ → B → Type 0) → Beginning → Past → KeyStep → ℕ → Untaken B
+    → Type 0
+Unmet busy start p step now (Met told) = busy p (shelf_in start (key_of step)) told ⊎ busy p start.shelves told
+Unmet busy start p step now (Refused fault) = Refuses start p step now fault
+
+-- what a caller that tried is told
+abbrev pub told_of : Untaken Busy → TryFault
+told_of (Met busy) = IsBusy busy.bay busy.word
+told_of (Refused OutOfMemory) = NoMemory
+told_of (Refused OutOfNumbers) = NumbersSpent

@@ -1,0 +1,32 @@
+//! A step on a key, on its way through a shelf and the desk.
+use mc_command::{KeyStep, StepFault};
+use mc_shelf::Plan;
+use mc_time::Moment;
+
+/// A step on a key, with the key's hash and the number of its shelf.
+#[derive(Drop)]
+pub(crate) struct Ask<'a> {
+    pub(crate) step: &'a KeyStep<'a>,
+    pub(crate) hash: u64,
+    pub(crate) moment: Moment,
+    pub(crate) at: u32,
+}
+
+/// What a look at a shelf found out about a step.
+#[derive(Drop)]
+pub(crate) enum Looked<'a> {
+    /// What comes next at its key.
+    Planned(Plan<'a>),
+    /// A write that was refused room for its key's entry. Whether the step can be taken is known at
+    /// the desk alone, where it is looked up again.
+    AskAgainAtDesk,
+}
+
+/// Why a step wasn't taken.
+#[derive(Drop)]
+pub(crate) enum Untaken<B: Drop> {
+    /// A bay was held by another.
+    Met(B),
+    /// Memory was refused, or the unique numbers are spent.
+    Refused(StepFault),
+}

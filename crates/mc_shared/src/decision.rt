@@ -1,0 +1,42 @@
+//! What is decided as a bay goes back.
+use mc_command::{KeyStep, Reply};
+use mc_shelf::{Begun, Plan, Shelf};
+use mc_time::Moment;
+
+/// What was done, with the shelves that are still held then. The rule of the table reads it, and
+/// writes it down in the history.
+#[derive(Drop)]
+pub(crate) enum Decision<'a> {
+    /// A step that its key's shelf decided alone.
+    Settled {
+        step: &'a KeyStep<'a>,
+        moment: Moment,
+        reply: &'a Reply,
+    },
+    /// A step that the desk decided, begun at its key's shelf, which is held until it is finished.
+    Begun {
+        step: &'a KeyStep<'a>,
+        moment: Moment,
+        at: u32,
+        shelf: &'a Shelf,
+        plan: &'a Plan<'a>,
+        begun: &'a Begun,
+    },
+    /// A purge that dropped items of a shelf, which is still held.
+    Purged {
+        at: u32,
+        moment: Moment,
+        shelf: &'a Shelf,
+    },
+    /// A purge of a shelf in which nothing was dead.
+    NoneDead {
+        at: u32,
+        moment: Moment,
+    },
+    /// A flush of all shelves, which are still held.
+    Flushed {
+        delay: u64,
+        moment: Moment,
+        shelves: &'a Vec<Shelf>,
+    },
+}

@@ -1,0 +1,156 @@
+//! A shelf's dead items are dropped, and its growth goes on.
+ghost use Rattle.std.specs.Prelude.{◌≡◌, ◌<◌, ◌≤◌, IfOk, IfErr};
+ghost use Rattle.mc_shared.specs.History.{start_of, Purged};
+ghost use Rattle.mc_shared.specs.Past.{call};
+ghost use Rattle.mc_shared.specs.Steps.{entry_of, Agrees};
+ghost use Rattle.mc_shared.specs.Holds.{HasPurged, caller_of};
+
+use crate::bay::Bay;
+use crate::boxed::Boxed;
+use crate::decision::Decision;
+use crate::hold::{AtBoth, AtShelf};
+use crate::patience::{NoGate, Waiting};
+use crate::steps::{decide, give};
+use crate::store::{Caller, Shared};
+use core::mem::replace_with;
+use mc_hop::KeyHash;
+use mc_time::Moment;
+use std::sync::Wait;
+
+impl<'a, K: KeyHash + Drop> AtShelf<'a, K> {
+    /// Gives the shelf back with the decision of a purge, if nothing in it may be dead.
+    fn purge_alone(self, now: Moment) -> Result<Caller, AtShelf<'a, K>>
+        ensures ok { IfOk result (λ caller. HasPurged K.hash_of self.entry.shared self.entry.past
+            self.entry.at now caller) }
+        ensures err { IfErr result (λ hold. hold ≡ self.entry) }
+    {
+        if self.shelf.may_have_dead(now) {
+            return Err(self);
+        }
+        let AtShelf {
+            shared,
+            mut seat,
+            grows,
+            at,
+            shelf,
+        } = self;
+        let decision = Decision::NoneDead { at, moment: now };
+        let value = Bay::Shelf(Boxed::of(shelf));
+        decide(&shared.board, &mut seat, at as usize, value, &decision);
+        Ok(Caller { seat, grows })
+    }
+
+    /// Moves up to `n` entries of the shelf's old table, and answers how many it moved.
+    fn grow(&mut self, n: usize) -> usize
+        ensures same { (self.new.shared ≡ self.old.shared) × (self.new.past ≡ self.old.past) }
+        ensures moved { result ≤ n }
+    {
+        self.shelf.grow(n)
+    }
+}
+
+impl<'a, K: KeyHash + Drop> AtBoth<'a, K> {
+    /// Drops the shelf's dead items. The desk goes back with the decision, and then the shelf.
+    fn purge(self, now: Moment) -> Caller
+        ensures { HasPurged K.hash_of self.entry.shared self.entry.past self.entry.at now result }
+    {
+        let AtBoth {
+            shared,
+            mut seat,
+            grows,
+            at,
+            mut shelf,
+            mut desk,
+        } = self;
+        shelf.purge_part(now, &mut *desk);
+        let decision = Decision::Purged {
+            at,
+            moment: now,
+            shelf: &*shelf,
+        };
+        let bay = shared.settings.shelves as usize;
+        let value = Bay::Desk(Boxed::of(desk));
+        decide(&shared.board, &mut seat, bay, value, &decision);
+        let value = Bay::Shelf(Boxed::of(shelf));
+        give(&shared.board, &mut seat, at as usize, value);
+        Caller { seat, grows }
+    }
+}
+
+/// Purges a shelf for a caller, who comes back. Where nothing in it may be dead, the desk isn't taken.
+fn tidy_for<K: KeyHash + Drop, R: Wait>(
+    caller: Caller,
+    asked: (&Shared<K>, &R, u32, &Moment),
+) -> (Caller, ())
+    requires own { caller.table ≡ asked.0.now.table }
+    requires inside { asked.2 < asked.0.now.began.settings.shelves }
+    ensures { HasPurged K.hash_of asked.entry.0.now caller.past asked.entry.2
+        asked.entry.3.now result.0 }
+{
+    let (shared, rt, at, now) = asked;
+    match shared.wait_for_shelf(rt, caller, at).purge_alone(*now) {
+        Ok(caller) => (caller, ()),
+        Err(hold) => (hold.wait_for_desk(rt).purge(*now), ()),
+    }
+}
+
+/// Moves entries of a shelf for a caller, who comes back. Nothing is decided.
+fn grow_for<K: KeyHash + Drop, R: Wait>(
+    caller: Caller,
+    asked: (&Shared<K>, &R, u32, usize),
+) -> (Caller, usize)
+    requires own { caller.table ≡ asked.0.now.table }
+    requires inside { asked.2 < asked.0.now.began.settings.shelves }
+    ensures same { result.0 ≡ caller }
+    ensures moved { result.1 ≤ asked.entry.3 }
+    ensures agrees { Agrees (start_of K.hash_of asked.entry.0.now.began) caller.past }
+{
+    let (shared, rt, at, n) = asked;
+    let mut hold = shared.wait_for_shelf(rt, caller, at);
+    let moved = hold.grow(n);
+    (hold.give_back(), moved)
+}
+
+impl<K: KeyHash + Drop> Shared<K> {
+    /// Drops the items of a shelf that are dead at a moment. It waits for the shelf, and where an
+    /// item in it may be dead for the desk, and takes no memory. The cost is that of one pass over
+    /// the shelf's items, and where none may be dead it walks none.
+    pub fn tidy<R: Wait>(&self, rt: &R, caller: &mut Caller, shelf: u32, now: Moment)
+        requires own { caller.old.table ≡ self.now.table }
+        requires shelf { shelf < self.now.began.settings.shelves }
+        ensures same { caller.new.table ≡ caller.old.table }
+        ensures done { (caller.new.past ≡ call caller.old.past
+            (entry_of caller.old.past (Purged shelf now)))
+            × Agrees (start_of K.hash_of self.now.began) caller.new.past }
+    {
+        replace_with(caller, (self, rt, shelf, &now), tidy_for);
+    }
+
+    /// Moves up to `n` entries of a shelf's old table, and answers how many it moved. It waits for
+    /// the shelf. Nothing is decided, and no memory is taken. The cost grows with `n`.
+    pub fn grow<R: Wait>(&self, rt: &R, caller: &mut Caller, shelf: u32, n: usize) -> usize
+        requires own { caller.old.table ≡ self.now.table }
+        requires shelf { shelf < self.now.began.settings.shelves }
+        ensures same { (caller.new.table ≡ caller.old.table) × (caller.new.past ≡ caller.old.past) }
+        ensures moved { result ≤ n }
+        ensures agrees { Agrees (start_of K.hash_of self.now.began) caller.new.past }
+    {
+        replace_with(caller, (self, rt, shelf, n), grow_for)
+    }
+
+    /// Does what `grow` does at the shelf of the caller's last step. Where that step left none of the
+    /// shelf's entries to move, or it was done since, no shelf is taken.
+    pub fn grow_after<R: Wait>(&self, rt: &R, caller: &mut Caller, n: usize) -> usize
+        requires own { caller.old.table ≡ self.now.table }
+        ensures same { (caller.new.table ≡ caller.old.table) × (caller.new.past ≡ caller.old.past) }
+        ensures moved { result ≤ n }
+    {
+        match caller.grows {
+            Some(shelf) if shelf < self.settings.shelves => {
+                caller.grows = None;
+                self.grow(rt, caller, shelf, n)
+            }
+            _ => 0,
+        }
+    }
+}

@@ -1,0 +1,381 @@
+//! A step on a key: at its shelf, and where it is needed at the desk.
+ghost use Rattle.std.specs.Prelude.{◌≡◌, ◌≤◌, length, true, false, Err, IfOk, IfErr, IfSome, OnErr};
+ghost use Rattle.mc_command.specs.Commands.{key_of};
+ghost use Rattle.mc_command.specs.Laws.{IsOnKey};
+ghost use Rattle.mc_command.specs.declared.step.KeyStep.{KeyStep as Step};
+ghost use Rattle.mc_shelf.specs.States.{IsHash, CanStand};
+ghost use Rattle.mc_shelf.specs.Plans.{CanFinish, IsPlan, IsSpent, IsTaken, MayWantMemory, NeedsPage, finished, told_next, wants_desk};
+ghost use Rattle.mc_slab.specs.Classes.{class_holding};
+ghost use Rattle.mc_shared.specs.History.{start_of};
+ghost use Rattle.mc_shared.specs.Steps.{Agrees};
+ghost use Rattle.mc_shared.specs.Store.{HasCalled, IsPlanned, MayFailAfter, Refuses, May, is_read};
+ghost use Rattle.mc_shared.specs.Seats.{MayAsk, IsAnswered};
+ghost use Rattle.mc_shared.specs.Holds.{IsAsked, IsLooked, Unmet, caller_of, told_of, without_desk};
+
+use crate::ask::{Ask, Looked, Untaken};
+use crate::bay::Bay;
+use crate::boxed::Boxed;
+use crate::decision::Decision;
+use crate::fault::TryFault;
+use crate::hold::{AtBoth, AtShelf};
+use crate::patience::{Busy, Gate, NoGate, Once, Patience, Waiting};
+use crate::steps::{decide, give};
+use crate::store::{Caller, Shared};
+use core::mem::replace_with;
+use mc_command::{KeyStep, Reply, StepFault};
+use mc_hop::KeyHash;
+use mc_shelf::{Begun, Desk, Plan, Shelf, refusals_are_plain, steps_change_one_shelf};
+use mc_slab::{Class, Page};
+use mc_time::Moment;
+use std::alloc::{AllocError, Global};
+use std::marker::PhantomData;
+use std::sync::Wait;
+
+impl<'a, K: KeyHash + Drop> AtShelf<'a, K> {
+    /// Looks a step up. A read that is refused memory for the copy of its block is refused. From then
+    /// on it is known whether entries of the shelf are left to move.
+    fn look<'k>(&mut self, alloc: Global, ask: &Ask<'k>) -> Result<Looked<'k>, AllocError>
+        requires asked { IsAsked K.hash_of self.old.shared ask.now }
+        requires at { self.old.at ≡ ask.now.at }
+        ensures same { (self.new.shared ≡ self.old.shared) × (self.new.past ≡ self.old.past)
+            × (self.new.at ≡ self.old.at) }
+        ensures looked { IfOk result (λ looked. IsLooked looked self.new.shelf ask.now) }
+        ensures err { OnErr result (MayFailAfter (start_of K.hash_of self.old.shared.began)
+            self.old.past ask.now.step.now ask.now.moment) }
+    {
+        self.grows = Some(self.at);
+        match self.shelf.look(alloc, ask.step, ask.hash, ask.moment) {
+            Ok(plan) => {
+                if self.shelf.left() == 0 {
+                    self.grows = None;
+                }
+                Ok(Looked::Planned(plan))
+            }
+            Err(_) if !is_read(ask.step) => Ok(Looked::AskAgainAtDesk),
+            Err(refused) => Err(refused),
+        }
+    }
+
+    /// Answers a step that the shelf decides alone, and gives the shelf back with the decision.
+    fn settle(self, plan: Plan<'_>, ask: &Ask<'_>) -> (Caller, Reply)
+        requires asked { IsAsked K.hash_of self.shared ask.now }
+        requires at { self.at ≡ ask.now.at }
+        requires plan { IsPlanned plan self.shelf ask.now.step.now ask.now.hash ask.now.moment }
+        requires no_desk { wants_desk plan.next ≡ false }
+        ensures table { result.0.table ≡ self.entry.shared.table }
+        ensures called { HasCalled (start_of K.hash_of self.entry.shared.began) self.entry.past
+            ask.now.step.now ask.now.moment result.1 result.0.past }
+    {
+        steps_change_one_shelf();
+        let AtShelf {
+            shared,
+            mut seat,
+            grows,
+            at,
+            mut shelf,
+        } = self;
+        let reply = shelf.settle(plan);
+        let decision = Decision::Settled {
+            step: ask.step,
+            moment: ask.moment,
+            reply: &reply,
+        };
+        let value = Bay::Shelf(Boxed::of(shelf));
+        decide(&shared.board, &mut seat, at as usize, value, &decision);
+        (Caller { seat, grows }, reply)
+    }
+
+    /// Takes the desk for a step, with a page where the step wants one. The page is made while nobody
+    /// waits for the desk: it goes back, and is taken again with the page in hand. Where memory for the
+    /// page is refused, or the desk is tried but once, there is none: the step finds out at the desk.
+    fn take_desk_for<B: Drop, P: Patience<B>>(
+        self,
+        patience: &P,
+        alloc: Global,
+        looked: &Looked<'_>,
+        ask: &Ask<'_>,
+    ) -> Result<(AtBoth<'a, K>, Option<Page>), (AtShelf<'a, K>, B)>
+        requires { IsLooked looked.now self.shelf ask.now }
+        ensures ok { IfOk result (λ r. without_desk r.0 ≡ self.entry) }
+        ensures err { IfErr result (λ e. (e.0 ≡ self.entry)
+            × P.busy self.entry.past self.entry.shared.began.settings.shelves e.1) }
+    {
+        let both = match self.take_desk(patience) {
+            Ok(both) => both,
+            Err(met) => return Err(met),
+        };
+        if !patience.comes_again() {
+            return Ok((both, None));
+        }
+        let Some(class) = both.page_wanted(looked, ask) else {
+            return Ok((both, None));
+        };
+        let hold = both.give_desk();
+        let page = Page::new(alloc, class).ok();
+        match hold.take_desk(patience) {
+            Ok(both) => Ok((both, page)),
+            Err(met) => Err(met),
+        }
+    }
+}
+
+impl<'a, K: KeyHash + Drop> AtBoth<'a, K> {
+    /// Names the class of the page that a step wants, if it wants one.
+    fn page_wanted(&self, looked: &Looked<'_>, ask: &Ask<'_>) -> Option<Class>
+        requires { IsLooked looked.now self.now.shelf ask.now }
+    {
+        match looked {
+            Looked::Planned(plan) => self.shelf.page_wanted(plan, &*self.desk),
+            Looked::AskAgainAtDesk => None,
+        }
+    }
+
+    /// Takes a step that the desk decides, with a page if one was made for it. The desk goes back with
+    /// the decision, and the shelf when the step's block is copied; both as they were where it isn't
+    /// taken.
+    fn take_step(
+        self,
+        alloc: Global,
+        looked: Looked<'_>,
+        page: Option<Page>,
+        ask: &Ask<'_>,
+    ) -> (Caller, Result<Reply, StepFault>)
+        requires asked { IsAsked K.hash_of self.shared ask.now }
+        requires at { self.at ≡ ask.now.at }
+        requires looked { IsLooked looked self.shelf ask.now }
+        ensures { IsAnswered (start_of K.hash_of self.entry.shared.began)
+            (caller_of self.entry.shared self.entry.past) ask.now.step.now ask.now.moment Refuses
+            result.1 result.0 }
+    {
+        steps_change_one_shelf();
+        let AtBoth {
+            shared,
+            mut seat,
+            grows,
+            at,
+            mut shelf,
+            mut desk,
+        } = self;
+        let bay = shared.settings.shelves as usize;
+        match begin_step(alloc, &mut *shelf, &mut *desk, looked, page, ask) {
+            Ok((mut plan, begun)) => {
+                let decision = Decision::Begun {
+                    step: ask.step,
+                    moment: ask.moment,
+                    at,
+                    shelf: &*shelf,
+                    plan: &plan,
+                    begun: &begun,
+                };
+                let value = Bay::Desk(Boxed::of(desk));
+                decide(&shared.board, &mut seat, bay, value, &decision);
+                let reply = shelf.finish(&mut plan, begun, ask.step);
+                let value = Bay::Shelf(Boxed::of(shelf));
+                give(&shared.board, &mut seat, at as usize, value);
+                (Caller { seat, grows }, Ok(reply))
+            }
+            Err(fault) => {
+                let value = Bay::Desk(Boxed::of(desk));
+                give(&shared.board, &mut seat, bay, value);
+                let value = Bay::Shelf(Boxed::of(shelf));
+                give(&shared.board, &mut seat, at as usize, value);
+                (Caller { seat, grows }, Err(fault))
+            }
+        }
+    }
+}
+
+/// Begins a step at a shelf and the desk, by its plan. With none it is looked up again, and memory is
+/// asked for only where a number and a chunk are to be had.
+fn begin_step<'k>(
+    alloc: Global,
+    shelf: &mut Shelf,
+    desk: &mut Desk,
+    looked: Looked<'k>,
+    page: Option<Page>,
+    ask: &Ask<'_>,
+) -> Result<(Plan<'k>, Begun), StepFault>
+    requires looked { IsLooked looked shelf.old ask.now }
+    requires on_key { IsOnKey ask.now.step.now }
+    requires key { length (key_of ask.now.step.now) ≤ 250 }
+    requires hash { IsHash shelf.old.content (key_of ask.now.step.now) ask.now.hash }
+    requires stands { CanStand (key_of ask.now.step.now) shelf.old.content desk.old }
+    ensures took { IfOk result (λ begun. IsTaken ask.now.step.now ask.now.moment ask.now.hash
+        shelf.old.content desk.old (told_next begun.0.next begun.1)
+        (finished begun.0 begun.1 ask.now.step.now shelf.new.content) desk.new) }
+    ensures left { IfOk result (λ begun.
+        CanFinish begun.0 begun.1 ask.now.step.now shelf.new) }
+    ensures spent { result ≡ Err StepFault.NumbersSpent →
+        IsSpent ask.now.step.now ask.now.moment shelf.old.content desk.old }
+    ensures refused { result ≡ Err StepFault.NoMemory →
+        MayWantMemory ask.now.step.now ask.now.moment shelf.old.content desk.old }
+    ensures err { OnErr result
+        ((shelf.new.content ≡ shelf.old.content) × (desk.new ≡ desk.old)) }
+{
+    refusals_are_plain();
+    let _number = desk.next_unique();
+    match looked {
+        Looked::Planned(plan) => match shelf.begin(alloc, &plan, ask.step, desk, page) {
+            Ok(begun) => Ok((plan, begun)),
+            Err(fault) => Err(fault),
+        },
+        Looked::AskAgainAtDesk => {
+            match shelf.step(alloc, ask.step, ask.hash, ask.moment, desk) {
+                Ok(reply) => Ok((Plan::of(reply), Begun::Done)),
+                Err(fault) => Err(fault),
+            }
+        }
+    }
+}
+
+/// Returns whether a step reads an item: get and gets, gat and gats.
+fn is_read(step: &KeyStep<'_>) -> bool
+    ensures { result ≡ is_read step.now }
+{
+    match step {
+        KeyStep::Read { .. } | KeyStep::ReadTouch { .. } => true,
+        KeyStep::Store { .. }
+        | KeyStep::Cas { .. }
+        | KeyStep::Touch { .. }
+        | KeyStep::Delete { .. }
+        | KeyStep::Count { .. }
+        | KeyStep::Flush { .. } => false,
+    }
+}
+
+/// Takes a step for a caller, who comes back with the answer.
+fn step_for<B: Drop, P: Patience<B>, K: KeyHash + Drop>(
+    caller: Caller,
+    asked: (&Shared<K>, &P, PhantomData<B>, Global, &Ask<'_>),
+) -> (Caller, Result<Reply, Untaken<B>>)
+    requires own { caller.table ≡ asked.0.now.table }
+    requires asked { IsAsked K.hash_of asked.0.now asked.4.now }
+    ensures { IsAnswered (start_of K.hash_of asked.entry.0.now.began) caller
+        asked.entry.4.now.step.now asked.entry.4.now.moment (Unmet P.busy) result.1 result.0 }
+{
+    let (shared, patience, _, alloc, ask) = asked;
+    let mut hold = match shared.hold_shelf(patience, caller, ask.at) {
+        Ok(hold) => hold,
+        Err((caller, told)) => return (caller, Err(Untaken::Met(told))),
+    };
+    patience.inside(ask.at);
+    let looked = match hold.look(alloc, ask) {
+        Ok(Looked::Planned(plan)) if !plan.needs_desk() => {
+            let (caller, reply) = hold.settle(plan, ask);
+            return (caller, Ok(reply));
+        }
+        Ok(looked) => looked,
+        Err(_) => return (hold.give_back(), Err(Untaken::Refused(StepFault::NoMemory))),
+    };
+    match hold.take_desk_for(patience, alloc, &looked, ask) {
+        Ok((both, page)) => match both.take_step(alloc, looked, page, ask) {
+            (caller, Ok(reply)) => (caller, Ok(reply)),
+            (caller, Err(fault)) => (caller, Err(Untaken::Refused(fault))),
+        },
+        Err((hold, told)) => (hold.give_back(), Err(Untaken::Met(told))),
+    }
+}
+
+impl<K: KeyHash + Drop> Shared<K> {
+    /// Takes a step on one key, with as much patience.
+    fn step_by<B: Drop, P: Patience<B>>(
+        &self,
+        patience: &P,
+        alloc: Global,
+        caller: &mut Caller,
+        step: &KeyStep<'_>,
+        now: Moment,
+    ) -> Result<Reply, Untaken<B>>
+        requires asks { MayAsk self.now caller.old step.now }
+        requires on_key { IsOnKey step.now }
+        ensures { IsAnswered (start_of K.hash_of self.now.began) caller.old step.now now
+            (Unmet P.busy) result caller.new }
+    {
+        let hash = self.hasher.hash(step.key());
+        let ask = Ask {
+            step: &*step,
+            hash,
+            moment: now,
+            at: (hash % u64::from(self.settings.shelves)) as u32,
+        };
+        replace_with(
+            caller,
+            (&*self, &*patience, PhantomData, alloc, &ask),
+            step_for,
+        )
+    }
+
+    /// Tries a step on one key, and waits for nobody. The key's shelf and, where the step needs it,
+    /// the desk are held while it is taken. Where it isn't taken, the caller's past stays, nothing
+    /// is decided and no bay is held.
+    pub fn try_step(
+        &self,
+        alloc: Global,
+        caller: &mut Caller,
+        step: &KeyStep<'_>,
+        now: Moment,
+    ) -> Result<Reply, TryFault>
+        requires asks { MayAsk self.now caller.old step.now }
+        requires on_key { IsOnKey step.now }
+        ensures { IsAnswered (start_of K.hash_of self.now.began) caller.old step.now now May
+            result caller.new }
+    {
+        match self.step_by(&Once, alloc, caller, step, now) {
+            Ok(reply) => Ok(reply),
+            Err(untaken) => Err(told(untaken)),
+        }
+    }
+
+    /// Takes a step. It waits for what others hold. Where it isn't taken, nothing is decided and no
+    /// bay is held.
+    pub fn step<R: Wait>(
+        &self,
+        rt: &R,
+        alloc: Global,
+        caller: &mut Caller,
+        step: &KeyStep<'_>,
+        now: Moment,
+    ) -> Result<Reply, StepFault>
+        requires { MayAsk self.now caller.old step.now }
+        ensures { IsAnswered (start_of K.hash_of self.now.began) caller.old step.now now Refuses
+            result caller.new }
+    {
+        self.step_at(rt, alloc, caller, step, now, &NoGate)
+    }
+
+    /// Takes a step. It waits for what others hold, and calls the gate once while the key's shelf is
+    /// held; a flush calls no gate. Where it isn't taken, nothing is decided and no bay is held.
+    pub fn step_at<R: Wait, G: Gate>(
+        &self,
+        rt: &R,
+        alloc: Global,
+        caller: &mut Caller,
+        step: &KeyStep<'_>,
+        now: Moment,
+        gate: &G,
+    ) -> Result<Reply, StepFault>
+        requires { MayAsk self.now caller.old step.now }
+        ensures { IsAnswered (start_of K.hash_of self.now.began) caller.old step.now now Refuses
+            result caller.new }
+    {
+        if let KeyStep::Flush { delay } = step {
+            return Ok(self.flush(rt, alloc, caller, *delay, now)?);
+        }
+        match self.step_by(&Waiting { rt, gate }, alloc, caller, step, now) {
+            Ok(reply) => Ok(reply),
+            Err(Untaken::Refused(fault)) => Err(fault),
+            Err(Untaken::Met(never)) => match never {},
+        }
+    }
+}
+
+/// Why a step that was tried wasn't taken.
+fn told(untaken: Untaken<Busy>) -> TryFault
+    ensures { result ≡ told_of untaken }
+{
+    match untaken {
+        Untaken::Met(Busy { bay, word }) => TryFault::Busy { bay, word },
+        Untaken::Refused(StepFault::NoMemory) => TryFault::NoMemory,
+        Untaken::Refused(StepFault::NumbersSpent) => TryFault::NumbersSpent,
+    }
+}
