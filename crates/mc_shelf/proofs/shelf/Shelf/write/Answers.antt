@@ -59,7 +59,8 @@ returns-then-goes_over-clause-left c =
     let step = c.args.step.now in
     let same = subst (λ (k : List ℕ). has_class k (get shelf.items k) c.class_for-class.result ≡ true) c.key.ensures (sym c.fit-same.ensures.same ∙ c.goes_over.ensures.class c.if-goes_over.true) in
     let given = c.goes_over.ensures.given c.if-goes_over.true in
-    let there = item_given c.counts_follow.ensures.insert c.counts_follow.ensures.remove step write.moment shelf c.args.desk.now c.requires.write.on_key write.charge write.draft (sym c.requires.write.next) c.class_for-class.result c.class_for-class.ensures.value same given in
+    let there = item_given c.counts_follow.ensures.insert c.counts_follow.ensures.remove step write.moment shelf c.args.desk.now c.requires.write.on_key write.charge write.draft
+    (sym c.requires.write.next) c.class_for-class.result c.class_for-class.ensures.value same given in
     record {
       short = c.requires.write.short;
       known = c.requires.write.known;
@@ -74,20 +75,23 @@ returns-then-goes_over-clause-took c =
     let step = c.args.step.now in
     let class = c.class_for-class.result in
     let class_is = c.class_for-class.ensures.value in
-    let anew = subst (λ (k : List ℕ). reuses shelf.cut write.moment k (get shelf.items k) c.class_for-class.result write.draft.body ≡ false) c.key.ensures (sym c.fit-same.ensures.reused ∙ c.if-reused.false) in
+    let anew = subst (λ (k : List ℕ). reuses shelf.cut write.moment k (get shelf.items k) c.class_for-class.result write.draft.body ≡ false) c.key.ensures
+    (sym c.fit-same.ensures.reused ∙ c.if-reused.false) in
     let same = subst (λ (k : List ℕ). has_class k (get shelf.items k) c.class_for-class.result ≡ true) c.key.ensures (sym c.fit-same.ensures.same ∙ c.goes_over.ensures.class c.if-goes_over.true) in
     let given = c.goes_over.ensures.given c.if-goes_over.true in
     let unique = c.draw-unique-then-goes_over.result in
     let own : List ℕ → ℕ → Entry = λ l n. drafted write.draft l n write.moment in
     let new = with_item None (key_of step) write.hash (own (block_of step) unique) shelf in
     let more : desk.next_unique ≢ 2 ^ 64 - 1 = λ e. let less = c.is_spent.ensures.left c.if-is_spent.false in omega (arith, less) in
-    let block = ap (λ (b : Body). own_block b (block_of step)) (sym given) ∙ block_given c.counts_follow.ensures.insert c.counts_follow.ensures.remove step write.moment shelf desk c.requires.write.on_key write.charge write.draft (sym c.requires.write.next) class class_is given in
+    let block = ap (λ (b : Body). own_block b (block_of step)) (sym given) ∙ block_given c.counts_follow.ensures.insert c.counts_follow.ensures.remove step write.moment shelf desk c.requires.write.on_key write.charge write.draft
+    (sym c.requires.write.next) class class_is given in
     let puts = subst (λ (l : List ℕ). IsPut (key_of step) write.hash shelf new (own l desk.next_unique)) block
     (subst (λ (n : ℕ). IsPut (key_of step) write.hash shelf new (own (block_of step) n)) c.draw-unique-then-goes_over.ensures.number
     (put_over (key_of step) write.hash shelf (own (block_of step) unique) c.requires.write.known.hash)) in
     record {
       takes = subst (λ (d : DeskState). Takes step write.moment shelf desk (write_reply write.draft.body) new d) (sym c.draw-unique-then-goes_over.ensures.drawn)
-          (takes_in_place c.counts_follow.ensures.insert c.counts_follow.ensures.remove step write.moment shelf desk c.requires.write.on_key write.charge write.draft (sym c.requires.write.next) class class_is anew same c.class_for-class.ensures.is_class c.draw-unique-then-goes_over.ensures.slab (c.goes_over.ensures.free c.if-goes_over.true) more write.hash new puts);
+          (takes_in_place c.counts_follow.ensures.insert c.counts_follow.ensures.remove step write.moment shelf desk c.requires.write.on_key write.charge write.draft
+          (sym c.requires.write.next) class class_is anew same c.class_for-class.ensures.is_class c.draw-unique-then-goes_over.ensures.slab (c.goes_over.ensures.free c.if-goes_over.true) more write.hash new puts);
       others = puts.others;
       hash = puts.hash;
     }
