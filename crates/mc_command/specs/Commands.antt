@@ -1,10 +1,53 @@
 -- The shape of a command, and its steps.
 use Rattle.std.specs.Prelude.{◌≡◌, refl, ℕ, ℤ, Bool, true, false, IsTrue, List, [], ◌∷◌, map, length, drop, Option, Some, None, ◌≤◌, All}
-use Rattle.mc_command.specs.declared.command.Command.{Command}
-use Rattle.mc_command.specs.declared.command.Command.TheVariants.{Store, Cas, Get, GetTouch, Touch, Delete, Count, FlushAll, Lone as LoneCommand}
+use Rattle.mc_command.specs.declared.command.CommandOf.{CommandOf}
+use Rattle.mc_command.specs.declared.command.CommandOf.TheVariants.{Store, Cas, Get, GetTouch, Touch, Delete, Count, FlushAll, Lone as LoneCommand}
 use Rattle.mc_command.specs.declared.lone.Lone.{Lone}
 use Rattle.mc_command.specs.declared.step.KeyStep.{KeyStep}
 use Rattle.mc_command.specs.declared.step.KeyStep.TheVariants.{Store as StoreStep, Cas as CasStep, Read as ReadStep, ReadTouch as ReadTouchStep, Touch as TouchStep, Delete as DeleteStep, Count as CountStep, Flush as FlushStep}
+
+-- a command as it is lent
+abbrev pub Command : Type 0
+Command = CommandOf (List ℕ) (List (List ℕ)) (List ℕ)
+
+-- the same command with its key, its keys and its block kept otherwise
+abbrev pub mapped : {K L B M N C : Type 0} → (K → M) → (L → N) → (B → C) → CommandOf K L B
+    → CommandOf M N C
+mapped f g h (Store verb key flags exptime block quiet) =
+    Store verb (f key) flags exptime (h block) quiet
+mapped f g h (Cas key flags exptime block unique quiet) =
+    Cas (f key) flags exptime (h block) unique quiet
+mapped f g h (Get keys with_unique) = Get (g keys) with_unique
+mapped f g h (GetTouch exptime keys with_unique) = GetTouch exptime (g keys) with_unique
+mapped f g h (Touch key exptime quiet) = Touch (f key) exptime quiet
+mapped f g h (Delete key quiet) = Delete (f key) quiet
+mapped f g h (Count key up by quiet) = Count (f key) up by quiet
+mapped f g h (FlushAll delay quiet) = FlushAll delay quiet
+mapped f g h (LoneCommand lone) = LoneCommand lone
+
+-- the block of a command that brings one
+abbrev pub block_in : {K L B : Type 0} → CommandOf K L B → Option B
+block_in (Store verb key flags exptime block quiet) = Some block
+block_in (Cas key flags exptime block unique quiet) = Some block
+block_in (Get keys with_unique) = None
+block_in (GetTouch exptime keys with_unique) = None
+block_in (Touch key exptime quiet) = None
+block_in (Delete key quiet) = None
+block_in (Count key up by quiet) = None
+block_in (FlushAll delay quiet) = None
+block_in (LoneCommand lone) = None
+
+-- what a retrieval asks: the exptime that it may set, its keys, and whether the unique number is told
+abbrev pub retrieval_in : {K L B : Type 0} → CommandOf K L B → Option (Option ℤ × L × Bool)
+retrieval_in (Store verb key flags exptime block quiet) = None
+retrieval_in (Cas key flags exptime block unique quiet) = None
+retrieval_in (Get keys with_unique) = Some (None, keys, with_unique)
+retrieval_in (GetTouch exptime keys with_unique) = Some (Some exptime, keys, with_unique)
+retrieval_in (Touch key exptime quiet) = None
+retrieval_in (Delete key quiet) = None
+retrieval_in (Count key up by quiet) = None
+retrieval_in (FlushAll delay quiet) = None
+retrieval_in (LoneCommand lone) = None
 
 -- the step that a retrieval takes of a key: where it has an exptime it sets the item's expiry too
 abbrev pub read_step : Option ℤ → (key : List ℕ) → KeyStep

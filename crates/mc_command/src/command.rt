@@ -6,52 +6,53 @@ use crate::keys::Keys;
 use crate::lone::Lone;
 use crate::step::{KeyStep, Verb};
 
-/// A command whose keys and block lie in the input. A quiet one ended in `noreply`.
-#[derive(Drop)]
-pub enum Command<'a> {
+/// A command, over how its key, the keys of a retrieval and its block are kept. A quiet one ended in
+/// `noreply`.
+#[derive(Clone, Copy, Drop)]
+pub enum CommandOf<K, L, B> {
     /// set, add, replace, append, prepend
     Store {
         verb: Verb,
-        key: Bytes<'a>,
+        key: K,
         flags: u32,
         exptime: i64,
-        block: Bytes<'a>,
+        block: B,
         quiet: bool,
     },
     /// cas
     Cas {
-        key: Bytes<'a>,
+        key: K,
         flags: u32,
         exptime: i64,
-        block: Bytes<'a>,
+        block: B,
         unique: u64,
         quiet: bool,
     },
     /// get, gets
     Get {
-        keys: Keys<'a>,
+        keys: L,
         with_unique: bool,
     },
     /// gat, gats
     GetTouch {
         exptime: i64,
-        keys: Keys<'a>,
+        keys: L,
         with_unique: bool,
     },
     /// touch
     Touch {
-        key: Bytes<'a>,
+        key: K,
         exptime: i64,
         quiet: bool,
     },
     /// delete
     Delete {
-        key: Bytes<'a>,
+        key: K,
         quiet: bool,
     },
     /// incr, decr
     Count {
-        key: Bytes<'a>,
+        key: K,
         up: bool,
         by: u64,
         quiet: bool,
@@ -64,6 +65,9 @@ pub enum Command<'a> {
     /// version, quit
     Lone(Lone),
 }
+
+/// A command whose keys and block lie in the input.
+pub type Command<'a> = CommandOf<Bytes<'a>, Keys<'a>, Bytes<'a>>;
 
 /// Counts the steps of a command: one a key for a retrieval, none for one that is its name alone,
 /// one for every other.

@@ -17,7 +17,7 @@ mod words;
 
 pub use block::Block;
 pub use bytes::Bytes;
-pub use command::{Command, is_quiet, step_at, steps_of};
+pub use command::{Command, CommandOf, is_quiet, step_at, steps_of};
 pub use fault::LineFault;
 pub use keys::Keys;
 pub use laws::{

@@ -3,21 +3,19 @@ use Rattle.std.proofs.Common.{◌≡◌, ℕ, inl, inr, List, ◌++◌, length, 
 use Rattle.std.proofs.lemmas.Bool.{cases_lt}
 use Rattle.std.proofs.lemmas.List.{take-take, take-append-le, take-append-drop}
 use Rattle.mc_parse.specs.declared.ahead.Ahead.{Ahead}
-use Rattle.mc_parse.specs.declared.ahead.Ahead.TheVariants.{Searched, Retrieval, Line}
+use Rattle.mc_parse.specs.declared.ahead.Ahead.TheVariants.{Searched, Line}
 use Rattle.mc_parse.specs.Units.{ProtocolUnit, LongLine}
 use Rattle.mc_parse.specs.Peeks.{IsSpelled, left_of}
 use Rattle.mc_parse.specs.Aheads.{Knew, Knows}
 use Rattle.mc_parse.proofs.UnitLemmas.{NoFeed, found_only}
 use Rattle.mc_parse.proofs.SearchLemmas.{no_feed_take, long_found, none_yet_found}
 use Rattle.mc_parse.proofs.NoteLemmas.{noted_more}
-use Rattle.mc_parse.proofs.CursorLemmas.{points_more}
 
 -- it still holds when more come
 pub knew_more : (greatest : ℕ) (ahead : Ahead) (bytes more : List ℕ) → Knows greatest ahead bytes → Knew greatest ahead (bytes ++ more)
 knew_more greatest (Searched n) bytes more is =
     let here : NoFeed (take n bytes) = subst NoFeed (take-take n 65537 bytes is.2) (no_feed_take n (take 65537 bytes) is.0) in
     subst NoFeed (sym (take-append-le n bytes more is.1)) here
-knew_more greatest (Retrieval cursor) bytes more is = (points_more greatest cursor bytes more is.0, is.1)
 knew_more greatest (Line note) bytes more is = noted_more greatest note bytes more is
 
 abbrev first_or : ProtocolUnit → Option (ProtocolUnit × ℕ) → ProtocolUnit

@@ -1,5 +1,5 @@
 -- Bytes begin with a unit, or no front of them spells anything.
-use Rattle.std.proofs.Common.{◌≡◌, ◌<◌, ◌≤◌, ◌+◌, ℕ, true, false, ◌⊎◌, inl, inr, List, [], ◌∷◌, ◌++◌, length, take, drop, refl, sym, ap, ◌∙◌, subst, arith, Result, Ok, Err, length-append, length-drop, if◌then◌else◌}
+use Rattle.std.proofs.Common.{◌≡◌, ◌<◌, ◌≤◌, ◌+◌, ℕ, true, false, ◌⊎◌, inl, inr, List, [], ◌∷◌, ◌++◌, length, take, drop, refl, sym, ap, ◌∙◌, subst, arith, Result, Ok, Err, Option, Some, None, length-append, length-drop, if◌then◌else◌}
 use Rattle.std.proofs.Math.Seq.{take-append_seam, take-append-add}
 use Rattle.std.proofs.lemmas.Bool.{cases_eq, cases_lt}
 use Rattle.std.proofs.lemmas.List.{take_all, take-append-drop, length-take, length-take-le, append_assoc}
@@ -8,11 +8,9 @@ use Rattle.std.specs.Str.Lines.{strip_carriage_return}
 use Rattle.mc_command.specs.Words.{words}
 use Rattle.mc_command.specs.declared.fault.LineFault.{LineFault}
 use Rattle.mc_command.specs.declared.fault.LineFault.TheVariants.{BadChunk}
-use Rattle.mc_parse.specs.declared.line.Line.{Line}
-use Rattle.mc_parse.specs.declared.line.Line.TheVariants.{Bare, Block}
-use Rattle.mc_parse.specs.declared.line.Head.{Head}
-use Rattle.mc_parse.specs.Lines.{meaning}
-use Rattle.mc_parse.specs.Units.{ProtocolUnit, Request, Fault, LongLine, IsLine, Completes, with_block, stored, SpellsLine, Spells}
+use Rattle.mc_command.specs.Commands.{block_in}
+use Rattle.mc_parse.specs.Lines.{Line, meaning}
+use Rattle.mc_parse.specs.Units.{ProtocolUnit, Request, Fault, LongLine, IsLine, CompletesBy, Completes, with_block, stored, SpellsLine, Spells}
 use Rattle.mc_parse.specs.Peeks.{BeginsWithNone, IsSpelled}
 use Rattle.mc_parse.proofs.UnitLemmas.{NoFeed, none_in, none_line, spells_bare, spells_block}
 
@@ -46,7 +44,7 @@ line_here bytes text after parts none short =
     record { ended = line ∙ ap (λ s. s ++ 10 ∷ []) (sym front); one_line = subst NoFeed (sym front) none; short = omega (arith, ap length front) }
 
 -- what a line and a block complete is spelled by them
-stored_spelled : (greatest : ℕ) (head : Head) (block ended front : List ℕ) → SpellsLine greatest (stored head block ended) front → Spells greatest (stored head block ended) front
+stored_spelled : (greatest : ℕ) (head : Line) (block ended front : List ℕ) → SpellsLine greatest (stored head block ended) front → Spells greatest (stored head block ended) front
 stored_spelled greatest head block ended front =
     elim (bytes_eq ended (13 ∷ 10 ∷ [])) as (λ b. SpellsLine greatest (if b then Request (with_block head block) else Fault BadChunk) front → Spells greatest (if b then Request (with_block head block) else Fault BadChunk) front) [
       | true ↦ λ h. h
@@ -59,23 +57,28 @@ module _ (greatest : ℕ) (bytes : List ℕ) (end : ℕ) (inside : end < length 
   said = meaning greatest (words (strip_carriage_return (take end bytes)))
 
   -- so many bytes are behind the line, and a block and its end have so many
-  begins_block : (head : Head) (len : ℕ) → said ≡ Ok (Block head len) → (length (drop (end + 1) bytes) < len + 2) ⊎ (len + 2 ≤ length (drop (end + 1) bytes)) → Begins greatest bytes
-  begins_block head len is (inl few) = inl (none_line greatest bytes end line head len is few)
-  begins_block head len is (inr enough) =
+  begins_block : (head : Line) (len : ℕ) → said ≡ Ok head → block_in head ≡ Some len → (length (drop (end + 1) bytes) < len + 2) ⊎ (len + 2 ≤ length (drop (end + 1) bytes)) → Begins greatest bytes
+  begins_block head len is its (inl few) = inl (none_line greatest bytes end line head len is its few)
+  begins_block head len is its (inr enough) =
       let rest = drop (end + 1) bytes in
       inr (
         stored head (take len rest) (take 2 (drop len rest)),
         end + 1 + (len + 2),
         record {
           within = omega (arith, length-drop (end + 1) bytes);
-          spelled = stored_spelled greatest head (take len rest) (take 2 (drop len rest)) (take (end + 1 + (len + 2)) bytes) (spells_block greatest bytes end line head len rest (take len rest) (take 2 (drop len rest)) _ is refl enough refl refl refl);
+          spelled = stored_spelled greatest head (take len rest) (take 2 (drop len rest)) (take (end + 1 + (len + 2)) bytes) (spells_block greatest bytes end line head len rest (take len rest) (take 2 (drop len rest)) _ is its refl enough refl refl refl);
         },
       )
 
+  begins_by : (head : Line) (its : Option ℕ) → said ≡ Ok head → block_in head ≡ its → Begins greatest bytes
+  begins_by head None is its =
+      let whole : CompletesBy (block_in head) head [] (Request (with_block head [])) = subst (λ n. CompletesBy n head [] (Request (with_block head []))) (sym its) (refl, refl) in
+      inr (Request (with_block head []), end + 1, record { within = omega arith; spelled = spells_bare greatest bytes end line (Request (with_block head [])) (subst (λ m. Completes m [] (Request (with_block head []))) (sym is) whole) })
+  begins_by head (Some len) is its = begins_block head len is its (cases_lt (length (drop (end + 1) bytes)) (len + 2))
+
   begins_said : (m : Result Line LineFault) → said ≡ m → Begins greatest bytes
   begins_said (Err fault) is = inr (Fault fault, end + 1, record { within = omega arith; spelled = spells_bare greatest bytes end line (Fault fault) (subst (λ m. Completes m [] (Fault fault)) (sym is) (refl, refl)) })
-  begins_said (Ok (Bare command)) is = inr (Request command, end + 1, record { within = omega arith; spelled = spells_bare greatest bytes end line (Request command) (subst (λ m. Completes m [] (Request command)) (sym is) (refl, refl)) })
-  begins_said (Ok (Block head len)) is = begins_block head len is (cases_lt (length (drop (end + 1) bytes)) (len + 2))
+  begins_said (Ok head) is = begins_by head (block_in head) is refl
 
   begins_line : Begins greatest bytes
   begins_line = begins_said said refl

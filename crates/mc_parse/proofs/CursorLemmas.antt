@@ -6,19 +6,11 @@ use Rattle.std.specs.Str.Lines.{strip_carriage_return}
 use Rattle.std.specs.List.{slice_index}
 use Rattle.mc_command.specs.Words.{words}
 use Rattle.mc_command.specs.Commands.{Shape, Single, Retrieval, Alone, shape, retrieval, after_by, after_steps, retrieval-shape}
-use Rattle.mc_command.specs.declared.command.Command.{Command}
-use Rattle.mc_command.specs.declared.fault.LineFault.{LineFault}
-use Rattle.mc_parse.specs.declared.line.Line.{Line}
-use Rattle.mc_parse.specs.declared.line.Line.TheVariants.{Bare, Block}
-use Rattle.mc_parse.specs.declared.line.Head.{Head}
-use Rattle.mc_parse.specs.declared.line.Head.TheVariants.{Store, Cas}
+use Rattle.mc_command.specs.Commands.{Command}
 use Rattle.mc_parse.specs.declared.cursor.Cursor.{Cursor}
-use Rattle.mc_parse.specs.Lines.{meaning}
-use Rattle.mc_parse.specs.Units.{ProtocolUnit, Request, Fault, LongLine, Completes, with_block, SpellsLine}
-use Rattle.mc_parse.specs.Peeks.{IsSpelled, left_of}
-use Rattle.mc_parse.specs.Cursors.{words_before, text_left, IsWithin, PointsInto}
-use Rattle.mc_parse.proofs.KeyLemmas.{stored_is}
-use Rattle.mc_parse.proofs.RetrievalLemmas.{keys_behind}
+use Rattle.mc_parse.specs.Units.{ProtocolUnit, Request, Fault, LongLine}
+use Rattle.mc_parse.specs.Peeks.{left_of}
+use Rattle.mc_parse.specs.Cursors.{text_left, IsWithin, PointsInto}
 
 -- turns after turns
 more_by : (its : Shape) (command : Command) (taken more : ℕ) → shape command ≡ its → after_steps (after_by its command taken) more ≡ after_by its command (taken + more)
@@ -43,7 +35,7 @@ retrieval_more None keys with_unique more = refl
 retrieval_more (Some exptime) keys with_unique more = refl
 
 -- none of them
-retrieval_whole : (exptime : Option ℤ) (keys : List (List ℕ)) (with_unique : Bool) → after_steps (retrieval exptime keys with_unique) 0 ≡ retrieval exptime keys with_unique
+pub retrieval_whole : (exptime : Option ℤ) (keys : List (List ℕ)) (with_unique : Bool) → after_steps (retrieval exptime keys with_unique) 0 ≡ retrieval exptime keys with_unique
 retrieval_whole None keys with_unique = refl
 retrieval_whole (Some exptime) keys with_unique = refl
 
@@ -77,23 +69,6 @@ module _ (cursor : Cursor) (bytes text : List ℕ) (n left : ℕ) (is_text : tex
     };
   }
 
--- no block completes a retrieval
-no_block : (head : Head) (block : List ℕ) (exptime : Option ℤ) (keys : List (List ℕ)) (with_unique : Bool) → retrieval exptime keys with_unique ≡ with_block head block → ⊥
-no_block (Store verb key flags e quiet) block None keys with_unique is = cc
-no_block (Store verb key flags e quiet) block (Some exptime) keys with_unique is = cc
-no_block (Cas key flags e unique quiet) block None keys with_unique is = cc
-no_block (Cas key flags e unique quiet) block (Some exptime) keys with_unique is = cc
-
--- so its line is all of it
-bare_retrieval : (m : Result Line LineFault) (rest : List ℕ) (exptime : Option ℤ) (keys : List (List ℕ)) (with_unique : Bool) → Completes m rest (Request (retrieval exptime keys with_unique)) → (rest ≡ []) × (m ≡ Ok (Bare (retrieval exptime keys with_unique)))
-bare_retrieval (Err fault) rest exptime keys with_unique h = let e = h.1 in absurd (cc)
-bare_retrieval (Ok (Bare command)) rest exptime keys with_unique h =
-    let e = h.1 in
-    let same : command ≡ retrieval exptime keys with_unique = cc in
-    (h.0, ap (λ k. Ok (Bare k)) same)
-bare_retrieval (Ok (Block head len)) rest exptime keys with_unique h =
-    absurd (no_block head h.0 exptime keys with_unique (stored_is head h.0 h.1 (retrieval exptime keys with_unique) h.5))
-
 -- a text without its carriage return is a front of it
 pub stripped_is : (text : List ℕ) → take (length (strip_carriage_return text)) text ≡ strip_carriage_return text
 stripped_is text =
@@ -101,50 +76,6 @@ stripped_is text =
       | true ↦ ap (λ n. take n text) (length-take-le (length text - 1) text (omega arith))
       | false ↦ take_all (length text) text (omega arith)
     ]
-
--- before the first turn of the retrieval that so many bytes spell
-module _ (greatest : ℕ) (bytes : List ℕ) (len : ℕ) (exptime : Option ℤ) (keys : List (List ℕ)) (with_unique : Bool) (h : IsSpelled greatest (Request (retrieval exptime keys with_unique), len) bytes) where
-  spelled : SpellsLine greatest (Request (retrieval exptime keys with_unique)) (take len bytes)
-  spelled = h.spelled
-
-  bare : (spelled.rest ≡ []) × (meaning greatest (words (strip_carriage_return spelled.text)) ≡ Ok (Bare (retrieval exptime keys with_unique)))
-  bare = bare_retrieval _ spelled.rest exptime keys with_unique spelled.completes
-
-  whole : take len bytes ≡ spelled.text ++ 10 ∷ []
-  whole = spelled.parts ∙ ap (λ r. spelled.line ++ r) bare.0 ∙ append-nil spelled.line ∙ spelled.is_line.ended
-
-  lengths : len ≡ length spelled.text + 1
-  lengths = sym (length-take-le len bytes h.within) ∙ ap length whole ∙ length-append spelled.text (10 ∷ [])
-
-  text_is : take (len - 1) bytes ≡ spelled.text
-  text_is =
-      let short : len - 1 ≡ length spelled.text = omega (arith, lengths) in
-      sym (take-take (len - 1) len bytes (omega arith)) ∙ ap (take (len - 1)) whole ∙ ap (λ n. take n (spelled.text ++ 10 ∷ [])) short ∙ take-append_seam spelled.text (10 ∷ [])
-
-  module _ (line text : List ℕ) (from to left : ℕ) (is_line : line ≡ take (len - 1) bytes) (is_text : text ≡ strip_carriage_return line) (inside : from ≤ length text) (behind : words (drop from text) ≡ drop (words_before exptime) (words text)) (all : to ≡ length text) (count : left ≡ length keys) where
-    short : to ≤ len - 1
-    short =
-        omega (arith, all, ap length is_text, ap length (stripped_is line), length-take (length (strip_carriage_return line)) line, ap length is_line, length-take-le (len - 1) bytes (omega (arith, h.within)))
-
-    front_is : take to bytes ≡ text
-    front_is =
-        sym (take-take to (len - 1) bytes short) ∙ ap (take to) (sym is_line) ∙ ap (λ n. take n line) (all ∙ ap length is_text) ∙ stripped_is line ∙ sym is_text
-
-    keys_left : words (drop from (take to bytes)) ≡ keys
-    keys_left =
-        ap (λ t. words (drop from t)) front_is ∙ behind
-        ∙ ap (λ t. drop (words_before exptime) (words t)) (is_text ∙ ap strip_carriage_return (is_line ∙ text_is))
-        ∙ keys_behind greatest (words (strip_carriage_return spelled.text)) exptime keys with_unique bare.1
-
-    pub points_first : PointsInto greatest (record { taken = 0; from = from; to = to; left = left; len = len; with_unique = with_unique; exptime = exptime }) bytes
-    points_first = record {
-      within = record { ordered = omega arith; inside = omega (arith, short, h.within); counted = count ∙ ap length (sym keys_left) };
-      left = record {
-        unit = Request (retrieval exptime keys with_unique);
-        spelled = h;
-        left = ap Request (ap (λ ws. retrieval exptime ws with_unique) keys_left ∙ sym (retrieval_whole exptime keys with_unique));
-      };
-    }
 
 -- it stays when more come
 pub points_more : (greatest : ℕ) (cursor : Cursor) (bytes more : List ℕ) → PointsInto greatest cursor bytes → PointsInto greatest cursor (bytes ++ more)

@@ -1,5 +1,5 @@
 -- No key of a command that is spelled is longer than 250 bytes.
-use Rattle.std.proofs.Common.{◌≡◌, ◌≤◌, ℕ, true, false, List, length, map, refl, sym, subst, Result, Ok, Err, if◌then◌else◌, Option, Some, IfSome}
+use Rattle.std.proofs.Common.{◌≡◌, ◌≤◌, ℕ, true, false, List, length, map, refl, sym, subst, Result, Ok, Err, if◌then◌else◌, Option, Some, None, IfSome}
 use Rattle.std.specs.List.{All}
 use Rattle.std.specs.Str.{bytes_eq}
 use Rattle.std.proofs.Common.{◌∷◌, []}
@@ -7,41 +7,43 @@ use Rattle.std.specs.Str.Lines.{strip_carriage_return}
 use Rattle.std.proofs.lemmas.List.{drop-map}
 use Rattle.std.proofs.lemmas.List.Elements.{All-drop}
 use Rattle.mc_command.specs.Words.{words}
-use Rattle.mc_command.specs.Commands.{Shape, Single, Retrieval, Alone, shape, shape_left, steps_by, read_step, HasShortKeys, after_steps, after_steps-shape, key_of}
-use Rattle.mc_command.specs.declared.command.Command.{Command}
+use Rattle.mc_command.specs.Commands.{Shape, Single, Retrieval, Alone, shape, shape_left, block_in, steps_by, read_step, HasShortKeys, after_steps, after_steps-shape, key_of}
+use Rattle.mc_command.specs.Commands.{Command}
 use Rattle.mc_command.specs.declared.step.KeyStep.{KeyStep}
 use Rattle.mc_command.specs.declared.fault.LineFault.{LineFault}
 use Rattle.mc_command.specs.declared.fault.LineFault.TheVariants.{BadChunk}
-use Rattle.mc_parse.specs.declared.line.Line.{Line}
-use Rattle.mc_parse.specs.declared.line.Line.TheVariants.{Bare, Block}
-use Rattle.mc_parse.specs.declared.line.Head.{Head}
-use Rattle.mc_parse.specs.Lines.{meaning}
-use Rattle.mc_parse.specs.Units.{ProtocolUnit, Request, Fault, LongLine, Completes, with_block, stored}
+use Rattle.mc_parse.specs.Lines.{Line, meaning}
+use Rattle.mc_parse.specs.Units.{ProtocolUnit, Request, Fault, LongLine, CompletesBy, Completes, with_block, stored}
 use Rattle.mc_parse.specs.Peeks.{IsSpelled, IsLeft, left_of}
-use Rattle.mc_parse.proofs.LineLemmas.{short_keys, short_block_keys}
+use Rattle.mc_parse.proofs.LineLemmas.{short_keys}
 
 -- where a block completes a command it is this one
-pub stored_is : (head : Head) (block ended : List ℕ) (command : Command) → Request command ≡ stored head block ended → command ≡ with_block head block
-stored_is head block ended command =
-    elim (bytes_eq ended (13 ∷ 10 ∷ [])) as (λ b. Request command ≡ (if b then Request (with_block head block) else Fault BadChunk) → command ≡ with_block head block) [
+stored_is : (line : Line) (block ended : List ℕ) (command : Command) → Request command ≡ stored line block ended → command ≡ with_block line block
+stored_is line block ended command =
+    elim (bytes_eq ended (13 ∷ 10 ∷ [])) as (λ b. Request command ≡ (if b then Request (with_block line block) else Fault BadChunk) → command ≡ with_block line block) [
       | true ↦ λ e. cc
       | false ↦ λ e. absurd (cc)
     ]
 
-completed_keys : (greatest : ℕ) (ws : List (List ℕ)) (m : Result Line LineFault) → meaning greatest ws ≡ m → (rest : List ℕ) (command : Command) → Completes m rest (Request command) → HasShortKeys command
-completed_keys greatest ws (Err fault) is rest command h = let e = h.1 in absurd (cc)
-completed_keys greatest ws (Ok (Bare found)) is rest command h =
-    let e = h.1 in
-    let same : found ≡ command = cc in
-    subst HasShortKeys same (short_keys greatest ws found is)
-completed_keys greatest ws (Ok (Block head len)) is rest command h =
-    subst HasShortKeys (sym (stored_is head h.0 h.1 command h.5)) (short_block_keys greatest ws head len h.0 is)
+line_is : (its : Option ℕ) (line : Line) (rest : List ℕ) (command : Command) → CompletesBy its line rest (Request command) → (block : List ℕ) × (command ≡ with_block line block)
+line_is None line rest command h = let e = h.1 in ([], cc)
+line_is (Some len) line rest command h = (h.0, stored_is line h.0 h.1 command h.5)
+
+-- a command that is completed is that of the line, with its block
+pub command_is : (m : Result Line LineFault) (rest : List ℕ) (command : Command) → Completes m rest (Request command) → (line : Line) × (m ≡ Ok line) × (block : List ℕ) × (command ≡ with_block line block)
+command_is (Err fault) rest command h = let e = h.1 in absurd (cc)
+command_is (Ok line) rest command h = let its = line_is (block_in line) line rest command h in (line, refl, its.0, its.1)
+
+completed_keys : (greatest : ℕ) (ws : List (List ℕ)) (rest : List ℕ) (command : Command) → Completes (meaning greatest ws) rest (Request command) → HasShortKeys command
+completed_keys greatest ws rest command h =
+    let is = command_is (meaning greatest ws) rest command h in
+    subst HasShortKeys (sym is.3) (short_keys greatest ws is.0 is.2 is.1)
 
 -- the keys of a command that a front spells are short
 pub spelled_keys : (greatest : ℕ) (command : Command) (len : ℕ) (bytes : List ℕ) → IsSpelled greatest (Request command, len) bytes → HasShortKeys command
 spelled_keys greatest command len bytes h =
     let line = h.spelled in
-    completed_keys greatest (words (strip_carriage_return line.text)) _ refl line.rest command line.completes
+    completed_keys greatest (words (strip_carriage_return line.text)) line.rest command line.completes
 
 abbrev IsShortStep : KeyStep → Type 0
 IsShortStep step = length (key_of step) ≤ 250

@@ -8,7 +8,6 @@ pub mod AheadLemmas
 pub mod BeginLemmas
 pub mod StreamLemmas
 pub mod KeyLemmas
-pub mod RetrievalLemmas
 pub mod CursorLemmas
 pub mod FeedLemmas
 pub mod FoundLemmas

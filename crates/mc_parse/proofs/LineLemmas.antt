@@ -1,4 +1,4 @@
--- The keys of a command that a line spells are keys, and its block is short.
+-- The keys of a command that a line spells are keys.
 use Rattle.std.proofs.Common.{◌≡◌, ◌≢◌, ◌≤◌, ℕ, Bool, true, false, cond, ◌&&◌, List, [], ◌∷◌, Result, Ok, Err, Some, None, length, arith, leb, ◌+◌, ◌-◌, ◌^◌, refl}
 use Rattle.std.specs.Prelude.{codes}
 use Rattle.std.specs.Result.{IfOk}
@@ -15,18 +15,14 @@ use Rattle.mc_command.specs.declared.step.KeyStep.{KeyStep}
 use Rattle.mc_command.specs.declared.step.KeyStep.TheVariants.{Store as StoreStep, Cas as CasStep, Read as ReadStep, ReadTouch as ReadTouchStep, Touch as TouchStep, Delete as DeleteStep, Count as CountStep, Flush as FlushStep}
 use Rattle.mc_command.specs.declared.lone.Lone.{Lone}
 use Rattle.mc_command.specs.declared.step.Verb.{Verb}
-use Rattle.mc_command.specs.declared.command.Command.{Command}
-use Rattle.mc_command.specs.declared.command.Command.TheVariants.{FlushAll}
+use Rattle.mc_command.specs.Commands.{Command}
+use Rattle.mc_command.specs.declared.command.CommandOf.TheVariants.{FlushAll}
 use Rattle.mc_command.specs.declared.fault.LineFault.{LineFault}
 use Rattle.mc_command.specs.declared.fault.LineFault.TheVariants.{Unknown, BadFormat, BadDelta, TooLarge}
-use Rattle.mc_parse.specs.declared.line.Line.{Line}
-use Rattle.mc_parse.specs.declared.line.Line.TheVariants.{Bare, Block}
-use Rattle.mc_parse.specs.declared.line.Head.{Head}
-use Rattle.mc_parse.specs.declared.line.Head.TheVariants.{Store, Cas}
 use Rattle.mc_parse.specs.declared.name.Name.{Name}
 use Rattle.mc_parse.specs.declared.name.Name.TheVariants.{Store as StoreName, Cas as CasName, Get as GetName, GetTouch as GetTouchName, Touch as TouchName, Delete as DeleteName, Count as CountName, FlushAll as FlushName, Lone as LoneName}
 use Rattle.mc_parse.specs.Exptimes.{exptime_of, delay_of}
-use Rattle.mc_parse.specs.Lines.{◌>>=◌, formed, is_key, key_formed, keys_formed, ending, delete_ending, delayed, fitting, name_of, store_line, cas_line, get_line, get_touch_line, touch_line, delete_line, count_line, flush_line, lone_line, named_line, meaning, IsWord, IsKey, IsKeyed, HasKeys}
+use Rattle.mc_parse.specs.Lines.{Line, ◌>>=◌, formed, is_key, key_formed, keys_formed, ending, delete_ending, delayed, fitting, name_of, store_line, cas_line, get_line, get_touch_line, touch_line, delete_line, count_line, flush_line, lone_line, named_line, meaning, IsWord, IsKey, IsKeyed, HasKeys}
 use Rattle.mc_parse.specs.Units.{with_block}
 use Rattle.mc_parse.proofs.LineWords.{words_are_words}
 
@@ -57,22 +53,15 @@ chosen P false x y when_true when_false = when_false refl
 is_key-short : (word : List ℕ) → is_key word ≡ true → length word ≤ 250
 is_key-short word h = leb-true (length word) 250 (both_true (is_nonempty word) (leb (length word) 250) h)
 
--- a number is at most its limit
-number-within : (limit : ℕ) (word : List ℕ) → IfOk (formed BadFormat (number_up_to limit word)) (λ n. n ≤ limit)
-number-within limit word =
-    chosen (λ o. IfOk (formed BadFormat o) (λ n. n ≤ limit)) (is_numeral word && leb (digits_value 10 word) limit) (Some (digits_value 10 word)) None
-    (λ h. leb-true (digits_value 10 word) limit (both_true (is_numeral word) (leb (digits_value 10 word) limit) h)) (λ _. tt)
-
 -- What holds of each word that passes as a key holds of each key of what the line says.
 module _ (P : List ℕ → Type 0) where
   -- it holds of each of these words that passes as a key
   abbrev pub Holds : List (List ℕ) → Type 0
   Holds ws = AllByRecursion (λ w. is_key w ≡ true → P w) ws
 
-  -- it holds of the keys of the line's command, whatever its block, and the block is short
+  -- it holds of the keys of the line's command, whatever its block
   abbrev pub IsLineOf : Line → Type 0
-  IsLineOf (Bare command) = HasKeys P command
-  IsLineOf (Block head len) = ((block : List ℕ) → HasKeys P (with_block head block)) × (len ≤ 2147483645)
+  IsLineOf line = (block : List ℕ) → HasKeys P (with_block line block)
 
   key-of : (word : List ℕ) → (is_key word ≡ true → P word) → IfOk (key_formed word) P
   key-of word held = chosen (λ r. IfOk r P) (is_key word) (Ok word) (Err BadFormat) held (λ _. tt)
@@ -90,10 +79,6 @@ module _ (P : List ℕ → Type 0) where
   single : (step : KeyStep) → IsKeyed P step → All (IsKeyed P) (step ∷ [])
   single step held = All-cons (IsKeyed P) step [] held (All-nil (IsKeyed P))
 
-  fitting-of : (greatest : ℕ) (key : List ℕ) (len : ℕ) (head : Head) → ((block : List ℕ) → HasKeys P (with_block head block)) → len ≤ 2147483645 → IfOk (fitting greatest key len head) IsLineOf
-  fitting-of greatest key len head keys short =
-      chosen (λ r. IfOk r IsLineOf) (leb (48 + length key + len) greatest) (Ok (Block head len)) (Err (TooLarge (len + 2))) (λ _. (keys, short)) (λ _. tt)
-
   store_line-of : (greatest : ℕ) (verb : Verb) (args : List (List ℕ)) → Holds args → IfOk (store_line greatest verb args) IsLineOf
   store_line-of greatest verb [] held = tt
   store_line-of greatest verb (key ∷ []) held = tt
@@ -104,8 +89,8 @@ module _ (P : List ℕ → Type 0) where
       next P IsLineOf (key_formed key) _ (key-of key held.0) (λ k keyed.
       after IsLineOf (formed BadFormat (number_up_to (2 ^ 32 - 1) flags)) _ (λ f.
       after IsLineOf (formed BadFormat (exptime_of exptime)) _ (λ e.
-      next (λ n. n ≤ 2147483645) IsLineOf (formed BadFormat (number_up_to 2147483645 bytes)) _ (number-within 2147483645 bytes) (λ n within.
-      fitting-of greatest k n (Store verb k f e quiet) (λ block. single (StoreStep verb k f e block) keyed) within)))))
+      after IsLineOf (formed BadFormat (number_up_to 2147483645 bytes)) _ (λ n.
+      after IsLineOf (fitting greatest k n) _ (λ len block. single (StoreStep verb k f e block) keyed))))))
 
   cas_line-of : (greatest : ℕ) (args : List (List ℕ)) → Holds args → IfOk (cas_line greatest args) IsLineOf
   cas_line-of greatest [] held = tt
@@ -118,18 +103,18 @@ module _ (P : List ℕ → Type 0) where
       next P IsLineOf (key_formed key) _ (key-of key held.0) (λ k keyed.
       after IsLineOf (formed BadFormat (number_up_to (2 ^ 32 - 1) flags)) _ (λ f.
       after IsLineOf (formed BadFormat (exptime_of exptime)) _ (λ e.
-      next (λ n. n ≤ 2147483645) IsLineOf (formed BadFormat (number_up_to 2147483645 bytes)) _ (number-within 2147483645 bytes) (λ n within.
+      after IsLineOf (formed BadFormat (number_up_to 2147483645 bytes)) _ (λ n.
       after IsLineOf (formed BadFormat (number_up_to (2 ^ 64 - 1) unique)) _ (λ u.
-      fitting-of greatest k n (Cas k f e u quiet) (λ block. single (CasStep k f e block u) keyed) within))))))
+      after IsLineOf (fitting greatest k n) _ (λ len block. single (CasStep k f e block u) keyed)))))))
 
   get_line-of : (with_unique : Bool) (args : List (List ℕ)) → Holds args → IfOk (get_line with_unique args) IsLineOf
-  get_line-of with_unique args held = next (All P) IsLineOf (keys_formed args) _ (keys-of args held) (λ keys keyed. All-map (IsKeyed P) ReadStep keys keyed)
+  get_line-of with_unique args held = next (All P) IsLineOf (keys_formed args) _ (keys-of args held) (λ keys keyed block. All-map (IsKeyed P) ReadStep keys keyed)
 
   get_touch_line-of : (with_unique : Bool) (args : List (List ℕ)) → Holds args → IfOk (get_touch_line with_unique args) IsLineOf
   get_touch_line-of with_unique [] held = tt
   get_touch_line-of with_unique (exptime ∷ args) held =
       next (All P) IsLineOf (keys_formed args) _ (keys-of args held.1) (λ keys keyed.
-      after IsLineOf (formed BadFormat (exptime_of exptime)) _ (λ e.
+      after IsLineOf (formed BadFormat (exptime_of exptime)) _ (λ e block.
       All-map (IsKeyed P) (λ key. ReadTouchStep key e) keys keyed))
 
   touch_line-of : (args : List (List ℕ)) → Holds args → IfOk (touch_line args) IsLineOf
@@ -138,14 +123,14 @@ module _ (P : List ℕ → Type 0) where
   touch_line-of (key ∷ exptime ∷ rest) held =
       after IsLineOf (ending rest) _ (λ quiet.
       next P IsLineOf (key_formed key) _ (key-of key held.0) (λ k keyed.
-      after IsLineOf (formed BadFormat (exptime_of exptime)) _ (λ e.
+      after IsLineOf (formed BadFormat (exptime_of exptime)) _ (λ e block.
       single (TouchStep k e) keyed)))
 
   delete_line-of : (args : List (List ℕ)) → Holds args → IfOk (delete_line args) IsLineOf
   delete_line-of [] held = tt
   delete_line-of (key ∷ rest) held =
       after IsLineOf (delete_ending rest) _ (λ quiet.
-      next P IsLineOf (key_formed key) _ (key-of key held.0) (λ k keyed.
+      next P IsLineOf (key_formed key) _ (key-of key held.0) (λ k keyed block.
       single (DeleteStep k) keyed))
 
   count_line-of : (up : Bool) (args : List (List ℕ)) → Holds args → IfOk (count_line up args) IsLineOf
@@ -154,12 +139,12 @@ module _ (P : List ℕ → Type 0) where
   count_line-of up (key ∷ value ∷ rest) held =
       after IsLineOf (ending rest) _ (λ quiet.
       next P IsLineOf (key_formed key) _ (key-of key held.0) (λ k keyed.
-      after IsLineOf (formed BadDelta (number_up_to (2 ^ 64 - 1) value)) _ (λ by.
+      after IsLineOf (formed BadDelta (number_up_to (2 ^ 64 - 1) value)) _ (λ by block.
       single (CountStep k up by) keyed)))
 
   -- a flush has no key
-  flush-of : (delay : ℕ) (quiet : Bool) → IsLineOf (Bare (FlushAll delay quiet))
-  flush-of delay quiet = single (FlushStep delay) tt
+  flush-of : (delay : ℕ) (quiet : Bool) → IsLineOf (FlushAll delay quiet)
+  flush-of delay quiet block = single (FlushStep delay) tt
 
   delayed-of : (word : List ℕ) (quiet : Bool) → IfOk (delayed word quiet) IsLineOf
   delayed-of word quiet = after IsLineOf (formed BadFormat (delay_of word)) _ (λ delay. flush-of delay quiet)
@@ -167,11 +152,11 @@ module _ (P : List ℕ → Type 0) where
   flush_line-of : (args : List (List ℕ)) → IfOk (flush_line args) IsLineOf
   flush_line-of [] = flush-of 0 false
   flush_line-of (word ∷ []) =
-      chosen (λ r. IfOk r IsLineOf) (bytes_eq word (codes "noreply")) (Ok (Bare (FlushAll 0 true))) (delayed word false) (λ _. flush-of 0 true) (λ _. delayed-of word false)
+      chosen (λ r. IfOk r IsLineOf) (bytes_eq word (codes "noreply")) (Ok (FlushAll 0 true)) (delayed word false) (λ _. flush-of 0 true) (λ _. delayed-of word false)
   flush_line-of (delay ∷ word ∷ rest) = after IsLineOf (ending (word ∷ rest)) _ (λ quiet. delayed-of delay quiet)
 
   lone_line-of : (lone : Lone) (args : List (List ℕ)) → IfOk (lone_line lone args) IsLineOf
-  lone_line-of lone [] = All-nil (IsKeyed P)
+  lone_line-of lone [] = λ block. All-nil (IsKeyed P)
   lone_line-of lone (word ∷ args) = tt
 
   named_line-of : (greatest : ℕ) (name : Name) (args : List (List ℕ)) → Holds args → IfOk (named_line greatest name args) IsLineOf
@@ -212,14 +197,9 @@ key_of-short (FlushStep delay) short = omega arith
 HasShortKeys-from : (command : Command) → HasKeys IsShort command → HasShortKeys command
 HasShortKeys-from command keyed k d inside = key_of-short _ (keyed k d inside)
 
--- no key of a command that a line spells is longer than 250 bytes
-pub short_keys : (greatest : ℕ) (ws : List (List ℕ)) (command : Command) → meaning greatest ws ≡ Ok (Bare command) → HasShortKeys command
-short_keys greatest ws command meant = HasShortKeys-from command (IfOk-at_ok (IsLineOf IsShort) meant (meaning-of IsShort greatest ws (short_words ws)))
-
--- nor of one that a line and its block spell
-pub short_block_keys : (greatest : ℕ) (ws : List (List ℕ)) (head : Head) (len : ℕ) (block : List ℕ) → meaning greatest ws ≡ Ok (Block head len) → HasShortKeys (with_block head block)
-short_block_keys greatest ws head len block meant =
-    HasShortKeys-from (with_block head block) ((IfOk-at_ok (IsLineOf IsShort) meant (meaning-of IsShort greatest ws (short_words ws))).0 block)
+-- no key of a command that a line and its block spell is longer than 250 bytes
+pub short_keys : (greatest : ℕ) (ws : List (List ℕ)) (line : Line) (block : List ℕ) → meaning greatest ws ≡ Ok line → HasShortKeys (with_block line block)
+short_keys greatest ws line block meant = HasShortKeys-from (with_block line block) (IfOk-at_ok (IsLineOf IsShort) meant (meaning-of IsShort greatest ws (short_words ws)) block)
 
 -- words of a text without a line feed that pass as keys are keys
 key_words : (ws : List (List ℕ)) → AllByRecursion IsWord ws → Holds IsKey ws
@@ -229,11 +209,6 @@ key_words (w ∷ ws) held = ((λ h. (held.0, is_key-short w h)), key_words ws he
 text_words : (text : List ℕ) → All (λ b. b ≢ 10) text → Holds IsKey (words text)
 text_words text one_line = key_words (words text) (recursion_from_All IsWord (words text) (words_are_words text one_line))
 
--- the keys of a command that a line of a text without a line feed spells are keys
-pub keys_are_keys : (greatest : ℕ) (text : List ℕ) (command : Command) → All (λ b. b ≢ 10) text → meaning greatest (words text) ≡ Ok (Bare command) → HasKeys IsKey command
-keys_are_keys greatest text command one_line meant = IfOk-at_ok (IsLineOf IsKey) meant (meaning-of IsKey greatest (words text) (text_words text one_line))
-
--- the same of a command that a line and its block spell
-pub block_keys_are_keys : (greatest : ℕ) (text : List ℕ) (head : Head) (len : ℕ) (block : List ℕ) → All (λ b. b ≢ 10) text → meaning greatest (words text) ≡ Ok (Block head len) → HasKeys IsKey (with_block head block)
-block_keys_are_keys greatest text head len block one_line meant =
-    (IfOk-at_ok (IsLineOf IsKey) meant (meaning-of IsKey greatest (words text) (text_words text one_line))).0 block
+-- the keys of a command that a line of a text without a line feed spells, with its block, are keys
+pub keys_are_keys : (greatest : ℕ) (text : List ℕ) (line : Line) (block : List ℕ) → All (λ b. b ≢ 10) text → meaning greatest (words text) ≡ Ok line → HasKeys IsKey (with_block line block)
+keys_are_keys greatest text line block one_line meant = IfOk-at_ok (IsLineOf IsKey) meant (meaning-of IsKey greatest (words text) (text_words text one_line)) block

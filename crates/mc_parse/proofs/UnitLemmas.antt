@@ -6,14 +6,12 @@ use Rattle.std.specs.List.{AllByRecursion}
 use Rattle.std.specs.Str.Lines.{strip_carriage_return}
 use Rattle.mc_command.specs.Words.{words}
 use Rattle.mc_command.specs.declared.fault.LineFault.{LineFault}
-use Rattle.mc_parse.specs.declared.line.Line.{Line}
-use Rattle.mc_parse.specs.declared.line.Line.TheVariants.{Bare, Block}
 use Rattle.std.proofs.Common.{true, false}
 use Rattle.std.specs.Str.{bytes_eq}
-use Rattle.mc_parse.specs.declared.line.Head.{Head}
 use Rattle.mc_command.specs.declared.fault.LineFault.TheVariants.{BadChunk}
-use Rattle.mc_parse.specs.Lines.{meaning}
-use Rattle.mc_parse.specs.Units.{ProtocolUnit, Request, Fault, LongLine, IsLine, Completes, with_block, stored, SpellsLine, Spells}
+use Rattle.mc_command.specs.Commands.{block_in}
+use Rattle.mc_parse.specs.Lines.{Line, meaning}
+use Rattle.mc_parse.specs.Units.{ProtocolUnit, Request, Fault, LongLine, IsLine, CompletesBy, Completes, with_block, stored, SpellsLine, Spells}
 use Rattle.mc_parse.specs.Peeks.{BeginsWithNone, IsSpelled}
 
 abbrev pub NoFeed : List ℕ → Type 0
@@ -45,16 +43,19 @@ same_parts (c ∷ a) (d ∷ b) x y l e =
     (let heads : c ≡ d = cc in let q = r.0 in cc, r.1)
 
 -- and what follows a line completes one unit
-same_completion : (m : Result Line LineFault) (q r x y : List ℕ) (u v : ProtocolUnit) → Completes m q u → Completes m r v → q ++ x ≡ r ++ y → (u ≡ v) × (q ≡ r)
-same_completion (Err f) q r x y u v g h e = (g.1 ∙ sym h.1, g.0 ∙ sym h.0)
-same_completion (Ok (Bare c)) q r x y u v g h e = (g.1 ∙ sym h.1, g.0 ∙ sym h.0)
-same_completion (Ok (Block head len)) q r x y u v (b, c, qe, bl, cl, ue) (b', c', re, bl', cl', ve) e =
+same_by : (its : Option ℕ) (line : Line) (q r x y : List ℕ) (u v : ProtocolUnit) → CompletesBy its line q u → CompletesBy its line r v → q ++ x ≡ r ++ y → (u ≡ v) × (q ≡ r)
+same_by None line q r x y u v g h e = (g.1 ∙ sym h.1, g.0 ∙ sym h.0)
+same_by (Some len) line q r x y u v (b, c, qe, bl, cl, ue) (b', c', re, bl', cl', ve) e =
     let joined : (b ++ c) ++ x ≡ (b' ++ c') ++ y = ap (λ k. k ++ x) (sym qe) ∙ e ∙ ap (λ k. k ++ y) re in
     let first = same_parts (b ++ c) (b' ++ c') x y (omega (arith, length-append b c, length-append b' c')) joined in
     let second = same_parts b b' c c' (omega arith) first.0 in
     let bs = second.0 in
     let cs = second.1 in
     (cc, cc)
+
+same_completion : (m : Result Line LineFault) (q r x y : List ℕ) (u v : ProtocolUnit) → Completes m q u → Completes m r v → q ++ x ≡ r ++ y → (u ≡ v) × (q ≡ r)
+same_completion (Err f) q r x y u v g h e = (g.1 ∙ sym h.1, g.0 ∙ sym h.0)
+same_completion (Ok line) q r x y u v g h e = same_by (block_in line) line q r x y u v g h e
 
 -- the bytes of a line and what follows it, at the line feed
 parted : (front line text rest more : List ℕ) → front ≡ line ++ rest → line ≡ text ++ 10 ∷ [] → front ++ more ≡ text ++ 10 ∷ (rest ++ more)
@@ -92,11 +93,11 @@ same_spelling greatest LongLine (Fault c) a b x y g h e = absurd (long_alone gre
 same_spelling greatest LongLine LongLine a b x y g h e = (refl, (same_parts a b x y (omega arith) e).0)
 
 -- a block that CR LF follows
-pub stored_whole : (head : Head) (block ended : List ℕ) → bytes_eq ended (13 ∷ 10 ∷ []) ≡ true → Request (with_block head block) ≡ stored head block ended
+pub stored_whole : (head : Line) (block ended : List ℕ) → bytes_eq ended (13 ∷ 10 ∷ []) ≡ true → Request (with_block head block) ≡ stored head block ended
 stored_whole head block ended is = rw is refl
 
 -- a block that something else follows
-pub stored_fault : (head : Head) (block ended : List ℕ) → bytes_eq ended (13 ∷ 10 ∷ []) ≡ false → Fault BadChunk ≡ stored head block ended
+pub stored_fault : (head : Line) (block ended : List ℕ) → bytes_eq ended (13 ∷ 10 ∷ []) ≡ false → Fault BadChunk ≡ stored head block ended
 stored_fault head block ended isnt = rw isnt refl
 
 -- The bytes begin with a line whose line feed is at end.
@@ -129,23 +130,23 @@ module _ (greatest : ℕ) (bytes : List ℕ) (end : ℕ) (line : IsLine (take (e
   }
 
   -- with a block and two bytes more it spells a set or a fault
-  pub spells_block : (head : Head) (len : ℕ) (rest block ended : List ℕ) (unit : ProtocolUnit) → meant ≡ Ok (Block head len) → rest ≡ drop (end + 1) bytes → len + 2 ≤ length rest → block ≡ take len rest → ended ≡ take 2 (drop len rest) → unit ≡ stored head block ended → SpellsLine greatest unit (take (end + 1 + (len + 2)) bytes)
-  spells_block head len rest block ended unit is r enough b e u =
-      spells_line unit (len + 2) (subst (λ m. Completes m (take (len + 2) (drop (end + 1) bytes)) unit) (sym is) (
+  pub spells_block : (head : Line) (len : ℕ) (rest block ended : List ℕ) (unit : ProtocolUnit) → meant ≡ Ok head → block_in head ≡ Some len → rest ≡ drop (end + 1) bytes → len + 2 ≤ length rest → block ≡ take len rest → ended ≡ take 2 (drop len rest) → unit ≡ stored head block ended → SpellsLine greatest unit (take (end + 1 + (len + 2)) bytes)
+  spells_block head len rest block ended unit is its r enough b e u =
+      spells_line unit (len + 2) (subst (λ m. Completes m (take (len + 2) (drop (end + 1) bytes)) unit) (sym is) (subst (λ n. CompletesBy n head (take (len + 2) (drop (end + 1) bytes)) unit) (sym its) (
         block,
         ended,
         ap (take (len + 2)) (sym r) ∙ take-add len 2 rest ∙ ap (λ k. k ++ take 2 (drop len rest)) (sym b) ∙ ap (λ k. block ++ k) (sym e),
         ap length b ∙ length-take-le len rest (omega arith),
         ap length e ∙ length-take-le 2 (drop len rest) (omega (arith, length-drop len rest)),
         u,
-      ))
+      )))
 
-  none_of : (unit : ProtocolUnit) (front more : List ℕ) (head : Head) (len : ℕ) → meant ≡ Ok (Block head len) → length (drop (end + 1) bytes) < len + 2 → bytes ≡ front ++ more → SpellsLine greatest unit front → ⊥
-  none_of unit front more head len is few e h =
+  none_of : (unit : ProtocolUnit) (front more : List ℕ) (head : Line) (len : ℕ) → meant ≡ Ok head → block_in head ≡ Some len → length (drop (end + 1) bytes) < len + 2 → bytes ≡ front ++ more → SpellsLine greatest unit front → ⊥
+  none_of unit front more head len is its few e h =
       let both = sym at_feed ∙ e ∙ parted front h.line h.text h.rest more h.parts h.is_line.ended in
       let t = same_text (take end bytes) h.text (drop (end + 1) bytes) (h.rest ++ more) line.one_line h.is_line.one_line both in
       let said = sym (ap (λ s. meaning greatest (words (strip_carriage_return s))) t.0) ∙ is in
-      let c = subst (λ m. Completes m h.rest unit) said h.completes in
+      let c = subst (λ n. CompletesBy n head h.rest unit) its (subst (λ m. Completes m h.rest unit) said h.completes) in
       omega (arith, ap length t.1, length-append h.rest more, ap length c.2, length-append c.0 c.1, c.3, c.4)
 
   -- whatever a front spells, the line completes it
@@ -156,14 +157,14 @@ module _ (greatest : ℕ) (bytes : List ℕ) (end : ℕ) (line : IsLine (take (e
       (h.rest, subst (λ s. Completes (meaning greatest (words (strip_carriage_return s))) h.rest unit) (sym t.0) h.completes)
 
   -- where a block is still to come, no front spells anything
-  none_at : (head : Head) (len : ℕ) → meant ≡ Ok (Block head len) → length (drop (end + 1) bytes) < len + 2 → (unit : ProtocolUnit) (front more : List ℕ) → bytes ≡ front ++ more → Spells greatest unit front → ⊥
-  none_at head len is few LongLine front more e h =
+  none_at : (head : Line) (len : ℕ) → meant ≡ Ok head → block_in head ≡ Some len → length (drop (end + 1) bytes) < len + 2 → (unit : ProtocolUnit) (front more : List ℕ) → bytes ≡ front ++ more → Spells greatest unit front → ⊥
+  none_at head len is its few LongLine front more e h =
       long_text (take end bytes) front (drop (end + 1) bytes) more line.one_line h.1 (omega (arith, line.short, h.0)) (sym at_feed ∙ e)
-  none_at head len is few (Request c) front more e h = none_of (Request c) front more head len is few e h
-  none_at head len is few (Fault f) front more e h = none_of (Fault f) front more head len is few e h
+  none_at head len is its few (Request c) front more e h = none_of (Request c) front more head len is its few e h
+  none_at head len is its few (Fault f) front more e h = none_of (Fault f) front more head len is its few e h
 
-  pub none_line : (head : Head) (len : ℕ) → meant ≡ Ok (Block head len) → length (drop (end + 1) bytes) < len + 2 → BeginsWithNone greatest bytes
-  none_line head len is few = record { none = none_at head len is few }
+  pub none_line : (head : Line) (len : ℕ) → meant ≡ Ok head → block_in head ≡ Some len → length (drop (end + 1) bytes) < len + 2 → BeginsWithNone greatest bytes
+  none_line head len is its few = record { none = none_at head len is its few }
 
 -- where no line feed is there is no line
 no_line : (bytes t y : List ℕ) → NoFeed bytes → bytes ≡ t ++ 10 ∷ y → ⊥

@@ -1,10 +1,9 @@
 -- What is known of the front of unread bytes.
 use Rattle.std.specs.Prelude.{◌≢◌, ◌≤◌, ℕ, List, length, take}
 use Rattle.std.specs.List.{AllByRecursion}
-use Rattle.mc_parse.specs.Cursors.{IsFirst}
 use Rattle.mc_parse.specs.Notes.{IsNoted}
 use Rattle.mc_parse.specs.declared.ahead.Ahead.{Ahead}
-use Rattle.mc_parse.specs.declared.ahead.Ahead.TheVariants.{Searched, Retrieval, Line}
+use Rattle.mc_parse.specs.declared.ahead.Ahead.TheVariants.{Searched, Line}
 
 -- none of the first bytes, so many of them, is a line feed
 abbrev pub HasNoFeed : ℕ → List ℕ → Type 0
@@ -13,11 +12,9 @@ HasNoFeed n bytes = AllByRecursion (λ b. b ≢ 10) (take n bytes)
 -- this was known of a front of the bytes, and still holds
 abbrev pub Knew : (greatest : ℕ) → Ahead → List ℕ → Type 0
 Knew greatest (Searched n) bytes = HasNoFeed n bytes
-Knew greatest (Retrieval cursor) bytes = IsFirst greatest cursor bytes
 Knew greatest (Line note) bytes = IsNoted greatest note bytes
 
 -- all is known that the bytes tell: no line ends, or the first one was read
 abbrev pub Knows : (greatest : ℕ) → Ahead → List ℕ → Type 0
 Knows greatest (Searched n) bytes = HasNoFeed 65537 bytes × (n ≤ length bytes) × (n ≤ 65537)
-Knows greatest (Retrieval cursor) bytes = IsFirst greatest cursor bytes
 Knows greatest (Line note) bytes = IsNoted greatest note bytes

@@ -2,15 +2,23 @@
 use Rattle.std.specs.Prelude.{◌≡◌, ◌≤◌, ℕ, Bool, List, length, take, drop, ℤ, Option, Some, None, IfSome}
 use Rattle.mc_command.specs.Words.{words}
 use Rattle.mc_command.specs.Commands.{retrieval}
-use Rattle.mc_command.specs.declared.command.Command.{Command}
+use Rattle.mc_command.specs.Commands.{Command}
 use Rattle.mc_parse.specs.Units.{Request}
-use Rattle.mc_parse.specs.Peeks.{IsSpelled, IsLeft}
+use Rattle.mc_parse.specs.Peeks.{IsLeft}
 use Rattle.mc_parse.specs.declared.cursor.Cursor.{Cursor}
+use Rattle.mc_parse.specs.declared.note.KeySpan.{KeySpan}
 
--- how many words of a retrieval's line come before the keys: its name, and the exptime where it has one
-abbrev pub words_before : Option ℤ → ℕ
-words_before None = 1
-words_before (Some exptime) = 2
+-- the cursor before the first turn of a retrieval whose text ends at `to`, and which so many bytes spell
+abbrev pub first_cursor : KeySpan → (to len : ℕ) → (with_unique : Bool) → Option ℤ → Cursor
+first_cursor keys to len with_unique exptime = record {
+  taken = 0;
+  from = keys.from;
+  to = to;
+  left = keys.count;
+  len = len;
+  with_unique = with_unique;
+  exptime = exptime;
+}
 
 -- the text of the keys that are left
 abbrev pub text_left : Cursor → List ℕ → List ℕ
@@ -42,7 +50,3 @@ IsCursor greatest cursor bytes = IfSome cursor (λ c. PointsInto greatest c byte
 -- and is before the first turn
 abbrev pub IsFirstCursor : (greatest : ℕ) → Option Cursor → List ℕ → Type 0
 IsFirstCursor greatest cursor bytes = IfSome cursor (λ c. IsFirst greatest c bytes)
-
--- so many bytes spell the retrieval of these keys
-abbrev pub SpellsRetrieval : (greatest len : ℕ) → Option ℤ → List (List ℕ) → Bool → List ℕ → Type 0
-SpellsRetrieval greatest len exptime keys with_unique bytes = IsSpelled greatest (Request (retrieval exptime keys with_unique), len) bytes

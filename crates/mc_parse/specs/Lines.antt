@@ -5,22 +5,23 @@ use Rattle.std.specs.List.{list_all}
 use Rattle.mc_command.specs.Words.{is_nonempty}
 use Rattle.mc_command.specs.Numbers.{number_up_to}
 use Rattle.mc_command.specs.Commands.{steps}
-use Rattle.mc_command.specs.declared.command.Command.{Command}
-use Rattle.mc_command.specs.declared.command.Command.TheVariants.{Get, GetTouch, Touch, Delete, Count, FlushAll, Lone as LoneCommand}
+use Rattle.mc_command.specs.Commands.{Command}
+use Rattle.mc_command.specs.declared.command.CommandOf.{CommandOf}
+use Rattle.mc_command.specs.declared.command.CommandOf.TheVariants.{Store, Cas, Get, GetTouch, Touch, Delete, Count, FlushAll, Lone as LoneCommand}
 use Rattle.mc_command.specs.declared.lone.Lone.{Lone}
 use Rattle.mc_command.specs.declared.step.Verb.{Verb}
 use Rattle.mc_command.specs.declared.step.KeyStep.{KeyStep}
 use Rattle.mc_command.specs.declared.step.KeyStep.TheVariants.{Store as StoreStep, Cas as CasStep, Read as ReadStep, ReadTouch as ReadTouchStep, Touch as TouchStep, Delete as DeleteStep, Count as CountStep, Flush as FlushStep}
 use Rattle.mc_command.specs.declared.fault.LineFault.{LineFault}
 use Rattle.mc_command.specs.declared.fault.LineFault.TheVariants.{Unknown, BadFormat, BadDelta, TooLarge}
-use Rattle.mc_parse.specs.declared.line.Line.{Line}
-use Rattle.mc_parse.specs.declared.line.Line.TheVariants.{Bare, Block}
-use Rattle.mc_parse.specs.declared.line.Head.{Head}
-use Rattle.mc_parse.specs.declared.line.Head.TheVariants.{Store, Cas}
 use Rattle.mc_parse.specs.declared.name.Name.{Name}
 use Rattle.mc_parse.specs.declared.name.Name.TheVariants.{Store as StoreName, Cas as CasName, Get as GetName, GetTouch as GetTouchName, Touch as TouchName, Delete as DeleteName, Count as CountName, FlushAll as FlushName, Lone as LoneName}
 use Rattle.mc_parse.specs.declared.name.TheConstants.{NAMES}
 use Rattle.mc_parse.specs.Exptimes.{exptime_of, delay_of}
+
+-- what a line says: a command whose block, of so many bytes, is still to come
+abbrev pub Line : Type 0
+Line = CommandOf (List ℕ) (List (List ℕ)) ℕ
 
 -- what the first row with this word names
 abbrev pub named : {R : Type 0} → (bytes_of : R → List ℕ) → List (R × Name) → List ℕ → Option Name
@@ -55,9 +56,9 @@ ending [] = Ok false
 ending (word ∷ []) = if bytes_eq word (codes "noreply") then Ok true else Err Unknown
 ending (word ∷ more ∷ rest) = Err Unknown
 
--- a line whose item is too large is passed over with its block and the two bytes behind it
-abbrev pub fitting : ℕ → List ℕ → ℕ → Head → Result Line LineFault
-fitting greatest key len head = if nat_le (48 + length key + len) greatest then Ok (Block head len) else Err (TooLarge (len + 2))
+-- the length of a block; a line whose item is too large is passed over with its block and the two bytes behind it
+abbrev pub fitting : ℕ → List ℕ → ℕ → Result ℕ LineFault
+fitting greatest key len = if nat_le (48 + length key + len) greatest then Ok len else Err (TooLarge (len + 2))
 
 -- <key> <flags> <exptime> <bytes> [noreply]
 abbrev pub store_line : ℕ → Verb → List (List ℕ) → Result Line LineFault
@@ -67,7 +68,8 @@ store_line greatest verb (key ∷ flags ∷ exptime ∷ bytes ∷ rest) = do
   f ← formed BadFormat (number_up_to (2 ^ 32 - 1) flags)
   e ← formed BadFormat (exptime_of exptime)
   n ← formed BadFormat (number_up_to 2147483645 bytes)
-  fitting greatest k n (Store verb k f e quiet)
+  len ← fitting greatest k n
+  Ok (Store verb k f e len quiet)
 store_line greatest verb args = Err Unknown
 
 -- <key> <flags> <exptime> <bytes> <cas unique> [noreply]
@@ -79,7 +81,8 @@ cas_line greatest (key ∷ flags ∷ exptime ∷ bytes ∷ unique ∷ rest) = do
   e ← formed BadFormat (exptime_of exptime)
   n ← formed BadFormat (number_up_to 2147483645 bytes)
   u ← formed BadFormat (number_up_to (2 ^ 64 - 1) unique)
-  fitting greatest k n (Cas k f e u quiet)
+  len ← fitting greatest k n
+  Ok (Cas k f e len u quiet)
 cas_line greatest args = Err Unknown
 
 -- <key>*, at least one
@@ -91,7 +94,7 @@ keys_formed (key ∷ keys) = if list_all is_key (key ∷ keys) then Ok (key ∷ 
 abbrev pub get_line : Bool → List (List ℕ) → Result Line LineFault
 get_line with_unique args = do
   keys ← keys_formed args
-  Ok (Bare (Get keys with_unique))
+  Ok (Get keys with_unique)
 
 -- <exptime> <key>*
 abbrev pub get_touch_line : Bool → List (List ℕ) → Result Line LineFault
@@ -99,7 +102,7 @@ get_touch_line with_unique [] = Err Unknown
 get_touch_line with_unique (exptime ∷ args) = do
   keys ← keys_formed args
   e ← formed BadFormat (exptime_of exptime)
-  Ok (Bare (GetTouch e keys with_unique))
+  Ok (GetTouch e keys with_unique)
 
 -- <key> <exptime> [noreply]
 abbrev pub touch_line : List (List ℕ) → Result Line LineFault
@@ -107,7 +110,7 @@ touch_line (key ∷ exptime ∷ rest) = do
   quiet ← ending rest
   k ← key_formed key
   e ← formed BadFormat (exptime_of exptime)
-  Ok (Bare (Touch k e quiet))
+  Ok (Touch k e quiet)
 touch_line args = Err Unknown
 
 -- [0] [noreply]
@@ -121,7 +124,7 @@ delete_line [] = Err Unknown
 delete_line (key ∷ rest) = do
   quiet ← delete_ending rest
   k ← key_formed key
-  Ok (Bare (Delete k quiet))
+  Ok (Delete k quiet)
 
 -- <key> <value> [noreply]
 abbrev pub count_line : Bool → List (List ℕ) → Result Line LineFault
@@ -129,25 +132,25 @@ count_line up (key ∷ value ∷ rest) = do
   quiet ← ending rest
   k ← key_formed key
   by ← formed BadDelta (number_up_to (2 ^ 64 - 1) value)
-  Ok (Bare (Count k up by quiet))
+  Ok (Count k up by quiet)
 count_line up args = Err Unknown
 
 abbrev pub delayed : List ℕ → Bool → Result Line LineFault
 delayed word quiet = do
   delay ← formed BadFormat (delay_of word)
-  Ok (Bare (FlushAll delay quiet))
+  Ok (FlushAll delay quiet)
 
 -- [delay] [noreply]; a lone word other than noreply is the delay
 abbrev pub flush_line : List (List ℕ) → Result Line LineFault
-flush_line [] = Ok (Bare (FlushAll 0 false))
-flush_line (word ∷ []) = if bytes_eq word (codes "noreply") then Ok (Bare (FlushAll 0 true)) else delayed word false
+flush_line [] = Ok (FlushAll 0 false)
+flush_line (word ∷ []) = if bytes_eq word (codes "noreply") then Ok (FlushAll 0 true) else delayed word false
 flush_line (delay ∷ word ∷ rest) = do
   quiet ← ending (word ∷ rest)
   delayed delay quiet
 
 -- nothing more
 abbrev pub lone_line : Lone → List (List ℕ) → Result Line LineFault
-lone_line lone [] = Ok (Bare (LoneCommand lone))
+lone_line lone [] = Ok (LoneCommand lone)
 lone_line lone (word ∷ args) = Err Unknown
 
 -- what a line of this name says

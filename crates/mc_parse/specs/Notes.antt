@@ -1,68 +1,55 @@
--- What is kept of a line that was read.
-use Rattle.std.specs.Prelude.{◌≡◌, ◌≤◌, ◌<◌, ◌+◌, ℕ, Bool, true, false, List, [], ◌∷◌, length, take, drop, Result, Ok, Err}
+-- What is noted of a line that was read.
+use Rattle.std.specs.Prelude.{◌≡◌, ◌≤◌, ◌<◌, ◌+◌, ℕ, List, length, take, drop, Result, Ok, Err, Option, IfSome}
+use Rattle.std.specs.Result.{IfOk}
 use Rattle.std.specs.Str.Lines.{strip_carriage_return}
 use Rattle.mc_command.specs.Words.{words}
-use Rattle.mc_command.specs.Commands.{HasBlock, retrieval}
-use Rattle.mc_command.specs.declared.command.Command.{Command}
-use Rattle.mc_command.specs.declared.command.Command.TheVariants.{Touch as TouchCommand, Delete as DeleteCommand, Count as CountCommand, FlushAll as FlushCommand, Lone as LoneCommand}
+use Rattle.mc_command.specs.Commands.{mapped, retrieval_in}
+use Rattle.mc_command.specs.declared.command.CommandOf.{CommandOf}
 use Rattle.mc_command.specs.declared.fault.LineFault.{LineFault}
-use Rattle.mc_parse.specs.declared.line.Line.{Line}
-use Rattle.mc_parse.specs.declared.line.Line.TheVariants.{Bare, Block}
-use Rattle.mc_parse.specs.declared.line.Head.TheVariants.{Store as StoreHead, Cas as CasHead}
-use Rattle.mc_parse.specs.declared.note.Said.{Said}
-use Rattle.mc_parse.specs.declared.note.Said.TheVariants.{Fault, Store, Cas, Touch, Delete, Count, FlushAll, Lone}
-use Rattle.mc_parse.specs.declared.note.Kept.{Kept}
-use Rattle.mc_parse.specs.declared.note.Kept.TheVariants.{Keyed, Retrieval}
-use Rattle.mc_parse.specs.declared.note.LineNote.{LineNote}
-use Rattle.mc_parse.specs.Lines.{meaning}
+use Rattle.mc_parse.specs.declared.note.Span.{Span}
+use Rattle.mc_parse.specs.declared.note.KeySpan.{KeySpan}
+use Rattle.mc_parse.specs.declared.note.Note.{Note}
+use Rattle.mc_parse.specs.Lines.{Line, meaning}
 use Rattle.mc_parse.specs.Units.{IsLine}
 
--- the line that says this of a key
-abbrev pub said_of : Said → List ℕ → Result Line LineFault
-said_of (Fault fault) key = Err fault
-said_of (Store verb flags exptime quiet len) key = Ok (Block (StoreHead verb key flags exptime quiet) len)
-said_of (Cas flags exptime unique quiet len) key = Ok (Block (CasHead key flags exptime unique quiet) len)
-said_of (Touch exptime quiet) key = Ok (Bare (TouchCommand key exptime quiet))
-said_of (Delete quiet) key = Ok (Bare (DeleteCommand key quiet))
-said_of (Count up by quiet) key = Ok (Bare (CountCommand key up by quiet))
-said_of (FlushAll delay quiet) key = Ok (Bare (FlushCommand delay quiet))
-said_of (Lone lone) key = Ok (Bare (LoneCommand lone))
+-- a command as it is noted of a line's text
+abbrev pub Noted : Type 0
+Noted = CommandOf Span KeySpan ℕ
 
-abbrev pub is_keyed : Said → Bool
-is_keyed (Fault fault) = false
-is_keyed (Store verb flags exptime quiet len) = true
-is_keyed (Cas flags exptime unique quiet len) = true
-is_keyed (Touch exptime quiet) = true
-is_keyed (Delete quiet) = true
-is_keyed (Count up by quiet) = true
-is_keyed (FlushAll delay quiet) = false
-is_keyed (Lone lone) = false
+-- the bytes of a span
+abbrev pub at : (text : List ℕ) → Span → List ℕ
+at text span = take span.len (drop span.from text)
 
--- a line's command has no block
-abbrev pub StandsInLine : Command → Type 0
-StandsInLine command = HasBlock command → ⊥
+-- the keys of a retrieval
+abbrev pub keys_at : (text : List ℕ) → KeySpan → List (List ℕ)
+keys_at text keys = words (drop keys.from text)
 
--- this is what is kept of the line
-abbrev pub IsKeptOf : Result Line LineFault → Kept → Type 0
-IsKeptOf line (Keyed said key) = (line ≡ said_of said key) × (is_keyed said ≡ false → key ≡ [])
-IsKeptOf line (Retrieval exptime count with_unique) =
-    (keys : List (List ℕ)) × (line ≡ Ok (Bare (retrieval exptime keys with_unique))) × (count ≡ length keys)
+-- what was noted of a text
+abbrev pub read : (text : List ℕ) → Noted → Line
+read text noted = mapped (at text) (keys_at text) (λ len. len) noted
+
+-- the same, or the fault of the line
+abbrev pub said : (text : List ℕ) → Result Noted LineFault → Result Line LineFault
+said text (Ok noted) = Ok (read text noted)
+said text (Err fault) = Err fault
+
+-- keys lie in the text, and are counted
+abbrev pub FitIn : KeySpan → (text : List ℕ) → Type 0
+FitIn keys text = (keys.from ≤ length text) × (keys.count ≡ length (keys_at text keys))
+
+-- and so do those of a command
+abbrev pub Fits : Noted → (text : List ℕ) → Type 0
+Fits noted text = IfSome (retrieval_in noted) (λ asked. FitIn asked.1 text)
 
 -- the line whose line feed is at this place says this
 abbrev pub Says : (greatest : ℕ) → (bytes : List ℕ) → (end : ℕ) → Result Line LineFault → Type 0
 Says greatest bytes end line = meaning greatest (words (strip_carriage_return (take end bytes))) ≡ line
 
--- the word is the second of the words
-abbrev pub IsSecond : List ℕ → List (List ℕ) → Type 0
-IsSecond word ws = take 1 (drop 1 ws) ≡ word ∷ []
-
--- the word stands in the text from this place on
-abbrev pub StandsAt : (at : ℕ) → (word text : List ℕ) → Type 0
-StandsAt at word text = word ≡ take (length word) (drop at text)
-
--- the first line of the bytes is noted, and the place of its key
-pub record IsNoted (greatest : ℕ) (note : LineNote) (bytes : List ℕ) : Type 0 where
+-- the first line of the bytes is noted
+pub record IsNoted (greatest : ℕ) (note : Note) (bytes : List ℕ) : Type 0 where
   pub inside : note.end < length bytes
-  pub key : note.key_from + note.key_len ≤ length bytes
+  pub within : note.to ≤ note.end
   pub line : IsLine (take (note.end + 1) bytes) (take note.end bytes)
-  pub says : Says greatest bytes note.end (said_of note.said (take note.key_len (drop note.key_from bytes)))
+  pub text : take note.to bytes ≡ strip_carriage_return (take note.end bytes)
+  pub says : said (take note.to bytes) note.said ≡ meaning greatest (words (take note.to bytes))
+  pub fits : IfOk note.said (λ noted. Fits noted (take note.to bytes))

@@ -1,7 +1,7 @@
 -- The units of a stream.
 use Rattle.std.specs.Prelude.{◌≡◌, ℕ, Bool, true, false, List, [], ◌∷◌, ◌++◌, drop}
 use Rattle.std.specs.Bool.{MatchBool}
-use Rattle.mc_command.specs.declared.command.Command.{Command}
+use Rattle.mc_command.specs.Commands.{Command}
 use Rattle.mc_command.specs.Commands.{Shape, Single, Retrieval, Alone, shape}
 use Rattle.mc_command.specs.Lones.{closes}
 use Rattle.mc_command.specs.declared.fault.LineFault.{LineFault}

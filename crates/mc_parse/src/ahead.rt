@@ -1,23 +1,19 @@
-ghost use Rattle.std.specs.Prelude.{◌≡◌, ◌<◌, ◌+◌, ℕ, List, take, length, IfSome, None};
-ghost use Rattle.mc_parse.specs.Units.{IsLine};
+ghost use Rattle.std.specs.Prelude.{◌≡◌, ℕ, List, None};
 ghost use Rattle.mc_parse.specs.Peeks.{unit_of, FindsSpelled, MissesNone, StaysWhole};
 ghost use Rattle.mc_parse.specs.Cursors.{IsFirstCursor};
 ghost use Rattle.mc_parse.specs.Aheads.{Knew, Knows, HasNoFeed};
 
 use crate::cursor::Cursor;
-use crate::line::line_of;
-use crate::note::{Kept, LineNote, kept_of};
-use crate::peek::{LONGEST, Peek, first_feed, without_carriage_return};
+use crate::note::Note;
+use crate::peek::{LONGEST, Peek, first_feed};
 
 /// What the unread bytes begin with, as far as they were looked at. The first line is read once, when it is whole.
 #[derive(Clone, Copy)]
 pub enum Ahead {
     /// No line feed is among the first so many bytes, which were looked at.
     Searched(usize),
-    /// A retrieval, before its first turn.
-    Retrieval(Cursor),
-    /// Another line.
-    Line(LineNote),
+    /// This line.
+    Line(Note),
 }
 
 impl Ahead {
@@ -35,7 +31,7 @@ impl Ahead {
     {
         match self {
             Ahead::Searched(searched) => look(greatest, unread, searched),
-            Ahead::Retrieval(_) | Ahead::Line(_) => self,
+            Ahead::Line(_) => self,
         }
     }
 
@@ -43,7 +39,7 @@ impl Ahead {
     pub fn announced(&self) -> usize {
         match self {
             Ahead::Line(note) => note.announced(),
-            Ahead::Searched(_) | Ahead::Retrieval(_) => 0,
+            Ahead::Searched(_) => 0,
         }
     }
 
@@ -58,24 +54,23 @@ impl Ahead {
     {
         match self {
             Ahead::Searched(_) => peek_endless(unread),
-            Ahead::Retrieval(cursor) => cursor.peek(unread),
             Ahead::Line(note) => note.peek(unread),
         }
     }
 
     /// Gives the cursor before the first turn of the retrieval that the bytes begin with. There is none where they begin
     /// with something else.
-    pub fn cursor(&self) -> Option<Cursor>
-        ensures some { (greatest : ℕ) (bytes : List ℕ) →
-            Knows greatest self.now bytes → IsFirstCursor greatest result bytes }
+    pub fn cursor(&self, unread: &[u8]) -> Option<Cursor>
+        requires { (greatest : ℕ) × Knows greatest self.now unread.now }
+        ensures some { (greatest : ℕ) →
+            Knows greatest self.now unread.now → IsFirstCursor greatest result unread.now }
         // Where there is none a unit is whole after any turns.
-        ensures none { (greatest taken : ℕ) (bytes : List ℕ) →
-            Knows greatest self.now bytes → result ≡ None → StaysWhole greatest taken bytes }
+        ensures none { (greatest taken : ℕ) → Knows greatest self.now unread.now →
+            result ≡ None → StaysWhole greatest taken unread.now }
     {
         match self {
-            Ahead::Retrieval(cursor) => Some(*cursor),
+            Ahead::Line(note) => note.cursor(unread),
             Ahead::Searched(_) => None,
-            Ahead::Line(_) => None,
         }
     }
 }
@@ -102,24 +97,6 @@ fn look(greatest: u64, unread: &[u8], searched: usize) -> Ahead
 {
     match first_feed(unread, searched) {
         None => Ahead::Searched(unread.len().min(LONGEST + 1)),
-        Some(end) => read_line(greatest, unread, end),
-    }
-}
-
-/// Reads the first line, whose line feed is at `end`.
-fn read_line(greatest: u64, unread: &[u8], end: usize) -> Ahead
-    requires line { IsLine (take (end + 1) unread.now) (take end unread.now) }
-    requires inside { end < length unread.now }
-    ensures { Knows greatest result unread.now }
-{
-    let (line, _) = unread.split_at(end);
-    let text = without_carriage_return(line);
-    match kept_of(line_of(greatest, text)) {
-        Kept::Keyed(said, key) => Ahead::Line(LineNote::of(text, end, said, key.as_slice())),
-        Kept::Retrieval {
-            exptime,
-            count,
-            with_unique,
-        } => Ahead::Retrieval(Cursor::of_line(unread, end + 1, count, with_unique, exptime)),
+        Some(end) => Ahead::Line(Note::of(greatest, unread, end)),
     }
 }

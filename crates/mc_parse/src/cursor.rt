@@ -1,11 +1,11 @@
-ghost use Rattle.std.specs.Prelude.{◌≡◌, ◌≤◌, ◌<◌, ◌+◌, ◌-◌, ◌^◌, ℕ, List, IfSome, length, drop};
-ghost use Rattle.mc_command.specs.Words.{words};
+ghost use Rattle.std.specs.Prelude.{◌≡◌, ◌≤◌, ◌<◌, ◌+◌, ◌-◌, ◌^◌, ℕ, IfSome, length, None};
 ghost use Rattle.mc_parse.specs.Units.{Request};
 ghost use Rattle.mc_parse.specs.Peeks.{unit_of};
-ghost use Rattle.mc_parse.specs.Cursors.{retrieval_left, words_before, IsWithin, PointsInto};
-ghost use Rattle.mc_parse.specs.Cursors.{IsCursor, IsFirstCursor, SpellsRetrieval};
+ghost use Rattle.mc_parse.specs.Cursors.{retrieval_left, first_cursor, IsWithin, PointsInto};
+ghost use Rattle.mc_parse.specs.Cursors.{IsCursor, IsFirstCursor};
 
-use crate::peek::{Peek, without_carriage_return};
+use crate::note::KeySpan;
+use crate::peek::Peek;
 use mc_command::{Command, Keys, first_word_len};
 
 /// Where a retrieval stands whose keys take a turn each: what is left of its line, so that the next turn needn't read the
@@ -28,28 +28,22 @@ pub struct Cursor {
 }
 
 impl Cursor {
-    /// Makes the cursor before the first turn of a retrieval of `left` keys that the first `len` bytes spell.
-    pub fn of_line(
-        unread: &[u8],
+    /// Makes the cursor before the first turn of a retrieval of these keys, which the first `len` bytes spell, and whose
+    /// text ends at `to`.
+    pub fn first(
+        keys: KeySpan,
+        to: usize,
         len: usize,
-        left: usize,
         with_unique: bool,
         exptime: Option<i64>,
     ) -> Cursor
-        requires some { 0 < len }
-        requires inside { len ≤ length unread.now }
-        ensures points { (greatest : ℕ) (keys : List (List ℕ)) →
-            SpellsRetrieval greatest len exptime keys with_unique unread.now →
-            left ≡ length keys → PointsInto greatest result unread.now }
-        ensures untaken { result.taken ≡ 0 }
+        ensures { result ≡ first_cursor keys to len with_unique exptime }
     {
-        let (line, _) = unread.split_at(len - 1);
-        let text = without_carriage_return(line);
         Cursor {
             taken: 0,
-            from: keys_begin(text, exptime),
-            to: text.len(),
-            left,
+            from: keys.from,
+            to,
+            left: keys.count,
             len,
             with_unique,
             exptime,
@@ -135,19 +129,4 @@ fn moved_to(mut cursor: Cursor, unread: &[u8], taken: usize) -> Cursor
     }
     // Behind the last key all turns leave the same.
     Cursor { taken, ..cursor }
-}
-
-/// Finds where the keys begin in the text of a retrieval's line: behind its name, and behind the exptime that it may have.
-fn keys_begin(text: &[u8], exptime: Option<i64>) -> usize
-    ensures inside { result ≤ length text.now }
-    ensures behind { words (drop result text.now) ≡ drop (words_before exptime) (words text.now) }
-{
-    let name = first_word_len(text);
-    match exptime {
-        None => name,
-        Some(_) => {
-            let (_, args) = text.split_at(name);
-            name + first_word_len(args)
-        }
-    }
 }

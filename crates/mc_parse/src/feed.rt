@@ -192,11 +192,7 @@ impl Feed {
         // Where there is none a unit is whole after any turns.
         ensures none { result ≡ None → StaysWhole self.now.greatest taken self.now.bytes }
     {
-        cursor_after(
-            self.cursor,
-            self.ahead.cursor(),
-            self.unread.as_slice(),
-            taken,
-        )
+        let unread = self.unread.as_slice();
+        cursor_after(self.cursor, self.ahead.cursor(unread), unread, taken)
     }
 }

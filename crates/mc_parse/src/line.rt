@@ -1,9 +1,10 @@
-ghost use Rattle.std.specs.Prelude.{◌≡◌, ◌-◌, ◌^◌, [], ◌∷◌};
-ghost use Rattle.std.specs.Result.{MatchResult};
-ghost use Rattle.mc_command.specs.Words.{words};
+ghost use Rattle.std.specs.Prelude.{◌≡◌, ◌-◌, ◌^◌, ℕ, List, [], ◌∷◌, Ok, Err};
+ghost use Rattle.std.specs.Result.{IfOk, MatchResult};
+ghost use Rattle.mc_command.specs.Words.{words, EndsIn};
 ghost use Rattle.mc_command.specs.Numbers.{number_up_to};
 ghost use Rattle.mc_command.specs.declared.fault.LineFault.TheVariants.{Unknown, BadFormat};
 ghost use Rattle.mc_parse.specs.Exptimes.{exptime_of};
+ghost use Rattle.mc_parse.specs.Notes.{at, keys_at, said, FitIn, Fits};
 ghost use Rattle.mc_parse.specs.Lines.{
   meaning,
   formed,
@@ -26,37 +27,10 @@ ghost use Rattle.mc_parse.specs.Lines.{
 
 use crate::exptime::{delay_of, exptime_of};
 use crate::name::{Name, name_of};
+use crate::note::{KeySpan, Noted, Span};
 use mc_command::{
-    Bytes, Command, Keys, LineFault, Lone, Verb, Words, first_key, first_word, number_up_to,
+    CommandOf, Keys, LineFault, Lone, Verb, Words, first_key, first_word, number_up_to, spaces_len,
 };
-
-/// What a line says.
-#[derive(Drop)]
-pub enum Line<'a> {
-    /// A whole command.
-    Bare(Command<'a>),
-    /// The head of a command whose block of so many bytes follows.
-    Block(Head<'a>, u32),
-}
-
-/// A storage or cas command without its block.
-#[derive(Drop)]
-pub enum Head<'a> {
-    Store {
-        verb: Verb,
-        key: Bytes<'a>,
-        flags: u32,
-        exptime: i64,
-        quiet: bool,
-    },
-    Cas {
-        key: Bytes<'a>,
-        flags: u32,
-        exptime: i64,
-        unique: u64,
-        quiet: bool,
-    },
-}
 
 /// The longest key, in bytes.
 const LONGEST_KEY: usize = 250;
@@ -64,160 +38,174 @@ const LONGEST_KEY: usize = 250;
 /// The longest block, in bytes.
 const LONGEST_BLOCK: u64 = 2147483645;
 
-/// Tells what a line says, or its first fault. `text` is the line without its end.
-pub fn line_of(greatest: u64, text: &[u8]) -> Result<Line<'_>, LineFault>
-    ensures { result ≡ meaning greatest (words text.now) }
+/// Notes what a line says, or its first fault. `text` is the line without its end.
+pub fn line_of(greatest: u64, text: &[u8]) -> Result<Noted, LineFault>
+    ensures said { said text.now result ≡ meaning greatest (words text.now) }
+    ensures fits { IfOk result (λ noted. Fits noted text.now) }
 {
     let (name, args) = next_word(text)?;
     match name_of(name).ok_or(LineFault::Unknown)? {
-        Name::Store(verb) => store_line(greatest, verb, args),
-        Name::Cas => cas_line(greatest, args),
-        Name::Get { with_unique } => get_line(with_unique, args),
-        Name::GetTouch { with_unique } => get_touch_line(with_unique, args),
-        Name::Touch => touch_line(args),
-        Name::Delete => delete_line(args),
-        Name::Count { up } => count_line(up, args),
+        Name::Store(verb) => store_line(greatest, verb, text, args),
+        Name::Cas => cas_line(greatest, text, args),
+        Name::Get { with_unique } => get_line(with_unique, text, args),
+        Name::GetTouch { with_unique } => get_touch_line(with_unique, text, args),
+        Name::Touch => touch_line(text, args),
+        Name::Delete => delete_line(text, args),
+        Name::Count { up } => count_line(up, text, args),
         Name::FlushAll => flush_line(args),
         Name::Lone(lone) => lone_line(lone, args),
     }
 }
 
-fn store_line(greatest: u64, verb: Verb, args: &[u8]) -> Result<Line<'_>, LineFault>
-    ensures { result ≡ store_line greatest verb (words args.now) }
+fn store_line(
+    greatest: u64,
+    verb: Verb,
+    text: &[u8],
+    args: &[u8],
+) -> Result<Noted, LineFault>
+    requires { EndsIn text.now args.now }
+    ensures said { said text.now result ≡ store_line greatest verb (words args.now) }
+    ensures fits { IfOk result (λ noted. Fits noted text.now) }
 {
-    let (key, rest) = next_key(args)?;
+    let (word, rest) = next_key(args)?;
     let (flags, rest) = next_word(rest)?;
     let (exptime, rest) = next_word(rest)?;
     let (bytes, rest) = next_word(rest)?;
     let quiet = ending(rest)?;
-    let key = key_formed(key)?;
+    let key = key_formed(text, args, word)?;
     let flags = flags_formed(flags)?;
     let exptime = exptime_formed(exptime)?;
     let len = bytes_formed(bytes)?;
-    fitting(
-        greatest,
-        key.as_slice(),
-        len,
-        Head::Store {
-            verb,
-            key,
-            flags,
-            exptime,
-            quiet,
-        },
-    )
+    Ok(CommandOf::Store {
+        verb,
+        key,
+        flags,
+        exptime,
+        block: fitting(greatest, word, len)?,
+        quiet,
+    })
 }
 
-fn cas_line(greatest: u64, args: &[u8]) -> Result<Line<'_>, LineFault>
-    ensures { result ≡ cas_line greatest (words args.now) }
+fn cas_line(greatest: u64, text: &[u8], args: &[u8]) -> Result<Noted, LineFault>
+    requires { EndsIn text.now args.now }
+    ensures said { said text.now result ≡ cas_line greatest (words args.now) }
+    ensures fits { IfOk result (λ noted. Fits noted text.now) }
 {
-    let (key, rest) = next_key(args)?;
+    let (word, rest) = next_key(args)?;
     let (flags, rest) = next_word(rest)?;
     let (exptime, rest) = next_word(rest)?;
     let (bytes, rest) = next_word(rest)?;
     let (unique, rest) = next_word(rest)?;
     let quiet = ending(rest)?;
-    let key = key_formed(key)?;
+    let key = key_formed(text, args, word)?;
     let flags = flags_formed(flags)?;
     let exptime = exptime_formed(exptime)?;
     let len = bytes_formed(bytes)?;
     let unique = number_up_to(u64::MAX, unique).ok_or(LineFault::BadFormat)?;
-    fitting(
-        greatest,
-        key.as_slice(),
-        len,
-        Head::Cas {
-            key,
-            flags,
-            exptime,
-            unique,
-            quiet,
-        },
-    )
+    Ok(CommandOf::Cas {
+        key,
+        flags,
+        exptime,
+        block: fitting(greatest, word, len)?,
+        unique,
+        quiet,
+    })
 }
 
-fn get_line(with_unique: bool, args: &[u8]) -> Result<Line<'_>, LineFault>
-    ensures { result ≡ get_line with_unique (words args.now) }
+fn get_line(with_unique: bool, text: &[u8], args: &[u8]) -> Result<Noted, LineFault>
+    requires { EndsIn text.now args.now }
+    ensures said { said text.now result ≡ get_line with_unique (words args.now) }
+    ensures fits { IfOk result (λ noted. Fits noted text.now) }
 {
-    let keys = keys_formed(args)?;
-    Ok(Line::Bare(Command::Get { keys, with_unique }))
+    let keys = keys_noted(text, args)?;
+    Ok(CommandOf::Get { keys, with_unique })
 }
 
-fn get_touch_line(with_unique: bool, args: &[u8]) -> Result<Line<'_>, LineFault>
-    ensures { result ≡ get_touch_line with_unique (words args.now) }
+fn get_touch_line(with_unique: bool, text: &[u8], args: &[u8]) -> Result<Noted, LineFault>
+    requires { EndsIn text.now args.now }
+    ensures said { said text.now result ≡ get_touch_line with_unique (words args.now) }
+    ensures fits { IfOk result (λ noted. Fits noted text.now) }
 {
     let (exptime, rest) = next_word(args)?;
-    let keys = keys_formed(rest)?;
+    let keys = keys_noted(text, rest)?;
     let exptime = exptime_formed(exptime)?;
-    Ok(Line::Bare(Command::GetTouch {
+    Ok(CommandOf::GetTouch {
         exptime,
         keys,
         with_unique,
-    }))
+    })
 }
 
-fn touch_line(args: &[u8]) -> Result<Line<'_>, LineFault>
-    ensures { result ≡ touch_line (words args.now) }
+fn touch_line(text: &[u8], args: &[u8]) -> Result<Noted, LineFault>
+    requires { EndsIn text.now args.now }
+    ensures said { said text.now result ≡ touch_line (words args.now) }
+    ensures fits { IfOk result (λ noted. Fits noted text.now) }
 {
-    let (key, rest) = next_key(args)?;
+    let (word, rest) = next_key(args)?;
     let (exptime, rest) = next_word(rest)?;
     let quiet = ending(rest)?;
-    let key = key_formed(key)?;
+    let key = key_formed(text, args, word)?;
     let exptime = exptime_formed(exptime)?;
-    Ok(Line::Bare(Command::Touch {
+    Ok(CommandOf::Touch {
         key,
         exptime,
         quiet,
-    }))
+    })
 }
 
-fn delete_line(args: &[u8]) -> Result<Line<'_>, LineFault>
-    ensures { result ≡ delete_line (words args.now) }
+fn delete_line(text: &[u8], args: &[u8]) -> Result<Noted, LineFault>
+    requires { EndsIn text.now args.now }
+    ensures said { said text.now result ≡ delete_line (words args.now) }
+    ensures fits { IfOk result (λ noted. Fits noted text.now) }
 {
-    let (key, rest) = next_key(args)?;
+    let (word, rest) = next_key(args)?;
     let quiet = delete_ending(rest)?;
-    let key = key_formed(key)?;
-    Ok(Line::Bare(Command::Delete { key, quiet }))
+    let key = key_formed(text, args, word)?;
+    Ok(CommandOf::Delete { key, quiet })
 }
 
-fn count_line(up: bool, args: &[u8]) -> Result<Line<'_>, LineFault>
-    ensures { result ≡ count_line up (words args.now) }
+fn count_line(up: bool, text: &[u8], args: &[u8]) -> Result<Noted, LineFault>
+    requires { EndsIn text.now args.now }
+    ensures said { said text.now result ≡ count_line up (words args.now) }
+    ensures fits { IfOk result (λ noted. Fits noted text.now) }
 {
-    let (key, rest) = next_key(args)?;
+    let (word, rest) = next_key(args)?;
     let (value, rest) = next_word(rest)?;
     let quiet = ending(rest)?;
-    let key = key_formed(key)?;
+    let key = key_formed(text, args, word)?;
     let by = number_up_to(u64::MAX, value).ok_or(LineFault::BadDelta)?;
-    Ok(Line::Bare(Command::Count { key, up, by, quiet }))
+    Ok(CommandOf::Count { key, up, by, quiet })
 }
 
-fn flush_line(args: &[u8]) -> Result<Line<'_>, LineFault>
-    ensures { result ≡ flush_line (words args.now) }
+fn flush_line(args: &[u8]) -> Result<Noted, LineFault>
+    ensures said { (text : List ℕ) → said text result ≡ flush_line (words args.now) }
+    ensures fits { (text : List ℕ) → IfOk result (λ noted. Fits noted text) }
 {
     let Some((word, rest)) = first_word(args) else {
-        return Ok(Line::Bare(Command::FlushAll {
+        return Ok(CommandOf::FlushAll {
             delay: 0,
             quiet: false,
-        }));
+        });
     };
     let quiet = ending(rest)?;
     // Of two words the first is the delay, whatever it is.
     if !quiet && word == b"noreply".as_slice() {
-        return Ok(Line::Bare(Command::FlushAll {
+        return Ok(CommandOf::FlushAll {
             delay: 0,
             quiet: true,
-        }));
+        });
     }
     let delay = delay_of(word).ok_or(LineFault::BadFormat)?;
-    Ok(Line::Bare(Command::FlushAll { delay, quiet }))
+    Ok(CommandOf::FlushAll { delay, quiet })
 }
 
 /// Reads the line of a command that is its name alone.
-fn lone_line(lone: Lone, args: &[u8]) -> Result<Line<'_>, LineFault>
-    ensures { result ≡ lone_line lone (words args.now) }
+fn lone_line(lone: Lone, args: &[u8]) -> Result<Noted, LineFault>
+    ensures said { (text : List ℕ) → said text result ≡ lone_line lone (words args.now) }
+    ensures fits { (text : List ℕ) → IfOk result (λ noted. Fits noted text) }
 {
     match first_word(args) {
-        None => Ok(Line::Bare(Command::Lone(lone))),
+        None => Ok(CommandOf::Lone(lone)),
         Some(_) => Err(LineFault::Unknown),
     }
 }
@@ -225,7 +213,7 @@ fn lone_line(lone: Lone, args: &[u8]) -> Result<Line<'_>, LineFault>
 /// Finds a word that has to stand, and what follows it.
 fn next_word(text: &[u8]) -> Result<(&[u8], &[u8]), LineFault>
     ensures { MatchResult result
-        (λ p. words text.now ≡ p.0.now ∷ words p.1.now)
+        (λ p. (words text.now ≡ p.0.now ∷ words p.1.now) × EndsIn text.now p.1.now)
         (λ fault. (fault ≡ Unknown) × (words text.now ≡ [])) }
 {
     first_word(text).ok_or(LineFault::Unknown)
@@ -272,13 +260,13 @@ fn noreply(word: &[u8], rest: &[u8]) -> Result<bool, LineFault>
     }
 }
 
-/// Makes the line of a head whose block has `len` bytes, unless its item would be charged more than `greatest`.
-fn fitting<'a>(greatest: u64, key: &[u8], len: u32, head: Head<'a>) -> Result<Line<'a>, LineFault>
-    ensures { result ≡ fitting greatest key.now len head.entry }
+/// Lets a block of `len` bytes pass, unless its item would be charged more than `greatest`.
+fn fitting(greatest: u64, key: &[u8], len: u32) -> Result<u32, LineFault>
+    ensures { result ≡ fitting greatest key.now len }
 {
     let len_wide = u64::from(len);
     if 48 + key.len() as u64 + len_wide <= greatest {
-        Ok(Line::Block(head, len))
+        Ok(len)
     } else {
         Err(LineFault::TooLarge {
             passed: len_wide + 2,
@@ -286,14 +274,29 @@ fn fitting<'a>(greatest: u64, key: &[u8], len: u32, head: Head<'a>) -> Result<Li
     }
 }
 
-fn key_formed(word: &[u8]) -> Result<Bytes<'_>, LineFault>
-    ensures { result ≡ key_formed word.now }
+/// Notes where the key stands with which the arguments begin.
+fn key_formed(text: &[u8], args: &[u8], key: &[u8]) -> Result<Span, LineFault>
+    requires tail { EndsIn text.now args.now }
+    requires first { (more : List (List ℕ)) × (words args.now ≡ key.now ∷ more) }
+    ensures { MatchResult result
+        (λ span. (key_formed key.now ≡ Ok key.now) × (at text.now span ≡ key.now))
+        (λ fault. key_formed key.now ≡ Err fault) }
 {
-    if is_key(word) {
-        Ok(Bytes::of(word))
-    } else {
-        Err(LineFault::BadFormat)
+    if !is_key(key) {
+        return Err(LineFault::BadFormat);
     }
+    Ok(Span::new(text.len() - args.len() + spaces_len(args), key.len()))
+}
+
+/// Notes where the keys stand that the words of the arguments are, at least one.
+fn keys_noted(text: &[u8], args: &[u8]) -> Result<KeySpan, LineFault>
+    requires { EndsIn text.now args.now }
+    ensures { MatchResult result
+        (λ keys. (keys_formed (words args.now) ≡ Ok (keys_at text.now keys)) × FitIn keys text.now)
+        (λ fault. keys_formed (words args.now) ≡ Err fault) }
+{
+    let keys = keys_formed(args)?;
+    Ok(KeySpan::new(text.len() - args.len(), keys.len()))
 }
 
 /// Finds the keys that the words of a text are, at least one. They are tested and counted in one walk.

@@ -2,11 +2,8 @@
 
 ghost use Rattle.std.specs.Prelude.{◌≡◌, ◌≢◌, ℕ, List, All, Ok};
 ghost use Rattle.mc_command.specs.Words.{words};
-ghost use Rattle.mc_command.specs.declared.command.Command.{Command};
-ghost use Rattle.mc_parse.specs.declared.line.Head.{Head};
-ghost use Rattle.mc_parse.specs.declared.line.Line.TheVariants.{Bare, Block};
 ghost use Rattle.mc_parse.specs.Units.{with_block};
-ghost use Rattle.mc_parse.specs.Lines.{meaning, IsWord, IsKey, HasKeys};
+ghost use Rattle.mc_parse.specs.Lines.{Line, meaning, IsWord, IsKey, HasKeys};
 
 /// The words of a line's text, which holds no line feed, hold neither a space nor a line feed.
 #[tactic(auto, using(crate::proofs::LineWords::words_are_words))]
@@ -16,9 +13,7 @@ pub fn words_hold_no_space_or_feed()
 
 /// Each key of a command that a line spells has 1 to 250 bytes, none of them a space or a line feed.
 pub fn keys_of_a_line_are_keys()
-    ensures bare { (greatest : ℕ) (text : List ℕ) (command : Command) → All (λ b. b ≢ 10) text →
-        meaning greatest (words text) ≡ Ok (Bare command) → HasKeys IsKey command }
-    ensures block { (greatest : ℕ) (text : List ℕ) (head : Head) (len : ℕ) (block : List ℕ) →
-        All (λ b. b ≢ 10) text → meaning greatest (words text) ≡ Ok (Block head len) →
-        HasKeys IsKey (with_block head block) }
+    ensures { (greatest : ℕ) (text : List ℕ) (line : Line) (block : List ℕ) →
+        All (λ b. b ≢ 10) text → meaning greatest (words text) ≡ Ok line →
+        HasKeys IsKey (with_block line block) }
 {}

@@ -1,108 +1,208 @@
-ghost use Rattle.std.specs.Prelude.{◌≡◌, ◌≤◌, List, ℕ, [], length, Ok};
-ghost use Rattle.mc_command.specs.Words.{words};
-ghost use Rattle.mc_parse.specs.Peeks.{unit_of, FindsSpelled, MissesNone};
-ghost use Rattle.mc_parse.specs.Notes.{said_of, IsKeptOf, StandsInLine, IsSecond, StandsAt, IsNoted};
-ghost use Rattle.mc_parse.specs.Lines.{meaning};
-ghost use Rattle.mc_parse.specs.declared.line.Line.TheVariants.{Bare, Block};
+ghost use Rattle.std.specs.Prelude.{◌≡◌, ◌≤◌, ◌+◌, ◌<◌, ℕ, List, length, take};
+ghost use Rattle.std.specs.Result.{IfOk};
+ghost use Rattle.mc_command.specs.Commands.{block_in, retrieval_in};
+ghost use Rattle.mc_parse.specs.Units.{with_block, IsLine};
+ghost use Rattle.mc_parse.specs.Peeks.{unit_of, FindsSpelled, MissesNone, StaysWhole};
+ghost use Rattle.mc_parse.specs.Cursors.{IsFirstCursor};
+ghost use Rattle.mc_parse.specs.Notes.{at, keys_at, read, said, FitIn, Fits, IsNoted};
 
-use crate::line::{Head, Line};
-use crate::peek::{Peek, peek_said};
-use mc_command::{Bytes, Command, LineFault, Lone, Verb, first_word_len, spaces_len};
+use crate::cursor::Cursor;
+use crate::line::line_of;
+use crate::peek::{Peek, block_peeked, without_carriage_return};
+use mc_command::{Bytes, Command, CommandOf, Keys, LineFault};
 
-/// What a line other than a retrieval's says beside its key. It lends nothing, so it can be kept.
+/// Where a key stands in the text of a line.
 #[derive(Clone, Copy)]
-pub enum Said {
-    Fault(LineFault),
-    /// The head of a storage command whose block of `len` bytes follows.
-    Store {
-        verb: Verb,
-        flags: u32,
-        exptime: i64,
-        quiet: bool,
-        len: u32,
-    },
-    /// The head of a cas whose block of `len` bytes follows.
-    Cas {
-        flags: u32,
-        exptime: i64,
-        unique: u64,
-        quiet: bool,
-        len: u32,
-    },
-    Touch {
-        exptime: i64,
-        quiet: bool,
-    },
-    Delete {
-        quiet: bool,
-    },
-    Count {
-        up: bool,
-        by: u64,
-        quiet: bool,
-    },
-    FlushAll {
-        delay: u64,
-        quiet: bool,
-    },
-    Lone(Lone),
+pub struct Span {
+    from: usize,
+    len: usize,
 }
 
-/// What is kept of a line.
-#[derive(Drop)]
-pub enum Kept<'a> {
-    /// What it says, and its key; of a line without a key, no bytes.
-    Keyed(Said, Bytes<'a>),
-    /// A retrieval of `count` keys, of gat or gats where it has an exptime.
-    Retrieval {
-        exptime: Option<i64>,
-        count: usize,
-        with_unique: bool,
-    },
+impl Span {
+    /// Makes the span of the `len` bytes behind the first `from`.
+    pub(crate) fn new(from: usize, len: usize) -> Span
+        ensures from { result.from ≡ from }
+        ensures len { result.len ≡ len }
+    {
+        Span { from, len }
+    }
+
+    /// Lends the bytes of the span. Those that a text doesn't have are left out.
+    #[inline]
+    pub fn lend<'a>(&self, text: &'a [u8]) -> Bytes<'a>
+        ensures { result ≡ at text.now self.now }
+    {
+        let (_, behind) = text.split_at(self.from.min(text.len()));
+        let (bytes, _) = behind.split_at(self.len.min(behind.len()));
+        Bytes::of(bytes)
+    }
 }
 
-/// The first line of unread bytes, if it isn't a retrieval's: what it says, and where.
+/// Where the keys of a retrieval stand in the text of a line, and how many they are.
 #[derive(Clone, Copy)]
-pub struct LineNote {
+pub struct KeySpan {
+    pub(crate) from: usize,
+    pub(crate) count: usize,
+}
+
+impl KeySpan {
+    /// Makes the span of the `count` words behind the first `from` bytes.
+    pub(crate) fn new(from: usize, count: usize) -> KeySpan
+        ensures from { result.from ≡ from }
+        ensures count { result.count ≡ count }
+    {
+        KeySpan { from, count }
+    }
+
+    /// Lends the keys. It looks at none of them.
+    #[inline]
+    pub fn lend<'a>(&self, text: &'a [u8]) -> Keys<'a>
+        requires { FitIn self.now text.now }
+        ensures { result ≡ keys_at text.now self.now }
+    {
+        let (_, behind) = text.split_at(self.from);
+        Keys::counted(behind, self.count)
+    }
+}
+
+/// A command as it is noted of a line: where its keys stand, and how long its block is.
+pub type Noted = CommandOf<Span, KeySpan, u32>;
+
+/// Lends the command that was noted of a line's text, with its block, where it has one.
+#[inline]
+pub fn lend<'a>(noted: &Noted, text: &'a [u8], block: &'a [u8]) -> Command<'a>
+    requires { Fits noted.now text.now }
+    ensures { result ≡ with_block (read text.now noted.now) block.now }
+{
+    match *noted {
+        CommandOf::Store {
+            verb,
+            key,
+            flags,
+            exptime,
+            quiet,
+            ..
+        } => CommandOf::Store {
+            verb,
+            key: key.lend(text),
+            flags,
+            exptime,
+            block: Bytes::of(block),
+            quiet,
+        },
+        CommandOf::Cas {
+            key,
+            flags,
+            exptime,
+            unique,
+            quiet,
+            ..
+        } => CommandOf::Cas {
+            key: key.lend(text),
+            flags,
+            exptime,
+            block: Bytes::of(block),
+            unique,
+            quiet,
+        },
+        CommandOf::Get { keys, with_unique } => CommandOf::Get {
+            keys: keys.lend(text),
+            with_unique,
+        },
+        CommandOf::GetTouch {
+            exptime,
+            keys,
+            with_unique,
+        } => CommandOf::GetTouch {
+            exptime,
+            keys: keys.lend(text),
+            with_unique,
+        },
+        CommandOf::Touch {
+            key,
+            exptime,
+            quiet,
+        } => CommandOf::Touch {
+            key: key.lend(text),
+            exptime,
+            quiet,
+        },
+        CommandOf::Delete { key, quiet } => CommandOf::Delete {
+            key: key.lend(text),
+            quiet,
+        },
+        CommandOf::Count { key, up, by, quiet } => CommandOf::Count {
+            key: key.lend(text),
+            up,
+            by,
+            quiet,
+        },
+        CommandOf::FlushAll { delay, quiet } => CommandOf::FlushAll { delay, quiet },
+        CommandOf::Lone(lone) => CommandOf::Lone(lone),
+    }
+}
+
+/// Returns how long the block is that a noted command announces.
+#[inline]
+fn announced(noted: &Noted) -> Option<u32>
+    ensures { result ≡ block_in noted.now }
+{
+    match noted {
+        CommandOf::Store { block, .. } | CommandOf::Cas { block, .. } => Some(*block),
+        _ => None,
+    }
+}
+
+/// Returns what a noted retrieval asks: the exptime that it may set, its keys, and whether the unique number is told.
+fn retrieval_in(noted: &Noted) -> Option<(Option<i64>, KeySpan, bool)>
+    ensures { result ≡ retrieval_in noted.now }
+{
+    match *noted {
+        CommandOf::Get { keys, with_unique } => Some((None, keys, with_unique)),
+        CommandOf::GetTouch {
+            exptime,
+            keys,
+            with_unique,
+        } => Some((Some(exptime), keys, with_unique)),
+        _ => None,
+    }
+}
+
+/// The first line of unread bytes: what it says, and where.
+#[derive(Clone, Copy)]
+pub struct Note {
+    /// Where the line's text ends.
+    to: usize,
     /// Where the line feed is.
     end: usize,
-    /// Where the key begins.
-    key_from: usize,
-    /// How many bytes the key has.
-    key_len: usize,
-    said: Said,
+    said: Result<Noted, LineFault>,
 }
 
-impl LineNote {
-    /// Notes what a line says whose text is given, and whose line feed is at `end`.
-    pub fn of(text: &[u8], end: usize, said: Said, key: &[u8]) -> LineNote
-        ensures end { result.end ≡ end }
-        ensures said { result.said ≡ said }
-        ensures key_len { result.key_len ≡ length key.now }
-        ensures key_from { result.key_from ≤ length text.now }
-        ensures key { IsSecond key.now (words text.now) →
-            StandsAt result.key_from key.now text.now }
+impl Note {
+    /// Reads the first line of the unread bytes, whose line feed is at `end`.
+    pub fn of(greatest: u64, unread: &[u8], end: usize) -> Note
+        requires line { IsLine (take (end + 1) unread.now) (take end unread.now) }
+        requires inside { end < length unread.now }
+        ensures { IsNoted greatest result unread.now }
     {
-        LineNote {
+        let (line, _) = unread.split_at(end);
+        let text = without_carriage_return(line);
+        Note {
+            to: text.len(),
             end,
-            key_from: second_word_at(text),
-            key_len: key.len(),
-            said,
+            said: line_of(greatest, text),
         }
     }
 
     /// Counts the bytes of the line and of the block that it announces; none where it announces no block.
     pub fn announced(&self) -> usize {
         match self.said {
-            Said::Store { len, .. } => self.with_block(len),
-            Said::Cas { len, .. } => self.with_block(len),
-            _ => 0,
+            Ok(noted) => match announced(&noted) {
+                Some(len) => self.end.saturating_add(3).saturating_add(len as usize),
+                None => 0,
+            },
+            Err(_) => 0,
         }
-    }
-
-    /// Counts the bytes of the line, of a block of `len` bytes and of its end.
-    fn with_block(&self, len: u32) -> usize {
-        self.end.saturating_add(3).saturating_add(len as usize)
     }
 
     /// Tells what the unread bytes begin with. Of the line it looks at nothing.
@@ -114,163 +214,30 @@ impl LineNote {
         ensures none { (greatest : ℕ) → IsNoted greatest self.now unread.now →
             MissesNone greatest (unit_of result) unread.now }
     {
-        let (_, behind) = unread.split_at(self.key_from);
-        let (key, _) = behind.split_at(self.key_len);
-        peek_said(line_again(self.said, key), unread, self.end)
-    }
-}
-
-/// Makes the line again that says this of a key.
-#[inline]
-fn line_again(said: Said, key: &[u8]) -> Result<Line<'_>, LineFault>
-    ensures { result ≡ said_of said key.now }
-{
-    let key = Bytes::of(key);
-    match said {
-        Said::Fault(fault) => Err(fault),
-        Said::Store {
-            verb,
-            flags,
-            exptime,
-            quiet,
-            len,
-        } => Ok(Line::Block(
-            Head::Store {
-                verb,
-                key,
-                flags,
-                exptime,
-                quiet,
+        let (text, _) = unread.split_at(self.to);
+        match self.said {
+            Err(fault) => Peek::Bad(fault, self.end + 1),
+            Ok(noted) => match announced(&noted) {
+                None => Peek::Whole(lend(&noted, text, &[]), self.end + 1),
+                Some(len) => block_peeked(&noted, text, unread, self.end, len as usize),
             },
-            len,
-        )),
-        Said::Cas {
-            flags,
-            exptime,
-            unique,
-            quiet,
-            len,
-        } => Ok(Line::Block(
-            Head::Cas {
-                key,
-                flags,
-                exptime,
-                unique,
-                quiet,
-            },
-            len,
-        )),
-        Said::Touch { exptime, quiet } => Ok(Line::Bare(Command::Touch {
-            key,
-            exptime,
-            quiet,
-        })),
-        Said::Delete { quiet } => Ok(Line::Bare(Command::Delete { key, quiet })),
-        Said::Count { up, by, quiet } => Ok(Line::Bare(Command::Count { key, up, by, quiet })),
-        Said::FlushAll { delay, quiet } => Ok(Line::Bare(Command::FlushAll { delay, quiet })),
-        Said::Lone(lone) => Ok(Line::Bare(Command::Lone(lone))),
+        }
     }
-}
 
-/// Tells what is to be kept of a line.
-pub fn kept_of(line: Result<Line<'_>, LineFault>) -> Kept<'_>
-    requires { (greatest : ℕ) × (ws : List (List ℕ)) × (line ≡ meaning greatest ws) }
-    ensures { IsKeptOf line.entry result }
-{
-    match line {
-        Err(fault) => keyless(Said::Fault(fault)),
-        Ok(Line::Block(head, len)) => kept_head(head, len),
-        Ok(Line::Bare(command)) => kept_command(command),
+    /// Gives the cursor before the first turn of the retrieval that the line says. There is none where it says
+    /// something else.
+    pub fn cursor(&self, unread: &[u8]) -> Option<Cursor>
+        requires { (greatest : ℕ) × IsNoted greatest self.now unread.now }
+        ensures some { (greatest : ℕ) →
+            IsNoted greatest self.now unread.now → IsFirstCursor greatest result unread.now }
+        // Where there is none a unit is whole after any turns.
+        ensures none { (greatest taken : ℕ) → IsNoted greatest self.now unread.now →
+            result ≡ None → StaysWhole greatest taken unread.now }
+    {
+        let Ok(noted) = self.said else {
+            return None;
+        };
+        let (exptime, keys, with_unique) = retrieval_in(&noted)?;
+        Some(Cursor::first(keys, self.to, self.end + 1, with_unique, exptime))
     }
-}
-
-/// Keeps what a line without a key says.
-fn keyless<'a>(said: Said) -> Kept<'a>
-    ensures { result ≡ Kept.Keyed said [] }
-{
-    Kept::Keyed(said, Bytes::of(&[]))
-}
-
-/// Tells what is to be kept of the line of a head.
-fn kept_head(head: Head<'_>, len: u32) -> Kept<'_>
-    ensures { IsKeptOf (Ok (Block head.entry len)) result }
-{
-    match head {
-        Head::Store {
-            verb,
-            key,
-            flags,
-            exptime,
-            quiet,
-        } => Kept::Keyed(
-            Said::Store {
-                verb,
-                flags,
-                exptime,
-                quiet,
-                len,
-            },
-            key,
-        ),
-        Head::Cas {
-            key,
-            flags,
-            exptime,
-            unique,
-            quiet,
-        } => Kept::Keyed(
-            Said::Cas {
-                flags,
-                exptime,
-                unique,
-                quiet,
-                len,
-            },
-            key,
-        ),
-    }
-}
-
-/// Tells what is to be kept of the line of a command. None that has a block stands in a line.
-fn kept_command(command: Command<'_>) -> Kept<'_>
-    requires { StandsInLine command }
-    ensures { IsKeptOf (Ok (Bare command.entry)) result }
-{
-    match command {
-        Command::Get { keys, with_unique } => Kept::Retrieval {
-            exptime: None,
-            count: keys.len(),
-            with_unique,
-        },
-        Command::GetTouch {
-            exptime,
-            keys,
-            with_unique,
-        } => Kept::Retrieval {
-            exptime: Some(exptime),
-            count: keys.len(),
-            with_unique,
-        },
-        Command::Touch {
-            key,
-            exptime,
-            quiet,
-        } => Kept::Keyed(Said::Touch { exptime, quiet }, key),
-        Command::Delete { key, quiet } => Kept::Keyed(Said::Delete { quiet }, key),
-        Command::Count { key, up, by, quiet } => Kept::Keyed(Said::Count { up, by, quiet }, key),
-        Command::FlushAll { delay, quiet } => keyless(Said::FlushAll { delay, quiet }),
-        Command::Lone(lone) => keyless(Said::Lone(lone)),
-        Command::Store { .. } | Command::Cas { .. } => unreachable!(),
-    }
-}
-
-/// Finds where the second word of a text begins.
-fn second_word_at(text: &[u8]) -> usize
-    ensures within { result ≤ length text.now }
-    ensures at { (word : List ℕ) →
-        IsSecond word (words text.now) → StandsAt result word text.now }
-{
-    let first = first_word_len(text);
-    let (_, rest) = text.split_at(first);
-    first + spaces_len(rest)
 }

@@ -1,13 +1,14 @@
-ghost use Rattle.std.specs.Prelude.{◌≡◌, ◌≢◌, ◌+◌, ◌<◌, ℕ, length, take, IfSome, None};
+ghost use Rattle.std.specs.Prelude.{◌≡◌, ◌≢◌, ◌+◌, ◌-◌, ◌^◌, ◌<◌, ℕ, length, take, IfSome, Some, None, Ok};
 ghost use Rattle.std.specs.List.{AllByRecursion};
 ghost use Rattle.std.specs.Str.Lines.{strip_carriage_return};
-ghost use Rattle.mc_parse.specs.Units.{IsLine, HasLine, with_block};
+ghost use Rattle.mc_parse.specs.Units.{IsLine, HasLine};
 ghost use Rattle.mc_parse.specs.Peeks.{unit_of, FindsSpelled, MissesNone, FindsWhatever};
-ghost use Rattle.mc_parse.specs.Notes.{Says};
+ghost use Rattle.mc_parse.specs.Notes.{read, Fits, Says};
+ghost use Rattle.mc_command.specs.Commands.{block_in};
 
 use crate::ahead::Ahead;
-use crate::line::{Head, Line};
-use mc_command::{Bytes, Command, LineFault};
+use crate::note::{Noted, lend};
+use mc_command::{Command, LineFault};
 use memchr::memchr;
 
 /// What the unread bytes begin with.
@@ -56,71 +57,36 @@ pub fn first_feed(unread: &[u8], searched: usize) -> Option<usize>
     }
 }
 
-/// Tells what the unread bytes begin with, whose first line says this and has its line feed at `end`.
+/// Tells what the unread bytes begin with, whose first line has its line feed at `end`, and this noted of its text. A block of
+/// `len` bytes is to follow it.
 #[inline]
-pub fn peek_said<'a>(line: Result<Line<'a>, LineFault>, unread: &'a [u8], end: usize) -> Peek<'a>
+pub fn block_peeked<'a>(
+    noted: &Noted,
+    text: &'a [u8],
+    unread: &'a [u8],
+    end: usize,
+    len: usize,
+) -> Peek<'a>
     requires line { IsLine (take (end + 1) unread.now) (take end unread.now) }
     requires inside { end < length unread.now }
-    ensures found { (greatest : ℕ) → Says greatest unread.now end line.entry →
+    requires fits { Fits noted.now text.now }
+    requires len { block_in noted.now ≡ Some len }
+    requires short { len < 2 ^ 32 }
+    ensures found { (greatest : ℕ) → Says greatest unread.now end (Ok (read text.now noted.now)) →
         FindsSpelled greatest (unit_of result) unread.now }
-    ensures none { (greatest : ℕ) → Says greatest unread.now end line.entry →
+    ensures none { (greatest : ℕ) → Says greatest unread.now end (Ok (read text.now noted.now)) →
         MissesNone greatest (unit_of result) unread.now }
 {
     let (_, rest) = unread.split_at(end + 1);
-    match line {
-        Err(fault) => Peek::Bad(fault, end + 1),
-        Ok(Line::Bare(command)) => Peek::Whole(command, end + 1),
-        Ok(Line::Block(head, len)) => {
-            let len = len as usize;
-            if rest.len() < len + 2 {
-                return Peek::More;
-            }
-            let (block, after) = rest.split_at(len);
-            let (ended, _) = after.split_at(2);
-            if ended == b"\r\n".as_slice() {
-                Peek::Whole(with_block(head, block), end + 1 + (len + 2))
-            } else {
-                Peek::Bad(LineFault::BadChunk, end + 1 + (len + 2))
-            }
-        }
+    if rest.len() < len + 2 {
+        return Peek::More;
     }
-}
-
-/// Makes the command of a line's head and its block.
-#[inline]
-fn with_block<'a>(head: Head<'a>, block: &'a [u8]) -> Command<'a>
-    ensures { result ≡ with_block head.entry block.now }
-{
-    let block = Bytes::of(block);
-    match head {
-        Head::Store {
-            verb,
-            key,
-            flags,
-            exptime,
-            quiet,
-        } => Command::Store {
-            verb,
-            key,
-            flags,
-            exptime,
-            block,
-            quiet,
-        },
-        Head::Cas {
-            key,
-            flags,
-            exptime,
-            unique,
-            quiet,
-        } => Command::Cas {
-            key,
-            flags,
-            exptime,
-            block,
-            unique,
-            quiet,
-        },
+    let (block, after) = rest.split_at(len);
+    let (ended, _) = after.split_at(2);
+    if ended == b"\r\n".as_slice() {
+        Peek::Whole(lend(noted, text, block), end + 1 + (len + 2))
+    } else {
+        Peek::Bad(LineFault::BadChunk, end + 1 + (len + 2))
     }
 }
 

@@ -3,7 +3,7 @@ use Rattle.std.specs.Prelude.{ℕ, ◌+◌, ◌<◌, ◌==◌, Bool, true, false
 use Rattle.std.specs.declared.vec.Vec.{Vec}
 use Rattle.std.specs.declared.alloc.Global.{Global}
 use Rattle.mc_command.specs.Commands.{Shape, Single, Retrieval, Alone, shape, is_quiet}
-use Rattle.mc_command.specs.declared.command.Command.{Command}
+use Rattle.mc_command.specs.Commands.{Command}
 use Rattle.mc_command.specs.declared.lone.Lone.{Lone}
 use Rattle.mc_command.specs.declared.lone.Lone.TheVariants.{Version, Quit}
 use Rattle.mc_command.specs.declared.reply.Reply.{Reply}

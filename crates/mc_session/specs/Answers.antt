@@ -1,7 +1,7 @@
 -- What one turn of the unit that was found does.
 use Rattle.std.specs.Prelude.{◌≡◌, ℕ, ◌+◌, ◌^◌, ◌<◌, ◌≤◌, ◌==◌, List, ◌++◌, length, Option, Some, if◌then◌else◌, slice_get}
 use Rattle.mc_command.specs.Commands.{steps}
-use Rattle.mc_command.specs.declared.command.Command.{Command}
+use Rattle.mc_command.specs.Commands.{Command}
 use Rattle.mc_command.specs.declared.step.KeyStep.{KeyStep}
 use Rattle.mc_command.specs.declared.step.Steps.{Ghosts as Relations}
 use Rattle.mc_command.specs.declared.reply.Reply.{Reply}

@@ -1,6 +1,6 @@
 ghost use Rattle.std.specs.Prelude.{◌≡◌, ◌++◌, ◌^◌, ◌<◌, ℕ, List, IfOk, IfErr, IfSome, IsTrue, IsFalse, OnOk, OnErr, length};
 ghost use Rattle.mc_command.specs.Commands.{steps, HasShortKeys};
-ghost use Rattle.mc_command.specs.declared.command.Command.{Command};
+ghost use Rattle.mc_command.specs.Commands.{Command};
 ghost use Rattle.mc_parse.specs.Units.{Request, Fault, LongLine};
 ghost use Rattle.mc_parse.specs.Peeks.{unit_of};
 ghost use Rattle.mc_session.specs.Answers.{next_of, Tells, TakesFirst, DecidesFound};

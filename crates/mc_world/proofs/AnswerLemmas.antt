@@ -6,7 +6,7 @@ use Rattle.std.specs.Option.{MatchOption}
 use Rattle.std.proofs.lemmas.Bool.{eqb-true, eqb-false}
 use Rattle.mc_command.specs.Commands.{steps}
 use Rattle.mc_command.specs.Plain.{Plain, plain}
-use Rattle.mc_command.specs.declared.command.Command.{Command}
+use Rattle.mc_command.specs.Commands.{Command}
 use Rattle.mc_command.specs.declared.step.KeyStep.{KeyStep}
 use Rattle.mc_parse.specs.Units.{ProtocolUnit, Request, Fault, LongLine}
 use Rattle.mc_reply.specs.Texts.{reply_text, plain_text, fault_text, long_text, spent_text}

@@ -3,7 +3,7 @@ use Rattle.std.specs.Prelude.{◌≡◌, ◌⊎◌, ℕ, zero, suc, ◌-◌, ◌
 use Rattle.std.specs.Coded.{Coded, code_by, coded×, coded_ℕ, coded_bool, coded_list}
 use Rattle.std.specs.Option.{MatchOption}
 use Rattle.mc_command.specs.Commands.{steps}
-use Rattle.mc_command.specs.declared.command.Command.{Command}
+use Rattle.mc_command.specs.Commands.{Command}
 use Rattle.mc_command.specs.Plain.{Plain, coded_plain, plain, Answered, Spent}
 use Rattle.mc_command.specs.declared.step.KeyStep.{KeyStep}
 use Rattle.mc_command.specs.declared.step.Steps.{Ghosts as Relations}

@@ -1,4 +1,6 @@
 use super::*;
+use crate::note::lend;
+use mc_command::Command;
 use std::test::*;
 
 const GREATEST: u64 = 1048576;
@@ -105,41 +107,37 @@ fn keys_of_250_and_of_251_bytes(rt: HostRuntime) {
 
 #[test]
 fn what_a_line_says(rt: HostRuntime) {
-    match line_of(
-        GREATEST,
-        b" cas key  7 -1 003 18446744073709551615 noreply ",
-    ) {
-        Ok(Line::Block(head, len)) => {
-            assert_eq!(rt; len, 3);
-            match head {
-                Head::Cas {
-                    key,
-                    flags,
-                    exptime,
-                    unique,
-                    quiet,
-                } => {
-                    assert!(rt; key.as_slice() == b"key".as_slice());
-                    assert_eq!(rt; (flags, exptime, unique, quiet), (7, -1, u64::MAX, true));
-                }
-                Head::Store { .. } => assert!(rt; false),
-            }
+    let text: &[u8] = b" cas key  7 -1 003 18446744073709551615 noreply ";
+    match line_of(GREATEST, text) {
+        Ok(
+            CommandOf::Cas {
+                key,
+                flags,
+                exptime,
+                block,
+                unique,
+                quiet,
+            },
+        ) => {
+            assert_eq!(rt; block, 3);
+            assert!(rt; key.lend(text).as_slice() == b"key".as_slice());
+            assert_eq!(rt; (flags, exptime, unique, quiet), (7, -1, u64::MAX, true));
         }
         _ => assert!(rt; false),
     }
-    match line_of(GREATEST, b"gats 0 a  b") {
-        Ok(
-            Line::Bare(
-                Command::GetTouch {
-                    exptime,
-                    keys,
-                    with_unique,
-                },
-            ),
-        ) => {
-            assert_eq!(rt; (exptime, keys.len(), with_unique), (0, 2, true));
-            assert!(rt; keys.get(1) == Some(b"b".as_slice()));
-        }
-        _ => assert!(rt; false),
+    let text: &[u8] = b"gats 0 a  b";
+    match line_of(GREATEST, text) {
+        Ok(noted) => match lend(&noted, text, &[]) {
+            Command::GetTouch {
+                exptime,
+                keys,
+                with_unique,
+            } => {
+                assert_eq!(rt; (exptime, keys.len(), with_unique), (0, 2, true));
+                assert!(rt; keys.get(1) == Some(b"b".as_slice()));
+            }
+            _ => assert!(rt; false),
+        },
+        Err(_) => assert!(rt; false),
     }
 }
