@@ -59,9 +59,7 @@ pub fn accept_all<R: Wait + Clock>(
     for _ in rt.forever() {
         match door.accept(rt) {
             Came::Connection(connection) => {
-                if arrivals.push(rt, connection) {
-                    turn = arrivals.call(turn);
-                }
+                turn = arrivals.deal(rt, connection, turn);
             }
             Came::Nothing => {}
             Came::Failed => break,

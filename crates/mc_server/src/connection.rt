@@ -17,8 +17,6 @@ pub enum Parting {
     OneTooMany,
     /// The system has no descriptor for it.
     NoDescriptor,
-    /// As many as may wait for a worker do.
-    QueueFull,
     /// There is no memory for it, or the system can't watch it.
     NoRoom,
     /// The other end sends no more.
@@ -37,7 +35,6 @@ impl Parting {
         match self {
             Parting::OneTooMany => "one more than -c allows",
             Parting::NoDescriptor => "no descriptor is left",
-            Parting::QueueFull => "too many wait for a worker",
             Parting::NoRoom => "no memory for it",
             Parting::Ended => "the client closed it",
             Parting::ReadFault => "read fault",

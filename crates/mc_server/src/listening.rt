@@ -3,7 +3,7 @@ ghost use Rattle.std.specs.Prelude.{◌≡◌, ◌≤◌};
 ghost use Rattle.mc_server.specs.Ends.{EndsListening};
 
 use crate::accepting::accept_all;
-use crate::arrivals::{Arrivals, Bell, Share};
+use crate::arrivals::{Arrivals, Inbox, Share};
 use crate::asker::Asker;
 use crate::clock::AskedClock;
 use crate::connection::Crowd;
@@ -33,11 +33,11 @@ struct Post {
     events: Events,
 }
 
-/// The workers' posts, and what calls them, in the same order.
+/// The workers' posts, and where connections wait for them, in the same order.
 #[derive(Drop)]
 struct Posts {
     posts: Vec<Post>,
-    bells: Vec<Bell>,
+    inboxes: Vec<Inbox>,
 }
 
 /// Where it listens, and whom it serves there.
@@ -113,8 +113,8 @@ where
     let address = SocketAddr::from((options.address, options.port));
     let listener = bound(rt, address)?;
     let (shared, caller) = Shared::new(alloc, settings_of(options.pages), Fnv)?;
-    let Posts { posts, bells } = make_posts(rt, alloc, options.workers)?;
-    let arrivals = Arrivals::new(alloc, options.connections, bells)?;
+    let Posts { posts, inboxes } = make_posts(rt, alloc, options.workers)?;
+    let arrivals = Arrivals::new(inboxes);
     look_for_descriptors(&listener)?;
     let told = if options.verbose { Some(stderr) } else { None };
     let opening = Opening {
@@ -149,20 +149,21 @@ fn look_for_descriptors(listener: &TcpListener) -> io::Result<()> {
 /// Makes so many posts.
 fn make_posts<R: Net>(rt: &R, alloc: Global, count: u32) -> Result<Posts, Wanting> {
     let mut posts = Vec::new(alloc);
-    let mut bells = Vec::new(alloc);
+    let mut inboxes = Vec::new(alloc);
     for worker in 0..count {
         let (poll, waker) = watched(rt)?;
         let events = Events::with_capacity(alloc, EVENTS)?;
         let post = Post {
-            share: Share::new(worker, count),
+            share: Share::new(worker),
             poll,
             events,
         };
-        if posts.push(post).is_err() || bells.push(Bell::new(waker)).is_err() {
+        let inbox = Inbox::new(alloc, waker)?;
+        if posts.push(post).is_err() || inboxes.push(inbox).is_err() {
             return Err(Wanting::Memory);
         }
     }
-    Ok(Posts { posts, bells })
+    Ok(Posts { posts, inboxes })
 }
 
 /// A set of sources, and what wakes the one who waits for them.

@@ -1,16 +1,16 @@
 //! A session over TCP on 127.0.0.1, with both ends in this process.
 
-use crate::arrivals::{Arrivals, Share};
+use crate::arrivals::{Arrivals, Inbox, Share};
 use crate::asker::Asker;
 use crate::connection::{Connection, Crowd};
-use crate::links::{EVENTS, SocketLinks};
+use crate::links::{EVENTS, SocketLinks, WAKER};
 use crate::listening::bound;
 use crate::serving::settings_of;
 use mc_hop::Fnv;
 use mc_shared::Shared;
 use mc_time::{Fixed, Moment};
 use mio::net::TcpStream as Stream;
-use mio::{Events, Poll};
+use mio::{Events, Poll, Waker};
 use std::io::{Read, Write};
 use std::net::{Ipv4Addr, Net, Shutdown, SocketAddr, TcpListener, TcpStream};
 use std::sync::Wait;
@@ -30,21 +30,17 @@ where
     client.shutdown(Shutdown::Write)?;
     let (stream, peer) = listener.accept()?;
     stream.set_nonblocking(true)?;
-    let arrivals = Arrivals::new(alloc, 1, Vec::new(alloc))?;
+    let poll = Poll::new(rt)?;
+    let mut inboxes = Vec::new(alloc);
+    inboxes.push(Inbox::new(alloc, Waker::new(poll.registry(), WAKER)?)?)?;
+    let arrivals = Arrivals::new(inboxes);
     let crowd = Crowd::new(alloc, 1, None)?;
     let stream = Stream::from_std(stream);
-    arrivals.push(rt, Connection::new(crowd, stream, 1, peer));
+    arrivals.deal(rt, Connection::new(crowd, stream, 1, peer), 0);
     arrivals.end();
     let (shared, caller) = Shared::new(alloc, settings_of(1), Fnv)?;
     let events = Events::with_capacity(alloc, EVENTS)?;
-    let mut links = SocketLinks::new(
-        rt,
-        alloc,
-        &arrivals,
-        Share::new(0, 1),
-        Poll::new(rt)?,
-        events,
-    );
+    let mut links = SocketLinks::new(rt, alloc, &arrivals, Share::new(0), poll, events);
     let clock = Fixed(Moment::from_seconds_at_most(1000));
     Asker::new(&shared, caller).work(rt, alloc, &mut links, &clock);
     let mut answer = Vec::new(alloc);
