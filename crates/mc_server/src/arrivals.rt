@@ -11,9 +11,12 @@ use std::time::{Clock, Duration, Instant};
 /// How long a worker rests at most, in milliseconds: what is to be done once a second is done in time.
 const REST: u64 = 500;
 
-/// How long a connection waits for the worker that it was dealt to until another takes it, in
-/// milliseconds.
+/// How long a connection waits for a worker that is busy until another takes it, in milliseconds.
 const PATIENCE: u64 = 10;
+
+/// The same where the worker was called and the system doesn't let it run: it will soon, and where others
+/// took its connections meanwhile, they would have more to do than it from then on.
+const LONG_PATIENCE: u64 = 250;
 
 /// The connections that were dealt to a worker and wait for it, and what calls it. There is no bound but
 /// that of the connections that may be open.
@@ -25,19 +28,19 @@ pub struct Inbox {
     /// How many of them were taken.
     taken: AtomicU64,
     waker: Waker,
-    /// Whether the worker rests, or is about to.
+    /// Whether the worker rests, or is about to, or has still to begin.
     rests: AtomicBool,
 }
 
 impl Inbox {
-    /// Makes an empty one, of a worker that doesn't rest yet. The one error is a refused allocation.
+    /// Makes an empty one, of a worker that has still to begin. The one error is a refused allocation.
     pub fn new(alloc: Global, waker: Waker) -> Result<Inbox, AllocError> {
         Ok(Inbox {
             queue: SegQueue::new(alloc)?,
             dealt: AtomicU64::new(0),
             taken: AtomicU64::new(0),
             waker,
-            rests: AtomicBool::new(false),
+            rests: AtomicBool::new(true),
         })
     }
 
@@ -58,6 +61,15 @@ impl Inbox {
     /// Says whether one of the first so many waits.
     fn has_of(&self, dealt: u64) -> bool {
         self.taken.load(Ordering::SeqCst) < dealt
+    }
+
+    /// Says after how many milliseconds others take what waits.
+    fn patience(&self) -> u64 {
+        if self.rests.load(Ordering::SeqCst) {
+            LONG_PATIENCE
+        } else {
+            PATIENCE
+        }
     }
 
     /// Says whether one waits.
@@ -132,7 +144,7 @@ impl Arrivals {
             share.seen = None;
             return None;
         }
-        if seen.is_long_ago(rt) {
+        if seen.is_past(rt, other.patience()) {
             return other.take(rt);
         }
         None
@@ -223,10 +235,10 @@ struct Seen {
 }
 
 impl Seen {
-    /// Says whether they have waited too long since.
-    fn is_long_ago<R: Clock>(&self, rt: &R) -> bool {
+    /// Says whether they were seen so many milliseconds ago.
+    fn is_past<R: Clock>(&self, rt: &R, patience: u64) -> bool {
         match self.since.elapsed(rt) {
-            Ok(time) => time >= Duration::from_millis(PATIENCE),
+            Ok(time) => time >= Duration::from_millis(patience),
             Err(_) => true,
         }
     }

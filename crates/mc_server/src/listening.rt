@@ -256,6 +256,7 @@ fn man<R: Wait + time::Clock, C: Clock>(
         poll,
         events,
     } = post;
+    arrivals.end_rest(&share);
     let mut links = SocketLinks::new(rt, alloc, arrivals, share, poll, events);
     asker.work(rt, alloc, &mut links, clock);
 }
