@@ -1,5 +1,5 @@
 -- Which decisions are the plain machine's: those that take a state on by one shelf and the desk.
-use Rattle.std.proofs.Common.{◌≡◌, ◌≢◌, inl, inr, Bool, true, false, true≢false, Option, Some, None, IfSome, ℕ, ◌<◌, List, [], ◌∷◌, Result, Err, sym, refl, ap, ◌∙◌, subst, arith}
+use Rattle.std.proofs.Common.{◌≡◌, ◌≢◌, inl, inr, Bool, true, false, true≢false, Option, Some, None, ℕ, ◌<◌, List, [], ◌∷◌, Result, Err, sym, refl, ap, ◌∙◌, subst, arith}
 use Rattle.mc_time.specs.Death.{expiry_of}
 use Rattle.mc_time.specs.declared.expiry.Expiry.{Expiry}
 use Rattle.mc_command.specs.Plain.{Plain, Entry as Item, Outcome, MayFail, alive, changed, hit_of, plain, read_row, row_of, standing, stepped, without_dead}
@@ -7,13 +7,11 @@ use Rattle.mc_command.specs.declared.step.KeyStep.{KeyStep}
 use Rattle.mc_command.specs.declared.step.KeyStep.TheVariants.{Read, ReadTouch}
 use Rattle.mc_command.specs.declared.reply.Reply.{Reply}
 use Rattle.mc_command.specs.declared.reply.Reply.TheVariants.{Miss}
-use Rattle.mc_shelf.specs.States.{ShelfContent, ShelfState, DeskState, IsHash, IsAt, CanStand}
+use Rattle.mc_shelf.specs.States.{ShelfContent, DeskState, IsHash, IsAt, CanStand}
 use Rattle.mc_command.specs.Commands.{key_of}
 use Rattle.std.specs.FinMap.{get}
-use Rattle.mc_command.specs.Laws.{IsOnKey}
 use Rattle.mc_command.specs.declared.row.Row.TheVariants.{Reads}
-use Rattle.mc_shelf.specs.Plans.{IsPlan, LookTakesMemory, answered, is_gone, next_by, next_of, row_at, writes}
-use Rattle.mc_shelf.specs.declared.plan.Plan.{Plan}
+use Rattle.mc_shelf.specs.Plans.{LookTakesMemory, answered, is_gone, next_by, next_of, row_at, writes}
 use Rattle.mc_shelf.specs.Parts.{IsShelfOf, IsDeskOf, GoesTo, GoesByStep, GoesWithoutDesk}
 use Rattle.mc_shared.specs.Bays.{Content, OfShelf, OfDesk}
 use Rattle.mc_shared.specs.History.{Beginning, Operation, Stepped, shelf_in, left_by, next, after, IsRight}
@@ -23,7 +21,7 @@ use Rattle.mc_shared.specs.Steps.{Decides, Fitted}
 use Rattle.mc_command.specs.declared.step.StepFault.{StepFault}
 use Rattle.mc_command.specs.declared.step.StepFault.TheVariants.{NoMemory, NumbersSpent}
 use Rattle.mc_shared.specs.Past.{Past}
-use Rattle.mc_shared.specs.Store.{CanCome, IsPlanned, IsSpentAfter, MayFailAfter, Refuses, May, is_read}
+use Rattle.mc_shared.specs.Store.{CanCome, IsSpentAfter, MayFailAfter, Refuses, is_read}
 use Rattle.mc_shared.proofs.StockedKept.{here}
 
 -- a bay that isn't held is another than one that is

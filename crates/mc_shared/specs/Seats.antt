@@ -5,11 +5,9 @@ use Rattle.atomic_table.specs.Seated.{TableId}
 use Rattle.mc_command.specs.declared.step.KeyStep.{KeyStep}
 use Rattle.mc_command.specs.declared.reply.Reply.{Reply}
 use Rattle.mc_command.specs.Commands.{key_of}
-use Rattle.mc_command.specs.Laws.{IsOnKey}
-use Rattle.mc_shelf.specs.States.{ShelfState}
 use Rattle.mc_shelf.specs.Stores.{StoreState}
-use Rattle.mc_shared.specs.Bays.{Content, OfShelf, place}
-use Rattle.mc_shared.specs.History.{Beginning, Operation, start_of, shelf_in}
+use Rattle.mc_shared.specs.Bays.{Content, place}
+use Rattle.mc_shared.specs.History.{Beginning, Operation}
 use Rattle.mc_shared.specs.Past.{Past, Lives}
 use Rattle.mc_shared.specs.View.{SeatView}
 use Rattle.mc_shared.specs.Steps.{Slot, HoldsLast, Decides, Agrees}

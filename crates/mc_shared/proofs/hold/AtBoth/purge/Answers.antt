@@ -1,4 +1,4 @@
-use Rattle.std.proofs.Common.{ℕ, ◌+◌, List, [], ◌∷◌, sym, ap, ◌∙◌, subst}
+use Rattle.std.proofs.Common.{◌+◌, [], ◌∷◌, sym, ap, ◌∙◌, subst}
 use Rattle.mc_shelf.specs.States.{ShelfState, DeskState}
 use Rattle.mc_shared.specs.Bays.{OfShelf, OfDesk, place}
 use Rattle.mc_shared.specs.History.{start_of, Purged}

@@ -1,4 +1,4 @@
-use Rattle.std.proofs.Common.{rules, ℕ, ◌+◌, List, [], ◌∷◌, sym, ap, ◌∙◌, subst}
+use Rattle.std.proofs.Common.{ℕ, ◌+◌, [], ◌∷◌, sym, ap, ◌∙◌, subst}
 use Rattle.mc_command.specs.Commands.{key_of}
 use Rattle.mc_shelf.specs.States.{ShelfState, DeskState}
 use Rattle.mc_shelf.specs.Plans.{IsTaken, finished, told_next}
