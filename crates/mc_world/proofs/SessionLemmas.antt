@@ -81,6 +81,10 @@ module _ {S : Type 0} (relations : Relations S) (n now : ℕ) (old items list : 
   result_due (Ok t) h = tt
   result_due (Err fault) h = (x, found, h.1)
 
+  -- where the next turn was taken, one was due
+  pub result_did : (r : Result Turn TurnFault) → (r ≡ Ok Did → TakesTurn relations now x y before after) → r ≡ Ok Did → IsDue n old
+  result_did r took is = let turn = took is in (x, found, λ none. none.none turn.unit turn.front turn.rest turn.parts turn.spelled)
+
   there : numbered n old ≡ Some x
   there = ap (λ (k : ℕ). numbered k old) (here_is.number ∙ add-one at) ∙ here_is.here ∙ ap (λ (s : SessionState). Some s) is_it
 

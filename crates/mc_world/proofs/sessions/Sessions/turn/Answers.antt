@@ -16,6 +16,11 @@ returns-clause-decided g c =
     lemmas.result_decided g.S.Steps c.args.number c.args.now c.args.self.now c.self.inside.list.items c.deref.result.now c.in-Some.at c.index_mut.result.now c.turn.new.self c.args.store.now c.turn.new.store
     c.self.view_is c.deref.ensures.value c.in-Some.ensures.some c.index_mut.ensures.value c.turn.result c.turn.ensures.decided
 
+pub returns-clause-did : goal.returns-clause-did
+returns-clause-did g c =
+    lemmas.result_did g.S.Steps c.args.number c.args.now c.args.self.now c.self.inside.list.items c.deref.result.now c.in-Some.at c.index_mut.result.now c.turn.new.self c.args.store.now c.turn.new.store
+    c.self.view_is c.deref.ensures.value c.in-Some.ensures.some c.index_mut.ensures.value c.turn.result c.turn.ensures.did
+
 pub returns-clause-due : goal.returns-clause-due
 returns-clause-due g c =
     lemmas.result_due g.S.Steps c.args.number c.args.now c.args.self.now c.self.inside.list.items c.deref.result.now c.in-Some.at c.index_mut.result.now c.turn.new.self c.args.store.now c.turn.new.store
