@@ -57,12 +57,7 @@ pub fn line_of(greatest: u64, text: &[u8]) -> Result<Noted, LineFault>
     }
 }
 
-fn store_line(
-    greatest: u64,
-    verb: Verb,
-    text: &[u8],
-    args: &[u8],
-) -> Result<Noted, LineFault>
+fn store_line(greatest: u64, verb: Verb, text: &[u8], args: &[u8]) -> Result<Noted, LineFault>
     requires { EndsIn text.now args.now }
     ensures said { said text.now result ≡ store_line greatest verb (words args.now) }
     ensures fits { IfOk result (λ noted. Fits noted text.now) }

@@ -1,14 +1,14 @@
 -- The parts of a visit.
-use Rattle.std.proofs.Common.{◌≡◌, ℕ, ◌<◌, ◌≤◌, ◌+◌, List, [], ◌∷◌, ◌++◌, length, take, drop, refl, sym, ap, ◌∙◌, subst, arith, get_or, inr, Option}
+use Rattle.std.proofs.Common.{◌≡◌, ℕ, ◌<◌, ◌≤◌, ◌+◌, List, [], ◌∷◌, ◌++◌, length, take, drop, refl, sym, ap, ◌∙◌, subst, arith, get_or, inl, inr, Option, Bool, true, false, ◌⊎◌, IsTrue, IsFalse}
 use Rattle.std.proofs.Math.ListN.{set}
 use Rattle.std.proofs.lemmas.List.{take_more, take_more_set, get_or-drop, drop-set-lt}
 use Rattle.std.proofs.lemmas.Grind.{drop_more_same}
 use Rattle.mc_command.specs.declared.step.Steps.{Ghosts as Relations}
 use Rattle.std.proofs.lemmas.List.{take-append-drop, length-take-le}
-use Rattle.mc_session.specs.Turns.{SessionState, sent, closed}
+use Rattle.mc_session.specs.Turns.{SessionState, DecidesStep, TurnIsDue, sent, closed}
 use Rattle.mc_workers.specs.Links.{LinkState, gave, took}
 use Rattle.mc_workers.specs.Guests.{GuestState, IsWaiting}
-use Rattle.mc_workers.specs.Visits.{WritesFront, RefusesPiece, Reads, Does, Visited, GoesRound, next}
+use Rattle.mc_workers.specs.Visits.{WritesFront, RefusesPiece, RefusesTurn, Reads, Does, Visited, GoesRound, next}
 use Rattle.mc_workers.specs.declared.guest.Visit.{Visit}
 use Rattle.mc_workers.specs.declared.guest.Visit.TheVariants.{Wrote, Turned, Read, Later, Served, Broken, Refused}
 
@@ -69,3 +69,15 @@ pub reads_does : {S : Type 0} (relations : Relations S) (now : ℕ) (answer : Vi
 reads_does relations now answer link last s t old new before after session is same r =
     let whole = ap (λ (x : SessionState). guest_of x link last) session ∙ is in
     reads_so relations now answer old new before after same (subst (λ (g : GuestState). Reads answer g new) whole r)
+
+-- memory ran out over a turn, and its step was decided, or it wasn't
+either_way : {A B : Type 0} (decided : Bool) → (IsFalse decided → A) → (IsTrue decided → B) → A ⊎ B
+either_way true stays takes = inr (takes refl)
+either_way false stays takes = inl (stays refl)
+
+pub refuses_turn : {S : Type 0} (relations : Relations S) (now : ℕ) (decided : Bool) (inside old new : GuestState) (before after : S) → inside ≡ old → old.session.out ≡ [] → TurnIsDue inside.session
+    → new.session ≡ closed inside.session → new.link ≡ inside.link → (IsFalse decided → relations.same before after) → (IsTrue decided → DecidesStep relations now inside.session before after)
+    → RefusesTurn relations now old new before after
+refuses_turn relations now decided inside old new before after is written due session link stays takes =
+    subst (λ (s : GuestState). RefusesTurn relations now s new before after) is
+    (record { due = record { written = subst (λ (s : GuestState). s.session.out ≡ []) (sym is) written; due = due }; session = session; link = link; store = either_way decided stays takes })
