@@ -112,7 +112,7 @@ impl<'a, R: Wait + Clock> SocketLinks<'a, R> {
     }
 
     /// Asks the system for events, and waits so long for the first.
-    fn look(&mut self, timeout: Duration) {
+    fn wait_for_events(&mut self, timeout: Duration) {
         self.rounds = 0;
         if let Some(common) = &self.common {
             common.moved.set(0);
@@ -240,7 +240,7 @@ impl<'a, R: Wait + Clock> Links<SocketLink> for SocketLinks<'a, R> {
     fn next(&mut self) -> Next<SocketLink> {
         self.rounds = self.rounds.saturating_add(1);
         if self.is_due() {
-            self.look(Duration::ZERO);
+            self.wait_for_events(Duration::ZERO);
         }
         for _one in 0..PASSED {
             let Some(connection) = self.arrivals.pop(self.rt, &mut self.share) else {
@@ -263,7 +263,7 @@ impl<'a, R: Wait + Clock> Links<SocketLink> for SocketLinks<'a, R> {
 
     fn rest(&mut self) {
         let time = self.arrivals.begin_rest(self.rt, &mut self.share);
-        self.look(time);
+        self.wait_for_events(time);
         self.arrivals.end_rest(&self.share);
     }
 }
