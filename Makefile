@@ -21,7 +21,7 @@ JOBS ?= $(shell nproc)
 MINUTES ?= 30
 
 .PHONY: build bench-build run test check crate rows history fmt bench bench-tcp clean
-.PHONY: test-clients test-scaling soak man install uninstall deb is-built
+.PHONY: docs docs-check test-clients test-scaling soak man install uninstall deb is-built
 
 # Proves the program and what is below it, and builds it. rt run runs it too: --help ends it at once. What it says goes to standard
 # error, so that `make run` writes what the program writes alone. Beside the program it notes what it was built of.
@@ -61,6 +61,14 @@ rows:
 # Recorded runs of four callers in threads, each explained by an order of their calls: make history CALLS=1000
 history: bench-build
 	@python3 tests/history_run.py $(if $(CALLS),--calls $(CALLS))
+
+# What the sources tell of themselves in README.md and docs/, written anew after a change of a call, a comment, a definition or an edit.
+docs:
+	@python3 docs/make.py
+
+# Whether the documents say what the sources say.
+docs-check:
+	@python3 docs/make.py --check
 
 fmt:
 	@for crate in crates/*/; do (cd $$crate && rt fmt) || exit 1; done
