@@ -12,7 +12,7 @@ The kinds of a region:
                                   that definitions speak of; `*`: all of the crate). Of PART `events` those behind the contract of
                                   `World::run`, of `threads` those that the laws of threads and links add, and of `others` all that
                                   no region before it lists
-  layers                          the crates, each above those that it stands on
+  layers                          the crates, each above those that it stands on, and the kit's libraries
   libraries                       the libraries that the program links, of the kit's
   counts                          how many crates, calls, definitions and wrong bodies there are
 """
@@ -27,8 +27,11 @@ from sources import ROOT, all_crates, read
 
 DOCUMENTS = ["README.md", "CONTRIBUTING.md", *(f"docs/{name}.md" for name in (
     "ARCHITECTURE", "DECISIONS", "DEFINITIONS", "GATE", "PROMISES"))]
+MAP = "docs/ARCHITECTURE.md"
 REGION = re.compile(r"(<!-- made from the sources: ([^>]*?) -->\n)(.*?)(<!-- end -->)", re.S)
 PROGRAM = "mc_server"
+# What tests alone stand on.
+TESTING = "mc_testing"
 # Of the libraries that crates.txt names these are the toolchain's own, and no ports.
 OWN = {"core": None, "atomic_table": "has the atomic steps of threads under their rule"}
 PORTS = {
@@ -43,7 +46,7 @@ PORTS = {
 # What ports bring with them, as the prints of a check of the program say ("statements NAME").
 BROUGHT = {"clap": "strsim", "crossbeam_queue": "crossbeam_utils"}
 # Words of documents that the sources don't have: the system's and the kit's, and examples of names.
-OTHERS = set("""Stdin Stdout SIGPIPE signalfd tokio mn MN offers EINTR setrlimit epoll eventfd""".split())
+OTHERS = set("""Stdin Stdout SIGPIPE signalfd tokio mn MN mc_x mc_y EINTR setrlimit epoll eventfd""".split())
 EXAMPLES = re.compile(r"\b(XLemmas|FILE|FUNCTION|NAME|X)\b")
 # The contracts that the first two parts of the definitions are of.
 PARTS = {
@@ -152,17 +155,18 @@ class Maker:
         return text
 
     def layers(self):
-        """The crates, each above those that it stands on, with their own libraries beside them."""
-        depths = {}
+        """The crates, each above those that it stands on. Named are those that none of the others named stands on."""
+        under, depths = {}, {}
         for name, crate in self.crates.items():
-            below = [depths[library] for library in crate.libraries if library in depths]
-            depths[name] = max(below, default=0) + 1
+            own = [library for library in crate.libraries if library in self.crates and library != TESTING]
+            under[name] = set(own).union(*(under[library] for library in own))
+            depths[name] = max((depths[library] for library in own), default=0) + 1
         lines = []
-        for depth in range(max(depths.values()), 0, -1):
-            for name in [name for name in depths if depths[name] == depth]:
-                own = [library for library in self.crates[name].libraries if library in self.crates]
-                kit = [library for library in self.crates[name].libraries if library not in self.crates]
-                lines.append(f"{depth:>2}  {name:<13}{' '.join(own) or '-'}{'  + ' + ' '.join(kit) if kit else ''}\n")
+        for name in sorted(self.crates, key=lambda name: -depths[name]):
+            own = under[name] - {low for library in under[name] for low in under[library]}
+            kit = [library for library in self.crates[name].libraries if library not in self.crates]
+            named = " ".join(library for library in self.crates if library in own)
+            lines.append(f"{depths[name]}  {name:<13}{named:<30}{'+ ' + ' '.join(kit) if kit else ''}".rstrip() + "\n")
         return "```\n" + "".join(lines) + "```\n"
 
     def linked(self):
@@ -250,24 +254,25 @@ def known_words():
     return words
 
 
-def is_there(path):
-    """Whether a path of a document is there: from the top, in docs/, or in some crate."""
-    places = [ROOT, f"{ROOT}/docs", *(f"{ROOT}/crates/{entry}" for entry in os.listdir(f"{ROOT}/crates"))]
+def is_there(path, crate):
+    """Whether a path of a document is there: in the crate that is spoken of, or else from the top, in docs/, or in some crate."""
+    crates = [crate] if crate else os.listdir(f"{ROOT}/crates")
+    places = [*(f"{ROOT}/crates/{entry}" for entry in crates), *([] if crate else [ROOT, f"{ROOT}/docs"])]
     return any(os.path.exists(f"{place}/{path}") for place in places)
 
 
 def faults_of(document, text, words):
     """What a document names, in the text that a hand wrote, that isn't there."""
-    text = REGION.sub("", text)
-    text = re.sub(r"^```.*?^```", "", text, flags=re.S | re.M)
+    text = re.sub(r"^```.*?^```", "", REGION.sub("", text), flags=re.S | re.M)
     faults = []
-    for span in re.findall(r"`([^`\n]+)`", text):
-        if re.fullmatch(r"[\w.]+(/[\w.]+)+/?", span) and re.search(r"\.\w+$|/$", span) and not is_there(span) \
-                and not EXAMPLES.search(span):
-            faults.append(f"{document}: there is no {span}")
-        if re.fullmatch(r"[A-Za-z_][\w:]*(\(\))?", span):
-            faults += [f"{document}: nothing is named {word} (`{span}`)" for word in re.findall(r"\w+", span)
-                       if word not in words and word not in OTHERS]
+    for line in text.splitlines():
+        row = re.match(r"\| `(mc_\w+)` \|", line)
+        for span in re.findall(r"`([^`]+)`", line):
+            if re.fullmatch(r"[\w.]+(/[\w.]+)+/?", span) and re.search(r"\.\w+$|/$", span) and not EXAMPLES.search(span):
+                faults += [] if is_there(span, row and row.group(1)) else [f"{document}: there is no {span}"]
+            if re.fullmatch(r"[A-Za-z_][\w:]*(\(\))?", span):
+                faults += [f"{document}: nothing is named {word} (`{span}`)" for word in re.findall(r"\w+", span)
+                           if word not in words and word not in OTHERS]
     for path in re.findall(r"(?<![\w/])(?:docs|tests|bench|man|packaging)/[\w/]+\.(?:md|py|svg|c|sh)\b", text):
         faults += [] if os.path.exists(f"{ROOT}/{path}") else [f"{document}: there is no {path}"]
     return faults
@@ -284,6 +289,8 @@ def check(maker):
             else:
                 faults.append(f"{document}: {words_of} isn't what the sources say: make docs")
         wrong = faults_of(document, text, words)
+        wrong += [f"{document}: the map has no row of {name}" for name in maker.crates
+                  if document == MAP and f"| `{name}` |" not in text]
         faults += wrong
         passed += not wrong
     for place, names in maker.unlisted().items():
