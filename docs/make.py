@@ -148,7 +148,7 @@ class Maker:
             text = table([f"Type of `{name}`", "It is", "Where"], rows)
         else:
             found = [what for what in crate.specs[file] if id(what) in of_part]
-            rows = [[f"`{what.name}`", what.doc or f"`{shown_text(what)}`"] for what in found]
+            rows = [[f"`{what.name}`", what.doc or shown_text(what)] for what in found]
             head = f"`{name}/specs/{file}.antt`" + (f": {crate.heads[file]}" if crate.heads[file] else "")
             text = rows and f"{head}\n\n{table(['Definition', 'It says'], rows)}"
         self.shown.update(map(id, found))
@@ -229,12 +229,14 @@ def number(count):
 
 
 def shown_text(what):
-    """A definition without a comment: its equations where they are short, else its type."""
+    """A definition without a comment: its variants, or its equations where they are short, else its type; as code."""
+    if what.makers:
+        return "one of " + ", ".join(f"`{maker}`" for maker in what.makers)
     lines = [" ".join(line.split()) for line in what.text.split("\n") if line.strip()]
-    joined = ""
+    equations = ""
     for line in lines[1:]:
-        joined += ("; " if joined and line.startswith(what.name + " ") else " ") + line
-    return joined.strip() if joined and len(joined) <= 100 else lines[0]
+        equations += ("; " if equations and line.startswith(what.name + " ") else " ") + line
+    return f"`{equations.strip() if equations and len(equations) <= 100 else lines[0]}`"
 
 
 def written(maker, text):
