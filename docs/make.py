@@ -29,6 +29,7 @@ DOCUMENTS = ["README.md", "CONTRIBUTING.md", *(f"docs/{name}.md" for name in (
     "ARCHITECTURE", "DECISIONS", "DEFINITIONS", "GATE", "PROMISES"))]
 MAP = "docs/ARCHITECTURE.md"
 REGION = re.compile(r"(<!-- made from the sources: ([^>]*?) -->\n)(.*?)(<!-- end -->)", re.S)
+KINDS = ["calls", "definitions", "layers", "libraries", "counts"]
 PROGRAM = "mc_server"
 # What tests alone stand on.
 TESTING = "mc_testing"
@@ -207,7 +208,16 @@ class Maker:
 
     def region(self, words):
         kind, *rest = words.split()
+        if kind not in KINDS or (kind in ("calls", "definitions") and not self.knows(kind, rest)):
+            raise SystemExit(f"docs/make.py: no region is made of: {words}")
         return getattr(self, kind)(*rest)
+
+    def knows(self, kind, words):
+        """Whether there is the part, the crate and the files that a region asks for."""
+        name, *files = words if kind == "calls" else words[1:]
+        crate = self.crates.get(name)
+        known = {"types", "*", *crate.specs} if crate else set()
+        return crate and set(files) <= known and (kind == "calls" or words[0] in self.parts)
 
     def unlisted(self):
         """The definitions that public contracts rest on and no region lists, by their files."""
@@ -285,7 +295,10 @@ def check(maker):
     passed, faults, words = 0, [], known_words()
     for document in DOCUMENTS:
         text = read(f"{ROOT}/{document}")
-        for whole, words_of in [(found.group(0), found.group(2)) for found in REGION.finditer(text)]:
+        regions = [(found.group(0), found.group(2)) for found in REGION.finditer(text)]
+        if len(regions) != len(re.findall("^<!-- made from the sources", text, re.M)):
+            faults.append(f"{document}: a region has no end")
+        for whole, words_of in regions:
             if written(maker, whole) == whole:
                 passed += 1
             else:
