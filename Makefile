@@ -21,7 +21,7 @@ JOBS ?= $(shell nproc)
 MINUTES ?= 30
 
 .PHONY: build bench-build run test check crate rows history fmt bench bench-tcp clean
-.PHONY: docs docs-check test-clients test-scaling soak man install uninstall deb is-built
+.PHONY: docs docs-check where test-clients test-scaling soak man install uninstall deb is-built
 
 # Proves the program and what is below it, and builds it. rt run runs it too: --help ends it at once. What it says goes to standard
 # error, so that `make run` writes what the program writes alone. Beside the program it notes what it was built of.
@@ -69,6 +69,10 @@ docs:
 # Whether the documents say what the sources say.
 docs-check:
 	@python3 docs/make.py --check
+
+# The files in which a name stands, as those that match a variant: make where W=Touch
+where:
+	@grep -rlw --include=*.rt --include=*.antt -e "$(W)" crates/*/src crates/*/specs crates/*/proofs
 
 fmt:
 	@for crate in crates/*/; do (cd $$crate && rt fmt) || exit 1; done

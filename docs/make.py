@@ -28,6 +28,9 @@ from sources import ROOT, all_crates, read
 DOCUMENTS = ["README.md", "CONTRIBUTING.md", *(f"docs/{name}.md" for name in (
     "ARCHITECTURE", "DECISIONS", "DEFINITIONS", "GATE", "PROMISES"))]
 MAP = "docs/ARCHITECTURE.md"
+# Of these the paths alone are looked at; and whether the second tell of each option.
+FOR_USERS = ["CHANGELOG.md", *(f"docs/{name}.md" for name in ("BENCHMARKS", "CLIENTS", "OPERATING", "PROTOCOL", "SCALING"))]
+OPTIONS = ["docs/PROTOCOL.md", "man/mcserver.1"]
 REGION = re.compile(r"(<!-- made from the sources: ([^>]*?) -->\n)(.*?)(<!-- end -->)", re.S)
 KINDS = ["calls", "definitions", "layers", "libraries", "counts"]
 PROGRAM = "mc_server"
@@ -285,8 +288,26 @@ def faults_of(document, text, words):
             if re.fullmatch(r"[A-Za-z_][\w:]*(\(\))?", span):
                 faults += [f"{document}: nothing is named {word} (`{span}`)" for word in re.findall(r"\w+", span)
                            if word not in words and word not in OTHERS]
-    for path in re.findall(r"(?<![\w/])(?:docs|tests|bench|man|packaging)/[\w/]+\.(?:md|py|svg|c|sh)\b", text):
-        faults += [] if os.path.exists(f"{ROOT}/{path}") else [f"{document}: there is no {path}"]
+    return faults + lost_paths(document, text)
+
+
+def lost_paths(document, text):
+    """The paths of a document, as it names them from the top, that aren't there."""
+    paths = re.findall(r"(?<![\w/])(?:docs|tests|bench|man|packaging)/[\w/]+\.(?:md|py|svg|c|sh)\b", text)
+    return [f"{document}: there is no {path}" for path in paths if not os.path.exists(f"{ROOT}/{path}")]
+
+
+def untold_options():
+    """The options of the program that a document for users doesn't tell, and documents that tell another version."""
+    code, faults = read(f"{ROOT}/crates/{PROGRAM}/src/options.rt"), []
+    version = re.search(r'const VERSION: .*"([\d.]+) ', code).group(1)
+    for document in OPTIONS:
+        text = read(f"{ROOT}/{document}").replace("\\-", "-")
+        faults += [f"{document}: there is nothing of --{option}" for option in re.findall(r'\.long\("([\w-]+)"\)', code)
+                   if f"--{option}" not in text]
+        faults += [] if f"mcserver {version}" in text else [f"{document}: the version isn't {version}"]
+    if f"\n## {version}\n" not in read(f"{ROOT}/CHANGELOG.md"):
+        faults.append(f"CHANGELOG.md: there is nothing of {version}")
     return faults
 
 
@@ -306,6 +327,9 @@ def check(maker):
         wrong = faults_of(document, text, words)
         wrong += [f"{document}: the map has no row of {name}" for name in maker.crates
                   if document == MAP and f"| `{name}` |" not in text]
+        faults += wrong
+        passed += not wrong
+    for wrong in [untold_options(), *(lost_paths(document, read(f"{ROOT}/{document}")) for document in FOR_USERS)]:
         faults += wrong
         passed += not wrong
     for place, names in maker.unlisted().items():
