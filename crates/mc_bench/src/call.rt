@@ -129,7 +129,7 @@ impl Call {
         }
     }
 
-    /// The key that is called for. Of the eight each two lie on one shelf.
+    /// Gives the key that is called for. Of the eight each two lie on one shelf.
     pub fn key(&self) -> &'static str
         ensures { length result.now ≤ 250 }
     {
@@ -145,7 +145,7 @@ impl Call {
         }
     }
 
-    /// The step that it asks for. To tidy is none.
+    /// Makes the step that it asks for, if it asks for one: to tidy is none.
     pub fn step(&self) -> Option<KeyStep<'_>>
         ensures { IfSome result (λ step. length (key_of step) ≤ 250) }
     {

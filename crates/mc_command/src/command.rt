@@ -81,7 +81,7 @@ pub fn steps_of(command: &Command<'_>) -> usize
     }
 }
 
-/// Tells whether a command ended in `noreply`.
+/// Returns whether a command ended in `noreply`.
 pub fn is_quiet(command: &Command<'_>) -> bool
     ensures { result ≡ is_quiet command.now }
 {

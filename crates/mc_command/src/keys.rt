@@ -24,7 +24,7 @@ impl<'a> Keys<'a> {
     ghost use Rattle.std.specs.Prelude.{◌≡◌, length, slice_get};
     ghost use Rattle.mc_command.specs.Words.{words};
 
-    /// The keys that the words of `text` are. The cost grows with the text.
+    /// Makes the keys that the words of `text` are. The cost grows with the text.
     pub fn of(text: &'a [u8]) -> Keys<'a>
         ensures { result ≡ words text.now }
     {
@@ -34,7 +34,7 @@ impl<'a> Keys<'a> {
         }
     }
 
-    /// The same, where it is known how many words `text` has. It costs nothing.
+    /// Makes the keys of `text` if it is known how many words it has. It costs nothing.
     pub fn counted(text: &'a [u8], count: usize) -> Keys<'a>
         requires { count ≡ length (words text.now) }
         ensures { result ≡ words text.now }
@@ -42,14 +42,14 @@ impl<'a> Keys<'a> {
         Keys { text, count }
     }
 
-    /// How many keys there are.
+    /// Counts the keys. It costs nothing.
     pub fn len(&self) -> usize
         ensures { result ≡ length self.now }
     {
         self.count
     }
 
-    /// Key `at`, counted from 0. The cost grows with the keys before it.
+    /// Lends key `at`, counted from 0, if there is one. The cost grows with the keys before it.
     pub fn get(&self, at: usize) -> Option<&'a [u8]>
         ensures { option_copied result ≡ slice_get self.now at }
     {

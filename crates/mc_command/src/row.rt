@@ -96,19 +96,19 @@ pub trait Standing {
     /// The item, as contracts see it.
     ghost entry_of: { Self → Entry };
 
-    /// The flags that were stored with it.
+    /// Reads the flags that were stored with it.
     fn flags(&self) -> u32
         ensures { result ≡ (entry_of self.now).flags };
 
-    /// When it expires.
+    /// Reads when it expires.
     fn expiry(&self) -> Expiry
         ensures { result ≡ (entry_of self.now).expiry };
 
-    /// The number that no other write has.
+    /// Reads its unique number, which no other write has.
     fn unique(&self) -> u64
         ensures { result ≡ (entry_of self.now).unique };
 
-    /// Its block.
+    /// Lends its block.
     fn block(&self) -> &[u8]
         ensures { result.now ≡ (entry_of self.now).block };
 }

@@ -50,10 +50,11 @@ IsNew k index =
 abbrev pub cells : {X : Type 0} → IndexState X → List (Option X)
 cells index = index.draining ++ (index.table ++ map Some index.strays)
 
--- how many entries it has, and how many of them are in the old table
+-- how many entries it has
 abbrev pub count : {X : Type 0} → IndexState X → ℕ
 count index = filled (cells index)
 
+-- how many of its entries are left in the old table
 abbrev pub left : {X : Type 0} → IndexState X → ℕ
 left index = filled index.draining
 
@@ -117,6 +118,7 @@ pub record IsFirstFrom {X : Type 0} (index : IndexState X) (at number : ℕ) (pl
   pub ahead : count_from index number ≡ count_from index at
   pub count : count_from index at ≡ count_from index (number + 1) + 1
 
+-- the first entry whose number is at or above that one, and none if no entry has such a number
 abbrev pub IsNext : {X : Type 0} → IndexState X → (at : ℕ) → Option (ℕ × Place) → Type 0
 IsNext index at None = (number : ℕ) → at ≤ number → slice_index_or (cells index) number None ≡ None
 IsNext index at (Some (number, place)) = IsFirstFrom index at number place

@@ -118,7 +118,7 @@ impl<T: Keyed + Drop> Index<T> {
         }
     }
 
-    /// Says that one place alone is right for a hash and a key: searches that find it, find the same. It does nothing.
+    /// States that all searches for one hash and key find one place, or none does. It does nothing.
     pub fn one_place_is_found(&self)
         ensures { (hash : ℕ) (key : List ℕ) (one other : Option Place) →
             IsFound T.hash_of T.key_of self.now hash key one →
@@ -206,16 +206,17 @@ impl<T: Keyed + Drop> Index<T> {
         drained_len(&self.draining)
     }
 
-    /// Answers whether a growth runs.
+    /// Returns whether a growth runs.
     pub fn is_growing(&self) -> bool
         ensures { result ≡ self.now.growing }
     {
         self.draining.is_some()
     }
 
-    /// Answers whether a growth lags: it runs, and with one entry more there would be more than three for every four homes of
-    /// the new table. Were none running, that load would begin one. Whoever puts in entries calls `move_some` then: where the
-    /// new table is full before the old one is empty, further entries are strays, which searches walk.
+    /// Returns whether a growth lags: it runs, and with one entry more there would be more than
+    /// three for every four homes of the new table. Were none running, that load would begin one.
+    /// Whoever puts in entries calls `move_some` then: if the new table is full before the old one
+    /// is empty, further entries are strays, which searches walk.
     pub fn lags(&self) -> bool
         ensures { result ≡ lags self.now }
     {

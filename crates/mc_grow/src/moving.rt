@@ -13,7 +13,7 @@ ghost use Rattle.mc_grow.specs.Moving.{ContentLaws, HoldsAll, IsIn, IsTaken, IsT
 use crate::adding::add;
 use mc_hop::{Hop, Keyed, content_counts_entries, content_has_each_entry, content_of_two_lists};
 
-/// Says the laws of the content of buckets in one. It does nothing.
+/// States the laws of the content of buckets in one. It does nothing.
 pub(crate) fn content_laws<T: Keyed + Drop>()
     ensures { ContentLaws T.hash_of T.key_of }
 {

@@ -10,8 +10,8 @@ ghost use Rattle.mc_hop.specs.Tables.{AreApart, HasEntry, IsAbsent};
 
 use crate::hash::Keyed;
 
-/// Says what the content of buckets has: each bucket's entry under its hash and key, where no two have one hash and key, and nothing
-/// else. It does nothing.
+/// States that the content of buckets has each bucket's entry under its hash and key, if no two
+/// have one hash and key, and nothing else. It does nothing.
 #[tactic(auto, using(crate::proofs::LawLemmas::entry_rules))]
 pub fn content_has_each_entry<T: Keyed + Drop>()
     ensures found { (items : List (Option T)) (entry : T) →
@@ -31,16 +31,16 @@ pub fn content_has_each_entry<T: Keyed + Drop>()
         content T.hash_of T.key_of items ≡ content T.hash_of T.key_of [] }
 {}
 
-/// Says how many entries the content of buckets has, where no two have one hash and key: as many as there are buckets with one. It
-/// does nothing.
+/// States that the content of buckets has as many entries as there are buckets with one, if no two
+/// have one hash and key. It does nothing.
 #[tactic(auto, using(crate::proofs::LawLemmas::many_entries))]
 pub fn content_counts_entries<T: Keyed + Drop>()
     ensures { (items : List (Option T)) → AreApart T.hash_of T.key_of items →
         len (content T.hash_of T.key_of items) ≡ filled items }
 {}
 
-/// Says what a change of one bucket does to the content: an entry of a new key that is put into it, one that is taken out, or put
-/// back, or replaced by one of its hash and key. It does nothing.
+/// States that a change of one bucket changes the content at that entry's hash and key alone: it is
+/// put in, taken out, put back, or replaced by one of its hash and key. It does nothing.
 #[tactic(auto, using(crate::proofs::LawLemmas::change_rules))]
 pub fn content_changes_at_one_key<T: Keyed + Drop>()
     ensures put { (items : List (Option T)) (at : ℕ) (entry : T) → at < length items →
@@ -64,7 +64,8 @@ pub fn content_changes_at_one_key<T: Keyed + Drop>()
         (content T.hash_of T.key_of items) (T.hash_of entry ∷ T.key_of entry) given }
 {}
 
-/// Says what the content of two lists of buckets has, one after the other: what the first has, or else the second. It does nothing.
+/// States that the content of two joined lists of buckets has what the first has, or else the
+/// second. It does nothing.
 #[tactic(auto, using(crate::proofs::LawLemmas::list_rules))]
 pub fn content_of_two_lists<T: Keyed + Drop>()
     ensures joined { (xs ys : List (Option T)) (key : List ℕ) →

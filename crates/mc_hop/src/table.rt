@@ -91,7 +91,7 @@ impl<T: Keyed + Drop> Hop<T> {
         self.cells.len()
     }
 
-    /// Says that each entry stands within 31 of its home. It does nothing.
+    /// States that each entry stands within 31 of its home. It does nothing.
     pub fn entries_are_near(&self)
         ensures { AreNear T.hash_of self.now.k self.now.items }
     {

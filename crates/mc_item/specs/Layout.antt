@@ -27,25 +27,31 @@ number_at offset count bytes = little_number count (drop offset bytes)
 unfoldable pub number_bytes : ℕ → ℕ → List ℕ
 number_bytes count number = little_bytes count number
 
--- each of the header's numbers
+-- the hash of the item's key
 abbrev pub hash_in : List ℕ → ℕ
 hash_in bytes = number_at 0 8 bytes
 
+-- the item's flags
 abbrev pub flags_in : List ℕ → ℕ
 flags_in bytes = number_at 8 4 bytes
 
+-- when the item expires: never if the number at offset 12 is 0, or else at the second at 16
 abbrev pub expiry_in : List ℕ → Expiry
 expiry_in bytes = if number_at 12 4 bytes == 0 then Never else At (number_at 16 8 bytes)
 
+-- the item's unique number
 abbrev pub unique_in : List ℕ → ℕ
 unique_in bytes = number_at 24 8 bytes
 
+-- the second at which the item was updated
 abbrev pub updated_in : List ℕ → ℕ
 updated_in bytes = number_at 32 8 bytes
 
+-- how many bytes the item's key has
 abbrev pub key_length_in : List ℕ → ℕ
 key_length_in bytes = number_at 40 4 bytes
 
+-- how many bytes the item's block has
 abbrev pub block_length_in : List ℕ → ℕ
 block_length_in bytes = number_at 44 4 bytes
 
@@ -70,10 +76,11 @@ abbrev pub moment_number : Expiry → ℕ
 moment_number Never = 0
 moment_number (At moment) = moment
 
--- the key, and the block behind it
+-- the item's key, behind the header
 abbrev pub key_in : List ℕ → List ℕ
 key_in bytes = take (key_length_in bytes) (drop header_size bytes)
 
+-- the item's block, behind its key
 abbrev pub block_in : List ℕ → List ℕ
 block_in bytes = take (block_length_in bytes) (drop (header_size + key_length_in bytes) bytes)
 

@@ -10,6 +10,7 @@ exptime_of (b ∷ word) =
     if b == 45 then option_map (λ n. neg_ℤ (pos n)) (number_up_to (2 ^ 63 - 1) word)
     else option_map pos (number_up_to (2 ^ 63 - 1) (b ∷ word))
 
+-- the number, unless it is negative
 abbrev pub unless_negative : ℤ → Option ℕ
 unless_negative (pos n) = Some n
 unless_negative (negsuc n) = None

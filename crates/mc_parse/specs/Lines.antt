@@ -47,6 +47,7 @@ formed fault (Some x) = Ok x
 abbrev pub is_key : List ℕ → Bool
 is_key word = is_nonempty word && nat_le (length word) 250
 
+-- the word, which is malformed if it isn't a key
 abbrev pub key_formed : List ℕ → Result (List ℕ) LineFault
 key_formed word = if is_key word then Ok word else Err BadFormat
 
@@ -135,6 +136,7 @@ count_line up (key ∷ value ∷ rest) = do
   Ok (Count k up by quiet)
 count_line up args = Err Unknown
 
+-- flush_all with the delay that a word writes, which is malformed if it writes none
 abbrev pub delayed : List ℕ → Bool → Result Line LineFault
 delayed word quiet = do
   delay ← formed BadFormat (delay_of word)

@@ -6,19 +6,19 @@ ghost use Rattle.mc_parse.specs.Units.{Spells, ProtocolUnit};
 ghost use Rattle.mc_parse.specs.Streams.{AreUnits};
 ghost use Rattle.mc_parse.specs.Feeds.{Unread, pushed, IsSettled};
 
-/// No spelling begins another.
+/// States that no spelling begins another. It does nothing.
 pub fn no_spelling_begins_another()
     ensures { (greatest : ℕ) (u v : ProtocolUnit) (a b x y : List ℕ) →
         Spells greatest u a → Spells greatest v b → a ++ x ≡ b ++ y → (u ≡ v) × (a ≡ b) }
 {}
 
-/// A spelling has at least one byte.
+/// States that a spelling has at least one byte. It does nothing.
 pub fn a_spelling_has_a_byte()
     ensures { (greatest : ℕ) (unit : ProtocolUnit) (front : List ℕ) →
         Spells greatest unit front → 0 < length front }
 {}
 
-/// A stream has one list of units, and no other.
+/// States that a stream has one list of units, and no other. It does nothing.
 pub fn one_list_of_units()
     ensures some { (greatest passed : ℕ) (bytes : List ℕ) →
         (units : List ProtocolUnit) × AreUnits greatest passed bytes units }
@@ -27,13 +27,13 @@ pub fn one_list_of_units()
         units ≡ others }
 {}
 
-/// Pieces that come one after another leave what they leave joined.
+/// States that two pieces that are fed in turn leave what they leave joined. It does nothing.
 pub fn cutting_does_not_matter()
     ensures { (unread : Unread) (piece more : List ℕ) →
         pushed (pushed unread piece) more ≡ pushed unread (piece ++ more) }
 {}
 
-/// Any number of pieces that are fed in turn leave what they leave joined.
+/// States that any number of pieces fed in turn leave what they leave joined. It does nothing.
 pub fn pieces_are_fed_as_joined()
     ensures { (unread : Unread) (pieces : List (List ℕ)) →
         IsSettled unread → fold pushed unread pieces ≡ pushed unread (concat pieces) }

@@ -75,7 +75,7 @@ impl<const KEPT: usize> Queue<KEPT> {
         self.buffer.len() - self.taken
     }
 
-    /// Says whether every byte was taken.
+    /// Returns whether every byte was taken.
     pub fn is_empty(&self) -> bool
         ensures { IsTrue result ↔ (self.now ≡ []) }
     {

@@ -53,7 +53,7 @@ fn session<R: Read, W: Write, C: Clock>(
     serve_one(alloc, reader, writer, &mut world, clock)
 }
 
-/// How a store of so many pages is set up.
+/// Gives the settings of a store of so many pages: 64 shelves, and a greatest charge of 1 MiB.
 pub fn settings_of(pages: u32) -> Settings
     ensures { result ≡ set_up pages }
 {

@@ -11,6 +11,7 @@ pub record Scene (E S : Type 0) : Type 0 where
   pub reader : Option (List ℕ)
   pub writer : Option (List ℕ)
 
+-- the scene of an endpoint, a store, what is left to be read, and what was written
 abbrev pub scene : {E S : Type 0} → E → S → (reader writer : Option (List ℕ)) → Scene E S
 scene endpoint store reader writer =
     record { endpoint = endpoint; store = store; reader = reader; writer = writer }

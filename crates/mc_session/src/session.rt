@@ -170,15 +170,15 @@ impl Session {
         }
     }
 
-    /// Says whether the session is open and no turn is due until more bytes come.
+    /// Returns whether the session is open and no turn is due until more bytes come.
     pub fn is_idle(&self) -> bool
         ensures { IsTrue result ↔ (IsTrue self.now.is_open × NoTurnDue self.now) }
     {
         self.is_open && is_more(&self.feed.peek_after(self.taken))
     }
 
-    /// Says whether the session was closed: by a quit, a line that is too long, want of memory or
-    /// `close`.
+    /// Returns whether the session was closed: by a quit, a line that is too long, want of memory
+    /// or `close`.
     pub fn is_closed(&self) -> bool
         ensures { IsTrue result ↔ IsFalse self.now.is_open }
     {

@@ -13,6 +13,7 @@ pub record Beginning : Type 0 where
   pub hash_of : List ℕ → ℕ
   pub plain : Plain
 
+-- what a store with this state begins with, where hash_of tells how its hasher hashes keys
 abbrev pub start_of : {K : Type 0} → (K → List ℕ → ℕ) → StoreState K → Beginning
 start_of hash_of store = record {
   shelves = store.settings.shelves;

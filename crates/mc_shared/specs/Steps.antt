@@ -25,6 +25,7 @@ IsAt shelves b (Desk desk) = b ≡ shelves
 abbrev pub holding : SeatView → ℕ → Content → SeatView
 holding v b x = record { past = v.past; bays = (b, x) ∷ v.bays }
 
+-- the entry of what a past's caller decides next, under that caller's next number
 abbrev pub entry_of : Past → Operation → HistoryEntry
 entry_of p what = record { by = name_of p; number = count_calls (name_of p) (held p); what = what }
 

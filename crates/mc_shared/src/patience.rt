@@ -25,6 +25,7 @@ const TURNS: u32 = 64;
 
 /// What is called once while a step's shelf is held.
 pub trait Gate {
+    /// Runs while a step's shelf, counted from 0, is held: others who want the shelf wait for it.
     fn inside(&self, shelf: u32);
 }
 

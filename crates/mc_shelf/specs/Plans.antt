@@ -81,10 +81,11 @@ next_found greatest cut step now found =
     let item = alive cut now found in
     next_by (is_gone cut now found) greatest step item (row_of step now item)
 
--- the item that stands under a step's key, and its row
+-- the item that stands under a step's key
 abbrev pub stood : ShelfContent → KeyStep → ℕ → Option Entry
 stood shelf step now = alive shelf.cut now (get shelf.items (key_of step))
 
+-- the row of the protocol's table that the step takes
 abbrev pub row_at : ShelfContent → KeyStep → ℕ → Row
 row_at shelf step now = row_of step now (stood shelf step now)
 
@@ -287,18 +288,20 @@ pub record Suits (chunk : List ℕ) (key block : List ℕ) : Type 0 where
   pub class : chunk_class chunk ≡ class_holding (charge key block)
   pub fits : charge key block ≤ length chunk
 
--- a chunk is ready for a key's item with this block: one that waits, and then there is room for the key's entry, or that of
--- the key's item
+-- a chunk that waits is ready for a key's item with this block: no item is under the key, there is
+-- room for the key's entry, and the chunk suits
 pub record IsChunkFor (chunk : List ℕ) (key block : List ℕ) (shelf : ShelfState) : Type 0 where
   pub absent : get shelf.content.items key ≡ None
   pub room : 1 ≤ shelf.room
   pub suits : Suits chunk key block
 
+-- the key has an item, whose chunk is of the class that the key and this block ask for
 pub record LiesInClass (key block : List ℕ) (shelf : ShelfState) : Type 0 where
   pub item : Entry
   pub there : get shelf.content.items key ≡ Some item
   pub class : item_class key item ≡ class_holding (charge key block)
 
+-- a chunk is ready for a key's item with this block: one that waits, or else the key's item's own
 abbrev pub IsReady : Option (List ℕ) → (key block : List ℕ) → ShelfState → Type 0
 IsReady None key block shelf = LiesInClass key block shelf
 IsReady (Some chunk) key block shelf = IsChunkFor chunk key block shelf
@@ -310,6 +313,7 @@ pub record CanWriteBlock (write : Writing) (rest : Unwritten) (step : KeyStep) (
     pub known : IsKnown shelf.content (key_of step) write.hash write.place
     pub ready : IsReady rest.chunk (key_of step) (block_of step) shelf
 
+-- what is left of a step that comes next so can be done; nothing is asked unless it writes
 abbrev pub CanWriteNext : Plan → Next → Unwritten → KeyStep → ShelfState → Type 0
 CanWriteNext plan (Answer reply) rest step shelf = Unit {0}
 CanWriteNext plan (Expire expiry reply) rest step shelf = Unit {0}
@@ -372,12 +376,13 @@ pub record CanSettle (plan : Plan) (shelf : ShelfContent) : Type 0 where
   pub is_plan : IsPlan plan shelf step now
   pub no_desk : wants_desk plan.next ≡ false
 
--- In the plain machine's words, a step's outcome needs the desk: it drops a dead item, deletes or writes one, finds no chunk,
--- or finds the numbers spent.
+-- In the plain machine's words, an answered step needs the desk: it draws a unique number for what
+-- it writes, finds no chunk, or drops the key's item, which it deletes or finds dead.
 abbrev pub ChangesItems : (key : List ℕ) → Plain → Reply → Plain → Type 0
 ChangesItems key old reply new =
     (new.next_unique ≢ old.next_unique) ⊎ ((reply ≡ NoChunk) ⊎ ((get old.items key ≢ None) × (get new.items key ≡ None)))
 
+-- a step's outcome needs the desk: so does its answer, or the unique numbers are spent
 abbrev pub NeedsDesk : (key : List ℕ) → Plain → Outcome → Type 0
 NeedsDesk key old (Answered reply new) = ChangesItems key old reply new
 NeedsDesk key old Spent = Unit {0}

@@ -106,14 +106,14 @@ impl Entry {
         });
     }
 
-    /// When its block was last written.
+    /// Reads when its block was last written.
     pub fn updated(&self) -> Moment
         ensures { result ≡ self.now.item.updated }
     {
         self.item.updated()
     }
 
-    /// The class of its chunk.
+    /// Finds the class of its chunk.
     pub fn class(&self) -> Class
         ensures value { result ≡ item_class self.now.key self.now.item }
         ensures is_class { IsClass result }
@@ -149,12 +149,12 @@ impl Keyed for Entry {
 
     ghost key_of = { λ e. e.key };
 
-    /// The hash that came with its key.
+    /// Reads the hash that came with its key.
     fn hash(&self) -> u64 {
         self.item.hash()
     }
 
-    /// Its key, from 0 to 250 bytes.
+    /// Lends its key, 0 to 250 bytes.
     fn key(&self) -> &[u8] {
         self.item.key()
     }
@@ -163,22 +163,22 @@ impl Keyed for Entry {
 impl Standing for Entry {
     ghost entry_of = { λ e. e.item };
 
-    /// The flags that were stored with it.
+    /// Reads the flags that were stored with it.
     fn flags(&self) -> u32 {
         self.item.flags()
     }
 
-    /// When it expires.
+    /// Reads when it expires.
     fn expiry(&self) -> Expiry {
         self.item.expiry()
     }
 
-    /// The number that no other write has.
+    /// Reads its unique number, which no other write has.
     fn unique(&self) -> u64 {
         self.item.unique()
     }
 
-    /// Its block, of at most 1048576 bytes.
+    /// Lends its block, at most 1048576 bytes.
     fn block(&self) -> &[u8]
         ensures value { result.now ≡ self.now.item.block }
         ensures size { length self.now.item.block ≤ 1048576 }

@@ -74,8 +74,8 @@ pub fn refusals_are_plain()
 }
 
 impl Shelf {
-    /// Answers whether an item may be dead at a moment. If not, none is, and where the shelf is a
-    /// part of a state, purging its part changes nothing, so that the desk isn't needed. It walks no
+    /// Returns whether an item may be dead at a moment. If not, none is, and if the shelf is a part
+    /// of a state, purging its part changes nothing, so that the desk isn't needed. It walks no
     /// item.
     pub fn may_have_dead(&self, now: Moment) -> bool
         ensures none { result ≡ false →

@@ -27,10 +27,11 @@ coded_slab =
 abbrev pub untouched : ℕ → SlabState
 untouched limit = record { limit = limit; pages = replicate 40 0; out = replicate 40 0 }
 
--- a class's pages, and its chunks that are out
+-- how many pages a class has
 abbrev pub pages_of : SlabState → ℕ → ℕ
 pages_of slab class = slice_index slab.pages (class - 1)
 
+-- how many of a class's chunks are out
 abbrev pub out_of : SlabState → ℕ → ℕ
 out_of slab class = slice_index slab.out (class - 1)
 

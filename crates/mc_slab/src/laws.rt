@@ -3,8 +3,8 @@
 ghost use Rattle.std.specs.Prelude.{◌≡◌, ◌/◌, List, [], ◌∷◌, map, Some, None};
 ghost use Rattle.mc_slab.specs.Classes.{chunk_sizes, class_of};
 
-/// Says the whole table: the chunk sizes, how many chunks a page gives, and the edges between
-/// classes.
+/// States that the table of classes is this one: the chunk sizes, how many chunks a page gives, and
+/// the edges of the first class and of the last. It does nothing.
 pub fn table_of_classes()
     ensures sizes { chunk_sizes ≡
         96 ∷ 120 ∷ 152 ∷ 192 ∷ 240 ∷ 304 ∷ 384 ∷ 480 ∷ 600 ∷ 752 ∷ 944 ∷ 1184 ∷ 1480 ∷ 1856 ∷

@@ -35,8 +35,8 @@ pub fn marks_table(alloc: Global) -> Result<Hop<Mark>, AllocError> {
     }
 }
 
-/// Puts the mark of a new hash and key into the first empty bucket of the 32 from its home on, and
-/// tells whether it did.
+/// Puts the mark of a new hash and key into the first empty bucket of the 32 from its home on.
+/// Returns whether it did: not if one of that hash and key is there, or if the 32 are full.
 pub fn add_mark(table: &mut Hop<Mark>, hash: u64, key: [u8; 2]) -> bool {
     if table.find(hash, &key).is_some() {
         return false;
@@ -56,8 +56,8 @@ pub fn add_mark(table: &mut Hop<Mark>, hash: u64, key: [u8; 2]) -> bool {
     }
 }
 
-/// Adds marks of so many hashes one after another, all under one key, and tells whether all found
-/// room. The hashes of 256 in a row, from a multiple of 256 on, have one home.
+/// Adds marks of so many hashes in a row, all under one key, until one isn't added. Returns whether
+/// all were. The hashes of 256 in a row, from a multiple of 256 on, have one home.
 pub fn fill_marks(table: &mut Hop<Mark>, hash: u64, count: u64) -> bool {
     for number in 0..count {
         if !add_mark(table, hash.wrapping_add(number), [0; 2]) {

@@ -124,12 +124,12 @@ fn parts(reply: &Reply) -> (u32, u64, &[u8]) {
     }
 }
 
-/// Tells whether two replies are the same.
+/// Returns whether two replies are the same.
 pub fn is_same(reply: &Reply, other: &Reply) -> bool {
     told(reply) == told(other) && parts(reply) == parts(other)
 }
 
-/// Tells whether what came of a step is what is wanted.
+/// Returns whether what came of a step is what is wanted.
 pub fn is_wanted(taken: &Result<Reply, StepFault>, want: Want<'_>) -> bool {
     match want {
         Want::Told(text) => told_of(taken) == text,

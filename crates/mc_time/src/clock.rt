@@ -8,6 +8,7 @@ pub trait Clock {
     /// The moments that the clock may give.
     ghost may_give: { Self → ℕ → Type 0 };
 
+    /// Gives the moment that it is now: one of those that the clock may give.
     fn now(&self) -> Moment
         ensures { may_give self.now result };
 }

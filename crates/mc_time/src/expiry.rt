@@ -41,8 +41,8 @@ pub fn cut_after(delay: u64, now: Moment) -> Option<u64>
     }
 }
 
-/// Tells whether an item is dead at `now`: its expiry has come, or a flush at `cut` has come and it
-/// was updated before that.
+/// Returns whether an item is dead at `now`: its expiry has come, or a flush at `cut` has come and
+/// it was updated before that.
 pub fn is_dead(expiry: Expiry, updated: Moment, cut: Option<u64>, now: Moment) -> bool
     ensures { result ≡ is_dead expiry updated cut now }
 {

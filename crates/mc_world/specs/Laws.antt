@@ -60,6 +60,7 @@ pub data Answer : Type 0 where
   Replied : Reply → Answer
   NumbersSpent : Answer
 
+-- the answer of a step with this outcome
 abbrev pub answer_in : Outcome → Answer
 answer_in (Answered reply new) = Replied reply
 answer_in Spent = NumbersSpent
@@ -89,8 +90,9 @@ AnswersOf n world (Grow shelf) answers = answers ≡ []
 AnswersOf n world (Purge shelf) answers = answers ≡ []
 AnswersOf n world (Close k) answers = answers ≡ []
 
--- events, one after another, in which the steps of that session are answered so
+-- Keys have their hashes, there are so many shelves, and a session has this number.
 module _ (hash : List ℕ → ℕ) (shelves : ℕ) (n : ℕ) where
+  -- events, one after another, in which the steps of that session are answered so
   abbrev pub RunsAnswering : PlainWorld → List Event → List Answer → PlainWorld → Type 0
   RunsAnswering old [] answers new = (new ≡ old) × (answers ≡ [])
   RunsAnswering old (event ∷ events) answers new =

@@ -20,6 +20,7 @@ pub record Scene (K : Type 0) : Type 0 where
   pub reader : Option (List ℕ)
   pub writer : Option (List ℕ)
 
+-- the scene of a world, what is left to be read, and what was written
 abbrev pub scene : {K : Type 0} → WorldState K → Option (List ℕ) → Option (List ℕ) → Scene K
 scene world reader writer = record { world = world; reader = reader; writer = writer }
 
@@ -39,10 +40,11 @@ with_written n written w =
           (numbered n w.sessions);
     }
 
--- the same of a plain world
+-- the connection with these bytes in front of its output
 abbrev pub in_front : List ℕ → Connection → Connection
 in_front bytes c = record c { out = bytes ++ c.out }
 
+-- the plain world with these bytes in front of the output of session n
 abbrev pub with_front : ℕ → List ℕ → PlainWorld → PlainWorld
 with_front n bytes w =
     record w { connections = changed n w.connections (in_front bytes) (numbered n w.connections) }

@@ -101,6 +101,7 @@ changed n xs change (Some x) = put n xs (change x)
 abbrev pub open_connection : ℕ → List Connection → Option Connection
 open_connection n connections = if_open (λ c. c.is_open) (numbered n connections)
 
+-- the open session of that number
 abbrev pub open_session : ℕ → List SessionState → Option SessionState
 open_session n sessions = if_open (λ s. s.is_open) (numbered n sessions)
 
@@ -119,6 +120,7 @@ abbrev pub IsClosed : Option SessionState → Type 0
 IsClosed None = ⊥
 IsClosed (Some s) = IsFalse s.is_open
 
+-- the world with its open connection of that number changed, and as it was if none is open
 abbrev pub at_connection : PlainWorld → ℕ → (Connection → Connection) → PlainWorld
 at_connection w n change =
     record w { connections = changed n w.connections change (open_connection n w.connections) }

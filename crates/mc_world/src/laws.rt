@@ -16,22 +16,22 @@ use mc_parse::{
 };
 use mc_session::passing_over_early_does_not_matter;
 
-/// Growth never shows: an event of growth may be added or taken out anywhere.
+/// States that growth never shows: an event of growth may be added or taken out anywhere.
 pub fn growth_never_shows()
     ensures { (shelf : ℕ) (front rest : List Event) →
         RunAlike (front ++ Grow shelf ∷ rest) (front ++ rest) }
 {}
 
-/// A piece may be cut in two anywhere.
+/// States that a piece may be cut in two anywhere.
 pub fn a_piece_may_be_cut()
     ensures { (session : ℕ) (piece more : List ℕ) (front rest : List Event) → RunAlike
         (front ++ Piece session piece ∷ Piece session more ∷ rest)
         (front ++ Piece session (piece ++ more) ∷ rest) }
 {}
 
-/// An event of a session that decides no step where it comes may change places with a neighbour
-/// that is none of that session's and opens none: with any event of another session, with a clock
-/// and with a purge.
+/// States that an event of a session that decides no step where it comes may change places with a
+/// neighbour that is none of that session's and opens none: with any event of another session, with
+/// a clock, with growth and with a purge.
 pub fn sessions_may_change_places()
     ensures { (hash : List ℕ → ℕ) (shelves n : ℕ) (still other : Event) (old new : PlainWorld)
         (front rest : List Event) →
@@ -40,9 +40,9 @@ pub fn sessions_may_change_places()
         ↔ Runs hash shelves old (front ++ other ∷ still ∷ rest) new }
 {}
 
-/// What a session has had and what is to be written of it follow from its own events and from what
-/// its own steps were answered. The rest of a run shows in those answers or not at all: other
-/// sessions, the clock, growth and purges.
+/// States that what a session has had and what is to be written of it follow from its own events
+/// and from what its own steps were answered. The rest of a run shows in those answers or not at
+/// all: other sessions, the clock, growth and purges.
 pub fn a_session_follows_its_own_answers()
     ensures answered { (hash : List ℕ → ℕ) (shelves n : ℕ) (old new : PlainWorld)
         (events : List Event) (first : Connection) →
@@ -55,8 +55,8 @@ pub fn a_session_follows_its_own_answers()
     grammar();
 }
 
-/// A plain world stands as one state only, of those with the same settings and hasher: so what is
-/// told of a world pins it.
+/// States that a plain world stands as one state only, of those with the same settings and hasher:
+/// so what is told of a world pins it.
 pub fn a_plain_world_stands_one_way<K: KeyHash>()
     ensures { (plain : PlainWorld) (one other : WorldState K) →
         StandsAs plain one → StandsAs plain other →
@@ -65,7 +65,7 @@ pub fn a_plain_world_stands_one_way<K: KeyHash>()
     grammar();
 }
 
-/// A turn of an open session is due where its connection has a next one, and only there.
+/// States that a turn of an open session is due exactly if its connection has a next one.
 pub fn a_turn_is_due_of_both()
     ensures { (connection : Connection) (session : SessionState) →
         Stands connection session → connection.is_open ≡ true →
@@ -74,7 +74,7 @@ pub fn a_turn_is_due_of_both()
     grammar();
 }
 
-/// The laws of the grammar and of sessions that the proofs here use.
+/// States that the laws of the grammar and of sessions that the proofs here use hold.
 pub fn grammar()
     ensures { Grammar }
 {

@@ -61,8 +61,8 @@ pub fn serve_one<R: Read, W: Write, K: KeyHash + Drop, C: Clock>(
     }
 }
 
-/// What stands in front of a session's output never shows in what comes: with it in front or
-/// without, events do the same. So what was written of a session makes no difference.
+/// States that what stands in front of a session's output never shows in what comes: with it in
+/// front or without, events do the same. So what was written of a session makes no difference.
 pub fn written_output_never_shows()
     ensures { (hash : List ℕ → ℕ) (shelves n : ℕ) (bytes : List ℕ) (old new : PlainWorld)
         (events : List Event) → 1 ≤ n → n ≤ length old.connections →

@@ -151,7 +151,7 @@ impl Sessions {
         }
     }
 
-    /// Tells whether a session is open and no turn is due until more bytes come.
+    /// Returns whether a session is open and no turn is due until more bytes come.
     pub fn is_idle(&self, number: u32) -> bool
         ensures { IsTrue result ↔ IsIdle (numbered number self.now) }
     {
@@ -161,7 +161,7 @@ impl Sessions {
         }
     }
 
-    /// Tells whether a session was opened and then closed.
+    /// Returns whether a session was opened and then closed.
     pub fn is_closed(&self, number: u32) -> bool
         ensures { IsTrue result ↔ IsClosed (numbered number self.now) }
     {

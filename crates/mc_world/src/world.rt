@@ -203,7 +203,7 @@ impl<K: KeyHash + Drop> World<K> {
         self.parts.sessions.sent(session, n);
     }
 
-    /// Tells whether a session is open and no turn is due until more bytes come. It parses the
+    /// Returns whether a session is open and no turn is due until more bytes come. It parses the
     /// session's next unit.
     pub fn is_idle(&self, session: u32) -> bool
         ensures { IsTrue result ↔ IsIdle (numbered session self.now.sessions) }
@@ -211,14 +211,14 @@ impl<K: KeyHash + Drop> World<K> {
         self.parts.sessions.is_idle(session)
     }
 
-    /// Tells whether a session was opened and then closed.
+    /// Returns whether a session was opened and then closed.
     pub fn is_closed(&self, session: u32) -> bool
         ensures { IsTrue result ↔ IsClosed (numbered session self.now.sessions) }
     {
         self.parts.sessions.is_closed(session)
     }
 
-    /// Says that a plain world stands as this one does. It does nothing.
+    /// States that a plain world stands as this one does. It does nothing.
     pub fn stands(&self)
         ensures { CanStand self.now }
     {

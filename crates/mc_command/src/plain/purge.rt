@@ -9,7 +9,7 @@ pub trait KeyTest {
     /// Whether a key is meant, as contracts see it.
     ghost means: { Self → List ℕ → Bool };
 
-    /// Tells whether the key is meant.
+    /// Returns whether the key is meant.
     fn is_meant(&self, key: &[u8]) -> bool
         ensures { result ≡ means self.now key.now };
 }
