@@ -39,9 +39,9 @@ bench-build:
 run: build
 	@$(PROGRAM) $(ARGS)
 
-# The gate: every proof from nothing, every must-fail edit, every test, and the rows.
+# The gate: every proof from nothing, every must-fail edit, every test of the crates, and the tests of tests/.
 test:
-	@python3 tests/gate.py
+	@python3 -m tests.gate
 
 # Every crate, over what earlier runs kept in out/.
 check:
@@ -56,11 +56,11 @@ crate:
 
 # Inputs and outputs against the program that is built: make rows ONLY=flush
 rows:
-	@python3 tests/rows.py $(if $(ONLY),--only $(ONLY))
+	@python3 -m tests protocol $(if $(ONLY),-p test_rows.py -k '*.Rows.test_*$(ONLY)*')
 
 # Recorded runs of four callers in threads, each explained by an order of their calls: make history CALLS=1000
 history: bench-build
-	@python3 tests/history_run.py $(if $(CALLS),--calls $(CALLS))
+	@CALLS=$(CALLS) python3 -m tests history
 
 # What the sources tell of themselves in README.md and docs/, written anew after a change of a call, a comment, a definition or an edit.
 docs:
@@ -87,15 +87,15 @@ bench-tcp: build
 
 # Debian's clients that are installed, each as its documentation uses it.
 test-clients: $(SERVED)
-	@PROGRAM=$(PROGRAM) /usr/bin/python3 tests/clients/run.py
+	@PROGRAM=$(PROGRAM) /usr/bin/python3 -m tests interop -p test_clients.py
 
 # The configurations of docs/SCALING.md, with nutcracker and the clients that are installed.
 test-scaling: $(SERVED)
-	@PROGRAM=$(PROGRAM) /usr/bin/python3 tests/scaling.py
+	@PROGRAM=$(PROGRAM) /usr/bin/python3 -m tests interop -p test_scaling.py
 
 # Mixed load, whose answers are all checked, while memory and descriptors are watched: make soak MINUTES=30
 soak: $(SERVED)
-	@PROGRAM=$(PROGRAM) python3 tests/soak.py --minutes $(MINUTES)
+	@PROGRAM=$(PROGRAM) python3 -m tests.soak --minutes $(MINUTES)
 
 # The manual page: man has nothing to say of it, and its options are the program's.
 man: $(SERVED)

@@ -21,9 +21,9 @@ import threading
 import time
 
 ROOT = os.path.dirname(os.path.dirname(os.path.realpath(__file__)))
-sys.path.insert(0, f"{ROOT}/tests")
+sys.path.insert(0, ROOT)
 
-import measure  # noqa: E402
+from tests.lib import measure  # noqa: E402
 
 # as many pages as every input here wants
 ARGS = ["--stdin", "--now", "1000", "-m", "2048"]

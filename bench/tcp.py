@@ -28,9 +28,10 @@ import time
 from dataclasses import dataclass, field
 
 HERE = os.path.dirname(os.path.realpath(__file__))
-sys.path.insert(0, f"{os.path.dirname(HERE)}/tests")
+sys.path.insert(0, os.path.dirname(HERE))
 
-import serving  # noqa: E402
+from tests.lib.server import CannotStart, Server  # noqa: E402
+from tests.lib.settings import program as built  # noqa: E402
 
 PAGES = 1024
 # How long all connections may be without a reply, and how long a round may take beside its own time.
@@ -112,11 +113,11 @@ def workloads():
 
 
 def memcached(workers):
-    return serving.Server("memcached", pages=PAGES, workers=workers, args=["-c", "16384"])
+    return Server("memcached", pages=PAGES, workers=workers, args=["-c", "16384"])
 
 
 def mcserver(program, workers):
-    return serving.Server(program, pages=PAGES, workers=workers, args=["-c", "16384"])
+    return Server(program, pages=PAGES, workers=workers, args=["-c", "16384"])
 
 
 def processor_seconds(server):
@@ -566,7 +567,7 @@ class SelfTest:
 
 def arguments():
     made = argparse.ArgumentParser(description=__doc__, formatter_class=argparse.RawDescriptionHelpFormatter)
-    made.add_argument("--program", default=serving.PROGRAM, metavar="PATH", help="mcserver, where it is built")
+    made.add_argument("--program", default=built(), metavar="PATH", help="mcserver, where it is built")
     made.add_argument("--only", nargs="+", metavar="NAME", help="these workloads alone")
     made.add_argument("--rounds", type=int, metavar="N", help=f"rounds of each server ({ROUNDS})")
     made.add_argument("--seconds", type=float, metavar="S", help=f"how long a round is ({ROUND_SECONDS:g})")
@@ -611,7 +612,7 @@ def compare(given, load):
         print(f"{work.title} ..", file=sys.stderr, flush=True)
         try:
             rows.append(summed(work, bench.measured(work)))
-        except (Failed, OSError, subprocess.SubprocessError, serving.CannotStart) as fault:
+        except (Failed, OSError, subprocess.SubprocessError, CannotStart) as fault:
             failures.append(f"{work.title} failed: {str(fault).strip()}")
             print(failures[-1], file=sys.stderr, flush=True)
     settings = {it: getattr(given, it) for it in ("rounds", "seconds", "threads", "sanity")}

@@ -23,7 +23,7 @@ struct Script {
 /// Lets four callers make their calls, each in a thread of its own, and gives what each tells, in its own order. They are joined
 /// afterwards, and one of them then reads all keys.
 ///
-/// The record is of the form that tests/history.py reads. A flush that is to come and tidying have no line: while the clock stands,
+/// The record is of the form that tests/history reads. A flush that is to come and tidying have no line: while the clock stands,
 /// no reply tells of them.
 pub fn told<R: Threads + Wait + Sync>(
     rt: &R,

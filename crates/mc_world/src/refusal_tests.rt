@@ -1,4 +1,4 @@
-//! Rows of the protocol, of which tests/refusals.py refuses each request for memory in turn.
+//! Rows of the protocol, of which tests/refusals refuses each request for memory in turn.
 //!
 //! A command that finds no memory is sent again by a new session, unless its step was decided: that one stands, and has no text. So
 //! each row ends as it does with ample memory, and what it reads last tells whether anything was lost, or done twice.

@@ -1,0 +1,1 @@
+"""Clients and a proxy of others, each as its documentation uses it."""

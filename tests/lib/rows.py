@@ -1,0 +1,87 @@
+"""The stored rows: inputs and outputs that were written down by hand.
+
+A row is a folder tests/rows/NAME:
+
+    args          the arguments, one a line
+    stdin         the bytes of standard input (no file: none)
+    stdout        the bytes that the program must write (no file: none)
+    status        the exit status that is wanted (no file: 0)
+    stderr        the bytes of standard error that are wanted (no file: none)
+    stdout.has    in place of stdout: lines that must stand in what it writes, in any order
+    stderr.has    in place of stderr: likewise
+    stdin.parts   in place of stdin, for long inputs: each line is JSON, either a text whose characters
+                  are bytes or {"repeat": text, "times": number}; stdout.parts likewise
+"""
+import json
+import os
+
+from tests.lib.compare import same, shown
+from tests.lib.settings import ROOT
+
+ROWS = f"{ROOT}/tests/rows"
+# The pages of a store where no option says how many.
+PAGES = 64
+# An input at most this long is also handed over a byte at a time, a longer one in pieces of this many bytes.
+BYTEWISE, PIECE = 4096, 4093
+
+
+def parts(data):
+    made = []
+    for line in data.decode().splitlines():
+        part = json.loads(line) if line.strip() else ""
+        text, times = (part, 1) if isinstance(part, str) else (part["repeat"], part["times"])
+        made.append(text.encode("latin-1") * times)
+    return b"".join(made)
+
+
+class Row:
+    """A row: its input, and what is wanted."""
+
+    def __init__(self, name):
+        self.name, self.folder = name, f"{ROWS}/{name}"
+        self.args = (self.file("args") or b"").decode().splitlines()
+        self.stdin = self.stream("stdin")
+        self.status = int(self.file("status") or b"0")
+        self.wants = {it: (self.stream(it), self.file(f"{it}.has")) for it in ("stdout", "stderr")}
+
+    def file(self, name):
+        path = f"{self.folder}/{name}"
+        if not os.path.exists(path):
+            return None
+        with open(path, "rb") as it:
+            return it.read()
+
+    def stream(self, name):
+        long = self.file(f"{name}.parts")
+        return parts(long) if long is not None else self.file(name) or b""
+
+    @property
+    def piece(self):
+        """How long the pieces are in which the input is handed over."""
+        return 1 if len(self.stdin) <= BYTEWISE else PIECE
+
+    def session(self):
+        """Where the clock of a plain session stands, and how many pages its store has; None for another row."""
+        if self.args[:2] != ["--stdin", "--now"] or self.status or self.wants["stdout"][1] is not None:
+            return None
+        if len(self.args) == 3:
+            return int(self.args[2]), PAGES
+        if len(self.args) == 5 and self.args[3] == "-m":
+            return int(self.args[2]), int(self.args[4])
+        return None
+
+    def holds(self, ran):
+        """Fails where a run did something else than is wanted."""
+        for name, (wanted, has) in self.wants.items():
+            wrote = getattr(ran, name)
+            if has is None:
+                same(wanted, wrote, name)
+            for line in (has or b"").splitlines():
+                if line not in wrote:
+                    raise AssertionError(f"{name} lacks {shown(line)}, and is {shown(wrote)}")
+        if ran.status != self.status:
+            raise AssertionError(f"the status is {ran.status}, wanted {self.status}; standard error is {shown(ran.stderr)}")
+
+
+def all_rows():
+    return [Row(name) for name in sorted(os.listdir(ROWS)) if os.path.isdir(f"{ROWS}/{name}")]

@@ -1,0 +1,180 @@
+"""Starts a server on a free port of 127.0.0.1 for a test, and stops it again.
+
+    with Server() as server:
+        link = socket.create_connection(server.address, timeout=5)
+
+The program is the one that lib/settings.py names, unless another is. A program whose name is `memcached` is run as memcached is with
+`-M`, and nothing but its options differs.
+"""
+import contextlib
+import ctypes
+import os
+import signal
+import socket
+import subprocess
+import sys
+import tempfile
+import time
+
+from tests.lib import settings
+from tests.lib.wait import until
+
+HOST = "127.0.0.1"
+# How long a start or a stop may take, in seconds, and how often a port that another took is given up for another.
+SECONDS, TRIES = 10, 5
+PARENT_DEATH_SIGNAL = 1
+# Where the clock of a server stands, and how many connections it may have open at once, unless a test says otherwise.
+MOMENT, MOST = 1000, 15000
+TICKS = os.sysconf("SC_CLK_TCK")
+# Runs a program within a limit of the system: which one, how much now, and how much it may be given later.
+LIMITED = """import os, resource, sys
+kind, *most = map(int, sys.argv[1:4])
+resource.setrlimit(kind, most)
+os.execv(sys.argv[4], sys.argv[4:])
+"""
+
+
+class CannotStart(Exception):
+    """The program ended, or took no connection in time; the text says which, and what it wrote."""
+
+
+def free_port(host=HOST):
+    """Gives a port of an address on which nothing listens at the moment."""
+    with socket.socket(socket.AF_INET6 if ":" in host else socket.AF_INET) as it:
+        it.bind((host, 0))
+        return it.getsockname()[1]
+
+
+def is_memcached(program):
+    return os.path.basename(program) == "memcached"
+
+
+def command(program, port, pages, workers, args=()):
+    """Gives the words that start the program."""
+    words = [program, "-p", str(port), "-m", str(pages), "-t", str(workers)]
+    if is_memcached(program):
+        words += ["-M", "-l", HOST, "-U", "0", "-u", "root"]
+    return words + list(args)
+
+
+def die_with_parent():
+    """Lets this process be killed where its parent ends first, so that no test leaves a server behind."""
+    ctypes.CDLL(None).prctl(PARENT_DEATH_SIGNAL, signal.SIGKILL)
+
+
+class Started:
+    """A process that takes connections on a port, with what it writes in a file."""
+
+    def __init__(self, words, port):
+        self.port, self.address = port, (HOST, port)
+        self.output = tempfile.TemporaryFile()
+        try:
+            self.process = subprocess.Popen(
+                words, stdin=subprocess.DEVNULL, stdout=self.output, stderr=self.output, preexec_fn=die_with_parent
+            )
+        except OSError as error:
+            self.output.close()
+            raise CannotStart(f"{words[0]}: {error}") from error
+        self.pid = self.process.pid
+        try:
+            self._await_connections(words)
+        except CannotStart:
+            self.kill()
+            self.output.close()
+            raise
+
+    def _await_connections(self, words):
+        late = time.monotonic() + SECONDS
+        while time.monotonic() < late:
+            if self.process.poll() is not None:
+                raise CannotStart(f"{' '.join(words)} ended with status {self.process.returncode}: {self.said()}")
+            try:
+                socket.create_connection(self.address, timeout=1).close()
+                return
+            except OSError:
+                time.sleep(0.02)
+        raise CannotStart(f"{' '.join(words)} took no connection in {SECONDS} seconds: {self.said()}")
+
+    def said(self):
+        """Gives what it wrote so far on its outputs, as text."""
+        size = os.fstat(self.output.fileno()).st_size
+        return os.pread(self.output.fileno(), size, 0).decode(errors="replace")
+
+    def runs(self):
+        return self.process.poll() is None
+
+    def stop(self):
+        """Asks it to end, kills it where it doesn't in time, and gives its status."""
+        self.process.terminate()
+        try:
+            return self.process.wait(SECONDS)
+        except subprocess.TimeoutExpired:
+            return self.kill()
+
+    def kill(self):
+        """Ends it at once, as a machine that fails does, and gives its status."""
+        self.process.kill()
+        return self.process.wait(SECONDS)
+
+    def close(self):
+        """Stops it, and lets go of what it wrote."""
+        self.stop()
+        self.output.close()
+
+    def memory(self, which="VmRSS:"):
+        """The bytes of the machine's memory that it has, or had at most, or of addresses."""
+        with open(f"/proc/{self.pid}/status") as it:
+            line = next((line for line in it if line.startswith(which)), "- 0")
+        return int(line.split()[1]) * 1024
+
+    def descriptors(self):
+        return len(os.listdir(f"/proc/{self.pid}/fd"))
+
+    def connections(self):
+        """How many sockets it has, but for the one at which it listens."""
+        folder, found = f"/proc/{self.pid}/fd", set()
+        for name in os.listdir(folder):
+            with contextlib.suppress(FileNotFoundError):  # (closed since)
+                found.add(os.readlink(f"{folder}/{name}"))
+        return sum(it.startswith("socket:") for it in found) - 1
+
+    def settle(self):
+        """Waits until the connections that were closed are closed on its side too, or a second has gone by."""
+        until(lambda: self.connections() == 0, 1)
+
+    def processor(self):
+        """The seconds that it had of the processor."""
+        with open(f"/proc/{self.pid}/stat") as it:
+            fields = it.read().rpartition(")")[2].split()
+        return (int(fields[11]) + int(fields[12])) / TICKS
+
+    def __enter__(self):
+        return self
+
+    def __exit__(self, *_):
+        self.close()
+
+
+class Server(Started):
+    """A running server. Without a port it takes one that is free; `args` are further words of its command line.
+
+    A limit is a kind, how much of it the server has, and how much it may be given later."""
+
+    def __init__(self, program=None, port=None, pages=64, workers=4, args=(), limit=None):
+        program = program or settings.program()
+        wrapped = [sys.executable, "-I", "-S", "-c", LIMITED, *map(str, limit)] if limit else []
+        for last in [*[False] * (TRIES - 1), True]:
+            chosen = port or free_port()
+            try:
+                return super().__init__([*wrapped, *command(program, chosen, pages, workers, args)], chosen)
+            except CannotStart:
+                if port or limit or last:  # (a port may be taken by another between the look and the start)
+                    raise
+
+
+class StillServer(Server):
+    """A running server whose clock stands."""
+
+    def __init__(self, now=MOMENT, connections=MOST, **options):
+        clock = [] if is_memcached(settings.program()) else ["--now", str(now)]
+        super().__init__(args=["-c", str(connections), *clock], **options)

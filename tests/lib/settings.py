@@ -1,0 +1,36 @@
+"""What is tested, and what the environment may say otherwise: which program, and how much is tried.
+
+    PROGRAM     the server; without it the one that is built here
+    COUNT SEED  random inputs to a session, and which
+    INPUTS      random inputs over sockets
+    CALLS       calls of each of the four callers of a recorded run
+    SEEDS FIRST how many runs are recorded, and the seed of the first
+    ALTERED     how many shorter runs are recorded and altered
+    JOBS        how many records are judged, or requests refused, side by side
+    KEEP        the folder in which records lie that aren't as they should be
+"""
+import os
+import tempfile
+
+ROOT = os.path.dirname(os.path.dirname(os.path.dirname(os.path.realpath(__file__))))
+NUMBERS = {"COUNT": 300, "SEED": 1, "INPUTS": 100_000, "CALLS": 25_000, "SEEDS": 20, "FIRST": 1, "ALTERED": 5, "JOBS": os.cpu_count() or 1}
+NAMES = [*NUMBERS, "PROGRAM", "KEEP"]
+
+
+def number(name):
+    """A number of the above."""
+    return int(os.environ.get(name) or NUMBERS[name])
+
+
+def built(name):
+    """Where a program lies that is built here."""
+    return f"{ROOT}/crates/{name}/out/{name}"
+
+
+def program():
+    """The server that is tested."""
+    return os.path.abspath(os.environ.get("PROGRAM") or built("mc_server"))
+
+
+def keep():
+    return os.environ.get("KEEP") or tempfile.gettempdir()

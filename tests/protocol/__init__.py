@@ -1,0 +1,1 @@
+"""Inputs to a session on standard input, and what it writes."""

@@ -1,0 +1,75 @@
+"""With -v each connection is told of when it opens, with its peer, and when it closes, with why; without it nothing is."""
+import contextlib
+import socket
+import time
+
+from tests.lib.abuse import ANSWERED
+from tests.lib.case import ProgramCase
+from tests.lib.listening import Listener
+from tests.lib.peer import answers
+from tests.lib.server import HOST, MOMENT, free_port
+
+NO_LINGERING = b"\1\0\0\0\0\0\0\0"
+
+
+def close(link):
+    link.sendall(b"get a\r\n")
+    link.recv(100)
+    link.close()
+
+
+def quit(link):
+    link.sendall(b"get a\r\nquit\r\n")
+    link.recv(100)
+
+
+def send_a_line_too_long(link):
+    link.sendall(b"x" * 70000)
+    link.recv(100)
+
+
+def reset(link):
+    link.setsockopt(socket.SOL_SOCKET, socket.SO_LINGER, NO_LINGERING)
+    link.close()
+
+
+# What a client does, and how the line that tells of its end ends.
+PARTINGS = [
+    (close, b"the client closed it"),
+    (quit, b"quit, a line too long, or out of memory"),
+    (send_a_line_too_long, b"quit, a line too long, or out of memory"),
+    (reset, b"read fault"),
+]
+
+
+class Told(ProgramCase):
+    @contextlib.contextmanager
+    def started(self, *options):
+        """The program, which listens."""
+        self.port = free_port()
+        with Listener([self.program, "-l", HOST, "-p", str(self.port), "--now", str(MOMENT), *options]) as made:
+            made.line()
+            yield made
+
+    def connected(self):
+        return socket.create_connection((HOST, self.port), timeout=ANSWERED)
+
+    def test_why_a_connection_ends(self):
+        for does, why in PARTINGS:
+            with self.subTest(does.__name__), self.started("-v", "-c", "1") as started, self.connected() as link:
+                opened = b"mcserver: connection 1 from %s:%d opened\n" % (HOST.encode(), link.getsockname()[1])
+                does(link)
+                self.assertEqual(opened, started.line())
+                self.assertEqual(b"mcserver: connection 1 closed: %s\n" % why, started.line())
+
+    def test_one_more_than_there_may_be(self):
+        with self.started("-v", "-c", "1") as started, self.connected(), self.connected():
+            lines = [started.line() for _ in range(3)]
+        self.assertEqual(b"mcserver: connection 2 closed: one more than -c allows\n", lines[2])
+
+    def test_nothing_without_being_asked(self):
+        with self.started() as started:
+            for _ in range(3):
+                self.assertTrue(answers(HOST, self.port), "no answer")
+            time.sleep(0.2)  # (a line would have come)
+            self.assertEqual(b"", started.rest())

@@ -1,0 +1,85 @@
+"""Each test over sockets finds something wrong with a stand-in for the server that is wrong in its way. (No part of the gate.)"""
+import io
+import os
+import unittest
+from unittest import mock
+
+STANDIN = f"{os.path.dirname(os.path.realpath(__file__))}/standin.py"
+# The stand-in is slow: so many random inputs it is sent.
+FEW_INPUTS = "1000"
+
+# Names of tests below tests.sockets.
+OWN_KEYS = "test_own_keys.OwnKeys.test_200_connections_on_keys_of_their_own"
+IN_ROUNDS, FREELY = "test_shared_keys.SharedKeys.test_in_rounds", "test_shared_keys.SharedKeys.test_freely"
+RANDOM = "test_random.RandomInputs.test_random_inputs_by_16_connections"
+READ_LATE = "test_readers.Readers.test_clients_that_read_late"
+NO_READERS = "test_readers.Readers.test_clients_that_do_not_read"
+HALF_LINES = "test_half_lines.HalfLines.test_the_rest_comes_later"
+ENDLESS, PASSED_OVER = "test_blocks.Blocks.test_blocks_that_do_not_end", "test_blocks.Blocks.test_blocks_that_are_passed_over"
+RESET, COME_AND_GO = "test_resets.Resets.test_connections_that_are_reset", "test_resets.Resets.test_connections_that_come_and_go"
+HOLD_MUCH = "test_resets.Resets.test_clients_that_hold_much_again_and_again"
+
+# In which way the stand-in is wrong, and tests that must notice. Without a lie it is right, and is no program of this kind.
+LIES = {
+    "": [
+        "test_command_lines.CommandLines.test_values_that_an_option_does_not_take",
+        "test_command_lines.CommandLines.test_options_of_memcached",
+        "test_ports.Ports.test_a_port_that_another_program_has",
+        "test_ports.Ports.test_a_port_that_another_server_has",
+        "test_ports.Ports.test_an_address_of_another_machine",
+        "test_ports.Ports.test_a_port_behind_the_address_goes_before_the_one_of_p",
+        "test_little_memory.LittleMemory.test_from_the_least_memory_in_which_it_starts_upwards",
+        "test_addresses.Addresses.test_the_address_that_is_asked_for",
+        "test_descriptors.Descriptors.test_none_for_a_connection",
+        "test_descriptors.Descriptors.test_as_many_as_connections",
+        "test_descriptors.Descriptors.test_fewer_than_connections",
+        "test_most_connections.MostConnections.test_one_more_than_there_may_be",
+        "test_told.Told.test_why_a_connection_ends",
+        "test_told.Told.test_one_more_than_there_may_be",
+        "test_told.Told.test_nothing_without_being_asked",
+        "test_who_is_served.WhoIsServed.test_connections_that_come_at_once",
+        "test_who_is_served.WhoIsServed.test_newcomers_beside_a_worker_that_is_busy",
+        "test_rest.Rest.test_how_often_workers_wake",
+        "test_large_and_small.LargeAndSmall.test_small_items_beside_large_ones",
+    ],
+    "stays": ["test_signals.Signals.test_signals_that_end_it"],
+    "drops answers": [OWN_KEYS, FREELY, READ_LATE, RANDOM],
+    "doubles answers": [OWN_KEYS, IN_ROUNDS, RANDOM],
+    "answers before": [OWN_KEYS, RANDOM],
+    "forgets writes": [OWN_KEYS, IN_ROUNDS, RANDOM],
+    "repeats numbers": [OWN_KEYS, IN_ROUNDS, FREELY],
+    "reads what was": [IN_ROUNDS, FREELY, OWN_KEYS],
+    "loses pieces": [HALF_LINES, OWN_KEYS],
+    "stalls": [HALF_LINES, ENDLESS],
+    "keeps input": [ENDLESS, PASSED_OVER, HOLD_MUCH],
+    "hoards answers": [NO_READERS],
+    "dies of a reset": [RESET, COME_AND_GO],
+    "keeps descriptors": [HALF_LINES, RESET, COME_AND_GO],
+    "never rests": ["test_rest.Rest.test_500_idle_connections"],
+    "spins": ["test_few_descriptors.FewDescriptors.test_more_connections_than_descriptors"],
+    "serves the last first": ["test_who_is_served.WhoIsServed.test_who_asked_first"],
+    "stalls at urgent data": ["test_urgent.Urgent.test_a_byte_of_urgent_data"],
+    "leaves when stopped": ["test_signals.Signals.test_a_server_that_is_stopped_for_two_seconds"],
+}
+
+
+class Lies(unittest.TestCase):
+    def notice(self, lie, names):
+        """Each of these tests fails, of a stand-in that is wrong so."""
+        for name in names:
+            with self.subTest(name), mock.patch.dict(os.environ, PROGRAM=STANDIN, LIE=lie, INPUTS=FEW_INPUTS):
+                result, said = unittest.TestResult(), io.StringIO()
+                with mock.patch("sys.stdout", said):
+                    unittest.defaultTestLoader.loadTestsFromName(f"tests.sockets.{name}").run(result)
+                self.assertEqual(1, result.testsRun)
+                found = [text.strip().splitlines()[-1] for _, text in result.failures + result.errors]
+                self.assertTrue(found, "nothing was found")
+                print(f"    {lie or 'no program'}: {name}: {found[0][:200]}", flush=True)
+
+
+def test_of(lie, names):
+    return lambda self: self.notice(lie, names)
+
+
+for lie, names in LIES.items():
+    setattr(Lies, f"test_{lie.replace(' ', '_') or 'is_no_program'}", test_of(lie, names))
