@@ -2,7 +2,7 @@
 
 ghost use Rattle.std.specs.Prelude.{◌≡◌, ℕ, List, Option, ◌+◌, ◌-◌, ◌<◌, ◌≤◌, ◌^◌, ◌∷◌, Some, None, IfOk, IfSome, OnOk, OnErr};
 ghost use Rattle.std.specs.Prelude.{IsNone, option_copied, min, nat_lt, true, false, length};
-ghost use Rattle.std.specs.FinMap.{get, insert};
+ghost use Rattle.std.specs.FinMap.{get, insert, len};
 ghost use Rattle.mc_hop.specs.Tables.{KeepsKey};
 ghost use Rattle.mc_grow.specs.Indexes.{IsNew, StandsAs, HasBegun, IsFilled, IsFound, IsNext, IsPlaceOf, IsUpdated};
 ghost use Rattle.mc_grow.specs.Parts.{IsFirstFilled, IsSpot, NoneFilledFrom};
@@ -14,7 +14,10 @@ use crate::parts::{
     Spot, drained_buckets, drained_entry, drained_len, filled_bucket, filled_drained, find_drained,
     find_stray, remove_drained, stray, update_drained, update_stray,
 };
-use mc_hop::{Counts, Hop, Keyed, Uncounted, content_changes_at_one_key, content_has_each_entry};
+use mc_hop::{
+    Counts, Hop, Keyed, Uncounted, content_changes_at_one_key, content_counts_entries,
+    content_has_each_entry,
+};
 use std::alloc::{AllocError, Global};
 use std::marker::Model;
 use std::mem;
@@ -194,8 +197,11 @@ impl<T: Keyed + Drop> Index<T> {
 
     /// Counts the entries.
     pub fn len(&self) -> usize
-        ensures { result ≡ count self.now }
+        ensures count { result ≡ count self.now }
+        ensures held { len (holds T.hash_of T.key_of self.now) ≡ result }
+        ensures most { result < 2 ^ 64 - 1 }
     {
+        content_counts_entries::<T>();
         drained_len(&self.draining) + self.table.len() + self.strays.len()
     }
 

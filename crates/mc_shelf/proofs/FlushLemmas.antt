@@ -14,8 +14,6 @@ use Rattle.mc_shelf.specs.Deaths.{NoneIsDead}
 use Rattle.mc_shelf.specs.Parts.{shelf_of, IsShelfOf, IsDeskOf, ArePartsOf, GoesTo}
 use Rattle.mc_shelf.specs.Unions.{IsFlushed, left_of_flush}
 use Rattle.std.proofs.Math.Seq.{take-append_seam}
-use Rattle.mc_shelf.specs.Stores.{IsSetUp}
-use Rattle.mc_shelf.specs.declared.store.Settings.{Settings}
 use Rattle.mc_shelf.proofs.KeyLemmas.{order, same_maps, get_kept}
 use Rattle.mc_shelf.proofs.PartLemmas.{PartsLaw, parted, own_items, shelf_kept, put_cases}
 
@@ -296,8 +294,9 @@ flushed_back {hash_of} {state} {new} {count} {len} {desk} old all parts =
     subst (λ (l : List ShelfState). ArePartsOf hash_of state l count desk)
     (sym (ap (λ n. take n (new ++ drop (length new) old)) (all ∙ sym parts.number) ∙ take-append_seam new (drop (length new) old))) parts
 
-pub still_set_up : {settings : Settings} {state : Plain} (delay now : ℕ) → IsSetUp settings state → IsSetUp settings (flushed delay state now)
-still_set_up {settings} {state} delay now set_up = record {
-  greatest = ap (λ (s : Plain). s.greatest) (is_after delay now state) ∙ set_up.greatest;
-  limit = ap (λ (s : Plain). s.limit) (is_after delay now state) ∙ set_up.limit;
-}
+-- the greatest charge and the limit of pages stay
+pub flushed_greatest : (delay now : ℕ) (state : Plain) → (flushed delay state now).greatest ≡ state.greatest
+flushed_greatest delay now state = ap (λ (s : Plain). s.greatest) (is_after delay now state)
+
+pub flushed_limit : (delay now : ℕ) (state : Plain) → (flushed delay state now).limit ≡ state.limit
+flushed_limit delay now state = ap (λ (s : Plain). s.limit) (is_after delay now state)

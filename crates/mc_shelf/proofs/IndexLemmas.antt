@@ -45,7 +45,7 @@ first (Some x ∷ buckets) (suc number) e is =
     ] refl
 
 -- what is found stands in a bucket
-in_bucket : (buckets : List (Option EntryState)) (label : List ℕ) (e : EntryState) → find order label (rows hash_in key_in buckets) ≡ Some e → (number : ℕ) × (get_or buckets number None ≡ Some e)
+pub in_bucket : (buckets : List (Option EntryState)) (label : List ℕ) (e : EntryState) → find order label (rows hash_in key_in buckets) ≡ Some e → (number : ℕ) × (get_or buckets number None ≡ Some e)
 in_bucket [] label e found = absurd (none-some e found)
 in_bucket (None ∷ buckets) label e found = let later = in_bucket buckets label e found in (suc later.0, later.1)
 in_bucket (Some x ∷ buckets) label e found =
@@ -56,6 +56,21 @@ in_bucket (Some x ∷ buckets) label e found =
 
 pub numbered : (index : IndexState EntryState) (label : List ℕ) (e : EntryState) → get (entries_of index) label ≡ Some e → (number : ℕ) × (get_or (cells index) number None ≡ Some e)
 numbered index label e is = in_bucket (cells index) label e (sym (get-from_entries nat_list_cmp_total (rows hash_in key_in (cells index)) label) ∙ is)
+
+-- the key of each entry has an item, and the entry's hash
+module _ (index : IndexState EntryState) (keyed : IsKeyed (entries_of index)) (number : ℕ) (e : EntryState) (is : get_or (cells index) number None ≡ Some e) where
+  its_label : (x : EntryState) × (get (entries_of index) (e.hash ∷ e.key) ≡ Some x)
+  its_label =
+      let one = first (cells index) number e is in
+      (one.entry, get-from_entries nat_list_cmp_total (rows hash_in key_in (cells index)) (e.hash ∷ e.key) ∙ one.found)
+
+  pub item_here : (x : EntryState) × (get (items_of index) e.key ≡ Some x.item)
+  item_here = (its_label.0, item_there (entries_of index) keyed e.hash e.key its_label.0 its_label.1)
+
+  pub hash_here : get (hashes_of index) e.key ≡ Some e.hash
+  hash_here =
+      hash_there (entries_of index) keyed e.hash e.key its_label.0 its_label.1
+      ∙ ap (λ q. Some (get_or q 0 0)) (sym (keyed.labelled (e.hash ∷ e.key) its_label.0 its_label.1))
 
 -- ---- an empty index
 

@@ -15,3 +15,5 @@ pub mod DeskLemmas
 pub mod LabelLemmas
 pub mod KeyMapLemmas
 pub mod DeathLemmas
+pub mod LenLemmas
+pub mod NumberLemmas

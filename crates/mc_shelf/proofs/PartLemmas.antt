@@ -18,7 +18,6 @@ use Rattle.mc_shelf.specs.States.{ShelfContent, ShelfState, DeskState, IsAt, IsH
 use Rattle.mc_shelf.specs.Plans.{IsTaken, IsSettled}
 use Rattle.mc_shelf.specs.Parts.{shelf_of, IsShelfOf, IsDeskOf, ArePartsOf, GoesTo, GoesByStep, GoesWithoutDesk}
 use Rattle.mc_shelf.specs.Unions.{all_entries, all_items, cut_of, plain_of}
-use Rattle.mc_shelf.specs.Stores.{IsSetUp}
 use Rattle.mc_shelf.specs.declared.store.Settings.{Settings}
 use Rattle.mc_shelf.proofs.KeyLemmas.{order, same_key, same_maps, get_kept}
 
@@ -87,7 +86,8 @@ some_there [] at inside = absurd (omega arith)
 some_there (shelf ∷ shelves) zero inside = (shelf, refl)
 some_there (shelf ∷ shelves) (suc at) inside = some_there shelves at (omega arith)
 
-module _ {hash_of : List ℕ → ℕ} {state : Plain} {list : List ShelfState} {count : ℕ} {desk : DeskState} (settings : Settings) (set_up : IsSetUp settings state) (parts : ArePartsOf hash_of state list count desk) where
+module _ {hash_of : List ℕ → ℕ} {state : Plain} {list : List ShelfState} {count : ℕ} {desk : DeskState}
+    (settings : Settings) (greatest : state.greatest ≡ settings.greatest) (limit : state.limit ≡ settings.pages) (parts : ArePartsOf hash_of state list count desk) where
   same_all : all_items list ≡ state.items
   same_all = same_maps (all_items list) state.items (λ q.
       let own = some_there list (shelf_of hash_of count q) (omega (arith, parts.number, parts.some_shelf)) in
@@ -107,8 +107,8 @@ module _ {hash_of : List ℕ → ℕ} {state : Plain} {list : List ShelfState} {
   -- the state is the one that they are together
   pub plain_is : plain_of settings list desk ≡ state
   plain_is = λ i. record {
-    greatest = sym set_up.greatest i;
-    limit = sym set_up.limit i;
+    greatest = sym greatest i;
+    limit = sym limit i;
     items = same_all i;
     cut = same_cut i;
     next_unique = parts.account.next_unique i;

@@ -143,10 +143,10 @@ module _ {hash_of : List ℕ → ℕ} {list : List ShelfState} {desk : DeskState
   -- one shelf and the desk have changed
   module _ {at : ℕ} {new : Plain} {desk' : DeskState} (shelf' : ShelfState) (goes : GoesTo hash_of settings.shelves at state new shelf'.content desk') where
     pub kept_after : ArePartsOf hash_of (plain_of settings (slice_set list at shelf') desk') (slice_set list at shelf') settings.shelves desk'
-    kept_after = are_kept settings (record { greatest = goes.greatest; limit = goes.limit }) (parts_go shelf' parts goes)
+    kept_after = are_kept settings goes.greatest goes.limit (parts_go shelf' parts goes)
 
     pub plain_after : plain_of settings (slice_set list at shelf') desk' ≡ new
-    plain_after = plain_is settings (record { greatest = goes.greatest; limit = goes.limit }) (parts_go shelf' parts goes)
+    plain_after = plain_is settings goes.greatest goes.limit (parts_go shelf' parts goes)
 
   module _ {at : ℕ} {shelf : ShelfState} (here : slice_get list at ≡ Some shelf) where
     -- they hold what they held

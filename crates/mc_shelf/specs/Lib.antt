@@ -7,3 +7,4 @@ pub mod Deaths
 pub mod Parts
 pub mod Unions
 pub mod Stores
+pub mod Numbers

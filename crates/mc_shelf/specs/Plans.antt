@@ -172,6 +172,7 @@ pub record IsTaken (step : KeyStep) (now own : ℕ) (old : ShelfContent) (desk :
 -- a plan that needs no desk was settled, whatever desk there is
 pub record IsSettled (step : KeyStep) (now own : ℕ) (old : ShelfContent) (reply : Reply) (new : ShelfContent) : Type 0 where
   pub takes : (desk : DeskState) → Takes step now old desk reply new desk
+  pub stands : is_some (get new.items (key_of step)) ≡ is_some (get old.items (key_of step))
   pub others : OthersStay (key_of step) old new
   pub hash : IsHash new (key_of step) own
 

@@ -1,11 +1,13 @@
 -- What contracts see of a store.
-use Rattle.std.specs.Prelude.{◌≡◌, ℕ, ◌==◌, List, nat_lt, refl, if◌then◌else◌}
+use Rattle.std.specs.Prelude.{◌≡◌, ℕ, ◌*◌, ◌/◌, ◌==◌, List, nat_lt, refl, if◌then◌else◌}
 use Rattle.std.specs.Coded.{Coded, code_by, coded×, coded_ℕ, coded_list}
 use Rattle.mc_command.specs.Plain.{Plain, coded_plain, plain, Answered}
 use Rattle.mc_command.specs.Purge.{purged}
 use Rattle.mc_command.specs.declared.step.KeyStep.{KeyStep}
 use Rattle.mc_command.specs.declared.reply.Reply.{Reply}
-use Rattle.mc_shelf.specs.Parts.{shelf_of}
+use Rattle.mc_shelf.specs.States.{ShelfState, DeskState}
+use Rattle.mc_shelf.specs.Parts.{ArePartsOf, shelf_of}
+use Rattle.mc_shelf.specs.Unions.{plain_of}
 use Rattle.mc_shelf.specs.declared.store.Settings.{Settings}
 
 -- A store: how it was set up, what hashes its keys, and the plain machine's state; and beside
@@ -31,10 +33,18 @@ coded_store {K} coded_hasher =
     (λ p. record { settings = p.0; hasher = p.1.0; plain = p.1.1.0; left = p.1.1.1 })
     (λ _. refl)
 
--- the state's greatest charge and its limit of pages are those of the settings
+-- The state's greatest charge and its limit of pages are those of the settings. The number of
+-- shelves divides 4096, so that keys of one number are on one shelf.
 pub record IsSetUp (settings : Settings) (state : Plain) : Type 0 where
   pub greatest : state.greatest ≡ settings.greatest
   pub limit : state.limit ≡ settings.pages
+  pub divides : 4096 / settings.shelves * settings.shelves ≡ 4096
+
+-- shelves and their desk keep the state that they are together, and the settings fit it
+pub record IsStore (hash_of : List ℕ → ℕ) (settings : Settings) (shelves : List ShelfState)
+    (desk : DeskState) : Type 0 where
+  pub parts : ArePartsOf hash_of (plain_of settings shelves desk) shelves settings.shelves desk
+  pub divides : 4096 / settings.shelves * settings.shelves ≡ 4096
 
 -- two stores were set up alike
 abbrev pub AreAlike : {K : Type 0} → (old new : StoreState K) → Type 0

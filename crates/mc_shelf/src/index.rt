@@ -2,13 +2,14 @@
 
 ghost use Rattle.std.specs.Prelude.{◌≡◌, ℕ, ◌+◌, ◌-◌, ◌^◌, ◌<◌, ◌≤◌, List, length, min};
 ghost use Rattle.std.specs.Prelude.{Some, None, IfOk, IfSome, OnOk, option_copied, true, false};
-ghost use Rattle.std.specs.FinMap.{empty, get};
+ghost use Rattle.std.specs.FinMap.{empty, get, len};
 ghost use Rattle.mc_slab.specs.Classes.{class_holding};
 ghost use Rattle.mc_command.specs.Plain.{charge, item_class};
 ghost use Rattle.mc_shelf.specs.Plans.{drafted};
-ghost use Rattle.mc_grow.specs.Indexes.{IsFilled, IsNext, KeepsLower, entry_at, left};
+ghost use Rattle.mc_grow.specs.Indexes.{IsFilled, IsNext, KeepsLower, count, entry_at, left};
 ghost use Rattle.mc_shelf.specs.Deaths.{DieNoSooner, NoneIsDead};
 ghost use Rattle.mc_shelf.specs.KeyMaps.{IsHashOf, IsKeyed};
+ghost use Rattle.mc_shelf.specs.States.{EntryState};
 ghost use Rattle.mc_shelf.specs.Places.{
   IsChanged,
   IsEntryOf,
@@ -26,6 +27,7 @@ use crate::soonest::Soonest;
 use crate::write::Write;
 use mc_command::Standing;
 pub(crate) use mc_grow::Place;
+use mc_hop::Keyed;
 use mc_item::Parts;
 use mc_time::{Expiry, Moment};
 use std::alloc::{AllocError, Global};
@@ -231,6 +233,15 @@ impl Index {
         self.entries.filled_from(at)
     }
 
+    /// Gives the hash of the entry at a place.
+    pub(crate) fn hash_at(&self, place: Place) -> u64
+        requires { IsFilled self.now place }
+        ensures { (entry : EntryState) → entry_at self.now place ≡ Some entry →
+            result ≡ entry.hash }
+    {
+        self.entries.get(place).unwrap().hash()
+    }
+
     /// Counts the entries of an old table, which are left to move.
     pub(crate) fn left(&self) -> usize
         ensures { result ≡ left self.now }
@@ -238,10 +249,19 @@ impl Index {
         self.entries.left()
     }
 
+    /// Counts the items.
+    pub(crate) fn len(&self) -> usize
+        ensures count { result ≡ len (items_of self.now) }
+        ensures most { result < 2 ^ 64 - 1 }
+    {
+        self.entries.len()
+    }
+
     /// Answers whether no entry is there.
     pub(crate) fn is_empty(&self) -> bool
         ensures items { result ≡ true → items_of self.now ≡ empty }
         ensures hashes { result ≡ true → hashes_of self.now ≡ empty }
+        ensures once { len (entries_of self.now) ≡ count self.now }
     {
         self.entries.len() == 0
     }

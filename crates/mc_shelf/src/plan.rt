@@ -1,6 +1,7 @@
 //! What a step does, by the protocol's table and the item that stands under its key.
 
-ghost use Rattle.std.specs.Prelude.{◌≡◌, ◌↔◌, ℕ, ◌≤◌, length, true, Option, IfOk, OnErr};
+ghost use Rattle.std.specs.Prelude.{◌≡◌, ◌↔◌, ℕ, ◌≤◌, length, true, is_none, Option, IfOk, OnErr};
+ghost use Rattle.std.specs.FinMap.{get};
 ghost use Rattle.mc_time.specs.declared.expiry.Expiry.{Expiry as Expires};
 ghost use Rattle.mc_command.specs.declared.step.KeyStep.{KeyStep as Step};
 ghost use Rattle.mc_command.specs.declared.row.Row.TheVariants.{Reads};
@@ -87,6 +88,14 @@ impl<'a> Plan<'a> {
             Next::Answer(_) | Next::Expire(..) => false,
             Next::Discard(_) | Next::Write(..) => true,
         }
+    }
+
+    /// Returns whether the key has no item.
+    pub fn is_of_new_key(&self) -> bool
+        ensures { (shelf : ShelfContent) (step : Step) (now : ℕ) → IsPlan self.now shelf step now →
+            result ≡ is_none (get shelf.items (key_of step)) }
+    {
+        self.place.is_none()
     }
 
     /// Returns whether the step writes an item, if there is a unique number and a chunk.

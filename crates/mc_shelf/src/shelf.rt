@@ -1,8 +1,8 @@
 //! A shelf: the items of some keys, and the steps on one of its keys.
 
-ghost use Rattle.std.specs.Prelude.{◌≡◌, ◌≢◌, ◌↔◌, ℕ, ◌-◌, ◌≤◌, length, min};
+ghost use Rattle.std.specs.Prelude.{◌≡◌, ◌≢◌, ◌↔◌, ℕ, ◌+◌, ◌-◌, ◌%◌, ◌^◌, ◌<◌, ◌≤◌, length, min, slice_index, slice_set};
 ghost use Rattle.std.specs.Prelude.{Option, Some, None, Err, IfOk, IfSome, OnErr, OnOk, true, false};
-ghost use Rattle.std.specs.FinMap.{empty, get};
+ghost use Rattle.std.specs.FinMap.{empty, get, len};
 ghost use Rattle.mc_time.specs.declared.expiry.Expiry.{Expiry as Expires};
 ghost use Rattle.mc_slab.specs.Classes.{IsClass, class_holding, size_of};
 ghost use Rattle.mc_slab.specs.Slabs.{IsSlab};
@@ -12,6 +12,7 @@ ghost use Rattle.mc_command.specs.Commands.{key_of};
 ghost use Rattle.mc_command.specs.Plain.{Entry as Item};
 ghost use Rattle.mc_command.specs.Laws.{IsOnKey};
 ghost use Rattle.mc_shelf.specs.States.{CanStand, IsHash, nothing_held};
+ghost use Rattle.mc_shelf.specs.Numbers.{AreCounted, HasPlaces};
 ghost use Rattle.mc_shelf.specs.Plans.{
   CanFinish,
   CanSettle,
@@ -104,6 +105,31 @@ impl Shelf {
             index: Index::new(alloc)?,
             cut: None,
         })
+    }
+
+    /// Counts the items.
+    pub fn len(&self) -> usize
+        ensures count { result ≡ len self.now.content.items }
+        ensures most { result < 2 ^ 64 - 1 }
+    {
+        self.index.len()
+    }
+
+    /// Counts the keys of each number, the hash modulo 4096: sets the place of each number that a key has to how many keys have
+    /// it. It is asked with 4096 places, 0 at these; the others stay. It takes no memory. The cost is that of one pass over the
+    /// items, and where there are none it walks nothing.
+    pub fn count_numbers(&self, counts: &mut [u64])
+        requires { HasPlaces self.now.content counts.old }
+        ensures { AreCounted self.now.content counts.old counts.new }
+    {
+        if self.index.is_empty() {
+            return;
+        }
+        let mut at = 0;
+        while let Some((number, place)) = self.index.filled_from(at) {
+            count_one(counts, self.index.hash_at(place));
+            at = number + 1;
+        }
     }
 
     /// Takes a step on one key at a moment: looks it up, and then settles it, or applies it at the desk. Refused, or with the
@@ -484,4 +510,14 @@ impl Shelf {
             desk.give(entry.into_chunk());
         }
     }
+}
+
+/// Adds one to the count of a hash's number.
+fn count_one(counts: &mut [u64], hash: u64)
+    requires many { length counts.old ≡ 4096 }
+    requires room { slice_index counts.old (hash % 4096) < 2 ^ 64 - 1 }
+    ensures { counts.new ≡ slice_set counts.old (hash % 4096)
+        (slice_index counts.old (hash % 4096) + 1) }
+{
+    counts[(hash % 4096) as usize] += 1;
 }

@@ -4,6 +4,8 @@
 #[cfg(test)]
 mod lag_tests;
 #[cfg(test)]
+mod number_tests;
+#[cfg(test)]
 mod overwrite_tests;
 #[cfg(test)]
 mod tests;
@@ -58,9 +60,8 @@ pub struct Store<K: KeyHash + Drop> {
 }
 
 impl<K: KeyHash + Drop> Model for Store<K> {
-    ghost use Rattle.mc_shelf.specs.Parts.{ArePartsOf};
     ghost use Rattle.mc_shelf.specs.Unions.{plain_of, lefts};
-    ghost use Rattle.mc_shelf.specs.Stores.{StoreState, coded_store};
+    ghost use Rattle.mc_shelf.specs.Stores.{IsStore, StoreState, coded_store};
 
     ghost Value = { StoreState K };
 
@@ -73,9 +74,8 @@ impl<K: KeyHash + Drop> Model for Store<K> {
       left = lefts s.parts.shelves.items;
     } };
 
-    ghost invariant = { λ s. ArePartsOf (K.hash_of s.parts.hasher)
-        (plain_of s.parts.settings s.parts.shelves.items s.parts.desk)
-        s.parts.shelves.items s.parts.settings.shelves s.parts.desk };
+    ghost invariant = { λ s. IsStore (K.hash_of s.parts.hasher) s.parts.settings
+        s.parts.shelves.items s.parts.desk };
 }
 
 impl<K: KeyHash + Drop> Store<K> {

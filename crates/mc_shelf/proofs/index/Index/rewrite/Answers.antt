@@ -22,7 +22,8 @@ invariant_of-self c =
       changed_keyed inside.entries c.update.new.self c.self.invariant.0 at.entry is.given at.held hashes keys is.content,
       sooner_insert inside.soonest lowered.result (items_of inside.entries) (items_of c.update.new.self) is.given.key is.given.item
           (changed_items inside.entries c.update.new.self c.self.invariant.0 at.entry is.given at.held hashes keys is.content) c.self.invariant.1 lowered.ensures.others
-          (subst (λ (e : EntryState). DiesNoSooner lowered.result e.item) (sym becomes) (lowered.ensures.one (drafted c.args.write.now.draft c.args.block.now c.args.unique c.args.write.now.moment) refl refl)),
+          (subst (λ (e : EntryState). DiesNoSooner lowered.result e.item) (sym becomes)
+          (lowered.ensures.one (drafted c.args.write.now.draft c.args.block.now c.args.unique c.args.write.now.moment) refl refl)),
     )
 
 pub returns : goal.returns
@@ -32,6 +33,7 @@ returns c =
     let held = subst (λ (s : IndexState EntryState). StandsIn (entries_of s) found.entry) (sym c.self.view_is) found.held in
     let is = c.update.ensures found.entry there in
     let becomes : is.given ≡ record found.entry { item = drafted c.args.write.now.draft c.args.block.now c.args.unique c.args.write.now.moment } = let met = is.called in search rules in
-    let change = changed c.self.inside.entries c.update.new.self c.self.invariant.0 found.entry is.given held (ap (λ (e : EntryState). e.hash) becomes) (ap (λ (e : EntryState). e.key) becomes) is.content c.args.key.now found.same_key is.same_spare is.same_left in
+    let change = changed c.self.inside.entries c.update.new.self c.self.invariant.0 found.entry is.given held (ap (λ (e : EntryState). e.hash) becomes) (ap (λ (e : EntryState). e.key) becomes)
+    is.content c.args.key.now found.same_key is.same_spare is.same_left in
     subst (λ (i : Entry). IsChanged c.args.self.now c.update.new.self c.args.key.now i) (ap (λ (e : EntryState). e.item) becomes)
     (subst (λ (s : IndexState EntryState). IsChanged s c.update.new.self c.args.key.now is.given.item) c.self.view_is change)

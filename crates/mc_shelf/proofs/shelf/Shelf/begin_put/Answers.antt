@@ -10,11 +10,13 @@ use Rattle.mc_shelf.proofs.ShelfLemmas.{changed_put, content_of, put_again, put_
 use Rattle.mc_shelf.proofs.shelf.Shelf.begin_put.Goals as goal
 
 -- the item whose block is still to be written was put
-head_put : (c : goal.After-give) → IsPut (key_of c.args.step.now) c.args.write.now.hash c.args.self.now.content (content_of c.self.inside.greatest c.self.inside.cut c.replace-old.new.self) c.head_of-entry.result.item
+head_put : (c : goal.After-give)
+    → IsPut (key_of c.args.step.now) c.args.write.now.hash c.args.self.now.content (content_of c.self.inside.greatest c.self.inside.cut c.replace-old.new.self) c.head_of-entry.result.item
 head_put c =
     let inside = c.self.inside in
     let key : c.head_of-entry.result.key ≡ key_of c.args.step.now = ap (λ (e : EntryState). e.key) c.head_of-entry.ensures.value ∙ c.key-in-Some.ensures in
-    changed_put inside.greatest inside.cut c.args.self.now.content inside.index (ap (λ (s : ShelfState). s.content) c.self.view_is) (key_of c.args.step.now) c.args.write.now.hash c.replace-old.new.self c.head_of-entry.result.item c.requires.can.known.hash
+    changed_put inside.greatest inside.cut c.args.self.now.content inside.index (ap (λ (s : ShelfState). s.content) c.self.view_is) (key_of c.args.step.now) c.args.write.now.hash
+    c.replace-old.new.self c.head_of-entry.result.item c.requires.can.known.hash
     (subst (λ (k : List ℕ). IsChanged inside.index c.replace-old.new.self k c.head_of-entry.result.item) key c.replace-old.ensures.changed)
 
 pub returns-in-Some-clause-put : goal.returns-in-Some-clause-put

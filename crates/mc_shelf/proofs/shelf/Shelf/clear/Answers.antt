@@ -13,7 +13,8 @@ loop-number-init c = record {
   most = c.self.invariant;
   greatest = ap (λ (s : ShelfState). s.content.greatest) c.self.view_is;
   cut = ap (λ (s : ShelfState). s.content.cut) c.self.view_is;
-  gives = subst (λ (s : ShelfState). GivesFor s.content.items (items_of c.self.inside.index) c.args.desk.now c.args.desk.now) c.self.view_is (gives_none (items_of c.self.inside.index) c.args.desk.now);
+  gives = subst (λ (s : ShelfState). GivesFor s.content.items (items_of c.self.inside.index) c.args.desk.now c.args.desk.now) c.self.view_is
+      (gives_none (items_of c.self.inside.index) c.args.desk.now);
   below = λ k e lt there. absurd (omega arith);
 }
 

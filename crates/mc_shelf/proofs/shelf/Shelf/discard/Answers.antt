@@ -8,4 +8,5 @@ pub returns-in-Some-clause-dropped : goal.returns-in-Some-clause-dropped
 returns-in-Some-clause-dropped c item found =
     let inside = c.self.inside in
     let same = key_there inside.index c.args.key.now c.in-Some.place c.in-Some.ensures c.remove-entry.result c.remove-entry.ensures.there in
-    removed_dropped inside.greatest inside.cut c.args.self.now.content inside.index (ap (λ (s : ShelfState). s.content) c.self.view_is) c.args.key.now c.args.hash c.remove-entry.new.self c.remove-entry.result.key same c.remove-entry.ensures.removed
+    removed_dropped inside.greatest inside.cut c.args.self.now.content inside.index (ap (λ (s : ShelfState). s.content) c.self.view_is) c.args.key.now c.args.hash c.remove-entry.new.self
+    c.remove-entry.result.key same c.remove-entry.ensures.removed

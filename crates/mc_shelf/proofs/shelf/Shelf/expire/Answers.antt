@@ -13,5 +13,6 @@ returns-in-Some c item found =
     let key = c.args.key.now in
     let at = c.in-Some.ensures in
     let same = there_item inside.index key c.in-Some.place at item (ap (λ (s : ShelfState). get s.content.items key) c.self.view_is ∙ found) in
-    changed_put inside.greatest inside.cut c.args.self.now.content inside.index (ap (λ (s : ShelfState). s.content) c.self.view_is) key c.args.hash c.set_expiry.new.self (record item { expiry = c.args.expiry }) c.requires.hash
+    changed_put inside.greatest inside.cut c.args.self.now.content inside.index (ap (λ (s : ShelfState). s.content) c.self.view_is) key c.args.hash c.set_expiry.new.self
+    (record item { expiry = c.args.expiry }) c.requires.hash
     (subst (λ (i : Entry). IsChanged inside.index c.set_expiry.new.self key i) (ap (λ (i : Entry). record i { expiry = c.args.expiry }) same) (c.set_expiry.ensures key at))

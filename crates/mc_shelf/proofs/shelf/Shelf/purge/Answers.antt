@@ -4,13 +4,15 @@ use Rattle.mc_shelf.specs.States.{EntryState, ShelfContent, ShelfState}
 use Rattle.mc_shelf.specs.Places.{items_of}
 use Rattle.mc_shelf.specs.Sweeps.{GivesFor, IsPurged}
 use Rattle.mc_shelf.proofs.ShelfLemmas.{content_of}
-use Rattle.mc_shelf.proofs.SweepLemmas.{Stays, Swept, all_stay, below_next, below_sooner, below_removed, entry_out, fewer_removed, gone_here, out_after, purged, stays_here, swept_both, swept_none, swept_one}
+use Rattle.mc_shelf.proofs.SweepLemmas.{Stays, Swept, all_stay, below_next, below_sooner, below_removed, entry_out, fewer_removed}
+use Rattle.mc_shelf.proofs.SweepLemmas.{gone_here, out_after, purged, stays_here, swept_both, swept_none, swept_one}
 use Rattle.mc_shelf.proofs.shelf.Shelf.purge.Goals as goal
 
 pub loop-number-init : goal.loop-number-init
 loop-number-init c = record {
   most = c.self.invariant;
-  swept = subst (λ (s : ShelfContent). Swept c.args.now s (content_of c.self.inside.greatest c.self.inside.cut c.self.inside.index) c.args.desk.now c.args.desk.now) (ap (λ (s : ShelfState). s.content) c.self.view_is) (swept_none c.args.now (content_of c.self.inside.greatest c.self.inside.cut c.self.inside.index) c.args.desk.now);
+  swept = subst (λ (s : ShelfContent). Swept c.args.now s (content_of c.self.inside.greatest c.self.inside.cut c.self.inside.index) c.args.desk.now c.args.desk.now)
+      (ap (λ (s : ShelfState). s.content) c.self.view_is) (swept_none c.args.now (content_of c.self.inside.greatest c.self.inside.cut c.self.inside.index) c.args.desk.now);
   below = λ k e lt there. absurd (omega arith);
 }
 
@@ -25,7 +27,8 @@ give-requires c =
 pub loop-number-smaller-then-is_gone : goal.loop-number-smaller-then-is_gone
 loop-number-smaller-then-is_gone c =
     let first = c.in-Some.ensures.next in
-    fewer_removed (Stays c.loop-number.self-inside.cut c.args.now c.loop-number.soonest) c.loop-number.self-inside.index c.loop-number.at c.in-Some.number c.in-Some.place first c.remove-entry.new.self c.remove-entry.ensures.lower
+    fewer_removed (Stays c.loop-number.self-inside.cut c.args.now c.loop-number.soonest) c.loop-number.self-inside.index c.loop-number.at c.in-Some.number c.in-Some.place first
+    c.remove-entry.new.self c.remove-entry.ensures.lower
 
 pub loop-number-preserved-then-is_gone : goal.loop-number-preserved-then-is_gone
 loop-number-preserved-then-is_gone c =
@@ -36,10 +39,12 @@ loop-number-preserved-then-is_gone c =
     let gone = gone_here inside.cut c.args.now inside.index c.in-Some.place c.get.result c.get.ensures (sym c.is_gone.ensures ∙ c.if-is_gone.true) c.remove-entry.result c.remove-entry.ensures.there in
     record {
       most = held.most;
-      swept = swept_both c.args.now c.args.self.now.content (content_of inside.greatest inside.cut inside.index) (content_of inside.greatest inside.cut c.remove-entry.new.self) c.args.desk.now c.loop-number.desk c.give.new.self held.swept
+      swept = swept_both c.args.now c.args.self.now.content (content_of inside.greatest inside.cut inside.index) (content_of inside.greatest inside.cut c.remove-entry.new.self) c.args.desk.now
+          c.loop-number.desk c.give.new.self held.swept
           (swept_one c.counts_follow.ensures.remove inside.greatest inside.cut inside.index c.remove-entry.new.self c.remove-entry.result c.remove-entry.ensures.item c.remove-entry.ensures.removed
           c.loop-number.desk c.give.new.self c.into_chunk.result c.into_chunk.ensures.chunk c.into_chunk.ensures.is_class are c.args.now gone c.give.ensures.given c.give.ensures.slab);
-      below = below_removed (Stays inside.cut c.args.now c.loop-number.soonest) inside.index c.loop-number.at c.in-Some.number c.in-Some.place first held.below c.remove-entry.new.self c.remove-entry.ensures.lower;
+      below = below_removed (Stays inside.cut c.args.now c.loop-number.soonest) inside.index c.loop-number.at c.in-Some.number c.in-Some.place first held.below c.remove-entry.new.self
+          c.remove-entry.ensures.lower;
     }
 
 pub loop-number-smaller : goal.loop-number-smaller
@@ -55,7 +60,8 @@ loop-number-preserved c =
       swept = held.swept;
       below = below_next (Stays inside.cut c.args.now soonest) inside.index c.loop-number.at c.in-Some.number c.in-Some.place c.in-Some.ensures.next
           (below_sooner inside.cut c.args.now inside.index c.loop-number.at c.loop-number.soonest soonest c.with_found-soonest.ensures.others held.below)
-          (stays_here inside.cut c.args.now soonest inside.index c.in-Some.place c.get.result c.get-else-is_gone.result c.get.ensures c.get-else-is_gone.ensures (sym c.is_gone.ensures ∙ c.if-is_gone.false) c.with_found-soonest.ensures.found);
+          (stays_here inside.cut c.args.now soonest inside.index c.in-Some.place c.get.result c.get-else-is_gone.result c.get.ensures c.get-else-is_gone.ensures
+          (sym c.is_gone.ensures ∙ c.if-is_gone.false) c.with_found-soonest.ensures.found);
     }
 
 pub invariant_of-self : goal.invariant_of-self
@@ -85,4 +91,5 @@ returns-then-not-may_have_dead-clause-shelf c =
     let desk = c.args.desk.now in
     let shelf = content_of inside.greatest inside.cut inside.index in
     subst (λ (s : ShelfState). IsPurged c.args.now s.content s.content) c.self.view_is
-    (purged c.args.now shelf inside.greatest inside.cut inside.index c.may_have_dead.ensures.keyed desk desk (swept_none c.args.now shelf desk) (c.may_have_dead.ensures.none c.if-not-may_have_dead.true))
+    (purged c.args.now shelf inside.greatest inside.cut inside.index c.may_have_dead.ensures.keyed desk desk (swept_none c.args.now shelf desk)
+    (c.may_have_dead.ensures.none c.if-not-may_have_dead.true))

@@ -26,9 +26,18 @@ returns-in-Some-clause-put c =
     let step = c.args.step.now in
     let old = c.args.self.now.content in
     let item = drafted write.draft (block_beside old step write.draft) c.args.unique write.moment in
-    let beside : c.block_in-old.result.now ≡ block_in (get old.items (key_of step)) = c.block_in-old.ensures.value ∙ ap block_in ((c.found.ensures c.key.result.now c.find_again-place.ensures).item ∙ ap (λ (s : ShelfState). get s.content.items c.key.result.now) c.self.view_is ∙ ap (λ (k : List ℕ). get old.items k) c.key.ensures) in
+    let beside : c.block_in-old.result.now ≡ block_in (get old.items (key_of step)) =
+    c.block_in-old.ensures.value
+    ∙ ap block_in ((c.found.ensures c.key.result.now c.find_again-place.ensures).item
+    ∙ ap (λ (s : ShelfState). get s.content.items c.key.result.now) c.self.view_is
+    ∙ ap (λ (k : List ℕ). get old.items k) c.key.ensures) in
     let entry : c.entry_in-entry.result ≡ record { hash = write.hash; key = key_of step; item = item } =
-    c.entry_in-entry.ensures ∙ ap (λ (l : List ℕ). record { hash = write.hash; key = key_of step; item = drafted write.draft (made_block write.draft.body (block_of step) l) c.args.unique write.moment }) beside in
+    c.entry_in-entry.ensures ∙ ap (λ (l : List ℕ). record {
+      hash = write.hash;
+      key = key_of step;
+      item = drafted write.draft (made_block write.draft.body (block_of step) l) c.args.unique
+          write.moment;
+    }) beside in
     changed_put inside.greatest inside.cut old inside.index (ap (λ (s : ShelfState). s.content) c.self.view_is) (key_of step) write.hash c.replace-old.new.self item c.requires.can.known.hash
     (subst (λ (e : EntryState). IsChanged inside.index c.replace-old.new.self e.key e.item) entry c.replace-old.ensures.changed)
 
@@ -39,7 +48,17 @@ returns-in-None-clause-put c =
     let step = c.args.step.now in
     let old = c.args.self.now.content in
     let item = drafted write.draft (block_beside old step write.draft) c.args.unique write.moment in
-    let beside : c.block_in-old.result.now ≡ block_in (get old.items (key_of step)) = c.block_in-old.ensures.value ∙ ap block_in ((c.found.ensures c.key.result.now c.find_again-place.ensures).item ∙ ap (λ (s : ShelfState). get s.content.items c.key.result.now) c.self.view_is ∙ ap (λ (k : List ℕ). get old.items k) c.key.ensures) in
+    let beside : c.block_in-old.result.now ≡ block_in (get old.items (key_of step)) =
+    c.block_in-old.ensures.value
+    ∙ ap block_in ((c.found.ensures c.key.result.now c.find_again-place.ensures).item
+    ∙ ap (λ (s : ShelfState). get s.content.items c.key.result.now) c.self.view_is
+    ∙ ap (λ (k : List ℕ). get old.items k) c.key.ensures) in
     let entry : c.entry_in-entry.result ≡ record { hash = write.hash; key = key_of step; item = item } =
-    c.entry_in-entry.ensures ∙ ap (λ (l : List ℕ). record { hash = write.hash; key = key_of step; item = drafted write.draft (made_block write.draft.body (block_of step) l) c.args.unique write.moment }) beside in
-    inserted_put inside.greatest inside.cut old inside.index (ap (λ (s : ShelfState). s.content) c.self.view_is) (key_of step) write.hash c.insert_reserved.new.self item c.entry_in-entry.result entry c.insert_reserved.ensures.inserted
+    c.entry_in-entry.ensures ∙ ap (λ (l : List ℕ). record {
+      hash = write.hash;
+      key = key_of step;
+      item = drafted write.draft (made_block write.draft.body (block_of step) l) c.args.unique
+          write.moment;
+    }) beside in
+    inserted_put inside.greatest inside.cut old inside.index (ap (λ (s : ShelfState). s.content) c.self.view_is) (key_of step) write.hash c.insert_reserved.new.self item c.entry_in-entry.result
+    entry c.insert_reserved.ensures.inserted

@@ -1,4 +1,4 @@
-use Rattle.std.proofs.Common.{◌≡◌, List, ℕ, Some, sym, ap, subst, ◌∙◌}
+use Rattle.std.proofs.Common.{◌≡◌, List, ℕ, Some, is_some, refl, sym, ap, subst, ◌∙◌}
 use Rattle.std.specs.FinMap.{get}
 use Rattle.mc_command.specs.Commands.{key_of}
 use Rattle.mc_command.specs.Plain.{Entry}
@@ -9,6 +9,7 @@ use Rattle.mc_shelf.proofs.shelf.Shelf.settle.Goals as goal
 pub returns-in-Answer : goal.returns-in-Answer
 returns-in-Answer c step now plan = record {
   takes = λ desk. takes_answer c.counts_follow.ensures.insert c.counts_follow.ensures.remove step now c.args.self.now.content desk plan.on_key c.in-Answer.reply (sym c.in-Answer.is ∙ plan.next);
+  stands = refl;
   others = others_same (key_of step) c.args.self.now.content;
   hash = plan.known.hash;
 }
@@ -25,6 +26,7 @@ returns-in-Expire c step now plan =
     let put = puts there.0 there.1 in
     record {
       takes = λ desk. takes_expire c.counts_follow.ensures.insert c.counts_follow.ensures.remove step now old desk plan.on_key c.in-Expire.expiry c.in-Expire.reply c.args.plan.hash new puts next;
+      stands = ap is_some put.item ∙ sym (ap is_some there.1);
       others = put.others;
       hash = put.hash;
     }

@@ -14,7 +14,8 @@ apart r a b = cc
 pub returns-in_err-make_room-clause-refused : goal.returns-in_err-make_room-clause-refused
 returns-in_err-make_room-clause-refused c e s at =
     let plan = c.in_ok-plan.ensures.plan in
-    can_wants c.counts_follow.ensures.insert c.counts_follow.ensures.remove c.args.step.now c.args.now c.args.self.now.content c.args.desk.now c.requires.on_key c.make_room.ensures.slab c.plan.ensures.most c.in_ok-plan.plan.next plan.next c.in_err-make_room.ensures.refused s at
+    can_wants c.counts_follow.ensures.insert c.counts_follow.ensures.remove c.args.step.now c.args.now c.args.self.now.content c.args.desk.now c.requires.on_key c.make_room.ensures.slab
+    c.plan.ensures.most c.in_ok-plan.plan.next plan.next c.in_err-make_room.ensures.refused s at
 
 pub returns-in_err-make_room-clause-spent : goal.returns-in_err-make_room-clause-spent
 returns-in_err-make_room-clause-spent c =
@@ -26,7 +27,8 @@ returns-in_err-make_room-clause-spent c =
 pub returns-clause-refused : goal.returns-clause-refused
 returns-clause-refused c e s at =
     let plan = c.in_ok-plan.ensures.plan in
-    can_wants c.counts_follow.ensures.insert c.counts_follow.ensures.remove c.args.step.now c.args.now c.args.self.now.content c.args.desk.now c.requires.on_key c.make_room.ensures.slab c.plan.ensures.most c.in_ok-plan.plan.next plan.next
+    can_wants c.counts_follow.ensures.insert c.counts_follow.ensures.remove c.args.step.now c.args.now c.args.self.now.content c.args.desk.now c.requires.on_key c.make_room.ensures.slab
+    c.plan.ensures.most c.in_ok-plan.plan.next plan.next
     (needs_can c.in_ok-plan.plan.next c.args.desk.now (c.apply.ensures.refused e)) s at
 
 pub returns-clause-spent : goal.returns-clause-spent

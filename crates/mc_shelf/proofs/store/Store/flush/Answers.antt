@@ -5,7 +5,7 @@ use Rattle.mc_shelf.specs.States.{ShelfState}
 use Rattle.mc_shelf.specs.Parts.{ArePartsOf}
 use Rattle.mc_shelf.specs.Unions.{plain_of}
 use Rattle.mc_shelf.proofs.PartLemmas.{are_kept, plain_is}
-use Rattle.mc_shelf.proofs.FlushLemmas.{flushed_back, still_set_up}
+use Rattle.mc_shelf.proofs.FlushLemmas.{flushed_back, flushed_greatest, flushed_limit}
 use Rattle.mc_shelf.proofs.store.Store.flush.Goals as goal
 
 pub flush_parts-requires : goal.flush_parts-requires
@@ -13,24 +13,27 @@ flush_parts-requires g c =
     let s = c.self.inside.parts in
     let hash_of = g.K.KeyHash.hash_of s.hasher in
     let state = plain_of s.settings s.shelves.items s.desk in
-    (hash_of, state, s.settings.shelves, subst (λ (l : List ShelfState). ArePartsOf hash_of state l s.settings.shelves s.desk) (sym c.deref_mut.ensures.value) c.self.invariant)
+    (hash_of, state, s.settings.shelves, subst (λ (l : List ShelfState). ArePartsOf hash_of state l s.settings.shelves s.desk) (sym c.deref_mut.ensures.value) c.self.invariant.parts)
 
 pub invariant_of-self : goal.invariant_of-self
 invariant_of-self g c =
     let s = c.self.inside.parts in
     let hash_of = g.K.KeyHash.hash_of s.hasher in
     let state = plain_of s.settings s.shelves.items s.desk in
-    let given = subst (λ (l : List ShelfState). ArePartsOf hash_of state l s.settings.shelves s.desk) (sym c.deref_mut.ensures.value) c.self.invariant in
-    are_kept s.settings (still_set_up c.args.delay c.args.now (record { greatest = refl; limit = refl }))
-    (flushed_back s.shelves.items (s.shelves.ok.0 ∙ c.self.invariant.number) (c.flush_parts.ensures hash_of state s.settings.shelves given))
+    let given = subst (λ (l : List ShelfState). ArePartsOf hash_of state l s.settings.shelves s.desk) (sym c.deref_mut.ensures.value) c.self.invariant.parts in
+    record {
+      parts = are_kept s.settings (flushed_greatest c.args.delay c.args.now state) (flushed_limit c.args.delay c.args.now state)
+          (flushed_back s.shelves.items (s.shelves.ok.0 ∙ c.self.invariant.parts.number) (c.flush_parts.ensures hash_of state s.settings.shelves given));
+      divides = c.self.invariant.divides;
+    }
 
 pub returns : goal.returns
 returns g c =
     let s = c.self.inside.parts in
     let hash_of = g.K.KeyHash.hash_of s.hasher in
     let state = plain_of s.settings s.shelves.items s.desk in
-    let given = subst (λ (l : List ShelfState). ArePartsOf hash_of state l s.settings.shelves s.desk) (sym c.deref_mut.ensures.value) c.self.invariant in
+    let given = subst (λ (l : List ShelfState). ArePartsOf hash_of state l s.settings.shelves s.desk) (sym c.deref_mut.ensures.value) c.self.invariant.parts in
     let same =
-    plain_is s.settings (still_set_up c.args.delay c.args.now (record { greatest = refl; limit = refl }))
-    (flushed_back s.shelves.items (s.shelves.ok.0 ∙ c.self.invariant.number) (c.flush_parts.ensures hash_of state s.settings.shelves given)) in
+    plain_is s.settings (flushed_greatest c.args.delay c.args.now state) (flushed_limit c.args.delay c.args.now state)
+    (flushed_back s.shelves.items (s.shelves.ok.0 ∙ c.self.invariant.parts.number) (c.flush_parts.ensures hash_of state s.settings.shelves given)) in
     rw (← c.self.view_is) (ap (Answered Flushed) (sym same), (refl, refl))

@@ -4,20 +4,23 @@ use Rattle.mc_shelf.proofs.store.Store.purge.Goals as goal
 
 pub purge_part-requires : goal.purge_part-requires
 purge_part-requires g c =
-    let parts = c.self.invariant in
+    let parts = c.self.invariant.parts in
     let fits = parts.each c.args.shelf c.index_mut-shelf.result.now (shelf_here c.self.inside.parts.settings parts c.if-shelf-self.true c.index_mut-shelf.ensures.value) in
     (_, _, c.args.shelf, _, fits, parts.account)
 
 pub invariant_of-self : goal.invariant_of-self
 invariant_of-self g c =
-    let parts = c.self.invariant in
+    let parts = c.self.invariant.parts in
     let settings = c.self.inside.parts.settings in
     let fits = parts.each c.args.shelf c.index_mut-shelf.result.now (shelf_here settings parts c.if-shelf-self.true c.index_mut-shelf.ensures.value) in
-    kept_after settings parts c.purge_part.new.self (c.purge_part.ensures _ _ c.args.shelf _ fits parts.account)
+    record {
+      parts = kept_after settings parts c.purge_part.new.self (c.purge_part.ensures _ _ c.args.shelf _ fits parts.account);
+      divides = c.self.invariant.divides;
+    }
 
 pub returns-then-shelf-self-clause-plain : goal.returns-then-shelf-self-clause-plain
 returns-then-shelf-self-clause-plain g c =
-    let parts = c.self.invariant in
+    let parts = c.self.invariant.parts in
     let settings = c.self.inside.parts.settings in
     let fits = parts.each c.args.shelf c.index_mut-shelf.result.now (shelf_here settings parts c.if-shelf-self.true c.index_mut-shelf.ensures.value) in
     rw (← c.self.view_is, lt-ltb c.args.shelf settings.shelves c.if-shelf-self.true)

@@ -8,7 +8,7 @@ use Rattle.mc_shelf.proofs.store.Store.step_on_key.Goals as goal
 
 pub step-requires-clause-stands : goal.step-requires-clause-stands
 step-requires-clause-stands g c =
-    let parts = c.self.invariant in
+    let parts = c.self.invariant.parts in
     let s = c.self.inside.parts in
     let at = c.hash-hash.result % c.from.result in
     let hashed = c.hash-hash.ensures ∙ ap (g.K.KeyHash.hash_of s.hasher) c.key.ensures in
@@ -18,18 +18,21 @@ step-requires-clause-stands g c =
 
 pub invariant_of-self : goal.invariant_of-self
 invariant_of-self g c =
-    let parts = c.self.invariant in
+    let parts = c.self.invariant.parts in
     let s = c.self.inside.parts in
     let at = c.hash-hash.result % c.from.result in
     let hashed = c.hash-hash.ensures ∙ ap (g.K.KeyHash.hash_of s.hasher) c.key.ensures in
     let inside : at < s.settings.shelves = omega (arith, c.from.ensures, parts.some_shelf) in
     let here = shelf_here s.settings parts inside c.index_mut-shelf.ensures.value in
-    parts_stepped s.settings parts here c.args.step.now c.args.now c.step.new.self c.step.new.desk (λ i. sym hashed i % sym c.from.ensures i) hashed c.requires.on_key c.steps_change_one_shelf.ensures.taken
-    c.step.result c.step.ensures.took c.step.ensures.err
+    record {
+      parts = parts_stepped s.settings parts here c.args.step.now c.args.now c.step.new.self c.step.new.desk (λ i. sym hashed i % sym c.from.ensures i) hashed c.requires.on_key
+          c.steps_change_one_shelf.ensures.taken c.step.result c.step.ensures.took c.step.ensures.err;
+      divides = c.self.invariant.divides;
+    }
 
 pub returns : goal.returns
 returns g c =
-    let parts = c.self.invariant in
+    let parts = c.self.invariant.parts in
     let s = c.self.inside.parts in
     let step = c.args.step.now in
     let at = c.hash-hash.result % c.from.result in

@@ -6,7 +6,7 @@ use Rattle.mc_shelf.proofs.store.tests.begin_and_finish.Goals as goal
 
 pub step_in_parts-requires-clause-stands : goal.step_in_parts-requires-clause-stands
 step_in_parts-requires-clause-stands g c =
-    let parts = c.store.invariant in
+    let parts = c.store.invariant.parts in
     let s = c.store.inside.parts in
     let at = c.hash-hash.result % c.from.result in
     let hashed = c.hash-hash.ensures ∙ ap (g.K.KeyHash.hash_of s.hasher) c.key.ensures in
@@ -16,11 +16,14 @@ step_in_parts-requires-clause-stands g c =
 
 pub invariant_of-store : goal.invariant_of-store
 invariant_of-store g c =
-    let parts = c.store.invariant in
+    let parts = c.store.invariant.parts in
     let s = c.store.inside.parts in
     let at = c.hash-hash.result % c.from.result in
     let hashed = c.hash-hash.ensures ∙ ap (g.K.KeyHash.hash_of s.hasher) c.key.ensures in
     let inside : at < s.settings.shelves = omega (arith, c.from.ensures, parts.some_shelf) in
     let here = shelf_here s.settings parts inside c.index_mut-shelf.ensures.value in
-    parts_stepped s.settings parts here c.args.step.now c.args.now c.step_in_parts.new.shelf c.step_in_parts.new.desk (λ i. sym hashed i % sym c.from.ensures i) hashed c.requires.on_key c.steps_change_one_shelf.ensures.taken
-    c.step_in_parts.result c.step_in_parts.ensures.took c.step_in_parts.ensures.err
+    record {
+      parts = parts_stepped s.settings parts here c.args.step.now c.args.now c.step_in_parts.new.shelf c.step_in_parts.new.desk (λ i. sym hashed i % sym c.from.ensures i) hashed c.requires.on_key
+          c.steps_change_one_shelf.ensures.taken c.step_in_parts.result c.step_in_parts.ensures.took c.step_in_parts.ensures.err;
+      divides = c.store.invariant.divides;
+    }

@@ -1,0 +1,180 @@
+//! How many items a shelf has, and how many keys of each number, the hash modulo 4096.
+
+ghost use Rattle.std.specs.Prelude.{◌≡◌, ◌≤◌, length};
+
+use super::*;
+use mc_command::Verb;
+use mc_hop::Constant;
+use mc_testing::{Ask, Row, Want, asked, filled, first_unlike, set, step_of};
+use std::test::*;
+
+/// Gives keys of each length another hash, all of the first shelf. Lengths that are alike modulo 16 have one number, 256 times the
+/// rest.
+#[derive(Clone, Copy, Drop)]
+struct ByLength;
+
+impl KeyHash for ByLength {
+    ghost use Rattle.std.specs.Prelude.{◌*◌, ◌%◌, length};
+
+    ghost hash_of = { λ hasher key. length key % 256 * 256 };
+
+    fn hash(&self, key: &[u8]) -> u64 {
+        key.len() as u64 % 256 * 256
+    }
+}
+
+/// A store of 64 pages, asked for again where memory is refused.
+fn open<K: KeyHash + Drop + Copy>(alloc: Global, hasher: K) -> Result<Store<K>, AllocError> {
+    let settings = Settings {
+        pages: 64,
+        greatest: 1048576,
+        shelves: 64,
+    };
+    match Store::new(alloc, settings, hasher) {
+        Err(_) => Store::new(alloc, settings, hasher),
+        made => made,
+    }
+}
+
+/// How many items the first shelf has.
+fn items<K: KeyHash + Drop>(store: &Store<K>) -> usize {
+    match store.parts.shelves.first() {
+        Some(shelf) => shelf.len(),
+        None => 0,
+    }
+}
+
+/// What the place of a number has, where the keys of the first shelf were counted into places of 0.
+fn keys<K: KeyHash + Drop>(store: &Store<K>, number: usize) -> u64 {
+    let mut counts = [0u64; 4096];
+    if let Some(shelf) = store.parts.shelves.first() {
+        shelf.count_numbers(&mut counts);
+    }
+    match counts.get(number) {
+        Some(count) => *count,
+        None => 0,
+    }
+}
+
+/// Drops the dead of the first shelf, where that is asked.
+fn purge_at(store: &mut Store<Constant>, seconds: u64, purges: bool) {
+    if purges {
+        store.purge(0, Moment::from_seconds_at_most(seconds));
+    }
+}
+
+/// Keys of one hash, of the first shelf and of the number 960. A dead item counts until a step on its key, or a purge, drops it.
+#[test]
+fn a_shelf_counts_its_items(rt: HostRuntime) -> Result<(), Fail> {
+    // After each row, and a purge at its second where there is one, how many items the shelf has.
+    let rows: [(Row<'_>, bool, usize); 16] = [
+        ((1000, b"a", Ask::Get, Want::Told("miss")), false, 0),
+        (set(1000, b"a", 0, b"x", "stored"), false, 1),
+        (set(1000, b"b", 10, b"y", "stored"), false, 2),
+        (set(1001, b"a", 0, b"z", "stored"), true, 2),
+        ((1002, b"a", Ask::Delete, Want::Told("deleted")), false, 1),
+        ((1002, b"a", Ask::Delete, Want::Told("not found")), false, 1),
+        ((1010, b"a", Ask::Get, Want::Told("miss")), false, 1),
+        ((1010, b"b", Ask::Get, Want::Told("miss")), false, 0),
+        (set(1010, b"c", 10, b"y", "stored"), false, 1),
+        ((1020, b"a", Ask::Get, Want::Told("miss")), true, 0),
+        (set(1020, b"a", 0, b"x", "stored"), false, 1),
+        (set(1020, b"b", 0, b"x", "stored"), false, 2),
+        ((1020, b"a", Ask::Flush(5), Want::Told("flushed")), true, 2),
+        ((1025, b"c", Ask::Get, Want::Told("miss")), true, 0),
+        (set(1025, b"a", 0, b"x", "stored"), false, 1),
+        ((1025, b"a", Ask::Flush(0), Want::Told("flushed")), false, 0),
+    ];
+    let alloc = rt.alloc();
+    let mut store = open(alloc, Constant(5056))?;
+    for (row, purges, want) in rows {
+        assert_eq!(rt; first_unlike(&mut store, alloc, &[row])?, None);
+        purge_at(&mut store, row.0, purges);
+        let has = (items(&store), keys(&store, 960));
+        assert!(rt;
+            has == (want, want as u64),
+            "{} and {} at {}",
+            has.0,
+            has.1,
+            row.0
+        );
+    }
+    Ok(())
+}
+
+/// Lends the first bytes, as many as are asked for, at most 250 and at most all.
+fn front(bytes: &[u8], len: usize) -> &[u8]
+    ensures { length result.now ≤ 250 }
+{
+    let (front, _) = bytes.split_at(len.min(bytes.len()).min(250));
+    front
+}
+
+/// A store with keys of each length from 1 to that, at most 250. A few entries are moved after each key, so that a growth runs for a while.
+fn store_of<K: KeyHash + Drop + Copy>(
+    alloc: Global,
+    hasher: K,
+    many: usize,
+) -> Result<Store<K>, AllocError> {
+    let long = filled(alloc, 250)?;
+    let mut store = open(alloc, hasher)?;
+    let now = Moment::from_seconds_at_most(1000);
+    for before in 0..many {
+        let key = front(long.as_slice(), before + 1);
+        let step = step_of(key, Ask::Store(Verb::Set, 0, b"x"));
+        let _ = asked(&mut store, alloc, &step, now);
+        let _ = store.grow(0, 2);
+    }
+    Ok(store)
+}
+
+/// The table of 64 homes grows before the 49th key comes, and that of 128 before the 97th.
+#[test]
+fn keys_are_counted_by_their_numbers(rt: HostRuntime) -> Result<(), Fail> {
+    // So many keys, a number, and how many keys have it.
+    let rows: [(usize, usize, u64); 12] = [
+        (0, 256, 0),
+        (1, 256, 1),
+        (1, 0, 0),
+        (1, 257, 0),
+        (16, 256, 1),
+        (16, 0, 1),
+        (17, 256, 2),
+        (50, 256, 4),
+        (50, 512, 4),
+        (50, 768, 3),
+        (100, 1024, 7),
+        (250, 3840, 15),
+    ];
+    for (many, number, want) in rows {
+        let store = store_of(rt.alloc(), ByLength, many)?;
+        let has = keys(&store, number);
+        assert!(rt; has == want, "{has} of {number} after {many} keys");
+    }
+    Ok(())
+}
+
+/// Keys of one hash, of which a table takes 32, and the others are strays. From the 34th on a growth runs.
+#[test]
+fn strays_are_counted(rt: HostRuntime) -> Result<(), Fail> {
+    let rows: [(usize, usize, u64); 8] = [
+        (32, 0, 32),
+        (33, 0, 33),
+        (34, 0, 34),
+        (35, 0, 35),
+        (40, 0, 40),
+        (40, 1, 0),
+        (40, 4095, 0),
+        (120, 0, 120),
+    ];
+    for (many, number, want) in rows {
+        let store = store_of(rt.alloc(), Constant(0), many)?;
+        let has = (items(&store) as u64, keys(&store, number));
+        assert!(rt;
+            has == (many as u64, want),
+            "{} of {number} after {many} keys",
+            has.1
+        );
+    }
+    Ok(())
+}
