@@ -52,7 +52,7 @@ module _ (start : Beginning) (at : ℕ) where
     abbrev what : Operation
     what = Stepped step now reply
 
-    goes_alone : (m : Plain) → IsPart m f → (d : DeskState) → IsDeskOf m d
+    pub goes_alone : (m : Plain) → IsPart m f → (d : DeskState) → IsDeskOf m d
         → Goes m (next start m what) f' d
     goes_alone m part d is =
         let goes = alone m part in
@@ -122,6 +122,14 @@ module _ (start : Beginning) (at : ℕ) where
           applied_else m h c z (other_bay at c (OfShelf f) (omega (arith, none)))
           (other_bay start.shelves c (OfDesk d) (omega (arith, none))) fits;
     }
+
+  pub goes_step : (f f' : ShelfContent) (d d' : DeskState) (step : KeyStep) (now : ℕ) (reply : Reply)
+      → ((m : Plain) → IsPart m f → IsDeskOf m d
+      → GoesByStep start.hash_of start.shelves at step now m reply f' d')
+      → (m : Plain) → IsPart m f → IsDeskOf m d → Goes m (next start m (Stepped step now reply)) f' d'
+  goes_step f f' d d' step now reply by_step m part desk =
+      subst (λ new. Goes m new f' d') (sym (ap (left_by m) (by_step m part desk).answered))
+      (by_step m part desk).goes
 
   -- a step's is so by the law
   pub applies_step : (f f' : ShelfContent) (d d' : DeskState) (step : KeyStep) (now : ℕ)

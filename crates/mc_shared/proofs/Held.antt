@@ -1,25 +1,28 @@
 -- A seat that holds one bay, or two.
-use Rattle.std.proofs.Common.{◌≡◌, ℕ, List, [], ◌∷◌, None, sym, ap, ◌∙◌, subst}
+use Rattle.std.proofs.Common.{◌≡◌, ℕ, zero, suc, List, [], ◌∷◌, ◌++◌, None, Ok, replicate, refl, sym, ap, ◌∙◌, subst}
 use Rattle.atomic_table.specs.Table.{rest}
 use Rattle.mc_shared.specs.Bays.{Content, place}
-use Rattle.mc_shared.specs.Past.{Past, Lives}
+use Rattle.mc_shared.specs.Past.{Past, Lives, call}
 use Rattle.mc_shared.specs.View.{SeatView}
-use Rattle.mc_shared.specs.Steps.{Mine, holding, newcomer, met, next_name}
+use Rattle.mc_shared.specs.Steps.{Mine, HoldsLast, HoldsThis, holding, without, decided_by, entry_of, loaded, newcomer, met, next_name}
 use Rattle.mc_shared.proofs.NamedKept.{lives_start, lives_both}
-use Rattle.mc_shared.specs.Store.{holds_one, holds_two}
-use Rattle.std.proofs.Common.{◌<◌, ◌+◌, arith}
+use Rattle.mc_shared.specs.Store.{resting, holds_one, holds_two}
+use Rattle.std.proofs.Common.{◌<◌, ◌-◌, ◌%◌, ◌^◌, arith}
 use Rattle.mc_command.specs.declared.step.KeyStep.{KeyStep}
 use Rattle.mc_command.specs.Commands.{key_of}
 use Rattle.mc_command.specs.Plain.{Plain, Outcome, plain}
 use Rattle.mc_shelf.specs.States.{ShelfContent, DeskState, CanStand, IsAt}
 use Rattle.mc_shared.specs.Bays.{OfShelf, OfDesk}
-use Rattle.mc_shared.specs.History.{Operation, start_of, shelf_in}
-use Rattle.mc_shared.specs.Steps.{Decides}
+use Rattle.mc_command.specs.declared.reply.Reply.{Reply}
+use Rattle.mc_shared.specs.History.{Beginning, Operation, Stepped, start_of, shelf_in}
+use Rattle.mc_shared.specs.Steps.{Agrees, Decides, Counts, MayAdd}
+use Rattle.std.specs.FinMap.{len}
+use Rattle.mc_shared.proofs.NumberSteps.{may_add}
 use Rattle.mc_shared.specs.Store.{CanCome}
-use Rattle.mc_shared.specs.Shown.{SharedState}
+use Rattle.mc_shared.specs.Shown.{SharedState, CallerState}
 use Rattle.mc_shared.specs.Holds.{HoldsShelf, HoldsBoth}
 use Rattle.mc_shared.proofs.Decisions.{can_stand, comes_after}
-use Rattle.mc_shared.specs.Seats.{Sitter, SameSeat, IsAlive, MayDecide}
+use Rattle.mc_shared.specs.Seats.{Sitter, SameSeat, IsTableOf, IsAlive, IsAnswered, MayDecide}
 use Rattle.mc_shelf.specs.Stores.{StoreState}
 use Rattle.atomic_table.specs.Seated.{TableId}
 
@@ -38,49 +41,125 @@ pub lives_on : {K : Type 0} (table : TableId) (began : StoreState K) (old new : 
     → IsAlive table began old → SameSeat old new → new.me ≡ m → m.0.past ≡ old.me.0.past
     → IsAlive table began new
 lives_on table began old new m alive same is past = record {
-  seated = record { own = same.0 ∙ alive.seated.own; wide = alive.seated.wide };
+  seated = record { own = same.0 ∙ alive.seated.own; fit = alive.seated.fit };
   lives = subst Lives (sym (ap (λ (n : Mine). n.0.past) is ∙ past)) alive.lives;
 }
 
 -- a seat that was just made, and one that took in another's past
-pub new_rests : (me : Mine) (v : SeatView) → me ≡ (newcomer v, []) → (me.1 ≡ []) × (me.0.bays ≡ []) × Lives me.0.past
-new_rests me v is = (ap (λ m. m.1) is, ap (λ m. m.0.bays) is, subst (λ (m : Mine). Lives m.0.past) (sym is) (lives_start (next_name v.past) v.past))
+pub new_rests : (me : Mine) (v : SeatView) → me ≡ (newcomer v, []) → (me.1 ≡ []) × (me.0.bays ≡ []) × Lives me.0.past × (me.0.surplus ≡ [])
+new_rests me v is = (ap (λ m. m.1) is, ap (λ m. m.0.bays) is, subst (λ (m : Mine). Lives m.0.past) (sym is) (lives_start (next_name v.past) v.past), ap (λ m. m.0.surplus) is)
 
-pub met_rests : (now me was : Mine) (o : SeatView) → now ≡ me → me ≡ (met was.0 o, was.1) → (was.1 ≡ []) × (was.0.bays ≡ []) × Lives was.0.past → (now.1 ≡ []) × (now.0.bays ≡ []) × Lives now.0.past
+pub met_rests : (now me was : Mine) (o : SeatView) → now ≡ me → me ≡ (met was.0 o, was.1) → (was.1 ≡ []) × (was.0.bays ≡ []) × Lives was.0.past × (was.0.surplus ≡ []) → (now.1 ≡ []) × (now.0.bays ≡ []) × Lives now.0.past × (now.0.surplus ≡ [])
 met_rests now me was o same is rests = let e : now ≡ (met was.0 o, was.1) = same ∙ is in
-    (ap (λ m. m.1) e ∙ rests.0, ap (λ m. m.0.bays) e ∙ rests.1, subst (λ (m : Mine). Lives m.0.past) (sym e) (lives_both was.0.past o.past rests.2))
+    (ap (λ m. m.1) e ∙ rests.0, ap (λ m. m.0.bays) e ∙ rests.1, subst (λ (m : Mine). Lives m.0.past) (sym e) (lives_both was.0.past o.past rests.2), ap (λ m. m.0.surplus) e ∙ rests.3)
 
 pub two_held : (me : Mine) (p : Past) (b : ℕ) (y : Content) (at : ℕ) (x : Content) → me ≡ holds_two p b y at x → ((z : Content) × (me.0.bays ≡ (b, z) ∷ rest me.0.bays)) × (me.1 ≡ (place b, None) ∷ rest me.1)
 two_held me p b y at x e = ((y, top_of me.0.bays (b, y) ((at, x) ∷ []) (ap (λ m. m.0.bays) e)), top_of me.1 (place b, None) ((place at, None) ∷ []) (ap (λ m. m.1) e))
 
+-- what a seat took last stays so where words show too many
+pub loaded_last : (me now : Mine) (surplus : List ℕ) (b : ℕ) → now ≡ loaded me surplus → HoldsLast me b → HoldsLast now b
+loaded_last me now surplus b is held = subst (λ (m : Mine). HoldsLast m b) (sym is) held
+
 -- a hold of a shelf may decide what its shelf decides
 pub at_shelf : {K : Type 0} (hash_of : K → List ℕ → ℕ) (table : TableId) (began : StoreState K) (shared : SharedState K)
-    (seat : Sitter) (at : ℕ) (f : ShelfContent) (y : Content) (what : Operation) (still : List (ℕ × Content))
-    → record { table = table; began = began } ≡ shared → table.words ≡ place (began.settings.shelves + 1) → HoldsShelf hash_of shared seat at f
+    (seat : Sitter) (at : ℕ) (f : ShelfContent) (y : Content) (what : Operation) (still : List (ℕ × Content)) (surplus : List ℕ)
+    → record { table = table; began = began } ≡ shared → IsTableOf table began → HoldsShelf hash_of shared seat at f
     → (at < began.settings.shelves → Decides (start_of hash_of began) ((at, OfShelf f) ∷ []) at y what still)
-    → MayDecide table began seat at (start_of hash_of began) y what still
-at_shelf {K} hash_of table began shared seat at f y what still is wide holds decides =
+    → Counts (start_of hash_of began) (holds_one seat.me.0.past at (OfShelf f)).0 what (decided_by (holds_one seat.me.0.past at (OfShelf f)) what still surplus).0
+    → MayDecide table began seat at (start_of hash_of began) y what still surplus
+at_shelf {K} hash_of table began shared seat at f y what still surplus is fit holds decides counts =
     let h = subst (λ (s : SharedState K). HoldsShelf hash_of s seat at f) (sym is) holds in
     record {
-      alive = record { seated = record { own = h.own; wide = wide }; lives = h.lives };
-      bay = (let l = h.inside in omega (arith, l, wide));
+      alive = record { seated = record { own = h.own; fit = fit }; lives = h.lives };
+      bay = (let l = h.inside in omega (arith, l));
       held = one_held seat.me seat.me.0.past at (OfShelf f) h.held;
       right = subst (λ bays. Decides (start_of hash_of began) bays at y what still) (sym (ap (λ (m : Mine). m.0.bays) h.held)) (decides h.inside);
+      counts = subst (λ (m : Mine). Counts (start_of hash_of began) m.0 what (decided_by m what still surplus).0) (sym h.held) counts;
     }
 
--- a hold of a shelf and the desk may decide what the desk decides
+-- a hold of a shelf and the desk, where these words show too many, may decide what the desk decides
 pub at_both : {K : Type 0} (hash_of : K → List ℕ → ℕ) (table : TableId) (began : StoreState K) (shared : SharedState K)
-    (seat : Sitter) (at n : ℕ) (f : ShelfContent) (d : DeskState) (y : Content) (what : Operation) (still : List (ℕ × Content))
-    → record { table = table; began = began } ≡ shared → table.words ≡ place (began.settings.shelves + 1) → began.settings.shelves ≡ n → HoldsBoth hash_of shared seat at f d
+    (seat now : Sitter) (at n : ℕ) (f : ShelfContent) (d : DeskState) (y : Content) (what : Operation) (still : List (ℕ × Content)) (had surplus : List ℕ)
+    → record { table = table; began = began } ≡ shared → IsTableOf table began → began.settings.shelves ≡ n → HoldsBoth hash_of shared seat at f d
+    → SameSeat seat now → now.me ≡ loaded seat.me had
     → (at < began.settings.shelves → Decides (start_of hash_of began) ((began.settings.shelves, OfDesk d) ∷ (at, OfShelf f) ∷ []) began.settings.shelves y what still)
-    → MayDecide table began seat n (start_of hash_of began) y what still
-at_both {K} hash_of table began shared seat at n f d y what still is wide desk holds decides =
+    → Counts (start_of hash_of began) (loaded (holds_two seat.me.0.past began.settings.shelves (OfDesk d) at (OfShelf f)) had).0 what
+    (decided_by (loaded (holds_two seat.me.0.past began.settings.shelves (OfDesk d) at (OfShelf f)) had) what still surplus).0
+    → MayDecide table began now n (start_of hash_of began) y what still surplus
+at_both {K} hash_of table began shared seat now at n f d y what still had surplus is fit desk holds same more decides counts =
     let h = subst (λ (s : SharedState K). HoldsBoth hash_of s seat at f d) (sym is) holds in
-    subst (λ k. MayDecide table began seat k (start_of hash_of began) y what still) desk record {
-      alive = record { seated = record { own = h.own; wide = wide }; lives = h.lives };
-      bay = omega (arith, wide);
-      held = two_held seat.me seat.me.0.past began.settings.shelves (OfDesk d) at (OfShelf f) h.held;
-      right = subst (λ bays. Decides (start_of hash_of began) bays began.settings.shelves y what still) (sym (ap (λ (m : Mine). m.0.bays) h.held)) (decides h.inside);
+    let held : now.me ≡ loaded (holds_two seat.me.0.past began.settings.shelves (OfDesk d) at (OfShelf f)) had = more ∙ ap (λ (m : Mine). loaded m had) h.held in
+    subst (λ k. MayDecide table began now k (start_of hash_of began) y what still surplus) desk record {
+      alive = record { seated = record { own = same.0 ∙ h.own; fit = fit }; lives = subst (λ (m : Mine). Lives m.0.past) (sym more) h.lives };
+      bay = omega arith;
+      held = loaded_last seat.me now.me had began.settings.shelves more (two_held seat.me seat.me.0.past began.settings.shelves (OfDesk d) at (OfShelf f) h.held);
+      right = subst (λ bays. Decides (start_of hash_of began) bays began.settings.shelves y what still) (sym (ap (λ (m : Mine). m.0.bays) held)) (decides h.inside);
+      counts = subst (λ (m : Mine). Counts (start_of hash_of began) m.0 what (decided_by m what still surplus).0) (sym held) counts;
+    }
+
+-- a hold of a shelf and the desk may raise the word of a key of the shelf
+pub may_raise : {K : Type 0} (hash_of : K → List ℕ → ℕ) (table : TableId) (began : StoreState K) (shared : SharedState K)
+    (seat : Sitter) (at : ℕ) (f : ShelfContent) (d : DeskState)
+    → record { table = table; began = began } ≡ shared → IsTableOf table began → HoldsBoth hash_of shared seat at f d
+    → (hash : ℕ) (key : List ℕ) → hash ≡ hash_of began.hasher key → shelf_in (start_of hash_of began) key ≡ at → len f.items < 2 ^ 64 - 1
+    → MayAdd (start_of hash_of began) seat.me.0 (hash % 4096)
+may_raise {K} hash_of table began shared seat at f d is fit holds hash key hashed own small =
+    let h = subst (λ (s : SharedState K). HoldsBoth hash_of s seat at f d) (sym is) holds in
+    may_add (start_of hash_of began) at fit.divides hash key hashed own h.inside f d seat.me.0 (ap (λ (m : Mine). m.0.bays) h.held) (ap (λ (m : Mine). m.0.surplus) h.held) small
+
+-- what a hold of a shelf and the desk has after the desk went back with a decision
+pub decided_one : (me now then : Mine) (p : Past) (n : ℕ) (y : Content) (at : ℕ) (x z : Content) (what : Operation) (had surplus : List ℕ)
+    → me ≡ holds_two p n y at x → now ≡ loaded me had → then ≡ decided_by now what ((at, z) ∷ []) surplus
+    → then ≡ loaded (holds_one (call p (entry_of p what)) at z) surplus
+decided_one me now then p n y at x z what had surplus held more did =
+    did ∙ ap (λ (m : Mine). decided_by m what ((at, z) ∷ []) surplus) (more ∙ ap (λ (m : Mine). loaded m had) held)
+
+nothing_behind : (k word : ℕ) → replicate k word ++ [] ≡ replicate k word
+nothing_behind zero word = refl
+nothing_behind (suc k) word = ap (λ (ws : List ℕ). word ∷ ws) (nothing_behind k word)
+
+-- the words that are lowered then
+pub all_named : (now then : Mine) (what : Operation) (still : List (ℕ × Content)) (word k j : ℕ) → then ≡ decided_by now what still (replicate k word) → k ≡ j → then.0.surplus ≡ replicate j word ++ []
+all_named now then what still word k j did same = ap (λ (m : Mine). m.0.surplus) did ∙ (ap (λ (n : ℕ). replicate n word) same ∙ sym (nothing_behind j word))
+
+-- and when no word shows too many any more
+pub lowered_one : (then last : Mine) (q : Past) (at : ℕ) (z : Content) (surplus : List ℕ)
+    → then ≡ loaded (holds_one q at z) surplus → last ≡ loaded then [] → last ≡ holds_one q at z
+lowered_one then last q at z surplus held lowered = lowered ∙ ap (λ (m : Mine). loaded m []) held
+
+-- so a hold of a shelf and the desk comes to hold the shelf alone
+pub last_held : (me now then last : Mine) (p : Past) (n : ℕ) (y : Content) (at : ℕ) (x z : Content) (what : Operation) (had : List ℕ) (word k j : ℕ)
+    → me ≡ holds_two p n y at x → now ≡ loaded me had → then ≡ decided_by now what ((at, z) ∷ []) (replicate k word) → k ≡ j
+    → ((more : List ℕ) → then.0.surplus ≡ replicate j word ++ more → last ≡ loaded then more) → last ≡ holds_one (call p (entry_of p what)) at z
+last_held me now then last p n y at x z what had word k j held more did same lowers =
+    lowered_one then last (call p (entry_of p what)) at z (replicate k word)
+    (decided_one me now then p n y at x z what had (replicate k word) held more did)
+    (lowers [] (all_named now then what ((at, z) ∷ []) word k j did same))
+
+-- it may give the shelf back, and rests then
+pub one_given : (me : Mine) (q : Past) (at : ℕ) (z : Content) → me ≡ holds_one q at z → HoldsThis me at z
+one_given me q at z held = (
+  top_of me.0.bays (at, z) [] (ap (λ (m : Mine). m.0.bays) held),
+  top_of me.1 (place at, None) [] (ap (λ (m : Mine). m.1) held),
+  ap (λ (m : Mine). m.0.surplus) held,
+)
+
+pub one_rests : (me end : Mine) (q : Past) (at : ℕ) (z : Content) → me ≡ holds_one q at z → end ≡ without me → end ≡ resting q
+one_rests me end q at z held given = given ∙ ap without held
+
+pub rests_so : (me : Mine) (q : Past) → Lives q → me ≡ resting q → (me.1 ≡ []) × (me.0.bays ≡ []) × Lives me.0.past × (me.0.surplus ≡ [])
+rests_so me q lives is = (ap (λ (m : Mine). m.1) is, ap (λ (m : Mine). m.0.bays) is, subst (λ (m : Mine). Lives m.0.past) (sym is) lives, ap (λ (m : Mine). m.0.surplus) is)
+
+-- a call was answered
+pub came_out : {E : Type 0} (start : Beginning) (old new : CallerState) (step : KeyStep) (now : ℕ) (reply told : Reply) (may : Beginning → Past → KeyStep → ℕ → E → Type 0)
+    → new.table ≡ old.table → new.past ≡ call old.past (entry_of old.past (Stepped step now told)) → reply ≡ told → Agrees start (call old.past (entry_of old.past (Stepped step now told)))
+    → IsAnswered start old step now may (Ok reply) new
+came_out start old new step now reply told may table past is agrees =
+    let kept = subst (Agrees start) (sym past) agrees in record {
+      same = (table, kept);
+      ok = (past ∙ ap (λ (r : Reply). call old.past (entry_of old.past (Stepped step now r))) (sym is), kept);
+      err = tt;
+      fault = tt;
     }
 
 -- what is held stands for a state

@@ -1,12 +1,20 @@
 pub mod Sums
 pub mod StoryKept
 pub mod NamedKept
+pub mod WordLemmas
 pub mod StockedKept
+pub mod NumberLemmas
+pub mod PresentKept
+pub mod NumberSteps
+pub mod SpreadLemmas
+pub mod Showing
 pub mod StepsKept
 pub mod Decisions
 pub mod Held
 pub mod Opening
 pub mod Stacked
+pub mod NumberSweeps
+pub mod CountLemmas
 pub mod OrderLawLemmas
 pub mod AloneLawLemmas
 pub mod KeyLawLemmas
@@ -17,4 +25,5 @@ pub mod CountLawLemmas
 pub mod BackLawLemmas
 pub mod TogetherLawLemmas
 pub mod MixLawLemmas
+pub mod AbsentLawLemmas
 pub mod LawUses

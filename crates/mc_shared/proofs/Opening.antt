@@ -1,19 +1,27 @@
 -- The rule at the start.
-use Rattle.std.proofs.Common.{◌≡◌, ◌⊎◌, ℕ, zero, suc, ◌+◌, ◌≤◌, ◌<◌, Some, List, [], ◌∷◌, ◌++◌, length, map, replicate, get_or, slice_get, sym, refl, ap, ◌∙◌, subst, inl, inr, ⊎_elim, arith}
+use Rattle.std.proofs.Common.{◌≡◌, ◌⊎◌, ℕ, zero, suc, ◌+◌, ◌*◌, ◌/◌, ◌≤◌, ◌<◌, set, length-set, get_or-set_other, get_or-set_same, Some, List, [], ◌∷◌, ◌++◌, length, map, replicate, get_or, slice_get, sym, refl, ap, ◌∙◌, subst, inl, inr, ⊎_elim, arith}
+use mathlib.Core.Logic.{dite}
+use native.Mathlib.Decide.{ℕ_discrete}
 use mathlib.Core.Option.{some, some-injective, some-ne-none}
 use lib.ListN.{get_elem?}
 use Rattle.atomic_table.specs.Table.{opening}
 use Rattle.mc_shelf.specs.States.{ShelfState, DeskState}
 use Rattle.mc_shelf.specs.Parts.{ArePartsOf}
 use Rattle.mc_shared.specs.declared.bay.Bay.TheVariants.{Shelf, Desk}
-use Rattle.mc_shared.specs.History.{Beginning, Name}
+use Rattle.mc_shared.specs.History.{Beginning, Name, start_of}
 use Rattle.mc_shared.specs.View.{SeatView, starting}
 use Rattle.mc_shared.specs.Past.{Sound, Lives, spent}
 use Rattle.mc_shared.specs.Past as past
-use Rattle.mc_shared.specs.Rule.{AllFit, Kept}
+use Rattle.mc_shared.specs.Rule.{AllFit, Kept, AreFirst, AreFilled, named}
 use Rattle.mc_shared.specs.Steps.{Slot}
 use Rattle.mc_shared.specs.Bays.{place}
 use Rattle.mc_shared.specs.Store.{shelf_slot, desk_slot, slot_alone, spaced}
+use Rattle.mc_shared.specs.Presence.{word_of, words_with}
+use Rattle.mc_shared.specs.Counted.{AreAllOf, AreCountsOfAll}
+use Rattle.mc_shared.proofs.WordLemmas.{words_apart, word_behind, word_inside, bays_inside}
+use Rattle.atomic_table.specs.Seated.{TableId}
+use Rattle.mc_shelf.specs.Stores.{StoreState}
+use Rattle.mc_shared.specs.Seats.{IsTableOf}
 use Rattle.mc_shared.proofs.NamedKept.{sound_start}
 
 only : (P : SeatView → Type 0) → P starting → (id : ℕ) (v : SeatView) → get_elem? (starting ∷ []) id ≡ some v → P v
@@ -51,8 +59,8 @@ home_at (x ∷ xs) desk (suc b) l = let next : place (suc b) ≡ suc (suc (suc (
     ⊎_elim (λ h. inl (h.0, h.1, (let k = h.2 in omega (arith, k)), there ∙ h.3)) (λ h. inr (ap suc h.0, there ∙ h.1)) (home_at xs desk b (omega (arith, l)))
 
 pub opens : (began : Beginning) (shelves : List ShelfState) (desk : DeskState) → ArePartsOf began.hash_of began.plain shelves began.shelves desk
-    → Kept began (opening (replicate (place (began.shelves + 1)) 0) (slots shelves desk) starting)
-opens began shelves desk parts = record {
+    → (words : List ℕ) → AreFirst began words → Kept began (opening words (slots shelves desk) starting)
+opens began shelves desk parts words first = record {
   log = [];
   story = record {
     legal = tt;
@@ -67,10 +75,10 @@ opens began shelves desk parts = record {
     idle = only (λ v. Lives v.past ⊎ (v.bays ≡ [])) (inr refl);
   };
   stocked = record {
-    wide = long ℕ (place (began.shelves + 1)) 0;
+    wide = first.long;
     deep = deep shelves desk ∙ ap (λ n. place (n + 1)) parts.number;
-    low = λ b l. let z = free_word (place (began.shelves + 1)) (place b) in omega (arith, z);
-    taken = λ b l. let z = free_word (place (began.shelves + 1)) (place b) in omega (arith, z);
+    low = λ b l. let z = first.free b l in omega (arith, z);
+    taken = λ b l. let z = first.free b l in omega (arith, z);
     home = λ b l _. ⊎_elim
         (λ (h : (s : ShelfState) × (slice_get shelves b ≡ Some s) × (b < length shelves) × (get_elem? (map some (slots shelves desk)) (place b) ≡ some (some (Some (Shelf s))))).
         (Shelf h.0, h.3, (subst (λ n. b < n) parts.number h.2, parts.each b h.0 h.1)))
@@ -79,4 +87,45 @@ opens began shelves desk parts = record {
     limits = record { greatest = refl; limit = refl };
     out = only (λ v. AllFit began began.plain v.bays) tt;
   };
+  present = record {
+    divides = first.divides;
+    counts = λ n low. let c = first.counts n low in omega (arith, c);
+    owned = λ id v word at has. absurd (let none : named word v ≡ 0 = only (λ u. named word u ≡ 0) refl id v at in omega (arith, none, has));
+  };
+}
+
+-- the words of numbers are set, one after another
+pub none_filled : (shelves : ℕ) (counts : List ℕ) → AreFilled shelves (replicate (words_with shelves) 0) counts 0
+none_filled shelves counts = record {
+  long = long ℕ (words_with shelves) 0;
+  free = λ b l. free_word (words_with shelves) (place b);
+  counts_set = λ n low _. absurd (omega (arith, low));
+}
+
+pub fills_one : (shelves : ℕ) (words counts : List ℕ) (number at c : ℕ) → 4096 / shelves * shelves ≡ 4096 → number < 4096 → AreFilled shelves words counts number → at ≡ word_of shelves number → c ≡ get_or counts number 0
+    → AreFilled shelves (set words at c) counts (number + 1)
+fills_one shelves words counts number at c divides low filled place_is is = record {
+  long = length-set words at c ∙ filled.long;
+  free = λ b l. (let behind = word_behind shelves number in get_or-set_other words at (place b) c 0 (λ e. omega (arith, l, e, behind, place_is))) ∙ filled.free b l;
+  counts_set = λ n below few. dite (ℕ_discrete n number)
+      (λ e. let inside : at < length words = (let wide = filled.long in let l = word_inside shelves number divides low in omega (arith, place_is, wide, l)) in
+      (ap (λ (k : ℕ). get_or (set words at c) k 0) (ap (word_of shelves) e ∙ sym place_is) ∙ get_or-set_same words at c 0 inside) ∙ (is ∙ ap (λ (k : ℕ). get_or counts k 0) (sym e)))
+      (λ ne. get_or-set_other words at (word_of shelves n) c 0 (λ e. ne (words_apart shelves n number divides few low (e ∙ place_is))) ∙ filled.counts_set n (omega (arith, below, ne)) few);
+}
+
+pub are_first : (shelves : ℕ) (words counts : List ℕ) (xs : List ShelfState) → 4096 / shelves * shelves ≡ 4096 → (number : ℕ) → 4096 ≤ number → AreFilled shelves words counts number → AreCountsOfAll xs counts
+    → (start : Beginning) → start.shelves ≡ shelves → AreAllOf start.hash_of start.plain xs → AreFirst start words
+are_first shelves words counts xs divides number all filled counted start is parts = record {
+  divides = subst (λ (s : ℕ). 4096 / s * s ≡ 4096) (sym is) divides;
+  long = filled.long ∙ ap words_with (sym is);
+  free = λ b l. filled.free b (subst (λ (s : ℕ). b < s + 1) is l);
+  counts = λ n low. ap (λ (s : ℕ). get_or words (word_of s n) 0) is ∙ (filled.counts_set n (omega (arith, low, all)) low ∙ counted.counted start.hash_of start.plain parts n low);
+}
+
+-- the table that opens is one for the store
+pub table_of : {K : Type 0} (hash_of : K → List ℕ → ℕ) (table : TableId) (key store : StoreState K) (words : List ℕ) → table.words ≡ length words → key ≡ store → AreFirst (start_of hash_of store) words → IsTableOf table key
+table_of hash_of table key store words len is first = subst (λ s. IsTableOf table s) (sym is) record {
+  wide = len ∙ first.long;
+  bays = (let room = bays_inside store.settings.shelves in let long = first.long in omega (arith, room, long, len));
+  divides = first.divides;
 }

@@ -17,7 +17,7 @@ use Rattle.mc_shared.specs.History.{Beginning, Operation, Stepped, after}
 use Rattle.mc_shared.specs.Rule.{Fits, AllFit, KeepsLimits, holds_bay}
 use Rattle.mc_shared.specs.Past.{Past}
 use Rattle.mc_shared.specs.View.{SeatView}
-use Rattle.mc_shared.specs.Steps.{Slot, Mine, HasTaken, without, holding, decided_by, Fitted, Decides}
+use Rattle.mc_shared.specs.Steps.{Slot, Mine, HasTaken, HoldsThis, without, holding, decided_by, loaded, Fitted, Decides}
 use Rattle.mc_shared.specs.Stacks.{stacked_on, stacked, hollow, holds_all}
 use Rattle.mc_shared.specs.Past.{KeptBy}
 use Rattle.mc_shared.specs.Close.{Gathered}
@@ -35,7 +35,7 @@ below_stays : (n c : ℕ) (xs : List ShelfState) (below : List (ℕ × Content))
 below_stays n c [] below = omega arith
 below_stays n c (x ∷ xs) below = let rest = below_stays (n + 1) c xs ((n, OfShelf x.content) ∷ below) in omega (arith, rest)
 
-has_on : (n c : ℕ) (xs : List ShelfState) (below : List (ℕ × Content)) → n ≤ c → c < n + length xs → 1 ≤ total (holds_bay c) (stacked_on n xs below)
+pub has_on : (n c : ℕ) (xs : List ShelfState) (below : List (ℕ × Content)) → n ≤ c → c < n + length xs → 1 ≤ total (holds_bay c) (stacked_on n xs below)
 has_on n c [] below low high = absurd (omega (arith, low, high))
 has_on n c (x ∷ xs) below low high = mathlib.Core.Logic.dite (native.Mathlib.Decide.ℕ_discrete c n)
     (λ e. let one : holds_bay c (n, OfShelf x.content) ≡ 1 = ap (λ k. holds_bay c (k, OfShelf x.content)) (sym e) ∙ here c (OfShelf x.content) in let stays = below_stays (n + 1) c xs ((n, OfShelf x.content) ∷ below) in omega (arith, one, stays))
@@ -106,13 +106,14 @@ flushes began xs ys d d' delay now all some same parts = record {
   others = λ m h c z none fits. absurd (none_else began m xs d c z all none fits);
 }
 
-top : (p : Past) (xs : List ShelfState) (x : ShelfState) → holds_all p (xs ++ x ∷ []) ≡ (record { past = p; bays = (length xs, OfShelf x.content) ∷ stacked xs }, (place (length xs), None) ∷ hollow (stacked xs))
-top p xs x = λ i. (record { past = p; bays = stacked_snoc xs x i }, hollow (stacked_snoc xs x i))
+top : (p : Past) (xs : List ShelfState) (x : ShelfState) → holds_all p (xs ++ x ∷ []) ≡ (record { past = p; bays = (length xs, OfShelf x.content) ∷ stacked xs; surplus = [] }, (place (length xs), None) ∷ hollow (stacked xs))
+top p xs x = λ i. (record { past = p; bays = stacked_snoc xs x i; surplus = [] }, hollow (stacked_snoc xs x i))
 
-pub held_top : (m : Mine) (p : Past) (xs : List ShelfState) (x : ShelfState) (n : ℕ) → m ≡ holds_all p (xs ++ x ∷ []) → n ≡ length xs → (m.0.bays ≡ (n, OfShelf x.content) ∷ rest m.0.bays) × (m.1 ≡ (place n, None) ∷ rest m.1)
+pub held_top : (m : Mine) (p : Past) (xs : List ShelfState) (x : ShelfState) (n : ℕ) → m ≡ holds_all p (xs ++ x ∷ []) → n ≡ length xs → HoldsThis m n (OfShelf x.content)
 held_top m p xs x n is len = let e = is ∙ top p xs x in (
   ap (λ z. z.0.bays) e ∙ (λ i. (sym len i, OfShelf x.content) ∷ rest (sym e i).0.bays),
   ap (λ z. z.1) e ∙ (λ i. (place (sym len i), None) ∷ rest (sym e i).1),
+  ap (λ z. z.0.surplus) e,
 )
 
 pub without_top : (m : Mine) (p : Past) (xs : List ShelfState) (x : ShelfState) → m ≡ holds_all p (xs ++ x ∷ []) → without m ≡ holds_all p xs
@@ -154,8 +155,11 @@ written_back {hash_of} {state} {new} {count} {len} {desk} old all parts =
     (sym (ap (λ n. take n (new ++ drop (length new) old)) (all ∙ sym parts.number) ∙ take-append_seam new (drop (length new) old))) parts
 
 -- all shelves and the desk are the parts of some state
-pub held_parts : (began : Beginning) (xs : List ShelfState) (d : DeskState) (v : SeatView) → v.bays ≡ (began.shelves, OfDesk d) ∷ stacked xs → length xs ≡ began.shelves → 0 < began.shelves → Fitted began v → (hash_of : List ℕ → ℕ) × (m : Plain) × (count : ℕ) × ArePartsOf hash_of m xs count d
-held_parts began xs d v is all some fitted = let m : Plain = after began began.plain fitted.log in (began.hash_of, m, began.shelves, parts_held began m xs d all some (subst (AllFit began m) is fitted.fits))
+pub held_parts : (began : Beginning) (xs : List ShelfState) (d : DeskState) (v : SeatView) → v.bays ≡ (began.shelves, OfDesk d) ∷ stacked xs → length xs ≡ began.shelves → 0 < began.shelves → Fitted began v
+    → (m : Plain) × ArePartsOf began.hash_of m xs began.shelves d
+held_parts began xs d v is all some fitted =
+    let m : Plain = after began began.plain fitted.log in
+    (m, parts_held began m xs d all some (subst (AllFit began m) is fitted.fits))
 
 hollow_same : (n : ℕ) (xs ys : List ShelfState) (b d : List (ℕ × Content)) → length xs ≡ length ys → hollow b ≡ hollow d → hollow (stacked_on n xs b) ≡ hollow (stacked_on n ys d)
 hollow_same n [] [] b d l e = e
@@ -163,12 +167,18 @@ hollow_same n [] (y ∷ ys) b d l e = absurd (omega (arith, l))
 hollow_same n (x ∷ xs) [] b d l e = absurd (omega (arith, l))
 hollow_same n (x ∷ xs) (y ∷ ys) b d l e = hollow_same (n + 1) xs ys ((n, OfShelf x.content) ∷ b) ((n, OfShelf y.content) ∷ d) (omega (arith, l)) (ap (λ (hs : List (ℕ × Slot)). (place n, None) ∷ hs) e)
 
--- after the desk has decided, the held shelves have their new content
-pub decided_all : (m m' : Mine) (p : Past) (xs ys : List ShelfState) (x : Content) (n : ℕ) (what : Operation) → m ≡ (holding (holds_all p xs).0 n x, (place n, None) ∷ hollow (stacked xs)) → m' ≡ decided_by m what (stacked ys) → length xs ≡ length ys
-    → m' ≡ holds_all m'.0.past ys
-decided_all m m' p xs ys x n what is did same = let eb : m'.0.bays ≡ stacked ys = ap (λ (z : Mine). z.0.bays) did in
+-- after the desk has decided, the held shelves have their new content, and words may show too many
+pub decided_all : (m m' : Mine) (p : Past) (xs ys : List ShelfState) (x : Content) (n : ℕ) (what : Operation) (surplus : List ℕ) → m ≡ (holding (holds_all p xs).0 n x, (place n, None) ∷ hollow (stacked xs))
+    → m' ≡ decided_by m what (stacked ys) surplus → length xs ≡ length ys → m' ≡ loaded (holds_all m'.0.past ys) surplus
+decided_all m m' p xs ys x n what surplus is did same = let eb : m'.0.bays ≡ stacked ys = ap (λ (z : Mine). z.0.bays) did in
     let es : m'.1 ≡ hollow (stacked ys) = ap (λ (z : Mine). z.1) did ∙ (ap (λ (z : Mine). rest z.1) is ∙ hollow_same 0 xs ys [] [] same refl) in
-    λ i. (record { past = m'.0.past; bays = eb i }, es i)
+    let ex : m'.0.surplus ≡ surplus = ap (λ (z : Mine). z.0.surplus) did in
+    λ i. (record { past = m'.0.past; bays = eb i; surplus = ex i }, es i)
+
+-- after all words are lowered, none shows too many
+pub lowered_all : (m m' : Mine) (ys : List ShelfState) (surplus : List ℕ) → m ≡ loaded (holds_all m.0.past ys) surplus → m' ≡ loaded m [] → m' ≡ holds_all m'.0.past ys
+lowered_all m m' ys surplus is lowered =
+    lowered ∙ (ap (λ (z : Mine). loaded z []) is ∙ ap (λ (p : Past). holds_all p ys) (sym (ap (λ (z : Mine). z.0.past) lowered)))
 
 -- a place above the shelves that are held is not held
 none_above : (n c : ℕ) (xs : List ShelfState) (below : List (ℕ × Content)) → n + length xs ≤ c → total (holds_bay c) (stacked_on n xs below) ≡ total (holds_bay c) below
@@ -187,13 +197,15 @@ gathered began p xs d v is same all some fitted = record {
   parts = parts_held began (after began began.plain fitted.log) xs d all some (subst (AllFit began (after began began.plain fitted.log)) is fitted.fits);
 }
 
--- what a seat has that took all shelves and then the desk: these bays, and parts of some state
+-- what a seat has that took all shelves and then the desk: these bays, parts of some state, and no
+-- word that shows too many
 pub record HoldsAll (began : Beginning) (xs : List ShelfState) (d : DeskState) (me : Mine) : Type 0
   where
     pub bays : me.0.bays ≡ (began.shelves, OfDesk d) ∷ stacked xs
     pub number : length xs ≡ began.shelves
     pub some_shelf : 0 < began.shelves
-    pub parts : (hash_of : List ℕ → ℕ) × (m : Plain) × (count : ℕ) × ArePartsOf hash_of m xs count d
+    pub parts : (m : Plain) × ArePartsOf began.hash_of m xs began.shelves d
+    pub bare : me.0.surplus ≡ []
 
 pub all_held : (began : Beginning) (p : Past) (xs : List ShelfState) (d : DeskState) (x : Bay) (n : ℕ)
     (was me : Mine) → was ≡ holds_all p xs → n ≡ began.shelves → content_of x ≡ OfDesk d
@@ -207,4 +219,5 @@ all_held began p xs d x n was me held is desk long some taken =
       some_shelf = omega (arith, is, some);
       parts = held_parts began xs d (holding was.0 n (content_of x)) stack (long ∙ is)
           (omega (arith, is, some)) taken.2;
+      bare = ap (λ (m : Mine). m.0.surplus) taken.1 ∙ ap (λ (m : Mine). m.0.surplus) held;
     }

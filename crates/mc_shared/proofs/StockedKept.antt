@@ -14,6 +14,7 @@ use Rattle.mc_shared.specs.History.{Beginning}
 use Rattle.mc_shared.specs.View.{SeatView}
 use Rattle.mc_shared.specs.Rule.{Fits, AllFit, KeepsLimits, holds_bay, times, Stocked}
 use Rattle.mc_shared.proofs.Sums.{sum_set, sum_one, sum_two, total-append}
+use Rattle.mc_shared.proofs.WordLemmas.{bays_inside}
 
 pub here : (b : ℕ) (x : Content) → holds_bay b (b, x) ≡ 1
 here b x = ap (λ t. cond t 1 0) (eq-eqb b b refl)
@@ -48,16 +49,16 @@ pub stocked_take : (began : Beginning) (m : Plain) (words : List ℕ) (homes : L
 stocked_take began m words homes views id b v w x s at l zero_here is fits = record {
   wide = length-set words (place b) 1 ∙ s.wide;
   deep = length-set homes (place b) none ∙ s.deep;
-  low = λ c lc. dite (ℕ_discrete c b) (λ e. subst (λ k. get_or (set words (place b) 1) (place k) 0 ≤ 1) (sym e) (let lw : place b < length words = let e2 = s.wide in omega arith in rw get_or-set_same (omega arith)))
+  low = λ c lc. dite (ℕ_discrete c b) (λ e. subst (λ k. get_or (set words (place b) 1) (place k) 0 ≤ 1) (sym e) (let lw : place b < length words = let e2 = s.wide in let room = bays_inside began.shelves in omega arith in rw get_or-set_same (omega arith)))
       (λ ne. let ne' : b ≢ c = (λ h. ne (sym h)) in rw (get_or-set_other words (place b) (place c) 1 0 (places_apart c b ne)) (s.low c lc));
   taken = λ c lc. let t = s.taken c lc in let moved = sum_set (times c) views id v w at in let grows : times c w ≡ holds_bay c (b, x) + times c v = ap (total (holds_bay c)) is in
       dite (ℕ_discrete c b)
-      (λ e. let lw : place c < length words = let e2 = s.wide in omega arith in let one : holds_bay c (b, x) ≡ 1 = ap (λ k. holds_bay c (k, x)) (sym e) ∙ here c x in
+      (λ e. let lw : place c < length words = let e2 = s.wide in let room = bays_inside began.shelves in omega arith in let one : holds_bay c (b, x) ≡ 1 = ap (λ k. holds_bay c (k, x)) (sym e) ∙ here c x in
       let was : get_or words (place c) 0 ≡ 0 = ap (λ k. get_or words (place k) 0) e ∙ zero_here in
       let now : get_or (set words (place b) 1) (place c) 0 ≡ 1 = ap (λ k. get_or (set words (place k) 1) (place c) 0) (sym e) ∙ get_or-set_same words (place c) 1 0 lw in omega (arith, t, moved, grows, one, was, now))
       (λ ne. let none_here = elsewhere b c x ne in let now = get_or-set_other words (place b) (place c) 1 0 (places_apart c b ne) in omega (arith, t, moved, grows, none_here, now));
   home = λ c lc free. dite (ℕ_discrete c b)
-      (λ e. let lw : place c < length words = let e2 = s.wide in omega arith in
+      (λ e. let lw : place c < length words = let e2 = s.wide in let room = bays_inside began.shelves in omega arith in
       let now : get_or (set words (place b) 1) (place c) 0 ≡ 1 = ap (λ k. get_or (set words (place k) 1) (place c) 0) (sym e) ∙ get_or-set_same words (place c) 1 0 lw in absurd (omega (arith, now, free)))
       (λ ne. let was = s.home c lc (sym (get_or-set_other words (place b) (place c) 1 0 (places_apart c b ne)) ∙ free) in (was.0, set_else homes (place b) (place c) none (places_apart c b ne) ∙ was.1, was.2));
   limits = s.limits;
@@ -69,7 +70,7 @@ stocked_take began m words homes views id b v w x s at l zero_here is fits = rec
 pub stocked_give : (began : Beginning) (m m' : Plain) (words : List ℕ) (homes : List (maybe.Option (Option Bay))) (views : List SeatView) (id b : ℕ) (v w : SeatView) (x : Content) (x' : Bay) (xs : List (ℕ × Content)) → Stocked began m words homes views
     → get_elem? views id ≡ some v → v.bays ≡ (b, x) ∷ xs → ((c : ℕ) → times c w ≡ total (holds_bay c) xs) → Fits began m' b (content_of x') → AllFit began m' w.bays
     → ((c : ℕ) (y : Content) → times c v ≡ 0 → Fits began m c y → Fits began m' c y) → KeepsLimits began m' → Stocked began m' (set words (place b) 0) (set homes (place b) (some (Some x'))) (set views id w)
-stocked_give began m m' words homes views id b v w x x' xs s at is rests fits kept others limits = let l : b < began.shelves + 1 = inside began m' b (content_of x') fits in let lw : place b < length words = let e2 = s.wide in omega arith in let lh : place b < length homes = let e2 = s.deep in omega arith in
+stocked_give began m m' words homes views id b v w x x' xs s at is rests fits kept others limits = let l : b < began.shelves + 1 = inside began m' b (content_of x') fits in let lw : place b < length words = let e2 = s.wide in let room = bays_inside began.shelves in omega arith in let lh : place b < length homes = let e2 = s.deep in omega arith in
     let gone : get_or (set words (place b) 0) (place b) 0 ≡ 0 = get_or-set_same words (place b) 0 0 lw in
     let falls = λ (c : ℕ) (lc : c < began.shelves + 1). (let t = s.taken c lc in let moved = sum_set (times c) views id v w at in
     let shrinks : times c v ≡ holds_bay c (b, x) + times c w = ap (total (holds_bay c)) is ∙ ap (λ k. holds_bay c (b, x) + k) (sym (rests c)) in
@@ -122,3 +123,16 @@ stocked_snoc began m words homes views u s bare = record {
   limits = s.limits;
   out = λ j x e. ⊎_elim (s.out j x) (λ (a : u ≡ x). subst (λ (z : SeatView). AllFit began m z.bays) a (subst (AllFit began m) (sym bare) tt)) (at_snoc views u x j e);
 }
+
+-- a word that is no bay's may change
+pub stocked_word : (began : Beginning) (m : Plain) (views : List SeatView) (homes : List (maybe.Option (Option Bay))) (words : List ℕ) (i n : ℕ) → place (began.shelves + 1) ≤ i → Stocked began m words homes views → Stocked began m (set words i n) homes views
+stocked_word began m views homes words i n behind s =
+    let still : (b : ℕ) → b < began.shelves + 1 → get_or (set words i n) (place b) 0 ≡ get_or words (place b) 0 = λ b l. get_or-set_other words i (place b) n 0 (λ e. omega (arith, behind, l, e)) in record {
+      wide = length-set words i n ∙ s.wide;
+      deep = s.deep;
+      low = λ b l. rw (still b l) (s.low b l);
+      taken = λ b l. s.taken b l ∙ sym (still b l);
+      home = λ b l free. s.home b l (sym (still b l) ∙ free);
+      limits = s.limits;
+      out = s.out;
+    }

@@ -1,28 +1,46 @@
 -- What a decision says.
-use Rattle.std.specs.Prelude.{ℕ, List, [], ◌∷◌}
+use Rattle.std.specs.Prelude.{ℕ, ◌-◌, List, [], ◌∷◌, replicate, slice_index}
+use Rattle.std.specs.FinMap.{len}
 use Rattle.mc_command.specs.declared.step.KeyStep.TheVariants.{Flush}
 use Rattle.mc_command.specs.declared.reply.Reply.TheVariants.{Flushed as AllFlushed}
+use Rattle.mc_shelf.specs.Numbers.{keys_with}
 use Rattle.mc_shelf.specs.Plans.{finished, told_next}
 use Rattle.mc_shared.specs.Bays.{Content, OfShelf}
-use Rattle.mc_shared.specs.History.{Operation, Stepped, Purged as PurgedShelf}
+use Rattle.mc_shared.specs.History.{Beginning, Operation, Stepped, Purged as PurgedShelf}
 use Rattle.mc_shared.specs.Stacks.{stacked}
+use Rattle.mc_shared.specs.Spread.{spread, keys_in}
 use Rattle.mc_shared.specs.declared.decision.Decision.{Decision}
 use Rattle.mc_shared.specs.declared.decision.Decision.TheVariants.{Settled, Begun, Purged, NoneDead, Flushed}
 
 -- what was done
 abbrev pub operation_of : Decision → Operation
 operation_of (Settled step moment reply) = Stepped step.now moment reply.now
-operation_of (Begun step moment at shelf plan begun) =
+operation_of (Begun step moment at shelf plan begun word had) =
     Stepped step.now moment (told_next plan.now.next begun.now)
-operation_of (Purged at moment shelf) = PurgedShelf at moment
+operation_of (Purged at moment shelf before) = PurgedShelf at moment
 operation_of (NoneDead at moment) = PurgedShelf at moment
-operation_of (Flushed delay moment shelves) = Stepped (Flush delay) moment AllFlushed
+operation_of (Flushed delay moment shelves before) = Stepped (Flush delay) moment AllFlushed
 
 -- the bays that are still held, with what they hold from then on
 abbrev pub still_of : Decision → List (ℕ × Content)
 still_of (Settled step moment reply) = []
-still_of (Begun step moment at shelf plan begun) =
+still_of (Begun step moment at shelf plan begun word had) =
     (at, OfShelf (finished plan.now begun.now step.now shelf.now.content)) ∷ []
-still_of (Purged at moment shelf) = (at, OfShelf shelf.now.content) ∷ []
+still_of (Purged at moment shelf before) = (at, OfShelf shelf.now.content) ∷ []
 still_of (NoneDead at moment) = []
-still_of (Flushed delay moment shelves) = stacked shelves.now.items
+still_of (Flushed delay moment shelves before) = stacked shelves.now.items
+
+-- the words that show too many from then on: that of the step's number, as often as the shelf counted
+-- more items than it has when the step is finished; and where many went, each number's, as often as
+-- more of it were counted than are left
+abbrev pub surplus_of : Beginning → Decision → List ℕ
+surplus_of start (Settled step moment reply) = []
+surplus_of start (Begun step moment at shelf plan begun word had) =
+    replicate (had - len (finished plan.now begun.now step.now shelf.now.content).items) word
+surplus_of start (Purged at moment shelf before) =
+    spread start.shelves (λ n. slice_index before.now n
+    - keys_with start.hash_of n shelf.now.content.items) 0 4096
+surplus_of start (NoneDead at moment) = []
+surplus_of start (Flushed delay moment shelves before) =
+    spread start.shelves
+    (λ n. slice_index before.now n - keys_in start.hash_of n shelves.now.items) 0 4096

@@ -10,8 +10,8 @@ use Rattle.mc_command.specs.declared.reply.Reply.TheVariants.{Stored, Hit, Numbe
 use Rattle.mc_command.specs.Commands.{key_of}
 use Rattle.mc_command.specs.Plain.{Plain, plain, alive, hit_of, number_of, Answered}
 use Rattle.mc_command.specs.Plain.{Entry as Item}
-use Rattle.mc_shared.specs.History.{Beginning, Operation, Stepped, Purged, HistoryEntry, shelf_in, after}
-use Rattle.mc_shared.specs.Past.{Past, spent, start, call, made, both, same}
+use Rattle.mc_shared.specs.History.{Beginning, Operation, Stepped, Purged, HistoryEntry, shelf_in, after, IsLegal}
+use Rattle.mc_shared.specs.Past.{Past, spent, start, call, made, both, same, KeptBy}
 use Rattle.mc_shared.specs.Store.{with_call}
 
 -- ---- where entries stand
@@ -154,6 +154,23 @@ pub record ReadsWrite (began : Beginning) (log : List HistoryEntry) (now : ℕ) 
       (item_after began (places.before ++ write ∷ []) (key_of step)))
       ⊎ ((other : HistoryEntry) × StandsIn places.between other
       × MayChange began (key_of step) other.what)
+
+-- a step that, where it is answered Stored, stores an item as it was given: a set, an add, a replace
+-- or a cas
+abbrev pub StoresAsGiven : KeyStep → (now : ℕ) → Type 0
+StoresAsGiven step now = (unique : ℕ) → (item : Item) × (item_given step now unique ≡ Some item)
+
+-- in a legal history that keeps the past, behind a write stands an entry that may change the key's
+-- item
+pub record IsTakenAway (began : Beginning) (p : Past) (key : List ℕ) (write : HistoryEntry) : Type 0
+  where
+    pub log : List HistoryEntry
+    pub legal : IsLegal began began.plain log
+    pub keeps : KeptBy log p
+    pub stands : StandsIn log write
+    pub other : HistoryEntry
+    pub behind : StandsIn stands.1 other
+    pub changes : MayChange began key other.what
 
 -- an item with this content is under a key
 abbrev pub HasItem : Plain → List ℕ → (flags unique : ℕ) → (block : List ℕ) → Type 0

@@ -2,6 +2,9 @@ pub mod Sums
 pub mod History
 pub mod Past
 pub mod Bays
+pub mod Presence
+pub mod Spread
+pub mod Counted
 pub mod View
 pub mod Rule
 pub mod Steps

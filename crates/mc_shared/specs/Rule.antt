@@ -1,5 +1,5 @@
 -- The running rule.
-use Rattle.std.specs.Prelude.{◌≡◌, ℕ, ◌+◌, ◌≤◌, ◌<◌, List, [], ◌∷◌, cond, eqb, length, slice_index, ◌⊎◌, Option, Some}
+use Rattle.std.specs.Prelude.{◌≡◌, ℕ, ◌+◌, ◌*◌, ◌/◌, ◌%◌, ◌≤◌, ◌<◌, List, [], ◌∷◌, cond, eqb, length, slice_index, ◌⊎◌, Option, Some}
 use mathlib.Core.Option.{some}
 use lib.ListN.{get_elem?}
 use Rattle.atomic_table.specs.Table.{State}
@@ -13,6 +13,8 @@ use Rattle.mc_shared.specs.History.{Beginning, start_of, Name, HistoryEntry, aft
 use Rattle.mc_shared.specs.Past.{Past, held, callers, makes, name_of, numbered, Ordered, Sound, Lives}
 use Rattle.mc_shared.specs.Past as past
 use Rattle.mc_shared.specs.View.{SeatView}
+use Rattle.mc_shelf.specs.Numbers.{keys_with}
+use Rattle.mc_shared.specs.Presence.{word_of, words_with}
 
 -- the bay b holds what the state says
 abbrev pub Fits : Beginning → Plain → ℕ → Content → Type 0
@@ -36,6 +38,17 @@ holds_bay b x = cond (eqb b x.0) 1 0
 abbrev pub times : ℕ → SeatView → ℕ
 times b v = total (holds_bay b) v.bays
 
+-- how often a view names a word as one that shows one key too many
+abbrev pub named : ℕ → SeatView → ℕ
+named word v = total (λ x. cond (eqb word x) 1 0) v.surplus
+
+-- a word is that of a number, and the view holds the number's shelf
+pub record IsHeldWord (start : Beginning) (v : SeatView) (word : ℕ) : Type 0 where
+  pub number : ℕ
+  pub below : number < 4096
+  pub is : word ≡ word_of start.shelves number
+  pub held : 1 ≤ times (number % start.shelves) v
+
 -- the pasts of all seats, against the history
 pub record Story (start : Beginning) (log : List HistoryEntry) (views : List SeatView) : Type 0 where
   pub legal : IsLegal start start.plain log
@@ -54,7 +67,7 @@ pub record Named (log : List HistoryEntry) (views : List SeatView) : Type 0 wher
 -- the bays, against the state: those below the number of shelves, and the desk
 pub record Stocked (start : Beginning) (m : Plain) (words : List ℕ)
     (homes : List (mathlib.Core.Option.Option (Option Bay))) (views : List SeatView) : Type 0 where
-  pub wide : length words ≡ place (start.shelves + 1)
+  pub wide : length words ≡ words_with start.shelves
   pub deep : length homes ≡ place (start.shelves + 1)
   pub low : (b : ℕ) → b < start.shelves + 1 → slice_index words (place b) ≤ 1
   pub taken : (b : ℕ) → b < start.shelves + 1 → total (times b) views ≡ slice_index words (place b)
@@ -63,11 +76,40 @@ pub record Stocked (start : Beginning) (m : Plain) (words : List ℕ)
   pub limits : KeepsLimits start m
   pub out : (id : ℕ) (v : SeatView) → get_elem? views id ≡ some v → AllFit start m v.bays
 
+-- the presence words, against the keys: a word is how many keys have its number, and by how much it
+-- shows too many, which only a view names that holds the number's shelf; each shelf has as many
+-- numbers
+pub record Present (start : Beginning) (m : Plain) (words : List ℕ) (views : List SeatView) : Type 0
+  where
+    pub divides : 4096 / start.shelves * start.shelves ≡ 4096
+    pub counts : (number : ℕ) → number < 4096
+        → slice_index words (word_of start.shelves number)
+        ≡ keys_with start.hash_of number m.items + total (named (word_of start.shelves number)) views
+    pub owned : (id : ℕ) (v : SeatView) (word : ℕ) → get_elem? views id ≡ some v → 1 ≤ named word v
+        → IsHeldWord start v word
+
+-- the words of a table that opens: each bay's is 0, and each number's how many keys have it
+pub record AreFirst (start : Beginning) (words : List ℕ) : Type 0 where
+  pub divides : 4096 / start.shelves * start.shelves ≡ 4096
+  pub long : length words ≡ words_with start.shelves
+  pub free : (b : ℕ) → b < start.shelves + 1 → slice_index words (place b) ≡ 0
+  pub counts : (number : ℕ) → number < 4096
+      → slice_index words (word_of start.shelves number)
+      ≡ keys_with start.hash_of number start.plain.items
+
+-- the words of a table on the way there: those of the numbers before one are set to their counts
+pub record AreFilled (shelves : ℕ) (words counts : List ℕ) (number : ℕ) : Type 0 where
+  pub long : length words ≡ words_with shelves
+  pub free : (b : ℕ) → b < shelves + 1 → slice_index words (place b) ≡ 0
+  pub counts_set : (n : ℕ) → n < number → n < 4096
+      → slice_index words (word_of shelves n) ≡ slice_index counts n
+
 pub record Kept (start : Beginning) (s : State (Option Bay) SeatView) : Type 0 where
   pub log : List HistoryEntry
   pub story : Story start log s.views
   pub named : Named log s.views
   pub stocked : Stocked start (after start start.plain log) s.words s.homes s.views
+  pub present : Present start (after start start.plain log) s.words s.views
 
 -- the rule of a table whose key is what the store began with
 abbrev pub KeptFrom : {K : Type 0} → (K → List ℕ → ℕ) → StoreState K → State (Option Bay) SeatView

@@ -1,5 +1,5 @@
 -- A seat of the table, as the calls within find it and leave it, and how a step comes out.
-use Rattle.std.specs.Prelude.{◌≡◌, ℕ, ◌+◌, ◌≤◌, ◌<◌, List, length, Result, IfOk, IfErr, OnErr}
+use Rattle.std.specs.Prelude.{◌≡◌, ℕ, ◌+◌, ◌*◌, ◌/◌, ◌≤◌, List, length, Result, IfOk, IfErr, OnErr}
 use Rattle.atomic_table.specs.declared.shared.Seat.{Seat}
 use Rattle.atomic_table.specs.Seated.{TableId}
 use Rattle.mc_command.specs.declared.step.KeyStep.{KeyStep}
@@ -10,7 +10,8 @@ use Rattle.mc_shared.specs.Bays.{Content, place}
 use Rattle.mc_shared.specs.History.{Beginning, Operation}
 use Rattle.mc_shared.specs.Past.{Past, Lives}
 use Rattle.mc_shared.specs.View.{SeatView}
-use Rattle.mc_shared.specs.Steps.{Slot, HoldsLast, Decides, Agrees}
+use Rattle.mc_shared.specs.Presence.{words_with}
+use Rattle.mc_shared.specs.Steps.{Slot, HoldsLast, Decides, Counts, decided_by, Agrees}
 use Rattle.mc_shared.specs.Store.{resting, HasCalled}
 use Rattle.mc_shared.specs.Shown.{SharedState, CallerState}
 
@@ -21,11 +22,18 @@ Sitter = Seat Slot SeatView
 abbrev pub SameSeat : (old new : Sitter) → Type 0
 SameSeat old new = (new.table_id ≡ old.table_id) × (new.id ≡ old.id)
 
--- a seat of this table, which has the desk behind the store's shelves
+-- A table for a store. It has the desk behind the shelves, and then the words of all numbers, of
+-- which each shelf has as many.
+pub record IsTableOf {K : Type 0} (table : TableId) (began : StoreState K) : Type 0 where
+  pub wide : table.words ≡ words_with began.settings.shelves
+  pub bays : place (began.settings.shelves + 1) ≤ table.words
+  pub divides : 4096 / began.settings.shelves * began.settings.shelves ≡ 4096
+
+-- a seat of this table, which is one for the store
 pub record IsSeatOf {K : Type 0} (table : TableId) (began : StoreState K) (seat : Sitter) : Type 0
   where
     pub own : seat.table_id ≡ table
-    pub wide : table.words ≡ place (began.settings.shelves + 1)
+    pub fit : IsTableOf table began
 
 -- the same, and its caller lives
 pub record IsAlive {K : Type 0} (table : TableId) (began : StoreState K) (seat : Sitter) : Type 0
@@ -40,14 +48,16 @@ pub record IsFree {K : Type 0} (table : TableId) (began : StoreState K) (seat : 
     pub free : seat.me ≡ resting seat.me.0.past
 
 -- It lives, took this bay last, and may give it back with this content and this decision, after
--- which these bays are still held.
+-- which these bays are still held and these words show too many.
 pub record MayDecide {K : Type 0} (table : TableId) (began : StoreState K) (seat : Sitter) (b : ℕ)
-    (start : Beginning) (y : Content) (what : Operation) (still : List (ℕ × Content)) : Type 0
+    (start : Beginning) (y : Content) (what : Operation) (still : List (ℕ × Content))
+    (surplus : List ℕ) : Type 0
   where
     pub alive : IsAlive table began seat
-    pub bay : place b < table.words
+    pub bay : b ≤ began.settings.shelves
     pub held : HoldsLast seat.me b
     pub right : Decides start seat.me.0.bays b y what still
+    pub counts : Counts start seat.me.0 what (decided_by seat.me what still surplus).0
 
 -- A step that a caller may ask a store for: the caller is the store's own, and the key has at most
 -- 250 bytes.

@@ -18,4 +18,4 @@ hollow [] = []
 hollow (x ∷ xs) = (place x.0, None) ∷ hollow xs
 
 abbrev pub holds_all : Past → List ShelfState → Mine
-holds_all p xs = (record { past = p; bays = stacked xs }, hollow (stacked xs))
+holds_all p xs = (record { past = p; bays = stacked xs; surplus = [] }, hollow (stacked xs))

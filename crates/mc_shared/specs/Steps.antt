@@ -1,15 +1,19 @@
 -- What each atomic step tells.
-use Rattle.std.specs.Prelude.{◌≡◌, ◌≢◌, ℕ, ◌<◌, ◌≤◌, List, [], ◌∷◌, Option, Some, None}
+use Rattle.std.specs.Prelude.{◌≡◌, ◌≢◌, ℕ, ◌+◌, ◌%◌, ◌^◌, ◌<◌, ◌≤◌, List, [], ◌∷◌, Option, Some, None}
 use Rattle.mc_command.specs.Plain.{Plain, opening}
+use Rattle.mc_command.specs.declared.step.KeyStep.TheVariants.{Read}
+use Rattle.mc_command.specs.declared.reply.Reply.TheVariants.{Miss}
+use Rattle.mc_shelf.specs.Numbers.{keys_with}
 use Rattle.atomic_table.specs.Table.{Me, Step, rest}
 use Rattle.mc_shared.specs.declared.bay.Bay.{Bay}
 use Rattle.mc_shared.specs.declared.bay.Bay.TheVariants.{Shelf, Desk}
 use Rattle.mc_shared.specs.Bays.{Content, content_of, place}
 use Rattle.mc_shared.specs.Sums.{total}
-use Rattle.mc_shared.specs.History.{Beginning, Name, HistoryEntry, Operation, Purged, next, IsRight, after, IsLegal}
+use Rattle.mc_shared.specs.History.{Beginning, Name, HistoryEntry, Operation, Stepped, Purged, next, IsRight, after, IsLegal}
 use Rattle.mc_shared.specs.Past.{Past, spent, start, call, made, both, name_of, held, makes, count_calls, count_made, KeptBy, Whole}
 use Rattle.mc_shared.specs.View.{SeatView}
-use Rattle.mc_shared.specs.Rule.{Fits, AllFit, KeepsLimits, holds_bay, times}
+use Rattle.mc_shared.specs.Presence.{word_of}
+use Rattle.mc_shared.specs.Rule.{Fits, AllFit, KeepsLimits, holds_bay, times, named, IsHeldWord}
 
 abbrev pub Slot : Type 0
 Slot = Option Bay
@@ -23,15 +27,16 @@ IsAt shelves b (Shelf shelf) = b < shelves
 IsAt shelves b (Desk desk) = b ≡ shelves
 
 abbrev pub holding : SeatView → ℕ → Content → SeatView
-holding v b x = record { past = v.past; bays = (b, x) ∷ v.bays }
+holding v b x = record v { bays = (b, x) ∷ v.bays }
 
 -- the entry of what a past's caller decides next, under that caller's next number
 abbrev pub entry_of : Past → Operation → HistoryEntry
 entry_of p what = record { by = name_of p; number = count_calls (name_of p) (held p); what = what }
 
--- the seat took this bay last, and has its content; its slot is empty
+-- the seat took this bay last, and has its content; its slot is empty, and no word shows too many
 abbrev pub HoldsThis : Mine → ℕ → Content → Type 0
-HoldsThis m b x = (m.0.bays ≡ (b, x) ∷ rest m.0.bays) × (m.1 ≡ (place b, None) ∷ rest m.1)
+HoldsThis m b x =
+    (m.0.bays ≡ (b, x) ∷ rest m.0.bays) × (m.1 ≡ (place b, None) ∷ rest m.1) × (m.0.surplus ≡ [])
 
 -- the seat took this bay last
 abbrev pub HoldsLast : Mine → ℕ → Type 0
@@ -40,14 +45,23 @@ HoldsLast m b =
 
 -- after the last bay taken was given back
 abbrev pub without : Mine → Mine
-without m = (record { past = m.0.past; bays = rest m.0.bays }, rest m.1)
+without m = (record m.0 { bays = rest m.0.bays }, rest m.1)
 
--- the same with a decision, where these bays are still held, with this content
-abbrev pub decided_by : Mine → Operation → List (ℕ × Content) → Mine
-decided_by m what bays = (
-  record { past = call m.0.past (entry_of m.0.past what); bays = bays },
+-- the same with a decision, where these bays are still held, with this content, and these words
+-- show too many
+abbrev pub decided_by : Mine → Operation → List (ℕ × Content) → (surplus : List ℕ) → Mine
+decided_by m what bays surplus = (
+  record { past = call m.0.past (entry_of m.0.past what); bays = bays; surplus = surplus },
   rest m.1,
 )
+
+-- with a decision, and nothing else
+abbrev pub called : Mine → Operation → Mine
+called m what = (record m.0 { past = call m.0.past (entry_of m.0.past what) }, m.1)
+
+-- where these words show too many
+abbrev pub loaded : Mine → (surplus : List ℕ) → Mine
+loaded m surplus = (record m.0 { surplus = surplus }, m.1)
 
 -- there is a legal history that keeps the past
 pub record Agrees (start : Beginning) (p : Past) : Type 0 where
@@ -79,8 +93,11 @@ took began b st m n m' = (n ≡ 0 → (x : Bay) × IsAt began.shelves b x
 abbrev pub gave : Beginning → Step Slot → Mine → ℕ → Mine → Type 0
 gave began st m n m' = (m' ≡ without m) × Fitted began m.0
 
-abbrev pub decided : Beginning → Operation → List (ℕ × Content) → Step Slot → Mine → ℕ → Mine → Type 0
-decided began what bays st m n m' = (m' ≡ decided_by m what bays) × Agrees began m'.0.past
+abbrev pub decided
+    : Beginning → Operation → List (ℕ × Content) → (surplus : List ℕ) → Step Slot → Mine → ℕ → Mine
+    → Type 0
+decided began what bays surplus st m n m' =
+    (m' ≡ decided_by m what bays surplus) × Agrees began m'.0.past
 
 -- the bay is held from then on with its content, and all that is held fits some such history
 abbrev pub HasTaken : Beginning → Mine → ℕ → Bay → Mine → Type 0
@@ -89,8 +106,10 @@ HasTaken began m b x m' =
     × Fitted began (holding m.0 b (content_of x))
 
 -- the last bay taken was given back with a decision, and these are still held
-abbrev pub HasDecided : Beginning → Mine → Operation → List (ℕ × Content) → Mine → Type 0
-HasDecided began m what still m' = (m' ≡ decided_by m what still) × Agrees began m'.0.past
+abbrev pub HasDecided
+    : Beginning → Mine → Operation → List (ℕ × Content) → (surplus : List ℕ) → Mine → Type 0
+HasDecided began m what still surplus m' =
+    (m' ≡ decided_by m what still surplus) × Agrees began m'.0.past
 
 -- Whatever the state is, if what is held fits it: the decision is the plain machine's, what is
 -- given back and what is still held fit the state after it, and so does each bay that is not held
@@ -105,21 +124,67 @@ pub record Decides (start : Beginning) (bays : List (ℕ × Content)) (b : ℕ) 
   pub others : (m : Plain) → AllFit start m bays → (c : ℕ) (z : Content)
       → total (holds_bay c) bays ≡ 0 → Fits start m c z → Fits start (next start m what) c z
 
+-- Whatever the state is, if what is held fits it: the words show the keys after the decision, with
+-- what shows too many before and after it, and each that does is of a shelf that is still held
+pub record Counts (start : Beginning) (v : SeatView) (what : Operation) (w : SeatView) : Type 0 where
+  pub weighs : (m : Plain) → AllFit start m v.bays → (number : ℕ) → number < 4096
+      → keys_with start.hash_of number m.items + named (word_of start.shelves number) v
+      ≡ keys_with start.hash_of number (next start m what).items
+      + named (word_of start.shelves number) w
+  pub owned : (word : ℕ) → 1 ≤ named word w → IsHeldWord start w word
+
+-- A seat may add one to a number's word, if none shows too many: it holds the number's shelf, and
+-- whatever the state is, if what is held fits it, fewer keys have the number than a word can count.
+pub record MayAdd (start : Beginning) (v : SeatView) (number : ℕ) : Type 0 where
+  pub below : number < 4096
+  pub inside : number % start.shelves < start.shelves
+  pub held : 1 ≤ times (number % start.shelves) v
+  pub bare : v.surplus ≡ []
+  pub few : (m : Plain) → AllFit start m v.bays → keys_with start.hash_of number m.items + 1 < 2 ^ 64
+
+-- one was added to the word, or taken from the one that was named first
+abbrev pub added : Step Slot → Mine → ℕ → Mine → Type 0
+added st m n m' = m' ≡ loaded m (st.word ∷ m.0.surplus)
+
+abbrev pub tail : List ℕ → List ℕ
+tail [] = []
+tail (x ∷ xs) = xs
+
+abbrev pub lowered : Step Slot → Mine → ℕ → Mine → Type 0
+lowered st m n m' = m' ≡ loaded m (tail m.0.surplus)
+
+-- What a number's word tells a seat: after some legal history that keeps its past, no key has the
+-- number where the word is 0; and where the past is whole and the seat holds nothing, the word is 0
+-- where no key has it.
+pub record Shows (start : Beginning) (v : SeatView) (number word : ℕ) : Type 0 where
+  pub log : List HistoryEntry
+  pub legal : IsLegal start start.plain log
+  pub keeps : KeptBy log v.past
+  pub gone : word ≡ 0 → keys_with start.hash_of number (after start start.plain log).items ≡ 0
+  pub zero : Whole v.past → v.bays ≡ []
+      → keys_with start.hash_of number (after start start.plain log).items ≡ 0 → word ≡ 0
+
+-- a key was sought by its number's word: where that is 0, it is decided that the key isn't there
+abbrev pub sought : Beginning → List ℕ → (now number : ℕ) → Step Slot → Mine → ℕ → Mine → Type 0
+sought began key now number st m n m' =
+    (n ≡ 0 → (m' ≡ called m (Stepped (Read key) now Miss)) × Agrees began m'.0.past)
+    × (n ≢ 0 → m' ≡ m) × Shows began m.0 number n
+
 -- the next name that a caller gives: how many it has made, before its own
 abbrev pub next_name : Past → Name
 next_name p = count_made (name_of p) (makes p) ∷ name_of p
 
 abbrev pub maker : SeatView → SeatView
-maker v = record { past = made v.past (next_name v.past); bays = v.bays }
+maker v = record v { past = made v.past (next_name v.past) }
 
 abbrev pub newcomer : SeatView → SeatView
-newcomer v = record { past = start (next_name v.past) v.past; bays = [] }
+newcomer v = record { past = start (next_name v.past) v.past; bays = []; surplus = [] }
 
 abbrev pub met : SeatView → SeatView → SeatView
-met v o = record { past = both v.past o.past; bays = v.bays }
+met v o = record v { past = both v.past o.past }
 
 abbrev pub gone : SeatView
-gone = record { past = spent; bays = [] }
+gone = record { past = spent; bays = []; surplus = [] }
 
 -- nothing changed
 abbrev pub reloaded : Beginning → Step Slot → Mine → ℕ → Mine → Type 0

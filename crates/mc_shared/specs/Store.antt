@@ -7,7 +7,9 @@ use Rattle.mc_command.specs.declared.step.StepFault.{StepFault}
 use Rattle.mc_command.specs.declared.step.StepFault.TheVariants.{NoMemory as OutOfMemory, NumbersSpent as OutOfNumbers}
 use Rattle.mc_command.specs.Commands.{key_of}
 use Rattle.mc_command.specs.Laws.{IsOnKey}
-use Rattle.mc_command.specs.Plain.{Outcome, Spent, MayFail, plain}
+use Rattle.std.specs.FinMap.{get}
+use Rattle.mc_command.specs.Plain.{Plain, Outcome, Spent, MayFail, plain}
+use Rattle.mc_shelf.specs.Numbers.{number_of}
 use Rattle.mc_shelf.specs.States.{ShelfState, DeskState}
 use Rattle.mc_shelf.specs.Plans.{IsPlan, HasRoom}
 use Rattle.mc_shelf.specs.declared.plan.Plan.{Plan}
@@ -21,11 +23,11 @@ use Rattle.mc_shared.specs.Steps.{Slot, Mine, Agrees, entry_of}
 
 -- a seat with this past, which holds nothing
 abbrev pub resting : Past → Mine
-resting p = (record { past = p; bays = [] }, [])
+resting p = (record { past = p; bays = []; surplus = [] }, [])
 
 -- a seat that holds one bay, whose content it has
 abbrev pub holds_one : Past → ℕ → Content → Mine
-holds_one p at x = (record { past = p; bays = (at, x) ∷ [] }, (place at, None) ∷ [])
+holds_one p at x = (record { past = p; bays = (at, x) ∷ []; surplus = [] }, (place at, None) ∷ [])
 
 -- the past with a call more
 abbrev pub with_call : Past → KeyStep → ℕ → Reply → Past
@@ -80,6 +82,22 @@ May began p step now (Busy bay word) =
 May began p step now NoMemory = MayFailAfter began p step now
 May began p step now NumbersSpent = IsSpentAfter began p step now
 
+-- no key of the state has a key's number
+abbrev pub HasNone : Beginning → Plain → (key : List ℕ) → Type 0
+HasNone start m key =
+    (other : List ℕ) → number_of start.hash_of other ≡ number_of start.hash_of key
+    → get m.items other ≡ None
+
+-- What a caller is told of a key by its number's word, after some legal history that keeps its past:
+-- no key has the number where the answer is true; and where the past is whole it is true exactly
+-- where none has.
+pub record IsShown (start : Beginning) (p : Past) (key : List ℕ) (answer : Bool) : Type 0 where
+  pub log : List HistoryEntry
+  pub legal : IsLegal start start.plain log
+  pub keeps : KeptBy log p
+  pub gone : answer ≡ true → HasNone start (after start start.plain log) key
+  pub zero : Whole p → HasNone start (after start start.plain log) key → answer ≡ true
+
 -- a bay at home
 abbrev pub shelf_slot : ShelfState → Slot
 shelf_slot shelf = Some (Shelf shelf)
@@ -99,7 +117,7 @@ spaced (x ∷ xs) = slot_alone x ++ spaced xs
 -- a seat that holds two bays, the first of them taken last
 abbrev pub holds_two : Past → ℕ → Content → ℕ → Content → Mine
 holds_two p b y at x = (
-  record { past = p; bays = (b, y) ∷ (at, x) ∷ [] },
+  record { past = p; bays = (b, y) ∷ (at, x) ∷ []; surplus = [] },
   (place b, None) ∷ (place at, None) ∷
       [],
 )

@@ -1,5 +1,5 @@
--- What a seat knows: a past, and the bays that it holds, each with the content that its home would
--- have.
+-- What a seat knows: a past, the bays that it holds, each with the content that its home would have,
+-- and the presence words that show more keys than there are, each as often as it does by one.
 use Rattle.std.specs.Prelude.{◌≡◌, ℕ, List, [], refl}
 use mathlib.Core.Logic.{inl, inr, ◌⊎◌}
 use Rattle.std.specs.Coded.{Coded, code_by, coded×, coded⊎, coded_ℕ, coded_list}
@@ -71,10 +71,13 @@ past_code = record { code = past_gv; inj = past_inj }
 pub record SeatView : Type 0 where
   pub past : Past
   pub bays : List (ℕ × Content)
+  pub surplus : List ℕ
 
 abbrev pub view_code : Coded SeatView
-view_code = code_by _ (coded× past_code (coded_list (coded× coded_ℕ content_code)))
-    (λ k. (k.past, k.bays)) (λ p. record { past = p.0; bays = p.1 }) (λ _. refl)
+view_code = code_by _
+    (coded× past_code (coded× (coded_list (coded× coded_ℕ content_code)) (coded_list coded_ℕ)))
+    (λ k. (k.past, (k.bays, k.surplus)))
+    (λ p. record { past = p.0; bays = p.1.0; surplus = p.1.1 }) (λ _. refl)
 
 abbrev pub starting : SeatView
-starting = record { past = start [] spent; bays = [] }
+starting = record { past = start [] spent; bays = []; surplus = [] }

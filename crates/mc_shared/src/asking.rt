@@ -148,6 +148,6 @@ impl<'a, R: Wait, K: KeyHash + Drop, G: Gate> Steps for Asking<'a, R, K, G> {
 
     fn step(&mut self, alloc: Global, step: &KeyStep<'_>, now: Moment) -> Result<Reply, StepFault> {
         self.shared
-            .step_at(self.rt, alloc, &mut self.caller, step, now, self.gate)
+            .step_unless_absent(self.rt, alloc, &mut self.caller, step, now, self.gate)
     }
 }

@@ -13,7 +13,8 @@ pub(crate) enum Decision<'a> {
         moment: Moment,
         reply: &'a Reply,
     },
-    /// A step that the desk decided, begun at its key's shelf, which is held until it is finished.
+    /// A step that the desk decided, begun at its key's shelf, which is held until it is finished. By
+    /// its key's presence word the shelf had so many items.
     Begun {
         step: &'a KeyStep<'a>,
         moment: Moment,
@@ -21,22 +22,26 @@ pub(crate) enum Decision<'a> {
         shelf: &'a Shelf,
         plan: &'a Plan<'a>,
         begun: &'a Begun,
+        word: usize,
+        had: usize,
     },
-    /// A purge that dropped items of a shelf, which is still held.
+    /// A purge that dropped items of a shelf, which is still held. Of each number it had so many before.
     Purged {
         at: u32,
         moment: Moment,
         shelf: &'a Shelf,
+        before: &'a [u64],
     },
     /// A purge of a shelf in which nothing was dead.
     NoneDead {
         at: u32,
         moment: Moment,
     },
-    /// A flush of all shelves, which are still held.
+    /// A flush of all shelves, which are still held. Of each number they had so many before.
     Flushed {
         delay: u64,
         moment: Moment,
         shelves: &'a Vec<Shelf>,
+        before: &'a [u64],
     },
 }

@@ -13,6 +13,7 @@ ghost use Rattle.mc_shared.specs.Stacks.{holds_all};
 
 use crate::bay::Bay;
 use crate::boxed::Boxed;
+use crate::count::{count_shelves, lower_words};
 use crate::decision::Decision;
 use crate::hold::{desk_from, shelf_from};
 use crate::patience::take_waiting;
@@ -118,7 +119,8 @@ struct Spares {
     count: usize,
 }
 
-/// A flush, for which all shelves and the desk are held at once.
+/// A flush, for which all shelves and the desk are held at once. The words of the keys that went are
+/// lowered before a shelf goes back.
 fn flush_by<K: KeyHash + Drop, R: Wait>(
     rt: &R,
     board: &Board<K>,
@@ -144,14 +146,18 @@ fn flush_by<K: KeyHash + Drop, R: Wait>(
     } = spares;
     let (mut held, boxes) = hold_all(rt, board, seat, shelves, boxes, count);
     let mut desk = desk_from(take_waiting(rt, board, seat, count), count);
+    let before = count_shelves(held.as_slice());
     flush_held(&mut held, &mut *desk, delay, now);
     let decision = Decision::Flushed {
         delay,
         moment: now,
         shelves: &held,
+        before: &before,
     };
     let value = Bay::Desk(Boxed::of(desk));
     decide(board, seat, count, value, &decision);
+    let after = count_shelves(held.as_slice());
+    lower_words(board, seat, count, &before, &after);
     give_all(board, seat, held, boxes);
 }
 
@@ -159,7 +165,7 @@ impl<K: KeyHash + Drop> Shared<K> {
     /// Flushes, all items at once or what stands by then after a delay in seconds, which is read as
     /// an exptime is. It waits for what others hold: all shelves are held in their order, and then
     /// the desk, so the flush is one step. The one error is a refused allocation, and the caller's
-    /// past then stays. The cost is that of one pass over all items.
+    /// past then stays. The cost is that of three passes over all items.
     pub fn flush<R: Wait>(
         &self,
         rt: &R,

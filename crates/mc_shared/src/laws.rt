@@ -4,7 +4,7 @@
 //! call promises. So they tell what callers read of one another, whichever history it was.
 
 ghost use Rattle.std.specs.Prelude.{◌≡◌, ◌+◌, ◌%◌, ◌^◌, ◌<◌, ◌≤◌, ◌⊎◌, ℕ, ℤ};
-ghost use Rattle.std.specs.Prelude.{List, [], ◌∷◌, ◌++◌, Some, None};
+ghost use Rattle.std.specs.Prelude.{List, [], ◌∷◌, ◌++◌, Bool, true, false, Some, None};
 ghost use Rattle.mc_command.specs.declared.step.KeyStep.{KeyStep};
 ghost use Rattle.mc_command.specs.declared.reply.Reply.{Reply};
 ghost use Rattle.mc_command.specs.Commands.{key_of};
@@ -17,12 +17,13 @@ ghost use Rattle.mc_shared.specs.History.{after, IsLegal};
 ghost use Rattle.mc_shared.specs.Past.{Past, spent, call, held, callers, times, Whole, KeptBy};
 ghost use Rattle.mc_shared.specs.Past as past;
 ghost use Rattle.mc_shared.specs.Steps.{entry_of, Agrees};
-ghost use Rattle.mc_shared.specs.Store.{with_call};
+ghost use Rattle.mc_shared.specs.Store.{with_call, IsShown};
 ghost use Rattle.mc_shared.specs.Close.{IsAfter};
 ghost use Rattle.mc_shared.specs.Laws.{StandsIn, StandsBefore, Has, IsWithin, Knew, WentOn};
 ghost use Rattle.mc_shared.specs.Laws.{IsAlone, Call, with_calls, PlainAnswers};
 ghost use Rattle.mc_shared.specs.Laws.{MayChange, ReadsLatest, ReadsWrite, item_after, item_given};
 ghost use Rattle.mc_shared.specs.Laws.{Found, IsHit, IsNoOlder, HasItem, Wrote, HasDrawnNumbers};
+ghost use Rattle.mc_shared.specs.Laws.{StoresAsGiven, IsTakenAway};
 ghost use Rattle.mc_shared.specs.Laws.{IsWrittenIn, IsNumber, IsCount, counts_up};
 ghost use Rattle.mc_shared.specs.Together.{AreAnswered, two_callers, IsMixOf};
 
@@ -90,6 +91,28 @@ pub fn a_known_write_is_read()
         Has p write → write.what ≡ Stepped step then Reply.Stored → IsOnKey step →
         ReadsWrite began log now reply step then write
         (entry_of p (Stepped (KeyStep.Read (key_of step)) now reply)) }
+{
+    other_keys_stay();
+}
+
+/// States what a caller knows that was told of a key that it is absent, by `Shared::absent`. What is
+/// absent was not there: at that moment of a history that keeps all that the caller knew, its key had
+/// no item. So a key that has an item in each such history is never absent to that caller. And a key
+/// that the caller stored, or knows to be stored (by its maker before it was made, or by a caller that
+/// was joined into it), is absent to it only where another entry of that history, behind the write,
+/// may have changed the key's item: a step on that key, a flush, or a purge of the key's shelf.
+pub fn what_is_absent_is_not_there()
+    ensures gone { (began : Beginning) (p : Past) (key : List ℕ) → IsShown began p key true →
+        (log : List HistoryEntry) × IsLegal began began.plain log × KeptBy log p
+        × (item_after began log key ≡ None) }
+    ensures there { (began : Beginning) (p : Past) (key : List ℕ) (answer : Bool) →
+        IsShown began p key answer →
+        ((log : List HistoryEntry) → IsLegal began began.plain log → KeptBy log p →
+        item_after began log key ≡ None → ⊥) → answer ≡ false }
+    ensures known { (began : Beginning) (p : Past) (step : KeyStep) (then : ℕ)
+        (write : HistoryEntry) → Has p write → write.what ≡ Stepped step then Reply.Stored →
+        StoresAsGiven step then → IsShown began p (key_of step) true →
+        IsTakenAway began p (key_of step) write }
 {
     other_keys_stay();
 }

@@ -1,9 +1,8 @@
 //! How a bay is taken that another may hold: it is tried once, or waited for.
-ghost use Rattle.std.specs.Prelude.{◌≡◌, ◌<◌, None, IfSome};
+ghost use Rattle.std.specs.Prelude.{◌≡◌, ◌≤◌, None, IfSome};
 ghost use Rattle.mc_shared.specs.History.{start_of};
 ghost use Rattle.mc_shared.specs.Steps.{HasTaken};
-ghost use Rattle.mc_shared.specs.Seats.{SameSeat, IsAlive};
-ghost use Rattle.mc_shared.specs.Bays.{place};
+ghost use Rattle.mc_shared.specs.Seats.{SameSeat, IsTableOf, IsAlive};
 
 use crate::bay::Bay;
 use crate::rule::{Board, Seat};
@@ -38,13 +37,12 @@ impl Gate for NoGate {
 
 /// How a bay is taken. `B` is what is told of a bay that another holds.
 pub(crate) trait Patience<B> {
-    ghost use Rattle.std.specs.Prelude.{◌≡◌, ◌<◌, ℕ, IfOk, IfErr};
+    ghost use Rattle.std.specs.Prelude.{◌≡◌, ◌≤◌, ℕ, IfOk, IfErr};
     ghost use Rattle.mc_shared.specs.History.{Beginning, start_of};
     ghost use Rattle.mc_shared.specs.Past.{Past};
     ghost use Rattle.mc_shared.specs.Rule.{times};
     ghost use Rattle.mc_shared.specs.Steps.{HasTaken, Agrees};
     ghost use Rattle.mc_shared.specs.Seats.{SameSeat, IsAlive};
-    ghost use Rattle.mc_shared.specs.Bays.{place};
 
     /// What is told of a bay that a caller with this past doesn't hold itself.
     ghost busy: { Past → ℕ → B → Type 0 };
@@ -57,7 +55,7 @@ pub(crate) trait Patience<B> {
         bay: usize,
     ) -> Result<Bay, B>
         requires seat { IsAlive board.now.shared.table_id board.now.shared.key.value seat.old }
-        requires bay { place bay < board.now.shared.table_id.words }
+        requires bay { bay ≤ board.now.shared.key.value.settings.shelves }
         ensures seat { SameSeat seat.old seat.new }
         ensures ok { IfOk result (λ x. HasTaken (start_of K.hash_of board.now.shared.key.value)
             seat.old.me bay x seat.new.me) }
@@ -147,7 +145,7 @@ fn pause(count: u32) {
 /// undisturbed.
 fn take_spinning<K: KeyHash + Drop>(board: &Board<K>, seat: &mut Seat, bay: usize) -> Option<Bay>
     requires seat { IsAlive board.now.shared.table_id board.now.shared.key.value seat.old }
-    requires bay { place bay < board.now.shared.table_id.words }
+    requires bay { bay ≤ board.now.shared.key.value.settings.shelves }
     ensures seat { SameSeat seat.old seat.new }
     ensures taken { IfSome result (λ value. HasTaken
         (start_of K.hash_of board.now.shared.key.value) seat.old.me bay value seat.new.me) }
@@ -171,7 +169,8 @@ fn take_spinning<K: KeyHash + Drop>(board: &Board<K>, seat: &mut Seat, bay: usiz
 /// Lets other threads have their turn, and after many turns sleeps a millisecond at most, so that a
 /// bay which is held for long, as in a flush, costs no core.
 fn stand_aside<K: KeyHash + Drop, R: Wait>(rt: &R, board: &Board<K>, bay: usize, turns: u32)
-    requires bay { place bay < board.now.shared.table_id.words }
+    requires table { IsTableOf board.now.shared.table_id board.now.shared.key.value }
+    requires bay { bay ≤ board.now.shared.key.value.settings.shelves }
 {
     if turns < TURNS {
         thread::yield_now();
@@ -191,7 +190,7 @@ pub(crate) fn take_waiting<K: KeyHash + Drop, R: Wait>(
     bay: usize,
 ) -> Bay
     requires seat { IsAlive board.now.shared.table_id board.now.shared.key.value seat.old }
-    requires bay { place bay < board.now.shared.table_id.words }
+    requires bay { bay ≤ board.now.shared.key.value.settings.shelves }
     ensures seat { SameSeat seat.old seat.new }
     ensures taken { HasTaken (start_of K.hash_of board.now.shared.key.value) seat.old.me bay
         result seat.new.me }

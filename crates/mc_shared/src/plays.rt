@@ -17,7 +17,8 @@ impl Begins for Brand {
     ghost start = { nothing_began };
 }
 
-/// What is decided, and what the bays that are still held then hold. Each deciding step picks it.
+/// What is decided, what the bays that are still held then hold, and which words then show too many
+/// keys. Each deciding step picks it.
 pub trait Says {
     ghost use Rattle.std.specs.Prelude.{ℕ, List};
     ghost use Rattle.mc_shared.specs.History.{Beginning, Operation};
@@ -28,6 +29,8 @@ pub trait Says {
     ghost what: { Operation };
 
     ghost still: { List (ℕ × Content) };
+
+    ghost surplus: { List ℕ };
 }
 
 impl Says for Brand {
@@ -39,6 +42,31 @@ impl Says for Brand {
     ghost what = { nothing_done };
 
     ghost still = { [] };
+
+    ghost surplus = { [] };
+}
+
+/// A key that is sought, when, and what the store began with. Each call of a step picks it.
+pub trait Seeks {
+    ghost use Rattle.std.specs.Prelude.{ℕ, List};
+    ghost use Rattle.mc_shared.specs.History.{Beginning};
+
+    ghost start: { Beginning };
+
+    ghost key: { List ℕ };
+
+    ghost moment: { ℕ };
+}
+
+impl Seeks for Brand {
+    ghost use Rattle.std.specs.Prelude.{[]};
+    ghost use Rattle.mc_shared.specs.Steps.{nothing_began};
+
+    ghost start = { nothing_began };
+
+    ghost key = { [] };
+
+    ghost moment = { 0 };
 }
 
 /// What the store began with, and which bay is taken. Each call that takes one picks it.
@@ -86,7 +114,7 @@ pub struct Decide<D> {
 impl<D: Says> Play<Option<Bay>, View> for Decide<D> {
     ghost use Rattle.mc_shared.specs.Steps.{decided};
 
-    ghost then = { decided D.start D.what D.still };
+    ghost then = { decided D.start D.what D.still D.surplus };
 }
 
 pub struct Reload<B> {
@@ -97,6 +125,33 @@ impl<B: Begins> Play<Option<Bay>, View> for Reload<B> {
     ghost use Rattle.mc_shared.specs.Steps.{reloaded};
 
     ghost then = { reloaded B.start };
+}
+
+pub struct Raise;
+
+impl Play<Option<Bay>, View> for Raise {
+    ghost use Rattle.mc_shared.specs.Steps.{added};
+
+    ghost then = { added };
+}
+
+pub struct Lower;
+
+impl Play<Option<Bay>, View> for Lower {
+    ghost use Rattle.mc_shared.specs.Steps.{lowered};
+
+    ghost then = { lowered };
+}
+
+pub struct Seek<S> {
+    seeks: PhantomData<S>,
+}
+
+impl<S: Seeks> Play<Option<Bay>, View> for Seek<S> {
+    ghost use Rattle.mc_shelf.specs.Numbers.{number_of};
+    ghost use Rattle.mc_shared.specs.Steps.{sought};
+
+    ghost then = { sought S.start S.key S.moment (number_of S.start.hash_of S.key) };
 }
 
 pub struct Fork;

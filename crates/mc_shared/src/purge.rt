@@ -4,13 +4,15 @@ ghost use Rattle.mc_shared.specs.History.{start_of, Purged};
 ghost use Rattle.mc_shared.specs.Past.{call};
 ghost use Rattle.mc_shared.specs.Steps.{entry_of, Agrees};
 ghost use Rattle.mc_shared.specs.Holds.{HasPurged, caller_of};
+ghost use Rattle.mc_shared.specs.Counted.{AreCountsOf};
 
 use crate::bay::Bay;
 use crate::boxed::Boxed;
+use crate::count::{count_shelf, lower_words};
 use crate::decision::Decision;
 use crate::hold::{AtBoth, AtShelf};
 use crate::patience::{NoGate, Waiting};
-use crate::steps::{decide, give};
+use crate::steps::{NUMBERS, decide, give};
 use crate::store::{Caller, Shared};
 use core::mem::replace_with;
 use mc_hop::KeyHash;
@@ -40,6 +42,13 @@ impl<'a, K: KeyHash + Drop> AtShelf<'a, K> {
         Ok(Caller { seat, grows })
     }
 
+    /// Counts the shelf's keys of each number.
+    fn counts(&self) -> [u64; NUMBERS]
+        ensures { AreCountsOf self.now.shelf.content result }
+    {
+        count_shelf(&*self.shelf)
+    }
+
     /// Moves up to `n` entries of the shelf's old table, and answers how many it moved.
     fn grow(&mut self, n: usize) -> usize
         ensures same { (self.new.shared ≡ self.old.shared) × (self.new.past ≡ self.old.past) }
@@ -50,8 +59,11 @@ impl<'a, K: KeyHash + Drop> AtShelf<'a, K> {
 }
 
 impl<'a, K: KeyHash + Drop> AtBoth<'a, K> {
-    /// Drops the shelf's dead items. The desk goes back with the decision, and then the shelf.
-    fn purge(self, now: Moment) -> Caller
+    /// Drops the shelf's dead items. It had so many keys of each number before. The desk goes back
+    /// with the decision, then the words of the keys that went are lowered, and then the shelf goes
+    /// back.
+    fn purge(self, now: Moment, before: &[u64]) -> Caller
+        requires { AreCountsOf self.shelf.content before.now }
         ensures { HasPurged K.hash_of self.entry.shared self.entry.past self.entry.at now result }
     {
         let AtBoth {
@@ -67,17 +79,21 @@ impl<'a, K: KeyHash + Drop> AtBoth<'a, K> {
             at,
             moment: now,
             shelf: &*shelf,
+            before,
         };
         let bay = shared.settings.shelves as usize;
         let value = Bay::Desk(Boxed::of(desk));
         decide(&shared.board, &mut seat, bay, value, &decision);
+        let after = count_shelf(&*shelf);
+        lower_words(&shared.board, &mut seat, bay, before, &after);
         let value = Bay::Shelf(Boxed::of(shelf));
         give(&shared.board, &mut seat, at as usize, value);
         Caller { seat, grows }
     }
 }
 
-/// Purges a shelf for a caller, who comes back. Where nothing in it may be dead, the desk isn't taken.
+/// Purges a shelf for a caller, who comes back. Where nothing in it may be dead, no key is counted
+/// and the desk isn't taken.
 fn tidy_for<K: KeyHash + Drop, R: Wait>(
     caller: Caller,
     asked: (&Shared<K>, &R, u32, &Moment),
@@ -90,7 +106,10 @@ fn tidy_for<K: KeyHash + Drop, R: Wait>(
     let (shared, rt, at, now) = asked;
     match shared.wait_for_shelf(rt, caller, at).purge_alone(*now) {
         Ok(caller) => (caller, ()),
-        Err(hold) => (hold.wait_for_desk(rt).purge(*now), ()),
+        Err(hold) => {
+            let before = hold.counts();
+            (hold.wait_for_desk(rt).purge(*now, &before), ())
+        }
     }
 }
 
@@ -113,8 +132,8 @@ fn grow_for<K: KeyHash + Drop, R: Wait>(
 
 impl<K: KeyHash + Drop> Shared<K> {
     /// Drops the items of a shelf that are dead at a moment. It waits for the shelf, and where an
-    /// item in it may be dead for the desk, and takes no memory. The cost is that of one pass over
-    /// the shelf's items, and where none may be dead it walks none.
+    /// item in it may be dead for the desk, and takes no memory. The cost is that of three passes
+    /// over the shelf's items, and where none may be dead it walks none.
     pub fn tidy<R: Wait>(&self, rt: &R, caller: &mut Caller, shelf: u32, now: Moment)
         requires own { caller.old.table ≡ self.now.table }
         requires shelf { shelf < self.now.began.settings.shelves }

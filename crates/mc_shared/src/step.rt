@@ -1,5 +1,6 @@
 //! A step on a key: at its shelf, and where it is needed at the desk.
-ghost use Rattle.std.specs.Prelude.{◌≡◌, ◌≤◌, length, true, false, Err, IfOk, IfErr, IfSome, OnErr};
+ghost use Rattle.std.specs.Prelude.{◌≡◌, ◌≤◌, length, is_some, true, false, Err, IfOk, IfErr, IfSome, OnErr};
+ghost use Rattle.std.specs.FinMap.{get};
 ghost use Rattle.mc_command.specs.Commands.{key_of};
 ghost use Rattle.mc_command.specs.Laws.{IsOnKey};
 ghost use Rattle.mc_command.specs.declared.step.KeyStep.{KeyStep as Step};
@@ -19,7 +20,7 @@ use crate::decision::Decision;
 use crate::fault::TryFault;
 use crate::hold::{AtBoth, AtShelf};
 use crate::patience::{Busy, Gate, NoGate, Once, Patience, Waiting};
-use crate::steps::{decide, give};
+use crate::steps::{decide, give, lower_all, raise_for};
 use crate::store::{Caller, Shared};
 use core::mem::replace_with;
 use mc_command::{KeyStep, Reply, StepFault};
@@ -157,8 +158,12 @@ impl<'a, K: KeyHash + Drop> AtBoth<'a, K> {
             mut desk,
         } = self;
         let bay = shared.settings.shelves as usize;
+        let before = shelf.len();
+        let comes = may_come(&looked, &*shelf, ask);
         match begin_step(alloc, &mut *shelf, &mut *desk, looked, page, ask) {
             Ok((mut plan, begun)) => {
+                let (word, came) = raise_for(&shared.board, &mut seat, bay, ask.hash, comes);
+                let had = before + came;
                 let decision = Decision::Begun {
                     step: ask.step,
                     moment: ask.moment,
@@ -166,10 +171,13 @@ impl<'a, K: KeyHash + Drop> AtBoth<'a, K> {
                     shelf: &*shelf,
                     plan: &plan,
                     begun: &begun,
+                    word,
+                    had,
                 };
                 let value = Bay::Desk(Boxed::of(desk));
                 decide(&shared.board, &mut seat, bay, value, &decision);
                 let reply = shelf.finish(&mut plan, begun, ask.step);
+                lower_all(&shared.board, &mut seat, word, had - shelf.len());
                 let value = Bay::Shelf(Boxed::of(shelf));
                 give(&shared.board, &mut seat, at as usize, value);
                 (Caller { seat, grows }, Ok(reply))
@@ -182,6 +190,18 @@ impl<'a, K: KeyHash + Drop> AtBoth<'a, K> {
                 (Caller { seat, grows }, Err(fault))
             }
         }
+    }
+}
+
+/// Returns whether a step's key may come to stand in a shelf: it has no item there, or it isn't known.
+fn may_come(looked: &Looked<'_>, shelf: &Shelf, ask: &Ask<'_>) -> bool
+    requires { IsLooked looked.now shelf.now ask.now }
+    ensures { is_some (get shelf.now.content.items (key_of ask.now.step.now)) ≡ false →
+        result ≡ true }
+{
+    match looked {
+        Looked::Planned(plan) => plan.is_of_new_key(),
+        Looked::AskAgainAtDesk => true,
     }
 }
 
@@ -291,18 +311,74 @@ impl<K: KeyHash + Drop> Shared<K> {
         ensures { IsAnswered (start_of K.hash_of self.now.began) caller.old step.now now
             (Unmet P.busy) result caller.new }
     {
-        let hash = self.hasher.hash(step.key());
-        let ask = Ask {
-            step: &*step,
+        let ask = self.ask(step, self.hasher.hash(step.key()), now);
+        self.step_asked(patience, alloc, caller, &ask)
+    }
+
+    /// Makes of a step on one key what its shelf is asked.
+    fn ask<'k>(&self, step: &'k KeyStep<'k>, hash: u64, now: Moment) -> Ask<'k>
+        requires on_key { IsOnKey step.now }
+        requires short { length (key_of step.now) ≤ 250 }
+        requires hash { hash ≡ K.hash_of self.now.began.hasher (key_of step.now) }
+        ensures asked { IsAsked K.hash_of self.now result }
+        ensures parts { (result.step.now ≡ step.now) × (result.moment ≡ now) }
+    {
+        Ask {
+            step,
             hash,
             moment: now,
             at: (hash % u64::from(self.settings.shelves)) as u32,
-        };
+        }
+    }
+
+    /// Takes a step on one key whose hash is known, with as much patience.
+    fn step_asked<B: Drop, P: Patience<B>>(
+        &self,
+        patience: &P,
+        alloc: Global,
+        caller: &mut Caller,
+        ask: &Ask<'_>,
+    ) -> Result<Reply, Untaken<B>>
+        requires own { caller.old.table ≡ self.now.table }
+        requires asked { IsAsked K.hash_of self.now ask.now }
+        ensures { IsAnswered (start_of K.hash_of self.now.began) caller.old ask.now.step.now
+            ask.now.moment (Unmet P.busy) result caller.new }
+    {
         replace_with(
             caller,
-            (&*self, &*patience, PhantomData, alloc, &ask),
+            (&*self, &*patience, PhantomData, alloc, ask),
             step_for,
         )
+    }
+
+    /// Takes a step as `step_at` does. A read alone of a key that the key's number tells to be absent
+    /// is told as a miss with no shelf held, and then no gate is called.
+    pub(crate) fn step_unless_absent<R: Wait, G: Gate>(
+        &self,
+        rt: &R,
+        alloc: Global,
+        caller: &mut Caller,
+        step: &KeyStep<'_>,
+        now: Moment,
+        gate: &G,
+    ) -> Result<Reply, StepFault>
+        requires { MayAsk self.now caller.old step.now }
+        ensures { IsAnswered (start_of K.hash_of self.now.began) caller.old step.now now Refuses
+            result caller.new }
+    {
+        let KeyStep::Read { key } = step else {
+            return self.step_at(rt, alloc, caller, step, now, gate);
+        };
+        let hash = self.hasher.hash(key.as_slice());
+        if self.absent_hashed(caller, key.as_slice(), hash, now) {
+            return Ok(Reply::Miss);
+        }
+        let ask = self.ask(step, hash, now);
+        match self.step_asked(&Waiting { rt, gate }, alloc, caller, &ask) {
+            Ok(reply) => Ok(reply),
+            Err(Untaken::Refused(fault)) => Err(fault),
+            Err(Untaken::Met(never)) => match never {},
+        }
     }
 
     /// Tries a step on one key, and waits for nobody. The key's shelf and, where the step needs it,

@@ -1,29 +1,63 @@
-//! A bay is taken and given back.
-ghost use Rattle.std.specs.Prelude.{◌≡◌, ◌<◌, [], IfOk, IfErr};
-ghost use Rattle.mc_shared.specs.History.{start_of};
+//! A bay is taken and given back, and a presence word is changed and asked.
+ghost use Rattle.std.specs.Prelude.{◌≡◌, ◌≢◌, ◌*◌, ◌/◌, ◌%◌, ◌<◌, ◌≤◌, [], ◌∷◌, ℕ, List, ◌++◌, true, IfOk, IfErr, replicate};
+ghost use Rattle.mc_command.specs.declared.step.KeyStep.{KeyStep as Step};
+ghost use Rattle.mc_command.specs.declared.reply.Reply.{Reply as Told};
+ghost use Rattle.mc_shelf.specs.Numbers.{number_of};
+ghost use Rattle.mc_shared.specs.History.{start_of, Stepped};
 ghost use Rattle.mc_shared.specs.Bays.{content_of, place};
-ghost use Rattle.mc_shared.specs.Decisions.{operation_of, still_of};
-ghost use Rattle.mc_shared.specs.Steps.{without, maker, newcomer, met, Agrees, Fitted};
+ghost use Rattle.mc_shared.specs.Decisions.{operation_of, still_of, surplus_of};
+ghost use Rattle.mc_shared.specs.Presence.{word_of, words_with};
+ghost use Rattle.mc_shared.specs.Steps.{without, maker, newcomer, met, called, loaded, tail};
+ghost use Rattle.mc_shared.specs.Steps.{MayAdd, Shows, Agrees, Fitted};
 ghost use Rattle.mc_shared.specs.Steps.{HoldsThis, HasTaken, HasDecided, IsBusy};
-ghost use Rattle.mc_shared.specs.Seats.{SameSeat, IsSeatOf, IsAlive, MayDecide};
+ghost use Rattle.mc_shared.specs.Seats.{SameSeat, IsTableOf, IsSeatOf, IsAlive, MayDecide};
 
 use crate::bay::Bay;
 use crate::decision::Decision;
-use crate::plays::{Begins, Decide, Fork, Give, Meet, Reload, Says, Take, Takes};
+use crate::plays::{
+    Begins, Decide, Fork, Give, Lower, Meet, Raise, Reload, Says, Seek, Seeks, Take, Takes,
+};
 use crate::rule::{Board, Seat};
 use mc_hop::KeyHash;
+use mc_time::Moment;
 use std::marker::Brand;
 
 /// How many words and slots stand from one bay to the next: no two bays lie in one line of a cache.
 pub(crate) const APART: usize = 8;
 
+/// How many numbers keys have.
+pub(crate) const NUMBERS: usize = 4096;
+
 /// Finds where a bay lies in the table.
 pub(crate) fn place_of<K: KeyHash + Drop>(board: &Board<K>, bay: usize) -> usize
-    requires { place bay < board.now.shared.table_id.words }
-    ensures { result ≡ place bay }
+    requires table { IsTableOf board.now.shared.table_id board.now.shared.key.value }
+    requires bay { bay ≤ board.now.shared.key.value.settings.shelves }
+    ensures place { result ≡ place bay }
+    ensures inside { result < board.now.shared.table_id.words }
 {
     let _words = board.word_count();
     bay * APART
+}
+
+/// Finds where the word of a number lies in the table.
+pub(crate) fn word_at<K: KeyHash + Drop>(board: &Board<K>, shelves: usize, number: usize) -> usize
+    requires table { IsTableOf board.now.shared.table_id board.now.shared.key.value }
+    requires shelves { shelves ≡ board.now.shared.key.value.settings.shelves }
+    requires number { number < 4096 }
+    ensures word { result ≡ word_of shelves number }
+    ensures inside { result < board.now.shared.table_id.words }
+{
+    word_in(shelves, number)
+}
+
+/// Finds where the word of a number lies in a table of so many shelves.
+pub(crate) fn word_in(shelves: usize, number: usize) -> usize
+    requires divides { 4096 / shelves * shelves ≡ 4096 }
+    requires number { number < 4096 }
+    ensures word { result ≡ word_of shelves number }
+    ensures inside { result < words_with shelves }
+{
+    (shelves + 1) * APART + number % shelves * (NUMBERS / shelves + APART) + number / shelves
 }
 
 fn take_as<B: Takes, K: KeyHash + Drop>(
@@ -34,7 +68,7 @@ fn take_as<B: Takes, K: KeyHash + Drop>(
     requires began { B.start ≡ start_of K.hash_of board.now.shared.key.value }
     requires picked { B.bay ≡ bay }
     requires seat { IsAlive board.now.shared.table_id board.now.shared.key.value seat.old }
-    requires bay { place bay < board.now.shared.table_id.words }
+    requires bay { bay ≤ board.now.shared.key.value.settings.shelves }
     ensures seat { SameSeat seat.old seat.new }
     ensures ok { IfOk result (λ x. HasTaken B.start seat.old.me bay x seat.new.me) }
     ensures err { IfErr result (λ word. IsBusy B.start seat.old.me bay word seat.new.me) }
@@ -53,7 +87,7 @@ fn take_as<B: Takes, K: KeyHash + Drop>(
 /// Takes a bay, if it is free.
 pub fn take<K: KeyHash + Drop>(board: &Board<K>, seat: &mut Seat, bay: usize) -> Result<Bay, u64>
     requires seat { IsAlive board.now.shared.table_id board.now.shared.key.value seat.old }
-    requires bay { place bay < board.now.shared.table_id.words }
+    requires bay { bay ≤ board.now.shared.key.value.settings.shelves }
     ensures seat { SameSeat seat.old seat.new }
     ensures ok { IfOk result (λ x. HasTaken (start_of K.hash_of board.now.shared.key.value)
         seat.old.me bay x seat.new.me) }
@@ -66,7 +100,7 @@ pub fn take<K: KeyHash + Drop>(board: &Board<K>, seat: &mut Seat, bay: usize) ->
 fn give_as<B: Begins, K: KeyHash + Drop>(board: &Board<K>, seat: &mut Seat, bay: usize, value: Bay)
     requires began { B.start ≡ start_of K.hash_of board.now.shared.key.value }
     requires seat { IsSeatOf board.now.shared.table_id board.now.shared.key.value seat.old }
-    requires bay { place bay < board.now.shared.table_id.words }
+    requires bay { bay ≤ board.now.shared.key.value.settings.shelves }
     requires held { HoldsThis seat.old.me bay (content_of value) }
     ensures seat { SameSeat seat.old seat.new }
     ensures view { (seat.new.me ≡ without seat.old.me) × Fitted (B.start) seat.old.me.0 }
@@ -79,7 +113,7 @@ fn give_as<B: Begins, K: KeyHash + Drop>(board: &Board<K>, seat: &mut Seat, bay:
 /// Gives back the bay that was taken last, as it was.
 pub fn give<K: KeyHash + Drop>(board: &Board<K>, seat: &mut Seat, bay: usize, value: Bay)
     requires seat { IsSeatOf board.now.shared.table_id board.now.shared.key.value seat.old }
-    requires bay { place bay < board.now.shared.table_id.words }
+    requires bay { bay ≤ board.now.shared.key.value.settings.shelves }
     requires held { HoldsThis seat.old.me bay (content_of value) }
     ensures seat { SameSeat seat.old seat.new }
     ensures view { (seat.new.me ≡ without seat.old.me)
@@ -97,9 +131,9 @@ fn decide_as<D: Says, K: KeyHash + Drop>(
 )
     requires began { D.start ≡ start_of K.hash_of board.now.shared.key.value }
     requires may { MayDecide board.now.shared.table_id board.now.shared.key.value seat.old bay
-        D.start (content_of value) D.what D.still }
+        D.start (content_of value) D.what D.still D.surplus }
     ensures seat { SameSeat seat.old seat.new }
-    ensures view { HasDecided D.start seat.old.me D.what D.still seat.new.me }
+    ensures view { HasDecided D.start seat.old.me D.what D.still D.surplus seat.new.me }
 {
     let place = place_of(board, bay);
     board.shared.exchange(seat, place, Some(value));
@@ -118,10 +152,12 @@ pub(crate) fn decide<K: KeyHash + Drop>(
 )
     requires may { MayDecide board.now.shared.table_id board.now.shared.key.value seat.old bay
         (start_of K.hash_of board.now.shared.key.value) (content_of value)
-        (operation_of decision.now) (still_of decision.now) }
+        (operation_of decision.now) (still_of decision.now)
+        (surplus_of (start_of K.hash_of board.now.shared.key.value) decision.now) }
     ensures seat { SameSeat seat.old seat.new }
     ensures view { HasDecided (start_of K.hash_of board.now.shared.key.value) seat.old.me
-        (operation_of decision.now) (still_of decision.now) seat.new.me }
+        (operation_of decision.now) (still_of decision.now)
+        (surplus_of (start_of K.hash_of board.now.shared.key.value) decision.now) seat.new.me }
 {
     decide_as::<Brand, K>(board, seat, bay, value, decision);
 }
@@ -165,4 +201,129 @@ pub fn reload<K: KeyHash + Drop>(board: &Board<K>, seat: &mut Seat)
         (start_of K.hash_of board.now.shared.key.value) seat.old.me.0.past }
 {
     reload_as::<Brand, K>(board, seat);
+}
+
+/// Adds one to the word of a number, whose shelf is held.
+pub fn raise<K: KeyHash + Drop>(board: &Board<K>, seat: &mut Seat, number: usize, word: usize)
+    requires seat { IsSeatOf board.now.shared.table_id board.now.shared.key.value seat.old }
+    requires word { word ≡ word_of board.now.shared.key.value.settings.shelves number }
+    requires may { MayAdd (start_of K.hash_of board.now.shared.key.value) seat.old.me.0 number }
+    ensures seat { SameSeat seat.old seat.new }
+    ensures view { seat.new.me ≡ loaded seat.old.me (word ∷ seat.old.me.0.surplus) }
+{
+    board.shared.fetch_add::<Raise>(seat, word, 1);
+}
+
+/// Adds one to the word of a number where a key of it comes, and answers how many were added.
+pub fn raise_if<K: KeyHash + Drop>(
+    board: &Board<K>,
+    seat: &mut Seat,
+    number: usize,
+    word: usize,
+    comes: bool,
+) -> usize
+    requires seat { IsSeatOf board.now.shared.table_id board.now.shared.key.value seat.old }
+    requires word { word ≡ word_of board.now.shared.key.value.settings.shelves number }
+    requires may { MayAdd (start_of K.hash_of board.now.shared.key.value) seat.old.me.0 number }
+    ensures seat { SameSeat seat.old seat.new }
+    ensures view { seat.new.me ≡ loaded seat.old.me (replicate result word) }
+    ensures one { (comes ≡ true → result ≡ 1) × (result ≤ 1) }
+{
+    if comes {
+        raise(board, seat, number, word);
+        return 1;
+    }
+    0
+}
+
+/// Adds one to the word of a key where the key comes. Answers the word, and how many were added.
+pub(crate) fn raise_for<K: KeyHash + Drop>(
+    board: &Board<K>,
+    seat: &mut Seat,
+    shelves: usize,
+    hash: u64,
+    comes: bool,
+) -> (usize, usize)
+    requires seat { IsSeatOf board.now.shared.table_id board.now.shared.key.value seat.old }
+    requires shelves { shelves ≡ board.now.shared.key.value.settings.shelves }
+    requires may { MayAdd (start_of K.hash_of board.now.shared.key.value) seat.old.me.0
+        (hash % 4096) }
+    ensures seat { SameSeat seat.old seat.new }
+    ensures word { result.0 ≡ word_of shelves (hash % 4096) }
+    ensures inside { result.0 < board.now.shared.table_id.words }
+    ensures view { seat.new.me ≡ loaded seat.old.me (replicate result.1 result.0) }
+    ensures one { (comes ≡ true → result.1 ≡ 1) × (result.1 ≤ 1) }
+{
+    let number = (hash % NUMBERS as u64) as usize;
+    let word = word_at(board, shelves, number);
+    (word, raise_if(board, seat, number, word, comes))
+}
+
+/// Takes one from the word that is named first as one that shows too many.
+pub fn lower<K: KeyHash + Drop>(board: &Board<K>, seat: &mut Seat, word: usize)
+    requires seat { IsSeatOf board.now.shared.table_id board.now.shared.key.value seat.old }
+    requires word { word < board.now.shared.table_id.words }
+    requires named { (more : List ℕ) × (seat.old.me.0.surplus ≡ word ∷ more) }
+    ensures seat { SameSeat seat.old seat.new }
+    ensures view { seat.new.me ≡ loaded seat.old.me (tail seat.old.me.0.surplus) }
+{
+    board.shared.fetch_sub::<Lower>(seat, word, 1);
+}
+
+/// Takes so many from the word that is named first as often.
+pub fn lower_all<K: KeyHash + Drop>(board: &Board<K>, seat: &mut Seat, word: usize, count: usize)
+    requires seat { IsSeatOf board.now.shared.table_id board.now.shared.key.value seat.old }
+    requires word { word < board.now.shared.table_id.words }
+    requires named { (more : List ℕ) × (seat.old.me.0.surplus ≡ replicate count word ++ more) }
+    ensures seat { SameSeat seat.old seat.new }
+    ensures view { (more : List ℕ) → seat.old.me.0.surplus ≡ replicate count word ++ more
+        → seat.new.me ≡ loaded seat.old.me more }
+{
+    let mut left = count;
+    while left > 0 {
+        lower(board, seat, word);
+        left -= 1;
+    }
+}
+
+fn seek_as<S: Seeks, K: KeyHash + Drop>(
+    board: &Board<K>,
+    seat: &mut Seat,
+    word: usize,
+    _key: &[u8],
+    _now: Moment,
+) -> u64
+    requires began { S.start ≡ start_of K.hash_of board.now.shared.key.value }
+    requires seat { IsAlive board.now.shared.table_id board.now.shared.key.value seat.old }
+    requires word { word ≡ word_of S.start.shelves (number_of S.start.hash_of S.key) }
+    ensures seat { SameSeat seat.old seat.new }
+    ensures gone { result ≡ 0 → (seat.new.me
+        ≡ called seat.old.me (Stepped (Step.Read S.key) S.moment Told.Miss))
+        × Agrees S.start seat.new.me.0.past }
+    ensures stays { result ≢ 0 → seat.new.me ≡ seat.old.me }
+    ensures shows { Shows S.start seat.old.me.0 (number_of S.start.hash_of S.key) result }
+{
+    board.shared.load::<Seek<S>>(seat, word)
+}
+
+/// Loads the word of a key's number. Where it is 0, it is decided that the key isn't there.
+pub fn seek<K: KeyHash + Drop>(
+    board: &Board<K>,
+    seat: &mut Seat,
+    word: usize,
+    key: &[u8],
+    now: Moment,
+) -> u64
+    requires seat { IsAlive board.now.shared.table_id board.now.shared.key.value seat.old }
+    requires word { word ≡ word_of board.now.shared.key.value.settings.shelves
+        (number_of (K.hash_of board.now.shared.key.value.hasher) key.now) }
+    ensures seat { SameSeat seat.old seat.new }
+    ensures gone { result ≡ 0 → (seat.new.me
+        ≡ called seat.old.me (Stepped (Step.Read key.now) now Told.Miss))
+        × Agrees (start_of K.hash_of board.now.shared.key.value) seat.new.me.0.past }
+    ensures stays { result ≢ 0 → seat.new.me ≡ seat.old.me }
+    ensures shows { Shows (start_of K.hash_of board.now.shared.key.value) seat.old.me.0
+        (number_of (K.hash_of board.now.shared.key.value.hasher) key.now) result }
+{
+    seek_as::<Brand, K>(board, seat, word, key, now)
 }

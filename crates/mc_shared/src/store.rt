@@ -1,17 +1,21 @@
 //! The store for many threads.
-ghost use Rattle.std.specs.Prelude.{◌≡◌, ◌+◌, ◌<◌, ◌≤◌, [], ◌++◌, map, replicate, OnOk, Some, IfOk};
-ghost use Rattle.mc_command.specs.Plain.{opening};
+ghost use Rattle.std.specs.Prelude.{◌≡◌, ◌*◌, ◌/◌, ◌<◌, ◌≤◌, ℕ, List, [], ◌++◌};
+ghost use Rattle.std.specs.Prelude.{map, replicate, OnOk, Some, IfOk};
+ghost use Rattle.mc_command.specs.Plain.{Plain, opening};
 ghost use Rattle.mc_shelf.specs.States.{ShelfState};
-ghost use Rattle.mc_shared.specs.History.{start_of, shelf_in};
+ghost use Rattle.mc_shared.specs.Counted.{AreAllOf};
+ghost use Rattle.mc_shared.specs.History.{Beginning, start_of, shelf_in};
 ghost use Rattle.mc_shared.specs.Past.{start, spent, made, both};
 ghost use Rattle.mc_shared.specs.Steps.{next_name, Agrees};
 ghost use Rattle.mc_shared.specs.Store.{shelf_slot, desk_slot, slot_alone, spaced};
-ghost use Rattle.mc_shared.specs.Bays.{place};
+ghost use Rattle.mc_shared.specs.Presence.{words_with};
+ghost use Rattle.mc_shared.specs.Rule.{AreFirst};
 
 use crate::bay::Bay;
 use crate::boxed::Boxed;
+use crate::count::count_shelves;
 use crate::rule::{Board, Seat};
-use crate::steps::{APART, fork, meet, reload};
+use crate::steps::{APART, NUMBERS, fork, meet, reload, word_in};
 use atomic_table::Table;
 use mc_hop::KeyHash;
 use mc_shelf::{Desk, Settings, Shelf, Store, StoreParts};
@@ -28,9 +32,9 @@ pub struct Shared<K: KeyHash + Drop> {
 }
 
 impl<K: KeyHash + Drop> Model for Shared<K> {
-    ghost use Rattle.std.specs.Prelude.{◌≡◌, ◌+◌, ◌<◌};
+    ghost use Rattle.std.specs.Prelude.{◌≡◌, ◌<◌};
     ghost use Rattle.mc_shelf.specs.Stores.{IsSetUp};
-    ghost use Rattle.mc_shared.specs.Bays.{place};
+    ghost use Rattle.mc_shared.specs.Seats.{IsTableOf};
     ghost use Rattle.mc_shared.specs.Shown.{SharedState, coded_shared};
 
     ghost Value = { SharedState K };
@@ -43,7 +47,7 @@ impl<K: KeyHash + Drop> Model for Shared<K> {
           s.board.shared.key.value;
     } };
 
-    ghost invariant = { λ s. (s.board.shared.table_id.words ≡ place (s.settings.shelves + 1))
+    ghost invariant = { λ s. IsTableOf s.board.shared.table_id s.board.shared.key.value
         × (s.board.shared.key.value.settings ≡ s.settings)
         × (s.board.shared.key.value.hasher ≡ s.hasher) × IsSetUp s.settings
         s.board.shared.key.value.plain × (0 < s.settings.shelves) };
@@ -69,7 +73,7 @@ impl Model for Caller {
     ghost view = { λ c. record { table = c.seat.table_id; past = c.seat.me.0.past } };
 
     ghost invariant = { λ c. (c.seat.me.1 ≡ []) × (c.seat.me.0.bays ≡ [])
-        × Lives c.seat.me.0.past };
+        × Lives c.seat.me.0.past × (c.seat.me.0.surplus ≡ []) };
 }
 
 impl<K: KeyHash + Drop> Shared<K> {
@@ -87,7 +91,7 @@ impl<K: KeyHash + Drop> Shared<K> {
             shelves,
             desk,
         } = store.into_parts();
-        let words = free_words(alloc, settings.shelves)?;
+        let words = first_words(alloc, shelves.as_slice(), settings.shelves as usize)?;
         let slots = slots_of(alloc, settings.shelves, shelves, desk)?;
         match Table::new(alloc, words.as_slice(), slots, &began) {
             Ok((board, mut seat)) => {
@@ -179,11 +183,28 @@ impl<K: KeyHash + Drop> Shared<K> {
     }
 }
 
-/// The words of so many free bays, and of one more.
-fn free_words(alloc: Global, shelves: u32) -> Result<Vec<u64>, AllocError>
-    ensures { IfOk result (λ v. v.items ≡ replicate (place (shelves + 1)) 0) }
+/// Makes the words of a table of so many shelves, each 0.
+fn no_words(alloc: Global, count: usize) -> Result<Vec<u64>, AllocError>
+    requires { 4096 / count * count ≡ 4096 }
+    ensures { IfOk result (λ v. v.items ≡ replicate (words_with count) 0) }
 {
-    vec![in alloc; 0; (shelves as usize + 1) * APART]
+    vec![in alloc; 0; (count + 1) * APART + count * (NUMBERS / count + APART)]
+}
+
+/// Makes the words of a table that opens: each bay is free, and a number's word tells how many keys of
+/// the shelves have it.
+fn first_words(alloc: Global, shelves: &[Shelf], count: usize) -> Result<Vec<u64>, AllocError>
+    requires divides { 4096 / count * count ≡ 4096 }
+    requires parts { (hash_of : List ℕ → ℕ) × (state : Plain) × AreAllOf hash_of state shelves.now }
+    ensures { IfOk result (λ v. (start : Beginning) → start.shelves ≡ count →
+        AreAllOf start.hash_of start.plain shelves.now → AreFirst start v.items) }
+{
+    let counts = count_shelves(shelves);
+    let mut words = no_words(alloc, count)?;
+    for number in 0..NUMBERS {
+        words[word_in(count, number)] = counts[number];
+    }
+    Ok(words)
 }
 
 /// The shelves and behind them the desk, each in its slot.

@@ -1,4 +1,4 @@
-use Rattle.std.proofs.Common.{rules, ℕ, ◌<◌, eqb, sym, ap, ◌∙◌, subst, Some, ◌∷◌}
+use Rattle.std.proofs.Common.{rules, ℕ, eqb, sym, ap, ◌∙◌, subst, Some, ◌∷◌}
 use Rattle.atomic_table.specs.Table.{rest, Allows, step}
 use mathlib.Core.Option.{none}
 use prog.Atomic.{either}
@@ -6,18 +6,19 @@ use Rattle.mc_shared.specs.History.{Beginning, start_of}
 use Rattle.mc_shared.specs.Past.{Lives}
 use Rattle.mc_shared.specs.Rule.{Kept}
 use Rattle.mc_shared.specs.Bays.{content_of}
-use Rattle.mc_shared.specs.Steps.{Mine, Decides, decided}
+use Rattle.mc_shared.specs.Steps.{Mine, Decides, Counts, decided, decided_by}
 use Rattle.mc_shared.proofs.StepsKept.{decides_bay}
 use Rattle.mc_shared.proofs.steps.decide_as.Goals as goal
 
 pub compare_exchange-requires : goal.compare_exchange-requires
 compare_exchange-requires g c = let now = c.exchange.ensures.3 in let x = c.requires.may.held.0.0 in let began : Beginning = start_of g.K.KeyHash.hash_of c.args.board.now.shared.key.value in (
   search rules,
-  subst (λ (p : ℕ). p < c.args.board.now.shared.table_id.words) (sym c.place_of-place.ensures) c.requires.may.bay,
-  subst (λ (t : Beginning × ℕ). Allows (Kept t.0) c.args.board.now.shared.table_id.slots c.exchange.new.seat.id c.exchange.new.seat.me t.1 (λ n. either (eqb n 1) 0 n) (decided g.D.Says.start g.D.Says.what g.D.Says.still (step c.args.board.now.shared.table_id.slots t.1 1 0 none) c.exchange.new.seat.me))
-      (λ i. (c.requires.began i, sym c.place_of-place.ensures i))
-      (decides_bay g.D.Says.start _ _ c.args.bay x c.args.value g.D.Says.what g.D.Says.still _ (ap (λ m. m.0.bays) now ∙ (c.requires.may.held.0.1 ∙ ap (λ m. (c.args.bay, x) ∷ rest m.0.bays) (sym now)))
-      (ap (λ m. m.1) now ∙ (λ i. (c.place_of-place.ensures i, Some c.args.value) ∷ rest (sym now i).1))
+  c.place_of-place.ensures.inside,
+  subst (λ (t : Beginning × ℕ). Allows (Kept t.0) c.args.board.now.shared.table_id.slots c.exchange.new.seat.id c.exchange.new.seat.me t.1 (λ n. either (eqb n 1) 0 n) (decided g.D.Says.start g.D.Says.what g.D.Says.still g.D.Says.surplus (step c.args.board.now.shared.table_id.slots t.1 1 0 none) c.exchange.new.seat.me))
+      (λ i. (c.requires.began i, sym c.place_of-place.ensures.place i))
+      (decides_bay g.D.Says.start _ _ c.args.bay x c.args.value g.D.Says.what g.D.Says.still g.D.Says.surplus _ (ap (λ m. m.0.bays) now ∙ (c.requires.may.held.0.1 ∙ ap (λ m. (c.args.bay, x) ∷ rest m.0.bays) (sym now)))
+      (ap (λ m. m.1) now ∙ (λ i. (c.place_of-place.ensures.place i, Some c.args.value) ∷ rest (sym now i).1))
       (subst (λ (m : Mine). Decides g.D.Says.start m.0.bays c.args.bay (content_of c.args.value) g.D.Says.what g.D.Says.still) (sym now) c.requires.may.right)
+      (subst (λ (m : Mine). Counts g.D.Says.start m.0 g.D.Says.what (decided_by m g.D.Says.what g.D.Says.still g.D.Says.surplus).0) (sym now) c.requires.may.counts)
       (subst (λ (m : Mine). Lives m.0.past) (sym now) c.requires.may.alive.lives)),
 )

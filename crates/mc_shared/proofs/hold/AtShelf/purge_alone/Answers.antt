@@ -1,11 +1,12 @@
-use Rattle.std.proofs.Common.{rules, ◌+◌, [], sym, ap, ◌∙◌, subst}
+use Rattle.std.proofs.Common.{rules, [], refl, sym, subst}
 use Rattle.mc_shelf.specs.States.{ShelfState}
 use Rattle.mc_shelf.specs.Parts.{IsShelfOf}
-use Rattle.mc_shared.specs.Bays.{OfShelf, place}
+use Rattle.mc_shared.specs.Bays.{OfShelf}
 use Rattle.mc_shared.specs.History.{start_of, Purged}
 use Rattle.mc_shared.specs.Seats.{MayDecide}
 use Rattle.mc_shared.proofs.Decisions.{changes_nothing}
 use Rattle.mc_shared.proofs.Held.{at_shelf}
+use Rattle.mc_shared.proofs.NumberSteps.{counts_same}
 use Rattle.mc_shared.proofs.hold.AtShelf.purge_alone.Goals as goal
 
 pub decide-requires : goal.decide-requires
@@ -18,9 +19,16 @@ decide-requires g c =
     let what = Purged at c.args.now in
     let inv = c.shared.invariant in
     record {
-      may = subst (λ (s : ShelfState). MayDecide board.table_id board.key.value c.self.inside.seat at began (OfShelf s.content) what []) (sym c.of.ensures)
-          (at_shelf hash_of board.table_id board.key.value c.self.inside.shared.now c.self.inside.seat at shelf.content (OfShelf shelf.content) what []
-          c.shared.view_is (inv.0 ∙ ap (λ s. place (s.shelves + 1)) (sym inv.1)) c.self.invariant
+      may = subst (λ (s : ShelfState). MayDecide board.table_id board.key.value c.self.inside.seat at began (OfShelf s.content) what [] []) (sym c.of.ensures)
+          (at_shelf hash_of board.table_id board.key.value c.self.inside.shared.now c.self.inside.seat at shelf.content (OfShelf shelf.content) what [] []
+          c.shared.view_is inv.0 c.self.invariant
           (changes_nothing began at shelf.content what
-          (λ m part. (tt, c.may_have_dead.ensures.part (search rules) began.hash_of began.shelves at m (subst (λ (s : ShelfState). IsShelfOf began.hash_of began.shelves m at s.content) (sym c.deref.ensures) part)))));
+          (λ m part. (
+            tt,
+            c.may_have_dead.ensures.part (search rules) began.hash_of began.shelves at m
+                (subst (λ (s : ShelfState). IsShelfOf began.hash_of began.shelves m at s.content) (sym c.deref.ensures) part),
+          )))
+          (counts_same began _ _ what refl refl
+          (λ m fits. c.may_have_dead.ensures.part (search rules) began.hash_of began.shelves at m
+          (subst (λ (s : ShelfState). IsShelfOf began.hash_of began.shelves m at s.content) (sym c.deref.ensures) fits.0.1))));
     }

@@ -1,13 +1,18 @@
-use Rattle.std.proofs.Common.{◌+◌, [], sym, ap, ◌∙◌, subst}
+use Rattle.std.proofs.Common.{[], refl, sym, ap, ◌∙◌, subst}
 use Rattle.mc_command.specs.Commands.{key_of}
 use Rattle.mc_shelf.specs.States.{ShelfState}
 use Rattle.mc_shelf.specs.Plans.{IsPlan, IsSettled}
-use Rattle.mc_shared.specs.Bays.{OfShelf, place}
+use Rattle.mc_command.specs.Plain.{Plain}
+use Rattle.mc_shelf.specs.Parts.{IsShelfOf}
+use Rattle.mc_shared.specs.Bays.{OfShelf}
+use Rattle.mc_shared.specs.Steps.{decided_by}
+use Rattle.mc_shared.specs.Store.{holds_one}
 use Rattle.mc_shared.specs.History.{start_of, Stepped}
 use Rattle.mc_shared.specs.Shown.{SharedState}
 use Rattle.mc_shared.specs.Seats.{MayDecide}
 use Rattle.mc_shared.specs.Holds.{HoldsShelf, IsAsked}
-use Rattle.mc_shared.proofs.Decisions.{settles}
+use Rattle.mc_shared.proofs.Decisions.{settles, goes_alone}
+use Rattle.mc_shared.proofs.NumberSteps.{counts_settled}
 use Rattle.mc_shared.proofs.Held.{at_shelf}
 use Rattle.mc_shared.proofs.hold.AtShelf.settle.Goals as goal
 
@@ -29,11 +34,15 @@ decide-requires g c =
     let plan = subst (λ (s : ShelfState). IsPlan c.args.plan s.content step ask.moment) (sym (here ∙ ap (λ h. h.shelf) c.self.view_is)) c.requires.plan.is_plan in
     let settled : IsSettled step ask.moment (began.hash_of (key_of step)) old reply new =
     subst (λ h. IsSettled step ask.moment h old reply new) (c.requires.plan.hashed ∙ asked.hashed) (c.settle-reply.ensures step ask.moment plan) in
+    let what = Stepped step ask.moment reply in
+    let held = holds_one c.self.inside.seat.me.0.past at (OfShelf old) in
+    let alone = λ (m : Plain) (part : IsShelfOf began.hash_of began.shelves m at old). c.steps_change_one_shelf.ensures.settled began.hash_of began.shelves at m step ask.moment reply old new asked.on_key own part settled in
     record {
-      may = subst (λ (s : ShelfState). MayDecide board.table_id board.key.value c.self.inside.seat at began (OfShelf s.content) (Stepped step ask.moment reply) []) (sym c.of.ensures)
-          (at_shelf hash_of board.table_id board.key.value c.self.inside.shared.now c.self.inside.seat at old (OfShelf new) (Stepped step ask.moment reply) []
-          c.shared.view_is (inv.0 ∙ ap (λ s. place (s.shelves + 1)) (sym inv.1))
+      may = subst (λ (s : ShelfState). MayDecide board.table_id board.key.value c.self.inside.seat at began (OfShelf s.content) what [] []) (sym c.of.ensures)
+          (at_shelf hash_of board.table_id board.key.value c.self.inside.shared.now c.self.inside.seat at old (OfShelf new) what [] []
+          c.shared.view_is inv.0
           (subst (λ (s : ShelfState). HoldsShelf hash_of c.self.inside.shared.now c.self.inside.seat at s.content) (sym here) c.self.invariant)
-          (settles began at old new step ask.moment reply
-          (λ m part. c.steps_change_one_shelf.ensures.settled began.hash_of began.shelves at m step ask.moment reply old new asked.on_key own part settled)));
+          (settles began at old new step ask.moment reply alone)
+          (counts_settled began at inv.0.divides (key_of step) own old new settled.others.items settled.stands held.0 (decided_by held what [] []).0 what refl refl
+          (λ m fits. let desk = (alone m fits.0.1).some_desk in (fits.0.1, (desk.0, goes_alone began at old new step ask.moment reply alone m fits.0.1 desk.0 desk.1)))));
     }

@@ -1,0 +1,20 @@
+use Rattle.std.proofs.Common.{arith, sym, ◌+◌, ◌%◌, ◌^◌, subst, ℕ}
+use Rattle.atomic_table.specs.Table.{Allows, step}
+use mathlib.Core.Option.{none}
+use Rattle.mc_shared.specs.History.{start_of}
+use Rattle.mc_shared.specs.Rule.{Kept}
+use Rattle.mc_shared.specs.Steps.{added}
+use Rattle.mc_shared.proofs.StepsKept.{adds_one}
+use Rattle.mc_shared.proofs.WordLemmas.{word_inside}
+use Rattle.mc_shared.proofs.steps.raise.Goals as goal
+
+pub fetch_add-requires : goal.fetch_add-requires
+fetch_add-requires g c =
+    let store = c.args.board.now.shared.key.value in
+    let began = start_of g.K.KeyHash.hash_of store in
+    let fit = c.requires.seat.fit in (
+      c.requires.seat.own,
+      (let wide = fit.wide in let is = c.requires.word in let low = word_inside store.settings.shelves c.args.number fit.divides c.requires.may.below in omega (arith, wide, is, low)),
+      subst (λ (x : ℕ). Allows (Kept began) c.args.board.now.shared.table_id.slots c.args.seat.now.id c.args.seat.now.me x (λ k. (k + 1) % 2 ^ 64) (added (step c.args.board.now.shared.table_id.slots x 1 0 none) c.args.seat.now.me))
+          (sym c.requires.word) (adds_one began _ _ c.args.number c.args.seat.now.me c.requires.may),
+    )

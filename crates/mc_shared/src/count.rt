@@ -1,0 +1,90 @@
+//! How many keys of each number shelves hold, and the presence words of many numbers at once.
+ghost use Rattle.std.specs.Prelude.{◌≡◌, ◌-◌, ◌<◌, ◌++◌, ℕ, List, [], length, replicate};
+ghost use Rattle.std.specs.Prelude.{slice_index};
+ghost use Rattle.mc_command.specs.Plain.{Plain};
+ghost use Rattle.mc_shared.specs.Counted.{AreNone, AreCountsOf, AreAllOf, AreCountsOfAll};
+ghost use Rattle.mc_shared.specs.Presence.{word_of};
+ghost use Rattle.mc_shared.specs.Seats.{SameSeat, IsSeatOf};
+ghost use Rattle.mc_shared.specs.Spread.{spread};
+ghost use Rattle.mc_shared.specs.Steps.{loaded};
+
+use crate::rule::{Board, Seat};
+use crate::steps::{NUMBERS, lower_all, word_at};
+use mc_hop::KeyHash;
+use mc_shelf::Shelf;
+
+/// Makes a place for each number, with 0 there.
+fn no_counts() -> [u64; NUMBERS]
+    ensures { AreNone result }
+{
+    [0; NUMBERS]
+}
+
+/// Counts a shelf's keys of each number. The cost is that of one pass over its items.
+pub(crate) fn count_shelf(shelf: &Shelf) -> [u64; NUMBERS]
+    ensures { AreCountsOf shelf.now.content result }
+{
+    let mut counts = no_counts();
+    shelf.count_numbers(&mut counts);
+    counts
+}
+
+/// Counts the keys of each number of all shelves that are the parts of a state. The cost is that of
+/// one pass over all items.
+pub(crate) fn count_shelves(shelves: &[Shelf]) -> [u64; NUMBERS]
+    requires { (hash_of : List ℕ → ℕ) × (state : Plain) × AreAllOf hash_of state shelves.now }
+    ensures { AreCountsOfAll shelves.now result }
+{
+    let mut counts = no_counts();
+    for shelf in shelves {
+        shelf.count_numbers(&mut counts);
+    }
+    counts
+}
+
+/// Lowers the word of a number so often as it is named first.
+fn lower_number<K: KeyHash + Drop>(
+    board: &Board<K>,
+    seat: &mut Seat,
+    shelves: usize,
+    number: usize,
+    count: u64,
+)
+    requires seat { IsSeatOf board.now.shared.table_id board.now.shared.key.value seat.old }
+    requires shelves { shelves ≡ board.now.shared.key.value.settings.shelves }
+    requires number { number < 4096 }
+    requires named { (more : List ℕ)
+        × (seat.old.me.0.surplus ≡ replicate count (word_of shelves number) ++ more) }
+    ensures seat { SameSeat seat.old seat.new }
+    ensures view { (more : List ℕ)
+        → seat.old.me.0.surplus ≡ replicate count (word_of shelves number) ++ more
+        → seat.new.me ≡ loaded seat.old.me more }
+{
+    if count > 0 {
+        let word = word_at(board, shelves, number);
+        lower_all(board, seat, word, count as usize);
+    }
+}
+
+/// Lowers the words of all numbers whose keys went, each by as many as did. The cost is a look at
+/// each number, and a step in the table for each key that went.
+pub(crate) fn lower_words<K: KeyHash + Drop>(
+    board: &Board<K>,
+    seat: &mut Seat,
+    shelves: usize,
+    before: &[u64],
+    after: &[u64],
+)
+    requires seat { IsSeatOf board.now.shared.table_id board.now.shared.key.value seat.old }
+    requires shelves { shelves ≡ board.now.shared.key.value.settings.shelves }
+    requires many { (length before.now ≡ 4096) × (length after.now ≡ 4096) }
+    requires named { seat.old.me.0.surplus ≡ spread shelves
+        (λ n. slice_index before.now n - slice_index after.now n) 0 4096 }
+    ensures seat { SameSeat seat.old seat.new }
+    ensures view { seat.new.me ≡ loaded seat.old.me [] }
+{
+    for number in 0..NUMBERS {
+        let gone = before[number].saturating_sub(after[number]);
+        lower_number(board, seat, shelves, number, gone);
+    }
+}

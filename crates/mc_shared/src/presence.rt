@@ -1,0 +1,48 @@
+//! A miss is answered by one load, and no shelf is held.
+ghost use Rattle.std.specs.Prelude.{◌≡◌, true, false};
+ghost use Rattle.mc_command.specs.declared.step.KeyStep.{KeyStep as Step};
+ghost use Rattle.mc_command.specs.declared.reply.Reply.{Reply as Told};
+ghost use Rattle.mc_shared.specs.History.{start_of};
+ghost use Rattle.mc_shared.specs.Store.{HasCalled, IsShown};
+
+use crate::steps::{NUMBERS, seek, word_at};
+use crate::store::{Caller, Shared};
+use mc_hop::KeyHash;
+use mc_time::Moment;
+
+impl<K: KeyHash + Drop> Shared<K> {
+    /// Answers whether no key stands that has the key's number, its hash modulo 4096. If so the key
+    /// isn't there, and a read of it is decided, told as a miss; else nothing is decided. It waits for
+    /// nobody, holds nothing and takes no memory. The cost is the key's hash and one load.
+    pub fn absent(&self, caller: &mut Caller, key: &[u8], now: Moment) -> bool
+        requires own { caller.old.table ≡ self.now.table }
+        ensures same { caller.new.table ≡ caller.old.table }
+        ensures miss { result ≡ true → HasCalled (start_of K.hash_of self.now.began)
+            caller.old.past (Step.Read key.now) now Told.Miss caller.new.past }
+        ensures stays { result ≡ false → caller.new.past ≡ caller.old.past }
+        ensures shows { IsShown (start_of K.hash_of self.now.began) caller.old.past key.now result }
+    {
+        self.absent_hashed(caller, key, self.hasher.hash(key), now)
+    }
+
+    /// Does what `absent` does, with the key's hash.
+    pub(crate) fn absent_hashed(
+        &self,
+        caller: &mut Caller,
+        key: &[u8],
+        hash: u64,
+        now: Moment,
+    ) -> bool
+        requires own { caller.old.table ≡ self.now.table }
+        requires hash { hash ≡ K.hash_of self.now.began.hasher key.now }
+        ensures same { caller.new.table ≡ caller.old.table }
+        ensures miss { result ≡ true → HasCalled (start_of K.hash_of self.now.began)
+            caller.old.past (Step.Read key.now) now Told.Miss caller.new.past }
+        ensures stays { result ≡ false → caller.new.past ≡ caller.old.past }
+        ensures shows { IsShown (start_of K.hash_of self.now.began) caller.old.past key.now result }
+    {
+        let number = (hash % NUMBERS as u64) as usize;
+        let word = word_at(&self.board, self.settings.shelves as usize, number);
+        seek(&self.board, &mut caller.seat, word, key, now) == 0
+    }
+}
