@@ -10,6 +10,10 @@ use std::rc::Rc;
 /// How many bytes are gathered at most before they are sent.
 const GATHERED: usize = 65536;
 
+/// From how many bytes on they aren't gathered, but sent at once from where they lie, with what was gathered before. To
+/// copy fewer costs less than a call of the system for each answer of a batch.
+const SENT_AT_ONCE: usize = 32768;
+
 /// How much memory is kept for them while nothing is gathered.
 const KEPT: usize = 16384;
 
@@ -46,7 +50,7 @@ impl Readiness {
 }
 
 /// A connection of which no call waits. Its output is gathered, and sent before the next read or
-/// when there is too much of it.
+/// when there is much of it.
 ///
 /// A call says that it would block only after the system itself said so, by an error or by a count
 /// that was short, and then lowers the flag: from there on the system reports the next change, and the
@@ -144,12 +148,12 @@ impl Channel {
         }
     }
 
-    /// Takes a front of the bytes. They are gathered where there is room, and sent with what was
-    /// gathered before where there is none.
+    /// Takes a front of the bytes. Fewer than 32768 are gathered where there is room; else they are sent,
+    /// with what was gathered before.
     pub fn write(&mut self, bytes: &[u8]) -> io::Result<usize>
         ensures { WritesAtMost result bytes.now }
     {
-        if bytes.len() <= GATHERED
+        if bytes.len() < SENT_AT_ONCE
             && self.gathered.len() <= GATHERED - bytes.len()
             && self.gathered.extend_from_slice(bytes).is_ok()
         {

@@ -19,7 +19,7 @@ use mc_time::Clock;
 use mio::{Events, Poll, Waker};
 use std::alloc::{AllocError, AllocGlobal, Global};
 use std::fs::Files;
-use std::io::{self, Stderr};
+use std::io::{self, Stderr, Write};
 use std::net::{Net, SocketAddr, TcpListener};
 use std::sync::{Arc, Wait};
 use std::thread::{Builder, Threads};
@@ -48,6 +48,9 @@ struct Opening {
     posts: Vec<Post>,
     notice: Notice,
 }
+
+/// How large a piece of memory is for which the system isn't asked alone any more.
+const LARGE: usize = 5_242_880;
 
 /// What it says of itself when it serves.
 #[derive(Clone, Copy, Drop)]
@@ -110,6 +113,7 @@ where
     requires { 1 ≤ options.pages × options.pages ≤ 65536 }
 {
     let alloc = rt.alloc();
+    keep_memory(alloc, stderr);
     let address = SocketAddr::from((options.address, options.port));
     let listener = bound(rt, address)?;
     let (shared, caller) = Shared::new(alloc, settings_of(options.pages), Fnv)?;
@@ -129,6 +133,17 @@ where
     };
     let asker = Asker::new(&shared, caller);
     serve_by(rt, opening, &arrivals, asker, clock)
+}
+
+/// Lets the C library keep memory that is given back, up to about twice as many bytes as `LARGE` for each worker, so that a
+/// large block's isn't asked of the system, page by page, for each request. It goes by the largest piece that the
+/// system gave alone and that was given back: so one is made and given back, of which no page is touched.
+fn keep_memory(alloc: Global, stderr: Stderr) {
+    let mut stderr = stderr;
+    if let Ok(large) = Vec::<u8>::with_capacity(alloc, LARGE) {
+        // it has no bytes, so nothing is written; but what nobody is shown wouldn't be made
+        let _ = stderr.write(large.as_slice());
+    }
 }
 
 /// Binds the listener, whose accepts wait.
