@@ -10,7 +10,7 @@ use Rattle.mc_time.specs.Death.{is_dead, is_expired, is_flushed, moment_named}
 use Rattle.mc_command.specs.declared.reply.Reply.{Reply}
 use Rattle.mc_command.specs.declared.reply.Reply.TheVariants.{TooLarge, NoChunk}
 use Rattle.mc_command.specs.declared.step.KeyStep.{KeyStep}
-use Rattle.mc_command.specs.declared.step.KeyStep.TheVariants.{Store, Cas, Read, ReadTouch, Touch, Delete, Count, Flush}
+use Rattle.mc_command.specs.declared.step.KeyStep.TheVariants.{Flush}
 use Rattle.mc_slab.specs.Classes.{class_holding}
 use Rattle.mc_command.specs.Commands.{key_of}
 use Rattle.mc_command.specs.declared.row.Row.{Row}
@@ -84,14 +84,8 @@ changed_keeps (Writes draft) step item old now other ne =
 
 -- a step on a key
 pub on_key : (old : Plain) (step : KeyStep) (now : ℕ) → IsOnKey step → plain old step now ≡ stepped old step now
-on_key old (Store verb key flags exptime block) now on = refl
-on_key old (Cas key flags exptime block unique) now on = refl
-on_key old (Read key) now on = refl
-on_key old (ReadTouch key exptime) now on = refl
-on_key old (Touch key exptime) now on = refl
-on_key old (Delete key) now on = refl
-on_key old (Count key up by) now on = refl
 on_key old (Flush delay) now on = absurd on
+on_key old step now on = refl
 
 keeps_from : (outcome : Outcome) (mid old new : Plain) (reply : Reply) (other : List ℕ)
     → Keeps mid other outcome → get mid.items other ≡ get old.items other → outcome ≡ Answered reply new

@@ -3,10 +3,8 @@ pub mod WordLemmas
 pub mod ItemLemmas
 pub mod PlainLemmas
 pub mod LawLemmas
-pub mod AccountLemmas
 pub mod CountLemmas
 pub mod RoomLemmas
-pub mod RecountLemmas
 pub mod WriteLemmas
 pub mod PageLemmas
 pub mod RefusalLemmas

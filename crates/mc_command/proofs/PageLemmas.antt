@@ -8,7 +8,7 @@ use Rattle.mc_slab.specs.Classes.{class_holding}
 use Rattle.mc_command.specs.declared.reply.Reply.{Reply}
 use Rattle.mc_command.specs.declared.reply.Reply.TheVariants.{TooLarge, NoChunk}
 use Rattle.mc_command.specs.declared.step.KeyStep.{KeyStep}
-use Rattle.mc_command.specs.declared.step.KeyStep.TheVariants.{Store, Cas, Read, ReadTouch, Touch, Delete, Count, Flush}
+use Rattle.mc_command.specs.declared.step.KeyStep.TheVariants.{Flush}
 use Rattle.mc_command.specs.declared.row.Row.{Row}
 use Rattle.mc_command.specs.declared.row.Row.TheVariants.{Refuses, Reads, Touches, Deletes, Writes}
 use Rattle.mc_command.specs.Commands.{key_of}
@@ -46,7 +46,7 @@ set-sum xs i =
     (cases_lt i (length xs))
 
 -- a page goes to a class only where one is left
-page-left : (count chunks pages limit : ℕ) → ltb count chunks || ltb pages limit ≡ true → eqb count chunks ≡ true → pages < limit
+pub page-left : (count chunks pages limit : ℕ) → ltb count chunks || ltb pages limit ≡ true → eqb count chunks ≡ true → pages < limit
 page-left count chunks pages limit room full =
     ⊎_elim
     (λ free. let less : count < chunks = ltb-true _ _ free in let same : count ≡ chunks = eqb-true _ _ full in absurd (omega arith))
@@ -130,14 +130,8 @@ flushed_grows true now later old p l q m = stays old now p l
 flushed_grows false now later old p l q m = stays old later q m
 
 plain_grows : (old : Plain) (step : KeyStep) (now : ℕ) → GrowsTo old (plain old step now)
-plain_grows old (Store verb key flags exptime block) now = stepped_grows old (Store verb key flags exptime block) now
-plain_grows old (Cas key flags exptime block unique) now = stepped_grows old (Cas key flags exptime block unique) now
-plain_grows old (Read key) now = stepped_grows old (Read key) now
-plain_grows old (ReadTouch key exptime) now = stepped_grows old (ReadTouch key exptime) now
-plain_grows old (Touch key exptime) now = stepped_grows old (Touch key exptime) now
-plain_grows old (Delete key) now = stepped_grows old (Delete key) now
-plain_grows old (Count key up by) now = stepped_grows old (Count key up by) now
 plain_grows old (Flush delay) now = flushed_grows (eqb delay 0) _ _ old refl refl refl refl
+plain_grows old step now = stepped_grows old step now
 
 pub pages_grow : (old new : Plain) (step : KeyStep) (now : ℕ) (reply : Reply) (class : ℕ) → plain old step now ≡ Answered reply new → pages_of old class ≤ pages_of new class
 pages_grow old new step now reply class is = (subst (GrowsTo old) is (plain_grows old step now)).grows class

@@ -7,7 +7,7 @@ use Rattle.mc_slab.specs.Classes.{class_holding}
 use Rattle.mc_command.specs.declared.reply.Reply.{Reply}
 use Rattle.mc_command.specs.declared.reply.Reply.TheVariants.{Stored, NotStored, Exists, NotFound, Miss, Hit, Touched, Deleted, Number, NotNumeric, TooLarge, NoChunk, Flushed}
 use Rattle.mc_command.specs.declared.step.KeyStep.{KeyStep}
-use Rattle.mc_command.specs.declared.step.KeyStep.TheVariants.{Store, Cas, Read, ReadTouch, Touch, Delete, Count, Flush}
+use Rattle.mc_command.specs.declared.step.KeyStep.TheVariants.{Flush}
 use Rattle.mc_command.specs.declared.row.Row.{Row}
 use Rattle.mc_command.specs.declared.row.Row.TheVariants.{Refuses, Reads, Touches, Deletes, Writes}
 use Rattle.mc_command.specs.declared.row.Refusal.{Refusal}
@@ -146,11 +146,5 @@ on_key-left old new step now is =
     changed-left (row_of step now item) step item (without_dead item (key_of step) old) new now is
 
 pub refused-left : (old new : Plain) (step : KeyStep) (now : ℕ) → plain old step now ≡ Answered NoChunk new → new ≡ found_by step now old
-refused-left old new (Store verb key flags exptime block) now is = on_key-left old new (Store verb key flags exptime block) now is
-refused-left old new (Cas key flags exptime block unique) now is = on_key-left old new (Cas key flags exptime block unique) now is
-refused-left old new (Read key) now is = on_key-left old new (Read key) now is
-refused-left old new (ReadTouch key exptime) now is = on_key-left old new (ReadTouch key exptime) now is
-refused-left old new (Touch key exptime) now is = on_key-left old new (Touch key exptime) now is
-refused-left old new (Delete key) now is = on_key-left old new (Delete key) now is
-refused-left old new (Count key up by) now is = on_key-left old new (Count key up by) now is
 refused-left old new (Flush delay) now is = absurd (not_refused (plain old (Flush delay) now) new refl is)
+refused-left old new step now is = on_key-left old new step now is

@@ -1,21 +1,21 @@
--- The accounts of the items, and the room that they leave.
-use Rattle.std.proofs.Common.{◌≡◌, ℕ, ◌+◌, ◌-◌, ◌<◌, ◌≤◌, ◌||◌, Bool, true, false, cond, leb, ltb, eqb, List, length, get_or, set, sum, Option, Some, None, refl, sym, ap, subst, ◌∙◌, ⊎_elim, arith}
-use Rattle.std.specs.Prelude.{IfSome}
+-- The class that holds a charge, the items of a class, and the state that the plain store shows.
+use Rattle.std.proofs.Common.{◌≡◌, ℕ, ◌+◌, ◌-◌, ◌<◌, ◌≤◌, ◌||◌, Bool, true, false, not, cond, leb, ltb, eqb, get_or, set, sum, List, [], ◌∷◌, length, Option, Some, None, refl, sym, ap, subst, ◌∙◌, ⊎_elim, arith}
 use Rattle.std.specs.List.{list_all, position_or_len}
-use Rattle.std.specs.FinMap.{get, insert, remove, retain_keys}
-use Rattle.std.proofs.lemmas.Bool.{cases_eq, cases_lt, eq-eqb, ne_eqb, leb-true, le-leb, lt-leb, lt-ltb, le-ltb}
+use Rattle.std.specs.Option.{option_eq}
+use Rattle.std.specs.FinMap.{get, insert, remove}
+use Rattle.std.specs.declared.vec.Vec.{Vec}
+use Rattle.std.specs.declared.alloc.Global.{Global}
+use Rattle.std.proofs.lemmas.Bool.{cases_lt, ne_eqb, leb-true, le-leb, lt-leb}
 use Rattle.std.proofs.lemmas.List.Folds.{list_all_at}
-use Rattle.std.proofs.lemmas.List.Sums.{position_or_len_is, fails_before_first}
-use Rattle.std.proofs.lemmas.List.{length-set}
-use Rattle.mc_slab.specs.Classes.{IsClass, chunk_sizes, class_holding}
-use Rattle.mc_slab.specs.Slabs.{SlabState, IsSlab, out_of, taken, given, with_page}
-use Rattle.mc_slab.specs.Slabs as slab
-use Rattle.mc_command.specs.Plain.{Plain, Entry, Items, charge, item_class, count_of}
-use Rattle.mc_command.specs.Plain as plain
-use Rattle.mc_command.specs.Accounts.{left, AreOf, held_class}
+use Rattle.std.proofs.lemmas.List.Sums.{position_or_len_is, fails_before_first, sum_by-set}
+use Rattle.mc_slab.specs.Classes.{IsClass, chunk_sizes, class_holding, class_of}
+use Rattle.mc_command.specs.Plain.{Plain, Entry, Items, charge, item_class, count_of, chunks_of, has_room, pages_of, standing, without_dead}
+use Rattle.mc_command.specs.Accounts.{AreCounted, dead_class, held_class}
 use Rattle.mc_command.specs.Laws.{of_class}
-use Rattle.mc_command.proofs.AccountLemmas.{at_class}
-use Rattle.mc_command.proofs.CountLemmas.{count-insert, count-remove, count-retain}
+use Rattle.mc_command.specs.Steps.{found, paged, rewritten}
+use Rattle.mc_command.specs.declared.plain.item.Written.{Written}
+use Rattle.mc_command.proofs.ItemLemmas.{Entries, insert-remove}
+use Rattle.mc_command.proofs.CountLemmas.{count-remove, entries_of_class, entries_of_class-cons}
 
 -- a charge above a page is held by no class
 length-chunk_sizes : length chunk_sizes ≡ 40
@@ -77,162 +77,90 @@ held-of_class key (Some item) class is =
     (λ fits. ap (λ (o : Option ℕ). of_option o class) (held-some key item fits))
     (cases_lt 1048576 (charge key item.block))
 
--- the class is one
-pub IsClass-held : (key : List ℕ) (o : Option Entry) → IfSome (held_class key o) IsClass
-IsClass-held key None = tt
-IsClass-held key (Some item) =
+-- an item's class is this one
+pub is_of : (charge class : ℕ) → IsClass class → option_eq eqb (class_of charge) (Some class) ≡ eqb (class_holding charge) class
+is_of charge class is =
     ⊎_elim
-    (λ above. subst (λ (o : Option ℕ). IfSome o IsClass) (sym (held-none key item above)) tt)
-    (λ fits. subst (λ (o : Option ℕ). IfSome o IsClass) (sym (held-some key item fits)) (holding-class _ fits))
-    (cases_lt 1048576 (charge key item.block))
+    (λ (large : 1048576 < charge). let none = holding-none charge large in rw (lt-leb charge 1048576 large) (sym (ne_eqb (class_holding charge) class (omega arith))))
+    (λ fits. rw (le-leb charge 1048576 fits) refl)
+    (cases_lt 1048576 charge)
 
--- chunks out, after one was given back, and after one was taken
-pub out-left : (s : SlabState) (o : Option ℕ) → length s.out ≡ 40 → IfSome o IsClass → IfSome o (λ k. 0 < out_of s k) → (class : ℕ) → IsClass class → out_of (left s o) class + of_option o class ≡ out_of s class
-out-left s None long is some class at = omega arith
-out-left s (Some k) long is some class at =
-    let there : out_of (given s k) class ≡ cond (eqb class k) (out_of s k - 1) (out_of s class) = at_class s.out (k - 1) k class (out_of s k - 1) long refl is at in
-    ⊎_elim
-    (λ (same : class ≡ k). rw (there, eq-eqb class k same, eq-eqb k class (sym same)) (let e = ap (λ (n : ℕ). out_of s n) same in omega arith))
-    (λ other. rw (there, ne_eqb class k other, ne_eqb k class (λ e. other (sym e))) (omega arith))
-    (cases_eq class k)
+-- ---- a walk over the entries that counts those of a class
 
-same_out : (b : Bool) (t s : SlabState) → t.out ≡ s.out → (cond b t s).out ≡ s.out
-same_out true t s e = e
-same_out false t s e = refl
+at_most : (b : Bool) → cond b 1 0 ≤ 1
+at_most true = omega arith
+at_most false = omega arith
 
-with_chunk-out : (s : SlabState) (k : ℕ) → (slab.with_chunk s k).out ≡ s.out
-with_chunk-out s k = same_out (eqb (out_of s k) (slab.chunks_of s k)) (with_page s k) s refl
+few : (class : ℕ) (es : Entries) → entries_of_class class es ≤ length es
+few class [] = omega arith
+few class (e ∷ es) = let cons = entries_of_class-cons class e es in let one = at_most (eqb (item_class e.0.items e.1) class) in let rest = few class es in omega arith
 
-pub out-taken : (s : SlabState) (k : ℕ) → length s.out ≡ 40 → IsClass k → (class : ℕ) → IsClass class → out_of (taken s k) class ≡ out_of s class + cond (eqb k class) 1 0
-out-taken s k long is class at =
-    subst (λ (xs : List ℕ). get_or (set xs (k - 1) (get_or xs (k - 1) 0 + 1)) (class - 1) 0 ≡ out_of s class + cond (eqb k class) 1 0) (sym (with_chunk-out s k))
-    (let there : get_or (set s.out (k - 1) (out_of s k + 1)) (class - 1) 0 ≡ cond (eqb class k) (out_of s k + 1) (out_of s class) = at_class s.out (k - 1) k class (out_of s k + 1) long refl is at in
-    ⊎_elim
-    (λ (same : class ≡ k). rw (there, eq-eqb class k same, eq-eqb k class (sym same)) (let e = ap (λ (n : ℕ). out_of s n) same in omega arith))
-    (λ other. rw (there, ne_eqb class k other, ne_eqb k class (λ e. other (sym e))) (omega arith))
-    (cases_eq class k))
+-- of the entries that were passed those of the class are counted, and each that is left
+abbrev pub IsCounting : (class : ℕ) (all rest : Entries) → ℕ → Type 0
+IsCounting class all rest count = count + entries_of_class class rest ≡ entries_of_class class all + length rest
 
-pub length-left : (s : SlabState) (o : Option ℕ) → length s.out ≡ 40 → length (left s o).out ≡ 40
-length-left s None long = long
-length-left s (Some k) long = length-set s.out (k - 1) _ ∙ long
+module _ (class count : ℕ) (all rest : Entries) (e : Vec ℕ Global × Entry) (so_far : IsCounting class all (e ∷ rest) count) where
+  pub counting-one : eqb (item_class e.0.items e.1) class ≡ true → IsCounting class all rest count
+  counting-one is = let cons = entries_of_class-cons class e rest in let one : of_class e.0.items (Some e.1) class ≡ 1 = ap (λ (b : Bool). cond b 1 0) is in omega arith
 
-pub length-taken : (s : SlabState) (k : ℕ) → length s.out ≡ 40 → length (taken s k).out ≡ 40
-length-taken s k long = length-set (slab.with_chunk s k).out (k - 1) _ ∙ ap length (with_chunk-out s k) ∙ long
+  pub counting-other : eqb (item_class e.0.items e.1) class ≡ false → (1 ≤ count) × IsCounting class all rest (count - 1)
+  counting-other is =
+      let cons = entries_of_class-cons class e rest in
+      let none : of_class e.0.items (Some e.1) class ≡ 0 = ap (λ (b : Bool). cond b 1 0) is in
+      let some = few class rest in
+      (omega arith, omega arith)
 
-pub left-pages : (s : SlabState) (o : Option ℕ) → (left s o).pages ≡ s.pages
-left-pages s None = refl
-left-pages s (Some k) = refl
+  pub counting : (b : Bool) → eqb (item_class e.0.items e.1) class ≡ b → IsCounting class all rest (cond (not b) (count - 1) count)
+  counting true is = counting-one is
+  counting false is = (counting-other is).1
 
-pub left-limit : (s : SlabState) (o : Option ℕ) → (left s o).limit ≡ s.limit
-left-limit s None = refl
-left-limit s (Some k) = refl
+-- the items of a class, once a key's item is dropped that is dead
+dead-of : (o : Option ℕ) (class : ℕ) → cond (option_eq eqb o (Some class)) 1 0 ≡ of_option o class
+dead-of None class = refl
+dead-of (Some k) class = refl
 
--- an item that stands is among its class's chunks that are out
-one_out : (s : SlabState) (o : Option ℕ) → IfSome o IsClass → ((class : ℕ) → IsClass class → of_option o class ≤ out_of s class) → IfSome o (λ k. 0 < out_of s k)
-one_out s None is held = tt
-one_out s (Some k) is held =
-    let one : cond (eqb k k) 1 0 ≤ out_of s k = held k is in
-    let least : 1 ≤ out_of s k = subst (λ b. cond b 1 0 ≤ out_of s k) (eq-eqb k k refl) one in
+taken-off : (dead : Bool) (count left : ℕ) → left + cond dead 1 0 ≡ count → cond dead (count - 1) count ≡ left
+taken-off true count left sums = omega arith
+taken-off false count left sums = omega arith
+
+pub found-count : (stands : Option Entry) (old : Plain) (key : List ℕ) (class : ℕ) → IsClass class
+    → cond (option_eq eqb (dead_class stands key old) (Some class)) (count_of old.items class - 1) (count_of old.items class) ≡ count_of (without_dead stands key old).items class
+found-count None old key class is =
+    let held = held_class key (get old.items key) in
+    let one : cond (option_eq eqb held (Some class)) 1 0 ≡ of_class key (get old.items key) class = dead-of held class ∙ held-of_class key (get old.items key) class is in
+    let removed = count-remove class old.items key in
+    taken-off (option_eq eqb held (Some class)) (count_of old.items class) (count_of (remove old.items key) class) (ap (λ (n : ℕ). count_of (remove old.items key) class + n) one ∙ removed)
+found-count (Some item) old key class is = refl
+
+-- ---- the room that is left
+
+pub found-chunks : (stands : Option Entry) (old : Plain) (key : List ℕ) (class : ℕ) → chunks_of (without_dead stands key old) class ≡ chunks_of old class
+found-chunks None old key class = refl
+found-chunks (Some item) old key class = refl
+
+pub found-room : (stands : Option Entry) (old : Plain) (key : List ℕ) (class : ℕ)
+    → has_room (without_dead stands key old) class ≡ ltb (count_of (without_dead stands key old).items class) (chunks_of old class) || ltb (sum old.pages) old.limit
+found-room None old key class = refl
+found-room (Some item) old key class = refl
+
+-- a class's pages are among all
+pub some-pages : (pages : List ℕ) (at : ℕ) → at < length pages → get_or pages at 0 ≤ sum pages
+some-pages pages at inside = let sums : sum (set pages at 0) + get_or pages at 0 ≡ sum pages + 0 = sum_by-set (λ (n : ℕ). n) pages at 0 0 inside in omega arith
+
+pub more-pages : (pages : List ℕ) (at : ℕ) → at < length pages → sum (set pages at (get_or pages at 0 + 1)) ≡ sum pages + 1
+more-pages pages at inside =
+    let sums : sum (set pages at (get_or pages at 0 + 1)) + get_or pages at 0 ≡ sum pages + (get_or pages at 0 + 1) = sum_by-set (λ (n : ℕ). n) pages at (get_or pages at 0 + 1) 0 inside in
     omega arith
 
-pub AreOf-out : (items : Items) (s : SlabState) (key : List ℕ) → AreOf items s → IfSome (held_class key (get items key)) (λ k. 0 < out_of s k)
-AreOf-out items s key are =
-    one_out s (held_class key (get items key)) (IsClass-held key (get items key)) (λ class is.
-    let held = held-of_class key (get items key) class is in
-    let count = count-remove class items key in
-    let out = are class is in
-    omega arith)
+-- ---- what is left of a write that takes a chunk
 
-module _ (items : Items) (s : SlabState) (key : List ℕ) (long : length s.out ≡ 40) (are : AreOf items s) where
-  -- an item is taken out
-  pub AreOf-removed : AreOf (remove items key) (left s (held_class key (get items key)))
-  AreOf-removed class is =
-      let held = held-of_class key (get items key) class is in
-      let count = count-remove class items key in
-      let out = are class is in
-      let gone = out-left s (held_class key (get items key)) long (IsClass-held key (get items key)) (AreOf-out items s key are) class is in
-      omega arith
+pub put-by : (stands : Option Entry) (is_full : Bool) (old : Plain) (key : List ℕ) (class : ℕ) (w : Written) (now : ℕ)
+    → paged is_full (rewritten w key old now) class ≡ rewritten w key (paged is_full (without_dead stands key old) class) now
+put-by None true old key class w now = ap (λ (m : Items). let s : Plain = record old { items = m; next_unique = old.next_unique + 1; pages = set old.pages (class - 1) (pages_of old class + 1) } in s) (sym (insert-remove old.items key _))
+put-by None false old key class w now = ap (λ (m : Items). let s : Plain = record old { items = m; next_unique = old.next_unique + 1 } in s) (sym (insert-remove old.items key _))
+put-by (Some i) true old key class w now = refl
+put-by (Some i) false old key class w now = refl
 
-  -- one is put where none is
-  pub AreOf-put : (v : Entry) (k : ℕ) → IsClass k → k ≡ item_class key v → get items key ≡ None → AreOf (insert items key v) (taken s k)
-  AreOf-put v k is_k of none class is =
-      let count = count-insert class items key v in
-      let old : of_class key (get items key) class ≡ 0 = ap (λ (o : Option Entry). of_class key o class) none in
-      let new : cond (eqb k class) 1 0 ≡ of_class key (Some v) class = ap (λ (n : ℕ). cond (eqb n class) 1 0) of in
-      let out = are class is in
-      let more = out-taken s k long is_k class is in
-      omega arith
-
-  -- one is put in place of another, which gives its chunk back
-  module _ (v old : Entry) (k : ℕ) (is_k : IsClass k) (there : get items key ≡ Some old) where
-    pub AreOf-out_over : IfSome (held_class key (Some old)) (λ j. 0 < out_of (taken s k) j)
-    AreOf-out_over =
-        one_out (taken s k) (held_class key (Some old)) (IsClass-held key (Some old)) (λ class is.
-        let held = held-of_class key (Some old) class is in
-        let same : of_class key (get items key) class ≡ of_class key (Some old) class = ap (λ (o : Option Entry). of_class key o class) there in
-        let count = count-remove class items key in
-        let out = are class is in
-        let more = out-taken s k long is_k class is in
-        omega arith)
-
-    pub AreOf-over : k ≡ item_class key v → AreOf (insert items key v) (left (taken s k) (held_class key (Some old)))
-    AreOf-over of class is =
-        let held = held-of_class key (Some old) class is in
-        let same : of_class key (get items key) class ≡ of_class key (Some old) class = ap (λ (o : Option Entry). of_class key o class) there in
-        let count = count-insert class items key v in
-        let new : cond (eqb k class) 1 0 ≡ of_class key (Some v) class = ap (λ (n : ℕ). cond (eqb n class) 1 0) of in
-        let out = are class is in
-        let more = out-taken s k long is_k class is in
-        let gone = out-left (taken s k) (held_class key (Some old)) (length-taken s k long) (IsClass-held key (Some old)) AreOf-out_over class is in
-        omega arith
-
--- or in its chunk
-pub AreOf-same : (items : Items) (s : SlabState) (key : List ℕ) (v : Entry) → AreOf items s → ((class : ℕ) → of_class key (get items key) class ≡ of_class key (Some v) class) → AreOf (insert items key v) s
-AreOf-same items s key v are same class is =
-    let count = count-insert class items key v in
-    let alike = same class in
-    let out = are class is in
-    omega arith
-
--- what contracts see of a store with these items and accounts
-abbrev pub shown : (greatest : ℕ) → Option ℕ → (next : ℕ) → Items → SlabState → Plain
-shown greatest cut next items s = record { greatest = greatest; limit = s.limit; items = items; cut = cut; next_unique = next; pages = s.pages }
-
-pub shown-same : (greatest : ℕ) (cut : Option ℕ) (next : ℕ) (items others : Items) (s t : SlabState) → items ≡ others → s.limit ≡ t.limit → s.pages ≡ t.pages → shown greatest cut next items s ≡ shown greatest cut next others t
-shown-same greatest cut next items others s t same limit pages = cc
-
-pub shown-left : (greatest : ℕ) (cut : Option ℕ) (next : ℕ) (items others : Items) (s : SlabState) (o : Option ℕ) → items ≡ others → shown greatest cut next items (left s o) ≡ shown greatest cut next others s
-shown-left greatest cut next items others s o same = shown-same greatest cut next items others (left s o) s same (left-limit s o) (left-pages s o)
-
-ltb_less : (a b : ℕ) → ltb a b ≡ ltb 0 (b - a)
-ltb_less a b = ⊎_elim (λ below. lt-ltb a b below ∙ sym (lt-ltb 0 (b - a) (omega arith))) (λ above. le-ltb a b above ∙ sym (le-ltb 0 (b - a) (omega arith))) (cases_lt a b)
-
-module _ (greatest : ℕ) (cut : Option ℕ) (next : ℕ) (items : Items) (s : SlabState) (are : AreOf items s) (class : ℕ) (is : IsClass class) where
-  pub room-is : plain.has_room (shown greatest cut next items s) class ≡ slab.has_room s class
-  room-is =
-      ap (λ (n : ℕ). ltb n (slab.chunks_of s class) || ltb (sum s.pages) s.limit) (sym (are class is))
-      ∙ ap (λ b. ltb (out_of s class) (slab.chunks_of s class) || b) (ltb_less (sum s.pages) s.limit)
-
-  pub with_chunk-is : plain.with_chunk (shown greatest cut next items s) class ≡ shown greatest cut next items (slab.with_chunk s class)
-  with_chunk-is =
-      let old : Plain = shown greatest cut next items s in
-      let more : Plain = record old { pages = set s.pages (class - 1) (slab.pages_of s class + 1) } in
-      ap (λ (n : ℕ). cond (eqb n (slab.chunks_of s class)) more old) (sym (are class is))
-      ∙ elim (eqb (out_of s class) (slab.chunks_of s class)) as (λ b. cond b more old ≡ shown greatest cut next items (cond b (with_page s class) s)) [ true ↦ refl | false ↦ refl ]
-
--- a chunk that is free is taken with no page
-pub room-free : (s : SlabState) (k : ℕ) → out_of s k < slab.chunks_of s k → slab.has_room s k ≡ true
-room-free s k free = ap (λ b. b || ltb 0 (slab.pages_left s)) (lt-ltb _ _ free)
-
-pub taken-pages : (s : SlabState) (k : ℕ) → out_of s k < slab.chunks_of s k → (taken s k).pages ≡ s.pages
-taken-pages s k free = ap (λ b. (cond b (with_page s k) s).pages) (ne_eqb (out_of s k) (slab.chunks_of s k) (omega arith))
-
-pub taken-limit : (s : SlabState) (k : ℕ) → out_of s k < slab.chunks_of s k → (taken s k).limit ≡ s.limit
-taken-limit s k free = ap (λ b. (cond b (with_page s k) s).limit) (ne_eqb (out_of s k) (slab.chunks_of s k) (omega arith))
-
--- items that are taken out leave no more than stood
-pub retained-fewer : (items : Items) (s : SlabState) (keep : List ℕ → Bool) → AreOf items s → (class : ℕ) → IsClass class → count_of (retain_keys items keep) class ≤ out_of s class
-retained-fewer items s keep are class is =
-    let fewer = count-retain class items keep in
-    let out = are class is in
-    omega arith
+-- the state that the plain store shows, by its items
+abbrev pub shown : (greatest limit : ℕ) (cut : Option ℕ) (next : ℕ) (pages : List ℕ) → Items → Plain
+shown greatest limit cut next pages items = record { greatest = greatest; limit = limit; items = items; cut = cut; next_unique = next; pages = pages }

@@ -1,29 +1,27 @@
 -- A write's outcome, by the tests that it passes.
-use Rattle.std.proofs.Common.{◌≡◌, ◌<◌, ◌++◌, ℕ, Bool, true, false, cond, eqb, ltb, List, Option, Some, None, Result, Ok, Err, refl, ap, sym, subst, ◌∙◌, ◌⊎◌, ⊎_elim, arith}
+use Rattle.std.proofs.Common.{◌≡◌, ◌<◌, ℕ, Bool, true, false, cond, eqb, ltb, List, append-nil, Option, Some, None, Result, Ok, Err, refl, ap, sym, subst, ◌∙◌, ⊎_elim, arith}
 use Rattle.std.specs.Prelude.{IsSome, decimal}
 use Rattle.std.specs.Borrow.{Bor}
 use Rattle.std.specs.Option.{option_copied, option_eq}
-use Rattle.std.proofs.lemmas.Bool.{cases_lt, eq-eqb, ne_eqb, lt-leb, le-leb}
-use Rattle.mc_time.specs.Death.{expiry_of}
+use Rattle.std.specs.FinMap.{get, get-remove}
+use Rattle.std.specs.Cmp.Lexicographic.{nat_list_cmp_total}
+use Rattle.std.proofs.lemmas.Bool.{cases_lt, ne_eqb, lt-leb, le-leb}
 use Rattle.mc_slab.specs.Classes.{class_holding, class_of}
-use Rattle.mc_command.specs.declared.step.Verb.{Verb}
-use Rattle.mc_command.specs.declared.step.Verb.TheVariants.{Set, Add, Replace, Append, Prepend}
-use Rattle.mc_command.specs.declared.step.KeyStep.TheVariants.{Count}
 use Rattle.mc_command.specs.declared.step.StepFault.{StepFault}
 use Rattle.mc_command.specs.declared.step.StepFault.TheVariants.{NoMemory, NumbersSpent}
 use Rattle.mc_command.specs.declared.reply.Reply.{Reply}
-use Rattle.mc_command.specs.declared.reply.Reply.TheVariants.{NoChunk, Stored, Number}
-use Rattle.mc_command.specs.declared.row.Row.{Row}
-use Rattle.mc_command.specs.declared.row.Row.TheVariants.{Refuses}
-use Rattle.mc_command.specs.declared.row.Refusal.TheVariants as refusal
-use Rattle.mc_command.specs.declared.row.Body.TheVariants.{Counted}
-use Rattle.mc_command.specs.declared.plain.item.Given.{Given}
+use Rattle.mc_command.specs.declared.reply.Reply.TheVariants.{NoChunk}
+use Rattle.mc_command.specs.declared.row.Draft.{Draft}
+use Rattle.mc_command.specs.declared.row.Body.{Body}
+use Rattle.mc_command.specs.declared.row.Body.TheVariants.{Given, Appended, Prepended, Counted}
 use Rattle.mc_command.specs.declared.plain.item.Written.{Written}
 use Rattle.mc_command.specs.declared.plain.write.Next.{Next}
-use Rattle.mc_command.specs.Plain.{Plain, Entry, Outcome, Answered, CopiesBlock, plain, changed, charge, item_class, has_room, standing, without_dead, given, joined, cas_row, count_row, number_row, number_of, counted}
+use Rattle.mc_command.specs.Plain.{Plain, Entry, Outcome, Answered, CopiesBlock, charge, item_class, has_room, keeps_chunk, standing, without_dead, write_reply, written_block}
+use Rattle.mc_command.specs.Rows.{standing_in}
 use Rattle.mc_command.specs.Laws.{of_class}
-use Rattle.mc_command.specs.Steps.{Ends, Prepares, cas_step, found, rewritten, placed, writing, storing, stored_by, done}
-use Rattle.mc_command.proofs.PlainLemmas.{of_class-some}
+use Rattle.mc_command.specs.Steps.{Ends, Prepares, block_in, done, drafting, found, made, made_block, number_in, placed, rewritten, writing}
+use Rattle.mc_command.proofs.ItemLemmas.{laws}
+use Rattle.mc_command.proofs.PlainLemmas.{of_class-some, standing-there}
 use Rattle.mc_command.proofs.RoomLemmas.{holding-none, holding-class}
 
 pub found-greatest : (item : Option Entry) (key : List ℕ) (old : Plain) → (without_dead item key old).greatest ≡ old.greatest
@@ -75,58 +73,68 @@ module _ (old : Plain) (key : List ℕ) (now : ℕ) (w : Written) (reply : Reply
       rw (fits, number, keeps)
       (ap (λ (p : Plain). Answered reply (rewritten w key p now)) (found-stands (standing old key now) key old (of_class-some key (standing old key now) _ there)))
 
--- the write of what is given
-abbrev pub own_write : Given → ℕ → Written
-own_write g now = record { flags = g.flags; expiry = expiry_of g.exptime now; block = g.block }
+-- what is made of a draft is what it writes
+pub made-is : (body : Body) (block : List ℕ) (item : Option Entry) → made_block body block (block_in item) (decimal (number_in body)) ≡ written_block body block item
+made-is Given block item = refl
+made-is Appended block None = refl
+made-is Appended block (Some old) = refl
+made-is Prepended block None = append-nil block
+made-is Prepended block (Some old) = refl
+made-is (Counted n) block item = refl
 
--- what a storage command writes
-pub stores-first : (verb : Verb) (key : List ℕ) (g : Given) (mid : Plain) (now : ℕ) (w : Written) (s : Option (Bor Entry))
-    → (verb ≡ Set) ⊎ (verb ≡ Add) → s ≡ None → w ≡ own_write g now
-    → storing verb key g (option_copied s) mid now ≡ stored_by (Some w) key mid now
-stores-first verb key g mid now w s is none same = ⊎_elim (λ (e : verb ≡ Set). rw (e, same) refl) (λ (e : verb ≡ Add). rw (e, none, same) refl) is
+pub write-copies : (body : Body) → CopiesBlock (write_reply body)
+write-copies Given = tt
+write-copies Appended = tt
+write-copies Prepended = tt
+write-copies (Counted n) = tt
 
-pub stores-over : (verb : Verb) (key : List ℕ) (g : Given) (mid : Plain) (now : ℕ) (w : Written) (s : Option (Bor Entry)) (item : Bor Entry)
-    → (verb ≡ Set) ⊎ (verb ≡ Replace) → s ≡ Some item → w ≡ own_write g now
-    → storing verb key g (option_copied s) mid now ≡ stored_by (Some w) key mid now
-stores-over verb key g mid now w s item is some same = ⊎_elim (λ (e : verb ≡ Set). rw (e, same) refl) (λ (e : verb ≡ Replace). rw (e, some, same) refl) is
+-- a write that stays in the chunk of the item that stands has its class
+pub keeps-class : (body : Body) (key block : List ℕ) (item : Option Entry) → keeps_chunk body key item ≡ true → of_class key item (class_holding (charge key (written_block body block item))) ≡ 1
+keeps-class Given key block item keeps = absurd (cc keeps)
+keeps-class Appended key block item keeps = absurd (cc keeps)
+keeps-class Prepended key block item keeps = absurd (cc keeps)
+keeps-class (Counted n) key block None keeps = absurd (cc keeps)
+keeps-class (Counted n) key block (Some old) keeps = ap (λ b. cond b 1 0) keeps
 
--- the write of another block in an item's place
-abbrev pub rewrite_of : Entry → List ℕ → Written
-rewrite_of item block = record { flags = item.flags; expiry = item.expiry; block = block }
+-- what is made of a draft, of the step's block, that of the item that stands, and a number's digits
+module _ (draft : Draft) (key block stood digits : List ℕ) (old : Plain) (now : ℕ) (there : Option (Bor Entry)) (w : Written) (stays : Bool)
+    (stands : option_copied there ≡ standing old key now) (had : stood ≡ block_in (option_copied there)) (counted : digits ≡ decimal (number_in draft.body)) (is : w ≡ made draft block stood digits)
+    (keeps : (b : List ℕ) → w.block ≡ written_block draft.body b (option_copied there) → stays ≡ keeps_chunk draft.body key (option_copied there)) where
+  block-is : made_block draft.body block stood digits ≡ written_block draft.body block (option_copied there)
+  block-is =
+      ap (λ (b : List ℕ). made_block draft.body block b digits) had ∙ ap (made_block draft.body block (block_in (option_copied there))) counted
+      ∙ made-is draft.body block (option_copied there)
 
-pub stores-behind : (verb : Verb) (key : List ℕ) (g : Given) (mid : Plain) (now : ℕ) (w : Written) (s : Option (Bor Entry)) (item : Bor Entry) (front back : List ℕ)
-    → verb ≡ Append → s ≡ Some item → w ≡ rewrite_of item.now (front ++ back) → front ≡ item.now.block → back ≡ g.block
-    → storing verb key g (option_copied s) mid now ≡ stored_by (Some w) key mid now
-stores-behind verb key g mid now w s item front back is some same first second = rw (is, some, same, first, second) refl
+  stays-by : stays ≡ keeps_chunk draft.body key (option_copied there)
+  stays-by = keeps block (ap (λ (v : Written). v.block) is ∙ block-is)
 
-pub stores-before : (verb : Verb) (key : List ℕ) (g : Given) (mid : Plain) (now : ℕ) (w : Written) (s : Option (Bor Entry)) (item : Bor Entry) (front back : List ℕ)
-    → verb ≡ Prepend → s ≡ Some item → w ≡ rewrite_of item.now (front ++ back) → front ≡ g.block → back ≡ item.now.block
-    → storing verb key g (option_copied s) mid now ≡ stored_by (Some w) key mid now
-stores-before verb key g mid now w s item front back is some same first second = rw (is, some, same, first, second) refl
+  pub draft-stays : stays ≡ true → of_class key (standing old key now) (class_holding (charge key w.block)) ≡ 1
+  draft-stays stay =
+      subst (λ (o : Option Entry). of_class key o (class_holding (charge key w.block)) ≡ 1) stands
+      (subst (λ (b : List ℕ). of_class key (option_copied there) (class_holding (charge key b)) ≡ 1) (sym (ap (λ (v : Written). v.block) is ∙ block-is))
+      (keeps-class draft.body key block (option_copied there) (sym stays-by ∙ stay)))
 
--- a cas of the number that stands is a write
-pub cas-is : (old : Plain) (key : List ℕ) (now : ℕ) (item : Entry) (g : Given) (w : Written) (unique : ℕ)
-    → standing old key now ≡ Some item → item.unique ≡ unique → w ≡ own_write g now
-    → plain old (cas_step key g unique) now ≡ writing false Stored w key old now
-cas-is old key now item g w unique stands same is =
-    let row : cas_row g.flags (expiry_of g.exptime now) unique (standing old key now) ≡ given g.flags (expiry_of g.exptime now) =
-    ap (cas_row g.flags (expiry_of g.exptime now) unique) stands
-    ∙ ap (λ b. cond b (given g.flags (expiry_of g.exptime now)) (Refuses refusal.Exists)) (eq-eqb item.unique unique same) in
-    ap (λ (r : Row). changed r (cas_step key g unique) (standing old key now) (found key old now) now) row
-    ∙ ap (λ (v : Written). writing false Stored v key old now) (sym is)
+  pub draft-is : (reply : Reply) → reply ≡ write_reply draft.body → drafting draft key block old now ≡ writing stays reply w key old now
+  draft-is reply same =
+      let put : List ℕ → Written = λ b. record { flags = draft.flags; expiry = draft.expiry; block = b } in
+      let item = standing old key now in
+      let made : w ≡ put (written_block draft.body block item) = is ∙ ap put (block-is ∙ ap (written_block draft.body block) stands) in
+      sym (ap (λ (v : Written). writing stays reply v key old now) made
+      ∙ ap (λ (b : Bool). writing b reply (put (written_block draft.body block item)) key old now) (stays-by ∙ ap (keeps_chunk draft.body key) stands)
+      ∙ ap (λ (r : Reply). writing (keeps_chunk draft.body key item) r (put (written_block draft.body block item)) key old now) same)
 
--- an incr or a decr of a number is a write that may stay
-pub count-is : (old : Plain) (key : List ℕ) (now : ℕ) (item : Entry) (w : Written) (up : Bool) (by stood new : ℕ) (stays : Bool)
-    → standing old key now ≡ Some item → number_of item.block ≡ Some stood → new ≡ counted up by stood
-    → w ≡ rewrite_of item (decimal new) → stays ≡ eqb (item_class key item) (class_holding (charge key w.block))
-    → plain old (Count key up by) now ≡ writing stays (Number new) w key old now
-count-is old key now item w up by stood new stays stands is counts made same =
-    let row : count_row up by (Some item) ≡ joined item (Counted new) =
-    ap (number_row item up by) is ∙ ap (λ (n : ℕ). joined item (Counted n)) (sym counts) in
-    ap (λ (o : Option Entry). changed (count_row up by o) (Count key up by) o (found key old now) now) stands
-    ∙ ap (λ (r : Row). changed r (Count key up by) (Some item) (found key old now) now) row
-    ∙ ap (λ (v : Written). writing (eqb (item_class key item) (class_holding (charge key v.block))) (Number new) v key old now) (sym made)
-    ∙ ap (λ b. writing b (Number new) w key old now) (sym same)
+-- what stands, as a row's contract has it
+pub stands-is : (found : Option (Bor Entry)) → standing_in (λ item. item) found ≡ option_copied found
+stands-is None = refl
+stands-is (Some item) = refl
+
+-- the key's item, once a dead one is dropped, is the one that stands
+pub found-get : (old : Plain) (key : List ℕ) (now : ℕ) → get (found key old now).items key ≡ standing old key now
+found-get old key now = by (standing old key now) (standing-there old key now)
+  where
+    by : (item : Option Entry) → ((i : Entry) → item ≡ Some i → get old.items key ≡ Some i) → get (without_dead item key old).items key ≡ item
+    by None there = get-remove nat_list_cmp_total old.items key key ∙ ap (λ t. cond t None (get old.items key)) (laws.refl key)
+    by (Some item) there = there item refl
 
 -- a write that isn't made ready, and one that is
 pub Ends-refused : (outcome write : Outcome) (r : Result Next StepFault) (fault : StepFault) (result : Result Reply StepFault) (key : List ℕ) (old : Plain) (now : ℕ)
@@ -150,10 +158,6 @@ pub Prepares-refused : (outcome : Outcome) (reply : Reply) (new : Plain) (result
 Prepares-refused outcome reply new result key old now is copies ends =
     rw (ends, is) (record { ready = tt; same = tt; spent = λ e. cc; refused = λ e. copies })
 
-pub stays-class : (old : Plain) (key : List ℕ) (now : ℕ) (item : Entry) (class : ℕ) (stays : Bool) → standing old key now ≡ Some item → stays ≡ eqb (item_class key item) class → stays ≡ true → of_class key (standing old key now) class ≡ 1
-stays-class old key now item class stays stands same keeps =
-    ap (λ (o : Option Entry). of_class key o class) stands ∙ ap (λ b. cond b 1 0) (sym same ∙ keeps)
-
 -- chunks of one class
 pub same-class : (a b : ℕ) → option_eq eqb (class_of a) (class_of b) ≡ eqb (class_holding a) (class_holding b)
 same-class a b =
@@ -174,3 +178,11 @@ pub stays-is : (key block : List ℕ) (item : Entry) (a b : Option ℕ) → a �
 stays-is key block item a b is other =
     ap (λ (o : Option ℕ). option_eq eqb o b) is ∙ ap (λ (o : Option ℕ). option_eq eqb (class_of (charge key item.block)) o) other
     ∙ same-class (charge key item.block) (charge key block)
+
+-- a write of a number stays where both chunks are of one class
+pub stays-kept : (body : Body) (n : ℕ) (key block w : List ℕ) (found : Option (Bor Entry)) (item : Bor Entry) (a b : Option ℕ) (result : Bool)
+    → body ≡ Counted n → found ≡ Some item → w ≡ written_block body block (option_copied found) → result ≡ option_eq eqb a b → a ≡ class_of (charge key item.now.block) → b ≡ class_of (charge key w)
+    → result ≡ keeps_chunk body key (option_copied found)
+stays-kept body n key block w found item a b result is some made same old new =
+    let digits : w ≡ decimal n = made ∙ ap (λ (y : Body). written_block y block (option_copied found)) is in
+    rw (is, some) (same ∙ stays-is key (decimal n) item.now a b old (new ∙ ap (λ (d : List ℕ). class_of (charge key d)) digits))

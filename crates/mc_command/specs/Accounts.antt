@@ -1,18 +1,16 @@
--- The accounts of the classes: their pages, and how many of their chunks items are in.
-use Rattle.std.specs.Prelude.{◌≡◌, ℕ, List, Option, Some, None}
-use Rattle.mc_slab.specs.Classes.{IsClass, class_of}
-use Rattle.mc_slab.specs.Slabs.{SlabState, out_of, given}
-use Rattle.mc_command.specs.Plain.{Plain, Entry, Items, charge, count_of}
+-- What the plain store counts: its pages, and the class of an item's chunk.
+use Rattle.std.specs.Prelude.{◌≡◌, ◌≤◌, ℕ, List, length, sum, Option, Some, None}
+use Rattle.mc_slab.specs.Classes.{class_of}
+use Rattle.mc_command.specs.Plain.{Plain, Entry, charge}
 use Rattle.std.specs.FinMap.{get}
 
--- after an item, if there is one, gave its chunk back
-abbrev pub left : SlabState → Option ℕ → SlabState
-left accounts None = accounts
-left accounts (Some class) = given accounts class
-
--- the accounts of these items: each class has a chunk out for each item of it
-abbrev pub AreOf : Items → SlabState → Type 0
-AreOf items accounts = (class : ℕ) → IsClass class → out_of accounts class ≡ count_of items class
+-- the pages of the classes are counted, and are at most the limit
+pub record AreCounted (greatest limit in_use : ℕ) (pages : List ℕ) : Type 0 where
+  pub charges : greatest ≤ 1048576
+  pub most : limit ≤ 65536
+  pub long : length pages ≡ 40
+  pub counted : in_use ≡ sum pages
+  pub within : sum pages ≤ limit
 
 -- the class of an item's chunk, where there is an item that a class holds
 abbrev pub held_class : List ℕ → Option Entry → Option ℕ

@@ -29,25 +29,13 @@ mapped f g h (LoneCommand lone) = LoneCommand lone
 abbrev pub block_in : {K L B : Type 0} → CommandOf K L B → Option B
 block_in (Store verb key flags exptime block quiet) = Some block
 block_in (Cas key flags exptime block unique quiet) = Some block
-block_in (Get keys with_unique) = None
-block_in (GetTouch exptime keys with_unique) = None
-block_in (Touch key exptime quiet) = None
-block_in (Delete key quiet) = None
-block_in (Count key up by quiet) = None
-block_in (FlushAll delay quiet) = None
-block_in (LoneCommand lone) = None
+block_in command = None
 
 -- what a retrieval asks: the exptime that it may set, its keys, and whether the unique number is told
 abbrev pub retrieval_in : {K L B : Type 0} → CommandOf K L B → Option (Option ℤ × L × Bool)
-retrieval_in (Store verb key flags exptime block quiet) = None
-retrieval_in (Cas key flags exptime block unique quiet) = None
 retrieval_in (Get keys with_unique) = Some (None, keys, with_unique)
 retrieval_in (GetTouch exptime keys with_unique) = Some (Some exptime, keys, with_unique)
-retrieval_in (Touch key exptime quiet) = None
-retrieval_in (Delete key quiet) = None
-retrieval_in (Count key up by quiet) = None
-retrieval_in (FlushAll delay quiet) = None
-retrieval_in (LoneCommand lone) = None
+retrieval_in command = None
 
 -- the step that a retrieval takes of a key: where it has an exptime it sets the item's expiry too
 abbrev pub read_step : Option ℤ → (key : List ℕ) → KeyStep
@@ -156,16 +144,31 @@ pub after_steps-shape : (command : Command) (taken : ℕ)
     → shape (after_steps command taken) ≡ shape_left (shape command) taken
 after_steps-shape command taken = after_by-shape (shape command) command taken refl
 
--- the key of a step; a flush has none, said as the empty list
+-- A step as a store sees it: on a key, with the block that it brings or no bytes; or a flush of all
+-- keys.
+pub data View : Type 0 where
+  OnKey : (key block : List ℕ) → View
+  OnAll : (delay : ℕ) → View
+
+-- a step's view
+abbrev pub view : KeyStep → View
+view (StoreStep verb key flags exptime block) = OnKey key block
+view (CasStep key flags exptime block unique) = OnKey key block
+view (ReadStep key) = OnKey key []
+view (ReadTouchStep key exptime) = OnKey key []
+view (TouchStep key exptime) = OnKey key []
+view (DeleteStep key) = OnKey key []
+view (CountStep key up by) = OnKey key []
+view (FlushStep delay) = OnAll delay
+
+-- the key of a step that is seen so; a flush has none, said as the empty list
+abbrev pub key_seen : View → List ℕ
+key_seen (OnKey key block) = key
+key_seen (OnAll delay) = []
+
+-- the key of a step
 abbrev pub key_of : KeyStep → List ℕ
-key_of (StoreStep verb key flags exptime block) = key
-key_of (CasStep key flags exptime block unique) = key
-key_of (ReadStep key) = key
-key_of (ReadTouchStep key exptime) = key
-key_of (TouchStep key exptime) = key
-key_of (DeleteStep key) = key
-key_of (CountStep key up by) = key
-key_of (FlushStep delay) = []
+key_of step = key_seen (view step)
 
 -- how many bytes a key has at most
 abbrev pub longest_key : ℕ

@@ -2,23 +2,20 @@
 use Rattle.std.specs.Prelude.{◌≡◌, ◌≢◌, ℕ, ◌-◌, ◌^◌, ◌≤◌, ◌==◌, false, List, Option, Some, None, if◌then◌else◌}
 use Rattle.std.specs.FinMap.{get}
 use Rattle.mc_slab.specs.Classes.{class_holding}
-use Rattle.mc_command.specs.Commands.{key_of}
+use Rattle.mc_command.specs.Commands.{View, OnKey, OnAll, view, key_of}
 use Rattle.mc_command.specs.declared.step.KeyStep.{KeyStep}
-use Rattle.mc_command.specs.declared.step.KeyStep.TheVariants.{Store, Cas, Read, ReadTouch, Touch, Delete, Count, Flush}
 use Rattle.mc_command.specs.declared.row.Row.{Row}
 use Rattle.mc_command.specs.declared.row.Row.TheVariants.{Refuses, Reads, Touches, Deletes, Writes}
 use Rattle.mc_command.specs.Plain.{Plain, Entry, Outcome, Answered, Spent, charge, item_class, has_room, standing, without_dead, keeps_chunk, block_of, written_block, row_of}
 
+-- a step that is seen so is on one key
+abbrev pub IsOnKeySeen : View → Type 0
+IsOnKeySeen (OnKey key block) = Unit {0}
+IsOnKeySeen (OnAll delay) = ⊥
+
 -- a step on one key: any but a flush
 abbrev pub IsOnKey : KeyStep → Type 0
-IsOnKey (Store verb key flags exptime block) = Unit {0}
-IsOnKey (Cas key flags exptime block unique) = Unit {0}
-IsOnKey (Read key) = Unit {0}
-IsOnKey (ReadTouch key exptime) = Unit {0}
-IsOnKey (Touch key exptime) = Unit {0}
-IsOnKey (Delete key) = Unit {0}
-IsOnKey (Count key up by) = Unit {0}
-IsOnKey (Flush delay) = ⊥
+IsOnKey step = IsOnKeySeen (view step)
 
 -- the state as a step on one key finds it: the key's dead item is dropped
 abbrev pub found_by : KeyStep → ℕ → Plain → Plain

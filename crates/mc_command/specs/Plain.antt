@@ -16,7 +16,7 @@ use Rattle.mc_command.specs.declared.step.Verb.{Verb}
 use Rattle.mc_command.specs.declared.step.Verb.TheVariants.{Set, Add, Replace, Append, Prepend}
 use Rattle.mc_command.specs.declared.step.KeyStep.{KeyStep}
 use Rattle.mc_command.specs.declared.step.KeyStep.TheVariants.{Store, Cas, Read, ReadTouch, Touch, Delete, Count, Flush}
-use Rattle.mc_command.specs.Commands.{key_of}
+use Rattle.mc_command.specs.Commands.{View, OnKey, OnAll, view, key_of}
 use Rattle.mc_command.specs.declared.row.Row.{Row}
 use Rattle.mc_command.specs.declared.row.Row.TheVariants.{Refuses, Reads, Touches, Deletes, Writes}
 use Rattle.mc_command.specs.declared.row.Refusal.{Refusal}
@@ -213,16 +213,14 @@ write_reply Appended = Stored
 write_reply Prepended = Stored
 write_reply (Counted number) = Number number
 
--- the block that a step brings, and none where it brings none
+-- the block that a step brings that is seen so, and none where it brings none
+abbrev pub block_seen : View → List ℕ
+block_seen (OnKey key block) = block
+block_seen (OnAll delay) = []
+
+-- the block that a step brings
 abbrev pub block_of : KeyStep → List ℕ
-block_of (Store verb key flags exptime block) = block
-block_of (Cas key flags exptime block unique) = block
-block_of (Read key) = []
-block_of (ReadTouch key exptime) = []
-block_of (Touch key exptime) = []
-block_of (Delete key) = []
-block_of (Count key up by) = []
-block_of (Flush delay) = []
+block_of step = block_seen (view step)
 
 -- the block that a write puts under the key, by the one that the step brings and the item that
 -- stands
@@ -328,18 +326,14 @@ flushed delay old now =
     if delay == 0 then record old { items = empty; cut = None }
     else record old { items = living old.items old.cut now; cut = Some (moment_named delay now) }
 
+-- a step at a moment, by its view
+abbrev pub taken : View → Plain → KeyStep → ℕ → Outcome
+taken (OnKey key block) old step now = stepped old step now
+taken (OnAll delay) old step now = Answered Flushed (flushed delay old now)
+
 -- one step at a moment
 abbrev pub plain : Plain → KeyStep → ℕ → Outcome
-plain old (Store verb key flags exptime block) now =
-    stepped old (Store verb key flags exptime block) now
-plain old (Cas key flags exptime block unique) now =
-    stepped old (Cas key flags exptime block unique) now
-plain old (Read key) now = stepped old (Read key) now
-plain old (ReadTouch key exptime) now = stepped old (ReadTouch key exptime) now
-plain old (Touch key exptime) now = stepped old (Touch key exptime) now
-plain old (Delete key) now = stepped old (Delete key) now
-plain old (Count key up by) now = stepped old (Count key up by) now
-plain old (Flush delay) now = Answered Flushed (flushed delay old now)
+plain old step now = taken (view step) old step now
 
 -- a reply that a block is copied for
 abbrev pub CopiesBlock : Reply → Type 0

@@ -1,28 +1,21 @@
 -- How the plain store takes a step, part by part.
-use Rattle.std.specs.Prelude.{◌≡◌, ◌≢◌, ℕ, ◌-◌, ◌^◌, Bool, false, List, Option, Some, None, Result, Err, IfOk, OnErr, IsTrue}
-use Rattle.mc_time.specs.Death.{expiry_of}
+use Rattle.std.specs.Prelude.{◌≡◌, ◌≢◌, ℕ, ◌+◌, ◌-◌, ◌^◌, ◌++◌, Bool, List, [], Option, Some, None, Result, Err, IfOk, OnErr, IsTrue, slice_set, if◌then◌else◌}
+use Rattle.mc_time.specs.declared.expiry.Expiry.{Expiry}
 use Rattle.mc_slab.specs.Classes.{IsClass}
-use Rattle.mc_command.specs.declared.step.Verb.{Verb}
+use Rattle.mc_command.specs.Commands.{key_of}
 use Rattle.mc_command.specs.declared.step.KeyStep.{KeyStep}
-use Rattle.mc_command.specs.declared.step.KeyStep.TheVariants.{Store, Cas}
 use Rattle.mc_command.specs.declared.step.StepFault.{StepFault}
 use Rattle.mc_command.specs.declared.step.StepFault.TheVariants.{NoMemory, NumbersSpent}
 use Rattle.mc_command.specs.declared.reply.Reply.{Reply}
-use Rattle.mc_command.specs.declared.reply.Reply.TheVariants.{Stored, NotStored}
-use Rattle.mc_command.specs.declared.plain.item.Given.{Given}
+use Rattle.mc_command.specs.declared.row.Row.{Row}
+use Rattle.mc_command.specs.declared.row.Draft.{Draft}
+use Rattle.mc_command.specs.declared.row.Body.{Body}
+use Rattle.mc_command.specs.declared.row.Body.TheVariants.{Given, Appended, Prepended, Counted}
 use Rattle.mc_command.specs.declared.plain.item.Written.{Written}
 use Rattle.mc_command.specs.declared.plain.write.Next.{Next}
 use Rattle.mc_command.specs.declared.plain.write.Next.TheVariants.{Answer, Rewrite, Place}
 use Rattle.mc_command.specs.Laws.{of_class}
-use Rattle.mc_command.specs.Plain.{Plain, Entry, Outcome, Answered, Spent, MayFail, CopiesBlock, block_class, has_room, with_chunk, standing, without_dead, written, wrote, changed, store_row}
-
--- the step of what a storage command brings
-abbrev pub store_step : Verb → (key : List ℕ) → Given → KeyStep
-store_step verb key given = Store verb key given.flags given.exptime given.block
-
--- the step of what cas brings
-abbrev pub cas_step : (key : List ℕ) → Given → (unique : ℕ) → KeyStep
-cas_step key given unique = Cas key given.flags given.exptime given.block unique
+use Rattle.mc_command.specs.Plain.{Plain, Entry, Outcome, Answered, Spent, MayFail, CopiesBlock, block_class, has_room, pages_of, with_chunk, standing, without_dead, written, wrote, changed, hit_of, perhaps_expiring, keeps_chunk, write_reply, written_block}
 
 -- a step ends as the plain machine says, and where it isn't taken nothing changes
 pub record Ends (outcome : Outcome) (result : Result Reply StepFault) (old new : Plain)
@@ -41,6 +34,12 @@ abbrev pub writing : (stays : Bool) → Reply → Written → List ℕ → Plain
 writing stays reply w key old now =
     wrote stays reply key w.flags w.expiry w.block (found key old now) now
 
+-- a page more for a class that is full
+abbrev pub paged : Bool → Plain → (class : ℕ) → Plain
+paged is_full old class =
+    if is_full then record old { pages = slice_set old.pages (class - 1) (pages_of old class + 1) }
+    else old
+
 -- what a write leaves that stays in the old item's chunk
 abbrev pub rewritten : Written → List ℕ → Plain → ℕ → Plain
 rewritten w key old now = written old key w.flags w.expiry w.block now
@@ -54,16 +53,50 @@ placed w key old now =
 abbrev pub StaysIn : Plain → (key : List ℕ) → Written → ℕ → Type 0
 StaysIn old key w now = of_class key (standing old key now) (block_class key w.block) ≡ 1
 
--- what a storage command comes to, where this item stands
-abbrev pub storing : Verb → (key : List ℕ) → Given → Option Entry → Plain → ℕ → Outcome
-storing verb key given item old now =
-    let row = store_row verb given.flags (expiry_of given.exptime now) item in
-    changed row (store_step verb key given) item old now
+-- the number that a body counts to, and 0 where it counts none
+abbrev pub number_in : Body → ℕ
+number_in Given = 0
+number_in Appended = 0
+number_in Prepended = 0
+number_in (Counted number) = number
 
--- the same by what it writes; it writes nothing where its condition fails
-abbrev pub stored_by : Option Written → List ℕ → Plain → ℕ → Outcome
-stored_by None key old now = Answered NotStored old
-stored_by (Some w) key old now = wrote false Stored key w.flags w.expiry w.block old now
+-- the block of an item, and no bytes where there is none
+abbrev pub block_in : Option Entry → List ℕ
+block_in None = []
+block_in (Some item) = item.block
+
+-- the block that a body makes of a step's, of an old one and of a number's digits
+abbrev pub made_block : Body → (block old digits : List ℕ) → List ℕ
+made_block Given block old digits = block
+made_block Appended block old digits = old ++ block
+made_block Prepended block old digits = block ++ old
+made_block (Counted number) block old digits = digits
+
+-- what a draft makes of them
+abbrev pub made : Draft → (block old digits : List ℕ) → Written
+made draft block old digits = record {
+  flags = draft.flags;
+  expiry = draft.expiry;
+  block = made_block draft.body block old digits;
+}
+
+-- what a row does at a step's key
+abbrev pub applied : Row → KeyStep → Plain → ℕ → Outcome
+applied row step old now =
+    changed row step (standing old (key_of step) now) (found (key_of step) old now) now
+
+-- what a retrieval does at a key
+abbrev pub reading : Option Expiry → List ℕ → Plain → ℕ → Outcome
+reading expiry key old now =
+    let item = standing old key now in
+    Answered (hit_of item) (perhaps_expiring item key expiry (found key old now))
+
+-- what a draft writes at a key, of the block that a step brings
+abbrev pub drafting : Draft → (key block : List ℕ) → Plain → ℕ → Outcome
+drafting draft key block old now =
+    let item = standing old key now in
+    wrote (keeps_chunk draft.body key item) (write_reply draft.body) key draft.flags draft.expiry
+    (written_block draft.body block item) (found key old now) now
 
 -- what comes of a write that is done
 abbrev pub done : Next → List ℕ → Plain → ℕ → Outcome

@@ -1,32 +1,26 @@
 //! The plain store: an ordered map, which takes each step as the plain machine does.
 
-mod accounts;
 mod item;
 mod purge;
+mod room;
 #[cfg(test)]
 mod tests;
 mod write;
 
-ghost use Rattle.std.specs.Prelude.{◌≡◌, ◌≤◌, ℕ, length, Err, IfOk, OnErr, refl};
+ghost use Rattle.std.specs.Prelude.{◌≡◌, ◌≤◌, length, Err, IfOk, OnErr, refl};
 ghost use Rattle.std.specs.Option.{option_copied};
 ghost use Rattle.std.specs.FinMap.{get, remove};
 ghost use Rattle.mc_command.specs.Commands.{key_of, longest_key};
-ghost use Rattle.mc_slab.specs.Classes.{IsClass};
-ghost use Rattle.mc_slab.specs.Slabs.{out_of};
-ghost use Rattle.mc_command.specs.Accounts.{AreOf, held_class, dead_class};
-ghost use Rattle.mc_command.specs.Items.{items_of};
-ghost use Rattle.mc_command.specs.Steps.{Ends, found, store_step, cas_step};
-ghost use Rattle.mc_command.specs.Plain.{opening, starting, plain, standing, expiring, count_of, has_room, living, Answered, Spent, MayFail};
+ghost use Rattle.mc_command.specs.Steps.{Ends, found, applied, reading};
+ghost use Rattle.mc_command.specs.Plain.{opening, starting, plain, stepped, standing, expiring, hit_of, living, Answered, Spent, CopiesBlock, MayFail};
 
-use crate::number::{counted, number_of};
-use crate::plain::accounts::Accounts;
-use crate::plain::item::{Given, Item};
+use crate::plain::item::Item;
 pub use crate::plain::purge::KeyTest;
+use crate::plain::room::CLASSES;
 use crate::reply::Reply;
-use crate::step::{KeyStep, StepFault, Steps, Verb};
-use itoa::Buffer;
-use mc_slab::Class;
-use mc_time::{Expiry, Moment, cut_after, expiry_of};
+use crate::row::{Row, row_of};
+use crate::step::{KeyStep, StepFault, Steps};
+use mc_time::{Expiry, Moment, cut_after};
 use std::alloc::{AllocError, Global};
 use std::collections::BTreeMap;
 use std::marker::Model;
@@ -35,17 +29,19 @@ use std::marker::Model;
 #[derive(Drop)]
 pub struct PlainStore {
     greatest: u64,
+    limit: u32,
     items: BTreeMap<Vec<u8>, Item>,
-    accounts: Accounts,
     cut: Option<u64>,
     next_unique: u64,
+    /// How many pages each class has, class 1 first, and how many they are together.
+    pages: [u32; CLASSES],
+    pages_in_use: u32,
 }
 
 impl Model for PlainStore {
-    ghost use Rattle.std.specs.Prelude.{◌≤◌};
     ghost use Rattle.mc_command.specs.Plain.{Plain, coded_plain};
     ghost use Rattle.mc_command.specs.Items.{items_of};
-    ghost use Rattle.mc_command.specs.Accounts.{AreOf};
+    ghost use Rattle.mc_command.specs.Accounts.{AreCounted};
 
     ghost Value = { Plain };
 
@@ -53,14 +49,14 @@ impl Model for PlainStore {
 
     ghost view = { λ s. record {
       greatest = s.greatest;
-      limit = s.accounts.limit;
+      limit = s.limit;
       items = items_of s.items.entries;
       cut = s.cut;
       next_unique = s.next_unique;
-      pages = s.accounts.pages;
+      pages = s.pages;
     } };
 
-    ghost invariant = { λ s. (s.greatest ≤ 1048576) × AreOf (items_of s.items.entries) s.accounts };
+    ghost invariant = { λ s. AreCounted s.greatest s.limit s.pages_in_use s.pages };
 }
 
 impl PlainStore {
@@ -89,10 +85,12 @@ impl PlainStore {
     {
         Ok(PlainStore {
             greatest,
+            limit: pages,
             items: BTreeMap::new(alloc),
-            accounts: Accounts::new(pages),
             cut: None,
             next_unique: next,
+            pages: [0; CLASSES],
+            pages_in_use: 0,
         })
     }
 }
@@ -108,38 +106,11 @@ impl PlainStore {
         }
     }
 
-    /// Finds the class of the item that stands under the key.
-    fn standing_class(&self, key: &[u8], now: Moment) -> Option<Class>
-        ensures { result ≡ held_class key.now (standing self.now key.now now) }
-    {
-        self.standing(key, now)?.class(key)
-    }
-
-    /// Finds the class of the key's dead item, where no item stands under it.
-    fn dead_class(&self, key: &[u8], now: Moment) -> Option<Class>
-        ensures { result ≡ dead_class (standing self.now key.now now) key.now self.now }
-    {
-        if self.standing(key, now).is_some() {
-            return None;
-        }
-        self.items.get(key)?.class(key)
-    }
-
-    /// Tells whether a chunk of the class can be had, once the key's item is dropped if it is dead.
-    fn has_room(&self, key: &[u8], class: Class, now: Moment) -> bool
-        ensures value { result ≡ has_room (found key.now self.now now) class }
-        ensures is_class { IsClass class }
-    {
-        self.accounts.has_room(class, self.dead_class(key, now))
-    }
-
     /// Removes the key's item, if there is one.
     fn remove(&mut self, key: &[u8])
         ensures { self.new ≡ record self.old { items = remove self.old.items key.now } }
     {
-        if let Some(item) = self.items.remove(key) {
-            self.accounts.give(item.class(key));
-        }
+        let _ = self.items.remove(key);
     }
 
     /// Drops the key's item if it is dead.
@@ -161,127 +132,97 @@ impl PlainStore {
     }
 }
 
-// Each kind of step, by the protocol's table.
+// A step, by the protocol's table.
 impl PlainStore {
-    fn store(
-        &mut self,
-        alloc: Global,
-        verb: Verb,
-        key: &[u8],
-        given: &Given<'_>,
-        now: Moment,
-    ) -> Result<Reply, StepFault>
-        ensures { Ends (plain self.old (store_step verb key.now given.now) now)
-            result self.old self.new }
+    /// Takes a step. A step that writes no item and hits none takes no memory.
+    fn taken(&mut self, alloc: Global, step: &KeyStep<'_>, now: Moment) -> Result<Reply, StepFault>
+        ensures { Ends (plain self.old step.now now) result self.old self.new }
     {
-        let Some(write) = given.write_by(verb, self.standing(key, now), now) else {
-            self.drop_dead(key, now);
-            return Ok(Reply::NotStored);
-        };
-        let next = self.prepared(alloc, key, &write, false, Reply::Stored, now)?;
-        self.finish(alloc, key, next, now)
-    }
-
-    fn cas(
-        &mut self,
-        alloc: Global,
-        key: &[u8],
-        given: &Given<'_>,
-        unique: u64,
-        now: Moment,
-    ) -> Result<Reply, StepFault>
-        ensures { Ends (plain self.old (cas_step key.now given.now unique) now)
-            result self.old self.new }
-    {
-        let Some(item) = self.standing(key, now) else {
-            self.remove(key);
-            return Ok(Reply::NotFound);
-        };
-        if item.unique() != unique {
-            return Ok(Reply::Exists);
+        match step {
+            KeyStep::Flush { delay } => Ok(self.flush(*delay, now)),
+            _ => self.stepped(alloc, step, now),
         }
-        let write = given.write(now);
-        let next = self.prepared(alloc, key, &write, false, Reply::Stored, now)?;
-        self.finish(alloc, key, next, now)
     }
 
-    fn read(&mut self, alloc: Global, key: &[u8], now: Moment) -> Result<Reply, StepFault>
-        ensures { Ends (plain self.old (KeyStep.Read key.now) now) result self.old self.new }
+    /// Takes a step at its key, by its row.
+    fn stepped(
+        &mut self,
+        alloc: Global,
+        step: &KeyStep<'_>,
+        now: Moment,
+    ) -> Result<Reply, StepFault>
+        ensures { Ends (stepped self.old step.now now) result self.old self.new }
     {
-        match self.standing(key, now) {
-            Some(item) => Ok(item.hit(alloc)?),
-            None => {
-                self.remove(key);
-                Ok(Reply::Miss)
+        let row = row_of(step, self.standing(step.key(), now), now);
+        self.apply(alloc, row, step, now)
+    }
+
+    /// Does what a row does at a step's key.
+    fn apply(
+        &mut self,
+        alloc: Global,
+        row: Row,
+        step: &KeyStep<'_>,
+        now: Moment,
+    ) -> Result<Reply, StepFault>
+        ensures { Ends (applied row step.now self.old now) result self.old self.new }
+    {
+        let key = step.key();
+        match row {
+            Row::Refuses(refusal) => {
+                self.drop_dead(key, now);
+                Ok(refusal.reply())
             }
+            Row::Reads(expiry) => self.read(alloc, key, expiry, now),
+            Row::Touches(expiry) => {
+                self.expire(key, expiry, now);
+                Ok(Reply::Touched)
+            }
+            Row::Deletes => {
+                self.drop_dead(key, now);
+                self.remove(key);
+                Ok(Reply::Deleted)
+            }
+            Row::Writes(draft) => self.write(alloc, key, step.block(), draft, now),
         }
     }
 
-    fn read_touch(
+    /// Gives the item that stands under the key another expiry, if there is one.
+    fn expire(&mut self, key: &[u8], expiry: Expiry, now: Moment)
+        ensures { self.new
+            ≡ expiring (standing self.old key.now now) key.now expiry (found key.now self.old now) }
+    {
+        self.drop_dead(key, now);
+        self.set_expiry(key, expiry);
+    }
+
+    /// Answers with the item that stands under the key, and gives it the expiry that is given.
+    fn read(
         &mut self,
         alloc: Global,
         key: &[u8],
-        exptime: i64,
+        expiry: Option<Expiry>,
         now: Moment,
     ) -> Result<Reply, StepFault>
-        ensures { Ends (plain self.old (KeyStep.ReadTouch key.now exptime) now)
-            result self.old self.new }
+        ensures { Ends (reading expiry key.now self.old now) result self.old self.new }
     {
-        let Some(found) = self.standing(key, now) else {
-            self.remove(key);
-            return Ok(Reply::Miss);
-        };
-        let reply = found.hit(alloc)?;
-        self.set_expiry(key, expiry_of(exptime, now));
+        let reply = self.hit(alloc, key, now)?;
+        match expiry {
+            Some(expiry) => self.expire(key, expiry, now),
+            None => self.drop_dead(key, now),
+        }
         Ok(reply)
     }
 
-    fn touch(&mut self, key: &[u8], exptime: i64, now: Moment) -> Reply
-        ensures { plain self.old (KeyStep.Touch key.now exptime) now ≡ Answered result self.new }
+    /// Makes the reply of a retrieval, by the item that stands under the key.
+    fn hit(&self, alloc: Global, key: &[u8], now: Moment) -> Result<Reply, AllocError>
+        ensures ok { IfOk result (λ reply. reply ≡ hit_of (standing self.now key.now now)) }
+        ensures err { OnErr result (CopiesBlock (hit_of (standing self.now key.now now))) }
     {
-        if self.standing(key, now).is_none() {
-            self.remove(key);
-            return Reply::NotFound;
+        match self.standing(key, now) {
+            Some(item) => item.hit(alloc),
+            None => Ok(Reply::Miss),
         }
-        self.set_expiry(key, expiry_of(exptime, now));
-        Reply::Touched
-    }
-
-    fn delete(&mut self, key: &[u8], now: Moment) -> Reply
-        ensures { plain self.old (KeyStep.Delete key.now) now ≡ Answered result self.new }
-    {
-        let stood = self.standing(key, now).is_some();
-        self.remove(key);
-        if stood {
-            Reply::Deleted
-        } else {
-            Reply::NotFound
-        }
-    }
-
-    fn count(
-        &mut self,
-        alloc: Global,
-        key: &[u8],
-        up: bool,
-        by: u64,
-        now: Moment,
-    ) -> Result<Reply, StepFault>
-        ensures { Ends (plain self.old (KeyStep.Count key.now up by) now) result self.old self.new }
-    {
-        let Some(item) = self.standing(key, now) else {
-            self.remove(key);
-            return Ok(Reply::NotFound);
-        };
-        let Some(old) = number_of(item.bytes()) else {
-            return Ok(Reply::NotNumeric);
-        };
-        let number = counted(up, by, old);
-        let mut buffer = Buffer::new();
-        let write = item.rewrite(&[], buffer.format(number).as_bytes());
-        let stays = item.class(key) == write.class(key);
-        let next = self.prepared(alloc, key, &write, stays, Reply::Number(number), now)?;
-        self.finish(alloc, key, next, now)
     }
 
     fn flush(&mut self, delay: u64, now: Moment) -> Reply
@@ -289,48 +230,11 @@ impl PlainStore {
     {
         if delay == 0 {
             self.items.clear();
-            self.accounts.give_all();
         } else {
             self.drop_all_dead(now);
         }
         self.cut = cut_after(delay, now);
         Reply::Flushed
-    }
-
-    /// Takes a step. A step that writes no item and hits none takes no memory.
-    fn taken(&mut self, alloc: Global, step: &KeyStep<'_>, now: Moment) -> Result<Reply, StepFault>
-        ensures { Ends (plain self.old step.now now) result self.old self.new }
-    {
-        match step {
-            KeyStep::Store {
-                verb,
-                key,
-                flags,
-                exptime,
-                block,
-            } => {
-                let given = Given::of(*flags, *exptime, block);
-                self.store(alloc, *verb, key.as_slice(), &given, now)
-            }
-            KeyStep::Cas {
-                key,
-                flags,
-                exptime,
-                block,
-                unique,
-            } => {
-                let given = Given::of(*flags, *exptime, block);
-                self.cas(alloc, key.as_slice(), &given, *unique, now)
-            }
-            KeyStep::Read { key } => self.read(alloc, key.as_slice(), now),
-            KeyStep::ReadTouch { key, exptime } => {
-                self.read_touch(alloc, key.as_slice(), *exptime, now)
-            }
-            KeyStep::Touch { key, exptime } => Ok(self.touch(key.as_slice(), *exptime, now)),
-            KeyStep::Delete { key } => Ok(self.delete(key.as_slice(), now)),
-            KeyStep::Count { key, up, by } => self.count(alloc, key.as_slice(), *up, *by, now),
-            KeyStep::Flush { delay } => Ok(self.flush(*delay, now)),
-        }
     }
 
     /// Drops every item that is dead.
@@ -339,24 +243,6 @@ impl PlainStore {
     {
         let cut = self.cut;
         self.items.retain(move |_, item| !item.is_dead(cut, now));
-        recount(&mut self.accounts, &self.items);
-    }
-}
-
-/// Counts the items of each class anew, after some are gone. The pages stay. The cost grows with
-/// the number of items.
-fn recount(accounts: &mut Accounts, items: &BTreeMap<Vec<u8>, Item>)
-    requires { (class : ℕ) → IsClass class →
-        count_of (items_of items.now.entries) class ≤ out_of accounts.old class }
-    ensures counts { AreOf (items_of items.now.entries) accounts.new }
-    ensures pages { accounts.new.pages ≡ accounts.old.pages }
-    ensures limit { accounts.new.limit ≡ accounts.old.limit }
-{
-    accounts.give_all();
-    for (key, item) in items {
-        if let Some(class) = item.class(key) {
-            accounts.take(class);
-        }
     }
 }
 

@@ -88,12 +88,7 @@ impl<'a> KeyStep<'a> {
     {
         match self {
             KeyStep::Store { block, .. } | KeyStep::Cas { block, .. } => block.as_slice(),
-            KeyStep::Read { .. }
-            | KeyStep::ReadTouch { .. }
-            | KeyStep::Touch { .. }
-            | KeyStep::Delete { .. }
-            | KeyStep::Count { .. }
-            | KeyStep::Flush { .. } => &[],
+            _ => &[],
         }
     }
 }

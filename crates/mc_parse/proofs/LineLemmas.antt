@@ -185,14 +185,8 @@ short_words (w ∷ ws) = (is_key-short w, short_words ws)
 
 -- a step's key that is short, said of `key_of`
 key_of-short : (step : KeyStep) → IsKeyed IsShort step → length (key_of step) ≤ 250
-key_of-short (StoreStep verb key flags exptime block) short = short
-key_of-short (CasStep key flags exptime block unique) short = short
-key_of-short (ReadStep key) short = short
-key_of-short (ReadTouchStep key exptime) short = short
-key_of-short (TouchStep key exptime) short = short
-key_of-short (DeleteStep key) short = short
-key_of-short (CountStep key up by) short = short
 key_of-short (FlushStep delay) short = omega arith
+key_of-short step short = short
 
 HasShortKeys-from : (command : Command) → HasKeys IsShort command → HasShortKeys command
 HasShortKeys-from command keyed k d inside = key_of-short _ (keyed k d inside)

@@ -5,7 +5,7 @@ use Rattle.std.specs.Result.{IfOk}
 use Rattle.std.specs.Str.Lines.{strip_carriage_return}
 use Rattle.mc_command.specs.Words.{words, EndsIn}
 use Rattle.mc_command.specs.Commands.{Command, retrieval_in, block_in, retrieval, after_steps}
-use Rattle.mc_command.specs.declared.command.CommandOf.TheVariants.{Store, Cas, Get, GetTouch, Touch, Delete, Count, FlushAll, Lone}
+use Rattle.mc_command.specs.declared.command.CommandOf.TheVariants.{Store, Get, GetTouch}
 use Rattle.mc_command.specs.declared.fault.LineFault.{LineFault}
 use Rattle.mc_parse.specs.declared.note.KeySpan.{KeySpan}
 use Rattle.mc_parse.specs.declared.note.Note.{Note}
@@ -58,14 +58,7 @@ noted greatest bytes line text end found inside is_line line_is text_is says fit
 -- a block is as long as it was noted
 pub block_stays : (text : List ℕ) (noted : Noted) → block_in (read text noted) ≡ block_in noted
 block_stays text (Store verb key flags exptime len quiet) = refl
-block_stays text (Cas key flags exptime len unique quiet) = refl
-block_stays text (Get keys with_unique) = refl
-block_stays text (GetTouch exptime keys with_unique) = refl
-block_stays text (Touch key exptime quiet) = refl
-block_stays text (Delete key quiet) = refl
-block_stays text (Count key up by quiet) = refl
-block_stays text (FlushAll delay quiet) = refl
-block_stays text (Lone lone) = refl
+block_stays text noted = refl
 
 -- it stays when more come
 pub noted_more : (greatest : ℕ) (note : Note) (bytes more : List ℕ) → IsNoted greatest note bytes → IsNoted greatest note (bytes ++ more)
@@ -84,15 +77,9 @@ noted_more greatest note bytes more is =
 
 -- turns leave a command that isn't a retrieval whole
 whole_line : (noted : Noted) (text block : List ℕ) (taken : ℕ) → retrieval_in noted ≡ None → after_steps (with_block (read text noted) block) taken ≡ with_block (read text noted) block
-whole_line (Store verb key flags exptime len quiet) text block taken none = refl
-whole_line (Cas key flags exptime len unique quiet) text block taken none = refl
 whole_line (Get keys with_unique) text block taken none = absurd (cc)
 whole_line (GetTouch exptime keys with_unique) text block taken none = absurd (cc)
-whole_line (Touch key exptime quiet) text block taken none = refl
-whole_line (Delete key quiet) text block taken none = refl
-whole_line (Count key up by quiet) text block taken none = refl
-whole_line (FlushAll delay quiet) text block taken none = refl
-whole_line (Lone lone) text block taken none = refl
+whole_line noted text block taken none = refl
 
 -- a line says no retrieval
 abbrev pub SaysNoKeys : Result Noted LineFault → Type 0
@@ -147,13 +134,7 @@ cursor_of greatest note bytes (GetTouch exptime keys with_unique) its is =
     let line : Line = read text (GetTouch exptime keys with_unique) in
     first_at greatest note bytes (Some exptime) keys with_unique is (subst (λ r. IfOk r (λ noted. Fits noted text)) its is.fits)
     (spells_alone greatest bytes note.end line is.inside is.line (says_text greatest note bytes is ∙ ap (said text) its) refl)
-cursor_of greatest note bytes (Store verb key flags exptime len quiet) its is = tt
-cursor_of greatest note bytes (Cas key flags exptime len unique quiet) its is = tt
-cursor_of greatest note bytes (Touch key exptime quiet) its is = tt
-cursor_of greatest note bytes (Delete key quiet) its is = tt
-cursor_of greatest note bytes (Count key up by quiet) its is = tt
-cursor_of greatest note bytes (FlushAll delay quiet) its is = tt
-cursor_of greatest note bytes (Lone lone) its is = tt
+cursor_of greatest note bytes noted its is = tt
 
 pub first_noted : (greatest : ℕ) (note : Note) (bytes : List ℕ) (noted : Noted) (asked : Option ℤ × KeySpan × Bool) → note.said ≡ Ok noted → retrieval_in noted ≡ Some asked → IsNoted greatest note bytes
     → IsFirst greatest (first_cursor asked.1 note.to (note.end + 1) asked.2 asked.0) bytes

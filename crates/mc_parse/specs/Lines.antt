@@ -4,14 +4,12 @@ use Rattle.std.specs.Str.{bytes_eq}
 use Rattle.std.specs.List.{list_all}
 use Rattle.mc_command.specs.Words.{is_nonempty}
 use Rattle.mc_command.specs.Numbers.{number_up_to}
-use Rattle.mc_command.specs.Commands.{steps}
-use Rattle.mc_command.specs.Commands.{Command}
+use Rattle.mc_command.specs.Commands.{Command, View, OnKey, OnAll, steps, view}
 use Rattle.mc_command.specs.declared.command.CommandOf.{CommandOf}
 use Rattle.mc_command.specs.declared.command.CommandOf.TheVariants.{Store, Cas, Get, GetTouch, Touch, Delete, Count, FlushAll, Lone as LoneCommand}
 use Rattle.mc_command.specs.declared.lone.Lone.{Lone}
 use Rattle.mc_command.specs.declared.step.Verb.{Verb}
 use Rattle.mc_command.specs.declared.step.KeyStep.{KeyStep}
-use Rattle.mc_command.specs.declared.step.KeyStep.TheVariants.{Store as StoreStep, Cas as CasStep, Read as ReadStep, ReadTouch as ReadTouchStep, Touch as TouchStep, Delete as DeleteStep, Count as CountStep, Flush as FlushStep}
 use Rattle.mc_command.specs.declared.fault.LineFault.{LineFault}
 use Rattle.mc_command.specs.declared.fault.LineFault.TheVariants.{Unknown, BadFormat, BadDelta, TooLarge}
 use Rattle.mc_parse.specs.declared.name.Name.{Name}
@@ -182,16 +180,14 @@ IsWord word = (0 < length word) × All (λ b. (b ≢ 32) × (b ≢ 10)) word
 abbrev pub IsKey : List ℕ → Type 0
 IsKey key = IsWord key × (length key ≤ 250)
 
+-- this holds of the key of a step that is seen so
+abbrev pub IsKeyedSeen : (List ℕ → Type 0) → View → Type 0
+IsKeyedSeen P (OnKey key block) = P key
+IsKeyedSeen P (OnAll delay) = Unit {0}
+
 -- this holds of the step's key; a flush has none
 abbrev pub IsKeyed : (List ℕ → Type 0) → KeyStep → Type 0
-IsKeyed P (StoreStep verb key flags exptime block) = P key
-IsKeyed P (CasStep key flags exptime block unique) = P key
-IsKeyed P (ReadStep key) = P key
-IsKeyed P (ReadTouchStep key exptime) = P key
-IsKeyed P (TouchStep key exptime) = P key
-IsKeyed P (DeleteStep key) = P key
-IsKeyed P (CountStep key up by) = P key
-IsKeyed P (FlushStep delay) = Unit {0}
+IsKeyed P step = IsKeyedSeen P (view step)
 
 -- this holds of each key of the command
 abbrev pub HasKeys : (List ℕ → Type 0) → Command → Type 0

@@ -8,7 +8,7 @@ use native.Mathlib.Decide.{ℕ_discrete}
 use Rattle.mc_time.specs.declared.expiry.Expiry.{Expiry}
 use Rattle.mc_time.specs.Death.{expiry_of}
 use Rattle.mc_command.specs.declared.step.KeyStep.{KeyStep}
-use Rattle.mc_command.specs.declared.step.KeyStep.TheVariants.{Store, Cas, Read, ReadTouch, Touch, Delete, Count, Flush}
+use Rattle.mc_command.specs.declared.step.KeyStep.TheVariants.{Cas, Flush}
 use Rattle.mc_command.specs.declared.row.Row.{Row}
 use Rattle.mc_command.specs.declared.row.Row.TheVariants.{Refuses, Reads, Touches, Deletes, Writes}
 use Rattle.mc_command.specs.declared.row.Refusal.TheVariants as refusal
@@ -89,13 +89,7 @@ flushed_next false once later n h k = k
 
 plain_rises : (old : Plain) (step : KeyStep) (now : ℕ) → Rises old step now (plain old step now)
 plain_rises old (Flush delay) now = (same_le _ _ (flushed_next (eqb delay 0) _ _ old.next_unique refl refl), λ w. absurd w)
-plain_rises old (Store verb key f exptime b) now = stepped_rises old (Store verb key f exptime b) now
-plain_rises old (Cas key f exptime b known) now = stepped_rises old (Cas key f exptime b known) now
-plain_rises old (Read key) now = stepped_rises old (Read key) now
-plain_rises old (ReadTouch key exptime) now = stepped_rises old (ReadTouch key exptime) now
-plain_rises old (Touch key exptime) now = stepped_rises old (Touch key exptime) now
-plain_rises old (Delete key) now = stepped_rises old (Delete key) now
-plain_rises old (Count key up by) now = stepped_rises old (Count key up by) now
+plain_rises old step now = stepped_rises old step now
 
 wrote_key : (key : List ℕ) (step : KeyStep) (now : ℕ) (reply : Reply) → Wrote key (Stepped step now reply) → (key_of step ≡ key) × Wrote (key_of step) (Stepped step now reply)
 wrote_key key step now Stored w = (w, refl)

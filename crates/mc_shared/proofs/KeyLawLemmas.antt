@@ -7,7 +7,7 @@ use Rattle.mc_time.specs.declared.expiry.Expiry.{Expiry}
 use Rattle.mc_time.specs.Death.{expiry_of, is_dead}
 use Rattle.mc_command.specs.declared.step.Verb.TheVariants.{Set, Add, Replace}
 use Rattle.mc_command.specs.declared.step.KeyStep.{KeyStep}
-use Rattle.mc_command.specs.declared.step.KeyStep.TheVariants.{Store, Cas, Read, ReadTouch, Touch, Delete, Count, Flush}
+use Rattle.mc_command.specs.declared.step.KeyStep.TheVariants.{Store, Cas, Read, Delete, Flush}
 use Rattle.mc_command.specs.declared.row.Row.{Row}
 use Rattle.mc_command.specs.declared.row.Row.TheVariants.{Refuses, Reads, Touches, Deletes, Writes}
 use Rattle.mc_command.specs.declared.row.Refusal.TheVariants as refusal
@@ -166,13 +166,7 @@ module _ (flags unique : ℕ) (block : List ℕ) where
 
   plain_shows : (old : Plain) (step : KeyStep) (now : ℕ) → Shows old (key_of step) (plain old step now)
   plain_shows old (Flush delay) now = tt
-  plain_shows old (Store verb key f exptime b) now = stepped_shows old (Store verb key f exptime b) now
-  plain_shows old (Cas key f exptime b known) now = stepped_shows old (Cas key f exptime b known) now
-  plain_shows old (Read key) now = stepped_shows old (Read key) now
-  plain_shows old (ReadTouch key exptime) now = stepped_shows old (ReadTouch key exptime) now
-  plain_shows old (Touch key exptime) now = stepped_shows old (Touch key exptime) now
-  plain_shows old (Delete key) now = stepped_shows old (Delete key) now
-  plain_shows old (Count key up by) now = stepped_shows old (Count key up by) now
+  plain_shows old step now = stepped_shows old step now
 
   pub hit_shows : (old new : Plain) (step : KeyStep) (now : ℕ) → plain old step now ≡ Answered (Hit flags unique block) new → HasItem old (key_of step) flags unique block
   hit_shows old new step now is = subst (Shows old (key_of step)) is (plain_shows old step now) refl refl refl

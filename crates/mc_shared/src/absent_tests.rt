@@ -76,8 +76,13 @@ impl<'a, R: Wait, K: KeyHash + Drop> Model for Sole<'a, R, K> {
 }
 
 impl<'a, R: Wait, K: KeyHash + Drop> Sole<'a, R, K> {
-    /// Makes an empty store of so many pages.
-    fn open(rt: &'a R, alloc: Global, pages: u32, hasher: K) -> Result<Sole<'a, R, K>, AllocError>
+    /// Makes an empty store of so many pages, with the second hasher where memory is refused.
+    fn open(
+        rt: &'a R,
+        alloc: Global,
+        pages: u32,
+        hashers: (K, K),
+    ) -> Result<Sole<'a, R, K>, AllocError>
         requires { 1 ≤ pages × pages ≤ 65536 }
     {
         let settings = Settings {
@@ -85,7 +90,11 @@ impl<'a, R: Wait, K: KeyHash + Drop> Sole<'a, R, K> {
             greatest: 1048576,
             shelves: 64,
         };
-        let (shared, caller) = Shared::new(alloc, settings, hasher)?;
+        let (hasher, again) = hashers;
+        let (shared, caller) = match Shared::new(alloc, settings, hasher) {
+            Err(_) => Shared::new(alloc, settings, again)?,
+            Ok(made) => made,
+        };
         Ok(Sole { rt, shared, caller })
     }
 
@@ -111,6 +120,12 @@ impl<'a, R: Wait, K: KeyHash + Drop> Sole<'a, R, K> {
             }
             taken => taken,
         }
+    }
+
+    /// Sets a key at 1000, and names what is told.
+    fn set(&mut self, alloc: Global, key: &[u8], block: &[u8]) -> &'static str {
+        let now = Moment::from_seconds_at_most(1000);
+        told_of(&self.taken(alloc, key, Ask::Store(Verb::Set, 0, block), now))
     }
 
     /// Tells whether a row is told as it says.
@@ -142,10 +157,7 @@ impl<'a, R: Wait, K: KeyHash + Drop> Sole<'a, R, K> {
 #[test]
 fn a_key_is_absent_before_it_is_set_and_when_it_is_gone(rt: HostRuntime) -> Result<(), Fail> {
     let alloc = rt.alloc();
-    let mut sole = match Sole::open(&rt, alloc, 64, Fnv) {
-        Err(_) => Sole::open(&rt, alloc, 64, Fnv)?,
-        Ok(sole) => sole,
-    };
+    let mut sole = Sole::open(&rt, alloc, 64, (Fnv, Fnv))?;
     assert_eq!(rt; sole.first_untold(alloc, &DEATHS), None);
     Ok(())
 }
@@ -153,10 +165,7 @@ fn a_key_is_absent_before_it_is_set_and_when_it_is_gone(rt: HostRuntime) -> Resu
 #[test]
 fn a_key_of_the_number_of_another_is_not_absent(rt: HostRuntime) -> Result<(), Fail> {
     let alloc = rt.alloc();
-    let mut sole = match Sole::open(&rt, alloc, 64, Constant(0)) {
-        Err(_) => Sole::open(&rt, alloc, 64, Constant(0))?,
-        Ok(sole) => sole,
-    };
+    let mut sole = Sole::open(&rt, alloc, 64, (Constant(0), Constant(0)))?;
     assert_eq!(rt; sole.first_untold(alloc, &ONE_NUMBER), None);
     Ok(())
 }
@@ -164,19 +173,13 @@ fn a_key_of_the_number_of_another_is_not_absent(rt: HostRuntime) -> Result<(), F
 #[test]
 fn a_key_that_finds_no_chunk_is_absent(rt: HostRuntime) -> Result<(), Fail> {
     let alloc = rt.alloc();
-    let mut sole = match Sole::open(&rt, alloc, 1, Fnv) {
-        Err(_) => Sole::open(&rt, alloc, 1, Fnv)?,
-        Ok(sole) => sole,
-    };
+    let mut sole = Sole::open(&rt, alloc, 1, (Fnv, Fnv))?;
     let block = match filled(alloc, 600000) {
         Err(_) => filled(alloc, 600000)?,
         Ok(block) => block,
     };
-    let now = Moment::from_seconds_at_most(1000);
-    let set = Ask::Store(Verb::Set, 0, block.as_slice());
-    assert_eq!(rt; told_of(&sole.taken(alloc, b"b", set, now)), "stored");
-    let small = Ask::Store(Verb::Set, 0, b"x");
-    assert_eq!(rt; told_of(&sole.taken(alloc, b"s", small, now)), "no chunk");
-    assert!(rt; sole.shared.absent(&mut sole.caller, b"s", now));
+    assert_eq!(rt; sole.set(alloc, b"b", block.as_slice()), "stored");
+    assert_eq!(rt; sole.set(alloc, b"s", b"x"), "no chunk");
+    assert!(rt; sole.is_told(alloc, &(1000, b"s", Act::Absent(true))));
     Ok(())
 }

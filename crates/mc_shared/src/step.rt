@@ -254,12 +254,7 @@ fn is_read(step: &KeyStep<'_>) -> bool
 {
     match step {
         KeyStep::Read { .. } | KeyStep::ReadTouch { .. } => true,
-        KeyStep::Store { .. }
-        | KeyStep::Cas { .. }
-        | KeyStep::Touch { .. }
-        | KeyStep::Delete { .. }
-        | KeyStep::Count { .. }
-        | KeyStep::Flush { .. } => false,
+        _ => false,
     }
 }
 

@@ -6,7 +6,7 @@ use Rattle.mc_time.specs.Death.{is_dead}
 use Rattle.mc_command.specs.declared.step.Verb.{Verb}
 use Rattle.mc_command.specs.declared.step.Verb.TheVariants.{Set, Add, Replace, Append, Prepend}
 use Rattle.mc_command.specs.declared.step.KeyStep.{KeyStep}
-use Rattle.mc_command.specs.declared.step.KeyStep.TheVariants.{Store, Cas, Read, ReadTouch, Touch, Delete, Count, Flush}
+use Rattle.mc_command.specs.declared.step.KeyStep.TheVariants.{Store, Cas, Count, Flush}
 use Rattle.mc_command.specs.declared.reply.Reply.{Reply}
 use Rattle.mc_command.specs.declared.reply.Reply.TheVariants.{Deleted, TooLarge, Touched}
 use Rattle.mc_command.specs.declared.row.Row.{Row}
@@ -60,16 +60,10 @@ count_speaks up by (Some old) = elim (number_of old.block) as (λ n. SpeaksOf (S
 pub row_speaks : (step : KeyStep) (now : ℕ) (stands : Option Entry) → SpeaksOf stands (row_of step now stands)
 row_speaks (Store verb key flags exptime block) now stands = store_speaks verb flags _ stands
 row_speaks (Cas key flags exptime block unique) now stands = cas_speaks flags _ unique stands
-row_speaks (Read key) now None = tt
-row_speaks (Read key) now (Some old) = (old, refl)
-row_speaks (ReadTouch key exptime) now None = tt
-row_speaks (ReadTouch key exptime) now (Some old) = (old, refl)
-row_speaks (Touch key exptime) now None = tt
-row_speaks (Touch key exptime) now (Some old) = (old, refl)
-row_speaks (Delete key) now None = tt
-row_speaks (Delete key) now (Some old) = (old, refl)
 row_speaks (Count key up by) now stands = count_speaks up by stands
 row_speaks (Flush delay) now stands = tt
+row_speaks step now None = tt
+row_speaks step now (Some old) = (old, refl)
 
 -- an item that stands is the key's
 pub alive_found : (cut : Option ℕ) (now : ℕ) (found : Option Entry) (item : Entry) → alive cut now found ≡ Some item → found ≡ Some item

@@ -8,7 +8,7 @@ use Rattle.mc_slab.specs.Classes.{IsClass, class_holding, chunks_a_page}
 use Rattle.mc_slab.specs.Slabs as slabs
 use Rattle.mc_slab.specs.Slabs.{SlabState, IsSlab, IsFull, out_of, taken, given}
 use Rattle.mc_command.specs.declared.step.KeyStep.{KeyStep}
-use Rattle.mc_command.specs.declared.step.KeyStep.TheVariants.{Store, Cas, Read, ReadTouch, Touch, Delete, Count, Flush}
+use Rattle.mc_command.proofs.LawLemmas.{on_key}
 use Rattle.mc_command.specs.declared.reply.Reply.{Reply}
 use Rattle.mc_command.specs.declared.reply.Reply.TheVariants.{TooLarge, NoChunk}
 use Rattle.mc_command.specs.Commands.{key_of}
@@ -127,19 +127,9 @@ pub step_is : (step : KeyStep) (now : ℕ) (shelf : ShelfContent) (desk : DeskSt
     plain s step now ≡ changed (row_at shelf step now) step (stood shelf step now) (record s { items = base (stood shelf step now) (key_of step) s.items }) now
 step_is step now shelf desk s on at =
     let key = key_of step in
-    by_row step on
+    on_key s step now on
     ∙ ap (λ (stands : Option Entry). changed (row_of step now stands) step stands (without_dead stands key s) now) (λ i. alive (at.cut i) now (at.item i))
     ∙ ap (λ (t : Plain). changed (row_at shelf step now) step (stood shelf step now) t now) (base_is (stood shelf step now) key s)
-  where
-    by_row : (step : KeyStep) → IsOnKey step → plain s step now ≡ stepped s step now
-    by_row (Store verb key flags exptime block) on = refl
-    by_row (Cas key flags exptime block unique) on = refl
-    by_row (Read key) on = refl
-    by_row (ReadTouch key exptime) on = refl
-    by_row (Touch key exptime) on = refl
-    by_row (Delete key) on = refl
-    by_row (Count key up by) on = refl
-    by_row (Flush delay) on = absurd on
 
 module _ (insert_counts : InsertCounts) (remove_counts : RemoveCounts) (key : List ℕ) (shelf : ShelfContent) (desk : DeskState) (s : Plain) (at : IsAt key shelf desk s) where
   -- the counts where the key's item is put

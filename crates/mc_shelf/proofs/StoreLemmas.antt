@@ -8,7 +8,7 @@ use Rattle.mc_slab.specs.Slabs.{untouched, out_of}
 use Rattle.mc_command.specs.declared.row.Row.{Row}
 use Rattle.mc_command.specs.declared.row.Row.TheVariants.{Refuses, Reads, Touches, Deletes, Writes}
 use Rattle.mc_command.specs.declared.step.KeyStep.{KeyStep}
-use Rattle.mc_command.specs.declared.step.KeyStep.TheVariants.{Store, Cas, Read, ReadTouch, Touch, Delete, Count, Flush}
+use Rattle.mc_command.proofs.LawLemmas.{on_key}
 use Rattle.mc_command.specs.declared.step.StepFault.{StepFault}
 use Rattle.mc_command.specs.declared.reply.Reply.{Reply}
 use Rattle.mc_command.specs.Commands.{key_of}
@@ -57,16 +57,6 @@ new_parts {hash_of} {count} {pages} {greatest} {next} {list} some none contents 
 
 -- ---- the numbers are spent, of any state that has the key's item, the cut, the greatest charge and the next number
 
-on_key : (step : KeyStep) (old : Plain) (now : ℕ) → IsOnKey step → plain old step now ≡ stepped old step now
-on_key (Store verb key flags exptime block) old now on = refl
-on_key (Cas key flags exptime block unique) old now on = refl
-on_key (Read key) old now on = refl
-on_key (ReadTouch key exptime) old now on = refl
-on_key (Touch key exptime) old now on = refl
-on_key (Delete key) old now on = refl
-on_key (Count key up by) old now on = refl
-on_key (Flush delay) old now on = absurd on
-
 -- a write is out of numbers where it is not too large and none is left, and there alone
 write_spent : (large spent stays room : Bool) (p q r t : Reply) (w x y z : Plain) → cond large (Answered p w) (cond spent Spent (cond stays (Answered q x) (cond room (Answered r y) (Answered t z)))) ≡ Spent → (large ≡ false) × (spent ≡ true)
 write_spent true spent stays room p q r t w x y z is = cc
@@ -102,12 +92,12 @@ spent_there step now {shelf} {desk} {a} on at_a is b at_b =
     let key = key_of step in
     let item = alive a.cut now (get a.items key) in
     let same : item ≡ alive b.cut now (get b.items key) = λ i. alive ((at_a.cut ∙ sym at_b.cut) i) now ((at_a.item ∙ sym at_b.item) i) in
-    on_key step b now on
+    on_key b step now on
     ∙ subst (λ o. changed (row_of step now o) step o (without_dead o key b) now ≡ Spent) same
     (changed_spent (row_of step now item) step item (without_dead item key a) (without_dead item key b) now
     ((left_numbers item key a).0 ∙ at_a.greatest ∙ sym at_b.greatest ∙ sym (left_numbers item key b).0)
     ((left_numbers item key a).1 ∙ at_a.next_unique ∙ sym at_b.next_unique ∙ sym (left_numbers item key b).1)
-    (sym (on_key step a now on) ∙ is))
+    (sym (on_key a step now on) ∙ is))
 
 -- ---- a store's parts after a change
 

@@ -1,16 +1,14 @@
-ghost use Rattle.std.specs.Prelude.{◌≡◌, ◌+◌, ◌-◌, ◌^◌, ◌++◌, ℕ, List, min, length, IfSome, IfOk};
-ghost use Rattle.std.specs.Option.{option_copied};
+ghost use Rattle.std.specs.Prelude.{◌≡◌, ◌==◌, ◌+◌, ◌-◌, ◌^◌, ◌++◌, ℕ, List, min, length, IfSome, IfOk};
 ghost use Rattle.mc_time.specs.Death as death;
 ghost use Rattle.mc_slab.specs.Classes.{IsClass, class_of};
-ghost use Rattle.mc_command.specs.Plain.{Plain, charge, chunk_head};
-ghost use Rattle.mc_command.specs.Steps.{storing, stored_by};
+ghost use Rattle.mc_command.specs.Plain.{charge, chunk_head, item_class};
+ghost use Rattle.mc_command.specs.Steps.{made};
 
 use crate::block::Block;
-use crate::bytes::Bytes;
 use crate::reply::Reply;
-use crate::step::Verb;
+use crate::row::{Body, Draft, Standing};
 use mc_slab::Class;
-use mc_time::{Expiry, Moment, expiry_of};
+use mc_time::{Expiry, Moment};
 use std::alloc::{AllocError, Global};
 use std::marker::Model;
 
@@ -111,66 +109,37 @@ impl<'a> LentWrite<'a> {
     }
 }
 
-/// What a storage command brings.
-#[derive(Drop)]
-pub(crate) struct Given<'a> {
-    flags: u32,
-    exptime: i64,
-    block: Bytes<'a>,
+/// Lends the write of a draft, by the block that the step brings, that of the item that stands, and
+/// the digits of the number that it is counted to.
+pub(crate) fn drafted<'a>(
+    draft: Draft,
+    block: &'a [u8],
+    old: &'a [u8],
+    digits: &'a [u8],
+) -> LentWrite<'a>
+    ensures { result ≡ made draft block.now old.now digits.now }
+{
+    match draft.body {
+        Body::Given => lent(draft, &[], block),
+        Body::Appended => lent(draft, old, block),
+        Body::Prepended => lent(draft, block, old),
+        Body::Counted(_) => lent(draft, &[], digits),
+    }
 }
 
-impl<'a> Given<'a> {
-    /// Lends what a storage command brings.
-    pub(crate) fn of(flags: u32, exptime: i64, block: &Bytes<'a>) -> Given<'a>
-        ensures { result ≡ record { flags = flags; exptime = exptime; block = block.now } }
-    {
-        Given {
-            flags,
-            exptime,
-            block: Bytes::of(block.as_slice()),
-        }
-    }
-
-    /// Lends the write of what is given.
-    pub(crate) fn write(&self, now: Moment) -> LentWrite<'a>
-        ensures { result ≡ record {
-          flags = self.now.flags;
-          expiry = death.expiry_of self.now.exptime now;
-          block = self.now.block;
-        } }
-    {
-        LentWrite {
-            flags: self.flags,
-            expiry: expiry_of(self.exptime, now),
-            front: &[],
-            back: self.block.as_slice(),
-        }
-    }
-
-    /// Lends the write of a storage command, by the item that stands. There is none where its
-    /// condition fails.
-    pub(crate) fn write_by<'b>(
-        &'b self,
-        verb: Verb,
-        standing: Option<&'b Item>,
-        now: Moment,
-    ) -> Option<LentWrite<'b>>
-        ensures { (key : List ℕ) (mid : Plain) →
-            storing verb key self.now (option_copied standing.entry) mid now
-            ≡ stored_by result key mid now }
-    {
-        match standing {
-            None => match verb {
-                Verb::Set | Verb::Add => Some(self.write(now)),
-                Verb::Replace | Verb::Append | Verb::Prepend => None,
-            },
-            Some(item) => match verb {
-                Verb::Set | Verb::Replace => Some(self.write(now)),
-                Verb::Add => None,
-                Verb::Append => Some(item.rewrite(item.bytes(), self.block.as_slice())),
-                Verb::Prepend => Some(item.rewrite(self.block.as_slice(), item.bytes())),
-            },
-        }
+/// Lends the write of a draft, whose block is one slice and then the other.
+fn lent<'a>(draft: Draft, front: &'a [u8], back: &'a [u8]) -> LentWrite<'a>
+    ensures { result ≡ record {
+      flags = draft.flags;
+      expiry = draft.expiry;
+      block = front.now ++ back.now;
+    } }
+{
+    LentWrite {
+        flags: draft.flags,
+        expiry: draft.expiry,
+        front,
+        back,
     }
 }
 
@@ -202,18 +171,20 @@ impl Item {
         mc_time::is_dead(self.expiry, self.updated, cut, now)
     }
 
-    pub(crate) fn unique(&self) -> u64
-        ensures { result ≡ self.now.unique }
-    {
-        self.unique
-    }
-
     /// Finds the class of its chunk under that key; none where no class holds it.
     pub(crate) fn class(&self, key: &[u8]) -> Option<Class>
         ensures value { result ≡ class_of (charge key.now self.now.block) }
         ensures is_class { IfSome result IsClass }
     {
         mc_slab::class_of(charge_of(key, self.bytes().len() as u64))
+    }
+
+    /// Tells whether its chunk under that key is of the class.
+    pub(crate) fn is_of(&self, key: &[u8], class: Class) -> bool
+        requires { IsClass class }
+        ensures { result ≡ (item_class key.now self.now == class) }
+    {
+        self.class(key) == Some(class)
     }
 
     /// Lends its block.
@@ -241,21 +212,25 @@ impl Item {
             block: Block::of(Vec::from_slice(alloc, self.block.bytes())?),
         })
     }
+}
 
-    /// Lends the write of another block in its place, which keeps its flags and its expiry.
-    pub(crate) fn rewrite<'b>(&self, front: &'b [u8], back: &'b [u8]) -> LentWrite<'b>
-        ensures { result ≡ record {
-          flags = self.now.flags;
-          expiry = self.now.expiry;
-          block = front.now ++ back.now;
-        } }
-    {
-        LentWrite {
-            flags: self.flags,
-            expiry: self.expiry,
-            front,
-            back,
-        }
+impl Standing for Item {
+    ghost entry_of = { λ item. item };
+
+    fn flags(&self) -> u32 {
+        self.flags
+    }
+
+    fn expiry(&self) -> Expiry {
+        self.expiry
+    }
+
+    fn unique(&self) -> u64 {
+        self.unique
+    }
+
+    fn block(&self) -> &[u8] {
+        self.bytes()
     }
 }
 

@@ -1,7 +1,7 @@
 ghost use Rattle.std.specs.Prelude.{◌≡◌, ℕ, List, Bool};
 ghost use Rattle.mc_command.specs.Purge.{purged};
 
-use crate::plain::{PlainStore, recount};
+use crate::plain::PlainStore;
 use mc_time::Moment;
 
 /// Says which keys are meant.
@@ -23,6 +23,5 @@ impl PlainStore {
         let cut = self.cut;
         self.items
             .retain(|key, item| !test.is_meant(key) || !item.is_dead(cut, now));
-        recount(&mut self.accounts, &self.items);
     }
 }

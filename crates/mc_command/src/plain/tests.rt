@@ -6,6 +6,7 @@ ghost use Rattle.mc_command.specs.Commands.{key_of};
 
 use super::*;
 use crate::bytes::Bytes;
+use crate::step::Verb;
 use std::test::Fail;
 
 /// A storage command's step on `n`.

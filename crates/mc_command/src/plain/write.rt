@@ -1,18 +1,21 @@
 //! How the plain store writes: it finds out first whether the write can be made, and copies the
 //! block only then.
 
-ghost use Rattle.std.specs.Prelude.{◌≡◌, ◌≢◌, ◌-◌, ◌^◌, ◌==◌, nat_lt, true, if◌then◌else◌, Some, None, IsTrue, OnOk, OnErr};
+ghost use Rattle.std.specs.Prelude.{◌≡◌, ◌≢◌, ◌-◌, ◌^◌, ◌==◌, ℕ, List, nat_lt, true, if◌then◌else◌, Some, None, IsTrue, OnOk, OnErr};
 ghost use Rattle.std.specs.FinMap.{get};
+ghost use Rattle.std.specs.Option.{option_copied};
 ghost use Rattle.mc_slab.specs.Classes.{IsClass};
 ghost use Rattle.mc_command.specs.Laws.{of_class};
-ghost use Rattle.mc_command.specs.Plain.{charge, block_class, has_room, CopiesBlock};
+ghost use Rattle.mc_command.specs.Plain.{charge, block_class, has_room, keeps_chunk, written_block, CopiesBlock};
 ghost use Rattle.mc_command.specs.Steps.{Ends, Prepares, IsReady, StaysIn};
-ghost use Rattle.mc_command.specs.Steps.{found, writing, rewritten, placed, done};
+ghost use Rattle.mc_command.specs.Steps.{number_in, block_in, found, drafting, writing, rewritten, placed, done};
 
 use crate::plain::PlainStore;
-use crate::plain::item::{Item, LentWrite, Written};
+use crate::plain::item::{Item, LentWrite, Written, drafted};
 use crate::reply::Reply;
+use crate::row::{Body, Draft};
 use crate::step::StepFault;
+use itoa::Buffer;
 use mc_slab::Class;
 use mc_time::Moment;
 use std::alloc::{AllocError, Global};
@@ -29,6 +32,26 @@ pub(crate) enum Next {
 }
 
 impl PlainStore {
+    /// Writes what a row drafts, of the block that the step brings and the item that stands.
+    pub(super) fn write(
+        &mut self,
+        alloc: Global,
+        key: &[u8],
+        block: &[u8],
+        draft: Draft,
+        now: Moment,
+    ) -> Result<Reply, StepFault>
+        ensures { Ends (drafting draft key.now block.now self.old now) result self.old self.new }
+    {
+        let mut buffer = Buffer::new();
+        let digits = buffer.format(number_in(draft.body)).as_bytes();
+        let item = self.standing(key, now);
+        let write = drafted(draft, block, block_in(item), digits);
+        let stays = stays(draft.body, key, item, &write);
+        let next = self.prepared(alloc, key, &write, stays, draft.body.reply(), now)?;
+        self.finish(alloc, key, next, now)
+    }
+
     /// Finds the class that holds a write; none where its charge is above the greatest.
     fn class_for(&self, key: &[u8], write: &LentWrite<'_>) -> Option<Class>
         ensures { result ≡ (if nat_lt self.now.greatest (charge key.now write.now.block) then None
@@ -123,14 +146,21 @@ impl PlainStore {
         ensures placed { OnOk result (self.new ≡ placed written key.now self.old now) }
         ensures err { OnErr result (self.new ≡ self.old) }
     {
-        let dead = self.dead_class(key, now);
-        let replaced = self.standing_class(key, now);
+        let is_full = self.is_full(key, class, now);
         let bytes = Vec::from_slice(alloc, key)?;
+        self.insert(bytes, written, now)?;
+        self.page_if(is_full, class);
+        Ok(())
+    }
+
+    /// Puts an item under a key, whatever stands there. Refused, it changes nothing.
+    fn insert(&mut self, key: Vec<u8>, written: Written, now: Moment) -> Result<(), AllocError>
+        requires { self.old.next_unique ≢ 2 ^ 64 - 1 }
+        ensures ok { OnOk result (self.new ≡ rewritten written key.items self.old now) }
+        ensures err { OnErr result (self.new ≡ self.old) }
+    {
         let item = Item::of(written, self.next_unique, now);
-        let _ = self.items.insert(bytes, item)?;
-        self.accounts.give(dead);
-        self.accounts.take(class);
-        self.accounts.give(replaced);
+        let _ = self.items.insert(key, item)?;
         self.next_unique += 1;
         Ok(())
     }
@@ -146,5 +176,41 @@ impl PlainStore {
         let item = self.items.get_mut(key).unwrap();
         *item = Item::of(written, self.next_unique, now);
         self.next_unique += 1;
+    }
+}
+
+/// Tells the number that a write counts its item to, and 0 where it counts none.
+fn number_in(body: Body) -> u64
+    ensures { result ≡ number_in body }
+{
+    match body {
+        Body::Counted(number) => number,
+        Body::Given | Body::Appended | Body::Prepended => 0,
+    }
+}
+
+/// Lends the block of what stands, and no bytes where nothing does.
+fn block_in<'a>(item: Option<&'a Item>) -> &'a [u8]
+    ensures { result.now ≡ block_in (option_copied item.entry) }
+{
+    match item {
+        Some(item) => item.bytes(),
+        None => &[],
+    }
+}
+
+/// Tells whether a write stays in the chunk of the item that stands: one that counts it to a number
+/// of the same class does.
+fn stays(body: Body, key: &[u8], item: Option<&Item>, write: &LentWrite<'_>) -> bool
+    ensures { (block : List ℕ) →
+        write.now.block ≡ written_block body block (option_copied item.entry) →
+        result ≡ keeps_chunk body key.now (option_copied item.entry) }
+{
+    match body {
+        Body::Given | Body::Appended | Body::Prepended => false,
+        Body::Counted(_) => match item {
+            Some(item) => item.class(key) == write.class(key),
+            None => false,
+        },
     }
 }

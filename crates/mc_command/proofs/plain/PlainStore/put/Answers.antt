@@ -1,63 +1,25 @@
-use Rattle.std.proofs.Common.{◌≡◌, true, sym, subst, ◌∙◌}
-use Rattle.mc_command.specs.Plain.{Plain, standing, has_room, without_dead}
-use Rattle.mc_command.specs.Items.{items_of}
-use Rattle.mc_command.specs.Accounts.{dead_class, held_class}
-use Rattle.mc_command.proofs.PlainLemmas.{dead-out, found-room, stands-out, put-are, put-placed, standing-in, items_of-put}
-use Rattle.mc_command.proofs.RoomLemmas.{shown}
+use Rattle.std.proofs.Common.{◌≡◌, Bool, ℕ, List, true, eqb, ap, sym, ◌∙◌}
+use Rattle.mc_command.specs.Plain.{Plain, count_of, standing, with_chunk}
+use Rattle.mc_command.specs.Steps.{found, paged, rewritten}
+use Rattle.mc_command.proofs.PageLemmas.{page-left}
+use Rattle.mc_command.proofs.RoomLemmas.{found-chunks, found-room, put-by}
 use Rattle.mc_command.proofs.plain.PlainStore.put.Goals as goal
 
-pub give-requires : goal.give-requires
-give-requires c =
-    let i = c.self.inside in
+pub page_if-requires : goal.page_if-requires
+page_if-requires c = λ is_full.
+    let old = c.args.self.now in
     let key = c.args.key.now in
-    let old : Plain = shown i.greatest i.cut i.next_unique (items_of i.items.entries) i.accounts in
-    let dead : c.dead_class-dead.result ≡ dead_class (standing old key c.args.now) key old = subst (λ (p : Plain). c.dead_class-dead.result ≡ dead_class (standing p key c.args.now) key p) (sym c.self.view_is) c.dead_class-dead.ensures in
-    rw dead (dead-out i.greatest i.cut i.next_unique (items_of i.items.entries) i.accounts key c.self.invariant.1 (standing old key c.args.now))
-
-pub take-requires : goal.take-requires
-take-requires c =
-    let i = c.self.inside in
-    let key = c.args.key.now in
-    let old : Plain = shown i.greatest i.cut i.next_unique (items_of i.items.entries) i.accounts in
-    let stands = standing old key c.args.now in
-    let dead : c.dead_class-dead.result ≡ dead_class stands key old = subst (λ (p : Plain). c.dead_class-dead.result ≡ dead_class (standing p key c.args.now) key p) (sym c.self.view_is) c.dead_class-dead.ensures in
-    let room : has_room (without_dead stands key old) c.args.class ≡ true = subst (λ (p : Plain). has_room (without_dead (standing p key c.args.now) key p) c.args.class ≡ true) (sym c.self.view_is) c.requires.room in
-    rw (c.give.ensures.given, dead)
-    (sym (found-room i.greatest i.cut i.next_unique (items_of i.items.entries) i.accounts key c.self.invariant.1 c.give.ensures.is_slab.out c.args.class c.requires.is_class stands) ∙ room)
-
-pub give-requires-2 : goal.give-requires-2
-give-requires-2 c =
-    let i = c.self.inside in
-    let key = c.args.key.now in
-    let old : Plain = shown i.greatest i.cut i.next_unique (items_of i.items.entries) i.accounts in
-    let stands = standing old key c.args.now in
-    let dead : c.dead_class-dead.result ≡ dead_class stands key old = subst (λ (p : Plain). c.dead_class-dead.result ≡ dead_class (standing p key c.args.now) key p) (sym c.self.view_is) c.dead_class-dead.ensures in
-    let over : c.standing_class-replaced.result ≡ held_class key stands = subst (λ (p : Plain). c.standing_class-replaced.result ≡ held_class key (standing p key c.args.now)) (sym c.self.view_is) c.standing_class-replaced.ensures in
-    rw (over, c.take.ensures.taken, c.give.ensures.given, dead)
-    (stands-out i.greatest i.cut i.next_unique (items_of i.items.entries) i.accounts key c.self.invariant.1 c.give.ensures.is_slab.out c.args.class c.requires.is_class stands (standing-in old key c.args.now))
-
-pub invariant_of-self-2 : goal.invariant_of-self-2
-invariant_of-self-2 c =
-    let i = c.self.inside in
-    let key = c.args.key.now in
-    let old : Plain = shown i.greatest i.cut i.next_unique (items_of i.items.entries) i.accounts in
-    let stands = standing old key c.args.now in
-    let dead : c.dead_class-dead.result ≡ dead_class stands key old = subst (λ (p : Plain). c.dead_class-dead.result ≡ dead_class (standing p key c.args.now) key p) (sym c.self.view_is) c.dead_class-dead.ensures in
-    let over : c.standing_class-replaced.result ≡ held_class key stands = subst (λ (p : Plain). c.standing_class-replaced.result ≡ held_class key (standing p key c.args.now)) (sym c.self.view_is) c.standing_class-replaced.ensures in
-    let put = items_of-put i.items.entries c.insert.new.self.entries c.in_ok-bytes.bytes key c.of-item.result _ c.in_ok-insert.ensures.entries c.in_ok-bytes.ensures.items c.of-item.ensures in (
-      c.self.invariant.0,
-      rw (put, c.give-2.ensures.given, over, c.take.ensures.taken, c.give.ensures.given, dead)
-          (put-are i.greatest i.cut i.next_unique (items_of i.items.entries) i.accounts key c.self.invariant.1 c.give.ensures.is_slab.out c.args.class c.requires.is_class stands _ (standing-in old key c.args.now) c.requires.class),
-    )
+    rw c.in_ok-insert.ensures.ok
+    (page-left _ _ _ _ (sym (found-room (standing old key c.args.now) old key c.args.class) ∙ c.requires.room) (sym c.is_full-is_full.ensures ∙ is_full))
 
 pub returns-clause-placed : goal.returns-clause-placed
 returns-clause-placed c =
-    let i = c.self.inside in
+    let old = c.args.self.now in
     let key = c.args.key.now in
-    let old : Plain = shown i.greatest i.cut i.next_unique (items_of i.items.entries) i.accounts in
-    let stands = standing old key c.args.now in
-    let dead : c.dead_class-dead.result ≡ dead_class stands key old = subst (λ (p : Plain). c.dead_class-dead.result ≡ dead_class (standing p key c.args.now) key p) (sym c.self.view_is) c.dead_class-dead.ensures in
-    let over : c.standing_class-replaced.result ≡ held_class key stands = subst (λ (p : Plain). c.standing_class-replaced.result ≡ held_class key (standing p key c.args.now)) (sym c.self.view_is) c.standing_class-replaced.ensures in
-    let put = items_of-put i.items.entries c.insert.new.self.entries c.in_ok-bytes.bytes key c.of-item.result _ c.in_ok-insert.ensures.entries c.in_ok-bytes.ensures.items c.of-item.ensures in
-    rw (← c.self.view_is, put, c.give-2.ensures.given, over, c.take.ensures.taken, c.give.ensures.given, dead, ← c.requires.class)
-    (put-placed i.greatest i.cut i.next_unique (items_of i.items.entries) i.accounts key c.self.invariant.1 c.give.ensures.is_slab.out c.args.class c.requires.is_class stands c.args.written c.args.now)
+    let w = c.args.written in
+    let mid = found key old c.args.now in
+    c.page_if.ensures
+    ∙ ap (λ (p : Plain). paged c.is_full-is_full.result p c.args.class) (c.in_ok-insert.ensures.ok ∙ ap (λ (k : List ℕ). rewritten w k old c.args.now) c.in_ok-bytes.ensures.items)
+    ∙ put-by (standing old key c.args.now) c.is_full-is_full.result old key c.args.class w c.args.now
+    ∙ ap (λ (full : Bool). rewritten w key (paged full mid c.args.class) c.args.now) (c.is_full-is_full.ensures ∙ ap (λ (n : ℕ). eqb (count_of mid.items c.args.class) n) (sym (found-chunks (standing old key c.args.now) old key c.args.class)))
+    ∙ ap (λ (class : ℕ). rewritten w key (with_chunk mid class) c.args.now) c.requires.class
