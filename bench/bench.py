@@ -46,7 +46,7 @@ VERSION = b"VERSION 1.6.0\r\n"
 REFUSED = b"SERVER_ERROR out of memory storing object\r\n"
 # what takes the steps, by how many threads, and which steps they are
 STEPPED = [("store", 1), *((over, count) for over in ("own", "side", "same") for count in (1, 2, 4))]
-MIXES = ["gets", "sets", "mixed"]
+MIXES = ["gets", "sets", "mixed", "misses", "renewals"]
 # what a session is told in a round, of a set and a get of its key
 TOLD = b"STORED\r\nVALUE key 0 1\r\nx\r\nEND\r\n"
 

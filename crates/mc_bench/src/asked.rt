@@ -67,6 +67,10 @@ pub enum Mix {
     Sets,
     /// Nine gets and a set, again and again.
     Mixed,
+    /// Gets of a key that isn't there.
+    Misses,
+    /// Sets of a key that isn't there, each with its delete behind it.
+    Renewals,
 }
 
 /// How many threads there are.
@@ -139,6 +143,8 @@ fn mix_of(word: &str) -> Option<Mix> {
         "gets" => Some(Mix::Gets),
         "sets" => Some(Mix::Sets),
         "mixed" => Some(Mix::Mixed),
+        "misses" => Some(Mix::Misses),
+        "renewals" => Some(Mix::Renewals),
         _ => None,
     }
 }

@@ -21,7 +21,7 @@ struct Load {
     rounds: u64,
 }
 
-/// Takes the steps, and gives how many were answered as they should be: a get by a hit, a set by what was stored.
+/// Takes the steps, and gives how many were answered as they should be.
 pub fn answered<R: Threads + Wait + Sync>(
     rt: &R,
     alloc: Global,
@@ -145,17 +145,28 @@ fn asks<R: Wait>(
     work(&mut asking, alloc, load, number)
 }
 
+/// What one step does: to a key that stands, or to a fresh one, which no thread's key is.
+#[derive(Clone, Copy)]
+enum Act {
+    Get,
+    Set,
+    GetFresh,
+    SetFresh,
+    DeleteFresh,
+}
+
 /// The thread of this number takes its steps. Gives how many were answered as they should be.
 fn work<S: Steps>(store: &mut S, alloc: Global, load: Load, number: u8) -> u64 {
     let now = Moment::from_seconds_at_most(1000);
     let block = [b'x'; 100];
     let key = key_of(load.over, number);
+    let fresh = fresh_key(load.over, number);
     let mut answered: u64 = 0;
     for round in 0..load.rounds {
-        let sets = is_set(load.mix, round);
-        let step = step_of(sets, key, &block);
+        let act = act_of(load.mix, round);
+        let step = step_of(act, key, fresh, &block);
         let taken = store.step(alloc, &step, now);
-        answered = answered.saturating_add(u64::from(is_expected(sets, &taken)));
+        answered = answered.saturating_add(u64::from(is_expected(act, &taken)));
     }
     answered
 }
@@ -176,39 +187,73 @@ fn key_of(over: Over, number: u8) -> &'static [u8]
     }
 }
 
-/// Whether the step of this round is a set.
-fn is_set(mix: Mix, round: u64) -> bool {
-    match mix {
-        Mix::Gets => false,
-        Mix::Sets => true,
-        Mix::Mixed => round % 10 == 9,
+/// A key that isn't there when the steps begin: for each thread one on a shelf of its own, or one for all.
+fn fresh_key(over: Over, number: u8) -> &'static [u8]
+    ensures { length result.now ≤ 250 }
+{
+    match (over, number) {
+        (Over::Same, _) => b"c",
+        (_, 1) => b"d",
+        (_, 2) => b"e",
+        (_, 3) => b"f",
+        _ => b"c",
     }
 }
 
-/// A set of the key to this block, or a get.
-fn step_of<'a>(sets: bool, key: &'a [u8], block: &'a [u8]) -> KeyStep<'a>
+/// What the step of this round does.
+fn act_of(mix: Mix, round: u64) -> Act {
+    match mix {
+        Mix::Gets => Act::Get,
+        Mix::Sets => Act::Set,
+        Mix::Mixed if round % 10 == 9 => Act::Set,
+        Mix::Mixed => Act::Get,
+        Mix::Misses => Act::GetFresh,
+        Mix::Renewals if round % 2 == 1 => Act::DeleteFresh,
+        Mix::Renewals => Act::SetFresh,
+    }
+}
+
+/// The step that does so: a set is to this block.
+fn step_of<'a>(act: Act, key: &'a [u8], fresh: &'a [u8], block: &'a [u8]) -> KeyStep<'a>
+    requires { (length key.now ≤ 250) × (length fresh.now ≤ 250) }
+    ensures { length (key_of result) ≤ 250 }
+{
+    match act {
+        Act::Get => KeyStep::Read {
+            key: Bytes::of(key),
+        },
+        Act::GetFresh => KeyStep::Read {
+            key: Bytes::of(fresh),
+        },
+        Act::Set => set_of(key, block),
+        Act::SetFresh => set_of(fresh, block),
+        Act::DeleteFresh => KeyStep::Delete {
+            key: Bytes::of(fresh),
+        },
+    }
+}
+
+/// A set of the key to this block.
+fn set_of<'a>(key: &'a [u8], block: &'a [u8]) -> KeyStep<'a>
     requires { length key.now ≤ 250 }
     ensures { length (key_of result) ≤ 250 }
 {
-    let key = Bytes::of(key);
-    if sets {
-        KeyStep::Store {
-            verb: Verb::Set,
-            key,
-            flags: 0,
-            exptime: 0,
-            block: Bytes::of(block),
-        }
-    } else {
-        KeyStep::Read { key }
+    KeyStep::Store {
+        verb: Verb::Set,
+        key: Bytes::of(key),
+        flags: 0,
+        exptime: 0,
+        block: Bytes::of(block),
     }
 }
 
-/// Whether a set was stored, or a get was a hit.
-fn is_expected(sets: bool, taken: &Result<Reply, StepFault>) -> bool {
+/// Returns whether a set was stored, a get was a hit, or of a fresh key a miss, and a delete found its key.
+fn is_expected(act: Act, taken: &Result<Reply, StepFault>) -> bool {
     match taken {
-        Ok(Reply::Stored) => sets,
-        Ok(Reply::Hit { .. }) => !sets,
+        Ok(Reply::Stored) => matches!(act, Act::Set | Act::SetFresh),
+        Ok(Reply::Hit { .. }) => matches!(act, Act::Get),
+        Ok(Reply::Miss) => matches!(act, Act::GetFresh),
+        Ok(Reply::Deleted) => matches!(act, Act::DeleteFresh),
         _ => false,
     }
 }
