@@ -4,6 +4,7 @@ ghost use Rattle.std.specs.FinMap.{get};
 ghost use Rattle.mc_command.specs.Commands.{key_of};
 ghost use Rattle.mc_command.specs.Laws.{IsOnKey};
 ghost use Rattle.mc_command.specs.declared.step.KeyStep.{KeyStep as Step};
+ghost use Rattle.mc_command.specs.declared.reply.Reply.{Reply as Told};
 ghost use Rattle.mc_shelf.specs.States.{IsHash, CanStand};
 ghost use Rattle.mc_shelf.specs.Plans.{CanFinish, IsPlan, IsSpent, IsTaken, MayWantMemory, NeedsPage, finished, told_next, wants_desk};
 ghost use Rattle.mc_slab.specs.Classes.{class_holding};
@@ -361,11 +362,11 @@ impl<K: KeyHash + Drop> Shared<K> {
         ensures { IsAnswered (start_of K.hash_of self.now.began) caller.old step.now now Refuses
             result caller.new }
     {
-        let KeyStep::Read { key } = step else {
-            return self.step_at(rt, alloc, caller, step, now, gate);
-        };
-        let hash = self.hasher.hash(key.as_slice());
-        if self.absent_hashed(caller, key.as_slice(), hash, now) {
+        if let KeyStep::Flush { delay } = step {
+            return Ok(self.flush(rt, alloc, caller, *delay, now)?);
+        }
+        let hash = self.hasher.hash(step.key());
+        if self.is_told_absent(caller, step, hash, now) {
             return Ok(Reply::Miss);
         }
         let ask = self.ask(step, hash, now);
@@ -373,6 +374,28 @@ impl<K: KeyHash + Drop> Shared<K> {
             Ok(reply) => Ok(reply),
             Err(Untaken::Refused(fault)) => Err(fault),
             Err(Untaken::Met(never)) => match never {},
+        }
+    }
+
+    /// Returns whether a step is a read alone and its key's number tells the key to be absent: the step
+    /// is then taken, and told as a miss. Else nothing is decided.
+    fn is_told_absent(
+        &self,
+        caller: &mut Caller,
+        step: &KeyStep<'_>,
+        hash: u64,
+        now: Moment,
+    ) -> bool
+        requires own { caller.old.table ≡ self.now.table }
+        requires hash { hash ≡ K.hash_of self.now.began.hasher (key_of step.now) }
+        ensures same { caller.new.table ≡ caller.old.table }
+        ensures miss { result ≡ true → HasCalled (start_of K.hash_of self.now.began)
+            caller.old.past step.now now Told.Miss caller.new.past }
+        ensures stays { result ≡ false → caller.new.past ≡ caller.old.past }
+    {
+        match step {
+            KeyStep::Read { key } => self.absent_hashed(caller, key.as_slice(), hash, now),
+            _ => false,
         }
     }
 
