@@ -203,9 +203,9 @@ static bool run_round(struct worker *workers, double warm, double seconds) {
 static void usage(FILE *to) {
     fprintf(to, "load --port PORT [--pid SERVER] [--operation get|set|mix|incr|insert] [--threads N] [--connections N]\n"
                 "     [--idle N] [--depth N] [--keys-a-get N] [--gets PERCENT] [--keys N] [--first-key N] [--value BYTES]\n"
-                "     [--zipf EXPONENT] [--noreply] [--patience SECONDS] [--seed N]\n"
+                "     [--zipf EXPONENT] [--noreply] [--nothing] [--patience SECONDS] [--seed N]\n"
                 "Standard input: a round a line, `WARM-SECONDS SECONDS`.\n"
-                "With --noreply the last request of a batch is a get of the key before it.\n");
+                "With --noreply the last request of a batch is a get of the key before it; with --nothing no key that is got stands.\n");
 }
 
 static double number_between(const char *name, const char *text, double least, double most) {
@@ -237,7 +237,8 @@ static const struct option options[] = {
     {"first-key", required_argument, NULL, 'f'},   {"value", required_argument, NULL, 'v'},
     {"zipf", required_argument, NULL, 'z'},        {"noreply", no_argument, NULL, 'n'},
     {"patience", required_argument, NULL, 'w'},    {"seed", required_argument, NULL, 's'},
-    {"help", no_argument, NULL, 'h'},              {0},
+    {"nothing", no_argument, NULL, 'N'},           {"help", no_argument, NULL, 'h'},
+    {0},
 };
 
 static void take_option(int letter, const char *name, const char *text) {
@@ -256,6 +257,7 @@ static void take_option(int letter, const char *name, const char *text) {
     case 'v': settings.value_bytes = (uint64_t)number_between(name, text, 1, GREATEST_VALUE); break;
     case 'z': settings.zipf_exponent = number_between(name, text, 0.01, 10); break;
     case 'n': settings.noreply = true; break;
+    case 'N': settings.nothing = true; break;
     case 'w': settings.patience = number_between(name, text, 0.1, 1000); break;
     case 's': settings.seed = (uint64_t)number_between(name, text, 0, 1e15); break;
     case 'h': usage(stdout); exit(0);

@@ -29,7 +29,7 @@ struct settings {
     unsigned threads, connections, idle, depth, keys_a_get, gets_percent;
     uint64_t keys, first_key, value_bytes, seed;
     double zipf_exponent, patience;
-    bool noreply;
+    bool noreply, nothing;
 };
 
 extern struct settings settings;

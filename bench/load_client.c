@@ -456,13 +456,14 @@ static void take_number(struct worker *worker, struct connection *it, const char
 }
 
 static void take_value_line(struct worker *worker, struct connection *it, const char *line, size_t length, uint64_t moment) {
-    if (it->key == keys_of_request(it) && is_text(line, length, "END\r\n", 5)) {
+    unsigned values = settings.nothing ? 0 : keys_of_request(it);
+    if (it->key == values && is_text(line, length, "END\r\n", 5)) {
         end_reply(worker, it, moment);
         return;
     }
     char wanted[KEY_BYTES + 40] = "VALUE ";
     size_t at = 6;
-    if (it->key < keys_of_request(it)) {
+    if (it->key < values) {
         write_key(wanted + at, it->keys[it->keys_before + it->key]);
         at += KEY_BYTES;
         at += (size_t)sprintf(wanted + at, " 0 %llu\r\n", (unsigned long long)settings.value_bytes);

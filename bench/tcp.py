@@ -85,16 +85,20 @@ def workloads():
     deep, zipf = ["--depth", "32"], ["--zipf", "0.99", "--gets", "90"]
     kilo = {"keys": 10_000, "value": 10_000}
     mega = {"keys": 100, "value": 1_000_000, "connections": 8}
+    nothing, hundred = ["--nothing", "--first-key", "1000000000"], ["--keys-a-get", "100"]
     made = [
         Workload("get", "get", "get"),
         Workload("set", "set", "set"),
         Workload("get-32", "get, 32 deep", "get", deep),
         Workload("set-32", "set, 32 deep", "set", deep),
-        Workload("get-100-keys", "get of 100 keys", "get", ["--keys-a-get", "100"]),
+        Workload("get-100-keys", "get of 100 keys", "get", hundred),
         Workload("get-10k", "get of 10 KB", "get", **kilo),
         Workload("set-10k", "set of 10 KB", "set", **kilo),
         Workload("get-1m", "get of 1 MB", "get", **mega),
         Workload("set-1m", "set of 1 MB", "set", **mega),
+        Workload("nothing-32", "get of nothing, 32 deep, of 1,000 items", "get", [*nothing, *deep], keys=1000),
+        Workload("nothing-100-keys", "get of 100 keys, all of nothing, of 1,000 items", "get", [*nothing, *hundred], keys=1000),
+        Workload("nothing-full-32", "get of nothing, 32 deep, of 1,000,000 items", "get", [*nothing, *deep], keys=1_000_000),
         Workload("incr", "incr of one key", "incr", fills=False),
         Workload("set-noreply", "set with noreply", "set", ["--noreply", *deep]),
         Workload("zipf", "90 : 10 by Zipf's law", "mix", zipf, keys=1_000_000),
@@ -533,6 +537,9 @@ class SelfTest:
             self.expect("replies with a wrong byte", right, f"{it['wrong']} seen of {slow.spoiled}")
         it = self.figures(Slow(), ["--operation", "get", "--connections", "2", "--keys", "400"], seconds=0.3)
         self.expect("keys that aren't stored", it["wrong"] > 0 and it["first_wrong"] == "END\\x0d\\x0a", f"{it['wrong']} seen")
+        nothing = ["--operation", "get", "--connections", "2", "--nothing", "--first-key"]
+        it = self.figures(Slow(), [*nothing, "1000"], seconds=0.3)
+        self.expect("keys that are to be absent, and are", it["wrong"] == 0 and it["operations"] > 100, f"{it['wrong']} wrong")
         incr = ["--operation", "incr", "--connections", "1"]
         it = self.figures(Slow(fault="lost increment"), incr, seconds=0.3, fills=False)
         self.expect("an increment that was lost", it["wrong"] == 2, f"{it['wrong']} seen: the number again, and the sum")
@@ -543,6 +550,7 @@ class SelfTest:
         get = ["--operation", "get", "--connections", "1"]
         self.refused("a block of another length", Slow(fault="short block"), get, "can't be followed")
         self.refused("a value of another key", Slow(fault="other key"), get, "can't be followed")
+        self.refused("a value where nothing is to be", Slow(), [*get, "--nothing"], "can't be followed")
         self.refused("a server that is silent", Slow(0.01, 30, 5), get, "no reply for 1 seconds", fills=False, patience=1)
 
     def law(self):
