@@ -7,6 +7,7 @@ files of a name, -f ends at the first failure. What the environment may change i
 `N passed, N failed`; the status is 0 where something passed and nothing failed.
 """
 import os
+import signal
 import sys
 import unittest
 
@@ -18,6 +19,8 @@ KINDS = ["protocol", "sockets", "history", "refusals", "interop", "standin"]
 
 def run(kind, options=()):
     """Runs the tests of a kind, and gives unittest's result."""
+    # where it was started behind `&` in a script SIGINT is ignored, and what it starts would ignore it, too
+    signal.signal(signal.SIGINT, signal.default_int_handler)
     words = ["python3 -m tests", "discover", "-s", f"{ROOT}/tests/{kind}", "-t", ROOT, *options]
     return unittest.main(None, argv=words, testRunner=Runner, exit=False).result
 

@@ -28,6 +28,10 @@ def send_a_line_too_long(link):
     link.recv(100)
 
 
+def say_nothing(link):
+    pass
+
+
 def reset(link):
     link.setsockopt(socket.SOL_SOCKET, socket.SO_LINGER, NO_LINGERING)
     link.close()
@@ -39,6 +43,7 @@ PARTINGS = [
     (quit, b"quit, a line too long, or out of memory"),
     (send_a_line_too_long, b"quit, a line too long, or out of memory"),
     (reset, b"read fault"),
+    (say_nothing, b"nothing was heard of it for as long as --idle-timeout allows"),
 ]
 
 
@@ -56,7 +61,7 @@ class Told(ProgramCase):
 
     def test_why_a_connection_ends(self):
         for does, why in PARTINGS:
-            with self.subTest(does.__name__), self.started("-v", "-c", "1") as started, self.connected() as link:
+            with self.subTest(does.__name__), self.started("-v", "-c", "1", "--idle-timeout", "1") as started, self.connected() as link:
                 opened = b"mcserver: connection 1 from %s:%d opened\n" % (HOST.encode(), link.getsockname()[1])
                 does(link)
                 self.assertEqual(opened, started.line())

@@ -1,8 +1,8 @@
 #!/usr/bin/env python3
 """A slow stand-in for the server: the model behind sockets. It shows that the tests over sockets can fail (test_lies.py).
 
-The environment's LIE says in which way it is wrong; without it, it is right. Options as the program's: -p -t -m -c --now,
-but that -c is read and not used.
+The environment's LIE says in which way it is wrong; without it, it is right. Options as the program's: -p -t -m -c --now --idle-timeout,
+but that -c and --idle-timeout are read and not used.
 """
 import argparse
 import fcntl
@@ -21,6 +21,8 @@ LIE = os.environ.get("LIE", "")
 # Each so many-th answer or write is the wrong one.
 EACH = 13
 READ = 16384
+# After so many seconds one that hangs up does so.
+PATIENCE = 1.5
 # Asks the system whether the next byte of a socket is the one behind urgent data.
 SIOCATMARK = 0x8905
 
@@ -84,7 +86,7 @@ class Late(model.Store):
 
 class Link:
     def __init__(self, taken, store):
-        self.socket, self.out, self.ends = taken, bytearray(), False
+        self.socket, self.out, self.ends, self.began = taken, bytearray(), False, time.monotonic()
         self.session = Turns(b"", store.now, store.pages_left)
         self.session.store, self.earlier = store, b""
 
@@ -182,15 +184,23 @@ class Standin:
             self.kept.append(link.socket.dup())
         link.socket.close()
 
+    def hang_up(self):
+        """Closes the connections that have been there for long."""
+        for key in list(self.chooser.get_map().values()):
+            if key.data and time.monotonic() - key.data.began > PATIENCE:
+                self.close(key.data)
+
     def run(self):
         self.spare, last = open("/dev/null"), time.monotonic()
         while True:
-            ready = self.chooser.select(0 if LIE == "never rests" else None)
+            ready = self.chooser.select({"never rests": 0, "hangs up": 0.1}.get(LIE))
             for key, events in reversed(ready) if LIE == "serves the last first" else ready:
                 if key.data:
                     self.serve(key.data, events)
                 else:
                     self.accept()
+            if LIE == "hangs up":
+                self.hang_up()
             if LIE == "leaves when stopped" and time.monotonic() - last > 1.5:
                 for key in list(self.chooser.get_map().values()):
                     if key.data:
@@ -211,6 +221,7 @@ class Standin:
 def main():
     parser = argparse.ArgumentParser()
     parser.add_argument("--now", type=int, default=int(time.time()))
+    parser.add_argument("--idle-timeout", type=int, default=0)
     for name, default in (("-p", 11211), ("-t", 4), ("-m", 64), ("-c", 1024)):
         parser.add_argument(name, type=int, default=default)
     if LIE == "stays":

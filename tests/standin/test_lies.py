@@ -41,6 +41,9 @@ LIES = {
         "test_who_is_served.WhoIsServed.test_newcomers_beside_a_worker_that_is_busy",
         "test_rest.Rest.test_how_often_workers_wake",
         "test_large_and_small.LargeAndSmall.test_small_items_beside_large_ones",
+        "test_idle.Idle.test_those_of_which_nothing_is_heard",
+        "test_idle.Idle.test_those_that_do_not_read",
+        "test_idle.Idle.test_the_place_of_one_comes_back",
     ],
     "stays": ["test_signals.Signals.test_signals_that_end_it"],
     "drops answers": [OWN_KEYS, FREELY, READ_LATE, RANDOM],
@@ -59,6 +62,7 @@ LIES = {
     "spins": ["test_few_descriptors.FewDescriptors.test_more_connections_than_descriptors"],
     "serves the last first": ["test_who_is_served.WhoIsServed.test_who_asked_first"],
     "stalls at urgent data": ["test_urgent.Urgent.test_a_byte_of_urgent_data"],
+    "hangs up": ["test_idle.Idle.test_those_of_which_something_is_heard", "test_idle.Idle.test_without_it_none_is_closed"],
     "leaves when stopped": ["test_signals.Signals.test_a_server_that_is_stopped_for_two_seconds"],
 }
 

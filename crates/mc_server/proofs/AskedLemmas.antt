@@ -1,6 +1,6 @@
 -- What a number is that was asked for and brought into range.
 use Rattle.std.proofs.Common.{◌≡◌, ◌∙◌, sym, arith, ℕ, ◌≤◌, min, max, Option, Some, None}
-use Rattle.mc_server.specs.Asked.{IsAskedFor}
+use Rattle.mc_server.specs.Asked.{IsAskedFor, IsTimeoutFor}
 
 pub clamped : (asked : Option ℕ) (usual most n taken : ℕ)
     → asked ≡ Some n → taken ≡ max 1 (min n most) → 1 ≤ most → IsAskedFor asked usual most taken
@@ -8,4 +8,12 @@ clamped asked usual most n taken is clamps some = record {
   unasked = λ none. let no : Some n ≡ None = sym is ∙ none in cc;
   asked_for = λ m said low high. let same : n ≡ m = (let both : Some n ≡ Some m = sym is ∙ said in cc) in grind (arith, same, clamps);
   range = (grind (arith, clamps), grind (arith, clamps));
+}
+
+pub bounded : (asked : Option ℕ) (most n taken : ℕ)
+    → asked ≡ Some n → taken ≡ min n most → IsTimeoutFor asked most taken
+bounded asked most n taken is bounds = record {
+  unasked = λ none. let no : Some n ≡ None = sym is ∙ none in cc;
+  asked_for = λ m said low. let same : n ≡ m = (let both : Some n ≡ Some m = sym is ∙ said in cc) in grind (arith, same, bounds);
+  range = grind (arith, bounds);
 }

@@ -14,6 +14,13 @@ pub record IsAskedFor (asked : Option ℕ) (usual most taken : ℕ) : Type 0 whe
   pub asked_for : (n : ℕ) → asked ≡ Some n → 1 ≤ n → n ≤ most → taken ≡ n
   pub range : IsUpTo most taken
 
+-- the number that is asked for, where it is at most the most; another such number where it isn't, and 0
+-- where nothing is asked for
+pub record IsTimeoutFor (asked : Option ℕ) (most taken : ℕ) : Type 0 where
+  pub unasked : asked ≡ None → taken ≡ 0
+  pub asked_for : (n : ℕ) → asked ≡ Some n → n ≤ most → taken ≡ n
+  pub range : taken ≤ most
+
 -- the address that is asked for, and 127.0.0.1 where none is
 pub record IsAddressFor (asked : Option IpAddr) (taken : IpAddr) : Type 0 where
   pub unasked : asked ≡ None → IsV4And taken (λ ip. ipv4_octets ip ≡ 127 ∷ 0 ∷ 0 ∷ 1 ∷ [])

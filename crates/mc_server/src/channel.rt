@@ -30,8 +30,8 @@ pub struct Readiness {
     pub waits: bool,
     /// Its link is gone, and some output is still to be sent.
     pub leaves: bool,
-    /// It is to end, since no more connections can come.
-    pub is_over: bool,
+    /// It is to end, for this.
+    pub ends: Option<Parting>,
     /// Urgent data came, at which a read stops short of what is behind it.
     pub is_marked: bool,
 }
@@ -44,7 +44,7 @@ impl Readiness {
         is_final: false,
         waits: false,
         leaves: false,
-        is_over: false,
+        ends: None,
         is_marked: false,
     };
 }
@@ -83,9 +83,9 @@ impl Channel {
         }
     }
 
-    /// Says whether all output was sent.
-    pub fn is_sent(&self) -> bool {
-        self.gathered.is_empty()
+    /// Says whether there is nothing more to do: all output was sent, or the connection is to end.
+    pub fn is_done(&self) -> bool {
+        self.gathered.is_empty() || self.readiness.get().ends.is_some()
     }
 
     /// Tells that the link is gone.
@@ -103,8 +103,8 @@ impl Channel {
     {
         self.flush()?;
         let known = self.readiness.get();
-        if known.is_over {
-            self.connection.note(Parting::ListenerFailed);
+        if let Some(parting) = known.ends {
+            self.connection.note(parting);
             return Ok(0);
         }
         if !known.reads {
@@ -242,8 +242,8 @@ impl Channel {
             self.gathered.shrink_to_fit();
         }
         let known = self.readiness.get();
-        if known.is_over {
-            self.connection.note(Parting::ListenerFailed);
+        if let Some(parting) = known.ends {
+            self.connection.note(parting);
             return io::Error::from(ErrorKind::ConnectionAborted);
         }
         self.readiness.set(Readiness {

@@ -25,6 +25,8 @@ pub enum Parting {
     WriteFault,
     /// Its session closed it, or had no memory.
     SessionOver,
+    /// Nothing was heard of it for as long as is allowed.
+    Idle,
     /// The listener has failed, and the program ends.
     ListenerFailed,
 }
@@ -40,6 +42,7 @@ impl Parting {
             Parting::ReadFault => "read fault",
             Parting::WriteFault => "write fault",
             Parting::SessionOver => "quit, a line too long, or out of memory",
+            Parting::Idle => "nothing was heard of it for as long as --idle-timeout allows",
             Parting::ListenerFailed => "the listener failed",
         }
     }

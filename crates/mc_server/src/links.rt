@@ -3,17 +3,18 @@
 use crate::arrivals::{Arrivals, Share};
 use crate::channel::{Channel, Readiness};
 use crate::connection::{Connection, Parting};
+use crate::idle::Watch;
 use crate::link::SocketLink;
+use crate::place::Place;
 use crate::yard::Yard;
 use mc_workers::{Links, Next};
-use mio::event::Event;
 use mio::{Events, Interest, Poll, Token};
 use std::alloc::Global;
 use std::cell::{Cell, RefCell};
 use std::collections::VecDeque;
 use std::rc::Rc;
 use std::sync::Wait;
-use std::time::{Clock, Duration};
+use std::time::{Clock, Duration, Instant};
 
 /// The token of a worker's waker. That of a link is its place and 1 more.
 pub const WAKER: Token = Token(0);
@@ -29,14 +30,6 @@ const MOVED: usize = 262_144;
 
 /// How many connections that can't be served are passed over at most in the search for one that can.
 const PASSED: usize = 1024;
-
-/// What is known of a link.
-#[derive(Drop)]
-struct Place {
-    /// The number by which it is named.
-    number: u64,
-    readiness: Rc<Cell<Readiness>>,
-}
 
 /// What the links of one worker share.
 #[derive(Drop)]
@@ -63,6 +56,13 @@ impl Common {
             moved: self.moved.clone().ok()?,
         })
     }
+
+    /// Sends what the link at this place has left behind.
+    fn send_rest(&self, at: usize) {
+        if let Ok(mut yard) = self.yard.try_borrow_mut() {
+            yard.send_rest(at);
+        }
+    }
 }
 
 /// The links of one worker, over the connections that it takes from those that arrived.
@@ -84,6 +84,8 @@ pub struct SocketLinks<'a, R: Wait + Clock> {
     given: u64,
     /// How many rounds went by since the system was asked for events.
     rounds: u32,
+    /// Looks for connections that are idle; none where they may be for ever.
+    watch: Option<Watch>,
 }
 
 impl<'a, R: Wait + Clock> SocketLinks<'a, R> {
@@ -108,7 +110,13 @@ impl<'a, R: Wait + Clock> SocketLinks<'a, R> {
             named: VecDeque::new(alloc),
             given: 0,
             rounds: 0,
+            watch: None,
         }
+    }
+
+    /// Lets connections end of which nothing is heard for so many seconds; with 0 none does.
+    pub fn close_idle(&mut self, seconds: u32) {
+        self.watch = Watch::new(seconds);
     }
 
     /// Asks the system for events, and waits so long for the first.
@@ -117,22 +125,58 @@ impl<'a, R: Wait + Clock> SocketLinks<'a, R> {
         if let Some(common) = &self.common {
             common.moved.set(0);
         }
+        // what came before this moment is told of by the poll
+        let before = match &self.watch {
+            Some(_) => Instant::now(self.rt).ok(),
+            None => None,
+        };
         if self.poll.poll(&mut self.events, Some(timeout)).is_err() {
             return;
         }
-        let mut has_left = false;
+        let told = self.note_events();
+        if let Some(before) = before
+            && told < self.events.capacity()
+        {
+            self.end_idle(before);
+        }
+    }
+
+    /// Notes what the events say, and counts them. Where there are fewer than one poll may tell, there were
+    /// no others.
+    fn note_events(&mut self) -> usize {
+        let mut told = 0usize;
         for event in &self.events {
+            told = told.saturating_add(1);
             if let Some(at) = event.token().0.checked_sub(1)
-                && let Some(place) = self.places.get(at)
+                && let Some(place) = self.places.get_mut(at)
+                && place.note(event, &mut self.named)
+                && let Some(common) = &self.common
             {
-                has_left = note(event, place, &mut self.named) || has_left;
+                common.send_rest(at);
             }
         }
-        if has_left
-            && let Some(common) = &self.common
-            && let Ok(mut yard) = common.yard.try_borrow_mut()
-        {
-            yard.send_rest();
+        told
+    }
+
+    /// Lets connections end that were idle for too long at the moment before all events were told, of
+    /// those whose turn it is.
+    fn end_idle(&mut self, before: Instant) {
+        let Some(watch) = &mut self.watch else {
+            return;
+        };
+        let Ok(now) = Instant::now(self.rt) else {
+            return;
+        };
+        let places = self.places.len();
+        for _one in 0..watch.due(places, now) {
+            let at = watch.turn(places);
+            if let Some(place) = self.places.get_mut(at)
+                && place.has_waited(watch.limit(), before, now)
+                && place.end(Parting::Idle, &mut self.named)
+                && let Some(common) = &self.common
+            {
+                common.send_rest(at);
+            }
         }
     }
 
@@ -167,10 +211,7 @@ impl<'a, R: Wait + Clock> SocketLinks<'a, R> {
     ) -> Option<usize> {
         let room = self.places.len().saturating_add(1);
         self.named.reserve(room).ok()?;
-        let place = Place {
-            number: self.given,
-            readiness,
-        };
+        let place = Place::new(self.given, readiness);
         let free = match yard.try_borrow_mut() {
             Ok(mut yard) => yard.free_place(),
             Err(_) => None,
@@ -207,33 +248,10 @@ impl<'a, R: Wait + Clock> SocketLinks<'a, R> {
 
     /// Ends all connections.
     fn end_all(&mut self) {
-        for place in &self.places {
-            place.readiness.set(Readiness {
-                is_over: true,
-                ..place.readiness.get()
-            });
-            let _ = self.named.push_back(place.number);
+        for place in self.places.iter_mut() {
+            place.end(Parting::ListenerFailed, &mut self.named);
         }
     }
-}
-
-/// Notes what an event says of a link, and names it where it waits. Says whether the link is gone.
-fn note(event: &Event, place: &Place, named: &mut VecDeque<u64>) -> bool {
-    let known = place.readiness.get();
-    let is_final = event.is_read_closed() || event.is_error();
-    place.readiness.set(Readiness {
-        reads: known.reads || event.is_readable() || is_final,
-        writes: known.writes || event.is_writable() || is_final,
-        is_final: known.is_final || is_final,
-        is_marked: known.is_marked || event.is_priority(),
-        waits: false,
-        ..known
-    });
-    if known.waits {
-        // there is room, which was made with its place
-        let _ = named.push_back(place.number);
-    }
-    known.leaves
 }
 
 impl<'a, R: Wait + Clock> Links<SocketLink> for SocketLinks<'a, R> {

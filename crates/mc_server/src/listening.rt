@@ -31,6 +31,8 @@ struct Post {
     share: Share,
     poll: Poll,
     events: Events,
+    /// After how many seconds it closes connections that are idle; with 0 never.
+    idle_timeout: u32,
 }
 
 /// The workers' posts, and where connections wait for them, in the same order.
@@ -117,7 +119,7 @@ where
     let address = SocketAddr::from((options.address, options.port));
     let listener = bound(rt, address)?;
     let (shared, caller) = Shared::new(alloc, settings_of(options.pages), Fnv)?;
-    let Posts { posts, inboxes } = make_posts(rt, alloc, options.workers)?;
+    let Posts { posts, inboxes } = make_posts(rt, alloc, options)?;
     let arrivals = Arrivals::new(inboxes);
     look_for_descriptors(&listener)?;
     let told = if options.verbose { Some(stderr) } else { None };
@@ -161,17 +163,18 @@ fn look_for_descriptors(listener: &TcpListener) -> io::Result<()> {
     Ok(())
 }
 
-/// Makes so many posts.
-fn make_posts<R: Net>(rt: &R, alloc: Global, count: u32) -> Result<Posts, Wanting> {
+/// Makes as many posts as the options say, and by them.
+fn make_posts<R: Net>(rt: &R, alloc: Global, options: Options) -> Result<Posts, Wanting> {
     let mut posts = Vec::new(alloc);
     let mut inboxes = Vec::new(alloc);
-    for worker in 0..count {
+    for worker in 0..options.workers {
         let (poll, waker) = watched(rt)?;
         let events = Events::with_capacity(alloc, EVENTS)?;
         let post = Post {
             share: Share::new(worker),
             poll,
             events,
+            idle_timeout: options.idle_timeout,
         };
         let inbox = Inbox::new(alloc, waker)?;
         if posts.push(post).is_err() || inboxes.push(inbox).is_err() {
@@ -270,8 +273,10 @@ fn man<R: Wait + time::Clock, C: Clock>(
         share,
         poll,
         events,
+        idle_timeout,
     } = post;
     arrivals.end_rest(&share);
     let mut links = SocketLinks::new(rt, alloc, arrivals, share, poll, events);
+    links.close_idle(idle_timeout);
     asker.work(rt, alloc, &mut links, clock);
 }

@@ -13,10 +13,14 @@ mod clock;
 mod connection;
 mod descriptors;
 mod end;
+mod idle;
+#[cfg(test)]
+mod idle_tests;
 mod link;
 mod links;
 mod listening;
 mod options;
+mod place;
 mod running;
 mod serving;
 #[cfg(test)]

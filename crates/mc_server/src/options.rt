@@ -1,7 +1,7 @@
 //! What the command line asks for.
 ghost use Rattle.std.specs.Prelude.{◌≡◌, ◌≤◌, ◌^◌, min, option_map, IfOk};
 ghost use Rattle.std.specs.Option.{option_or};
-ghost use Rattle.mc_server.specs.Asked.{IsUpTo, IsAskedFor, IsAddressFor};
+ghost use Rattle.mc_server.specs.Asked.{IsUpTo, IsAskedFor, IsTimeoutFor, IsAddressFor};
 
 use crate::unserved::{not_served, with_unserved};
 use clap::error::ErrorKind;
@@ -22,6 +22,9 @@ const MOST_WORKERS: u32 = 64;
 
 /// The most connections that may be open at once, at most.
 const MOST_CONNECTIONS: u32 = 65536;
+
+/// The longest time after which a connection that is idle may be closed, in seconds: 30 days.
+const LONGEST_TIMEOUT: u32 = 2_592_000;
 
 /// The connections that may be open at once where the command line says nothing of them.
 const CONNECTIONS: u32 = 1024;
@@ -74,6 +77,8 @@ pub struct Asked {
     pub workers: Option<u32>,
     /// The connections of `-c`.
     pub connections: Option<u32>,
+    /// The seconds of `--idle-timeout`.
+    pub idle_timeout: Option<u32>,
     /// `-v` is there.
     pub verbose: bool,
 }
@@ -95,15 +100,17 @@ pub struct Options {
     pub workers: u32,
     /// How many connections may be open at once, 1 to 65536.
     pub connections: u32,
+    /// After how many seconds a connection that is idle is closed, at most 2592000; with 0 never.
+    pub idle_timeout: u32,
     /// Each connection that opens or closes is told of.
     pub verbose: bool,
 }
 
 impl Options {
     /// Makes options of what `clap` found. Where they aren't asked for the store has 64 pages, the
-    /// address is 127.0.0.1, the port is 11211, there are 4 workers, and at most 1024 connections are
-    /// open at once. A port behind the address goes before the one of `-p`. What is out of range, which
-    /// is refused before, is brought into it.
+    /// address is 127.0.0.1, the port is 11211, there are 4 workers, at most 1024 connections are open at
+    /// once, and none is closed for being idle. A port behind the address goes before the one of `-p`. What
+    /// is out of range, which is refused before, is brought into it.
     pub fn new(asked: Asked) -> Options
         ensures stdin { result.stdin ≡ asked.stdin }
         ensures now { result.now ≡ option_map (min (2 ^ 62)) asked.now }
@@ -112,6 +119,7 @@ impl Options {
         ensures port { IsAskedFor (option_or asked.address_port asked.port) 11211 65535 result.port }
         ensures workers { IsAskedFor asked.workers 4 64 result.workers }
         ensures connections { IsAskedFor asked.connections 1024 65536 result.connections }
+        ensures idle_timeout { IsTimeoutFor asked.idle_timeout 2592000 result.idle_timeout }
         ensures verbose { result.verbose ≡ asked.verbose }
     {
         Options {
@@ -128,6 +136,7 @@ impl Options {
             },
             workers: taken(asked.workers, WORKERS, MOST_WORKERS),
             connections: taken(asked.connections, CONNECTIONS, MOST_CONNECTIONS),
+            idle_timeout: timeout(asked.idle_timeout, LONGEST_TIMEOUT),
             verbose: asked.verbose,
         }
     }
@@ -144,6 +153,16 @@ fn taken(asked: Option<u32>, usual: u32, most: u32) -> u32
     }
 }
 
+/// Gives the seconds that are asked for, at most so many, and 0 where none are.
+fn timeout(asked: Option<u32>, longest: u32) -> u32
+    ensures { IsTimeoutFor asked longest result }
+{
+    match asked {
+        Some(seconds) => seconds.min(longest),
+        None => 0,
+    }
+}
+
 /// Reads the words of the command line, the program's own name first.
 pub fn parsed(alloc: Global, words: &[String]) -> Result<Options, Error>
     ensures pages { IfOk result (λ options. 1 ≤ options.pages × options.pages ≤ 65536) }
@@ -151,6 +170,7 @@ pub fn parsed(alloc: Global, words: &[String]) -> Result<Options, Error>
     ensures workers { IfOk result (λ options. 1 ≤ options.workers × options.workers ≤ 64) }
     ensures connections { IfOk result (λ options.
         1 ≤ options.connections × options.connections ≤ 65536) }
+    ensures idle_timeout { IfOk result (λ options. options.idle_timeout ≤ 2592000) }
 {
     let mut command = command(alloc)?;
     let matches = command.try_get_matches_from_mut(words)?;
@@ -165,6 +185,7 @@ pub fn parsed(alloc: Global, words: &[String]) -> Result<Options, Error>
         port: matches.get_one::<u16>("port"),
         workers: matches.get_one::<u32>("workers"),
         connections: matches.get_one::<u32>("connections"),
+        idle_timeout: matches.get_one::<u32>("idle-timeout"),
         verbose: matches.get_count("verbose") > 0,
     }))
 }
@@ -263,6 +284,7 @@ fn command<'a>(alloc: Global) -> Result<Command<'a>, Error> {
         .args_override_self(true);
     let command = with_session_options(alloc, command)?;
     let command = with_listening_options(alloc, command)?;
+    let command = with_connection_options(alloc, command)?;
     let command = with_options_without_effect(alloc, command)?;
     Ok(with_unserved(alloc, command)?)
 }
@@ -292,7 +314,7 @@ fn with_session_options<'a>(
     command.arg(stdin)?.arg(now)?.arg(pages)
 }
 
-/// Adds the options of a program that listens.
+/// Adds the options of where a program listens, and by how many it serves there.
 fn with_listening_options<'a>(
     alloc: Global,
     command: Command<'a>,
@@ -317,6 +339,14 @@ fn with_listening_options<'a>(
         .action(ArgAction::Set)
         .value_parser(value_parser!(u32).range(1..=i64::from(MOST_WORKERS)))
         .help("Serve connections by N workers, 1 to 64 [default: 4]");
+    command.arg(address)?.arg(port)?.arg(workers)
+}
+
+/// Adds the options of connections, how many there are, how long, and whether they are told of.
+fn with_connection_options<'a>(
+    alloc: Global,
+    command: Command<'a>,
+) -> Result<Command<'a>, AllocError> {
     let connections = Arg::new(alloc, "connections")
         .short('c')
         .long("conn-limit")
@@ -324,17 +354,20 @@ fn with_listening_options<'a>(
         .action(ArgAction::Set)
         .value_parser(value_parser!(u32).range(1..=i64::from(MOST_CONNECTIONS)))
         .help("Have at most N connections open, 1 to 65536 [default: 1024]");
+    let idle_timeout = Arg::new(alloc, "idle-timeout")
+        .long("idle-timeout")
+        .value_name("SECONDS")
+        .action(ArgAction::Set)
+        .value_parser(value_parser!(u32).range(0..=i64::from(LONGEST_TIMEOUT)))
+        .help(
+            "Close connections that are idle for so long, 1 to 2592000; with 0 none [default: 0]",
+        );
     let verbose = Arg::new(alloc, "verbose")
         .short('v')
         .long("verbose")
         .action(ArgAction::Count)
         .help("Tell of each connection that opens or closes, on standard error");
-    command
-        .arg(address)?
-        .arg(port)?
-        .arg(workers)?
-        .arg(connections)?
-        .arg(verbose)
+    command.arg(connections)?.arg(idle_timeout)?.arg(verbose)
 }
 
 /// Adds what memcached's command lines have, and what is so without it.

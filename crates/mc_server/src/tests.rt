@@ -32,6 +32,7 @@ fn served(alloc: Global, now: Option<u64>, reader: &mut Drip<'_>, writer: &mut S
         port: None,
         workers: None,
         connections: None,
+        idle_timeout: None,
         verbose: false,
     });
     let clock = AskedClock {

@@ -77,7 +77,7 @@ pub fn not_served<'a>() -> [Unserved<'a>; 27] {
         valued(
             'o',
             "extended",
-            "none of these options is there; leave it out",
+            "of these options there is idle_timeout alone, as '--idle-timeout'; leave the others out",
         ),
         valued(
             'I',

@@ -2,19 +2,14 @@
 
 use crate::channel::Channel;
 use std::alloc::Global;
+use std::collections::BTreeMap;
 
-/// A connection whose session has ended before all of its output was sent.
-#[derive(Drop)]
-struct Leaving {
-    channel: Channel,
-    place: usize,
-}
-
-/// The places of links that are gone, and the connections that still have output to send.
+/// The places of links that are gone, and, under their places, the connections whose sessions have ended
+/// before all of their output was sent.
 #[derive(Drop)]
 pub struct Yard {
     free: Vec<usize>,
-    leaving: Vec<Leaving>,
+    leaving: BTreeMap<usize, Channel>,
 }
 
 impl Yard {
@@ -22,7 +17,7 @@ impl Yard {
     pub fn new(alloc: Global) -> Yard {
         Yard {
             free: Vec::new(alloc),
-            leaving: Vec::new(alloc),
+            leaving: BTreeMap::new(alloc),
         }
     }
 
@@ -31,38 +26,36 @@ impl Yard {
         self.free.pop()
     }
 
-    /// Takes the channel of a link that is gone, and closes it where all was sent. Without memory
-    /// the place isn't used again.
+    /// Takes the channel of a link that is gone, and closes it where there is nothing more to do, or no
+    /// memory. Without memory the place may not be used again.
     pub fn take_in(&mut self, place: usize, channel: Channel) {
-        if channel.is_sent() {
+        if channel.is_done() {
+            drop(channel);
             let _ = self.free.push(place);
-        } else {
-            channel.leave();
-            let _ = self.leaving.push(Leaving { channel, place });
+            return;
+        }
+        channel.leave();
+        if self.leaving.insert(place, channel).is_err() {
+            let _ = self.free.push(place);
         }
     }
 
-    /// Sends what is left where there may be room, and closes the connections of which all was sent or
-    /// nothing is read any more.
-    pub fn send_rest(&mut self) {
-        let mut at = 0;
-        for _leaving in 0..self.leaving.len() {
-            at = self.send_rest_at(at);
+    /// Sends what the link at this place has left, where there may be room, and closes the connection where
+    /// all was sent, nothing is read any more, or it is to end.
+    pub fn send_rest(&mut self, place: usize) {
+        if self.is_done_sending(place) {
+            let _ = self.leaving.remove(&place);
+            let _ = self.free.push(place);
         }
     }
 
-    /// Sends what is left of one, and says at which place the next stands.
-    fn send_rest_at(&mut self, at: usize) -> usize {
-        let Some(leaving) = self.leaving.get_mut(at) else {
-            return at;
+    /// Sends what is left of one, and says whether that was all that there is to do. Where none is leaving
+    /// there is nothing to do.
+    fn is_done_sending(&mut self, place: usize) -> bool {
+        let Some(channel) = self.leaving.get_mut(&place) else {
+            return false;
         };
-        let _ = leaving.channel.flush();
-        if !leaving.channel.is_sent() {
-            return at.saturating_add(1);
-        }
-        let place = leaving.place;
-        self.leaving.swap_remove(at);
-        let _ = self.free.push(place);
-        at
+        let _ = channel.flush();
+        channel.is_done()
     }
 }

@@ -1,0 +1,78 @@
+//! What a worker knows of a link.
+
+use crate::channel::Readiness;
+use crate::connection::Parting;
+use mio::event::Event;
+use std::cell::Cell;
+use std::collections::VecDeque;
+use std::rc::Rc;
+use std::time::{Duration, Instant};
+
+/// What is known of a link.
+#[derive(Drop)]
+pub struct Place {
+    /// The number by which it is named.
+    number: u64,
+    readiness: Rc<Cell<Readiness>>,
+    /// When it was first seen to wait, since the last event; nothing where nobody looked.
+    waits_since: Option<Instant>,
+}
+
+impl Place {
+    /// Knows nothing yet of the link with this number.
+    pub fn new(number: u64, readiness: Rc<Cell<Readiness>>) -> Place {
+        Place {
+            number,
+            readiness,
+            waits_since: None,
+        }
+    }
+
+    /// Notes what an event says of the link, and names it where it waits. Says whether the link is gone.
+    pub fn note(&mut self, event: &Event, named: &mut VecDeque<u64>) -> bool {
+        self.waits_since = None;
+        let known = self.readiness.get();
+        let is_final = event.is_read_closed() || event.is_error();
+        self.readiness.set(Readiness {
+            reads: known.reads || event.is_readable() || is_final,
+            writes: known.writes || event.is_writable() || is_final,
+            is_final: known.is_final || is_final,
+            is_marked: known.is_marked || event.is_priority(),
+            waits: false,
+            ..known
+        });
+        if known.waits {
+            // there is room, which was made with its place
+            let _ = named.push_back(self.number);
+        }
+        known.leaves
+    }
+
+    /// Lets the connection end, for this, and names its link. Says whether the link is gone.
+    pub fn end(&mut self, parting: Parting, named: &mut VecDeque<u64>) -> bool {
+        self.waits_since = None;
+        let known = self.readiness.get();
+        self.readiness.set(Readiness {
+            ends: Some(parting),
+            waits: false,
+            ..known
+        });
+        let _ = named.push_back(self.number);
+        known.leaves
+    }
+
+    /// Says whether it was first seen to wait so long before the one moment, with no event since. Where it
+    /// waits and wasn't seen to before, it is seen now.
+    pub fn has_waited(&mut self, limit: Duration, before: Instant, now: Instant) -> bool {
+        if !self.readiness.get().waits {
+            return false;
+        }
+        match self.waits_since {
+            Some(since) => before.duration_since(since) >= limit,
+            None => {
+                self.waits_since = Some(now);
+                false
+            }
+        }
+    }
+}
