@@ -1,6 +1,7 @@
 //! Commands as they are lent, their steps on keys, the replies, and the plain store.
 #![tactic(auto)]
 
+mod answer;
 mod block;
 mod bytes;
 mod command;
@@ -15,6 +16,7 @@ mod row;
 mod step;
 mod words;
 
+pub use answer::{Answer, Unanswered};
 pub use block::Block;
 pub use bytes::Bytes;
 pub use command::{Command, CommandOf, is_quiet, step_at, steps_of};

@@ -3,6 +3,7 @@ ghost use Rattle.mc_command.specs.Commands.{key_of};
 ghost use Rattle.mc_command.specs.Plain.{block_of};
 ghost use Rattle.mc_command.specs.declared.step.StepFault.TheVariants.{NoMemory};
 
+use crate::answer::{Answer, Unanswered};
 use crate::bytes::Bytes;
 use crate::reply::Reply;
 use mc_time::Moment;
@@ -122,7 +123,7 @@ impl<T: Drop> From<AllocFailed<T>> for StepFault {
 
 /// A store that takes steps.
 pub trait Steps {
-    ghost use Rattle.std.specs.Prelude.{◌≡◌, ◌≤◌, ℕ, length, IfOk, OnErr, Err};
+    ghost use Rattle.std.specs.Prelude.{◌≡◌, ◌≤◌, ℕ, length, IfOk, OnOk, OnErr, Err};
     ghost use Rattle.mc_command.specs.declared.step.KeyStep.{KeyStep};
     ghost use Rattle.mc_command.specs.declared.reply.Reply.{Reply};
     ghost use Rattle.mc_command.specs.Commands.{key_of, longest_key};
@@ -141,6 +142,36 @@ pub trait Steps {
         ensures took { IfOk result (λ reply. took self.old step.now now reply self.new) }
         ensures spent { result ≡ Err StepFault.NumbersSpent → spent self.old step.now now }
         ensures err { OnErr result (same self.old self.new) };
+
+    /// Takes one step on one key, and has its reply told. A hit is told while its item stands where
+    /// it is, before the step is decided. Where the step isn't taken, what the store holds is the
+    /// same.
+    fn step_telling<A: Answer>(
+        &mut self,
+        alloc: Global,
+        step: &KeyStep<'_>,
+        now: Moment,
+        answer: &mut A,
+    ) -> Result<(), Unanswered>
+        requires { length (key_of step.now) ≤ longest_key }
+        ensures told { OnOk result ((reply : Reply) × took self.old step.now now reply self.new
+            × A.told answer.old reply answer.new) }
+        ensures untold { result ≡ Err Unanswered.Untold →
+            (reply : Reply) × took self.old step.now now reply self.new }
+        ensures spent { result ≡ Err Unanswered.NumbersSpent →
+            spent self.old step.now now × same self.old self.new }
+        ensures refused { result ≡ Err Unanswered.NoMemory → same self.old self.new }
+        ensures err { OnErr result (answer.new ≡ answer.old) }
+    {
+        match self.step(alloc, step, now) {
+            Ok(reply) => match answer.reply(&reply) {
+                Ok(()) => Ok(()),
+                Err(_) => Err(Unanswered::Untold),
+            },
+            Err(StepFault::NumbersSpent) => Err(Unanswered::NumbersSpent),
+            Err(StepFault::NoMemory) => Err(Unanswered::NoMemory),
+        }
+    }
 
     /// A store holds the same as itself.
     ghost holds_itself: { (store : Self) → same store store };

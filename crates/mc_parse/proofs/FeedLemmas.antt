@@ -61,7 +61,7 @@ settled_stays u (inl within) = inl (omega arith)
 settled_stays u (inr beyond) = inr (drop_of_length-le u.bytes beyond)
 
 -- and no bytes change nothing of it
-pushed_none : (u : Unread) → IsSettled u → pushed u [] ≡ u
+pub pushed_none : (u : Unread) → IsSettled u → pushed u [] ≡ u
 pushed_none u (inl none) =
     let nothing : u.passed - length u.bytes ≡ 0 = omega arith in
     rw (append-nil u.bytes, nothing, none) refl

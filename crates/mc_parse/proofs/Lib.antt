@@ -10,4 +10,5 @@ pub mod StreamLemmas
 pub mod KeyLemmas
 pub mod CursorLemmas
 pub mod FeedLemmas
+pub mod SourceLemmas
 pub mod FoundLemmas

@@ -22,6 +22,10 @@ settled u = record { greatest = u.greatest; passed = u.passed - length u.bytes; 
 abbrev pub pushed : Unread → List ℕ → Unread
 pushed u piece = settled (record u { bytes = u.bytes ++ piece })
 
+-- the feed took a piece, and is as it was where the piece has no bytes
+abbrev pub TakesPiece : (old new : Unread) → List ℕ → Type 0
+TakesPiece old new piece = (new ≡ pushed old piece) × (piece ≡ [] → new ≡ old)
+
 -- a unit was read: so many bytes are dropped, and so many behind them are to be passed over
 abbrev pub read : Unread → (len passed : ℕ) → Unread
 read u len passed = settled (record u { passed = passed; bytes = drop len u.bytes })

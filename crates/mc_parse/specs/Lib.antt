@@ -8,3 +8,4 @@ pub mod Cursors
 pub mod Notes
 pub mod Aheads
 pub mod Queues
+pub mod Sources

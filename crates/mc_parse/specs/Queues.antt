@@ -1,6 +1,11 @@
 -- How a queue keeps its bytes.
 use Rattle.std.specs.Prelude.{◌≡◌, ◌≤◌, ◌+◌, ℕ, List, length}
 
+-- the bytes of a buffer, and for how many there is memory
+pub record BufferState : Type 0 where
+  pub items : List ℕ
+  pub capacity : ℕ
+
 -- no more bytes were taken than are left, and a buffer of no bytes reserves at most `kept`
 pub record IsHalfFull (kept taken : ℕ) (buffer : List ℕ) (capacity : ℕ) : Type 0 where
   pub half : taken + taken ≤ length buffer

@@ -2,6 +2,7 @@ use crate::ahead::Ahead;
 use crate::cursor::{Cursor, cursor_after};
 use crate::peek::Peek;
 use crate::queue::Queue;
+use crate::source::Source;
 use mc_command::LineFault;
 use std::alloc::{AllocError, Global};
 use std::marker::Model;
@@ -31,10 +32,11 @@ impl Model for Feed {
 }
 
 impl Feed {
-    ghost use Rattle.std.specs.Prelude.{◌≡◌, ◌≤◌, ◌<◌, ◌*◌, [], length, IfSome, OnOk, OnErr};
+    ghost use Rattle.std.specs.Prelude.{◌≡◌, ◌≤◌, ◌<◌, ◌*◌, [], length, IfSome, OnOk, OnErr, IfOk};
+    ghost use Rattle.mc_parse.specs.Sources.{Brings};
     ghost use Rattle.mc_parse.specs.Peeks.{unit_of, FindsShortKeys, StaysWhole};
     ghost use Rattle.mc_parse.specs.Cursors.{IsCursor};
-    ghost use Rattle.mc_parse.specs.Feeds.{pushed, read, IsSettled, HasNoUnit, HasUnit, ReadsUnit};
+    ghost use Rattle.mc_parse.specs.Feeds.{pushed, read, TakesPiece, IsSettled, HasNoUnit, HasUnit, ReadsUnit};
     ghost use Rattle.mc_parse.specs.Feeds.{Finds, FindsAny, FindsLeft, FindsAnyLeft};
 
     /// Makes a feed of no bytes, whose storage commands may charge at most `greatest` bytes. It takes no memory.
@@ -61,6 +63,31 @@ impl Feed {
         self.passed -= skipped;
         self.ahead = self.ahead.after(self.greatest, self.unread.as_slice());
         Ok(())
+    }
+
+    /// Takes the next piece of the stream from a source, which writes it where it will lie, into room for `room` bytes.
+    /// What is to be passed over of it isn't kept. Refused, the source wasn't asked, and the feed is as it was.
+    pub fn push_from<S: Source>(
+        &mut self,
+        source: &mut S,
+        room: usize,
+    ) -> Result<S::Answer, AllocError>
+        ensures ok { IfOk result (λ answer.
+            Brings S.gives source.old source.new answer (TakesPiece self.old self.new)) }
+        ensures err { OnErr result (self.new ≡ self.old) }
+        ensures asked { OnErr result (source.new ≡ source.old) }
+    {
+        let whole = self.ahead.announced();
+        match self.unread.push_part_from(source, room, whole) {
+            Ok(answer) => {
+                let dropped = self.passed.min(self.unread.len() as u64);
+                self.unread.consume(dropped as usize);
+                self.passed -= dropped;
+                self.ahead = self.ahead.after(self.greatest, self.unread.as_slice());
+                Ok(answer)
+            }
+            Err(refused) => Err(refused),
+        }
     }
 
     /// Finds what the unread bytes begin with. It takes no memory and looks at no line: each was read once, when it was

@@ -2,6 +2,8 @@
 #![tactic(auto)]
 
 mod ahead;
+mod append;
+mod buffer;
 mod cursor;
 mod exptime;
 mod feed;
@@ -12,7 +14,9 @@ mod name;
 mod note;
 mod peek;
 mod queue;
+mod source;
 
+pub use append::Append;
 pub use feed::Feed;
 pub use laws::{
     a_spelling_has_a_byte, cutting_does_not_matter, no_spelling_begins_another, one_list_of_units,
@@ -23,7 +27,8 @@ pub use line_laws::{keys_of_a_line_are_keys, words_hold_no_space_or_feed};
 pub use name::{NAMES, Name};
 pub use note::{KeySpan, Noted, Span, lend};
 pub use peek::{Peek, peek_at};
-pub use queue::{Append, Queue};
+pub use queue::Queue;
+pub use source::Source;
 
 #[cfg(test)]
 mod tests;

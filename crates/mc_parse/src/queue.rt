@@ -1,5 +1,6 @@
-ghost use Rattle.std.specs.Prelude.{◌≡◌, ◌-◌, ◌≤◌, drop, length, vec_capacity};
-
+use crate::append::Append;
+use crate::buffer::Buffer;
+use crate::source::Source;
 use std::alloc::{AllocError, Global};
 use std::marker::Model;
 
@@ -14,40 +15,25 @@ const BEHIND: usize = 16384;
 #[derive(Drop)]
 pub struct Queue<const KEPT: usize> {
     alloc: Global,
-    buffer: Vec<u8>,
+    buffer: Buffer,
     /// How many bytes of the buffer were taken: never more than are left.
     taken: usize,
 }
 
-/// A text that knows how to append its bytes.
-pub trait Append {
-    ghost use Rattle.std.specs.Prelude.{◌≡◌, ◌++◌, ℕ, List, OnOk, OnErr};
-
-    /// It may be appended.
-    ghost can_append: { Self → Type 0 };
-    /// The bytes that it appends.
-    ghost bytes: { Self → List ℕ };
-
-    /// Appends its bytes to a buffer. Refused, the buffer is as it was.
-    fn append_to(&self, buffer: &mut Vec<u8>) -> Result<(), AllocError>
-        requires { can_append self.now }
-        ensures ok { OnOk result (buffer.new.items ≡ buffer.old.items ++ bytes self.now) }
-        ensures err { OnErr result (buffer.new.items ≡ buffer.old.items) };
-}
-
 impl<const KEPT: usize> Model for Queue<KEPT> {
-    ghost use Rattle.std.specs.Prelude.{ℕ, List, drop, vec_capacity};
+    ghost use Rattle.std.specs.Prelude.{ℕ, List, drop};
     ghost use Rattle.mc_parse.specs.Queues.{IsHalfFull};
 
     ghost Value = { List ℕ };
 
     ghost view = { λ q. drop q.taken q.buffer.items };
 
-    ghost invariant = { λ q. IsHalfFull KEPT q.taken q.buffer.items (vec_capacity q.buffer) };
+    ghost invariant = { λ q. IsHalfFull KEPT q.taken q.buffer.items q.buffer.capacity };
 }
 
 impl<const KEPT: usize> Queue<KEPT> {
-    ghost use Rattle.std.specs.Prelude.{◌≡◌, ◌↔◌, ◌*◌, ◌≤◌, [], ◌++◌, drop, length, IsTrue, OnOk, OnErr};
+    ghost use Rattle.std.specs.Prelude.{◌≡◌, ◌↔◌, ◌*◌, ◌≤◌, [], ◌++◌, drop, length, IsTrue, OnOk, OnErr, IfOk};
+    ghost use Rattle.mc_parse.specs.Sources.{Brings};
 
     /// Makes a queue of no bytes. It takes no memory.
     pub fn new(alloc: Global) -> Queue<KEPT>
@@ -55,7 +41,7 @@ impl<const KEPT: usize> Queue<KEPT> {
     {
         Queue {
             alloc,
-            buffer: Vec::new(alloc),
+            buffer: Buffer::new(alloc),
             taken: 0,
         }
     }
@@ -104,8 +90,8 @@ impl<const KEPT: usize> Queue<KEPT> {
         ensures ok { OnOk result (self.new ≡ self.old ++ bytes.now) }
         ensures err { OnErr result (self.new ≡ self.old) }
     {
-        let result = self.buffer.extend_from_slice(bytes);
-        give_back(&mut self.buffer, KEPT, self.alloc);
+        let result = self.buffer.push(bytes);
+        self.buffer.give_back(KEPT, self.alloc);
         result
     }
 
@@ -121,17 +107,35 @@ impl<const KEPT: usize> Queue<KEPT> {
         self.push(bytes)
     }
 
+    /// Appends what a source writes into room for `room` bytes, where it will lie: bytes of a text that has `whole`, as
+    /// `push_part` appends them. Refused, the source wasn't asked, and the queue is as it was.
+    pub fn push_part_from<S: Source>(
+        &mut self,
+        source: &mut S,
+        room: usize,
+        whole: usize,
+    ) -> Result<S::Answer, AllocError>
+        ensures ok { IfOk result (λ answer. Brings S.gives source.old source.new answer
+            (λ piece. self.new ≡ self.old ++ piece)) }
+        ensures err { OnErr result (self.new ≡ self.old) }
+        ensures asked { OnErr result (source.new ≡ source.old) }
+    {
+        self.make_room(whole);
+        let result = self.buffer.push_from(source, room);
+        self.buffer.give_back(KEPT, self.alloc);
+        result
+    }
+
     /// Makes room for `whole` bytes, where a sixteenth of them is there, and for some that come with the last of them.
     fn make_room(&mut self, whole: usize)
         ensures { self.new ≡ self.old }
     {
         let there = self.len();
         if KEPT < whole && whole / SHARE <= there {
-            let _ = self
-                .buffer
-                .reserve(whole.saturating_sub(there).saturating_add(BEHIND));
+            let missing = whole.saturating_sub(there).saturating_add(BEHIND);
+            self.buffer.reserve(missing);
         }
-        give_back(&mut self.buffer, KEPT, self.alloc);
+        self.buffer.give_back(KEPT, self.alloc);
     }
 
     /// Appends a text. Refused, the queue is as it was.
@@ -140,8 +144,8 @@ impl<const KEPT: usize> Queue<KEPT> {
         ensures ok { OnOk result (self.new ≡ self.old ++ T.bytes text.now) }
         ensures err { OnErr result (self.new ≡ self.old) }
     {
-        let result = text.append_to(&mut self.buffer);
-        give_back(&mut self.buffer, KEPT, self.alloc);
+        let result = self.buffer.append(text);
+        self.buffer.give_back(KEPT, self.alloc);
         result
     }
 
@@ -151,10 +155,11 @@ impl<const KEPT: usize> Queue<KEPT> {
         requires { n ≤ length self.old }
         ensures { self.new ≡ drop n self.old }
     {
+        let there = self.buffer.len();
         self.taken += n;
-        if self.buffer.len() - self.taken <= self.taken {
-            drop_front(&mut self.buffer, self.taken);
-            give_back(&mut self.buffer, KEPT, self.alloc);
+        if there - self.taken <= self.taken {
+            self.buffer.drop_front(self.taken);
+            self.buffer.give_back(KEPT, self.alloc);
             self.taken = 0;
         }
     }
@@ -164,30 +169,7 @@ impl<const KEPT: usize> Queue<KEPT> {
         ensures { self.new ≡ [] }
     {
         self.buffer.clear();
-        give_back(&mut self.buffer, KEPT, self.alloc);
+        self.buffer.give_back(KEPT, self.alloc);
         self.taken = 0;
-    }
-}
-
-/// Drops the front of a buffer, where what is left is no longer than the front.
-fn drop_front(buffer: &mut Vec<u8>, front: usize)
-    requires inside { front ≤ length buffer.old.items }
-    requires half { length buffer.old.items - front ≤ front }
-    ensures { buffer.new.items ≡ drop front buffer.old.items }
-{
-    let left = buffer.len() - front;
-    let (onto, rest) = buffer.as_mut_slice().split_at_mut(front);
-    let (onto, _) = onto.split_at_mut(left);
-    onto.copy_from_slice(rest);
-    buffer.truncate(left);
-}
-
-/// Gives the memory of an empty buffer back, where it is more than `kept` bytes.
-fn give_back(buffer: &mut Vec<u8>, kept: usize, alloc: Global)
-    ensures same { buffer.new.items ≡ buffer.old.items }
-    ensures small { length buffer.new.items ≡ 0 → vec_capacity buffer.new ≤ kept }
-{
-    if buffer.is_empty() && buffer.capacity() > kept {
-        *buffer = Vec::new(alloc);
     }
 }

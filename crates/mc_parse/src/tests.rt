@@ -79,6 +79,39 @@ impl Append for Pair {
     }
 }
 
+/// A source of so many bytes, which gives as many at once as there is room for. It answers for how many that is.
+#[derive(Drop)]
+struct Well {
+    left: usize,
+}
+
+impl Source for Well {
+    type Answer = usize;
+
+    ghost gives = { λ _ _ _ _. Unit {0} };
+
+    fn read(&mut self, room: &mut [u8]) -> (usize, usize) {
+        let count = room.len().min(self.left);
+        let (front, _) = room.split_at_mut(count);
+        front.fill(b'x');
+        self.left -= count;
+        (count, room.len())
+    }
+}
+
+/// Takes a piece from a source. Says whether the feed and the source were as before where that was refused, and takes it
+/// then.
+fn take_at_last(feed: &mut Feed, well: &mut Well, room: usize) -> Result<bool, AllocError> {
+    let held = feed.held();
+    let left = well.left;
+    if feed.push_from(well, room).is_ok() {
+        return Ok(true);
+    }
+    let is_same = feed.held() == held && well.left == left;
+    feed.push_from(well, room)?;
+    Ok(is_same)
+}
+
 /// Takes up to `n` bytes away. Says whether what is left is this, and what is held at most twice as much.
 fn consume_to(queue: &mut Queue<65536>, n: usize, left: &[u8]) -> bool {
     queue.consume(queue.len().min(n));
@@ -145,6 +178,53 @@ fn a_part_that_is_refused(rt: HostRuntime) -> Result<(), AllocError> {
         }
         assert_eq!(rt; queue.len(), 400 * count);
     }
+    Ok(())
+}
+
+#[test]
+fn a_source_has_the_room_that_is_asked_for(rt: HostRuntime) -> Result<(), AllocError> {
+    let mut queue: Queue<65536> = Queue::new(rt.alloc());
+    for room in [2048, 1, 2048, 16384] {
+        let mut well = Well { left: usize::MAX };
+        assert_eq!(rt; queue.push_part_from(&mut well, room, 0)?, room);
+        assert_eq!(rt; queue.len(), room);
+        queue.consume(room.min(queue.len()));
+    }
+    Ok(())
+}
+
+/// An idle queue keeps the room that its source has, and no more.
+#[test]
+fn room_that_is_lent_again_is_kept(rt: HostRuntime) -> Result<(), AllocError> {
+    let mut queue: Queue<65536> = Queue::new(rt.alloc());
+    for _ in 0..9 {
+        let mut well = Well { left: 100 };
+        queue.push_part_from(&mut well, 2048, 0)?;
+        queue.consume(queue.len());
+        assert_eq!(rt; queue.capacity(), 2048);
+    }
+    Ok(())
+}
+
+/// Takes so many pieces of 16384 bytes of a text of 1048576. Says whether it lies where it lay.
+fn stays_for(queue: &mut Queue<65536>, pieces: usize) -> Result<bool, AllocError> {
+    let reserved = queue.capacity();
+    let mut well = Well { left: usize::MAX };
+    for _ in 0..pieces {
+        queue.push_part_from(&mut well, 16384, 1048576)?;
+    }
+    Ok(queue.capacity() == reserved)
+}
+
+/// The first 4 pieces are a sixteenth; room for the text comes with the fifth, and for one more piece.
+#[test]
+fn a_text_from_a_source_stays_where_it_is_after_a_sixteenth(
+    rt: HostRuntime,
+) -> Result<(), AllocError> {
+    let mut queue: Queue<65536> = Queue::new(rt.alloc());
+    assert!(rt; !stays_for(&mut queue, 5)?);
+    assert!(rt; stays_for(&mut queue, 60)?);
+    assert_eq!(rt; queue.len(), 1064960);
     Ok(())
 }
 
@@ -274,6 +354,36 @@ fn what_is_passed_over_is_never_held(rt: HostRuntime) -> Result<(), AllocError> 
     assert!(rt; push_at_last(&mut feed, b"version\r\n")?);
     assert_eq!(rt; feed.held(), 9);
     assert!(rt; matches!(feed.peek(), Peek::Whole(Command::Lone(Lone::Version), 9)));
+    Ok(())
+}
+
+#[test]
+fn what_is_passed_over_of_a_source_is_never_held(rt: HostRuntime) -> Result<(), AllocError> {
+    let mut feed = Feed::new(rt.alloc(), GREATEST);
+    assert!(rt; push_at_last(&mut feed, b"set a 0 0 2097152\r\n")?);
+    assert_eq!(rt; pass_unit(&mut feed), Some(19));
+    let mut well = Well { left: 2097154 };
+    for _ in 0..129 {
+        assert!(rt; take_at_last(&mut feed, &mut well, 16384)?);
+        assert!(rt; feed.held() == 0 && feed.filled() == 0);
+    }
+    assert!(rt; push_at_last(&mut feed, b"version\r\n")?);
+    assert!(rt; matches!(feed.peek(), Peek::Whole(Command::Lone(Lone::Version), 9)));
+    Ok(())
+}
+
+/// A block of 1000000 bytes in pieces of 16384, of which the last is shorter.
+#[test]
+fn a_block_comes_from_a_source(rt: HostRuntime) -> Result<(), AllocError> {
+    let mut feed = Feed::new(rt.alloc(), GREATEST);
+    assert!(rt; push_at_last(&mut feed, b"set a 0 0 1000000\r\n")?);
+    let mut well = Well { left: 1000000 };
+    for _ in 0..62 {
+        assert!(rt; take_at_last(&mut feed, &mut well, 16384)?);
+        assert!(rt; matches!(feed.peek(), Peek::More));
+    }
+    assert!(rt; push_at_last(&mut feed, b"\r\n")?);
+    assert_eq!(rt; len_of(feed.peek()), Some(1000021));
     Ok(())
 }
 

@@ -7,4 +7,4 @@ mod retrieval;
 mod tests;
 mod texts;
 
-pub use texts::{write, write_fault, write_plain, write_spent, write_too_long};
+pub use texts::{write, write_fault, write_hit, write_plain, write_spent, write_too_long};

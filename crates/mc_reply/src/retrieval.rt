@@ -21,25 +21,43 @@ pub(crate) fn write_retrieval(
     ensures full { OnErr result (HasNoRoom out.old
         (retrieval_text keys.now with_unique at reply.now)) }
 {
+    match reply {
+        Reply::Hit {
+            flags,
+            unique,
+            block,
+        } => write_found(keys, with_unique, at, *flags, *unique, block.bytes(), out),
+        _ => out.extend_from_slice(end_of(keys.len(), at)),
+    }
+}
+
+/// Appends the same for a hit of these flags, this unique number and this block.
+pub(crate) fn write_found(
+    keys: &Keys<'_>,
+    with_unique: bool,
+    at: usize,
+    flags: u32,
+    unique: u64,
+    block: &[u8],
+    out: &mut Vec<u8>,
+) -> Result<(), AllocError>
+    requires { at < length keys.now }
+    ensures ok { OnOk result (out.new.items ≡ out.old.items
+        ++ retrieval_text keys.now with_unique at (Reply.Hit flags unique block.now)) }
+    ensures err { OnErr result (out.new.items ≡ out.old.items) }
+    ensures full { OnErr result (HasNoRoom out.old
+        (retrieval_text keys.now with_unique at (Reply.Hit flags unique block.now))) }
+{
     let end = end_of(keys.len(), at);
-    let Reply::Hit {
-        flags,
-        unique,
-        block,
-    } = reply
-    else {
-        return out.extend_from_slice(end);
-    };
     let Some(key) = keys.get(at) else {
         unreachable!()
     };
     let mut numbers = Numbers::new();
     if with_unique {
-        numbers.put_word(*unique);
+        numbers.put_word(unique);
     }
-    let block = block.bytes();
     numbers.put_word(block.len() as u64);
-    numbers.put_word(*flags as u64);
+    numbers.put_word(flags as u64);
     let before = out.len();
     let result = append_hit(key, numbers.as_slice(), block, end, out);
     if result.is_err() {

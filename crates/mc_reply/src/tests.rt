@@ -7,10 +7,22 @@ use std::test::Fail;
 /// What stands in the vector before each call.
 const BEFORE: &[u8] = b"END\r\n";
 
+/// What the reply to step `at` of a retrieval found, and what is told of it.
+#[derive(Clone, Copy, Drop)]
+struct Found {
+    with_unique: bool,
+    at: usize,
+    flags: u32,
+    unique: u64,
+    block: &'static [u8],
+    text: &'static str,
+}
+
 /// One call of this crate.
 #[derive(Drop)]
 enum Call<'a> {
     Step(&'a Command<'a>, usize, &'a Reply),
+    Hit(&'a Command<'a>, usize, u32, u64, &'a [u8]),
     Fault(LineFault),
     Plain(&'a Command<'a>),
     TooLong,
@@ -22,6 +34,10 @@ fn call_once(rt: &impl Abort, call: &Call<'_>, out: &mut Vec<u8>) -> Result<(), 
         Call::Step(command, at, reply) => {
             assert!(rt; *at < steps_of(command));
             write(command, *at, reply, out)
+        }
+        Call::Hit(command, at, flags, unique, block) => {
+            assert!(rt; *at < steps_of(command));
+            write_hit(command, *at, *flags, *unique, block, out)
         }
         Call::Fault(fault) => write_fault(fault, out),
         Call::Plain(command) => write_plain(command, out),
@@ -162,34 +178,80 @@ fn retrievals(with_unique: bool) -> [Command<'static>; 2] {
     ]
 }
 
-#[test]
-fn a_retrieval_tells_what_it_found_and_ends(rt: HostRuntime) -> Result<(), Fail> {
-    let alloc = rt.alloc();
-    let hit = Reply::Hit {
+/// Hits of a retrieval.
+const FOUND: [Found; 4] = [
+    Found {
+        with_unique: false,
+        at: 0,
         flags: 4294967295,
         unique: 18446744073709551614,
-        block: Block::of(filled(alloc, b"x\r\ny")?),
-    };
-    let empty = Reply::Hit {
+        block: b"x\r\ny",
+        text: "VALUE a 4294967295 4\r\nx\r\ny\r\n",
+    },
+    Found {
+        with_unique: false,
+        at: 1,
+        flags: 4294967295,
+        unique: 18446744073709551614,
+        block: b"x\r\ny",
+        text: "VALUE bc 4294967295 4\r\nx\r\ny\r\nEND\r\n",
+    },
+    Found {
+        with_unique: true,
+        at: 0,
+        flags: 4294967295,
+        unique: 18446744073709551614,
+        block: b"x\r\ny",
+        text: "VALUE a 4294967295 4 18446744073709551614\r\nx\r\ny\r\n",
+    },
+    Found {
+        with_unique: true,
+        at: 1,
         flags: 0,
         unique: 1,
-        block: Block::of(Vec::new(alloc)),
+        block: b"",
+        text: "VALUE bc 0 0 1\r\n\r\nEND\r\n",
+    },
+];
+
+/// A hit is told the same from a reply and from where its block lies.
+fn found_is_told(rt: &impl Abort, alloc: Global, found: &Found) -> Result<(), Fail> {
+    let reply = Reply::Hit {
+        flags: found.flags,
+        unique: found.unique,
+        block: Block::of(filled(alloc, found.block)?),
     };
-    for (with_unique, at, reply, want) in [
-        (false, 0, &hit, "VALUE a 4294967295 4\r\nx\r\ny\r\n"),
-        (false, 1, &hit, "VALUE bc 4294967295 4\r\nx\r\ny\r\nEND\r\n"),
-        (
-            true,
-            0,
-            &hit,
-            "VALUE a 4294967295 4 18446744073709551614\r\nx\r\ny\r\n",
-        ),
-        (true, 1, &empty, "VALUE bc 0 0 1\r\n\r\nEND\r\n"),
-        (false, 0, &Reply::Miss, ""),
-        (true, 1, &Reply::Miss, "END\r\n"),
-    ] {
+    for command in retrievals(found.with_unique) {
+        expect(
+            rt,
+            alloc,
+            Call::Step(&command, found.at, &reply),
+            found.text,
+        )?;
+        let call = Call::Hit(&command, found.at, found.flags, found.unique, found.block);
+        expect(rt, alloc, call, found.text)?;
+    }
+    Ok(())
+}
+
+#[test]
+fn a_retrieval_tells_what_it_found_and_ends(rt: HostRuntime) -> Result<(), Fail> {
+    for found in &FOUND {
+        found_is_told(&rt, rt.alloc(), found)?;
+    }
+    Ok(())
+}
+
+#[test]
+fn a_retrieval_tells_nothing_of_a_miss_and_ends(rt: HostRuntime) -> Result<(), Fail> {
+    for (with_unique, at, want) in [(false, 0, ""), (true, 1, "END\r\n")] {
         for command in retrievals(with_unique) {
-            expect(&rt, alloc, Call::Step(&command, at, reply), want)?;
+            expect(
+                &rt,
+                rt.alloc(),
+                Call::Step(&command, at, &Reply::Miss),
+                want,
+            )?;
         }
     }
     Ok(())

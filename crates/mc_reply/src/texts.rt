@@ -4,7 +4,7 @@ ghost use Rattle.mc_reply.specs.Texts.{reply_text, fault_text, plain_text, long_
 ghost use Rattle.mc_reply.specs.Texts.{lone_text, spent_text, said, HasNoRoom};
 
 use crate::numbers::Numbers;
-use crate::retrieval::write_retrieval;
+use crate::retrieval::{write_found, write_retrieval};
 use mc_command::{Command, LineFault, Lone, Reply, is_quiet};
 use std::alloc::AllocError;
 
@@ -33,6 +33,34 @@ pub fn write(
         } => write_retrieval(keys, *with_unique, at, reply, out),
         _ if is_quiet(command) => Ok(()),
         _ => write_said(reply, out),
+    }
+}
+
+/// Appends the text of the reply to step `at` where it is a hit of these flags, this unique number and
+/// this block, as `write` does of such a reply. It is refused as `write` is.
+pub fn write_hit(
+    command: &Command<'_>,
+    at: usize,
+    flags: u32,
+    unique: u64,
+    block: &[u8],
+    out: &mut Vec<u8>,
+) -> Result<(), AllocError>
+    requires { at < length (steps command.now) }
+    ensures ok { OnOk result (out.new.items ≡ out.old.items
+        ++ reply_text command.now at (Reply.Hit flags unique block.now)) }
+    ensures err { OnErr result (out.new.items ≡ out.old.items) }
+    ensures full { OnErr result (HasNoRoom out.old
+        (reply_text command.now at (Reply.Hit flags unique block.now))) }
+{
+    match command {
+        Command::Get { keys, with_unique }
+        | Command::GetTouch {
+            keys,
+            with_unique,
+            ..
+        } => write_found(keys, *with_unique, at, flags, unique, block, out),
+        _ => Ok(()),
     }
 }
 

@@ -1,14 +1,16 @@
 -- More bytes leave the first unit as it is.
-use Rattle.std.proofs.Common.{◌≡◌, ◌<◌, ◌≤◌, ◌+◌, ◌-◌, ℕ, ◌⊎◌, inl, inr, List, [], ◌∷◌, ◌++◌, length, drop, refl, sym, ap, ◌∙◌, subst, arith, append_assoc}
+use Rattle.std.proofs.Common.{◌≡◌, ◌<◌, ◌≤◌, ◌+◌, ◌-◌, ℕ, Bool, true, IsTrue, ◌⊎◌, inl, inr, List, [], ◌∷◌, ◌++◌, length, drop, refl, sym, ap, ◌∙◌, subst, arith, append_assoc}
 use Rattle.std.proofs.Math.Seq.{drop-append-add}
 use Rattle.std.proofs.lemmas.Bool.{cases_lt}
 use Rattle.std.proofs.lemmas.List.{drop-append-le, drop_all, length-append, length-drop}
-use Rattle.std.specs.Result.{OnOk, OnErr}
+use Rattle.std.specs.Result.{OnOk, OnErr, IfOk}
 use Rattle.std.specs.Prelude.{Result, Ok, Err}
 use Rattle.mc_parse.specs.Units.{ProtocolUnit, Request, Fault, LongLine, Spells}
-use Rattle.mc_parse.specs.Feeds.{Unread, pushed, settled}
+use Rattle.mc_parse.specs.Feeds.{Unread, pushed, settled, TakesPiece}
+use Rattle.mc_parse.specs.Sources.{Brings}
 use Rattle.mc_parse.specs.Peeks.{BeginsWithNone}
 use Rattle.mc_session.specs.Answers.{IsWithin, at_start, inside}
+use Rattle.mc_session.specs.Turns.{SessionState, fed, FedPiece}
 
 abbrev unread_of : ℕ → ℕ → List ℕ → Unread
 unread_of greatest passed bytes = record { greatest = greatest; passed = passed; bytes = bytes }
@@ -65,6 +67,30 @@ within_more u taken more (inside unit front rest parts spelled due few) =
 pub either_way : {T E V : Type 0} (P : V → Type 0) (r : Result T E) (old more new : V) → OnOk r (new ≡ more) → OnErr r (new ≡ old) → P more → P old → P new
 either_way P (Ok x) old more new ok err p q = subst P (sym ok) p
 either_way P (Err e) old more new ok err p q = subst P (sym err) q
+
+-- so it is with what a source brought, or with nothing where it was refused
+pub brought_within : {S A E : Type 0} (gives : S → List ℕ → A → S → Type 0) (before after : S) (r : Result A E) (u new : Unread) (taken : ℕ)
+    → IfOk r (λ answer. Brings gives before after answer (TakesPiece u new)) → OnErr r (new ≡ u) → IsWithin u taken → IsWithin new taken
+brought_within gives before after (Ok answer) u new taken ok err is = subst (λ (v : Unread). IsWithin v taken) (sym ok.becomes.0) (within_more u taken ok.piece is)
+brought_within gives before after (Err refused) u new taken ok err is = subst (λ (v : Unread). IsWithin v taken) (sym err) is
+
+-- a session of these parts
+abbrev pub session_of : Unread → ℕ → List ℕ → Bool → SessionState
+session_of unread taken out is_open = record { unread = unread; taken = taken; out = out; is_open = is_open }
+
+-- what was brought to the feed of an open session was fed to the session
+pub brought_fed : {S A E : Type 0} (gives : S → List ℕ → A → S → Type 0) (before after : S) (r : Result A E) (u new : Unread) (taken : ℕ) (out : List ℕ) (is_open : Bool) (old : SessionState)
+    → session_of u taken out is_open ≡ old → IsTrue old.is_open → IfOk r (λ answer. Brings gives before after answer (TakesPiece u new))
+    → IfOk r (λ answer. Brings gives before after answer (FedPiece old (session_of new taken out is_open)))
+brought_fed gives before after (Ok answer) u new taken out is_open old same opens ok =
+    let is : is_open ≡ true = ap (λ (s : SessionState). s.is_open) same ∙ opens in
+    let feeds : session_of new taken out is_open ≡ fed (session_of u taken out is_open) ok.piece = rw is (ap (λ v. session_of v taken out true) ok.becomes.0) in
+    record {
+      piece = ok.piece;
+      gave = ok.gave;
+      becomes = (feeds ∙ ap (λ (s : SessionState). fed s ok.piece) same, λ none. ap (λ v. session_of v taken out is_open) (ok.becomes.1 none) ∙ same);
+    }
+brought_fed gives before after (Err refused) u new taken out is_open old same opens ok = tt
 
 -- where no byte is unread, nothing is spelled
 pub none_spelled : (u : Unread) → length u.bytes ≡ 0 → BeginsWithNone u.greatest (drop u.passed u.bytes)

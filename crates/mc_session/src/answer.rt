@@ -10,8 +10,9 @@ ghost use Rattle.mc_reply.specs.Texts.{fault_text, long_text};
 
 use crate::after_turn::AfterTurn;
 use crate::session::TurnFault;
+use crate::teller::{Asked, Teller};
 use crate::text::{Output, Text};
-use mc_command::{Command, LineFault, StepFault, Steps, step_at, steps_of};
+use mc_command::{Command, LineFault, Steps, Unanswered, step_at, steps_of};
 use mc_parse::Peek;
 use mc_time::Moment;
 use std::alloc::Global;
@@ -146,12 +147,12 @@ fn answer_step<S: Steps>(
         TakesFirst S.Steps now command.now store.old store.new) }
 {
     let step = step_at(command, 0);
-    match store.step(alloc, &step, now) {
-        Ok(reply) => match out.append(&Text::First(command, &reply)) {
-            Ok(()) => Ok(()),
-            Err(_) => Err(TurnFault { decided: true }),
-        },
-        Err(StepFault::NumbersSpent) => Ok(out.append(&Text::Spent(command))?),
-        Err(StepFault::NoMemory) => Err(TurnFault { decided: false }),
+    let asked = Asked { command };
+    let mut teller = Teller { asked: &asked, out };
+    match store.step_telling(alloc, &step, now, &mut teller) {
+        Ok(()) => Ok(()),
+        Err(Unanswered::NumbersSpent) => Ok(out.append(&Text::Spent(command))?),
+        Err(Unanswered::NoMemory) => Err(TurnFault { decided: false }),
+        Err(Unanswered::Untold) => Err(TurnFault { decided: true }),
     }
 }

@@ -8,6 +8,7 @@ mod laws;
 mod rounds;
 mod serving;
 mod session;
+mod teller;
 mod text;
 
 pub use endpoint::Endpoint;
@@ -19,5 +20,7 @@ pub use rounds::{WRITE_AT, piece_buffer, serve_endpoint, write_out};
 pub use serving::{ServeFault, serve};
 pub use session::{Session, Turn, TurnFault};
 
+#[cfg(test)]
+mod hit_tests;
 #[cfg(test)]
 mod tests;

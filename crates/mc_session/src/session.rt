@@ -6,7 +6,7 @@ use crate::after_turn::AfterTurn;
 use crate::answer::answer;
 use crate::text::Output;
 use mc_command::Steps;
-use mc_parse::{Feed, Peek, no_spelling_begins_another};
+use mc_parse::{Feed, Peek, Source, no_spelling_begins_another};
 use mc_time::Moment;
 use std::alloc::{AllocError, Global};
 use std::marker::Model;
@@ -69,9 +69,10 @@ impl Model for Session {
 }
 
 impl Session {
-    ghost use Rattle.std.specs.Prelude.{◌≡◌, ◌≤◌, ◌*◌, ◌↔◌, length, IsTrue, IsFalse, OnOk, OnErr, IfErr, Ok};
+    ghost use Rattle.std.specs.Prelude.{◌≡◌, ◌≤◌, ◌*◌, ◌↔◌, length, IsTrue, IsFalse, OnOk, OnErr, IfOk, IfErr, Ok};
+    ghost use Rattle.mc_parse.specs.Sources.{Brings};
     ghost use Rattle.mc_session.specs.Turns.{TakesTurn, FindsNoTurn, FindsClosed, TurnIsDue, NoTurnDue};
-    ghost use Rattle.mc_session.specs.Turns.{DecidesStep, opened, closed, fed, sent};
+    ghost use Rattle.mc_session.specs.Turns.{DecidesStep, opened, closed, fed, FedPiece, sent};
     ghost use Rattle.mc_session.specs.Answers.{gone_on, MayGoOn};
 
     /// Makes a session that was fed nothing, whose storage commands may charge at most `greatest`
@@ -98,6 +99,23 @@ impl Session {
         } else {
             Ok(())
         }
+    }
+
+    /// Takes the next piece of an open session's stream from a source, which writes it where it
+    /// will lie, into room for `room` bytes. Refused, the source wasn't asked, and the session is as
+    /// it was.
+    pub fn feed_from<S: Source>(
+        &mut self,
+        source: &mut S,
+        room: usize,
+    ) -> Result<S::Answer, AllocError>
+        requires { IsTrue self.old.is_open }
+        ensures ok { IfOk result (λ answer.
+            Brings S.gives source.old source.new answer (FedPiece self.old self.new)) }
+        ensures err { OnErr result (self.new ≡ self.old) }
+        ensures asked { OnErr result (source.new ≡ source.old) }
+    {
+        self.feed.push_from(source, room)
     }
 
     /// Takes the next turn of the session's stream, if one is due: at most one step of the store,

@@ -1,5 +1,6 @@
 use super::*;
 use mc_command::PlainStore;
+use mc_parse::Source;
 use mc_testing::{Drip, SESSIONS, Sip};
 use mc_time::{Fixed, Moment};
 use std::alloc::{AllocError, Global};
@@ -142,6 +143,45 @@ fn turns(
             return Err(AllocError);
         }
         assert!(rt; matches!(turn, Ok(Turn::Did)));
+    }
+    Ok(())
+}
+
+/// A source that has one command, over and over.
+#[derive(Drop)]
+struct Asking;
+
+impl Source for Asking {
+    type Answer = ();
+
+    ghost gives = { λ _ _ _ _. Unit {0} };
+
+    fn read(&mut self, room: &mut [u8]) -> (usize, ()) {
+        let command = b"version\r\n".as_slice();
+        let count = command.len().min(room.len());
+        let (onto, _) = room.split_at_mut(count);
+        onto.copy_from_slice(command.split_at(count).0);
+        (count, ())
+    }
+}
+
+/// A session is fed a command from a source, and takes its turn.
+fn is_fed_from_a_source(rt: &impl Abort, alloc: Global) -> Result<(), AllocError> {
+    let mut store = PlainStore::new(alloc, 64, PAGE)?;
+    let mut session = Session::new(alloc, PAGE);
+    if session.feed_from(&mut Asking, 2048).is_err() {
+        assert!(rt; session.is_idle());
+        session.feed_from(&mut Asking, 2048)?;
+    }
+    turns(rt, alloc, &mut session, &mut store, "", 1)?;
+    assert_eq!(rt; session.out(), b"VERSION 1.6.0\r\n".as_slice());
+    Ok(())
+}
+
+#[test]
+fn a_command_comes_from_a_source(rt: HostRuntime) -> Result<(), Fail> {
+    if is_fed_from_a_source(&rt, rt.alloc()).is_err() {
+        is_fed_from_a_source(&rt, rt.alloc())?;
     }
     Ok(())
 }

@@ -2,7 +2,7 @@
 
 use mc_command::{Command, LineFault, Reply};
 use mc_parse::{Append, Queue};
-use mc_reply::{write, write_fault, write_plain, write_spent, write_too_long};
+use mc_reply::{write, write_fault, write_hit, write_plain, write_spent, write_too_long};
 use std::alloc::AllocError;
 
 /// The texts that are to be written. While there are none they take at most 131072 bytes of memory: an output
@@ -14,6 +14,13 @@ pub type Output = Queue<131072>;
 pub enum Text<'a> {
     /// The reply to the first step of a command.
     First(&'a Command<'a>, &'a Reply),
+    /// The reply to the first step of a command where it is a hit, whose block is lent where it lies.
+    Hit {
+        command: &'a Command<'a>,
+        flags: u32,
+        unique: u64,
+        block: &'a [u8],
+    },
     /// That the unique numbers are spent, which a command's step needs.
     Spent(&'a Command<'a>),
     /// What a command without a step is answered.
@@ -34,6 +41,12 @@ impl<'a> Append for Text<'a> {
     fn append_to(&self, buffer: &mut Vec<u8>) -> Result<(), AllocError> {
         match self {
             Text::First(command, reply) => write(command, 0, reply, buffer),
+            Text::Hit {
+                command,
+                flags,
+                unique,
+                block,
+            } => write_hit(command, 0, *flags, *unique, block, buffer),
             Text::Spent(command) => write_spent(command, buffer),
             Text::Plain(command) => write_plain(command, buffer),
             Text::Flaw(fault) => write_fault(fault, buffer),

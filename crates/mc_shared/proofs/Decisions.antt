@@ -21,7 +21,8 @@ use Rattle.mc_shared.specs.Steps.{Decides, Fitted}
 use Rattle.mc_command.specs.declared.step.StepFault.{StepFault}
 use Rattle.mc_command.specs.declared.step.StepFault.TheVariants.{NoMemory, NumbersSpent}
 use Rattle.mc_shared.specs.Past.{Past}
-use Rattle.mc_shared.specs.Store.{CanCome, IsSpentAfter, MayFailAfter, Refuses, is_read}
+use Rattle.mc_shared.specs.Store.{CanCome, IsSpentAfter, MayFailAfter, Refuses}
+use Rattle.mc_shelf.specs.Hits.{is_read}
 use Rattle.mc_shared.proofs.StockedKept.{here}
 
 -- a bay that isn't held is another than one that is

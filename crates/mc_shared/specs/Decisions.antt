@@ -4,17 +4,20 @@ use Rattle.std.specs.FinMap.{len}
 use Rattle.mc_command.specs.declared.step.KeyStep.TheVariants.{Flush}
 use Rattle.mc_command.specs.declared.reply.Reply.TheVariants.{Flushed as AllFlushed}
 use Rattle.mc_shelf.specs.Numbers.{keys_with}
-use Rattle.mc_shelf.specs.Plans.{finished, told_next}
+use Rattle.mc_command.specs.Plain.{hit_of}
+use Rattle.mc_shelf.specs.Plans.{finished, stood, told_next}
 use Rattle.mc_shared.specs.Bays.{Content, OfShelf}
 use Rattle.mc_shared.specs.History.{Beginning, Operation, Stepped, Purged as PurgedShelf}
 use Rattle.mc_shared.specs.Stacks.{stacked}
 use Rattle.mc_shared.specs.Spread.{spread, keys_in}
 use Rattle.mc_shared.specs.declared.decision.Decision.{Decision}
-use Rattle.mc_shared.specs.declared.decision.Decision.TheVariants.{Settled, Begun, Purged, NoneDead, Flushed}
+use Rattle.mc_shared.specs.declared.decision.Decision.TheVariants.{Settled, Read, Begun, Purged, NoneDead, Flushed}
 
 -- what was done
 abbrev pub operation_of : Decision → Operation
 operation_of (Settled step moment reply) = Stepped step.now moment reply.now
+operation_of (Read step moment shelf) =
+    Stepped step.now moment (hit_of (stood shelf.now.value.content step.now moment))
 operation_of (Begun step moment at shelf plan begun word had) =
     Stepped step.now moment (told_next plan.now.next begun.now)
 operation_of (Purged at moment shelf before) = PurgedShelf at moment
@@ -24,6 +27,7 @@ operation_of (Flushed delay moment shelves before) = Stepped (Flush delay) momen
 -- the bays that are still held, with what they hold from then on
 abbrev pub still_of : Decision → List (ℕ × Content)
 still_of (Settled step moment reply) = []
+still_of (Read step moment shelf) = []
 still_of (Begun step moment at shelf plan begun word had) =
     (at, OfShelf (finished plan.now begun.now step.now shelf.now.content)) ∷ []
 still_of (Purged at moment shelf before) = (at, OfShelf shelf.now.content) ∷ []
@@ -35,6 +39,7 @@ still_of (Flushed delay moment shelves before) = stacked shelves.now.items
 -- more of it were counted than are left
 abbrev pub surplus_of : Beginning → Decision → List ℕ
 surplus_of start (Settled step moment reply) = []
+surplus_of start (Read step moment shelf) = []
 surplus_of start (Begun step moment at shelf plan begun word had) =
     replicate (had - len (finished plan.now begun.now step.now shelf.now.content).items) word
 surplus_of start (Purged at moment shelf before) =

@@ -18,3 +18,4 @@ pub mod Close
 pub mod Asking
 pub mod Laws
 pub mod Together
+pub mod Telling

@@ -1,7 +1,6 @@
 -- What the calls of the shared store promise.
 use Rattle.std.specs.Prelude.{◌≡◌, ℕ, ◌≤◌, ◌⊎◌, Bool, true, false, List, [], ◌∷◌, ◌++◌, Some, None}
 use Rattle.mc_command.specs.declared.step.KeyStep.{KeyStep}
-use Rattle.mc_command.specs.declared.step.KeyStep.TheVariants.{Read, ReadTouch}
 use Rattle.mc_command.specs.declared.reply.Reply.{Reply}
 use Rattle.mc_command.specs.declared.step.StepFault.{StepFault}
 use Rattle.mc_command.specs.declared.step.StepFault.TheVariants.{NoMemory as OutOfMemory, NumbersSpent as OutOfNumbers}
@@ -53,12 +52,6 @@ IsSpentAfter began p step now = CanCome began p step now (λ outcome. outcome �
 -- it answers a hit or a write after some such history, which memory may be refused for
 abbrev pub MayFailAfter : Beginning → Past → KeyStep → (now : ℕ) → Type 0
 MayFailAfter began p step now = CanCome began p step now MayFail
-
--- a step reads an item: get and gets, gat and gats
-abbrev pub is_read : KeyStep → Bool
-is_read (Read key) = true
-is_read (ReadTouch key exptime) = true
-is_read step = false
 
 -- a plan of a step on a key with this hash, by a look at a shelf, which made room for what it writes
 pub record IsPlanned (plan : Plan) (shelf : ShelfState) (step : KeyStep) (hash now : ℕ) : Type 0

@@ -6,10 +6,10 @@ ghost use Rattle.mc_shared.specs.History.{start_of, shelf_in, Purged};
 ghost use Rattle.mc_shared.specs.Past.{call};
 ghost use Rattle.mc_shared.specs.Steps.{entry_of, Agrees};
 
-use crate::patience::Gate;
+use crate::patience::{Gate, Waiting};
 use crate::steps::reload;
 use crate::store::{Caller, Shared};
-use mc_command::{KeyStep, Reply, StepFault, Steps};
+use mc_command::{Answer, KeyStep, Reply, StepFault, Steps, Unanswered};
 use mc_hop::KeyHash;
 use mc_time::Moment;
 use std::alloc::Global;
@@ -149,5 +149,20 @@ impl<'a, R: Wait, K: KeyHash + Drop, G: Gate> Steps for Asking<'a, R, K, G> {
     fn step(&mut self, alloc: Global, step: &KeyStep<'_>, now: Moment) -> Result<Reply, StepFault> {
         self.shared
             .step_unless_absent(self.rt, alloc, &mut self.caller, step, now, self.gate)
+    }
+
+    fn step_telling<A: Answer>(
+        &mut self,
+        alloc: Global,
+        step: &KeyStep<'_>,
+        now: Moment,
+        answer: &mut A,
+    ) -> Result<(), Unanswered> {
+        let patience = Waiting {
+            rt: self.rt,
+            gate: self.gate,
+        };
+        self.shared
+            .step_telling(&patience, alloc, &mut self.caller, step, now, answer)
     }
 }

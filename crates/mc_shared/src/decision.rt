@@ -2,6 +2,7 @@
 use mc_command::{KeyStep, Reply};
 use mc_shelf::{Begun, Plan, Shelf};
 use mc_time::Moment;
+use std::snapshot::Snapshot;
 
 /// What was done, with the shelves that are still held then. The rule of the table reads it, and
 /// writes it down in the history.
@@ -12,6 +13,12 @@ pub(crate) enum Decision<'a> {
         step: &'a KeyStep<'a>,
         moment: Moment,
         reply: &'a Reply,
+    },
+    /// A read whose key had no dead item in its shelf, which was so then. A hit of it was told.
+    Read {
+        step: &'a KeyStep<'a>,
+        moment: Moment,
+        shelf: &'a Snapshot<Shelf>,
     },
     /// A step that the desk decided, begun at its key's shelf, which is held until it is finished. By
     /// its key's presence word the shelf had so many items.

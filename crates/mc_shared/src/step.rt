@@ -7,10 +7,11 @@ ghost use Rattle.mc_command.specs.declared.step.KeyStep.{KeyStep as Step};
 ghost use Rattle.mc_command.specs.declared.reply.Reply.{Reply as Told};
 ghost use Rattle.mc_shelf.specs.States.{IsHash, CanStand};
 ghost use Rattle.mc_shelf.specs.Plans.{CanFinish, IsPlan, IsSpent, IsTaken, MayWantMemory, NeedsPage, finished, told_next, wants_desk};
+ghost use Rattle.mc_shelf.specs.Hits.{is_read};
 ghost use Rattle.mc_slab.specs.Classes.{class_holding};
 ghost use Rattle.mc_shared.specs.History.{start_of};
 ghost use Rattle.mc_shared.specs.Steps.{Agrees};
-ghost use Rattle.mc_shared.specs.Store.{HasCalled, IsPlanned, MayFailAfter, Refuses, May, is_read};
+ghost use Rattle.mc_shared.specs.Store.{HasCalled, IsPlanned, MayFailAfter, Refuses, May};
 ghost use Rattle.mc_shared.specs.Seats.{MayAsk, IsAnswered};
 ghost use Rattle.mc_shared.specs.Holds.{IsAsked, IsLooked, Unmet, caller_of, told_of, without_desk};
 
@@ -250,7 +251,7 @@ fn begin_step<'k>(
 }
 
 /// Returns whether a step reads an item: get and gets, gat and gats.
-fn is_read(step: &KeyStep<'_>) -> bool
+pub(crate) fn is_read(step: &KeyStep<'_>) -> bool
     ensures { result ≡ is_read step.now }
 {
     match step {
@@ -312,7 +313,7 @@ impl<K: KeyHash + Drop> Shared<K> {
     }
 
     /// Makes of a step on one key what its shelf is asked.
-    fn ask<'k>(&self, step: &'k KeyStep<'k>, hash: u64, now: Moment) -> Ask<'k>
+    pub(crate) fn ask<'k>(&self, step: &'k KeyStep<'k>, hash: u64, now: Moment) -> Ask<'k>
         requires on_key { IsOnKey step.now }
         requires short { length (key_of step.now) ≤ 250 }
         requires hash { hash ≡ K.hash_of self.now.began.hasher (key_of step.now) }
@@ -328,7 +329,7 @@ impl<K: KeyHash + Drop> Shared<K> {
     }
 
     /// Takes a step on one key whose hash is known, with as much patience.
-    fn step_asked<B: Drop, P: Patience<B>>(
+    pub(crate) fn step_asked<B: Drop, P: Patience<B>>(
         &self,
         patience: &P,
         alloc: Global,
@@ -379,7 +380,7 @@ impl<K: KeyHash + Drop> Shared<K> {
 
     /// Returns whether a step is a read alone and its key's number tells the key to be absent: the step
     /// is then taken, and told as a miss. Else nothing is decided.
-    fn is_told_absent(
+    pub(crate) fn is_told_absent(
         &self,
         caller: &mut Caller,
         step: &KeyStep<'_>,

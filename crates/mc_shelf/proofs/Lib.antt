@@ -17,3 +17,4 @@ pub mod KeyMapLemmas
 pub mod DeathLemmas
 pub mod LenLemmas
 pub mod NumberLemmas
+pub mod HitLemmas

@@ -8,3 +8,4 @@ pub mod Parts
 pub mod Unions
 pub mod Stores
 pub mod Numbers
+pub mod Hits

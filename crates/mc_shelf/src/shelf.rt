@@ -486,7 +486,7 @@ impl Shelf {
     }
 
     /// Sets the expiry of a key's item.
-    fn expire(&mut self, place: Option<Place>, hash: u64, key: &[u8], expiry: Expiry)
+    pub(crate) fn expire(&mut self, place: Option<Place>, hash: u64, key: &[u8], expiry: Expiry)
         requires { IsKnown self.old.content key.now hash place }
         ensures { (item : Item) → get self.old.content.items key.now ≡ Some item →
             IsPut key.now hash self.old.content self.new.content

@@ -1,14 +1,14 @@
 -- The parts of a visit.
-use Rattle.std.proofs.Common.{◌≡◌, ℕ, ◌<◌, ◌≤◌, ◌+◌, List, [], ◌∷◌, ◌++◌, length, take, drop, refl, sym, ap, ◌∙◌, subst, arith, get_or, inl, inr, Option, Bool, true, false, ◌⊎◌, IsTrue, IsFalse}
+use Rattle.std.proofs.Common.{◌≡◌, ℕ, ◌<◌, ◌≤◌, ◌+◌, List, [], ◌∷◌, ◌++◌, length, take, drop, refl, sym, ap, ◌∙◌, subst, arith, get_or, inl, inr, Option, Some, None, Bool, true, false, ◌⊎◌, IsTrue, IsFalse}
 use Rattle.std.proofs.Math.ListN.{set}
 use Rattle.std.proofs.lemmas.List.{take_more, take_more_set, get_or-drop, drop-set-lt}
 use Rattle.std.proofs.lemmas.Grind.{drop_more_same}
 use Rattle.mc_command.specs.declared.step.Steps.{Ghosts as Relations}
-use Rattle.std.proofs.lemmas.List.{take-append-drop, length-take-le}
-use Rattle.mc_session.specs.Turns.{SessionState, DecidesStep, TurnIsDue, sent, closed}
-use Rattle.mc_workers.specs.Links.{LinkState, gave, took}
+use Rattle.std.proofs.lemmas.List.{take-append-drop, length-take-le, append-nil}
+use Rattle.mc_session.specs.Turns.{SessionState, DecidesStep, TurnIsDue, FedPiece, sent, closed}
+use Rattle.mc_workers.specs.Links.{LinkState, grown, gave, took, failed, ended}
 use Rattle.mc_workers.specs.Guests.{GuestState, IsWaiting}
-use Rattle.mc_workers.specs.Visits.{WritesFront, RefusesPiece, RefusesTurn, Reads, Does, Visited, GoesRound, next}
+use Rattle.mc_workers.specs.Visits.{WritesFront, ReadsPiece, WaitsForLink, EndsServed, EndsBroken, RefusesPiece, RefusesTurn, Reads, Does, Visited, GoesRound, next}
 use Rattle.mc_workers.specs.declared.guest.Visit.{Visit}
 use Rattle.mc_workers.specs.declared.guest.Visit.TheVariants.{Wrote, Turned, Read, Later, Served, Broken, Refused}
 
@@ -41,17 +41,56 @@ round_more {S} relations now olds news i x y before between after answer long in
       drop-set-lt (i + 1) news i y (omega arith) ∙ drop_more_same news olds i goes.1,
     )
 
-pub refuses_piece : (old new : GuestState) (between : SessionState) (piece : List ℕ) → IsWaiting old.session → between ≡ old.session → new.session ≡ closed between → new.link ≡ gave old.link piece → RefusesPiece old new
-refuses_piece old new between piece waits same s l = record {
-  piece = piece;
-  waits = waits;
-  session = s ∙ ap closed same;
-  link = l;
-}
-
 -- a guest of these parts
 abbrev pub guest_of : SessionState → LinkState → Option Visit → GuestState
 guest_of session link last = record { session = session; link = link; last = last }
+
+no_items : (piece : List ℕ) → 0 ≡ length piece → piece ≡ []
+no_items [] zero = refl
+no_items (byte ∷ piece) zero = absurd (omega (arith, zero))
+
+-- a link that gave no bytes is as it was
+gave_none : (link : LinkState) (given : Option (List ℕ)) → link.given ≡ given → gave link [] ≡ link
+gave_none link None is = ap (λ (g : Option (List ℕ)). record link { given = grown g [] }) is ∙ ap (λ (g : Option (List ℕ)). record link { given = g }) (sym is)
+gave_none link (Some known) is =
+    ap (λ (g : Option (List ℕ)). record link { given = grown g [] }) is
+    ∙ ap (λ (k : List ℕ). record link { given = Some k }) (append-nil known)
+    ∙ ap (λ (g : Option (List ℕ)). record link { given = g }) (sym is)
+
+-- A link was read into a session that was idle, and this piece was fed of it.
+module _ (session between : SessionState) (link later : LinkState) (last : Option Visit) (old : GuestState) (piece : List ℕ)
+    (is : guest_of session link last ≡ old) (waits : IsWaiting old.session) (came : FedPiece session between piece) where
+  waits_here : IsWaiting session
+  waits_here = subst (λ (g : GuestState). IsWaiting g.session) (sym is) waits
+
+  pub reads_piece : later ≡ gave link piece → ReadsPiece old (guest_of between later last)
+  reads_piece given = subst (λ (g : GuestState). ReadsPiece g (guest_of between later last)) is (record { piece = piece; waits = waits_here; session = came.0; link = given })
+
+  pub reads_later : piece ≡ [] → later ≡ link → WaitsForLink old (guest_of between later last)
+  reads_later none same = subst (λ (g : GuestState). WaitsForLink g (guest_of between later last)) is (record { awaits = inr waits_here; session = came.1 none; link = same })
+
+  pub reads_nothing : 0 ≡ length piece → later ≡ gave link piece → WaitsForLink old (guest_of between later last)
+  reads_nothing zero given =
+      let none : piece ≡ [] = no_items piece zero in
+      reads_later none (given ∙ ap (gave link) none ∙ gave_none link link.given refl)
+
+  pub reads_end : (new : SessionState) → new ≡ closed between → piece ≡ [] → later ≡ ended link → EndsServed old (guest_of new later last)
+  reads_end new shut none over = subst (λ (g : GuestState). EndsServed g (guest_of new later last)) is
+      (record { written = waits_here.written; session = shut ∙ ap closed (came.1 none); over = inr (waits_here, over) })
+
+  pub reads_fault : (new : SessionState) → new ≡ closed between → piece ≡ [] → later ≡ failed link → EndsBroken old (guest_of new later last)
+  reads_fault new shut none fails = subst (λ (g : GuestState). EndsBroken g (guest_of new later last)) is
+      (record { awaits = inr waits_here; session = shut ∙ ap closed (came.1 none); link = fails })
+
+-- there was no memory for a read's room, and nothing was read
+pub refuses_room : (session between new : SessionState) (link later : LinkState) (last : Option Visit) (old : GuestState) → guest_of session link last ≡ old → IsWaiting old.session
+    → between ≡ session → new ≡ closed between → later ≡ link → RefusesPiece old (guest_of new later last)
+refuses_room session between new link later last old is waits same shut stays = subst (λ (g : GuestState). RefusesPiece g (guest_of new later last)) is (record {
+  piece = [];
+  waits = subst (λ (g : GuestState). IsWaiting g.session) (sym is) waits;
+  session = shut ∙ ap closed same;
+  link = stays ∙ sym (gave_none link link.given refl);
+})
 
 reads_so : {S : Type 0} (relations : Relations S) (now : ℕ) (answer : Visit) (old new : GuestState) (before after : S)
     → after ≡ before → Reads answer old new → Does relations now answer old new before after

@@ -1,5 +1,5 @@
 -- What contracts see of a link.
-use Rattle.std.specs.Prelude.{◌≡◌, ◌+◌, ◌≤◌, ℕ, Bool, true, List, ◌++◌, length, take, Option, Some, None, Result, Ok, Err}
+use Rattle.std.specs.Prelude.{◌≡◌, ◌+◌, ◌≤◌, ℕ, Bool, true, List, [], ◌++◌, length, take, Option, Some, None, Result, Ok, Err}
 use Rattle.mc_workers.specs.declared.link.Got.{Got}
 use Rattle.mc_workers.specs.declared.link.Got.TheVariants.{Bytes as GaveBytes, Later as GaveNone, End}
 use Rattle.mc_workers.specs.declared.link.Took.{Took}
@@ -41,6 +41,13 @@ Gives old piece (Ok (GaveBytes n)) new = (n ≤ length piece) × (new ≡ gave o
 Gives old piece (Ok GaveNone) new = new ≡ old
 Gives old piece (Ok End) new = new ≡ ended old
 Gives old piece (Err fault) new = new ≡ failed old
+
+-- what a read does, by the bytes that it gives
+abbrev pub GivesPiece : LinkState → List ℕ → Result Got LinkFault → LinkState → Type 0
+GivesPiece old piece (Ok (GaveBytes n)) new = (n ≡ length piece) × (new ≡ gave old piece)
+GivesPiece old piece (Ok GaveNone) new = (piece ≡ []) × (new ≡ old)
+GivesPiece old piece (Ok End) new = (piece ≡ []) × (new ≡ ended old)
+GivesPiece old piece (Err fault) new = (piece ≡ []) × (new ≡ failed old)
 
 -- what a write does
 abbrev pub Takes : LinkState → List ℕ → Result Took LinkFault → LinkState → Type 0

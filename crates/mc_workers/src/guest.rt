@@ -4,6 +4,7 @@ ghost use Rattle.mc_workers.specs.Guests.{welcomed, has_ended, ends, IsWaiting};
 ghost use Rattle.mc_workers.specs.Visits.{Visited, Does, Writes, Reads};
 
 use crate::link::{Got, Link, LinkFault, Took};
+use crate::tap::Tap;
 use mc_command::Steps;
 use mc_session::{Session, Turn};
 use mc_time::Moment;
@@ -29,7 +30,7 @@ pub enum Visit {
     Refused,
 }
 
-/// How many bytes are read at once at first: a link that is idle holds so many.
+/// How many bytes are read at once at first: the session of a link that is idle keeps room for so many.
 const FIRST_PIECE: usize = 2048;
 
 /// How many bytes are read at once at most, once a read filled the first piece.
@@ -39,8 +40,9 @@ const LONGEST_PIECE: usize = 16384;
 #[derive(Drop)]
 pub struct Guest<L: Link + Drop> {
     session: Session,
-    link: L,
-    piece: Vec<u8>,
+    tap: Tap<L>,
+    /// How many bytes are read at once.
+    longest: usize,
     last: Option<Visit>,
 }
 
@@ -49,20 +51,19 @@ impl<L: Link + Drop> Model for Guest<L> {
 
     ghost Value = { GuestState };
 
-    ghost view = { λ g. record { session = g.session; link = L.shown g.link; last = g.last } };
+    ghost view = { λ g. record { session = g.session; link = L.shown g.tap.link; last = g.last } };
 }
 
 impl<L: Link + Drop> Guest<L> {
     /// Makes a session that was fed nothing, with its link, whose storage commands may charge at most
-    /// `greatest` bytes. Refused, the link is dropped.
+    /// `greatest` bytes. It takes no memory, so it isn't refused: the first read asks for some.
     pub fn new(alloc: Global, link: L, greatest: u64) -> Result<Guest<L>, AllocError>
         ensures { IfOk result (λ guest. guest ≡ welcomed greatest (L.shown link)) }
     {
-        let piece = vec![in alloc; 0; FIRST_PIECE]?;
         Ok(Guest {
             session: Session::new(alloc, greatest),
-            link,
-            piece,
+            tap: Tap { link },
+            longest: FIRST_PIECE,
             last: None,
         })
     }
@@ -110,7 +111,7 @@ impl<L: Link + Drop> Guest<L> {
         ensures last { self.new.last ≡ self.old.last }
         ensures writes { Writes result self.old self.new }
     {
-        match self.link.try_write(self.session.out()) {
+        match self.tap.link.try_write(self.session.out()) {
             Ok(Took::Bytes(taken)) => {
                 if taken == 0 {
                     return Visit::Later;
@@ -149,39 +150,36 @@ impl<L: Link + Drop> Guest<L> {
         ensures last { self.new.last ≡ self.old.last }
         ensures reads { Reads result self.old self.new }
     {
-        let piece = self.piece.as_mut_slice();
-        match self.link.try_read(piece) {
-            Ok(Got::Bytes(0) | Got::Later) => Visit::Later,
-            Ok(Got::Bytes(count)) => {
-                let (given, _) = piece.split_at(count);
-                match self.session.feed(given) {
-                    Ok(()) => {
-                        self.widen(count);
-                        Visit::Read
-                    }
-                    Err(_) => {
-                        self.session.close();
-                        Visit::Refused
-                    }
+        match self.session.feed_from(&mut self.tap, self.longest) {
+            Ok(Ok(Got::Bytes(count))) => {
+                if count == 0 {
+                    return Visit::Later;
                 }
+                self.widen(count);
+                Visit::Read
             }
-            Ok(Got::End) => {
+            Ok(Ok(Got::Later)) => Visit::Later,
+            Ok(Ok(Got::End)) => {
                 self.session.close();
                 Visit::Served
             }
-            Err(LinkFault) => {
+            Ok(Err(LinkFault)) => {
                 self.session.close();
                 Visit::Broken
+            }
+            Err(_) => {
+                self.session.close();
+                Visit::Refused
             }
         }
     }
 
-    /// Makes the piece longer where a read filled it. Without memory for that it stays.
+    /// Has more bytes read at once where a read gave as many as it might.
     fn widen(&mut self, given: usize)
         ensures { self.new ≡ self.old }
     {
-        if given == self.piece.len() && given < LONGEST_PIECE {
-            let _ = self.piece.resize(LONGEST_PIECE, 0);
+        if given == self.longest {
+            self.longest = LONGEST_PIECE;
         }
     }
 }

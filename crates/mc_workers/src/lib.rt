@@ -11,6 +11,7 @@ mod laws;
 mod link;
 mod rounds;
 mod row;
+mod tap;
 mod tending;
 #[cfg(test)]
 mod tests;

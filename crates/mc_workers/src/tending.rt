@@ -6,7 +6,7 @@ ghost use Rattle.mc_shared.specs.History.{start_of, Purged};
 ghost use Rattle.mc_shared.specs.Steps.{Agrees};
 ghost use Rattle.mc_workers.specs.Tending.{asked_by};
 
-use mc_command::{KeyStep, Reply, StepFault, Steps};
+use mc_command::{Answer, KeyStep, Reply, StepFault, Steps, Unanswered};
 use mc_hop::KeyHash;
 use mc_shared::{Asking, Caller, Gate, Shared};
 use mc_time::Moment;
@@ -105,5 +105,17 @@ impl<'a, R: Wait, K: KeyHash + Drop, G: Gate> Steps for Tending<'a, R, K, G> {
         let answer = self.asking.step(alloc, step, now);
         self.grow_after();
         answer
+    }
+
+    fn step_telling<A: Answer>(
+        &mut self,
+        alloc: Global,
+        step: &KeyStep<'_>,
+        now: Moment,
+        answer: &mut A,
+    ) -> Result<(), Unanswered> {
+        let told = self.asking.step_telling(alloc, step, now, answer);
+        self.grow_after();
+        told
     }
 }

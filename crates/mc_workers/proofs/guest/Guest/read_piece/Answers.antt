@@ -1,11 +1,14 @@
-use Rattle.std.proofs.Common.{sym, subst, ap, ◌∙◌, Ok}
-use Rattle.mc_workers.specs.Links.{Gives, gave}
-use Rattle.mc_workers.specs.Guests.{GuestState}
-use Rattle.mc_workers.proofs.VisitLemmas.{refuses_piece}
+use Rattle.std.proofs.Common.{◌∙◌, subst, sym, Ok}
+use Rattle.mc_workers.specs.Links.{GivesPiece}
+use Rattle.mc_workers.proofs.VisitLemmas.{reads_nothing}
 use Rattle.mc_workers.proofs.guest.Guest.read_piece.Goals as goal
 
-pub returns-in-Err-feed-clause-reads : goal.returns-in-Err-feed-clause-reads
-returns-in-Err-feed-clause-reads g c =
-    let t = subst (λ f. Gives (g.L.Link.shown c.self.inside.link) c.try_read.new.piece (Ok f) (g.L.Link.shown c.try_read.new.self)) c.in-Ok-Bytes.field-0-is c.in-Ok-Bytes.ensures.gives in
-    let link = t.1 ∙ ap (gave (g.L.Link.shown c.self.inside.link)) (sym c.split_at.ensures.front) ∙ ap (λ (s : GuestState). gave s.link c.split_at.result.0.now) c.self.view_is in
-    refuses_piece _ _ c.feed.new.self c.split_at.result.0.now c.requires (c.in-Err-feed.ensures.err ∙ ap (λ (s : GuestState). s.session) c.self.view_is) c.close.ensures link
+pub returns-then-count-eq0-clause-reads : goal.returns-then-count-eq0-clause-reads
+returns-then-count-eq0-clause-reads g c =
+    let came = c.in-Ok-Ok-Bytes.ensures.ok in
+    let link = g.L.Link.shown c.self.inside.tap.link in
+    let later = g.L.Link.shown c.feed_from.new.source.link in
+    let answers = subst (λ answer. GivesPiece link came.piece answer later) c.in-Ok-Ok-Bytes.field-0-is came.gave in
+    let gives = subst (λ got. GivesPiece link came.piece (Ok got) later) c.in-Ok-Ok-Bytes.field-0-0-is answers in
+    reads_nothing c.self.inside.session c.feed_from.new.self link later c.self.inside.last c.args.self.now came.piece c.self.view_is c.requires came.becomes
+    (sym c.if-count-eq0.true ∙ gives.0) gives.1

@@ -9,7 +9,7 @@ pub returns-else-taken-eq0-clause-writes : goal.returns-else-taken-eq0-clause-wr
 returns-else-taken-eq0-clause-writes g c =
     let n = c.in-Ok-Bytes.taken in
     let bytes = c.out.result.now in
-    let t = subst (λ f. Takes (g.L.Link.shown c.self.inside.link) bytes (Ok f) (g.L.Link.shown c.try_write.new.self)) c.in-Ok-Bytes.field-0-is c.in-Ok-Bytes.ensures.takes in
+    let t = subst (λ f. Takes (g.L.Link.shown c.self.inside.tap.link) bytes (Ok f) (g.L.Link.shown c.try_write.new.self)) c.in-Ok-Bytes.field-0-is c.in-Ok-Bytes.ensures.takes in
     let some : 0 < n = omega arith in
     writes_front _ _ n bytes (c.out.ensures ∙ ap (λ (s : GuestState). s.session.out) c.self.view_is) some t.0
     (c.sent.ensures ∙ ap (λ (s : GuestState). sent s.session n) c.self.view_is)

@@ -1,0 +1,43 @@
+//! How the reply to a command's first step is told: its text is appended to an output.
+
+ghost use Rattle.std.specs.Prelude.{◌<◌, length};
+ghost use Rattle.mc_command.specs.Commands.{steps};
+
+use crate::text::{Output, Text};
+use mc_command::{Answer, Command, Reply};
+use std::alloc::AllocError;
+
+/// A command that takes a step.
+#[derive(Drop)]
+pub struct Asked<'a> {
+    pub command: &'a Command<'a>,
+    ghost takes_one: { 0 < length (steps command.now) },
+}
+
+/// An output, to which the text of the reply to the first step of a command is appended.
+#[derive(Drop)]
+pub struct Teller<'a> {
+    pub asked: &'a Asked<'a>,
+    pub out: &'a mut Output,
+}
+
+impl<'a> Answer for Teller<'a> {
+    ghost use Rattle.std.specs.Prelude.{◌≡◌, ◌++◌};
+    ghost use Rattle.mc_reply.specs.Texts.{reply_text};
+
+    ghost told = { λ old reply new. (new.out.ghost_name ≡ old.out.ghost_name)
+        × (new.out.now ≡ old.out.now ++ reply_text old.asked.now.command.now 0 reply) };
+
+    fn hit(&mut self, flags: u32, unique: u64, block: &[u8]) -> Result<(), AllocError> {
+        self.out.append(&Text::Hit {
+            command: self.asked.command,
+            flags,
+            unique,
+            block,
+        })
+    }
+
+    fn reply(&mut self, reply: &Reply) -> Result<(), AllocError> {
+        self.out.append(&Text::First(self.asked.command, reply))
+    }
+}

@@ -1,0 +1,242 @@
+//! A step whose reply is told: a hit while its item stands where it lies, and any other when the step is taken.
+ghost use Rattle.std.specs.Prelude.{◌≡◌, ◌<◌, [], true, false, Ok, Err, IfOk, OnOk, OnErr};
+ghost use Rattle.std.specs.FinMap.{get};
+ghost use Rattle.mc_command.specs.Commands.{key_of};
+ghost use Rattle.mc_command.specs.Plain.{hit_of};
+ghost use Rattle.mc_command.specs.declared.reply.Reply.{Reply as Told};
+ghost use Rattle.mc_shelf.specs.States.{IsHash};
+ghost use Rattle.mc_shelf.specs.Hits.{is_read};
+ghost use Rattle.mc_shelf.specs.Plans.{IsKnown, is_gone, stood};
+ghost use Rattle.mc_shared.specs.History.{start_of};
+ghost use Rattle.mc_shared.specs.Past.{Lives};
+ghost use Rattle.mc_shared.specs.Steps.{Agrees};
+ghost use Rattle.mc_shared.specs.Store.{HasCalled, MayFailAfter, Refuses};
+ghost use Rattle.mc_shared.specs.Seats.{IsAnswered, IsFree, MayAsk};
+ghost use Rattle.mc_shared.specs.Holds.{HoldsShelf, IsAsked};
+ghost use Rattle.mc_shared.specs.Telling.{CameOfRead, IsSought, IsTold, Stands};
+
+use crate::ask::{Ask, Untaken};
+use crate::bay::Bay;
+use crate::boxed::Boxed;
+use crate::decision::Decision;
+use crate::hold::shelf_from;
+use crate::patience::{Gate, NoGate, Waiting, take_waiting};
+use crate::rule::Seat;
+use crate::step::is_read;
+use crate::steps::{decide, give};
+use crate::store::{Caller, Shared};
+use mc_command::{Answer, KeyStep, Reply, StepFault, Unanswered};
+use mc_hop::KeyHash;
+use mc_shelf::{Found, Place, Shelf, steps_change_one_shelf};
+use mc_time::Moment;
+use std::alloc::{AllocError, Global};
+use std::snapshot::Snapshot;
+use std::sync::Wait;
+
+/// What the item of a read was found to be in its shelf.
+#[derive(Drop)]
+pub(crate) enum Sought {
+    /// It stands there, and a hit of it was told.
+    Told(Place),
+    /// The key has none.
+    Nothing,
+    /// It is dead.
+    Dead,
+}
+
+/// Seeks the item of a read in its shelf, and tells a hit of it where it stands.
+fn tell_hit<A: Answer>(shelf: &Shelf, ask: &Ask<'_>, answer: &mut A) -> Result<Sought, AllocError>
+    requires { IsHash shelf.now.content (key_of ask.now.step.now) ask.now.hash }
+    ensures sought { IfOk result (λ sought. IsSought A.told shelf.now.content ask.now.step.now
+        ask.now.moment answer.old sought answer.new) }
+    ensures stands { OnErr result (Stands shelf.now.content ask.now.step.now ask.now.moment) }
+    ensures err { OnErr result (answer.new ≡ answer.old) }
+{
+    match shelf.find(ask.step.key(), ask.hash, ask.moment) {
+        Found::Nothing => Ok(Sought::Nothing),
+        Found::Dead => Ok(Sought::Dead),
+        Found::Standing(hit) => match answer.hit(hit.flags(), hit.unique(), hit.block()) {
+            Ok(()) => Ok(Sought::Told(hit.place())),
+            Err(refused) => Err(refused),
+        },
+    }
+}
+
+/// Gives the reply of a step that was taken to what takes it, or tells why the step wasn't taken.
+fn tell<A: Answer>(taken: Result<Reply, StepFault>, answer: &mut A) -> Result<(), Unanswered>
+    ensures told { OnOk result ((reply : Told) × (taken ≡ Ok reply)
+        × A.told answer.old reply answer.new) }
+    ensures untold { result ≡ Err Unanswered.Untold → (reply : Told) × (taken ≡ Ok reply) }
+    ensures spent { result ≡ Err Unanswered.NumbersSpent → taken ≡ Err StepFault.NumbersSpent }
+    ensures refused { result ≡ Err Unanswered.NoMemory → taken ≡ Err StepFault.NoMemory }
+    ensures err { OnErr result (answer.new ≡ answer.old) }
+{
+    match taken {
+        Ok(reply) => match answer.reply(&reply) {
+            Ok(()) => Ok(()),
+            Err(_) => Err(Unanswered::Untold),
+        },
+        Err(StepFault::NoMemory) => Err(Unanswered::NoMemory),
+        Err(StepFault::NumbersSpent) => Err(Unanswered::NumbersSpent),
+    }
+}
+
+impl<K: KeyHash + Drop> Shared<K> {
+    /// Takes a shelf for a seat that holds nothing, and waits until it is free.
+    fn take_shelf<R: Wait>(&self, rt: &R, seat: &mut Seat, at: u32) -> Box<Shelf>
+        requires own { seat.old.table_id ≡ self.now.table }
+        requires free { (seat.old.me.1 ≡ []) × (seat.old.me.0.bays ≡ []) × Lives seat.old.me.0.past
+            × (seat.old.me.0.surplus ≡ []) }
+        requires inside { at < self.now.began.settings.shelves }
+        ensures holds { HoldsShelf K.hash_of self.now seat.new at result.value.content }
+        ensures past { seat.new.me.0.past ≡ seat.old.me.0.past }
+    {
+        let bay = take_waiting(rt, &self.board, seat, at as usize);
+        shelf_from(bay, at as usize, self.settings.shelves as usize)
+    }
+
+    /// Gives a shelf back, as it was.
+    fn give_shelf(&self, seat: &mut Seat, shelf: Box<Shelf>, at: u32)
+        requires { HoldsShelf K.hash_of self.now seat.old at shelf.value.content }
+        ensures free { IsFree self.now.table self.now.began seat.new }
+        ensures past { seat.new.me.0.past ≡ seat.old.me.0.past }
+        ensures agrees { Agrees (start_of K.hash_of self.now.began) seat.new.me.0.past }
+    {
+        let value = Bay::Shelf(Boxed::of(shelf));
+        give(&self.board, seat, at as usize, value);
+    }
+
+    /// Gives a shelf back with the decision of a read, whose key has no dead item there. `place` is where
+    /// its item lies.
+    fn give_read(&self, seat: &mut Seat, shelf: Box<Shelf>, ask: &Ask<'_>, place: Option<Place>)
+        requires holds { HoldsShelf K.hash_of self.now seat.old ask.now.at shelf.value.content }
+        requires asked { IsAsked K.hash_of self.now ask.now }
+        requires read { is_read ask.now.step.now ≡ true }
+        requires known { IsKnown shelf.value.content (key_of ask.now.step.now) ask.now.hash place }
+        requires alive { is_gone shelf.value.content.cut ask.now.moment
+            (get shelf.value.content.items (key_of ask.now.step.now)) ≡ false }
+        ensures free { IsFree self.now.table self.now.began seat.new }
+        ensures called { HasCalled (start_of K.hash_of self.now.began) seat.old.me.0.past
+            ask.now.step.now ask.now.moment
+            (hit_of (stood shelf.value.content ask.now.step.now ask.now.moment))
+            seat.new.me.0.past }
+    {
+        steps_change_one_shelf();
+        let mut shelf = shelf;
+        let before = Snapshot::of(&*shelf);
+        shelf.settle_read(ask.step, ask.hash, ask.moment, place);
+        let decision = Decision::Read {
+            step: ask.step,
+            moment: ask.moment,
+            shelf: &before,
+        };
+        let value = Bay::Shelf(Boxed::of(shelf));
+        decide(&self.board, seat, ask.at as usize, value, &decision);
+    }
+
+    /// Takes a read at its shelf: a hit is told there, before it is decided, and of a miss nothing is told.
+    /// Where the item is dead the read isn't taken, nor where the telling is refused. The gate is called
+    /// once while the shelf is held.
+    fn read_telling<R: Wait, G: Gate, A: Answer>(
+        &self,
+        patience: &Waiting<'_, R, G>,
+        caller: &mut Caller,
+        ask: &Ask<'_>,
+        answer: &mut A,
+    ) -> Result<Sought, AllocError>
+        requires own { caller.old.table ≡ self.now.table }
+        requires asked { IsAsked K.hash_of self.now ask.now }
+        requires read { is_read ask.now.step.now ≡ true }
+        ensures same { (caller.new.table ≡ caller.old.table)
+            × Agrees (start_of K.hash_of self.now.began) caller.new.past }
+        ensures came { IfOk result (λ sought. CameOfRead A.told (start_of K.hash_of self.now.began)
+            caller.old.past ask.now.step.now ask.now.moment answer.old sought caller.new.past
+            answer.new) }
+        ensures refused { OnErr result (MayFailAfter (start_of K.hash_of self.now.began)
+            caller.old.past ask.now.step.now ask.now.moment) }
+        ensures err { OnErr result ((caller.new.past ≡ caller.old.past)
+            × (answer.new ≡ answer.old)) }
+    {
+        let Caller { seat, grows } = caller;
+        let shelf = self.take_shelf(patience.rt, seat, ask.at);
+        patience.gate.inside(ask.at);
+        *grows = growing(&*shelf, ask.at);
+        match tell_hit(&*shelf, ask, answer) {
+            Ok(Sought::Told(place)) => {
+                self.give_read(seat, shelf, ask, Some(place));
+                Ok(Sought::Told(place))
+            }
+            Ok(Sought::Nothing) => {
+                self.give_read(seat, shelf, ask, None);
+                Ok(Sought::Nothing)
+            }
+            Ok(Sought::Dead) => {
+                self.give_shelf(seat, shelf, ask.at);
+                Ok(Sought::Dead)
+            }
+            Err(refused) => {
+                self.give_shelf(seat, shelf, ask.at);
+                Err(refused)
+            }
+        }
+    }
+
+    /// Takes a step on one key whose hash is known, waits for what others hold, and calls no gate.
+    fn step_waiting<R: Wait>(
+        &self,
+        rt: &R,
+        alloc: Global,
+        caller: &mut Caller,
+        ask: &Ask<'_>,
+    ) -> Result<Reply, StepFault>
+        requires own { caller.old.table ≡ self.now.table }
+        requires asked { IsAsked K.hash_of self.now ask.now }
+        ensures { IsAnswered (start_of K.hash_of self.now.began) caller.old ask.now.step.now
+            ask.now.moment Refuses result caller.new }
+    {
+        match self.step_asked(&Waiting { rt, gate: &NoGate }, alloc, caller, ask) {
+            Ok(reply) => Ok(reply),
+            Err(Untaken::Refused(fault)) => Err(fault),
+            Err(Untaken::Met(never)) => match never {},
+        }
+    }
+
+    /// Takes a step as `step_unless_absent` does, and has its reply told. A hit of a read is told while its
+    /// shelf is held and before it is decided: where the telling is refused it isn't taken. Any other
+    /// reply is told when the step is taken.
+    pub(crate) fn step_telling<R: Wait, G: Gate, A: Answer>(
+        &self,
+        patience: &Waiting<'_, R, G>,
+        alloc: Global,
+        caller: &mut Caller,
+        step: &KeyStep<'_>,
+        now: Moment,
+        answer: &mut A,
+    ) -> Result<(), Unanswered>
+        requires { MayAsk self.now caller.old step.now }
+        ensures { IsTold A.told (start_of K.hash_of self.now.began) caller.old step.now now
+            answer.old result caller.new answer.new }
+    {
+        if !is_read(step) {
+            let Waiting { rt, gate } = patience;
+            let taken = self.step_unless_absent(*rt, alloc, caller, step, now, *gate);
+            return tell(taken, answer);
+        }
+        let hash = self.hasher.hash(step.key());
+        if self.is_told_absent(caller, step, hash, now) {
+            return tell(Ok(Reply::Miss), answer);
+        }
+        let ask = self.ask(step, hash, now);
+        match self.read_telling(patience, caller, &ask, answer) {
+            Ok(Sought::Told(_)) => Ok(()),
+            Ok(Sought::Nothing) => tell(Ok(Reply::Miss), answer),
+            Ok(Sought::Dead) => tell(self.step_waiting(patience.rt, alloc, caller, &ask), answer),
+            Err(_) => Err(Unanswered::NoMemory),
+        }
+    }
+}
+
+/// Names a shelf where entries of it are left to move.
+fn growing(shelf: &Shelf, at: u32) -> Option<u32> {
+    if shelf.left() == 0 { None } else { Some(at) }
+}

@@ -1,0 +1,172 @@
+//! Replies that are told, as one caller hears them. Where an allocation is refused it asks again.
+
+use crate::tests::Trial;
+use mc_command::{Answer, Block, KeyStep, Reply, StepFault, Steps, Unanswered, Verb};
+use mc_testing::{Ask, Row, Want, first_unlike, set, step_of};
+use mc_time::Moment;
+use std::alloc::{AllocError, Global};
+use std::marker::Model;
+use std::sync::Wait;
+use std::test::*;
+
+/// Keeps the reply that it is told, with a copy of a hit's block.
+#[derive(Drop)]
+struct Keeper {
+    alloc: Global,
+    kept: Option<Reply>,
+}
+
+impl Answer for Keeper {
+    ghost told = { λ old reply new. Unit {0} };
+
+    fn hit(&mut self, flags: u32, unique: u64, block: &[u8]) -> Result<(), AllocError> {
+        let block = Block::of(Vec::from_slice(self.alloc, block)?);
+        self.kept = Some(Reply::Hit {
+            flags,
+            unique,
+            block,
+        });
+        Ok(())
+    }
+
+    fn reply(&mut self, reply: &Reply) -> Result<(), AllocError> {
+        self.kept = without_block(reply);
+        Ok(())
+    }
+}
+
+/// Copies a reply that has no block.
+fn without_block(reply: &Reply) -> Option<Reply> {
+    match reply {
+        Reply::Stored => Some(Reply::Stored),
+        Reply::NotStored => Some(Reply::NotStored),
+        Reply::Exists => Some(Reply::Exists),
+        Reply::NotFound => Some(Reply::NotFound),
+        Reply::Miss => Some(Reply::Miss),
+        Reply::Hit { .. } => None,
+        Reply::Touched => Some(Reply::Touched),
+        Reply::Deleted => Some(Reply::Deleted),
+        Reply::Number(number) => Some(Reply::Number(*number)),
+        Reply::NotNumeric => Some(Reply::NotNumeric),
+        Reply::TooLarge => Some(Reply::TooLarge),
+        Reply::NoChunk => Some(Reply::NoChunk),
+        Reply::Flushed => Some(Reply::Flushed),
+    }
+}
+
+/// Refuses whatever it is told.
+#[derive(Drop)]
+struct Deaf;
+
+impl Answer for Deaf {
+    ghost told = { λ old reply new. Unit {0} };
+
+    fn hit(&mut self, _flags: u32, _unique: u64, _block: &[u8]) -> Result<(), AllocError> {
+        Err(AllocError)
+    }
+
+    fn reply(&mut self, _reply: &Reply) -> Result<(), AllocError> {
+        Err(AllocError)
+    }
+}
+
+/// A store whose one caller hears its replies. Contracts see which store it is.
+#[derive(Drop)]
+struct Heard<'a, R: Wait> {
+    trial: Trial<'a, R>,
+}
+
+impl<'a, R: Wait> Model for Heard<'a, R> {
+    ghost use Rattle.atomic_table.specs.Seated.{TableId, table_id_coded};
+
+    ghost Value = { TableId };
+
+    ghost coded = { table_id_coded };
+
+    ghost view = { λ h. h.trial };
+}
+
+impl<'a, R: Wait> Steps for Heard<'a, R> {
+    ghost use Rattle.std.specs.Prelude.{◌≡◌, refl};
+
+    ghost took = { λ old step now reply new. new ≡ old };
+
+    ghost spent = { λ old step now. old ≡ old };
+
+    ghost same = { λ old new. new ≡ old };
+
+    ghost holds_itself = { λ _. refl };
+
+    fn step(&mut self, alloc: Global, step: &KeyStep<'_>, now: Moment) -> Result<Reply, StepFault> {
+        let mut keeper = Keeper { alloc, kept: None };
+        match self.trial.tell(alloc, step, now, &mut keeper) {
+            Ok(()) => Ok(keeper.kept.unwrap_or(Reply::Exists)),
+            Err(Unanswered::NumbersSpent) => Err(StepFault::NumbersSpent),
+            Err(Unanswered::NoMemory | Unanswered::Untold) => Err(StepFault::NoMemory),
+        }
+    }
+}
+
+#[test]
+fn replies_are_told_as_they_are_given(rt: HostRuntime) -> Result<(), Fail> {
+    let alloc = rt.alloc();
+    let mut heard = Heard {
+        trial: Trial::open(&rt, alloc)?,
+    };
+    let rows: &[Row<'_>] = &[
+        (1000, b"a", Ask::Get, Want::Hit(1, b"x")),
+        (1000, b"zz", Ask::Get, Want::Told("miss")),
+        (1000, b"zz", Ask::Gat(5), Want::Told("miss")),
+        (1000, b"a", Ask::Gat(10), Want::Hit(1, b"x")),
+        (1009, b"a", Ask::Get, Want::Hit(1, b"x")),
+        (1010, b"a", Ask::Get, Want::Told("miss")),
+        (1010, b"a", Ask::Gat(10), Want::Told("miss")),
+        set(1010, b"k", 0, b"7", "stored"),
+        (1010, b"k", Ask::Incr(4), Want::Number(11)),
+        (1010, b"k", Ask::Get, Want::Hit(4, b"11")),
+        (1010, b"", Ask::Flush(0), Want::Told("flushed")),
+        (1010, b"k", Ask::Get, Want::Told("miss")),
+    ];
+    assert_eq!(rt; first_unlike(&mut heard, alloc, rows)?, None);
+    Ok(())
+}
+
+/// Names what came of a step that nobody heard.
+fn unheard<R: Wait>(
+    trial: &mut Trial<'_, R>,
+    alloc: Global,
+    key: &[u8],
+    ask: Ask<'_>,
+) -> &'static str {
+    if key.len() > 250 {
+        return "too long a key";
+    }
+    let step = step_of(key, ask);
+    let now = Moment::from_seconds_at_most(1000);
+    match trial.tell(alloc, &step, now, &mut Deaf) {
+        Ok(()) => "told",
+        Err(Unanswered::NoMemory) => "not taken",
+        Err(Unanswered::NumbersSpent) => "numbers spent",
+        Err(Unanswered::Untold) => "taken",
+    }
+}
+
+/// A hit that nobody hears isn't taken, and leaves its shelf free and its item's expiry as it was. Any
+/// other step is taken.
+#[test]
+fn a_hit_that_is_not_heard_is_not_taken(rt: HostRuntime) -> Result<(), Fail> {
+    let alloc = rt.alloc();
+    let mut trial = Trial::open(&rt, alloc)?;
+    assert_eq!(rt; unheard(&mut trial, alloc, b"k", Ask::Gat(10)), "not taken");
+    assert_eq!(rt; unheard(&mut trial, alloc, b"zz", Ask::Gat(10)), "taken");
+    let set = Ask::Store(Verb::Set, 0, b"z");
+    let first = unheard(&mut trial, alloc, b"a", set);
+    let taken = first == "taken" || unheard(&mut trial, alloc, b"a", set) == "taken";
+    assert!(rt; taken);
+    let rows: &[Row<'_>] = &[
+        (1010, b"k", Ask::Get, Want::Hit(2, b"y")),
+        (1010, b"a", Ask::Get, Want::Hit(3, b"z")),
+    ];
+    assert_eq!(rt; first_unlike(&mut trial, alloc, rows)?, None);
+    Ok(())
+}

@@ -1,0 +1,112 @@
+-- A read of a key that has no dead item is the plain machine's.
+use Rattle.std.proofs.Common.{◌≡◌, ℕ, true, false, Option, Some, None, is_some, is_none, if◌then◌else◌, refl, sym, ap, subst, ◌∙◌, true≢false}
+use Rattle.std.specs.FinMap.{get}
+use Rattle.mc_time.specs.declared.expiry.Expiry.{Expiry}
+use Rattle.mc_time.specs.Death.{is_dead}
+use Rattle.mc_grow.specs.declared.index.Place.{Place}
+use Rattle.mc_command.specs.declared.step.KeyStep.{KeyStep}
+use Rattle.mc_command.specs.declared.step.KeyStep.TheVariants.{Read, ReadTouch}
+use Rattle.mc_command.specs.Commands.{key_of}
+use Rattle.mc_command.specs.Plain.{Entry, alive, hit_of, read_row, row_of}
+use Rattle.mc_command.specs.Laws.{IsOnKey}
+use Rattle.mc_shelf.specs.declared.plan.Next.{Next}
+use Rattle.mc_shelf.specs.declared.plan.Next.TheVariants.{Answer, Expire}
+use Rattle.mc_shelf.specs.States.{ShelfContent}
+use Rattle.mc_shelf.specs.Plans.{IsKnown, IsPut, IsSettled, is_gone, next_by, next_of, stood}
+use Rattle.mc_shelf.specs.Hits.{is_read, read_expiry}
+use Rattle.mc_shelf.proofs.StandLemmas.{InsertCounts, RemoveCounts}
+use Rattle.mc_shelf.proofs.TakesLemmas.{others_same, takes_answer, takes_expire}
+
+-- ---- what comes next in a read
+
+on_key : (step : KeyStep) → is_read step ≡ true → IsOnKey step
+on_key (Read key) is = tt
+on_key (ReadTouch key exptime) is = tt
+on_key step is = absurd (cc is)
+
+row_read : (step : KeyStep) (now : ℕ) (item : Option Entry) → is_read step ≡ true
+    → row_of step now item ≡ read_row (read_expiry step now) item
+row_read (Read key) now item is = refl
+row_read (ReadTouch key exptime) now item is = refl
+row_read step now item is = absurd (cc is)
+
+-- what comes next where no dead item is found, by the item that stands
+abbrev reading : Option Expiry → Option Entry → Next
+reading None item = Answer (hit_of item)
+reading (Some expiry) None = Answer (hit_of None)
+reading (Some expiry) (Some item) = Expire expiry (hit_of (Some item))
+
+next_by_read : (greatest : ℕ) (step : KeyStep) (expiry : Option Expiry) (item : Option Entry)
+    → next_by false greatest step item (read_row expiry item) ≡ reading expiry item
+next_by_read greatest step None None = refl
+next_by_read greatest step None (Some item) = refl
+next_by_read greatest step (Some expiry) None = refl
+next_by_read greatest step (Some expiry) (Some item) = refl
+
+-- an item that is found and isn't dead stands
+stands_found : (cut : Option ℕ) (now : ℕ) (item : Entry) → is_gone cut now (Some item) ≡ false
+    → alive cut now (Some item) ≡ Some item
+stands_found cut now item lives =
+    elim (is_dead item.expiry item.updated cut now) as (λ b. is_none (if b then None else Some item) ≡ false → (if b then None else Some item) ≡ Some item) [
+      | true ↦ λ e. absurd (true≢false e)
+      | false ↦ λ e. refl
+    ] lives
+
+module _ (insert_counts : InsertCounts) (remove_counts : RemoveCounts) (step : KeyStep) (now own : ℕ) (old : ShelfContent) (place : Option Place)
+    (read : is_read step ≡ true) (known : IsKnown old (key_of step) own place) (lives : is_gone old.cut now (get old.items (key_of step)) ≡ false) where
+  abbrev stands : Option Entry
+  stands = stood old step now
+
+  next_is : next_of old step now ≡ reading (read_expiry step now) stands
+  next_is =
+      (λ i. next_by (lives i) old.greatest step stands (row_read step now stands read i))
+      ∙ next_by_read old.greatest step (read_expiry step now) stands
+
+  answers_so : reading (read_expiry step now) stands ≡ Answer (hit_of stands) → IsSettled step now own old (hit_of stands) old
+  answers_so is = record {
+    takes = λ desk. takes_answer insert_counts remove_counts step now old desk (on_key step read) (hit_of stands) (sym (next_is ∙ is));
+    stands = refl;
+    others = others_same (key_of step) old;
+    hash = known.hash;
+  }
+
+  -- a read that sets no expiry
+  pub settled_plain : read_expiry step now ≡ None → IsSettled step now own old (hit_of stands) old
+  settled_plain none = answers_so (ap (λ (e : Option Expiry). reading e stands) none)
+
+  nothing_read : (e : Option Expiry) → reading e None ≡ Answer (hit_of None)
+  nothing_read None = refl
+  nothing_read (Some expiry) = refl
+
+  nothing_there : (found : Option Entry) → is_some found ≡ false → found ≡ None
+  nothing_there None e = refl
+  nothing_there (Some item) e = absurd (true≢false e)
+
+  -- a read of a key that has no item
+  pub settled_miss : is_some place ≡ false → IsSettled step now own old (hit_of stands) old
+  settled_miss none =
+      let found = nothing_there (get old.items (key_of step)) (sym known.place ∙ none) in
+      let nothing : stands ≡ None = ap (alive old.cut now) found in
+      answers_so (subst (λ (o : Option Entry). reading (read_expiry step now) o ≡ Answer (hit_of o)) (sym nothing) (nothing_read (read_expiry step now)))
+
+  some_there : (found : Option Entry) → is_some found ≡ true → (item : Entry) × (found ≡ Some item)
+  some_there None e = absurd (true≢false (sym e))
+  some_there (Some item) e = (item, refl)
+
+  -- a read that sets the expiry of the item that it finds
+  pub settled_expiring : (expiry : Expiry) (new : ShelfContent) → read_expiry step now ≡ Some expiry → is_some place ≡ true
+      → ((item : Entry) → get old.items (key_of step) ≡ Some item → IsPut (key_of step) own old new (record item { expiry = expiry }))
+      → IsSettled step now own old (hit_of stands) new
+  settled_expiring expiry new sets some puts =
+      let there = some_there (get old.items (key_of step)) (sym known.place ∙ some) in
+      let item = there.0 in
+      let stood_is : stands ≡ Some item = ap (alive old.cut now) there.1 ∙ stands_found old.cut now item (ap (is_gone old.cut now) (sym there.1) ∙ lives) in
+      let next : Expire expiry (hit_of stands) ≡ next_of old step now =
+      ap (λ (o : Option Entry). Expire expiry (hit_of o)) stood_is ∙ sym (next_is ∙ (λ i. reading (sets i) (stood_is i))) in
+      let put = puts item there.1 in
+      record {
+        takes = λ desk. takes_expire insert_counts remove_counts step now old desk (on_key step read) expiry (hit_of stands) own new puts next;
+        stands = ap is_some put.item ∙ sym (ap is_some there.1);
+        others = put.others;
+        hash = put.hash;
+      }

@@ -1,0 +1,31 @@
+use Rattle.std.proofs.Common.{rules, ◌≡◌, List, ℕ, None, true, false, is_some, Some, sym, ap, subst, ◌∙◌}
+use Rattle.std.specs.FinMap.{get}
+use Rattle.mc_command.specs.Commands.{key_of}
+use Rattle.mc_command.specs.Plain.{Entry}
+use Rattle.mc_shelf.specs.Plans.{IsPut}
+use Rattle.mc_shelf.proofs.HitLemmas.{settled_expiring, settled_miss, settled_plain}
+use Rattle.mc_shelf.proofs.shelf.Shelf.settle_read.Goals as goal
+
+pub returns-in-Some : goal.returns-in-Some
+returns-in-Some c =
+    let old = c.args.self.now.content in
+    let new = c.expire.new.self.content in
+    let step = c.args.step.now in
+    let key = c.key.ensures in
+    let found : is_some c.args.place ≡ true = search rules in
+    settled_expiring c.counts_follow.ensures.insert c.counts_follow.ensures.remove step c.args.now c.args.hash old c.args.place c.requires.read c.requires.known c.requires.alive
+    c.in-Some.expiry new (sym c.read_expiry.ensures ∙ c.in-Some.is) found
+    (λ (item : Entry) (there : get old.items (key_of step) ≡ Some item). subst (λ (k : List ℕ). IsPut k c.args.hash old new (record item { expiry = c.in-Some.expiry })) key
+    (c.expire.ensures item (ap (λ (k : List ℕ). get old.items k) key ∙ there)))
+
+pub returns-in_default : goal.returns-in_default
+returns-in_default c =
+    let none : c.read_expiry.result ≡ None = search rules in
+    settled_plain c.counts_follow.ensures.insert c.counts_follow.ensures.remove c.args.step.now c.args.now c.args.hash c.args.self.now.content c.args.place c.requires.read c.requires.known
+    c.requires.alive (sym c.read_expiry.ensures ∙ none)
+
+pub returns-else-is_some : goal.returns-else-is_some
+returns-else-is_some c =
+    let none : is_some c.args.place ≡ false = search rules in
+    settled_miss c.counts_follow.ensures.insert c.counts_follow.ensures.remove c.args.step.now c.args.now c.args.hash c.args.self.now.content c.args.place c.requires.read c.requires.known
+    c.requires.alive none

@@ -1,0 +1,123 @@
+//! A read that finds its item has it lent where it lies, and no block is copied.
+
+ghost use Rattle.std.specs.Prelude.{◌≡◌, ◌≤◌, length, true, false};
+ghost use Rattle.std.specs.FinMap.{get};
+ghost use Rattle.mc_command.specs.Commands.{key_of};
+ghost use Rattle.mc_command.specs.Plain.{hit_of};
+ghost use Rattle.mc_shelf.specs.States.{IsHash};
+ghost use Rattle.mc_shelf.specs.Plans.{IsKnown, IsSettled, is_gone, stood};
+ghost use Rattle.mc_shelf.specs.Hits.{found_of, is_read, read_expiry};
+
+use crate::entry::Entry;
+use crate::index::Place;
+use crate::shelf::Shelf;
+use mc_command::{KeyStep, Standing, counts_follow};
+use mc_time::{Expiry, Moment, expiry_of, is_dead};
+use std::marker::Model;
+
+/// An item that stands under a key, lent where it lies. Contracts see the item.
+#[derive(Drop)]
+pub struct Hit<'a> {
+    entry: &'a Entry,
+    place: Place,
+}
+
+impl<'a> Model for Hit<'a> {
+    ghost use Rattle.mc_command.specs.Plain.{Entry as Item, coded_entry};
+
+    ghost Value = { Item };
+
+    ghost coded = { coded_entry };
+
+    ghost view = { λ h. h.entry.now.item };
+}
+
+impl<'a> Hit<'a> {
+    /// Reads the flags that were stored with the item.
+    pub fn flags(&self) -> u32
+        ensures { result ≡ self.now.flags }
+    {
+        self.entry.flags()
+    }
+
+    /// Reads the item's unique number, which no other write has.
+    pub fn unique(&self) -> u64
+        ensures { result ≡ self.now.unique }
+    {
+        self.entry.unique()
+    }
+
+    /// Lends the item's block, at most 1048576 bytes.
+    pub fn block(&self) -> &[u8]
+        ensures value { result.now ≡ self.now.block }
+        ensures size { length result.now ≤ 1048576 }
+    {
+        self.entry.block()
+    }
+
+    /// Tells where the item lies, for `Shelf::settle_read`.
+    pub fn place(&self) -> Place {
+        self.place
+    }
+}
+
+/// What a search for a key finds.
+#[derive(Drop)]
+pub enum Found<'a> {
+    /// The key has no item.
+    Nothing,
+    /// The key's item is dead.
+    Dead,
+    /// The key's item isn't dead.
+    Standing(Hit<'a>),
+}
+
+impl Shelf {
+    /// Finds what stands under a key at a moment. `hash` is the hash that the shelf has with the key, where it has the key. It
+    /// takes no memory.
+    pub fn find(&self, key: &[u8], hash: u64, now: Moment) -> Found<'_>
+        requires { IsHash self.now.content key.now hash }
+        ensures { result
+            ≡ found_of self.now.content.cut now (get self.now.content.items key.now) }
+    {
+        let Some(place) = self.index.find(hash, key) else {
+            return Found::Nothing;
+        };
+        let Some(entry) = self.index.get(place) else {
+            return Found::Nothing;
+        };
+        if is_dead(entry.expiry(), entry.updated(), self.cut, now) {
+            return Found::Dead;
+        }
+        Found::Standing(Hit { entry, place })
+    }
+
+    /// Takes a read of a key that has no dead item: sets the new expiry of the item, where the read gives one. `place` is where
+    /// `find` found the item, and none where it found nothing; another place costs a search, and no more. The answer is a hit of
+    /// the item as it stood, and no block is copied for it. It takes no memory.
+    pub fn settle_read(&mut self, step: &KeyStep<'_>, hash: u64, now: Moment, place: Option<Place>)
+        requires read { is_read step.now ≡ true }
+        requires known { IsKnown self.old.content (key_of step.now) hash place }
+        requires alive { is_gone self.old.content.cut now
+            (get self.old.content.items (key_of step.now)) ≡ false }
+        ensures { IsSettled step.now now hash self.old.content
+            (hit_of (stood self.old.content step.now now)) self.new.content }
+    {
+        counts_follow();
+        if place.is_some() {
+            if let Some(expiry) = read_expiry(step, now) {
+                self.expire(place, hash, step.key(), expiry);
+            }
+        }
+    }
+}
+
+/// Finds the expiry that a read sets, where it sets one.
+fn read_expiry(step: &KeyStep<'_>, now: Moment) -> Option<Expiry>
+    ensures { result ≡ read_expiry step.now now }
+{
+    match step {
+        KeyStep::ReadTouch { exptime, .. } => Some(expiry_of(*exptime, now)),
+        _ => None,
+    }
+}
