@@ -1,6 +1,6 @@
 #!/usr/bin/env python3
 """Measures the built program on pipelined input through --stdin, and by mc_bench finds among many items, a world of many sessions, and
-steps in threads.
+steps in threads, and by shelves.
 
 Inputs are made beforehand and lie in files, and outputs go to files. Each figure is the median of
 several runs of a fresh process. It is no test: nothing here fails for being slow.
@@ -47,6 +47,9 @@ REFUSED = b"SERVER_ERROR out of memory storing object\r\n"
 # what takes the steps, by how many threads, and which steps they are
 STEPPED = [("store", 1), *((over, count) for over in ("own", "side", "same") for count in (1, 2, 4))]
 MIXES = ["gets", "sets", "mixed", "misses", "renewals"]
+# by how many threads steps are taken of keys that are drawn, in a store of how many shelves, and which steps
+DRAWN = [(count, shelves) for count in (1, 4) for shelves in (1, 64, 256)]
+DRAWN_MIXES = ["gets", "sets", "mixed"]
 # what a session is told in a round, of a set and a get of its key
 TOLD = b"STORED\r\nVALUE key 0 1\r\nx\r\nEND\r\n"
 
@@ -559,10 +562,11 @@ def worlds(turns, runs):
 # ---- threads
 
 
-def stepped(over, mix, threads, steps):
+def stepped(over, mix, threads, steps, shelves=64):
     """The seconds of a run of so many steps in each thread, and the processor's."""
     with tempfile.TemporaryFile() as out:
-        found = measure.run([MC_BENCH, "steps", over, mix, str(threads), str(steps)], SECONDS, subprocess.DEVNULL, out)
+        words = [MC_BENCH, "steps", over, mix, str(threads), str(steps), str(shelves)]
+        found = measure.run(words, SECONDS, subprocess.DEVNULL, out)
         out.seek(0)
         if found["status"] != 0 or int(out.read()) != threads * steps:
             sys.exit(f"not all {mix} over {over} were answered as they should be by {threads} threads")
@@ -593,6 +597,25 @@ def threads(steps, runs):
             print(f"{mix:<17}{over:<7}{count:>8}{shown}{more}", flush=True)
 
 
+def shelves(steps, runs):
+    """What a step costs of a key that is drawn, by how many shelves there are. The rows of a mix take turns."""
+    if not os.access(MC_BENCH, os.X_OK):
+        print(f"\nsteps by shelves: no program is at {MC_BENCH}; make bench builds it", flush=True)
+        return
+    print(f"\n{'steps by shelves':<17}{'shelves':>8}{'threads':>8}{'steps':>13}{'seconds':>9}{'a second':>12}{'ns of processor':>17}")
+    for mix in DRAWN_MIXES:
+        taken = {row: [] for row in DRAWN}
+        for _ in range(runs):
+            for count, of in DRAWN:
+                whole, idle = stepped("drawn", mix, count, steps, of), stepped("drawn", mix, count, 0, of)
+                taken[count, of].append([max(a - b, 1e-9) for a, b in zip(whole, idle)])
+        for (count, of), each in taken.items():
+            seconds, processor = (statistics.median(it) for it in zip(*each))
+            cost = processor / (count * steps) * 1e9
+            shown = f"{count * steps:>13,}{seconds:>9.3f}{count * steps / seconds:>12,.0f}{cost:>17.1f}"
+            print(f"{mix:<17}{of:>8}{count:>8}{shown}", flush=True)
+
+
 def main():
     parser = argparse.ArgumentParser(description=__doc__, formatter_class=argparse.RawDescriptionHelpFormatter)
     parser.add_argument("--program", default=f"{ROOT}/crates/mc_server/out/mc_server")
@@ -616,6 +639,7 @@ def main():
         "refilled": bench.refilled,
         "worlds": lambda: worlds(given.turns, given.runs),
         "threads": lambda: threads(given.steps, given.runs),
+        "shelves": lambda: shelves(given.steps, given.runs),
     }
     if given.only in tables:
         tables[given.only]()

@@ -1,8 +1,16 @@
 //! What the command line asks for.
 ghost use Rattle.std.specs.Prelude.{◌≢◌, IsNone, length};
 
+use mc_shelf::Settings;
+
 /// How many calls each caller makes where the command line doesn't say.
 const CALLS: u32 = 25_000;
+
+/// How many pages stores of which steps are taken have.
+const PAGES: u32 = 64;
+
+/// How many shelves they have where the command line doesn't say.
+const SHELVES: u32 = 64;
 
 /// A run.
 #[derive(Clone, Copy)]
@@ -45,6 +53,8 @@ pub struct Threaded {
     pub crew: Crew,
     /// How many steps each thread takes.
     pub rounds: u64,
+    /// How the store is set up.
+    pub settings: Settings,
 }
 
 /// What takes the steps, and of which keys.
@@ -58,6 +68,8 @@ pub enum Over {
     Side,
     /// The shared store, one key for all threads.
     Same,
+    /// The shared store, keys that each thread draws anew from all that stand.
+    Drawn,
 }
 
 /// Which steps are taken.
@@ -84,7 +96,7 @@ pub enum Crew {
 /// Tells which run the command line asks for: the program's name, the run's and what it takes. Other words ask for none.
 pub fn asked(words: &[String]) -> Option<Run>
     ensures { (length words.now ≢ 3) × (length words.now ≢ 4) × (length words.now ≢ 5)
-        × (length words.now ≢ 6) → IsNone result }
+        × (length words.now ≢ 6) × (length words.now ≢ 7) → IsNone result }
 {
     match words {
         [_, run, seed] if run.as_str() == "record" => Some(Run::Record {
@@ -104,17 +116,30 @@ pub fn asked(words: &[String]) -> Option<Run>
             items: items.parse().ok()?,
             windows: windows.parse().ok()?,
         }),
-        [_, run, over, mix, crew, rounds] if run.as_str() == "steps" => Some(Run::Steps(
-            Threaded {
-                over: over_of(over.as_str())?,
-                mix: mix_of(mix.as_str())?,
-                crew: crew_of(crew.as_str())?,
-                rounds: rounds.parse().ok()?,
-            },
-        )),
+        [_, run, over, mix, crew, rounds] if run.as_str() == "steps" => {
+            steps_of(over, mix, crew, rounds.parse().ok()?, SHELVES)
+        }
+        [_, run, over, mix, crew, rounds, shelves] if run.as_str() == "steps" => steps_of(
+            over,
+            mix,
+            crew,
+            rounds.parse().ok()?,
+            shelves.parse().ok()?,
+        ),
         // other words, or so many that no run takes them
         _other => None,
     }
+}
+
+/// Reads which steps are taken, of a store with so many shelves.
+fn steps_of(over: &str, mix: &str, crew: &str, rounds: u64, shelves: u32) -> Option<Run> {
+    Some(Run::Steps(Threaded {
+        over: over_of(over)?,
+        mix: mix_of(mix)?,
+        crew: crew_of(crew)?,
+        rounds,
+        settings: Settings::new(PAGES, Settings::GREATEST, shelves)?,
+    }))
 }
 
 /// Reads what takes the steps.
@@ -124,6 +149,7 @@ fn over_of(word: &str) -> Option<Over> {
         "own" => Some(Over::Own),
         "side" => Some(Over::Side),
         "same" => Some(Over::Same),
+        "drawn" => Some(Over::Drawn),
         _ => None,
     }
 }

@@ -7,11 +7,15 @@ use mc_command::{Bytes, KeyStep, Reply, StepFault, Steps, Verb};
 use mc_hop::Fnv;
 use mc_shared::{Asking, Caller, NoGate, Shared};
 use mc_shelf::{Settings, Store};
+use mc_testing::Dice;
 use mc_time::Moment;
 use std::alloc::{AllocError, Global};
 use std::sync::Wait;
 use std::thread;
 use std::thread::Threads;
+
+/// How many keys are drawn from.
+const DRAWN: u64 = 4096;
 
 /// What each thread does.
 #[derive(Clone, Copy)]
@@ -32,9 +36,10 @@ pub fn answered<R: Threads + Wait + Sync>(
         mix,
         crew,
         rounds,
+        settings,
     } = threaded;
     let load = Load { over, mix, rounds };
-    let mut store = filled(alloc)?;
+    let mut store = filled(alloc, over, settings)?;
     match over {
         Over::Store => Ok(work(&mut store, alloc, load, 0)),
         _ => {
@@ -44,19 +49,26 @@ pub fn answered<R: Threads + Wait + Sync>(
     }
 }
 
-/// A store with the keys of all threads.
-fn filled(alloc: Global) -> Result<Store<Fnv>, AllocError> {
-    let settings = Settings {
-        pages: 64,
-        greatest: 1_048_576,
-        shelves: 64,
-    };
+/// A store that is set up so, with the keys of all threads.
+fn filled(alloc: Global, over: Over, settings: Settings) -> Result<Store<Fnv>, AllocError> {
     let mut store = Store::new(alloc, settings, Fnv)?;
     for thread in 0..4 {
         set_key(&mut store, alloc, Over::Own, thread);
         set_key(&mut store, alloc, Over::Side, thread);
     }
+    if let Over::Drawn = over {
+        for number in 0..DRAWN {
+            set_drawn(&mut store, alloc, number);
+        }
+    }
     Ok(store)
+}
+
+/// Sets the key of a number, of those that are drawn.
+fn set_drawn(store: &mut Store<Fnv>, alloc: Global, number: u64) {
+    let key = number.to_be_bytes();
+    let now = Moment::from_seconds_at_most(1000);
+    let _ = store.step(alloc, &set_of(&key, &[b'x'; 100]), now);
 }
 
 /// Sets the key that the thread of this number has.
@@ -157,6 +169,31 @@ enum Act {
 
 /// The thread of this number takes its steps. Gives how many were answered as they should be.
 fn work<S: Steps>(store: &mut S, alloc: Global, load: Load, number: u8) -> u64 {
+    match load.over {
+        Over::Drawn => work_with_drawn(store, alloc, load, number),
+        _ => work_with_own(store, alloc, load, number),
+    }
+}
+
+/// The same, each step of a key that is drawn.
+fn work_with_drawn<S: Steps>(store: &mut S, alloc: Global, load: Load, number: u8) -> u64 {
+    let now = Moment::from_seconds_at_most(1000);
+    let block = [b'x'; 100];
+    let fresh = fresh_key(load.over, number);
+    let mut dice = Dice::new(u64::from(number) + 1);
+    let mut answered: u64 = 0;
+    for round in 0..load.rounds {
+        let act = act_of(load.mix, round);
+        let key = dice.roll(DRAWN).to_be_bytes();
+        let step = step_of(act, &key, fresh, &block);
+        let taken = store.step(alloc, &step, now);
+        answered = answered.saturating_add(u64::from(is_expected(act, &taken)));
+    }
+    answered
+}
+
+/// The same, each step of the thread's own key.
+fn work_with_own<S: Steps>(store: &mut S, alloc: Global, load: Load, number: u8) -> u64 {
     let now = Moment::from_seconds_at_most(1000);
     let block = [b'x'; 100];
     let key = key_of(load.over, number);

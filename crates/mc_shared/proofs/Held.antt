@@ -1,5 +1,5 @@
 -- A seat that holds one bay, or two.
-use Rattle.std.proofs.Common.{◌≡◌, ℕ, zero, suc, List, [], ◌∷◌, ◌++◌, None, Ok, replicate, refl, sym, ap, ◌∙◌, subst}
+use Rattle.std.proofs.Common.{◌≡◌, ℕ, zero, suc, List, [], ◌∷◌, ◌++◌, None, Result, Ok, Err, replicate, refl, sym, ap, ◌∙◌, subst}
 use Rattle.atomic_table.specs.Table.{rest}
 use Rattle.mc_shared.specs.Bays.{Content, place}
 use Rattle.mc_shared.specs.Past.{Past, Lives, call}
@@ -10,7 +10,10 @@ use Rattle.mc_shared.specs.Store.{resting, holds_one, holds_two}
 use Rattle.std.proofs.Common.{◌<◌, ◌-◌, ◌%◌, ◌^◌, arith}
 use Rattle.mc_command.specs.declared.step.KeyStep.{KeyStep}
 use Rattle.mc_command.specs.Commands.{key_of}
-use Rattle.mc_command.specs.Plain.{Plain, Outcome, plain}
+use Rattle.mc_command.specs.declared.step.StepFault.{StepFault}
+use Rattle.mc_command.specs.declared.step.StepFault.TheVariants.{NoMemory, NumbersSpent}
+use Rattle.mc_command.specs.Plain.{Plain, Outcome, Spent, MayFail, plain}
+use Rattle.mc_shelf.specs.Plans.{IsSpent, MayWantMemory}
 use Rattle.mc_shelf.specs.States.{ShelfContent, DeskState, CanStand, IsAt}
 use Rattle.mc_shared.specs.Bays.{OfShelf, OfDesk}
 use Rattle.mc_command.specs.declared.reply.Reply.{Reply}
@@ -18,10 +21,10 @@ use Rattle.mc_shared.specs.History.{Beginning, Operation, Stepped, start_of, she
 use Rattle.mc_shared.specs.Steps.{Agrees, Decides, Counts, MayAdd}
 use Rattle.std.specs.FinMap.{len}
 use Rattle.mc_shared.proofs.NumberSteps.{may_add}
-use Rattle.mc_shared.specs.Store.{CanCome}
+use Rattle.mc_shared.specs.Store.{CanCome, Refuses}
 use Rattle.mc_shared.specs.Shown.{SharedState, CallerState}
-use Rattle.mc_shared.specs.Holds.{HoldsShelf, HoldsBoth}
-use Rattle.mc_shared.proofs.Decisions.{can_stand, comes_after}
+use Rattle.mc_shared.specs.Holds.{HoldsShelf, HoldsBoth, caller_of}
+use Rattle.mc_shared.proofs.Decisions.{can_stand, comes_after, refuses}
 use Rattle.mc_shared.specs.Seats.{Sitter, SameSeat, IsTableOf, IsAlive, IsAnswered, MayDecide}
 use Rattle.mc_shelf.specs.Stores.{StoreState}
 use Rattle.atomic_table.specs.Seated.{TableId}
@@ -174,3 +177,22 @@ pub both_come : {K : Type 0} (hash_of : K → List ℕ → ℕ) (shared : Shared
     → (so : Outcome → Type 0) → ((m : Plain) → IsAt (key_of step) f d m → so (plain m step now)) → CanCome (start_of hash_of shared.began) seat.me.0.past step now so
 both_come hash_of shared seat at f d step now own h so comes =
     comes_after (start_of hash_of shared.began) at f d step now own seat.me.0 (ap (λ (m : Mine). m.0.bays) h.held) h.fits so comes
+
+-- a step was refused to a caller who held a shelf and the desk, and gave both back
+pub refused_both : {A : Type 0} {K : Type 0} (hash_of : K → List ℕ → ℕ) (shared : SharedState K) (seat : Sitter) (new : CallerState) (at : ℕ) (f : ShelfContent) (d : DeskState)
+    (step : KeyStep) (now : ℕ) (result : Result A StepFault) (fault : StepFault)
+    → shelf_in (start_of hash_of shared.began) (key_of step) ≡ at → HoldsBoth hash_of shared seat at f d
+    → new.table ≡ seat.table_id → new.past ≡ seat.me.0.past → result ≡ Err fault
+    → (result ≡ Err NumbersSpent → IsSpent step now f d) → (result ≡ Err NoMemory → MayWantMemory step now f d)
+    → IsAnswered (start_of hash_of shared.began) (caller_of shared seat.me.0.past) step now Refuses (Err fault) new
+refused_both hash_of shared seat new at f d step now result fault own holds table past is spent wants =
+    let start = start_of hash_of shared.began in
+    let agrees : Agrees start seat.me.0.past = record { log = holds.fits.log; legal = holds.fits.legal; keeps = holds.fits.keeps } in
+    record {
+      same = (table ∙ holds.own, subst (Agrees start) (sym past) agrees);
+      ok = tt;
+      err = past;
+      fault = refuses start seat.me.0.past step now result fault is
+          (λ e. both_come hash_of shared seat at f d step now own holds MayFail (wants e))
+          (λ e. both_come hash_of shared seat at f d step now own holds (λ outcome. outcome ≡ Spent) (spent e));
+    }

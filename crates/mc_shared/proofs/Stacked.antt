@@ -1,7 +1,7 @@
 -- Held shelves, and the step that changes them all.
 use Rattle.std.proofs.Common.{◌≡◌, ◌==◌, Bool, true, false, ℕ, zero, suc, ◌+◌, ◌≤◌, ◌<◌, None, Some, List, [], ◌∷◌, ◌++◌, length, slice_get, sym, refl, ap, ◌∙◌, subst, arith}
 use Rattle.atomic_table.specs.Table.{rest}
-use Rattle.std.specs.Prelude.{if◌then◌else◌, take, drop, slice_set}
+use Rattle.std.specs.Prelude.{if◌then◌else◌, take, drop}
 use Rattle.std.proofs.Math.Seq.{take-append_seam}
 use Rattle.std.specs.FinMap.{empty}
 use Rattle.mc_time.specs.Death.{moment_named}
@@ -122,30 +122,6 @@ without_top m p xs x is = ap without (is ∙ top p xs x)
 -- a shelf that was taken lies on top
 pub take_top : (m m' : Mine) (p : Past) (xs : List ShelfState) (x : ShelfState) (n : ℕ) → m ≡ holds_all p xs → n ≡ length xs → m' ≡ (holding m.0 n (OfShelf x.content), (place n, None) ∷ m.1) → m' ≡ holds_all p (xs ++ x ∷ [])
 take_top m m' p xs x n is len got = got ∙ (λ i. (holding (is i).0 (len i) (OfShelf x.content), (place (len i), None) ∷ (is i).1)) ∙ sym (top p xs x)
-
--- one more of those that stand side by side, and one fewer
-pub one_more : (xs : List ShelfState) (n : ℕ) (x : ShelfState) → n < length xs → take (suc n) (slice_set xs n x) ≡ take n xs ++ x ∷ []
-one_more [] n x l = absurd (omega (arith, l))
-one_more (y ∷ ys) zero x l = refl
-one_more (y ∷ ys) (suc n) x l = ap (λ (zs : List ShelfState). y ∷ zs) (one_more ys n x (omega (arith, l)))
-
-pub one_fewer : (xs : List ShelfState) (n : ℕ) (x : ShelfState) → slice_get xs n ≡ Some x → take (suc n) xs ≡ take n xs ++ x ∷ []
-one_fewer [] n x e = cc
-one_fewer (y ∷ ys) zero x e = same y x e
-  where
-    same : (a b : ShelfState) → slice_get (a ∷ ys) 0 ≡ Some b → a ∷ [] ≡ b ∷ []
-    same a b e = cc e
-one_fewer (y ∷ ys) (suc n) x e = ap (λ (zs : List ShelfState). y ∷ zs) (one_fewer ys n x e)
-
-pub those_before : (xs : List ShelfState) (n : ℕ) (x : ShelfState) → take n (slice_set xs n x) ≡ take n xs
-those_before [] n x = refl
-those_before (y ∷ ys) zero x = refl
-those_before (y ∷ ys) (suc n) x = ap (λ (zs : List ShelfState). y ∷ zs) (those_before ys n x)
-
-pub so_many : (xs : List ShelfState) (n : ℕ) → n ≤ length xs → n ≡ length (take n xs)
-so_many xs zero l = refl
-so_many [] (suc n) l = absurd (omega (arith, l))
-so_many (y ∷ ys) (suc n) l = ap suc (so_many ys n (omega (arith, l)))
 
 -- shelves that are written back as a whole
 pub written_back : {hash_of : List ℕ → ℕ} {state : Plain} {new : List ShelfState} {count len : ℕ} {desk : DeskState} (old : List ShelfState) → len ≡ count → ArePartsOf hash_of state new count desk

@@ -1,8 +1,7 @@
 //! Keys that are absent, as one caller is told. Where an allocation is refused it asks again.
 
-ghost use Rattle.std.specs.Prelude.{◌≤◌};
-
 use crate::store::{Caller, Shared};
+use crate::tests::{MANY, ONE, SOME};
 use mc_command::{KeyStep, Reply, StepFault, Verb};
 use mc_hop::{Constant, Fnv, KeyHash};
 use mc_shelf::Settings;
@@ -10,22 +9,23 @@ use mc_testing::{Ask, filled, step_of, told_of};
 use mc_time::Moment;
 use std::alloc::{AllocError, Global};
 use std::marker::Model;
+use std::process::Abort;
 use std::sync::Wait;
 use std::test::*;
 
 /// What is done with a key.
 #[derive(Clone, Copy)]
-enum Act {
+pub(crate) enum Act {
     /// It is asked whether the key is absent, and this is told.
     Absent(bool),
     /// It is asked a step, and told a reply of this name.
     Told(Ask<'static>, &'static str),
-    /// The shelf is tidied.
-    Tidy(u32),
+    /// The key's shelf is tidied.
+    Tidy,
 }
 
 /// At which second, with which key, and what is done.
-type Row = (u64, &'static [u8], Act);
+pub(crate) type Row = (u64, &'static [u8], Act);
 
 const SET: Act = Act::Told(Ask::Store(Verb::Set, 0, b"x"), "stored");
 
@@ -44,7 +44,7 @@ const DEATHS: [Row; 12] = [
         Act::Told(Ask::Store(Verb::Set, 10, b"x"), "stored"),
     ),
     (1010, b"a", Act::Absent(false)),
-    (1010, b"a", Act::Tidy(12)),
+    (1010, b"a", Act::Tidy),
     (1010, b"a", Act::Absent(true)),
 ];
 
@@ -56,10 +56,10 @@ const ONE_NUMBER: [Row; 3] = [
 
 /// A store with its one caller. Contracts see which store it is.
 #[derive(Drop)]
-struct Sole<'a, R: Wait, K: KeyHash + Drop> {
-    rt: &'a R,
-    shared: Shared<K>,
-    caller: Caller,
+pub(crate) struct Sole<'a, R: Wait, K: KeyHash + Drop> {
+    pub(crate) rt: &'a R,
+    pub(crate) shared: Shared<K>,
+    pub(crate) caller: Caller,
 }
 
 impl<'a, R: Wait, K: KeyHash + Drop> Model for Sole<'a, R, K> {
@@ -76,20 +76,13 @@ impl<'a, R: Wait, K: KeyHash + Drop> Model for Sole<'a, R, K> {
 }
 
 impl<'a, R: Wait, K: KeyHash + Drop> Sole<'a, R, K> {
-    /// Makes an empty store of so many pages, with the second hasher where memory is refused.
-    fn open(
+    /// Makes an empty store that is set up so, with the second hasher where memory is refused.
+    pub(crate) fn open(
         rt: &'a R,
         alloc: Global,
-        pages: u32,
+        settings: Settings,
         hashers: (K, K),
-    ) -> Result<Sole<'a, R, K>, AllocError>
-        requires { 1 ≤ pages × pages ≤ 65536 }
-    {
-        let settings = Settings {
-            pages,
-            greatest: 1048576,
-            shelves: 64,
-        };
+    ) -> Result<Sole<'a, R, K>, AllocError> {
         let (hasher, again) = hashers;
         let (shared, caller) = match Shared::new(alloc, settings, hasher) {
             Err(_) => Shared::new(alloc, settings, again)?,
@@ -123,7 +116,7 @@ impl<'a, R: Wait, K: KeyHash + Drop> Sole<'a, R, K> {
     }
 
     /// Sets a key at 1000, and names what is told.
-    fn set(&mut self, alloc: Global, key: &[u8], block: &[u8]) -> &'static str {
+    pub(crate) fn set(&mut self, alloc: Global, key: &[u8], block: &[u8]) -> &'static str {
         let now = Moment::from_seconds_at_most(1000);
         told_of(&self.taken(alloc, key, Ask::Store(Verb::Set, 0, block), now))
     }
@@ -135,16 +128,16 @@ impl<'a, R: Wait, K: KeyHash + Drop> Sole<'a, R, K> {
         match act {
             Act::Absent(want) => self.shared.absent(&mut self.caller, key, now) == want,
             Act::Told(ask, want) => told_of(&self.taken(alloc, key, ask, now)) == want,
-            Act::Tidy(shelf) if shelf < self.shared.shelves() => {
+            Act::Tidy => {
+                let shelf = self.shared.shelf_of(key);
                 self.shared.tidy(self.rt, &mut self.caller, shelf, now);
                 true
             }
-            Act::Tidy(_) => false,
         }
     }
 
     /// Finds the first row that is told otherwise.
-    fn first_untold(&mut self, alloc: Global, rows: &[Row]) -> Option<usize> {
+    pub(crate) fn first_untold(&mut self, alloc: Global, rows: &[Row]) -> Option<usize> {
         for (at, row) in rows.iter().enumerate() {
             if !self.is_told(alloc, row) {
                 return Some(at);
@@ -154,18 +147,30 @@ impl<'a, R: Wait, K: KeyHash + Drop> Sole<'a, R, K> {
     }
 }
 
+/// The rows of a key's deaths are told by a store that is set up so.
+fn deaths_are_told(
+    rt: &(impl Wait + Abort),
+    alloc: Global,
+    settings: Settings,
+) -> Result<(), Fail> {
+    let mut sole = Sole::open(rt, alloc, settings, (Fnv, Fnv))?;
+    assert_eq!(rt; sole.first_untold(alloc, &DEATHS), None);
+    Ok(())
+}
+
 #[test]
 fn a_key_is_absent_before_it_is_set_and_when_it_is_gone(rt: HostRuntime) -> Result<(), Fail> {
-    let alloc = rt.alloc();
-    let mut sole = Sole::open(&rt, alloc, 64, (Fnv, Fnv))?;
-    assert_eq!(rt; sole.first_untold(alloc, &DEATHS), None);
+    const EACH: [Settings; 3] = [ONE, SOME, MANY];
+    for settings in &EACH {
+        deaths_are_told(&rt, rt.alloc(), *settings)?;
+    }
     Ok(())
 }
 
 #[test]
 fn a_key_of_the_number_of_another_is_not_absent(rt: HostRuntime) -> Result<(), Fail> {
     let alloc = rt.alloc();
-    let mut sole = Sole::open(&rt, alloc, 64, (Constant(0), Constant(0)))?;
+    let mut sole = Sole::open(&rt, alloc, SOME, (Constant(0), Constant(0)))?;
     assert_eq!(rt; sole.first_untold(alloc, &ONE_NUMBER), None);
     Ok(())
 }
@@ -173,7 +178,12 @@ fn a_key_of_the_number_of_another_is_not_absent(rt: HostRuntime) -> Result<(), F
 #[test]
 fn a_key_that_finds_no_chunk_is_absent(rt: HostRuntime) -> Result<(), Fail> {
     let alloc = rt.alloc();
-    let mut sole = Sole::open(&rt, alloc, 1, (Fnv, Fnv))?;
+    let small = Settings {
+        pages: 1,
+        greatest: Settings::GREATEST,
+        shelves: 64,
+    };
+    let mut sole = Sole::open(&rt, alloc, small, (Fnv, Fnv))?;
     let block = match filled(alloc, 600000) {
         Err(_) => filled(alloc, 600000)?,
         Ok(block) => block,

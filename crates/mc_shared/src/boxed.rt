@@ -1,6 +1,11 @@
 //! A value on the heap.
 ghost use Rattle.std.specs.Prelude.{◌≡◌, IfOk};
+ghost use Rattle.mc_shelf.specs.Numbers.{HasPlaces, AreCounted};
+ghost use Rattle.mc_shelf.specs.Sweeps.{AreOut, GivesFor};
+ghost use Rattle.mc_shelf.specs.Unions.{IsFlushed};
 
+use mc_shelf::{Desk, Shelf};
+use mc_time::Moment;
 use std::alloc::{AllocError, Global};
 use std::marker::Model;
 
@@ -40,5 +45,24 @@ impl<T: Drop> Boxed<T> {
     {
         let Boxed { inner } = self;
         inner
+    }
+}
+
+impl Boxed<Shelf> {
+    /// Flushes the shelf, as its own `flush` does.
+    pub(crate) fn flush(&mut self, delay: u64, now: Moment, desk: &mut Desk)
+        requires { AreOut self.old.content desk.old }
+        ensures shelf { IsFlushed delay now self.old.content self.new.content }
+        ensures desk { GivesFor self.old.content.items self.new.content.items desk.old desk.new }
+    {
+        self.inner.flush(delay, now, desk);
+    }
+
+    /// Counts the shelf's keys of each number, as its own `count_numbers` does.
+    pub(crate) fn count_numbers(&self, counts: &mut [u64])
+        requires { HasPlaces self.now.content counts.old }
+        ensures { AreCounted self.now.content counts.old counts.new }
+    {
+        self.inner.count_numbers(counts);
     }
 }

@@ -8,6 +8,7 @@ ghost use Rattle.mc_shared.specs.Seats.{SameSeat, IsSeatOf};
 ghost use Rattle.mc_shared.specs.Spread.{spread};
 ghost use Rattle.mc_shared.specs.Steps.{loaded};
 
+use crate::boxed::Boxed;
 use crate::rule::{Board, Seat};
 use crate::steps::{NUMBERS, lower_all, word_at};
 use mc_hop::KeyHash;
@@ -32,6 +33,18 @@ pub(crate) fn count_shelf(shelf: &Shelf) -> [u64; NUMBERS]
 /// Counts the keys of each number of all shelves that are the parts of a state. The cost is that of
 /// one pass over all items.
 pub(crate) fn count_shelves(shelves: &[Shelf]) -> [u64; NUMBERS]
+    requires { (hash_of : List ℕ → ℕ) × (state : Plain) × AreAllOf hash_of state shelves.now }
+    ensures { AreCountsOfAll shelves.now result }
+{
+    let mut counts = no_counts();
+    for shelf in shelves {
+        shelf.count_numbers(&mut counts);
+    }
+    counts
+}
+
+/// Counts the same of shelves that are in boxes.
+pub(crate) fn count_boxes(shelves: &[Boxed<Shelf>]) -> [u64; NUMBERS]
     requires { (hash_of : List ℕ → ℕ) × (state : Plain) × AreAllOf hash_of state shelves.now }
     ensures { AreCountsOfAll shelves.now result }
 {

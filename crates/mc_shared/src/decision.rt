@@ -1,4 +1,5 @@
 //! What is decided as a bay goes back.
+use crate::boxed::Boxed;
 use mc_command::{KeyStep, Reply};
 use mc_shelf::{Begun, Plan, Shelf};
 use mc_time::Moment;
@@ -48,7 +49,7 @@ pub(crate) enum Decision<'a> {
     Flushed {
         delay: u64,
         moment: Moment,
-        shelves: &'a Vec<Shelf>,
+        shelves: &'a Vec<Boxed<Shelf>>,
         before: &'a [u64],
     },
 }

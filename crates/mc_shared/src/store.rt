@@ -1,5 +1,5 @@
 //! The store for many threads.
-ghost use Rattle.std.specs.Prelude.{◌≡◌, ◌*◌, ◌/◌, ◌<◌, ◌≤◌, ℕ, List, [], ◌++◌};
+ghost use Rattle.std.specs.Prelude.{◌≡◌, ◌*◌, ◌/◌, ◌<◌, ℕ, List, [], ◌++◌};
 ghost use Rattle.std.specs.Prelude.{map, replicate, OnOk, Some, IfOk};
 ghost use Rattle.mc_command.specs.Plain.{Plain, opening};
 ghost use Rattle.mc_shelf.specs.States.{ShelfState};
@@ -114,9 +114,6 @@ impl<K: KeyHash + Drop> Shared<K> {
         settings: Settings,
         hasher: K,
     ) -> Result<(Shared<K>, Caller), AllocError>
-        requires pages { 1 ≤ settings.pages × settings.pages ≤ 65536 }
-        requires greatest { settings.greatest ≡ 1048576 }
-        requires shelves { settings.shelves ≡ 64 }
         ensures plain { IfOk result (λ made.
             made.0.began.plain ≡ opening settings.pages settings.greatest) }
         ensures set_up { IfOk result (λ made.

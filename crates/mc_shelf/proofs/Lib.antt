@@ -8,6 +8,7 @@ pub mod PlanLemmas
 pub mod TakesLemmas
 pub mod RefusalLemmas
 pub mod SweepLemmas
+pub mod RangeLemmas
 pub mod PartLemmas
 pub mod FlushLemmas
 pub mod StoreLemmas

@@ -18,7 +18,7 @@ use Rattle.mc_shelf.specs.States.{ShelfContent, ShelfState, DeskState, IsAt, IsH
 use Rattle.mc_shelf.specs.Plans.{IsTaken, IsSettled}
 use Rattle.mc_shelf.specs.Parts.{shelf_of, IsShelfOf, IsDeskOf, ArePartsOf, GoesTo, GoesByStep, GoesWithoutDesk}
 use Rattle.mc_shelf.specs.Unions.{all_entries, all_items, cut_of, plain_of}
-use Rattle.mc_shelf.specs.declared.store.Settings.{Settings}
+use Rattle.mc_shelf.specs.declared.settings.Settings.{Settings}
 use Rattle.mc_shelf.proofs.KeyLemmas.{order, same_key, same_maps, get_kept}
 
 -- the plain machine's step on a key leaves the other keys, as `other_keys_stay` says, and the limit of pages, as `pages_stay`

@@ -19,7 +19,7 @@ use Rattle.mc_shelf.specs.States.{ShelfContent, ShelfState, DeskState, IsAt, not
 use Rattle.mc_shelf.specs.Plans.{IsTaken, IsSpent}
 use Rattle.mc_shelf.specs.Parts.{shelf_of, IsShelfOf, IsDeskOf, ArePartsOf, GoesTo, GoesByStep}
 use Rattle.mc_shelf.specs.Unions.{lefts, plain_of}
-use Rattle.mc_shelf.specs.declared.store.Settings.{Settings}
+use Rattle.mc_shelf.specs.declared.settings.Settings.{Settings}
 use Rattle.mc_shelf.proofs.KeyLemmas.{order}
 use Rattle.mc_shelf.proofs.PartLemmas.{parts_go, plain_is, are_kept}
 

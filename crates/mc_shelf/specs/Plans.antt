@@ -120,6 +120,12 @@ pub record IsPlan (plan : Plan) (shelf : ShelfContent) (step : KeyStep) (now : �
   pub next : plan.next ≡ next_of shelf step now
   pub known : IsKnown shelf (key_of step) plan.hash plan.place
 
+-- a step can be looked up: it is on a key, which the shelf has with this hash if it has it
+pub record CanLook (step : KeyStep) (own : ℕ) (shelf : ShelfContent) : Type 0 where
+  pub on_key : IsOnKey step
+  pub key : length (key_of step) ≤ 250
+  pub hash : IsHash shelf (key_of step) own
+
 -- a write can be taken: a number is left, and a chunk of its class can be had
 pub record CanWrite (next : Next) (desk : DeskState) : Type 0 where
   pub size : ℕ

@@ -8,7 +8,8 @@ use Rattle.mc_command.specs.declared.reply.Reply.{Reply}
 use Rattle.mc_shelf.specs.States.{ShelfState, DeskState}
 use Rattle.mc_shelf.specs.Parts.{ArePartsOf, shelf_of}
 use Rattle.mc_shelf.specs.Unions.{plain_of}
-use Rattle.mc_shelf.specs.declared.store.Settings.{Settings}
+use Rattle.mc_shelf.specs.declared.settings.Settings.{Settings}
+use Rattle.mc_shelf.specs.contracts.settings.Settings as settings
 
 -- A store: how it was set up, what hashes its keys, and the plain machine's state; and beside
 -- these, of each shelf how many entries of an old table are left to move.
@@ -19,11 +20,7 @@ pub record StoreState (K : Type 0) : Type 0 where
   pub left : List ℕ
 
 abbrev pub coded_settings : Coded Settings
-coded_settings =
-    code_by (ℕ × (ℕ × ℕ)) (coded× coded_ℕ (coded× coded_ℕ coded_ℕ))
-    (λ s. (s.pages, (s.greatest, s.shelves)))
-    (λ p. record { pages = p.0; greatest = p.1.0; shelves = p.1.1 })
-    (λ _. refl)
+coded_settings = settings.the_row.coded
 
 abbrev pub coded_store : {K : Type 0} → Coded K → Coded (StoreState K)
 coded_store {K} coded_hasher =

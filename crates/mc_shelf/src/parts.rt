@@ -104,9 +104,11 @@ impl Shelf {
         self.purge(now, desk);
     }
 
-    /// Flushes the shelf: all items go at once, or the dead go and the others are flushed after a
-    /// delay.
-    fn flush(&mut self, delay: u64, now: Moment, desk: &mut Desk)
+    /// Flushes the shelf, whose items' chunks are out of this desk: all items go at once, or the dead
+    /// go and the others are flushed after a delay, which is read as an exptime is. It takes no memory.
+    /// The cost is that of one pass over the items, and with a delay it walks none where none may be
+    /// dead.
+    pub fn flush(&mut self, delay: u64, now: Moment, desk: &mut Desk)
         requires { AreOut self.old.content desk.old }
         ensures shelf { IsFlushed delay now self.old.content self.new.content }
         ensures desk { GivesFor self.old.content.items self.new.content.items desk.old desk.new }

@@ -10,11 +10,11 @@ ghost use Rattle.mc_command.specs.declared.step.KeyStep.{KeyStep as Step};
 ghost use Rattle.mc_command.specs.declared.row.Row.TheVariants.{Reads};
 ghost use Rattle.mc_command.specs.Commands.{key_of};
 ghost use Rattle.mc_command.specs.Plain.{Entry as Item};
-ghost use Rattle.mc_command.specs.Laws.{IsOnKey};
-ghost use Rattle.mc_shelf.specs.States.{CanStand, IsHash, nothing_held};
+ghost use Rattle.mc_shelf.specs.States.{CanStand, nothing_held};
 ghost use Rattle.mc_shelf.specs.Numbers.{AreCounted, HasPlaces};
 ghost use Rattle.mc_shelf.specs.Plans.{
   CanFinish,
+  CanLook,
   CanSettle,
   CanWrite,
   GivesBack,
@@ -146,9 +146,7 @@ impl Shelf {
         now: Moment,
         desk: &mut Desk,
     ) -> Result<Reply, StepFault>
-        requires on_key { IsOnKey step.now }
-        requires key { length (key_of step.now) ≤ 250 }
-        requires hash { IsHash self.old.content (key_of step.now) hash }
+        requires look { CanLook step.now hash self.old.content }
         requires stands { CanStand (key_of step.now) self.old.content desk.old }
         ensures took { IfOk result (λ reply.
             IsTaken step.now now hash self.old.content desk.old reply self.new.content desk.new) }
@@ -175,9 +173,7 @@ impl Shelf {
         hash: u64,
         now: Moment,
     ) -> Result<Plan<'a>, AllocError>
-        requires on_key { IsOnKey step.now }
-        requires key { length (key_of step.now) ≤ 250 }
-        requires hash { IsHash self.old.content (key_of step.now) hash }
+        requires { CanLook step.now hash self.old.content }
         ensures plan { IfOk result (λ plan. IsPlan plan self.old.content step.now now) }
         ensures hash { IfOk result (λ plan. plan.hash ≡ hash) }
         ensures room { IfOk result (λ plan. HasRoom plan self.new step.now) }
@@ -407,9 +403,7 @@ impl Shelf {
         hash: u64,
         now: Moment,
     ) -> Result<Plan<'a>, AllocError>
-        requires on_key { IsOnKey step.now }
-        requires key { length (key_of step.now) ≤ 250 }
-        requires hash { IsHash self.now.content (key_of step.now) hash }
+        requires { CanLook step.now hash self.now.content }
         ensures plan { IfOk result (λ plan. IsPlan plan self.now.content step.now now) }
         ensures hash { IfOk result (λ plan. plan.hash ≡ hash) }
         ensures asked { OnErr result ((expiry : Option Expires)

@@ -20,23 +20,13 @@ ghost use Rattle.mc_shelf.specs.Unions.{lefts};
 
 use crate::desk::Desk;
 use crate::parts;
+use crate::settings::Settings;
 use crate::shelf::Shelf;
 use mc_command::{KeyStep, Reply, StepFault, Steps, counts_follow};
 use mc_hop::KeyHash;
 use mc_time::Moment;
 use std::alloc::{AllocError, Global};
 use std::marker::Model;
-
-/// How a store is set up.
-#[derive(Clone, Copy, Debug, PartialEq, Eq)]
-pub struct Settings {
-    /// How many pages of 1048576 bytes it may have, 1 to 65536.
-    pub pages: u32,
-    /// The greatest charge of an item, in bytes: 1048576.
-    pub greatest: u64,
-    /// How many shelves it has: 64.
-    pub shelves: u32,
-}
 
 /// What a store is made of. A key is on the shelf that its hash names, modulo their number.
 #[derive(Drop)]
@@ -82,9 +72,6 @@ impl<K: KeyHash + Drop> Store<K> {
     /// Makes a store of no items, no class of which has a page. The one error is a refused
     /// allocation.
     pub fn new(alloc: Global, settings: Settings, hasher: K) -> Result<Store<K>, AllocError>
-        requires pages { 1 ≤ settings.pages × settings.pages ≤ 65536 }
-        requires greatest { settings.greatest ≡ 1048576 }
-        requires shelves { settings.shelves ≡ 64 }
         ensures plain { IfOk result (λ store.
             store.plain ≡ opening settings.pages settings.greatest) }
         ensures settings { IfOk result (λ store. store.settings ≡ settings) }
@@ -102,10 +89,7 @@ impl<K: KeyHash + Drop> Store<K> {
         hasher: K,
         next: u64,
     ) -> Result<Store<K>, AllocError>
-        requires pages { 1 ≤ settings.pages × settings.pages ≤ 65536 }
-        requires greatest { settings.greatest ≡ 1048576 }
-        requires shelves { settings.shelves ≡ 64 }
-        requires next { 1 ≤ next }
+        requires { 1 ≤ next }
         ensures plain { IfOk result (λ store.
             store.plain ≡ starting settings.pages settings.greatest next) }
         ensures settings { IfOk result (λ store. store.settings ≡ settings) }

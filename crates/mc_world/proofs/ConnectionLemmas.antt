@@ -10,7 +10,7 @@ use Rattle.mc_parse.specs.Units.{ProtocolUnit, Request, Fault, LongLine, Spells}
 use Rattle.mc_parse.specs.Streams.{AreUnits, is_last, passed_after}
 use Rattle.mc_parse.specs.Feeds.{Unread, settled, pushed}
 use Rattle.mc_session.specs.Turns.{SessionState, to_read, HasUnits, turn_count, turns_from, turns, nothing_unread, closed, fed, TakesTurn, NoTurnDue}
-use Rattle.mc_shelf.specs.declared.store.Settings.{Settings}
+use Rattle.mc_shelf.specs.declared.settings.Settings.{Settings}
 use Rattle.mc_command.specs.Plain.{Plain}
 use Rattle.mc_world.specs.Laws.{Grammar}
 use Rattle.mc_world.specs.Worlds.{StandAll, StandsAs, PlainWorld, WorldState}

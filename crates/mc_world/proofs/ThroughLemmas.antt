@@ -1,7 +1,7 @@
 -- What is told of some events that went in some way, and of one more.
 use Rattle.std.proofs.Common.{◌≡◌, ℕ, suc, ◌+◌, ◌<◌, ◌≤◌, Bool, List, [], ◌∷◌, ◌++◌, length, take, get_or, Result, Ok, Err, is_err, OnOk, IfErr, true, false, refl, sym, ap, ◌∙◌, subst, arith}
 use Rattle.std.proofs.lemmas.List.{take_more}
-use Rattle.mc_shelf.specs.declared.store.Settings.{Settings}
+use Rattle.mc_shelf.specs.declared.settings.Settings.{Settings}
 use Rattle.mc_session.specs.declared.session.TurnFault.{TurnFault}
 use Rattle.mc_world.specs.Worlds.{PlainWorld, WorldState, StandsAs, Happens, Runs, Told, ToldRefused}
 use Rattle.mc_world.specs.Refusals.{EventOutcome, was_done, was_refused, refusals, Goes, RunsThrough, ToldThrough}

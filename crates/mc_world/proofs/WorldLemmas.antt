@@ -8,7 +8,7 @@ use Rattle.mc_command.specs.Commands.{steps}
 use Rattle.mc_command.specs.Plain.{Plain}
 use Rattle.mc_parse.specs.Units.{ProtocolUnit, Request}
 use Rattle.mc_session.specs.declared.session.TurnFault.{TurnFault}
-use Rattle.mc_shelf.specs.declared.store.Settings.{Settings}
+use Rattle.mc_shelf.specs.declared.settings.Settings.{Settings}
 use Rattle.mc_session.specs.Turns.{SessionState, Answers, TakesTurn, DecidesStep, NoTurnDue, opened, fed, closed, sent}
 use Rattle.mc_command.specs.Purge.{purged}
 use Rattle.mc_world.specs.Connections.{Connection, IsNext, IsRest, Stands, at_start, fresh, with_piece, after_turn, ended}

@@ -12,7 +12,7 @@ use Rattle.mc_parse.specs.Units.{ProtocolUnit, Request}
 use Rattle.mc_parse.specs.Feeds.{Unread}
 use Rattle.mc_session.specs.Turns.{SessionState, Answers, NoTurnDue}
 use Rattle.mc_shelf.specs.Stores.{coded_settings}
-use Rattle.mc_shelf.specs.declared.store.Settings.{Settings}
+use Rattle.mc_shelf.specs.declared.settings.Settings.{Settings}
 use Rattle.mc_command.specs.Purge.{purged}
 use Rattle.mc_world.specs.Connections.{Connection, IsNext, HasNoNext, Stands, fresh, with_piece, after_turn, ended}
 use Rattle.mc_world.specs.declared.event.Event.{Event}

@@ -15,6 +15,8 @@ mod serving;
 mod serving_tests;
 mod sessions;
 #[cfg(test)]
+mod set_ups;
+#[cfg(test)]
 mod tests;
 #[cfg(test)]
 mod through_tests;

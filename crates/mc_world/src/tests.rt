@@ -9,6 +9,7 @@ ghost use Rattle.std.specs.Prelude.{◌≤◌};
 use super::*;
 use crate::parts::Parts;
 use crate::sessions::Sessions;
+use crate::set_ups::{EACH, MANY_SMALL, ONE_SMALL, SOME, SOME_SMALL};
 use mc_command::Bytes;
 use mc_hop::{Constant, Fnv, KeyHash};
 use mc_shelf::{Settings, Store};
@@ -21,6 +22,9 @@ use std::test::Fail;
 const SHELF_OF_A: u32 = 12;
 
 const SHELF_OF_B: u32 = 37;
+
+/// The shelf of `b` of 256.
+const SHELF_OF_B_OF_MANY: u32 = 165;
 
 /// What a step is answered that finds no chunk.
 const NO_CHUNK: &str = "SERVER_ERROR out of memory storing object\r\n";
@@ -46,6 +50,15 @@ type Row = (&'static [Act], u32, &'static str, &'static str);
 /// At which second session 1 asks, what, and what it is answered.
 type Asked = (u64, &'static str, &'static str);
 
+/// A world at 1000 whose store is set up so.
+fn world_with<K: KeyHash + Drop>(
+    alloc: Global,
+    hasher: K,
+    settings: Settings,
+) -> Result<World<K>, AllocError> {
+    World::new(alloc, settings, hasher, Moment::from_seconds(1000))
+}
+
 /// A world at 1000.
 pub(crate) fn world<K: KeyHash + Drop>(alloc: Global, hasher: K) -> Result<World<K>, AllocError> {
     world_of(alloc, hasher, 64)
@@ -61,15 +74,24 @@ pub(crate) fn world_of<K: KeyHash + Drop>(
 {
     let settings = Settings {
         pages,
-        greatest: 1048576,
+        greatest: Settings::GREATEST,
         shelves: 64,
     };
-    World::new(alloc, settings, hasher, Moment::from_seconds(1000))
+    world_with(alloc, hasher, settings)
 }
 
 /// A world at 1000 of which session 1 is open.
 pub(crate) fn opened<K: KeyHash + Drop>(alloc: Global, hasher: K) -> Result<World<K>, AllocError> {
-    let mut world = world(alloc, hasher)?;
+    opened_with(alloc, hasher, SOME)
+}
+
+/// The same, whose store is set up so.
+fn opened_with<K: KeyHash + Drop>(
+    alloc: Global,
+    hasher: K,
+    settings: Settings,
+) -> Result<World<K>, AllocError> {
+    let mut world = world_with(alloc, hasher, settings)?;
     run(&mut world, alloc, &[Event::Open])?;
     Ok(world)
 }
@@ -203,10 +225,28 @@ fn rows_are_told_in(
     Ok(())
 }
 
-/// The same, in a new world.
-fn rows_are_told(rt: &impl Abort, alloc: Global, rows: &[Row]) -> Result<(), Fail> {
-    let mut world = world(alloc, Fnv)?;
+/// The same, in a new world whose store is set up so.
+fn rows_are_told_with(
+    rt: &impl Abort,
+    alloc: Global,
+    settings: Settings,
+    rows: &[Row],
+) -> Result<(), Fail> {
+    let mut world = world_with(alloc, Fnv, settings)?;
     rows_are_told_in(rt, alloc, &mut world, rows)
+}
+
+/// The same, of 64 shelves.
+fn rows_are_told(rt: &impl Abort, alloc: Global, rows: &[Row]) -> Result<(), Fail> {
+    rows_are_told_with(rt, alloc, SOME, rows)
+}
+
+/// The same, of each number of shelves.
+fn rows_are_told_with_each(rt: &impl Abort, alloc: Global, rows: &[Row]) -> Result<(), Fail> {
+    for settings in &EACH {
+        rows_are_told_with(rt, alloc, *settings, rows)?;
+    }
+    Ok(())
 }
 
 #[test]
@@ -289,7 +329,7 @@ fn keys_of_a_get_are_asked_at_their_turns(rt: HostRuntime) -> Result<(), Fail> {
         ),
         (&[], 2, "STORED\r\nSTORED\r\nSTORED\r\nSTORED\r\n", "idle"),
     ];
-    rows_are_told(&rt, rt.alloc(), &ROWS)
+    rows_are_told_with_each(&rt, rt.alloc(), &ROWS)
 }
 
 #[test]
@@ -391,10 +431,23 @@ fn asked_are_answered(
     Ok(())
 }
 
-/// The same, of a new world.
-fn new_world_answers(rt: &impl Abort, alloc: Global, rows: &[Asked]) -> Result<(), Fail> {
-    let mut world = opened(alloc, Fnv)?;
+/// The same, of a new world whose store is set up so.
+fn new_world_answers(
+    rt: &impl Abort,
+    alloc: Global,
+    settings: Settings,
+    rows: &[Asked],
+) -> Result<(), Fail> {
+    let mut world = opened_with(alloc, Fnv, settings)?;
     asked_are_answered(rt, alloc, &mut world, rows)
+}
+
+/// The same, of each number of shelves.
+fn new_worlds_answer(rt: &impl Abort, alloc: Global, rows: &[Asked]) -> Result<(), Fail> {
+    for settings in &EACH {
+        new_world_answers(rt, alloc, *settings, rows)?;
+    }
+    Ok(())
 }
 
 #[test]
@@ -410,7 +463,7 @@ fn an_exptime_of_up_to_thirty_days_counts_from_now(rt: HostRuntime) -> Result<()
         (2592999, "get a\r\n", "VALUE a 0 1\r\nx\r\nEND\r\n"),
         (2593000, "get a\r\n", "END\r\n"),
     ];
-    new_world_answers(&rt, rt.alloc(), &ROWS)
+    new_worlds_answer(&rt, rt.alloc(), &ROWS)
 }
 
 #[test]
@@ -423,7 +476,7 @@ fn a_flush_comes_at_its_moment(rt: HostRuntime) -> Result<(), Fail> {
         (1010, "set b 0 0 1\r\ny\r\n", "STORED\r\n"),
         (1011, "get b\r\n", "VALUE b 0 1\r\ny\r\nEND\r\n"),
     ];
-    new_world_answers(&rt, rt.alloc(), &ROWS)
+    new_worlds_answer(&rt, rt.alloc(), &ROWS)
 }
 
 /// What sets the key of a number to its two digits.
@@ -489,10 +542,22 @@ fn forty_keys_are_apart(
     Ok(())
 }
 
+/// The same, in a new world whose store is set up so.
+fn forty_keys_are_apart_with(
+    rt: &impl Abort,
+    alloc: Global,
+    settings: Settings,
+) -> Result<(), Fail> {
+    let mut world = opened_with(alloc, Constant(0), settings)?;
+    forty_keys_are_apart(rt, alloc, &mut world)
+}
+
 #[test]
 fn keys_of_one_hash_are_apart(rt: HostRuntime) -> Result<(), Fail> {
-    let mut world = opened(rt.alloc(), Constant(0))?;
-    forty_keys_are_apart(&rt, rt.alloc(), &mut world)
+    for settings in &EACH {
+        forty_keys_are_apart_with(&rt, rt.alloc(), *settings)?;
+    }
+    Ok(())
 }
 
 fn happen(parts: &mut Parts<Constant>, alloc: Global, event: &Event<'_>) -> Result<(), AllocError> {
@@ -582,7 +647,7 @@ fn fill(rt: &impl Abort, alloc: Global, world: &mut World<Fnv>) -> Result<(), Fa
     large_set_answers(rt, alloc, world, (1001, 'c', 0), NO_CHUNK)
 }
 
-/// Fills a page, and runs acts. Then a key of 600000 bytes is stored, and session 1 was told that.
+/// Fills a page, and runs acts. Then a key of 600000 bytes is set, and session 1 was told that.
 fn room_is_made_in(
     rt: &impl Abort,
     alloc: Global,
@@ -596,33 +661,55 @@ fn room_is_made_in(
     large_set_answers(rt, alloc, world, (1001, key, 0), output)
 }
 
-/// The same, in a new world of one page.
+/// The same, in a new world whose store is set up so, of one page.
 fn room_is_made(
     rt: &impl Abort,
     alloc: Global,
+    settings: Settings,
     acts: &[Act],
     key: char,
     output: &str,
 ) -> Result<(), Fail> {
-    let mut world = world_of(alloc, Fnv, 1)?;
+    let mut world = world_with(alloc, Fnv, settings)?;
     room_is_made_in(rt, alloc, &mut world, acts, key, output)
 }
 
+/// How a store is set up, which shelf of it is purged, and what a set is told then.
+type Purged = (Settings, u32, &'static str);
+
 #[test]
-fn a_purge_makes_room(rt: HostRuntime) -> Result<(), Fail> {
-    const ACTS: [Act; 1] = [Act::Purge(SHELF_OF_B)];
-    room_is_made(&rt, rt.alloc(), &ACTS, 'c', "STORED\r\n")
+fn a_purge_of_the_shelf_makes_room(rt: HostRuntime) -> Result<(), Fail> {
+    const ROWS: [Purged; 7] = [
+        (SOME_SMALL, SHELF_OF_B, "STORED\r\n"),
+        (SOME_SMALL, SHELF_OF_A, NO_CHUNK),
+        (ONE_SMALL, 0, "STORED\r\n"),
+        (ONE_SMALL, 1, NO_CHUNK),
+        (MANY_SMALL, SHELF_OF_B_OF_MANY, "STORED\r\n"),
+        (MANY_SMALL, SHELF_OF_B, NO_CHUNK),
+        (MANY_SMALL, 256, NO_CHUNK),
+    ];
+    for (settings, shelf, output) in &ROWS {
+        room_is_made(
+            &rt,
+            rt.alloc(),
+            *settings,
+            &[Act::Purge(*shelf)],
+            'c',
+            output,
+        )?;
+    }
+    Ok(())
 }
 
 #[test]
 fn a_get_of_a_dead_item_makes_room(rt: HostRuntime) -> Result<(), Fail> {
     const ACTS: [Act; 2] = [Act::Piece(1, "get b\r\n"), Act::Turn(1)];
-    room_is_made(&rt, rt.alloc(), &ACTS, 'c', "END\r\nSTORED\r\n")
+    room_is_made(&rt, rt.alloc(), SOME_SMALL, &ACTS, 'c', "END\r\nSTORED\r\n")
 }
 
 #[test]
 fn a_dead_item_gives_its_chunk_to_its_own_key(rt: HostRuntime) -> Result<(), Fail> {
-    room_is_made(&rt, rt.alloc(), &[], 'b', "STORED\r\n")
+    room_is_made(&rt, rt.alloc(), SOME_SMALL, &[], 'b', "STORED\r\n")
 }
 
 /// What a session is told of `get a` where the set of `a` stands, and where it doesn't.

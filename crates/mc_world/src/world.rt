@@ -49,9 +49,6 @@ impl<K: KeyHash + Drop> World<K> {
         hasher: K,
         now: Moment,
     ) -> Result<World<K>, AllocError>
-        requires pages { 1 ≤ settings.pages × settings.pages ≤ 65536 }
-        requires greatest { settings.greatest ≡ 1048576 }
-        requires shelves { settings.shelves ≡ 64 }
         ensures { IfOk result (λ world. world ≡ record {
           settings = settings;
           hasher = hasher;
@@ -72,10 +69,7 @@ impl<K: KeyHash + Drop> World<K> {
         now: Moment,
         next: u64,
     ) -> Result<World<K>, AllocError>
-        requires pages { 1 ≤ settings.pages × settings.pages ≤ 65536 }
-        requires greatest { settings.greatest ≡ 1048576 }
-        requires shelves { settings.shelves ≡ 64 }
-        requires next { 1 ≤ next }
+        requires { 1 ≤ next }
         ensures { IfOk result (λ world. world ≡ record {
           settings = settings;
           hasher = hasher;

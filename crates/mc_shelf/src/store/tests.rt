@@ -5,8 +5,8 @@
 ghost use Rattle.std.specs.Prelude.{◌≡◌, ◌≤◌, length, IfOk, OnErr};
 ghost use Rattle.mc_command.specs.Commands.{key_of};
 ghost use Rattle.mc_command.specs.Laws.{IsOnKey};
-ghost use Rattle.mc_shelf.specs.States.{CanStand, IsHash};
-ghost use Rattle.mc_shelf.specs.Plans.{IsTaken};
+ghost use Rattle.mc_shelf.specs.States.{CanStand};
+ghost use Rattle.mc_shelf.specs.Plans.{CanLook, IsTaken};
 
 use super::*;
 use mc_command::Verb;
@@ -33,14 +33,42 @@ fn open_with<K: KeyHash + Drop + Copy>(
 {
     let settings = Settings {
         pages,
-        greatest: 1048576,
+        greatest: Settings::GREATEST,
         shelves: 64,
     };
+    set_up(alloc, settings, hasher)
+}
+
+/// A store that is set up so, asked for again where memory is refused.
+fn set_up<K: KeyHash + Drop + Copy>(
+    alloc: Global,
+    settings: Settings,
+    hasher: K,
+) -> Result<Store<K>, AllocError> {
     match Store::new(alloc, settings, hasher) {
         Err(_) => Store::new(alloc, settings, hasher),
         made => made,
     }
 }
+
+/// How stores of one shelf, of 64 and of 256 are set up.
+const EACH: [Settings; 3] = [
+    Settings {
+        pages: 64,
+        greatest: Settings::GREATEST,
+        shelves: 1,
+    },
+    Settings {
+        pages: 64,
+        greatest: Settings::GREATEST,
+        shelves: 64,
+    },
+    Settings {
+        pages: 64,
+        greatest: Settings::GREATEST,
+        shelves: 256,
+    },
+];
 
 /// A store of one page, of whose unique numbers one is left, asked for again where memory is
 /// refused.
@@ -67,6 +95,25 @@ fn answers(
     Ok(())
 }
 
+/// A new store that is set up so answers each row as it wants.
+fn answers_with(
+    rt: &impl Abort,
+    alloc: Global,
+    settings: Settings,
+    rows: &[Row<'_>],
+) -> Result<(), Fail> {
+    let mut store = set_up(alloc, settings, Fnv)?;
+    answers(rt, alloc, &mut store, rows)
+}
+
+/// The same, of each number of shelves.
+fn answers_with_each(rt: &impl Abort, alloc: Global, rows: &[Row<'_>]) -> Result<(), Fail> {
+    for settings in &EACH {
+        answers_with(rt, alloc, *settings, rows)?;
+    }
+    Ok(())
+}
+
 #[test]
 fn each_key_has_its_item(rt: HostRuntime) -> Result<(), Fail> {
     let rows: [Row<'_>; 11] = [
@@ -82,8 +129,7 @@ fn each_key_has_its_item(rt: HostRuntime) -> Result<(), Fail> {
         set(1000, b"a", 0, b"z", "stored"),
         (1000, b"a", Ask::Get, Want::Hit(5, b"z")),
     ];
-    let mut store = open(rt.alloc(), 64)?;
-    answers(&rt, rt.alloc(), &mut store, &rows)
+    answers_with_each(&rt, rt.alloc(), &rows)
 }
 
 #[test]
@@ -104,8 +150,7 @@ fn a_flush_reaches_all_shelves(rt: HostRuntime) -> Result<(), Fail> {
         set(1011, b"b", 0, b"v", "stored"),
         (1011, b"b", Ask::Get, Want::Hit(5, b"v")),
     ];
-    let mut store = open(rt.alloc(), 64)?;
-    answers(&rt, rt.alloc(), &mut store, &rows)
+    answers_with_each(&rt, rt.alloc(), &rows)
 }
 
 #[test]
@@ -421,9 +466,7 @@ fn step_in_parts(
     hash: u64,
     now: Moment,
 ) -> Result<Reply, StepFault>
-    requires on_key { IsOnKey step.now }
-    requires key { length (key_of step.now) ≤ 250 }
-    requires hash { IsHash shelf.old.content (key_of step.now) hash }
+    requires look { CanLook step.now hash shelf.old.content }
     requires stands { CanStand (key_of step.now) shelf.old.content desk.old }
     ensures took { IfOk result (λ reply. IsTaken step.now now hash shelf.old.content desk.old
         reply shelf.new.content desk.new) }

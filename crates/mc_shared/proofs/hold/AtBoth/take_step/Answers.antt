@@ -1,4 +1,4 @@
-use Rattle.std.proofs.Common.{arith, ◌≡◌, ◌+◌, ◌-◌, ◌%◌, ℕ, [], ◌∷◌, is_some, false, replicate, refl, sym, ap, ◌∙◌, subst}
+use Rattle.std.proofs.Common.{arith, ◌≡◌, ◌+◌, ◌-◌, ◌%◌, ℕ, [], ◌∷◌, is_some, false, Err, replicate, refl, sym, ap, ◌∙◌, subst}
 use Rattle.std.specs.FinMap.{get, len}
 use Rattle.mc_command.specs.Commands.{key_of}
 use Rattle.mc_command.specs.Plain.{Plain}
@@ -10,15 +10,15 @@ use Rattle.mc_shared.specs.Bays.{OfShelf, OfDesk}
 use Rattle.mc_shared.specs.History.{start_of, Stepped}
 use Rattle.mc_shared.specs.Past.{Past, call}
 use Rattle.mc_shared.specs.Presence.{word_of}
-use Rattle.mc_shared.specs.Seats.{MayDecide}
-use Rattle.mc_shared.specs.Shown.{SharedState}
+use Rattle.mc_shared.specs.Seats.{MayDecide, IsAnswered}
+use Rattle.mc_shared.specs.Shown.{SharedState, CallerState}
 use Rattle.mc_shared.specs.Store.{Refuses, holds_two}
 use Rattle.mc_shared.specs.Steps.{Mine, Agrees, HoldsThis, loaded, decided_by, entry_of}
-use Rattle.mc_shared.specs.Holds.{HoldsBoth, IsAsked, caller_of}
+use Rattle.mc_shared.specs.Holds.{BothHold, HoldsBoth, IsAsked, caller_of}
 use Rattle.mc_shelf.specs.Stores.{StoreState}
 use Rattle.mc_shared.proofs.Decisions.{applies_step, goes_step}
 use Rattle.mc_shared.proofs.NumberSteps.{counts_step, enough}
-use Rattle.mc_shared.proofs.Held.{at_both, both_stand, may_raise, all_named, decided_one, last_held, one_given, one_rests, rests_so, came_out}
+use Rattle.mc_shared.proofs.Held.{at_both, both_stand, may_raise, all_named, decided_one, last_held, one_given, one_rests, rests_so, came_out, refused_both}
 use Rattle.mc_shared.proofs.hold.AtBoth.take_step.Goals as goal
 use goal.{After-len}
 
@@ -187,3 +187,18 @@ returns-in-Ok g c =
     (subst (Agrees (start_of hash_of c.shared.inside.board.shared.key.value)) (ap (λ (m : Mine). m.0.past) then) c.decide.ensures.view.1) in
     came_out (start_of hash_of self.shared.began) (caller_of self.shared self.past) (record { table = c.give.new.seat.table_id; past = c.give.new.seat.me.0.past }) step c.args.ask.now.moment c.finish-reply.result told Refuses
     seats (ap (λ (m : Mine). m.0.past) rests ∙ (λ i. call (c.self.view_is i).past (entry_of (c.self.view_is i).past what))) c.finish-reply.ensures.reply agrees
+
+pub returns-in-Err : goal.returns-in-Err
+returns-in-Err g c =
+    let hash_of = g.K.KeyHash.hash_of in
+    let inside = c.self.inside in
+    let ask = c.args.ask.now in
+    let h = subst (λ (t : ShelfState × DeskState). HoldsBoth hash_of inside.shared.now inside.seat inside.at t.0.content t.1) (λ i. (sym c.deref_mut.ensures.value i, sym c.deref_mut-2.ensures.value i)) c.self.invariant in
+    let asked = subst (λ (s : SharedState g.row.K.Denot). IsAsked hash_of s ask) (sym (ap (λ h. h.shared) c.self.view_is)) c.requires.asked in
+    let own = asked.own ∙ sym (ap (λ h. h.at) c.self.view_is ∙ c.requires.at) in
+    let new : CallerState = record { table = c.give-in-Err-2.new.seat.table_id; past = c.give-in-Err-2.new.seat.me.0.past } in
+    subst (λ (t : BothHold g.row.K.Denot). IsAnswered (start_of hash_of t.shared.began) (caller_of t.shared t.past) ask.step.now ask.moment Refuses (Err c.in-Err.fault) new) c.self.view_is
+    (refused_both hash_of inside.shared.now inside.seat new inside.at c.deref_mut.result.now.content c.deref_mut-2.result.now ask.step.now ask.moment
+    c.begin_step.result c.in-Err.fault own h (c.give-in-Err-2.ensures.seat.0 ∙ c.give-in-Err.ensures.seat.0)
+    (ap (λ (m : Mine). m.0.past) c.give-in-Err-2.ensures.view.0 ∙ ap (λ (m : Mine). m.0.past) c.give-in-Err.ensures.view.0)
+    c.in-Err.is c.begin_step.ensures.spent c.begin_step.ensures.refused)

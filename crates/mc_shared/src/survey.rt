@@ -1,0 +1,96 @@
+//! What a shelf and a class have is told.
+ghost use Rattle.std.specs.Prelude.{◌≡◌, ◌*◌, ◌<◌, ◌≤◌};
+ghost use Rattle.std.specs.FinMap.{len};
+ghost use Rattle.mc_slab.specs.Classes.{chunks_a_page};
+ghost use Rattle.mc_slab.specs.Slabs.{pages_of, out_of};
+ghost use Rattle.mc_shared.specs.History.{start_of};
+ghost use Rattle.mc_shared.specs.Steps.{Agrees};
+
+use crate::hold::{AtBoth, AtShelf};
+use crate::store::{Caller, Shared};
+use core::mem::replace_with;
+use mc_hop::KeyHash;
+use mc_slab::{Account, Class};
+use std::sync::Wait;
+
+impl<'a, K: KeyHash + Drop> AtShelf<'a, K> {
+    /// Counts the shelf's items, the dead ones among them.
+    fn items(&self) -> u64
+        ensures { result ≡ len self.now.shelf.content.items }
+    {
+        self.shelf.len() as u64
+    }
+}
+
+impl<'a, K: KeyHash + Drop> AtBoth<'a, K> {
+    /// Tells what the class has: its pages, and its chunks that items lie in.
+    fn account(&self, class: Class) -> Account
+        ensures value { result ≡ record {
+          pages = pages_of self.now.desk.slab class;
+          out = out_of self.now.desk.slab class;
+        } }
+        ensures within { result.out ≤ result.pages * chunks_a_page class }
+    {
+        let _laws = (class.number(), self.desk.next_unique());
+        self.desk.account(class)
+    }
+}
+
+/// Counts the items of a shelf for a caller, who comes back. Nothing is decided.
+fn items_for<K: KeyHash + Drop, R: Wait>(
+    caller: Caller,
+    asked: (&Shared<K>, &R, u32),
+) -> (Caller, u64)
+    requires own { caller.table ≡ asked.0.now.table }
+    requires inside { asked.2 < asked.0.now.began.settings.shelves }
+    ensures same { result.0 ≡ caller }
+    ensures agrees { Agrees (start_of K.hash_of asked.entry.0.now.began) caller.past }
+{
+    let (shared, rt, at) = asked;
+    let hold = shared.wait_for_shelf(rt, caller, at);
+    let items = hold.items();
+    (hold.give_back(), items)
+}
+
+/// Tells what a class has for a caller, who comes back. Nothing is decided.
+fn account_for<K: KeyHash + Drop, R: Wait>(
+    caller: Caller,
+    asked: (&Shared<K>, &R, &Class),
+) -> (Caller, Account)
+    requires { caller.table ≡ asked.0.now.table }
+    ensures same { result.0 ≡ caller }
+    ensures within { result.1.out ≤ result.1.pages * chunks_a_page asked.entry.2.now }
+    ensures agrees { Agrees (start_of K.hash_of asked.entry.0.now.began) caller.past }
+{
+    let (shared, rt, class) = asked;
+    let _shelves = shared.shelves();
+    let hold = shared.wait_for_shelf(rt, caller, 0).wait_for_desk(rt);
+    let account = hold.account(*class);
+    (hold.give_desk().give_back(), account)
+}
+
+impl<K: KeyHash + Drop> Shared<K> {
+    /// Counts the items of a shelf as it was when it was held, those among them that are dead and not
+    /// yet dropped. It waits for the shelf. Nothing is decided, no item is walked, and no memory is
+    /// taken.
+    pub fn items<R: Wait>(&self, rt: &R, caller: &mut Caller, shelf: u32) -> u64
+        requires own { caller.old.table ≡ self.now.table }
+        requires shelf { shelf < self.now.began.settings.shelves }
+        ensures same { (caller.new.table ≡ caller.old.table) × (caller.new.past ≡ caller.old.past) }
+        ensures agrees { Agrees (start_of K.hash_of self.now.began) caller.new.past }
+    {
+        replace_with(caller, (self, rt, shelf), items_for)
+    }
+
+    /// Tells of a class how many pages it has, and in how many of its chunks items lie, as the desk was
+    /// when it was held. It waits for the first shelf, and then for the desk. Nothing is decided, and no
+    /// memory is taken.
+    pub fn account<R: Wait>(&self, rt: &R, caller: &mut Caller, class: Class) -> Account
+        requires own { caller.old.table ≡ self.now.table }
+        ensures same { (caller.new.table ≡ caller.old.table) × (caller.new.past ≡ caller.old.past) }
+        ensures within { result.out ≤ result.pages * chunks_a_page class }
+        ensures agrees { Agrees (start_of K.hash_of self.now.began) caller.new.past }
+    {
+        replace_with(caller, (self, rt, &class), account_for)
+    }
+}

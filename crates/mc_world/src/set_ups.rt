@@ -1,0 +1,43 @@
+//! How the stores of tests are set up.
+
+use mc_shelf::Settings;
+
+/// How stores of one shelf, of 64 and of 256 are set up.
+pub(crate) const ONE: Settings = Settings {
+    pages: 64,
+    greatest: Settings::GREATEST,
+    shelves: 1,
+};
+
+pub(crate) const SOME: Settings = Settings {
+    pages: 64,
+    greatest: Settings::GREATEST,
+    shelves: 64,
+};
+
+pub(crate) const MANY: Settings = Settings {
+    pages: 64,
+    greatest: Settings::GREATEST,
+    shelves: 256,
+};
+
+pub(crate) const EACH: [Settings; 3] = [ONE, SOME, MANY];
+
+/// The same of one page.
+pub(crate) const ONE_SMALL: Settings = Settings {
+    pages: 1,
+    greatest: Settings::GREATEST,
+    shelves: 1,
+};
+
+pub(crate) const SOME_SMALL: Settings = Settings {
+    pages: 1,
+    greatest: Settings::GREATEST,
+    shelves: 64,
+};
+
+pub(crate) const MANY_SMALL: Settings = Settings {
+    pages: 1,
+    greatest: Settings::GREATEST,
+    shelves: 256,
+};
