@@ -13,9 +13,9 @@ use Rattle.mc_session.proofs.RunLemmas.{run_more, turn_written, fed-fed, fed-wit
 use Rattle.mc_session.proofs.StreamLemmas.{run_takes_first, run_takes_all}
 use Rattle.mc_workers.specs.Links.{LinkState, grown}
 use Rattle.mc_workers.specs.Guests.{GuestState, welcomed, ends, has_ended}
-use Rattle.mc_workers.specs.Visits.{Does, Visited}
+use Rattle.mc_workers.specs.Visits.{Visited}
 use Rattle.mc_workers.specs.Telling.{TakenTurn, Visits, nothing, visit, texts, turns_of, turn_of}
-use Rattle.mc_workers.specs.Telling.{refused_piece, piece_of, part_of, bytes_given, bytes_taken, AnswerFirst, AnswerAll}
+use Rattle.mc_workers.specs.Telling.{piece_of, part_of, bytes_given, bytes_taken, AnswerFirst, AnswerAll}
 use Rattle.mc_workers.specs.declared.guest.Visit.{Visit}
 use Rattle.mc_workers.specs.declared.guest.Visit.TheVariants.{Wrote, Turned, Read, Later, Served, Broken, Refused}
 use Rattle.mc_workers.proofs.TellingLemmas.{grown_nothing, grown_twice, moved_out, fed_out, texts_append, served_written}
@@ -146,17 +146,6 @@ module _ {S : Type 0} (relations : Relations S) where
         (runs_turn turn.now run tt
         (turn_written any_store turn.now turn.old turn.new tt tt taken (turn_anywhere turn.now turn.old turn.new turn.before turn.after turn.takes)))
 
-    -- of a guest that was refused memory
-    went_refused : (turns : List (TakenTurn relations)) (given taken : List ℕ) (now : ℕ) (old new : GuestState) (before after : S)
-        → new.last ≡ Some Refused → (does : Does relations now Refused old new before after) → Runs turns given taken old.session
-        → Went turns (given ++ refused_piece relations now old new before after does) taken new
-    went_refused turns given taken now old new before after is (inl turn) here =
-        subst (λ given. Went turns given taken new) (sym (append-nil given))
-        (went_off turns given taken new Refused old.session is refl (λ served. absurd (cc served)) here)
-    went_refused turns given taken now old new before after is (inr piece) here =
-        went_off turns (given ++ piece.0.piece) taken new Refused (fed old.session piece.0.piece) is refl
-        (λ served. absurd (cc served)) (runs_more turns given taken piece.0.piece old.session here)
-
     -- a visit more
     went_visit : (turns : List (TakenTurn relations)) (given taken : List ℕ) (now : ℕ) (answer : Visit) (old new : GuestState) (before after : S)
         → (visited : Visited relations now answer old new before after) → Went turns given taken old
@@ -203,9 +192,7 @@ module _ {S : Type 0} (relations : Relations S) where
         went_same turns given taken new (went_off turns given taken new Broken old.session due.last refl (λ served. absurd (cc served)) here)
     went_visit turns given taken now Refused old new before after (inr due) went =
         let here : Runs turns given taken old.session = subst (Runs turns given taken) (sym (went.goes_on due.goes_on)) went.run in
-        subst (λ turns. Went turns (given ++ refused_piece relations now old new before after due.does) (taken ++ []) new) (sym (append-nil turns))
-        (subst (λ taken. Went turns (given ++ refused_piece relations now old new before after due.does) taken new) (sym (append-nil taken))
-        (went_refused turns given taken now old new before after due.last due.does here))
+        went_same turns given taken new (went_off turns given taken new Refused old.session due.last refl (λ served. absurd (cc served)) here)
 
   -- the guest of visits is where they went
   visits_went : (greatest : ℕ) (link : LinkState) (turns : List (TakenTurn relations)) (new : GuestState)
@@ -263,12 +250,6 @@ module _ {S : Type 0} (relations : Relations S) where
       ∙ append_assoc old.session.out (texts relations earlier) (texts relations more)
       ∙ ap (λ l. old.session.out ++ l) (sym (texts_append relations earlier more))
 
-  refused_given : (now : ℕ) (old new : GuestState) (before after : S) → (does : Does relations now Refused old new before after)
-      → new.link.given ≡ grown old.link.given (refused_piece relations now old new before after does)
-  refused_given now old new before after (inl turn) =
-      ap (λ (l : LinkState). l.given) turn.link ∙ sym (grown_nothing old.link.given)
-  refused_given now old new before after (inr piece) = ap (λ (l : LinkState). l.given) piece.0.link
-
   -- what the link shows grows by what one visit read
   visit_given : (now : ℕ) (answer : Visit) (old new : GuestState) (before after : S)
       → (visited : Visited relations now answer old new before after)
@@ -289,7 +270,11 @@ module _ {S : Type 0} (relations : Relations S) where
       ] ∙ sym (grown_nothing old.link.given)
   visit_given now Broken old new before after (inr due) =
       ap (λ (l : LinkState). l.given) due.does.0.link ∙ sym (grown_nothing old.link.given)
-  visit_given now Refused old new before after (inr due) = refused_given now old new before after due.does
+  visit_given now Refused old new before after (inr due) =
+      elim due.does [
+        | inl turn ↦ ap (λ (l : LinkState). l.given) turn.link
+        | inr piece ↦ ap (λ (l : LinkState). l.given) piece.0.link
+      ] ∙ sym (grown_nothing old.link.given)
 
   pub visits_given : (turns : List (TakenTurn relations)) (old new : GuestState) → (visits : Visits relations turns old new)
       → new.link.given ≡ grown old.link.given (bytes_given relations visits)

@@ -86,10 +86,9 @@ module _ (session between : SessionState) (link later : LinkState) (last : Optio
 pub refuses_room : (session between new : SessionState) (link later : LinkState) (last : Option Visit) (old : GuestState) → guest_of session link last ≡ old → IsWaiting old.session
     → between ≡ session → new ≡ closed between → later ≡ link → RefusesPiece old (guest_of new later last)
 refuses_room session between new link later last old is waits same shut stays = subst (λ (g : GuestState). RefusesPiece g (guest_of new later last)) is (record {
-  piece = [];
   waits = subst (λ (g : GuestState). IsWaiting g.session) (sym is) waits;
   session = shut ∙ ap closed same;
-  link = stays ∙ sym (gave_none link link.given refl);
+  link = stays;
 })
 
 reads_so : {S : Type 0} (relations : Relations S) (now : ℕ) (answer : Visit) (old new : GuestState) (before after : S)

@@ -8,9 +8,10 @@ use Rattle.mc_command.specs.declared.step.Steps.{Ghosts as Relations}
 use Rattle.mc_command.specs.declared.reply.Reply.{Reply}
 use Rattle.mc_parse.specs.Units.{ProtocolUnit, Request, Fault, LongLine}
 use Rattle.mc_session.specs.Turns.{Answers, AnswersStep}
-use Rattle.mc_shared.specs.History.{Beginning, Operation}
+use Rattle.mc_shared.specs.History.{Beginning, Operation, Purged}
 use Rattle.mc_shared.specs.Past.{Past}
 use Rattle.mc_shared.specs.Asking.{AskingState, AsksOnce, moment_of, Further, nothing, more, GoesFurther}
+use Rattle.mc_workers.specs.Tending.{Tidied, none, and_one}
 use Rattle.mc_workers.specs.Guests.{GuestState}
 use Rattle.mc_workers.specs.Visits.{Does, Visited, GoesRound, nobody, next}
 use Rattle.mc_workers.specs.declared.guest.Visit.{Visit}
@@ -91,6 +92,14 @@ module _ (may_give : ℕ → Type 0) where
 
   pub goes_same : {K : Type 0} (a b : AskingState K) → b ≡ a → GoesFurther may_give a b
   goes_same a b e = subst (GoesFurther may_give a) (sym e) (goes_none a)
+
+  -- purges are further calls
+  pub goes_tidied : {K : Type 0} (hash_of : K → List ℕ → ℕ) (now : ℕ) → may_give now
+      → (n : ℕ) (old new : AskingState K) → Tidied hash_of now n old new → GoesFurther may_give old new
+  goes_tidied hash_of now gives total old new none = goes_none old
+  goes_tidied hash_of now gives total old new (and_one {n = n} {between = between} shelf tidied asks) =
+      goes_both old between new (goes_tidied hash_of now gives n old between tidied)
+      (goes_once _ (Purged shelf now) between new gives asks)
 
 -- calls at one moment are calls at moments that may be given, where this one is
 module _ (may_give : ℕ → Type 0) (now : ℕ) (gives : may_give now) where

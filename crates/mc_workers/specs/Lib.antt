@@ -3,3 +3,4 @@ pub mod Guests
 pub mod Visits
 pub mod Telling
 pub mod Tending
+pub mod Outcomes

@@ -5,9 +5,9 @@ use Rattle.mc_command.specs.declared.step.Steps.{Ghosts as Relations}
 use Rattle.mc_parse.specs.Units.{ProtocolUnit}
 use Rattle.mc_session.specs.Turns.{SessionState, TakesTurn, turns}
 use Rattle.mc_workers.specs.Guests.{GuestState}
-use Rattle.mc_workers.specs.Visits.{Does, Visited}
+use Rattle.mc_workers.specs.Visits.{Visited}
 use Rattle.mc_workers.specs.declared.guest.Visit.{Visit}
-use Rattle.mc_workers.specs.declared.guest.Visit.TheVariants.{Wrote, Turned, Read, Refused}
+use Rattle.mc_workers.specs.declared.guest.Visit.TheVariants.{Wrote, Turned, Read}
 
 module _ {S : Type 0} (relations : Relations S) where
   -- A turn that a session took at a moment, with a store. Its text is the one that answers it, by the
@@ -49,19 +49,11 @@ module _ {S : Type 0} (relations : Relations S) where
         → (visited : Visited relations now answer old new before after)
         → Visits (turns ++ turns_of now answer old new before after visited) first new
 
-  -- the piece that was read where memory ran out, and none where it ran out over a turn
-  abbrev pub refused_piece : (now : ℕ) (old new : GuestState) (before after : S)
-      → Does relations now Refused old new before after → List ℕ
-  refused_piece now old new before after (inl turn) = []
-  refused_piece now old new before after (inr piece) = piece.0.piece
-
-  -- the bytes that the link gave in a visit: the piece that was read, also where there was no memory
-  -- for it
+  -- the bytes that the link gave in a visit: the piece that was read
   abbrev pub piece_of : (now : ℕ) (answer : Visit) (old new : GuestState) (before after : S)
       → Visited relations now answer old new before after → List ℕ
   piece_of now answer old new before after (inl ended) = []
   piece_of now Read old new before after (inr due) = due.does.0.piece
-  piece_of now Refused old new before after (inr due) = refused_piece now old new before after due.does
   piece_of now answer old new before after (inr due) = []
 
   -- the bytes that the link took in a visit: the part of the output that was written

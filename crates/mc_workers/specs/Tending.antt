@@ -1,8 +1,24 @@
 -- A caller that a worker lends to its guests.
+use Rattle.std.specs.Prelude.{ℕ, zero, ◌+◌, List}
+use Rattle.std.specs.Int.{div_ceil}
 use Rattle.mc_shelf.specs.Stores.{StoreState}
 use Rattle.mc_shared.specs.Shown.{CallerState}
-use Rattle.mc_shared.specs.Asking.{AskingState}
+use Rattle.mc_shared.specs.Asking.{AskingState, AsksOnce}
+use Rattle.mc_shared.specs.History.{Purged, start_of}
 
 -- a caller of a store that began so
 abbrev pub asked_by : {K : Type 0} → StoreState K → CallerState → AskingState K
 asked_by began caller = record { began = began; table = caller.table; past = caller.past }
+
+-- so many shelves of the store were purged at a moment, each by a call of its own
+pub data Tidied {K : Type 0} (hash_of : K → List ℕ → ℕ) (now : ℕ)
+    : ℕ → AskingState K → AskingState K → Type 0 where
+  none : {s : AskingState K} → Tidied hash_of now zero s s
+  and_one : {n : ℕ} {old between new : AskingState K} (shelf : ℕ)
+      → Tidied hash_of now n old between
+      → AsksOnce (start_of hash_of between.began) (Purged shelf now) between new
+      → Tidied hash_of now (n + 1) old new
+
+-- how many shelves are tidied at once, so that all have had their turn after 64 times: one for each 64
+abbrev pub tidied_at_once : (shelves : ℕ) → ℕ
+tidied_at_once shelves = div_ceil shelves 64

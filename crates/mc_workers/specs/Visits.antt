@@ -41,12 +41,11 @@ pub record EndsBroken (old new : GuestState) : Type 0 where
   pub session : new.session ≡ closed old.session
   pub link : new.link ≡ failed old.link
 
--- the link gave a piece, for which there was no memory
+-- there was no memory for a piece, and the link wasn't asked
 pub record RefusesPiece (old new : GuestState) : Type 0 where
-  pub piece : List ℕ
   pub waits : IsWaiting old.session
   pub session : new.session ≡ closed old.session
-  pub link : new.link ≡ gave old.link piece
+  pub link : new.link ≡ old.link
 
 -- what comes of a write, by the answer
 abbrev pub Writes : Visit → (old new : GuestState) → Type 0

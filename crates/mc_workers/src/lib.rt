@@ -1,6 +1,9 @@
 //! Worker loops over links.
 #![tactic(auto)]
 
+mod counting;
+#[cfg(test)]
+mod counting_tests;
 #[cfg(test)]
 mod gate_tests;
 mod guest;
@@ -11,8 +14,11 @@ mod laws;
 mod link;
 mod rounds;
 mod row;
+mod tally;
 mod tap;
 mod tending;
+#[cfg(test)]
+mod tending_tests;
 #[cfg(test)]
 mod tests;
 #[cfg(test)]
@@ -25,4 +31,5 @@ pub use laws::{links_are_answered_what_they_gave, links_take_texts_of_turns, rou
 pub use link::{Got, Link, LinkFault, Took};
 pub use mc_shared::{Gate, NoGate};
 pub use rounds::round;
-pub use worker::{Links, Next, work};
+pub use tally::{NoTally, Outcome, Tally};
+pub use worker::{Links, Next, Worker, work};

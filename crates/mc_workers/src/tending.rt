@@ -4,7 +4,7 @@ ghost use Rattle.mc_command.specs.Commands.{key_of};
 ghost use Rattle.mc_shared.specs.Asking.{AsksOnce, AsksStep, AsksInVain};
 ghost use Rattle.mc_shared.specs.History.{start_of, Purged};
 ghost use Rattle.mc_shared.specs.Steps.{Agrees};
-ghost use Rattle.mc_workers.specs.Tending.{asked_by};
+ghost use Rattle.mc_workers.specs.Tending.{asked_by, tidied_at_once, Tidied};
 
 use mc_command::{Answer, KeyStep, Reply, StepFault, Steps, Unanswered};
 use mc_hop::KeyHash;
@@ -16,6 +16,9 @@ use std::sync::Wait;
 
 /// How many entries of a shelf's index move after a step on a key of it.
 const MOVED: usize = 8;
+
+/// In how many tidyings each shelf has its turn, at most.
+const TIDYINGS: u32 = 64;
 
 /// A caller whose steps are each followed by some growth of the key's shelf, and who tidies shelves
 /// in turn. Contracts see what they see of the caller.
@@ -40,20 +43,20 @@ impl<'a, R: Wait, K: KeyHash + Drop, G: Gate> Model for Tending<'a, R, K, G> {
 }
 
 impl<'a, R: Wait, K: KeyHash + Drop, G: Gate> Tending<'a, R, K, G> {
-    /// Takes a caller of this store.
+    /// Takes a caller of this store, who tidies first the shelf of this number, modulo their number.
     pub fn new(
         rt: &'a R,
         shared: &'a Shared<K>,
         caller: Caller,
         gate: &'a G,
+        first: u32,
     ) -> Tending<'a, R, K, G>
         requires own { caller.table ≡ shared.now.table }
         ensures { result ≡ asked_by shared.now.began caller }
     {
-        let _shelves = shared.shelves();
         Tending {
             asking: Asking::new(rt, shared, caller, gate),
-            shelf: 0,
+            shelf: first % shared.shelves(),
         }
     }
 
@@ -67,8 +70,26 @@ impl<'a, R: Wait, K: KeyHash + Drop, G: Gate> Tending<'a, R, K, G> {
         asking.into_caller()
     }
 
-    /// Drops the dead items of the next shelf in turn.
+    /// Drops the dead items of the next shelf in turn; of more than 64 shelves those of so many that
+    /// 64 calls come to all.
     pub fn tidy(&mut self, now: Moment)
+        ensures { Tidied K.hash_of now (tidied_at_once self.old.began.settings.shelves)
+            self.old self.new }
+    {
+        for _ in 0..self.at_once() {
+            self.tidy_next(now);
+        }
+    }
+
+    /// Tells how many shelves are tidied at once.
+    fn at_once(&self) -> u32
+        ensures { result ≡ tidied_at_once self.now.began.settings.shelves }
+    {
+        self.asking.shelves().div_ceil(TIDYINGS)
+    }
+
+    /// Drops the dead items of the next shelf in turn.
+    fn tidy_next(&mut self, now: Moment)
         ensures { (shelf : ℕ) ×
             AsksOnce (start_of K.hash_of self.old.began) (Purged shelf now) self.old self.new }
     {

@@ -4,8 +4,10 @@ ghost use Rattle.mc_shared.specs.Asking.{GoesFurther, Further};
 ghost use Rattle.mc_shared.specs.History.{start_of};
 ghost use Rattle.mc_shared.specs.Steps.{Agrees};
 
+use crate::counting::Counting;
 use crate::guests::{Guests, WorkEnd};
 use crate::link::Link;
+use crate::tally::{NoTally, Tally};
 use crate::tending::Tending;
 use mc_hop::KeyHash;
 use mc_shared::{Caller, Gate, Shared};
@@ -36,14 +38,69 @@ pub trait Links<L> {
     fn rest(&mut self);
 }
 
-/// Serves links until none comes any more and all sessions have ended: makes rounds of the guests
-/// that are awake, and after each asks for the next link once. A step is followed by the growth of
-/// its key's shelf by 8 entries; where the clock has risen, the dead items of the next shelf in turn
-/// are dropped. The clock is asked once a round, for all of its visits.
-///
-/// The caller comes back under further calls alone, each at a moment that the clock may give, and there
-/// is a legal history that keeps its past. A fault of one link, and one session's want of memory, end
-/// that session alone.
+/// How a worker works beside serving: what it calls, what hears of it, by which clock it goes, and where
+/// it begins to tidy.
+#[derive(Drop)]
+pub struct Worker<'a, G: Gate, T: Tally, C: Clock> {
+    /// Called once in each step, while the step's shelf is held.
+    pub gate: &'a G,
+    /// Hears of each step that was taken, and of how it came out.
+    pub tally: &'a T,
+    pub clock: &'a C,
+    /// The shelf that is tidied first, modulo their number: workers that begin apart don't meet.
+    pub first: u32,
+}
+
+impl<'a, G: Gate, T: Tally, C: Clock> Worker<'a, G, T, C> {
+    /// Serves links until none comes any more and all sessions have ended: makes rounds of the guests
+    /// that are awake, and after each asks for the next link once. A step is followed by the growth of
+    /// its key's shelf by 8 entries; where the clock has risen, the dead items of the next shelf in turn
+    /// are dropped, and of more than 64 shelves those of so many that 64 risings come to all. The clock
+    /// is asked once a round, for all of its visits.
+    ///
+    /// The caller comes back under further calls alone, each at a moment that the clock may give, and
+    /// there is a legal history that keeps its past. A fault of one link, and one session's want of
+    /// memory, end that session alone.
+    pub fn work<R: Wait, K: KeyHash + Drop, L: Link + Drop, Q: Links<L>>(
+        &self,
+        rt: &R,
+        alloc: Global,
+        shared: &Shared<K>,
+        caller: Caller,
+        links: &mut Q,
+    ) -> (Caller, WorkEnd)
+        requires own { caller.table ≡ shared.now.table }
+        ensures same { result.0.table ≡ caller.table }
+        ensures calls { Further (C.may_give self.now.clock.now) caller.past result.0.past }
+        ensures kept { Agrees (start_of K.hash_of shared.now.began) result.0.past }
+    {
+        let tending = Tending::new(rt, shared, caller, self.gate, self.first);
+        let mut counting = Counting::new(tending, self.tally);
+        let mut door = Door {
+            greatest: shared.greatest(),
+            opened: 0,
+        };
+        let mut guests = Guests::new(alloc);
+        let mut end = WorkEnd {
+            served: 0,
+            broken: 0,
+            refused: 0,
+        };
+        let mut before = self.clock.now();
+        for _ in rt.forever() {
+            let now = self.clock.now();
+            make_round(alloc, &mut guests, &mut counting, before, now);
+            guests.settle(&mut end);
+            if let Came::Closed = door.open(alloc, links, &mut guests, &mut end) {
+                return (counting.into_steps().into_caller(), end);
+            }
+            before = now;
+        }
+        unreachable!()
+    }
+}
+
+/// Serves links as a `Worker` does, of whose steps nobody hears, and who tidies the first shelf first.
 pub fn work<R: Wait, K: KeyHash + Drop, L: Link + Drop, Q: Links<L>, G: Gate, C: Clock>(
     rt: &R,
     alloc: Global,
@@ -58,44 +115,29 @@ pub fn work<R: Wait, K: KeyHash + Drop, L: Link + Drop, Q: Links<L>, G: Gate, C:
     ensures calls { Further (C.may_give clock.now) caller.past result.0.past }
     ensures kept { Agrees (start_of K.hash_of shared.now.began) result.0.past }
 {
-    let mut tending = Tending::new(rt, shared, caller, gate);
-    let mut door = Door {
-        greatest: shared.greatest(),
-        opened: 0,
+    let worker = Worker {
+        gate,
+        tally: &NoTally,
+        clock,
+        first: 0,
     };
-    let mut guests = Guests::new(alloc);
-    let mut end = WorkEnd {
-        served: 0,
-        broken: 0,
-        refused: 0,
-    };
-    let mut before = clock.now();
-    for _ in rt.forever() {
-        let now = clock.now();
-        make_round(alloc, &mut guests, &mut tending, before, now);
-        guests.settle(&mut end);
-        if let Came::Closed = door.open(alloc, links, &mut guests, &mut end) {
-            return (tending.into_caller(), end);
-        }
-        before = now;
-    }
-    unreachable!()
+    worker.work(rt, alloc, shared, caller, links)
 }
 
-/// Makes a round of those that are awake, and drops the dead items of one shelf where the clock has
-/// risen, all at one moment.
-fn make_round<R: Wait, K: KeyHash + Drop, L: Link + Drop, G: Gate>(
+/// Makes a round of those that are awake, and drops the dead items of the next shelves where the clock
+/// has risen, all at one moment.
+fn make_round<R: Wait, K: KeyHash + Drop, L: Link + Drop, G: Gate, T: Tally>(
     alloc: Global,
     guests: &mut Guests<L>,
-    tending: &mut Tending<'_, R, K, G>,
+    counting: &mut Counting<'_, Tending<'_, R, K, G>, T>,
     before: Moment,
     now: Moment,
 )
-    ensures { GoesFurther (λ moment. moment ≡ now) tending.old tending.new }
+    ensures { GoesFurther (λ moment. moment ≡ now) counting.old counting.new }
 {
-    guests.visit_all(alloc, tending, now);
+    guests.visit_all(alloc, counting, now);
     if before.seconds() < now.seconds() {
-        tending.tidy(now);
+        counting.tidy(now);
     }
 }
 

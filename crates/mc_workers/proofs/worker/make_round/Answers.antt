@@ -1,6 +1,6 @@
 use Rattle.std.proofs.Common.{◌≡◌, ℕ, refl}
 use Rattle.mc_shared.specs.Asking.{GoesFurther}
-use Rattle.mc_workers.proofs.WorkLemmas.{round_keeps, goes_none, goes_same, goes_both, goes_once}
+use Rattle.mc_workers.proofs.WorkLemmas.{round_keeps, goes_none, goes_same, goes_both, goes_once, goes_tidied}
 use Rattle.mc_workers.proofs.worker.make_round.Goals as goal
 
 -- at that moment
@@ -12,7 +12,7 @@ returns-then-seconds g c =
     goes_both (at c.args.now) _ _ _
     (round_keeps _ c.args.now (GoesFurther (at c.args.now) {K = g.row.K.Denot}) (goes_none (at c.args.now)) (goes_same (at c.args.now))
     (λ a step reply b asks. goes_once (at c.args.now) _ _ a b refl asks) (goes_both (at c.args.now)) _ _ _ _ c.visit_all.ensures.goes)
-    (goes_once (at c.args.now) _ _ _ _ refl c.tidy.ensures.1)
+    (goes_tidied (at c.args.now) g.K.KeyHash.hash_of c.args.now refl _ _ _ c.tidy.ensures)
 
 pub returns-else-seconds : goal.returns-else-seconds
 returns-else-seconds g c =

@@ -1,0 +1,7 @@
+use Rattle.mc_shared.specs.Asking.{GoesFurther}
+use Rattle.mc_workers.proofs.worker.Worker.work.Given as goal
+
+abbrev pub invariant-loop : goal.invariant-loop
+invariant-loop g l =
+    GoesFurther (g.C.Clock.may_give l.fn.self.clock.now)
+    (record { began = l.fn.shared.began; table = l.fn.caller.table; past = l.fn.caller.past }) l.counting

@@ -1,0 +1,133 @@
+//! Steps of which a tally hears.
+
+ghost use Rattle.std.specs.Prelude.{◌≡◌};
+ghost use Rattle.mc_workers.specs.Tending.{tidied_at_once, Tidied};
+
+use crate::tally::{Outcome, Tally};
+use crate::tending::Tending;
+use mc_command::{Answer, KeyStep, Reply, StepFault, Steps, Unanswered};
+use mc_hop::KeyHash;
+use mc_shared::Gate;
+use mc_time::Moment;
+use std::alloc::{AllocError, Global};
+use std::cell::Cell;
+use std::marker::Model;
+use std::sync::Wait;
+
+/// A store that takes steps, with a tally that hears of each which was taken. Contracts see the store.
+#[derive(Drop)]
+pub struct Counting<'a, S: Steps + Drop, T: Tally> {
+    steps: S,
+    tally: &'a T,
+}
+
+impl<'a, S: Steps + Drop, T: Tally> Model for Counting<'a, S, T> {
+    ghost Value = { S };
+
+    ghost coded = { S.code };
+
+    ghost view = { λ c. c.steps };
+}
+
+impl<'a, S: Steps + Drop, T: Tally> Counting<'a, S, T> {
+    /// Has the tally hear of the steps that the store takes from now on.
+    pub fn new(steps: S, tally: &'a T) -> Counting<'a, S, T>
+        ensures { result ≡ steps }
+    {
+        Counting { steps, tally }
+    }
+
+    /// Gives the store back.
+    pub fn into_steps(self) -> S
+        ensures { result ≡ self.entry }
+    {
+        let Counting { steps, .. } = self;
+        steps
+    }
+
+    /// Has the tally hear of a step, if it was taken.
+    fn count(&self, step: &KeyStep<'_>, answer: &Result<Reply, StepFault>) {
+        if let Ok(reply) = answer {
+            self.tally.took(step, Outcome::of(reply));
+        }
+    }
+
+    /// Has the tally hear of a step whose reply was to be told, if it was taken.
+    fn count_told(
+        &self,
+        step: &KeyStep<'_>,
+        told: &Result<(), Unanswered>,
+        noted: Option<Outcome>,
+    ) {
+        if let (Ok(()) | Err(Unanswered::Untold), Some(outcome)) = (told, noted) {
+            self.tally.took(step, outcome);
+        }
+    }
+}
+
+impl<'a, 'b, R: Wait, K: KeyHash + Drop, G: Gate, T: Tally> Counting<'a, Tending<'b, R, K, G>, T> {
+    /// Drops the dead items of the next shelves in turn. The tally doesn't hear of it.
+    pub fn tidy(&mut self, now: Moment)
+        ensures { Tidied K.hash_of now (tidied_at_once self.old.began.settings.shelves)
+            self.old self.new }
+    {
+        self.steps.tidy(now);
+    }
+}
+
+impl<'a, S: Steps + Drop, T: Tally> Steps for Counting<'a, S, T> {
+    ghost took = { S.took };
+
+    ghost spent = { S.spent };
+
+    ghost same = { S.same };
+
+    ghost holds_itself = { S.holds_itself };
+
+    fn step(&mut self, alloc: Global, step: &KeyStep<'_>, now: Moment) -> Result<Reply, StepFault> {
+        let answer = self.steps.step(alloc, step, now);
+        self.count(step, &answer);
+        answer
+    }
+
+    fn step_telling<A: Answer>(
+        &mut self,
+        alloc: Global,
+        step: &KeyStep<'_>,
+        now: Moment,
+        answer: &mut A,
+    ) -> Result<(), Unanswered> {
+        let noted = Cell::new(None);
+        let mut noting = Noting {
+            answer,
+            noted: &noted,
+        };
+        let told = self.steps.step_telling(alloc, step, now, &mut noting);
+        self.count_told(step, &told, noted.get());
+        told
+    }
+}
+
+/// Notes how the step comes out that an answer is to be told, and hands on what it is told.
+#[derive(Drop)]
+struct Noting<'a, A: Answer> {
+    answer: &'a mut A,
+    noted: &'a Cell<Option<Outcome>>,
+}
+
+impl<'a, A: Answer> Answer for Noting<'a, A> {
+    ghost use Rattle.std.specs.Prelude.{◌≡◌};
+
+    ghost told = { λ old reply new. (new.answer.ghost_name ≡ old.answer.ghost_name)
+        × A.told old.answer.now reply new.answer.now };
+
+    fn hit(&mut self, flags: u32, unique: u64, block: &[u8]) -> Result<(), AllocError> {
+        self.noted.set(Some(Outcome::Hit));
+        self.answer.hit(flags, unique, block)
+    }
+
+    fn reply(&mut self, reply: &Reply) -> Result<(), AllocError> {
+        self.noted.set(Some(Outcome::of(reply)));
+        self.answer.reply(reply)
+    }
+}

@@ -1,0 +1,221 @@
+//! What a tally hears.
+
+use crate::counting::Counting;
+use crate::held::{HeldLink, HeldLinks, Seen};
+use crate::tally::{Outcome, Tally};
+use crate::worker::Worker;
+use mc_command::{Answer, KeyStep, Reply, StepFault, Steps, Verb};
+use mc_hop::Fnv;
+use mc_shared::{NoGate, Shared};
+use mc_shelf::{Settings, Store};
+use mc_testing::{Ask, filled, step_of};
+use mc_time::{Fixed, Moment};
+use std::alloc::{AllocError, Global};
+use std::cell::Cell;
+use std::sync::Wait;
+use std::test::*;
+
+/// How stores of one page are set up.
+const SETTINGS: Settings = Settings {
+    pages: 1,
+    greatest: Settings::GREATEST,
+    shelves: 64,
+};
+
+/// What was heard: how often, and last of a key of which length and of which outcome.
+type Hearing = (usize, usize, Option<Outcome>);
+
+/// A tally that keeps what it heard.
+#[derive(Drop)]
+struct Heard {
+    hearing: Cell<Hearing>,
+}
+
+impl Heard {
+    /// Has heard nothing.
+    fn nothing() -> Heard {
+        Heard {
+            hearing: Cell::new((0, 0, None)),
+        }
+    }
+}
+
+impl Tally for Heard {
+    fn took(&self, step: &KeyStep<'_>, outcome: Outcome) {
+        let (times, ..) = self.hearing.get();
+        self.hearing
+            .set((times.saturating_add(1), step.key().len(), Some(outcome)));
+    }
+}
+
+/// Takes what it is told, or refuses it.
+#[derive(Drop)]
+struct Listener {
+    is_deaf: bool,
+}
+
+impl Answer for Listener {
+    ghost told = { λ old reply new. Unit {0} };
+
+    fn hit(&mut self, _flags: u32, _unique: u64, _block: &[u8]) -> Result<(), AllocError> {
+        if self.is_deaf {
+            Err(AllocError)
+        } else {
+            Ok(())
+        }
+    }
+
+    fn reply(&mut self, _reply: &Reply) -> Result<(), AllocError> {
+        if self.is_deaf {
+            Err(AllocError)
+        } else {
+            Ok(())
+        }
+    }
+}
+
+/// How a step is taken: with its reply, or with its reply told, which is taken or refused.
+#[derive(Clone, Copy)]
+enum Way {
+    Answered,
+    Told,
+    Untold,
+}
+
+/// Takes a step, whose key is short enough, at second 1000.
+fn take<S: Steps>(store: &mut S, alloc: Global, key: &[u8], ask: Ask<'_>, way: Way) {
+    if key.len() > 250 {
+        return;
+    }
+    let step = step_of(key, ask);
+    let now = Moment::from_seconds_at_most(1000);
+    let mut listener = Listener {
+        is_deaf: matches!(way, Way::Untold),
+    };
+    match way {
+        Way::Answered => {
+            let _ = store.step(alloc, &step, now);
+        }
+        Way::Told | Way::Untold => {
+            let _ = store.step_telling(alloc, &step, now, &mut listener);
+        }
+    }
+}
+
+/// A key, what is asked of it, and how the step comes out.
+type Row = (&'static [u8], Ask<'static>, Outcome);
+
+const ROWS: [Row; 12] = [
+    (b"a", Ask::Get, Outcome::Miss),
+    (b"a", Ask::Store(Verb::Set, 0, b"x"), Outcome::Stored),
+    (b"a", Ask::Store(Verb::Add, 0, b"y"), Outcome::NotStored),
+    (b"a", Ask::Gat(0), Outcome::Hit),
+    (b"a", Ask::Cas(9, b"y"), Outcome::Exists),
+    (b"bb", Ask::Cas(1, b"y"), Outcome::NotFound),
+    (b"a", Ask::Incr(1), Outcome::NotNumeric),
+    (b"ccc", Ask::Store(Verb::Set, 0, b"7"), Outcome::Stored),
+    (b"ccc", Ask::Incr(4), Outcome::Number),
+    (b"ccc", Ask::Touch(0), Outcome::Touched),
+    (b"ccc", Ask::Delete, Outcome::Deleted),
+    (b"", Ask::Flush(0), Outcome::Flushed),
+];
+
+/// Finds the first step of which a tally doesn't hear once as the row says.
+fn first_unheard(alloc: Global, way: Way) -> Result<Option<usize>, AllocError> {
+    let heard = Heard::nothing();
+    let mut counting = Counting::new(Store::new(alloc, SETTINGS, Fnv)?, &heard);
+    for (at, row) in ROWS.iter().enumerate() {
+        let (key, ask, outcome) = *row;
+        take(&mut counting, alloc, key, ask, way);
+        if heard.hearing.get() != (at.saturating_add(1), key.len(), Some(outcome)) {
+            return Ok(Some(at));
+        }
+    }
+    Ok(None)
+}
+
+#[test]
+fn a_tally_hears_how_each_step_came_out(rt: HostRuntime) -> Result<(), Fail> {
+    for way in [Way::Answered, Way::Told, Way::Untold] {
+        assert_eq!(rt; first_unheard(rt.alloc(), way)?, None);
+    }
+    Ok(())
+}
+
+/// What is heard of a set of a block of so many bytes, where `a` has the one page.
+fn heard_of_set(alloc: Global, length: usize, way: Way) -> Result<Hearing, AllocError> {
+    let (large, block) = (filled(alloc, 600000)?, filled(alloc, length)?);
+    let mut store = Store::new(alloc, SETTINGS, Fnv)?;
+    let set = Ask::Store(Verb::Set, 0, large.as_slice());
+    take(&mut store, alloc, b"a", set, Way::Answered);
+    let heard = Heard::nothing();
+    let mut counting = Counting::new(store, &heard);
+    let set = Ask::Store(Verb::Set, 0, block.as_slice());
+    take(&mut counting, alloc, b"bb", set, way);
+    Ok(heard.hearing.get())
+}
+
+#[test]
+fn a_tally_hears_of_sets_that_store_nothing(rt: HostRuntime) -> Result<(), Fail> {
+    for way in [Way::Answered, Way::Told, Way::Untold] {
+        let no_chunk = heard_of_set(rt.alloc(), 1, way)?;
+        assert_eq!(rt; no_chunk, (1, 2, Some(Outcome::NoChunk)));
+        let too_large = heard_of_set(rt.alloc(), 1048576, way)?;
+        assert_eq!(rt; too_large, (1, 2, Some(Outcome::TooLarge)));
+    }
+    Ok(())
+}
+
+/// What is heard of a set where the unique numbers are spent.
+fn heard_of_none(alloc: Global, way: Way) -> Result<Hearing, AllocError> {
+    let heard = Heard::nothing();
+    let store = Store::starting(alloc, SETTINGS, Fnv, 18446744073709551615)?;
+    let mut counting = Counting::new(store, &heard);
+    take(
+        &mut counting,
+        alloc,
+        b"a",
+        Ask::Store(Verb::Set, 0, b"x"),
+        way,
+    );
+    Ok(heard.hearing.get())
+}
+
+#[test]
+fn a_tally_hears_of_no_step_that_is_not_taken(rt: HostRuntime) -> Result<(), Fail> {
+    for way in [Way::Answered, Way::Told, Way::Untold] {
+        assert_eq!(rt; heard_of_none(rt.alloc(), way)?, (0, 0, None));
+    }
+    Ok(())
+}
+
+/// What is heard of the steps of one link.
+fn heard_of_link<R: Wait>(
+    rt: &R,
+    alloc: Global,
+    input: &[u8],
+    output: &[u8],
+) -> Result<Hearing, AllocError> {
+    let seen = Seen::nothing();
+    let heard = Heard::nothing();
+    let (shared, caller) = Shared::new(alloc, SETTINGS, Fnv)?;
+    let mut links = HeldLinks::one(HeldLink::new(alloc, input, output, &seen));
+    let clock = Fixed(Moment::from_seconds_at_most(1000));
+    let worker = Worker {
+        gate: &NoGate,
+        tally: &heard,
+        clock: &clock,
+        first: 0,
+    };
+    let _ = worker.work(rt, alloc, &shared, caller, &mut links);
+    Ok(heard.hearing.get())
+}
+
+#[test]
+fn a_tally_hears_of_the_steps_of_a_worker(rt: HostRuntime) -> Result<(), Fail> {
+    let input = b"set a 0 0 1\r\nx\r\nget bb a\r\nversion\r\nfoo\r\n".as_slice();
+    let output = b"STORED\r\nVALUE a 0 1\r\nx\r\nEND\r\nVERSION 1.6.0\r\nERROR\r\n".as_slice();
+    let heard = heard_of_link(&rt, rt.alloc(), input, output)?;
+    assert_eq!(rt; heard, (3, 1, Some(Outcome::Hit)));
+    Ok(())
+}
