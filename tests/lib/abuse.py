@@ -12,16 +12,25 @@ MB = 2**20
 # What a client costs the server at most, whatever it sends and doesn't read: a thousand cost at most a thousand times that. It is
 # the input of one command or the output of one turn, a megabyte and a bit, in room that was doubled as it grew.
 ONE = 2 * MB
-# What the server may keep when all have gone: memory that its allocator doesn't give back.
-KEPT = 48 * MB
-# The same where no client held much.
+# What the server may keep where no client held much.
 LITTLE = 8 * MB
+# What it may keep when all have gone: of each of its four workers' memory the C library keeps 10 MB above the last block in use.
+KEPT = 4 * 10 * MB + LITTLE
 # Blocks of this size fill a turn's output.
 LARGE = 1_000_000
 # A well-behaved client is answered so soon, whatever others do.
 ANSWERED = 2
 # So soon the server has given back what a client held that has gone.
 GIVEN_BACK = 5
+
+
+def kept_of(count):
+    """What the server may keep of so many clients that held much at once.
+
+    The C library gives nothing back that lies below the last block in use: that stays for those who come next. A small block that
+    was asked for while they held most may lie there long, as each thread keeps some that were freed. So all that they needed may stay,
+    and a loss shows where such clients come again and again."""
+    return KEPT + count * ONE
 
 
 class Beside(threading.Thread):

@@ -64,11 +64,10 @@ class Row:
         """Where the clock of a plain session stands, and how many pages its store has; None for another row."""
         if self.args[:2] != ["--stdin", "--now"] or self.status or self.wants["stdout"][1] is not None:
             return None
-        if len(self.args) == 3:
-            return int(self.args[2]), PAGES
-        if len(self.args) == 5 and self.args[3] == "-m":
-            return int(self.args[2]), int(self.args[4])
-        return None
+        numbers = dict(zip(self.args[1::2], self.args[2::2]))
+        if len(self.args) % 2 == 0 or not numbers.keys() <= {"--now", "-m", "--shelves"}:
+            return None
+        return int(numbers["--now"]), int(numbers.get("-m", PAGES))
 
     def holds(self, ran):
         """Fails where a run did something else than is wanted."""

@@ -1,7 +1,7 @@
 """Blocks that don't end, and blocks that are passed over as they are too large."""
 import time
 
-from tests.lib.abuse import KEPT, LARGE, LITTLE, MB, ONE, abused, costs, sent_as_far
+from tests.lib.abuse import LARGE, LITTLE, MB, ONE, abused, costs, kept_of, sent_as_far
 from tests.lib.case import ProgramCase
 from tests.lib.peer import clients
 
@@ -13,7 +13,7 @@ class Blocks(ProgramCase):
     def test_blocks_that_do_not_end(self):
         """Many send the half of a block, and then a byte now and then."""
         count, half = 50, LARGE // 2
-        with abused(KEPT) as server, clients(server.port, count) as peers:
+        with abused(kept_of(count)) as server, clients(server.port, count) as peers:
             before = server.memory()
             for peer in peers:
                 peer.send(b"set endless 0 0 %d\r\n" % LARGE + b"x" * half)

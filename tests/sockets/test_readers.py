@@ -2,7 +2,7 @@
 import socket
 import time
 
-from tests.lib.abuse import KEPT, MB, ONE, abused, costs, sent_as_far, store_large
+from tests.lib.abuse import KEPT, MB, ONE, abused, costs, kept_of, sent_as_far, store_large
 from tests.lib.case import ProgramCase
 from tests.lib.compare import same, shown
 from tests.lib.peer import Peer, clients
@@ -17,7 +17,7 @@ class Readers(ProgramCase):
         """100 clients ask for 64 MB of answers each, by large blocks or by small ones, and read nothing for long."""
         count, small = 100, b"s" * 1000
         many = b"get" + b" small" * 60 + b"\r\n", b"VALUE small 0 1000\r\n%s\r\n" % small * 60 + b"END\r\n"
-        with abused(KEPT) as server:
+        with abused(kept_of(count)) as server:
             large = b"get large\r\n", store_large(server.port)
             with Peer(server.port) as peer:
                 peer.asks(b"set small 0 0 1000\r\n%s\r\n" % small, b"STORED\r\n")

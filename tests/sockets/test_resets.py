@@ -2,7 +2,7 @@
 import contextlib
 import random
 
-from tests.lib.abuse import KEPT, LARGE, LITTLE, abused, sent_as_far, store_large
+from tests.lib.abuse import KEPT, LARGE, LITTLE, abused, kept_of, sent_as_far, store_large
 from tests.lib.case import ProgramCase
 from tests.lib.peer import Late, Peer, clients
 
@@ -33,8 +33,8 @@ class Resets(ProgramCase):
                     leave(peer, chance.randrange(5), number)
 
     def test_clients_that_hold_much_again_and_again(self):
-        """Clients that hold a megabyte each come and go again and again, 720 in all: together they leave no more than a few would."""
-        with abused(2 * KEPT) as server:
+        """Clients that hold a megabyte each come and go again and again, 720 in all: they leave no more than those of one time."""
+        with abused(kept_of(60)) as server:
             store_large(server.port)
             for _ in range(12):
                 with clients(server.port, 60, receives=4096) as peers:

@@ -4,7 +4,7 @@ import time
 from tests.lib.case import ProgramCase
 from tests.lib.peer import clients
 from tests.lib.server import StillServer
-from tests.lib.threads import waits, workers
+from tests.lib.threads import loggers, waits, workers
 
 # So long it is watched, in seconds, once it has rested for a moment.
 WATCHED, MOMENT = 2, 0.6
@@ -27,13 +27,15 @@ class Rest(ProgramCase):
             self.asked_once(peers)
 
     def test_how_often_workers_wake(self):
-        """Asked nothing, a worker wakes at most four times a second, with connections open and without."""
+        """Asked nothing, a worker wakes at most four times a second, with connections open and without, and the logger never."""
         with StillServer() as server, clients(server.port, 20) as peers:
             self.asked_once(peers)
-            self.assertEqual(4, len(workers(server)), "workers")
+            self.assertEqual((4, 1), (len(workers(server)), len(loggers(server))), "workers, and loggers")
             time.sleep(MOMENT)
-            before, began = waits(server), time.monotonic()
+            threads, logger = workers(server), loggers(server)
+            before, began = waits(server, threads + logger), time.monotonic()
             time.sleep(WATCHED)
-            after, took = waits(server), time.monotonic() - began
-            for thread in workers(server):
+            after, took = waits(server, threads + logger), time.monotonic() - began
+            self.assertEqual([before[it] for it in logger], [after[it] for it in logger], "how often the logger woke")
+            for thread in threads:
                 self.assertLessEqual(after[thread] - before[thread], 4 * took + 1, f"how often a worker woke in {took:.1f} s")

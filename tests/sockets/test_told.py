@@ -1,4 +1,5 @@
 """With -v each connection is told of when it opens, with its peer, and when it closes, with why; without it nothing is."""
+import collections
 import contextlib
 import socket
 import time
@@ -8,6 +9,7 @@ from tests.lib.case import ProgramCase
 from tests.lib.listening import Listener
 from tests.lib.peer import answers
 from tests.lib.server import HOST, MOMENT, free_port
+from tests.lib.threads import fail_listener
 
 NO_LINGERING = b"\1\0\0\0\0\0\0\0"
 
@@ -71,6 +73,22 @@ class Told(ProgramCase):
         with self.started("-v", "-c", "1") as started, self.connected(), self.connected():
             lines = [started.line() for _ in range(3)]
         self.assertEqual(b"mcserver: connection 2 closed: one more than -c allows\n", lines[2])
+
+    def test_a_listener_that_fails(self):
+        """All connections end, each is told of, and the last line says why the program ends."""
+        count = 20
+        with self.started("-v") as started, contextlib.ExitStack() as links:
+            for _ in range(count):
+                links.enter_context(self.connected()).sendall(b"get a\r\n")
+            for _ in range(count):
+                self.assertRegex(started.line(), b"opened")
+            fail_listener(started.process.pid)
+            status, said = started.end()
+        self.assertEqual(1, status, "status")
+        lines = said.decode().splitlines()
+        self.assertEqual("mcserver: read fault", lines.pop())
+        reasons = collections.Counter(line.partition(" closed: ")[2] for line in lines)
+        self.assertEqual({"the listener failed": count}, reasons)
 
     def test_nothing_without_being_asked(self):
         with self.started() as started:

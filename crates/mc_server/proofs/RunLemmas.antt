@@ -2,6 +2,7 @@
 use Rattle.std.proofs.Common.{◌≡◌, inl, ℕ, List, [], Option, Result, Ok, Err, OnOk}
 use Rattle.std.proofs.Common.{refl, subst}
 use Rattle.mc_hop.specs.declared.hash.Fnv.{Fnv}
+use Rattle.mc_shelf.specs.declared.settings.Settings.{Settings}
 use Rattle.mc_world.specs.Worlds.{WorldState, CanStand}
 use Rattle.mc_world.specs.Serving.{scene, Served, ServedAll, RanShort}
 use Rattle.mc_session.specs.declared.serving.ServeFault.{ServeFault}
@@ -9,25 +10,25 @@ use Rattle.mc_session.specs.declared.serving.ServeFault.TheVariants.{Read, Write
 use Rattle.mc_server.specs.Runs.{hash_of, new_world, InNewWorld, Serves}
 
 -- a new world stands, as a plain world of no connections
-can_stand : (hasher : Fnv) (pages now : ℕ) → CanStand (new_world hasher pages now)
-can_stand hasher pages now = record {
+can_stand : (hasher : Fnv) (settings : Settings) (now : ℕ) → CanStand (new_world hasher settings now)
+can_stand hasher settings now = record {
   plain = record {
-    greatest = 1048576;
-    state = (new_world hasher pages now).state;
+    greatest = settings.greatest;
+    state = (new_world hasher settings now).state;
     now = now;
     connections = [];
   };
   stands = record { greatest = refl; state = refl; now = refl; sessions = tt };
 }
 
-module _ (pages moment : ℕ) (may_give : ℕ → Type 0) (given : may_give moment) (hasher : Fnv) where
+module _ (settings : Settings) (moment : ℕ) (may_give : ℕ → Type 0) (given : may_give moment) (hasher : Fnv) where
   in_new : (How : (old new : WorldState Fnv) → Type 0) (first last : WorldState Fnv)
-      → first ≡ new_world hasher pages moment → How first last → InNewWorld pages may_give How
+      → first ≡ new_world hasher settings moment → How first last → InNewWorld settings may_give How
   in_new How first last is_new how = record {
     moment = moment;
     given = given;
     hasher = hasher;
-    stands = can_stand hasher pages moment;
+    stands = can_stand hasher settings moment;
     last = last;
     how = subst (λ (old : WorldState Fnv). How old last) is_new how;
   }
@@ -35,11 +36,11 @@ module _ (pages moment : ℕ) (may_give : ℕ → Type 0) (given : may_give mome
   module _ (r r' w w' : Option (List ℕ)) where
     -- the new world was served, by what serve_one tells of each end
     pub serves : (first last : WorldState Fnv) (result : Result (Unit {0}) ServeFault)
-        → first ≡ new_world hasher pages moment
+        → first ≡ new_world hasher settings moment
         → OnOk result (ServedAll hash_of may_give (scene first r w) (scene last r' w'))
         → ((result ≡ Err NoMemory → ⊥) → Served hash_of may_give (scene first r w) (scene last r' w'))
         → (result ≡ Err NoMemory → RanShort hash_of may_give (scene first r w) (scene last r' w'))
-        → Serves pages may_give r r' w w' result
+        → Serves settings may_give r r' w w' result
     serves first last (Ok x) is_new all served memory =
         in_new (λ old new. ServedAll hash_of may_give (scene old r w) (scene new r' w')) first last is_new all
     serves first last (Err Read) is_new all served memory =
@@ -50,12 +51,12 @@ module _ (pages moment : ℕ) (may_give : ℕ → Type 0) (given : may_give mome
         in_new (λ old new. RanShort hash_of may_give (scene old r w) (scene new r' w')) first last is_new (memory refl)
 
   -- no memory was there for a world, and nothing was read or written
-  pub not_begun : (r w : Option (List ℕ)) → Serves pages may_give r r w w (Err NoMemory)
+  pub not_begun : (r w : Option (List ℕ)) → Serves settings may_give r r w w (Err NoMemory)
   not_begun r w = record {
     moment = moment;
     given = given;
     hasher = hasher;
-    stands = can_stand hasher pages moment;
-    last = new_world hasher pages moment;
+    stands = can_stand hasher settings moment;
+    last = new_world hasher settings moment;
     how = inl refl;
   }

@@ -1,9 +1,11 @@
 -- What the shell is told of an end of the program, and what is said on standard error.
-use Rattle.std.specs.Prelude.{◌≡◌, ℕ, List, Ok, Err, codes}
+use Rattle.std.specs.Prelude.{◌≡◌, ◌⊎◌, ℕ, List, Option, Some, None, Ok, Err, codes}
 use Rattle.std.specs.declared.net.ip_addr.IpAddr.{IpAddr}
 use Rattle.mc_session.specs.declared.serving.ServeFault.TheVariants as fault
 use Rattle.mc_server.specs.declared.end.Obstacle.{Obstacle}
 use Rattle.mc_server.specs.declared.end.Obstacle.TheVariants.{Taken, NotAllowed, NotHere, NoDescriptor, Other}
+use Rattle.mc_server.specs.declared.end.Refusal.{Refusal}
+use Rattle.mc_server.specs.declared.options.ScrapePlace.{ScrapePlace}
 use Rattle.mc_server.specs.declared.end.End.{End}
 use Rattle.mc_server.specs.declared.end.End.TheVariants as end
 
@@ -13,6 +15,7 @@ status_of (end.Served (Ok _)) = 0
 status_of (end.Served (Err _)) = 1
 status_of (end.CannotListen _) = 1
 status_of end.BadCommandLine = 2
+status_of end.BadShelves = 2
 status_of end.NotText = 2
 status_of end.Shown = 0
 status_of end.NotShown = 1
@@ -27,6 +30,7 @@ text_of (end.Served (Err fault.Write)) = codes "mcserver: write fault"
 text_of (end.Served (Err fault.NoMemory)) = codes "mcserver: out of memory"
 text_of (end.CannotListen _) = codes "mcserver: cannot listen"
 text_of end.BadCommandLine = codes ""
+text_of end.BadShelves = codes "mcserver: shelves must be a power of two"
 text_of end.NotText = codes "error: invalid UTF-8 was detected in one or more arguments"
 text_of end.Shown = codes ""
 text_of end.NotShown = codes "mcserver: write fault"
@@ -46,10 +50,25 @@ IsUnnamed NoDescriptor = Unit {0}
 IsUnnamed Other = Unit {0}
 IsUnnamed _ = ⊥
 
--- the ends of a program that was to listen there: it can't, and names this address and port, memory ran
--- out before the first connection, or the listener failed
-abbrev pub EndsListening : IpAddr → (port : ℕ) → End → Type 0
-EndsListening address port (end.CannotListen it) = (it.address ≡ address) × (it.port ≡ port)
-EndsListening address port end.NoMemory = Unit {0}
-EndsListening address port (end.Served (Err fault.Read)) = Unit {0}
-EndsListening address port _ = ⊥
+-- a refusal names this address and port
+abbrev pub Names : IpAddr → (port : ℕ) → Refusal → Type 0
+Names address port it = (it.address ≡ address) × (it.port ≡ port)
+
+-- a refusal names the place where scrapes were to be answered
+abbrev pub NamesScrapes : Option ScrapePlace → Refusal → Type 0
+NamesScrapes None it = ⊥
+NamesScrapes (Some place) it = Names place.address place.port it
+
+-- the ends of a program that was to answer scrapes there and can't: it names the place, or memory ran out
+abbrev pub EndsWithoutDoor : Option ScrapePlace → End → Type 0
+EndsWithoutDoor scrapes (end.CannotListen it) = NamesScrapes scrapes it
+EndsWithoutDoor scrapes end.NoMemory = Unit {0}
+EndsWithoutDoor scrapes _ = ⊥
+
+-- the ends of a program that was to listen there, and to answer scrapes there: it can't, and names the one
+-- place or the other, memory ran out before the first connection, or the listener failed
+abbrev pub EndsListening : IpAddr → (port : ℕ) → Option ScrapePlace → End → Type 0
+EndsListening address port scrapes (end.CannotListen it) = Names address port it ⊎ NamesScrapes scrapes it
+EndsListening address port scrapes end.NoMemory = Unit {0}
+EndsListening address port scrapes (end.Served (Err fault.Read)) = Unit {0}
+EndsListening address port scrapes _ = ⊥

@@ -4,7 +4,7 @@ use Rattle.mc_hop.specs.Hash.{fnv}
 use Rattle.mc_command.specs.Plain.{opening}
 use Rattle.mc_world.specs.Worlds.{WorldState, CanStand}
 use Rattle.mc_world.specs.Serving.{scene, Served, ServedAll, RanShort}
-use Rattle.mc_shelf.specs.declared.store.Settings.{Settings}
+use Rattle.mc_shelf.specs.declared.settings.Settings.{Settings}
 use Rattle.mc_hop.specs.declared.hash.Fnv.{Fnv}
 use Rattle.mc_session.specs.declared.serving.ServeFault.{ServeFault}
 use Rattle.mc_session.specs.declared.serving.ServeFault.TheVariants as fault
@@ -15,16 +15,12 @@ use Rattle.mc_server.specs.declared.end.End.TheVariants as end
 abbrev pub hash_of : Fnv → List ℕ → ℕ
 hash_of hasher key = fnv key
 
--- how the store is set up: so many pages, items of at most a page, 64 shelves
-abbrev pub set_up : (pages : ℕ) → Settings
-set_up pages = record { pages = pages; greatest = 1048576; shelves = 64 }
-
--- a world of no items and no sessions, whose store may have so many pages
-abbrev pub new_world : Fnv → (pages now : ℕ) → WorldState Fnv
-new_world hasher pages now = record {
-  settings = set_up pages;
+-- a world of no items and no sessions, whose store is set up so
+abbrev pub new_world : Fnv → Settings → (now : ℕ) → WorldState Fnv
+new_world hasher settings now = record {
+  settings = settings;
   hasher = hasher;
-  state = opening pages 1048576;
+  state = opening settings.pages settings.greatest;
   moment = now;
   sessions = [];
 }
@@ -39,27 +35,27 @@ moments (Some moment) system now = now ≡ moment
 moments None system now = system now
 
 -- The world was new at a moment of the clock, and was served so.
-pub record InNewWorld (pages : ℕ) (may_give : ℕ → Type 0)
+pub record InNewWorld (settings : Settings) (may_give : ℕ → Type 0)
     (How : (old new : WorldState Fnv) → Type 0) : Type 0 where
   pub moment : ℕ
   pub given : may_give moment
   pub hasher : Fnv
-  pub stands : CanStand (new_world hasher pages moment)
+  pub stands : CanStand (new_world hasher settings moment)
   pub last : WorldState Fnv
-  pub how : How (new_world hasher pages moment) last
+  pub how : How (new_world hasher settings moment) last
 
--- So many pages are to be used and the clock may give these moments; what the reader had left, and
--- what the writer held. Keys are hashed by FNV-1a, and there are 64 shelves.
-module _ (pages : ℕ) (may_give : ℕ → Type 0) (r r' w w' : Option (List ℕ)) where
+-- The store is to be set up so, and the clock may give these moments; what the reader had left, and
+-- what the writer held. Keys are hashed by FNV-1a.
+module _ (settings : Settings) (may_give : ℕ → Type 0) (r r' w w' : Option (List ℕ)) where
   -- one session of a new world was served, by how it ended
   abbrev pub Serves : Result (Unit {0}) ServeFault → Type 0
-  Serves (Ok _) = InNewWorld pages may_give (λ old new.
+  Serves (Ok _) = InNewWorld settings may_give (λ old new.
       ServedAll hash_of may_give (scene old r w) (scene new r' w'))
-  Serves (Err fault.Read) = InNewWorld pages may_give (λ old new.
+  Serves (Err fault.Read) = InNewWorld settings may_give (λ old new.
       Served hash_of may_give (scene old r w) (scene new r' w'))
-  Serves (Err fault.Write) = InNewWorld pages may_give (λ old new.
+  Serves (Err fault.Write) = InNewWorld settings may_give (λ old new.
       Served hash_of may_give (scene old r w) (scene new r' w'))
-  Serves (Err fault.NoMemory) = InNewWorld pages may_give (λ old new.
+  Serves (Err fault.NoMemory) = InNewWorld settings may_give (λ old new.
       RanShort hash_of may_give (scene old r w) (scene new r' w'))
 
   -- the program ended with a session that was served so

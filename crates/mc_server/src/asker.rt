@@ -4,8 +4,9 @@ ghost use Rattle.std.specs.Prelude.{◌≡◌};
 use crate::links::SocketLinks;
 use mc_hop::Fnv;
 use mc_shared::{Caller, Shared};
+use mc_slab::{Account, Class};
 use mc_time::Clock;
-use mc_workers::{NoGate, work};
+use mc_workers::{NoGate, Tally, Worker};
 use std::alloc::Global;
 use std::marker::Model;
 use std::sync::Wait;
@@ -44,15 +45,52 @@ impl<'a> Asker<'a> {
         }
     }
 
-    /// Serves links until none comes any more and all sessions have ended.
-    pub fn work<R: Wait + time::Clock, C: Clock>(
+    /// Tells how many shelves the store has.
+    pub fn shelves(&self) -> u32 {
+        self.shared.shelves()
+    }
+
+    /// Counts the items of all shelves, of which it holds one after another.
+    pub fn items<R: Wait>(&mut self, rt: &R) -> u64 {
+        let mut items = 0u64;
+        for shelf in 0..self.shelves() {
+            items = items.saturating_add(self.items_of(rt, shelf));
+        }
+        items
+    }
+
+    /// Counts the items of a shelf. One that isn't there has none.
+    fn items_of<R: Wait>(&mut self, rt: &R, shelf: u32) -> u64 {
+        if shelf < self.shared.shelves() {
+            self.shared.items(rt, &mut self.caller, shelf)
+        } else {
+            0
+        }
+    }
+
+    /// Tells how many pages a class of chunks has, and in how many of its chunks items lie.
+    pub fn account<R: Wait>(&mut self, rt: &R, class: Class) -> Account {
+        self.shared.account(rt, &mut self.caller, class)
+    }
+
+    /// Serves links until none comes any more and all sessions have ended. The tally hears of each step, and
+    /// the shelf of the number `first` is tidied first.
+    pub fn work<R: Wait + time::Clock, T: Tally, C: Clock>(
         self,
         rt: &R,
         alloc: Global,
         links: &mut SocketLinks<'_, R>,
+        tally: &T,
         clock: &C,
+        first: u32,
     ) {
         let Asker { shared, caller } = self;
-        let _ = work(rt, alloc, shared, caller, links, &NoGate, clock);
+        let worker = Worker {
+            gate: &NoGate,
+            tally,
+            clock,
+            first,
+        };
+        let _ = worker.work(rt, alloc, shared, caller, links);
     }
 }

@@ -2,10 +2,12 @@
 ghost use Rattle.std.specs.Io.{ReadsAtMost, WritesAtMost};
 
 use crate::connection::{Connection, Parting};
+use crate::metrics::{Counted, Counts};
 use std::alloc::Global;
 use std::cell::Cell;
 use std::io::{self, ErrorKind, IoSlice, Read, Write};
 use std::rc::Rc;
+use std::sync::Arc;
 
 /// How many bytes are gathered at most before they are sent.
 const GATHERED: usize = 65536;
@@ -63,22 +65,26 @@ pub struct Channel {
     readiness: Rc<Cell<Readiness>>,
     /// How many bytes all channels of the worker moved.
     moved: Rc<Cell<usize>>,
+    /// What the worker counts.
+    counts: Arc<Counts>,
     gathered: Vec<u8>,
 }
 
 impl Channel {
-    /// Makes a channel of a connection that doesn't block, which adds what it moves to `moved`. It takes
-    /// no memory.
+    /// Makes a channel of a connection that doesn't block, which adds what it moves to `moved`, and to
+    /// what is counted. It takes no memory.
     pub fn new(
         alloc: Global,
         connection: Connection,
         readiness: Rc<Cell<Readiness>>,
         moved: Rc<Cell<usize>>,
+        counts: Arc<Counts>,
     ) -> Channel {
         Channel {
             connection,
             readiness,
             moved,
+            counts,
             gathered: Vec::new(alloc),
         }
     }
@@ -124,7 +130,7 @@ impl Channel {
                 Ok(0)
             }
             Ok(count) => {
-                self.count(count);
+                self.count(Counted::Received, count);
                 // where the other end has closed, its last bytes and the end came as one event
                 if count < wanted && !known.is_final && !known.is_marked {
                     self.readiness.set(Readiness {
@@ -196,7 +202,7 @@ impl Channel {
         };
         match sent {
             Ok(count) => {
-                self.count(count);
+                self.count(Counted::Sent, count);
                 if count < before.saturating_add(bytes.len()) {
                     self.readiness.set(Readiness {
                         writes: false,
@@ -222,8 +228,9 @@ impl Channel {
     }
 
     /// Counts bytes that were moved.
-    fn count(&self, bytes: usize) {
+    fn count(&self, counted: Counted, bytes: usize) {
         self.moved.set(self.moved.get().saturating_add(bytes));
+        self.counts.add(counted, bytes as u64);
     }
 
     /// Drops a front of what is gathered, which was sent.

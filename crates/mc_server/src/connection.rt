@@ -1,11 +1,14 @@
 //! Connections, which are counted while they are open, and told of where that is asked for.
 
+use crate::lines::Line;
+use crate::logger::Log;
 use mio::net::TcpStream;
 use std::alloc::{AllocError, Global};
-use std::io::{Stderr, Write};
+use std::array;
+use std::io::Write;
 use std::net::SocketAddr;
 use std::sync::Arc;
-use std::sync::atomic::{AtomicU32, Ordering};
+use std::sync::atomic::{AtomicU32, AtomicU64, Ordering};
 
 /// What is said to a connection where there are as many as there may be.
 const TOO_MANY: &[u8] = b"ERROR Too many open connections\r\n";
@@ -31,9 +34,22 @@ pub enum Parting {
     ListenerFailed,
 }
 
+/// How many reasons there are for which a connection is closed.
+pub const PARTINGS: usize = 9;
+
 impl Parting {
+    ghost use Rattle.std.specs.Prelude.{◌≡◌};
+    ghost use Rattle.mc_server.specs.Counting.{parting_place};
+
+    /// Gives its place among all.
+    pub fn place(self) -> usize
+        ensures { result ≡ parting_place self }
+    {
+        self as usize
+    }
+
     /// Gives the words for it.
-    fn text(self) -> &'static str {
+    pub fn text(self) -> &'static str {
         match self {
             Parting::OneTooMany => "one more than -c allows",
             Parting::NoDescriptor => "no descriptor is left",
@@ -54,36 +70,67 @@ pub struct Crowd {
     /// How many may be open at once.
     most: u32,
     open: AtomicU32,
+    /// How many were accepted.
+    accepted: AtomicU64,
+    /// How many were closed for each reason.
+    closed: [AtomicU64; PARTINGS],
     /// Where each is told of; none where that isn't asked for.
-    told: Option<Stderr>,
+    told: Option<Arc<Log>>,
 }
 
 impl Crowd {
     /// Has no connections yet. The one error is a refused allocation.
-    pub fn new(alloc: Global, most: u32, told: Option<Stderr>) -> Result<Arc<Crowd>, AllocError> {
+    pub fn new(alloc: Global, most: u32, told: Option<Arc<Log>>) -> Result<Arc<Crowd>, AllocError> {
         let crowd = Crowd {
             most,
             open: AtomicU32::new(0),
+            accepted: AtomicU64::new(0),
+            closed: array::from_fn(|_at| AtomicU64::new(0)),
             told,
         };
         Arc::new(alloc, crowd).map_err(|_| AllocError)
     }
 
+    /// Says how many may be open at once.
+    pub fn most(&self) -> u32 {
+        self.most
+    }
+
+    /// Says how many are open.
+    pub fn open(&self) -> u32 {
+        self.open.load(Ordering::SeqCst)
+    }
+
+    /// Says how many were accepted.
+    pub fn accepted(&self) -> u64 {
+        self.accepted.load(Ordering::SeqCst)
+    }
+
+    /// Says how many were closed for the reason at this place among all.
+    pub fn closed_at(&self, place: usize) -> u64 {
+        match self.closed.get(place) {
+            Some(count) => count.load(Ordering::SeqCst),
+            None => 0,
+        }
+    }
+
     /// Counts a connection, and says whether there were as many as there may be.
     fn enter(&self, number: u64, peer: SocketAddr) -> bool {
-        if let Some(stderr) = self.told {
-            // where standard error is closed it serves all the same
-            let _ = eprintln!(stderr; "mcserver: connection {number} from {peer} opened");
+        if let Some(log) = &self.told {
+            log.say(Line::Opened { number, peer });
         }
+        self.accepted.fetch_add(1, Ordering::SeqCst);
         self.open.fetch_add(1, Ordering::SeqCst) >= self.most
     }
 
     /// Counts a connection no more, which was closed for this.
     fn leave(&self, number: u64, parting: Parting) {
         self.open.fetch_sub(1, Ordering::SeqCst);
-        if let Some(stderr) = self.told {
-            let why = parting.text();
-            let _ = eprintln!(stderr; "mcserver: connection {number} closed: {why}");
+        if let Some(count) = self.closed.get(parting.place()) {
+            count.fetch_add(1, Ordering::SeqCst);
+        }
+        if let Some(log) = &self.told {
+            log.say(Line::Closed { number, parting });
         }
     }
 }

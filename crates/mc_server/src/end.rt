@@ -19,6 +19,8 @@ pub enum End {
     CannotListen(Refusal),
     /// The command line is bad, and `clap` has said why.
     BadCommandLine,
+    /// The number of shelves that the command line asks for is no power of two.
+    BadShelves,
     /// A word of the command line isn't text.
     NotText,
     /// Help or the version was asked for, and is written.
@@ -173,6 +175,7 @@ impl End {
             End::Shown => (0, ""),
             End::CannotListen(_) => (1, "mcserver: cannot listen"),
             End::BadCommandLine => (2, ""),
+            End::BadShelves => (2, "mcserver: shelves must be a power of two"),
             End::NotText => (
                 2,
                 "error: invalid UTF-8 was detected in one or more arguments",

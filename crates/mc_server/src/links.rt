@@ -5,6 +5,7 @@ use crate::channel::{Channel, Readiness};
 use crate::connection::{Connection, Parting};
 use crate::idle::Watch;
 use crate::link::SocketLink;
+use crate::metrics::Counts;
 use crate::place::Place;
 use crate::yard::Yard;
 use mc_workers::{Links, Next};
@@ -13,7 +14,7 @@ use std::alloc::Global;
 use std::cell::{Cell, RefCell};
 use std::collections::VecDeque;
 use std::rc::Rc;
-use std::sync::Wait;
+use std::sync::{Arc, Wait};
 use std::time::{Clock, Duration, Instant};
 
 /// The token of a worker's waker. That of a link is its place and 1 more.
@@ -86,10 +87,11 @@ pub struct SocketLinks<'a, R: Wait + Clock> {
     rounds: u32,
     /// Looks for connections that are idle; none where they may be for ever.
     watch: Option<Watch>,
+    counts: Arc<Counts>,
 }
 
 impl<'a, R: Wait + Clock> SocketLinks<'a, R> {
-    /// Has no links yet. It takes no memory.
+    /// Has no links yet. What they move is counted. It takes no memory.
     pub fn new(
         rt: &'a R,
         alloc: Global,
@@ -97,6 +99,7 @@ impl<'a, R: Wait + Clock> SocketLinks<'a, R> {
         share: Share,
         poll: Poll,
         events: Events,
+        counts: Arc<Counts>,
     ) -> SocketLinks<'a, R> {
         SocketLinks {
             rt,
@@ -111,6 +114,7 @@ impl<'a, R: Wait + Clock> SocketLinks<'a, R> {
             given: 0,
             rounds: 0,
             watch: None,
+            counts,
         }
     }
 
@@ -187,6 +191,7 @@ impl<'a, R: Wait + Clock> SocketLinks<'a, R> {
         // an answer is sent at once; where that can't be set it comes later
         let _ = connection.stream.set_nodelay(true);
         let readiness = Rc::new(self.alloc, Cell::new(Readiness::NEW)).ok()?;
+        let counts = self.counts.clone().ok()?;
         let Common { yard, moved } = self.shared()?;
         let at = self.settle(&yard, readiness.clone().ok()?)?;
         let all = Interest::READABLE | Interest::WRITABLE | Interest::PRIORITY;
@@ -196,7 +201,7 @@ impl<'a, R: Wait + Clock> SocketLinks<'a, R> {
         if registered.is_ok() {
             connection.note(Parting::SessionOver);
         }
-        let channel = Channel::new(self.alloc, connection, readiness, moved);
+        let channel = Channel::new(self.alloc, connection, readiness, moved, counts);
         let link = SocketLink::new(channel, at, yard);
         registered.ok()?;
         self.given = self.given.wrapping_add(1);

@@ -1,5 +1,5 @@
 //! Serves connections by workers in threads.
-ghost use Rattle.std.specs.Prelude.{◌≡◌, ◌≤◌};
+ghost use Rattle.std.specs.Prelude.{◌≡◌};
 ghost use Rattle.mc_server.specs.Ends.{EndsListening};
 
 use crate::accepting::accept_all;
@@ -9,9 +9,12 @@ use crate::clock::AskedClock;
 use crate::connection::Crowd;
 use crate::descriptors::allowed;
 use crate::end::{End, Obstacle, Refusal};
+use crate::full::Refusals;
+use crate::heard::Heard;
 use crate::links::{EVENTS, SocketLinks, WAKER};
+use crate::logger::{Log, Notice, write_lines};
+use crate::metrics::{Counts, Door, LONGEST, Observer, Teller, opened};
 use crate::options::Options;
-use crate::serving::settings_of;
 use mc_hop::Fnv;
 use mc_session::ServeFault;
 use mc_shared::Shared;
@@ -23,6 +26,7 @@ use std::io::{self, Stderr, Write};
 use std::net::{Net, SocketAddr, TcpListener};
 use std::sync::{Arc, Wait};
 use std::thread::{Builder, Threads};
+use std::time::Instant;
 use std::{thread, time};
 
 /// What a worker has of the system.
@@ -33,35 +37,37 @@ struct Post {
     events: Events,
     /// After how many seconds it closes connections that are idle; with 0 never.
     idle_timeout: u32,
+    /// The shelf that its worker tidies first.
+    first: u32,
+    /// What its links count, and what its steps do.
+    moved: Arc<Counts>,
+    counts: Arc<Counts>,
 }
 
-/// The workers' posts, and where connections wait for them, in the same order.
+/// The workers' posts, where connections wait for them, and what they count, in the same order.
 #[derive(Drop)]
 struct Posts {
     posts: Vec<Post>,
     inboxes: Vec<Inbox>,
+    counts: Vec<Arc<Counts>>,
 }
 
-/// Where it listens, and whom it serves there.
+/// Where it listens, whom it serves there, and who tells of it.
 #[derive(Drop)]
-struct Opening {
+struct Opening<'a> {
     listener: TcpListener,
     crowd: Arc<Crowd>,
     posts: Vec<Post>,
     notice: Notice,
+    arrivals: &'a Arrivals,
+    log: &'a Log,
 }
 
 /// How large a piece of memory is for which the system isn't asked alone any more.
 const LARGE: usize = 5_242_880;
 
-/// What it says of itself when it serves.
-#[derive(Clone, Copy, Drop)]
-struct Notice {
-    stderr: Stderr,
-    options: Options,
-    /// How many descriptors it may have, where the system tells.
-    descriptors: Option<u64>,
-}
+/// The name of the thread that writes to standard error.
+const LOGGER: &str = "logger";
 
 /// What is wanting to begin.
 #[derive(Debug, Drop)]
@@ -88,18 +94,22 @@ impl From<AllocError> for Wanting {
 }
 
 /// Listens at the address and the port of the options, and serves the connections, so many at once, by so
-/// many workers over one store, by the clock that is asked for, until the listener fails; or ends at once
-/// where it can't listen there, or memory runs out.
+/// many workers over one store, by the clock that is asked for, until the listener fails; where scrapes are
+/// to be answered it does that, too. It ends at once where it can't listen at one of both, or memory runs
+/// out.
 pub fn listen<R, S>(rt: &R, stderr: Stderr, options: Options, clock: &AskedClock<S>) -> End
 where
     R: Net + Files + AllocGlobal + Wait + Threads + time::Clock + Sync,
     S: Clock + Sync,
-    requires pages { 1 ≤ options.pages × options.pages ≤ 65536 }
-    requires clock { clock.now.asked ≡ options.now }
-    ensures { EndsListening options.address options.port result }
+    requires { clock.now.asked ≡ options.now }
+    ensures { EndsListening options.address options.port options.scrapes result }
 {
     let Options { address, port, .. } = options;
-    match begin(rt, stderr, options, clock) {
+    let door = match opened(rt, rt.alloc(), options.scrapes) {
+        Ok(door) => door,
+        Err(end) => return end,
+    };
+    match begin(rt, stderr, options, door, clock) {
         Ok(()) => End::Served(Err(ServeFault::Read)),
         Err(Wanting::Listener(why)) => End::CannotListen(Refusal { address, port, why }),
         Err(Wanting::Memory) => End::NoMemory,
@@ -108,38 +118,86 @@ where
 
 /// Makes the listener, the store and the workers' posts, and serves until the listener fails; or says
 /// what was wanting.
-fn begin<R, C>(rt: &R, stderr: Stderr, options: Options, clock: &C) -> Result<(), Wanting>
+fn begin<R, C>(
+    rt: &R,
+    stderr: Stderr,
+    options: Options,
+    door: Option<Door>,
+    clock: &C,
+) -> Result<(), Wanting>
 where
     R: Net + Files + AllocGlobal + Wait + Threads + time::Clock + Sync,
     C: Clock + Sync,
-    requires { 1 ≤ options.pages × options.pages ≤ 65536 }
 {
     let alloc = rt.alloc();
     keep_memory(alloc, stderr);
-    let address = SocketAddr::from((options.address, options.port));
-    let listener = bound(rt, address)?;
-    let (shared, caller) = Shared::new(alloc, settings_of(options.pages), Fnv)?;
-    let Posts { posts, inboxes } = make_posts(rt, alloc, options)?;
+    let listener = bound(rt, SocketAddr::from((options.address, options.port)))?;
+    let (shared, caller) = Shared::new(alloc, options.settings, Fnv)?;
+    let Posts {
+        posts,
+        inboxes,
+        counts,
+    } = make_posts(rt, alloc, options)?;
     let arrivals = Arrivals::new(inboxes);
     look_for_descriptors(&listener)?;
-    let told = if options.verbose { Some(stderr) } else { None };
+    let log = Log::new(alloc, options.verbose)?;
+    let crowd = crowd_of(alloc, options, &log)?;
+    let mut asker = Asker::new(&shared, caller);
+    let observer = Observer {
+        asker: asker.another(),
+        crowd: crowd.clone().map_err(|_| AllocError)?,
+        counts,
+        pages: options.settings.pages,
+        since: Instant::now(rt).ok(),
+    };
+    let teller = teller_of(alloc, door, observer)?;
     let opening = Opening {
         listener,
-        crowd: Crowd::new(alloc, options.connections, told)?,
+        crowd,
         posts,
         notice: Notice {
             stderr,
             options,
             descriptors: allowed(rt),
         },
+        arrivals: &arrivals,
+        log: &log,
     };
-    let asker = Asker::new(&shared, caller);
-    serve_by(rt, opening, &arrivals, asker, clock)
+    serve_by(rt, opening, teller, asker, clock)
 }
 
-/// Lets the C library keep memory that is given back, up to about twice as many bytes as `LARGE` for each worker, so that a
-/// large block's isn't asked of the system, page by page, for each request. It goes by the largest piece that the
-/// system gave alone and that was given back: so one is made and given back, of which no page is touched.
+/// Has no connections yet, of which the log is told where that is asked for. The one error is a refused
+/// allocation.
+fn crowd_of(alloc: Global, options: Options, log: &Arc<Log>) -> Result<Arc<Crowd>, AllocError> {
+    let told = if options.verbose {
+        Some(log.clone().map_err(|_| AllocError)?)
+    } else {
+        None
+    };
+    Crowd::new(alloc, options.connections, told)
+}
+
+/// Makes who answers scrapes that come in at the door, if there is one. The one error is a refused
+/// allocation.
+fn teller_of<'a>(
+    alloc: Global,
+    door: Option<Door>,
+    observer: Observer<'a>,
+) -> Result<Option<Teller<'a>>, AllocError> {
+    match door {
+        Some(door) => Ok(Some(Teller {
+            door,
+            observer,
+            buffer: vec![in alloc; 0u8; LONGEST]?,
+        })),
+        None => Ok(None),
+    }
+}
+
+/// Lets the C library keep memory that is given back, up to about twice as many bytes as `LARGE` for each worker above
+/// its last block in use, so that a large block's isn't asked of the system, page by page, for each request. What lies
+/// below that block stays in any case. It goes by the largest piece that the system gave alone and that was given
+/// back: so one is made and given back, of which no page is touched.
 fn keep_memory(alloc: Global, stderr: Stderr) {
     let mut stderr = stderr;
     if let Ok(large) = Vec::<u8>::with_capacity(alloc, LARGE) {
@@ -167,21 +225,44 @@ fn look_for_descriptors(listener: &TcpListener) -> io::Result<()> {
 fn make_posts<R: Net>(rt: &R, alloc: Global, options: Options) -> Result<Posts, Wanting> {
     let mut posts = Vec::new(alloc);
     let mut inboxes = Vec::new(alloc);
+    let mut all_counts = Vec::new(alloc);
     for worker in 0..options.workers {
         let (poll, waker) = watched(rt)?;
         let events = Events::with_capacity(alloc, EVENTS)?;
+        let counts = new_counts(alloc)?;
+        let told = counts.clone().map_err(|_| AllocError)?;
         let post = Post {
             share: Share::new(worker),
             poll,
             events,
             idle_timeout: options.idle_timeout,
+            first: first_shelf(options, worker),
+            moved: counts.clone().map_err(|_| AllocError)?,
+            counts,
         };
         let inbox = Inbox::new(alloc, waker)?;
-        if posts.push(post).is_err() || inboxes.push(inbox).is_err() {
+        if posts.push(post).is_err()
+            || inboxes.push(inbox).is_err()
+            || all_counts.push(told).is_err()
+        {
             return Err(Wanting::Memory);
         }
     }
-    Ok(Posts { posts, inboxes })
+    Ok(Posts {
+        posts,
+        inboxes,
+        counts: all_counts,
+    })
+}
+
+/// Gives the shelf that a worker tidies first, so that workers begin far from each other.
+fn first_shelf(options: Options, worker: u32) -> u32 {
+    worker.saturating_mul(options.settings.shelves) / options.workers.max(1)
+}
+
+/// Makes what a worker counts. The one error is a refused allocation.
+fn new_counts(alloc: Global) -> Result<Arc<Counts>, AllocError> {
+    Arc::new(alloc, Counts::new()).map_err(|_| AllocError)
 }
 
 /// A set of sources, and what wakes the one who waits for them.
@@ -191,41 +272,12 @@ fn watched<R: Net>(rt: &R) -> io::Result<(Poll, Waker)> {
     Ok((poll, waker))
 }
 
-/// Says on standard error where it listens, and what it has; and warns where others than this machine can
-/// reach it, and where more connections are asked for than there can be descriptors.
-fn say(notice: Notice) {
-    let Notice {
-        stderr,
-        options,
-        descriptors,
-    } = notice;
-    let Options { pages, workers, .. } = options;
-    let address = SocketAddr::from((options.address, options.port));
-    // where standard error is closed it serves all the same
-    let _ = eprintln!(stderr; "mcserver: listening on {address}, {pages} pages, {workers} workers");
-    let ip = options.address;
-    if !ip.to_canonical().is_loopback() {
-        let _ = eprintln!(stderr;
-            "mcserver: warning: the protocol has no passwords, and {ip} isn't this machine's alone"
-        );
-    }
-    let Some(most) = descriptors else {
-        return;
-    };
-    let connections = options.connections;
-    if u64::from(connections) > most {
-        let _ = eprintln!(stderr;
-            "mcserver: warning: -c allows {connections} connections, and the system {most} descriptors (ulimit -n)"
-        );
-    }
-}
-
-/// Starts a worker at each post, says that it listens, and accepts connections for them until the listener
-/// fails.
+/// Starts a worker at each post, who answers scrapes if somebody does, and who says that it listens, and
+/// accepts connections for them until the listener fails.
 fn serve_by<R, C>(
     rt: &R,
-    opening: Opening,
-    arrivals: &Arrivals,
+    opening: Opening<'_>,
+    teller: Option<Teller<'_>>,
     asker: Asker<'_>,
     clock: &C,
 ) -> Result<(), Wanting>
@@ -234,11 +286,14 @@ where
     C: Clock + Sync,
 {
     let alloc = rt.alloc();
+    let name = LOGGER.to_string(alloc)?;
     let Opening {
         listener,
         crowd,
         posts,
         notice,
+        arrivals,
+        log,
     } = opening;
     thread::scope(
         thread::scope_env(),
@@ -247,26 +302,43 @@ where
             let mut asker = asker;
             for post in posts {
                 let one = asker.another();
-                let worker = move || man(rt, alloc, one, arrivals, post, clock);
+                log.enter();
+                let worker = move || {
+                    man(rt, one, arrivals, post, log, clock);
+                    log.leave();
+                };
                 if Builder::new().spawn_scoped(scope, worker).is_err() {
                     arrivals.end();
                     return Err(Wanting::Memory);
                 }
             }
-            say(notice);
+            if let Some(teller) = teller {
+                let telling = move || teller.answer_all(rt, alloc, arrivals);
+                if Builder::new().spawn_scoped(scope, telling).is_err() {
+                    arrivals.end();
+                    return Err(Wanting::Memory);
+                }
+            }
+            let logger = move || write_lines(rt, log, notice, asker);
+            let named = Builder::new().name(name);
+            if named.spawn_scoped(scope, logger).is_err() {
+                arrivals.end();
+                return Err(Wanting::Memory);
+            }
             accept_all(rt, listener, crowd, arrivals);
+            log.leave();
             Ok(())
         },
     )
 }
 
 /// Serves connections at a post until no more can come.
-fn man<R: Wait + time::Clock, C: Clock>(
+fn man<R: AllocGlobal + Wait + time::Clock, C: Clock>(
     rt: &R,
-    alloc: Global,
     asker: Asker<'_>,
     arrivals: &Arrivals,
     post: Post,
+    log: &Log,
     clock: &C,
 ) {
     let Post {
@@ -274,9 +346,17 @@ fn man<R: Wait + time::Clock, C: Clock>(
         poll,
         events,
         idle_timeout,
+        first,
+        moved,
+        counts,
     } = post;
+    let alloc = rt.alloc();
     arrivals.end_rest(&share);
-    let mut links = SocketLinks::new(rt, alloc, arrivals, share, poll, events);
+    let mut links = SocketLinks::new(rt, alloc, arrivals, share, poll, events, moved);
     links.close_idle(idle_timeout);
-    asker.work(rt, alloc, &mut links, clock);
+    let heard = Heard {
+        counts: &counts,
+        refusals: Refusals::new(log),
+    };
+    asker.work(rt, alloc, &mut links, &heard, clock, first);
 }

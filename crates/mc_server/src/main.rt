@@ -1,7 +1,7 @@
 //! `mcserver`: a cache server that speaks memcached's text protocol.
 #![tactic(auto)]
 
-ghost use Rattle.std.specs.Prelude.{◌≡◌, ◌≤◌, IfOk};
+ghost use Rattle.std.specs.Prelude.{◌≡◌};
 ghost use Rattle.std.specs.Process.{exit_status};
 ghost use Rattle.mc_server.specs.Ends.{status_of};
 
@@ -13,12 +13,19 @@ mod clock;
 mod connection;
 mod descriptors;
 mod end;
+mod full;
+mod heard;
 mod idle;
 #[cfg(test)]
 mod idle_tests;
+mod lines;
+#[cfg(test)]
+mod lines_tests;
 mod link;
 mod links;
 mod listening;
+mod logger;
+mod metrics;
 mod options;
 mod place;
 mod running;
@@ -32,7 +39,7 @@ mod yard;
 
 use clap::error::ErrorKind;
 use end::End;
-use options::Options;
+use options::{Options, Unfit};
 use running::run;
 use std::net::SocketAddr;
 use std::process::ExitCode;
@@ -47,13 +54,12 @@ fn main(rt: HostRuntime) -> ExitCode {
 }
 
 /// What the command line asks for; or how the program ends without it.
-fn asked(rt: &HostRuntime) -> Result<Options, End>
-    ensures { IfOk result (λ options. 1 ≤ options.pages × options.pages ≤ 65536) }
-{
+fn asked(rt: &HostRuntime) -> Result<Options, End> {
     let words = words(rt)?;
     match options::parsed(rt.alloc(), words.as_slice()) {
         Ok(options) => Ok(options),
-        Err(error) => Err(End::of_options(&error, &printed(rt, &error))),
+        Err(Unfit::Told(error)) => Err(End::of_options(&error, &printed(rt, &error))),
+        Err(Unfit::Shelves) => Err(End::BadShelves),
     }
 }
 

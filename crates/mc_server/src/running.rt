@@ -1,5 +1,5 @@
 //! What the program does, by its command line.
-ghost use Rattle.std.specs.Prelude.{◌≡◌, ◌≤◌, true, false};
+ghost use Rattle.std.specs.Prelude.{◌≡◌, true, false};
 ghost use Rattle.mc_server.specs.Ends.{EndsListening};
 ghost use Rattle.mc_server.specs.Runs.{moments, IsSystemMoment, EndsServed};
 
@@ -19,18 +19,17 @@ use std::time;
 
 /// Does what the command line asks for: with `--stdin` it serves one session over the reader and the
 /// writer, by the clock that is asked for; without, it listens at the address and the port by that clock,
-/// and neither reads nor writes here.
+/// and answers scrapes where that is asked for, and neither reads nor writes here.
 pub fn run<H, R, W>(rt: &H, stderr: Stderr, options: Options, reader: &mut R, writer: &mut W) -> End
 where
     H: Net + Files + AllocGlobal + Wait + Threads + time::Clock + Sync,
     R: Read,
     W: Write,
-    requires { 1 ≤ options.pages × options.pages ≤ 65536 }
     ensures serves { options.stdin ≡ true
-        → EndsServed options.pages (moments options.now IsSystemMoment)
+        → EndsServed options.settings (moments options.now IsSystemMoment)
         (R.remaining reader.old) (R.remaining reader.new)
         (W.contents writer.old) (W.contents writer.new) result }
-    ensures listens { options.stdin ≡ false → EndsListening options.address options.port result }
+    ensures listens { options.stdin ≡ false → EndsListening options.address options.port options.scrapes result }
     ensures reads_nothing { options.stdin ≡ false → reader.new ≡ reader.old }
     ensures writes_nothing { options.stdin ≡ false → writer.new ≡ writer.old }
 {
@@ -39,7 +38,7 @@ where
         system: SystemClock::new(rt),
     };
     if options.stdin {
-        serve(rt.alloc(), options.pages, reader, writer, &clock)
+        serve(rt.alloc(), options.settings, reader, writer, &clock)
     } else {
         listen(rt, stderr, options, &clock)
     }

@@ -5,17 +5,25 @@ use crate::asker::Asker;
 use crate::connection::{Connection, Crowd};
 use crate::links::{EVENTS, SocketLinks, WAKER};
 use crate::listening::bound;
-use crate::serving::settings_of;
+use crate::metrics::Counts;
 use mc_hop::Fnv;
 use mc_shared::Shared;
+use mc_shelf::Settings;
 use mc_time::{Fixed, Moment};
 use mio::net::TcpStream as Stream;
 use mio::{Events, Poll, Waker};
 use std::io::{Read, Write};
 use std::net::{Ipv4Addr, Net, Shutdown, SocketAddr, TcpListener, TcpStream};
-use std::sync::Wait;
+use std::sync::{Arc, Wait};
 use std::test::*;
 use std::time::Clock;
+
+/// A store of one page.
+const SETTINGS: Settings = Settings {
+    pages: 1,
+    greatest: Settings::GREATEST,
+    shelves: 64,
+};
 
 /// Sends the input of a client, serves it, and gives what the client then reads.
 fn told<R>(rt: &R, input: &[u8]) -> Result<Vec<u8>, Fail>
@@ -38,11 +46,13 @@ where
     let stream = Stream::from_std(stream);
     arrivals.deal(rt, Connection::new(crowd, stream, 1, peer), 0);
     arrivals.end();
-    let (shared, caller) = Shared::new(alloc, settings_of(1), Fnv)?;
+    let (shared, caller) = Shared::new(alloc, SETTINGS, Fnv)?;
     let events = Events::with_capacity(alloc, EVENTS)?;
-    let mut links = SocketLinks::new(rt, alloc, &arrivals, Share::new(0), poll, events);
+    let counts = Arc::new(alloc, Counts::new())?;
+    let moved = counts.clone()?;
+    let mut links = SocketLinks::new(rt, alloc, &arrivals, Share::new(0), poll, events, moved);
     let clock = Fixed(Moment::from_seconds_at_most(1000));
-    Asker::new(&shared, caller).work(rt, alloc, &mut links, &clock);
+    Asker::new(&shared, caller).work(rt, alloc, &mut links, &*counts, &clock, 0);
     let mut answer = Vec::new(alloc);
     client.read_to_end(&mut answer)?;
     Ok(answer)

@@ -5,6 +5,7 @@ use crate::end::{End, ending};
 use crate::options::{Asked, Options};
 use crate::serving::serve;
 use mc_session::ServeFault;
+use mc_shelf::Settings;
 use mc_testing::{Drip, Sip};
 use mc_time::{Fixed, Moment};
 use std::alloc::Global;
@@ -18,28 +19,38 @@ const ALIVE: &str = "STORED\r\nVALUE a 5 3\r\nabc\r\nEND\r\n";
 
 const DEAD: &str = "STORED\r\nEND\r\n";
 
+/// A store of one page.
+const SETTINGS: Settings = Settings {
+    pages: 1,
+    greatest: Settings::GREATEST,
+    shelves: 64,
+};
+
 /// The clock that is the system's in these tests.
 const SYSTEM: u64 = 2_999_999;
 
 /// How a session is served with the clock that is asked for.
 fn served(alloc: Global, now: Option<u64>, reader: &mut Drip<'_>, writer: &mut Sip) -> End {
-    let options = Options::new(Asked {
+    let asked = Asked {
         stdin: true,
         now,
-        pages: Some(1),
+        pages: None,
+        shelves: None,
         address: None,
         address_port: None,
         port: None,
         workers: None,
         connections: None,
         idle_timeout: None,
+        scrapes: None,
         verbose: false,
-    });
+    };
+    let options = Options::new(asked, SETTINGS);
     let clock = AskedClock {
         asked: options.now,
         system: Fixed(Moment::from_seconds_at_most(SYSTEM)),
     };
-    serve(alloc, options.pages, reader, writer, &clock)
+    serve(alloc, options.settings, reader, writer, &clock)
 }
 
 #[test]

@@ -144,7 +144,7 @@ pub fn not_served<'a>() -> [Unserved<'a>; 27] {
         valued(
             'D',
             "prefix-delimiter",
-            "there are no statistics; leave it out",
+            "nothing is counted by prefixes; leave it out",
         ),
         valued(
             'e',

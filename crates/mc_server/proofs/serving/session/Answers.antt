@@ -1,25 +1,16 @@
-use Rattle.std.proofs.Common.{◌≡◌, [], subst}
-use Rattle.mc_command.specs.Plain.{opening}
-use Rattle.mc_shelf.specs.declared.store.Settings.{Settings}
 use Rattle.mc_server.proofs.RunLemmas.{serves, not_begun}
 use Rattle.mc_server.proofs.serving.session.Goals as goal
 
 pub returns-in_default : goal.returns-in_default
 returns-in_default g c =
-    not_begun c.args.pages c.now.result (g.C.Clock.may_give c.args.clock.now) c.now.ensures (record {})
+    not_begun c.args.settings c.now.result (g.C.Clock.may_give c.args.clock.now) c.now.ensures (record {})
     (g.R.Read.remaining c.args.reader.now) (g.W.Write.contents c.args.writer.now)
 
 pub returns : goal.returns
 returns g c =
-    serves c.args.pages c.now.result (g.C.Clock.may_give c.args.clock.now) c.now.ensures (record {})
+    serves c.args.settings c.now.result (g.C.Clock.may_give c.args.clock.now) c.now.ensures (record {})
     (g.R.Read.remaining c.args.reader.now) (g.R.Read.remaining c.serve_one.new.reader)
     (g.W.Write.contents c.args.writer.now) (g.W.Write.contents c.serve_one.new.writer)
     c.in-Ok.world c.serve_one.new.world c.serve_one.result
-    (subst (λ (s : Settings). c.in-Ok.world ≡ record {
-      settings = s;
-      hasher = record {};
-      state = opening s.pages s.greatest;
-      moment = c.now.result;
-      sessions = [];
-    }) c.settings_of.ensures c.in-Ok.ensures)
+    c.in-Ok.ensures
     c.serve_one.ensures.ok c.serve_one.ensures.served c.serve_one.ensures.memory

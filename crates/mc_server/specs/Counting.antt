@@ -1,0 +1,82 @@
+-- As what a step counts.
+use Rattle.std.specs.Prelude.{ℕ, Bool, true, false, Option, Some, None}
+use Rattle.mc_command.specs.declared.step.KeyStep.{KeyStep}
+use Rattle.mc_command.specs.declared.step.KeyStep.TheVariants.{Store, Cas, Read, ReadTouch, Touch, Delete, Count, Flush as FlushStep}
+use Rattle.mc_workers.specs.declared.tally.Outcome.{Outcome}
+use Rattle.mc_workers.specs.declared.tally.Outcome.TheVariants as outcome
+use Rattle.mc_server.specs.declared.metrics.counts.Counted.{Counted}
+use Rattle.mc_server.specs.declared.metrics.counts.Counted.TheVariants.{GetHit, GetMiss, SetStored, SetNotStored, CasHit, CasMiss, CasBadval, DeleteHit, DeleteMiss, IncrHit, IncrMiss, DecrHit, DecrMiss, TouchHit, TouchMiss, Flush, Refused, Received, Sent}
+use Rattle.mc_server.specs.declared.connection.Parting.{Parting}
+use Rattle.mc_server.specs.declared.connection.Parting.TheVariants as parting
+
+-- as what incr and decr count that find a number, and that find no item
+abbrev pub ways_of_count : (up : Bool) → Counted × Counted
+ways_of_count true = (IncrHit, IncrMiss)
+ways_of_count false = (DecrHit, DecrMiss)
+
+-- as what a step counts that did what it asked for, and as what one for which there was no item, or one
+-- in its way; a flush is never in vain
+abbrev pub ways_of : KeyStep → Counted × Counted
+ways_of (Store verb key flags exptime block) = (SetStored, SetNotStored)
+ways_of (Cas key flags exptime block unique) = (CasHit, CasMiss)
+ways_of (Read key) = (GetHit, GetMiss)
+ways_of (ReadTouch key exptime) = (TouchHit, TouchMiss)
+ways_of (Touch key exptime) = (TouchHit, TouchMiss)
+ways_of (Delete key) = (DeleteHit, DeleteMiss)
+ways_of (Count key up by) = ways_of_count up
+ways_of (FlushStep delay) = (Flush, Flush)
+
+-- as what counts what came out so, by the two ways; too large a step, and one on what is no number, count
+-- as nothing
+abbrev pub counted_by : (ways : Counted × Counted) → Outcome → Option Counted
+counted_by ways outcome.Hit = Some ways.0
+counted_by ways outcome.Stored = Some ways.0
+counted_by ways outcome.Touched = Some ways.0
+counted_by ways outcome.Deleted = Some ways.0
+counted_by ways outcome.Number = Some ways.0
+counted_by ways outcome.Flushed = Some ways.0
+counted_by ways outcome.Miss = Some ways.1
+counted_by ways outcome.NotFound = Some ways.1
+counted_by ways outcome.NotStored = Some ways.1
+counted_by ways outcome.Exists = Some CasBadval
+counted_by ways outcome.NoChunk = Some Refused
+counted_by ways outcome.NotNumeric = None
+counted_by ways outcome.TooLarge = None
+
+-- as what a step counts that came out so
+abbrev pub counted_as : KeyStep → Outcome → Option Counted
+counted_as step out = counted_by (ways_of step) out
+
+-- the place of what is counted, among all
+abbrev pub place_of : Counted → ℕ
+place_of GetHit = 0
+place_of GetMiss = 1
+place_of SetStored = 2
+place_of SetNotStored = 3
+place_of CasHit = 4
+place_of CasMiss = 5
+place_of CasBadval = 6
+place_of DeleteHit = 7
+place_of DeleteMiss = 8
+place_of IncrHit = 9
+place_of IncrMiss = 10
+place_of DecrHit = 11
+place_of DecrMiss = 12
+place_of TouchHit = 13
+place_of TouchMiss = 14
+place_of Flush = 15
+place_of Refused = 16
+place_of Received = 17
+place_of Sent = 18
+
+-- the place of a reason for which a connection is closed, among all
+abbrev pub parting_place : Parting → ℕ
+parting_place parting.OneTooMany = 0
+parting_place parting.NoDescriptor = 1
+parting_place parting.NoRoom = 2
+parting_place parting.Ended = 3
+parting_place parting.ReadFault = 4
+parting_place parting.WriteFault = 5
+parting_place parting.SessionOver = 6
+parting_place parting.Idle = 7
+parting_place parting.ListenerFailed = 8

@@ -1,0 +1,20 @@
+//! Who hears of the steps of a worker.
+
+use crate::full::Refusals;
+use crate::metrics::Counts;
+use mc_command::KeyStep;
+use mc_workers::{Outcome, Tally};
+
+/// Has the steps of a worker counted, and the log noted one that is refused as no chunk is left.
+#[derive(Clone, Copy)]
+pub struct Heard<'a> {
+    pub counts: &'a Counts,
+    pub refusals: Refusals<'a>,
+}
+
+impl Tally for Heard<'_> {
+    fn took(&self, step: &KeyStep<'_>, outcome: Outcome) {
+        self.counts.took(step, outcome);
+        self.refusals.took(step, outcome);
+    }
+}

@@ -1,0 +1,36 @@
+//! Which lines wait, and how many are told to be dropped.
+
+use crate::connection::Parting;
+use crate::lines::{Line, Lines, Waiting};
+use std::test::*;
+
+/// Lets a line of the connection with this number wait.
+fn push(lines: &Lines, number: u64) {
+    let parting = Parting::Ended;
+    lines.push(Line::Closed { number, parting });
+}
+
+/// Gives the connection of a line, and how many were dropped before it.
+fn told(waiting: Option<Waiting>) -> Option<(u64, u64)> {
+    let Waiting { line, dropped } = waiting?;
+    match line {
+        Line::Opened { number, .. } | Line::Closed { number, .. } => Some((number, dropped)),
+    }
+}
+
+#[test]
+fn lines_without_a_place_are_counted(rt: HostRuntime) -> Result<(), Fail> {
+    let lines = Lines::new(rt.alloc(), 2)?;
+    for number in 0..5 {
+        push(&lines, number);
+    }
+    assert!(rt; told(lines.take(0)) == Some((0, 0)));
+    push(&lines, 5);
+    push(&lines, 6);
+    let rows = [(1, Some((1, 0))), (2, Some((5, 3))), (3, None)];
+    for (turn, expected) in rows {
+        assert!(rt; told(lines.take(turn)) == expected);
+    }
+    assert_eq!(rt; (lines.dropped(), lines.dropped()), (1, 0));
+    Ok(())
+}

@@ -1,0 +1,239 @@
+//! What the program says on standard error while it serves, and the thread that says it.
+
+use crate::asker::Asker;
+use crate::connection::Parting;
+use crate::full::{Asked, Full, Shortage, Stock};
+use crate::lines::{Line, Lines, Waiting};
+use crate::options::Options;
+use mc_command::KeyStep;
+use mc_slab::class_of;
+use std::alloc::{AllocError, Global};
+use std::io::{self, Stderr};
+use std::net::SocketAddr;
+use std::sync::atomic::{AtomicU32, Ordering};
+use std::sync::{Arc, Wait};
+use std::thread::Parker;
+use std::time::{Clock, Duration, Instant};
+
+/// How many lines may wait while standard error takes none.
+const MOST: usize = 1024;
+
+/// For how long it says no more that the store is full, once it has, in seconds.
+const QUIET: u64 = 60;
+
+/// What it says of itself when it serves.
+#[derive(Clone, Copy, Drop)]
+pub struct Notice {
+    pub stderr: Stderr,
+    pub options: Options,
+    /// How many descriptors it may have, where the system tells.
+    pub descriptors: Option<u64>,
+}
+
+/// What the threads that serve have to say, and what calls the one that writes it. That one alone waits
+/// where standard error takes nothing.
+#[derive(Drop)]
+pub struct Log {
+    lines: Lines,
+    shortage: Shortage,
+    /// How many threads may still have something to say.
+    speakers: AtomicU32,
+    logger: Parker,
+}
+
+impl Log {
+    /// Has nothing to say yet, for one thread; nor ever of connections, unless they are told of. The one
+    /// error is a refused allocation.
+    pub fn new(alloc: Global, tells_connections: bool) -> Result<Arc<Log>, AllocError> {
+        let log = Log {
+            lines: Lines::new(alloc, if tells_connections { MOST } else { 0 })?,
+            shortage: Shortage::new(),
+            speakers: AtomicU32::new(1),
+            logger: Parker::new(),
+        };
+        Arc::new(alloc, log).map_err(|_| AllocError)
+    }
+
+    /// Counts a thread more that may have something to say.
+    pub fn enter(&self) {
+        self.speakers.fetch_add(1, Ordering::SeqCst);
+    }
+
+    /// Counts a thread less.
+    pub fn leave(&self) {
+        self.speakers.fetch_sub(1, Ordering::SeqCst);
+        self.logger.unpark();
+    }
+
+    /// Has a line written, or dropped where too many wait. It doesn't wait.
+    pub fn say(&self, line: Line) {
+        self.lines.push(line);
+        self.logger.unpark();
+    }
+
+    /// Notes a step that was refused as no chunk is left, and has that told where it is the first in a
+    /// while.
+    pub fn note_refused(&self, step: &KeyStep<'_>) {
+        if self.shortage.note(step) {
+            self.logger.unpark();
+        }
+    }
+}
+
+/// Says that it serves, and then what the log is given, until nobody has anything more to say. It sleeps
+/// where there is nothing, and a minute after it said that the store is full it wakes once by itself.
+pub fn write_lines<R: Wait + Clock>(rt: &R, log: &Log, notice: Notice, asker: Asker<'_>) {
+    let mut logger = Logger {
+        log,
+        stderr: notice.stderr,
+        pages: notice.options.settings.pages,
+        asker,
+        turn: 0,
+        told_full: None,
+    };
+    say(notice);
+    for _ in rt.forever() {
+        // what was said before the last one left is found below
+        let is_over = log.speakers.load(Ordering::SeqCst) == 0;
+        logger.tell_full(rt);
+        if logger.write_next() {
+            continue;
+        }
+        if is_over {
+            return;
+        }
+        logger.sleep(rt);
+    }
+}
+
+/// Who writes to standard error.
+#[derive(Drop)]
+struct Logger<'a> {
+    log: &'a Log,
+    stderr: Stderr,
+    /// How many pages the store has at most.
+    pages: u32,
+    asker: Asker<'a>,
+    /// Which line is the next.
+    turn: u64,
+    /// When it said that the store is full; nothing where it may say so.
+    told_full: Option<Instant>,
+}
+
+impl Logger<'_> {
+    /// Writes the next line, behind what was dropped before it, and says whether there was one. One that
+    /// can't be written is dropped.
+    fn write_next(&mut self) -> bool {
+        let (log, turn) = (self.log, self.turn);
+        let Some(Waiting { line, dropped }) = log.lines.take(turn) else {
+            self.tell_dropped(log.lines.dropped());
+            return false;
+        };
+        self.turn = turn.wrapping_add(1);
+        self.tell_dropped(dropped);
+        if written(self.stderr, line).is_err() {
+            log.lines.drop_one();
+        }
+        true
+    }
+
+    /// Says how many lines were dropped, where some were.
+    fn tell_dropped(&self, count: u64) {
+        let stderr = self.stderr;
+        if count > 0 {
+            let _ = eprintln!(stderr;
+                "mcserver: lines dropped, as standard error wasn't read in time: {count}"
+            );
+        }
+    }
+
+    /// Says that the store is full, where a step was refused for that which is to be told of.
+    fn tell_full<R: Wait + Clock>(&mut self, rt: &R) {
+        let Some(asked) = self.log.shortage.take() else {
+            return;
+        };
+        self.told_full = Instant::now(rt).ok();
+        let full = Full {
+            stock: self.stock(rt, asked),
+            pages: self.pages,
+        };
+        let stderr = self.stderr;
+        let _ = eprintln!(stderr; "mcserver: full: {full} (told once a minute)");
+    }
+
+    /// Gives what the class has that a chunk was asked of, where that is known.
+    fn stock<R: Wait>(&mut self, rt: &R, asked: Asked) -> Option<Stock> {
+        let class = match asked {
+            Asked::Size(size) => class_of(size)?,
+            Asked::Growth => return None,
+        };
+        let account = self.asker.account(rt, class);
+        Some(Stock { class, account })
+    }
+
+    /// Sleeps until it is called, or it may say again that the store is full.
+    fn sleep<R: Wait + Clock>(&mut self, rt: &R) {
+        let Some(told) = self.told_full else {
+            self.log.logger.park(rt);
+            return;
+        };
+        let quiet = Duration::from_secs(QUIET);
+        let left = match told.elapsed(rt) {
+            Ok(time) => quiet.saturating_sub(time),
+            Err(_) => quiet,
+        };
+        if left == Duration::ZERO {
+            self.told_full = None;
+            self.log.shortage.reopen();
+            return;
+        }
+        self.log.logger.park_timeout(rt, left);
+    }
+}
+
+/// Writes a line.
+fn written(stderr: Stderr, line: Line) -> io::Result<()> {
+    match line {
+        Line::Opened { number, peer } => {
+            eprintln!(stderr; "mcserver: connection {number} from {peer} opened")
+        }
+        Line::Closed { number, parting } => {
+            let why = parting.text();
+            eprintln!(stderr; "mcserver: connection {number} closed: {why}")
+        }
+    }
+}
+
+/// Says on standard error where it listens, and what it has; and warns where others than this machine can
+/// reach it, and where more connections are asked for than there can be descriptors.
+fn say(notice: Notice) {
+    let Notice {
+        stderr,
+        options,
+        descriptors,
+    } = notice;
+    let workers = options.workers;
+    let pages = options.settings.pages;
+    let address = SocketAddr::from((options.address, options.port));
+    // where standard error is closed it serves all the same
+    let _ = eprintln!(stderr; "mcserver: listening on {address}, {pages} pages, {workers} workers");
+    let ip = options.address;
+    if !ip.to_canonical().is_loopback() {
+        let _ = eprintln!(stderr;
+            "mcserver: warning: the protocol has no passwords, and {ip} isn't this machine's alone"
+        );
+    }
+    if let Some(place) = options.scrapes {
+        let place = SocketAddr::from((place.address, place.port));
+        let _ = eprintln!(stderr; "mcserver: metrics at http://{place}/metrics");
+    }
+    let Some(most) = descriptors else {
+        return;
+    };
+    let connections = options.connections;
+    if u64::from(connections) > most {
+        let _ = eprintln!(stderr;
+            "mcserver: warning: -c allows {connections} connections, and the system {most} descriptors (ulimit -n)"
+        );
+    }
+}

@@ -1,0 +1,91 @@
+//! Where scrapes come in.
+ghost use Rattle.std.specs.Prelude.{◌≡◌, IfErr};
+ghost use Rattle.mc_server.specs.Ends.{EndsWithoutDoor};
+
+use crate::end::{End, Obstacle, Refusal};
+use crate::options::ScrapePlace;
+use mio::net::TcpListener;
+use mio::{Events, Interest, Poll, Token};
+use std::alloc::{AllocError, Global};
+use std::io::{self, ErrorKind};
+use std::net::{Net, SocketAddr, TcpStream};
+use std::thread;
+use std::time::{Clock, Duration};
+
+/// How long it rests at most until it looks whether the program ends, in milliseconds.
+const REST: u64 = 500;
+
+/// How long it waits where the system can't tell of connections, in milliseconds.
+const PAUSE: u64 = 10;
+
+/// A listener for scrapes, and what tells of connections there.
+#[derive(Drop)]
+pub struct Door {
+    listener: TcpListener,
+    poll: Poll,
+    events: Events,
+}
+
+/// Listens at the place that is asked for; nowhere where none is. The program ends where it can't, or
+/// memory runs out.
+pub fn opened<R: Net>(
+    rt: &R,
+    alloc: Global,
+    asked: Option<ScrapePlace>,
+) -> Result<Option<Door>, End>
+    ensures { IfErr result (EndsWithoutDoor asked) }
+{
+    let Some(place) = asked else {
+        return Ok(None);
+    };
+    match Door::open(rt, alloc, SocketAddr::from((place.address, place.port))) {
+        Ok(door) => Ok(Some(door)),
+        Err(error) => Err(end_of(place, &error)),
+    }
+}
+
+/// Says how the program ends that can't listen there.
+fn end_of(place: ScrapePlace, error: &io::Error) -> End
+    ensures { EndsWithoutDoor (Some place) result }
+{
+    if error.kind() == ErrorKind::OutOfMemory {
+        return End::NoMemory;
+    }
+    End::CannotListen(Refusal {
+        address: place.address,
+        port: place.port,
+        why: Obstacle::of(error),
+    })
+}
+
+impl Door {
+    /// Listens at an address and a port.
+    fn open<R: Net>(rt: &R, alloc: Global, place: SocketAddr) -> io::Result<Door> {
+        let mut listener = TcpListener::bind(rt, place)?;
+        let poll = Poll::new(rt)?;
+        poll.registry()
+            .register(&mut listener, Token(0), Interest::READABLE)?;
+        let events = Events::with_capacity(alloc, 1)?;
+        Ok(Door {
+            listener,
+            poll,
+            events,
+        })
+    }
+
+    /// Waits until a connection comes, or it has rested.
+    pub fn wait<R: Clock>(&mut self, rt: &R) {
+        let rest = Duration::from_millis(REST);
+        if self.poll.poll(&mut self.events, Some(rest)).is_err() {
+            let _ = thread::sleep(rt, Duration::from_millis(PAUSE));
+        }
+    }
+
+    /// Gives a connection that waits, whose calls wait.
+    pub fn accept(&self) -> io::Result<TcpStream> {
+        let (stream, _peer) = self.listener.accept()?;
+        let stream = TcpStream::from(stream);
+        stream.set_nonblocking(false)?;
+        Ok(stream)
+    }
+}

@@ -1,0 +1,208 @@
+//! The table of what is told. Where it means the same, the names are those of Prometheus' exporter for
+//! memcached.
+
+use crate::connection::Parting;
+use crate::metrics::counts::Counted;
+use crate::metrics::reading::{Figure, SlabFigure};
+
+/// Whether a number only grows.
+#[derive(Clone, Copy)]
+pub enum Kind {
+    Counter,
+    Gauge,
+}
+
+/// The samples of a family.
+#[derive(Clone, Copy)]
+pub enum Samples {
+    /// One, with no label.
+    One(Figure),
+    /// One for each of these labels.
+    Each(&'static [(&'static str, Figure)]),
+    /// One for each class of chunks that has a page.
+    Slabs(SlabFigure),
+}
+
+/// A family of samples: its kind, its name, what it tells, and its samples.
+#[derive(Clone, Copy)]
+pub struct Family(pub Kind, pub &'static str, pub &'static str, pub Samples);
+
+use Counted as C;
+use Figure::{Closed, Count};
+use Kind::{Counter, Gauge};
+use Samples::{Each, One, Slabs};
+
+/// The program's own version, as `--version` prints it.
+const VERSION: &[(&str, Figure)] = &[(r#"{version="0.9.0"}"#, Figure::One)];
+
+/// The commands, as the exporter counts them: of a `get` of several keys each key is one, `gat` is one of
+/// `touch`, and `set` stands for each storage command but `cas`.
+const COMMANDS: &[(&str, Figure)] = &[
+    (r#"{command="get",status="hit"}"#, Count(C::GetHit)),
+    (r#"{command="get",status="miss"}"#, Count(C::GetMiss)),
+    (r#"{command="set",status="hit"}"#, Figure::Sets),
+    (r#"{command="cas",status="hit"}"#, Count(C::CasHit)),
+    (r#"{command="cas",status="miss"}"#, Count(C::CasMiss)),
+    (r#"{command="cas",status="badval"}"#, Count(C::CasBadval)),
+    (r#"{command="delete",status="hit"}"#, Count(C::DeleteHit)),
+    (r#"{command="delete",status="miss"}"#, Count(C::DeleteMiss)),
+    (r#"{command="incr",status="hit"}"#, Count(C::IncrHit)),
+    (r#"{command="incr",status="miss"}"#, Count(C::IncrMiss)),
+    (r#"{command="decr",status="hit"}"#, Count(C::DecrHit)),
+    (r#"{command="decr",status="miss"}"#, Count(C::DecrMiss)),
+    (r#"{command="touch",status="hit"}"#, Count(C::TouchHit)),
+    (r#"{command="touch",status="miss"}"#, Count(C::TouchMiss)),
+    (r#"{command="flush",status="hit"}"#, Count(C::Flush)),
+];
+
+/// Why connections were closed.
+const REASONS: &[(&str, Figure)] = &[
+    (r#"{reason="client_closed"}"#, Closed(Parting::Ended)),
+    (r#"{reason="session_over"}"#, Closed(Parting::SessionOver)),
+    (r#"{reason="idle"}"#, Closed(Parting::Idle)),
+    (r#"{reason="read_fault"}"#, Closed(Parting::ReadFault)),
+    (r#"{reason="write_fault"}"#, Closed(Parting::WriteFault)),
+    (r#"{reason="one_too_many"}"#, Closed(Parting::OneTooMany)),
+    (r#"{reason="no_descriptor"}"#, Closed(Parting::NoDescriptor)),
+    (r#"{reason="no_memory"}"#, Closed(Parting::NoRoom)),
+    (
+        r#"{reason="listener_failed"}"#,
+        Closed(Parting::ListenerFailed),
+    ),
+];
+
+/// What is told, in this order.
+pub const FAMILIES: [Family; 22] = [
+    Family(
+        Gauge,
+        "memcached_up",
+        "Whether it serves.",
+        One(Figure::One),
+    ),
+    Family(
+        Gauge,
+        "memcached_version",
+        "The version of the program.",
+        Each(VERSION),
+    ),
+    Family(
+        Gauge,
+        "memcached_uptime_seconds",
+        "Seconds since it began to serve.",
+        One(Figure::Uptime),
+    ),
+    Family(
+        Counter,
+        "memcached_commands_total",
+        "Commands on keys, by how they came out.",
+        Each(COMMANDS),
+    ),
+    Family(
+        Gauge,
+        "memcached_current_connections",
+        "Connections that are open.",
+        One(Figure::Connections),
+    ),
+    Family(
+        Counter,
+        "memcached_connections_total",
+        "Connections that were accepted.",
+        One(Figure::Accepted),
+    ),
+    Family(
+        Gauge,
+        "memcached_max_connections",
+        "Connections that may be open at once.",
+        One(Figure::Most),
+    ),
+    Family(
+        Gauge,
+        "memcached_current_items",
+        "Items that stand.",
+        One(Figure::Items),
+    ),
+    Family(
+        Counter,
+        "memcached_items_total",
+        "Items that were stored.",
+        One(Figure::Stored),
+    ),
+    Family(
+        Gauge,
+        "memcached_current_bytes",
+        "Bytes of the chunks that items lie in.",
+        One(Figure::Bytes),
+    ),
+    Family(
+        Gauge,
+        "memcached_limit_bytes",
+        "Bytes of all pages that there may be.",
+        One(Figure::Limit),
+    ),
+    Family(
+        Gauge,
+        "memcached_slab_chunk_size_bytes",
+        "Bytes of a chunk.",
+        Slabs(SlabFigure::Size),
+    ),
+    Family(
+        Gauge,
+        "memcached_slab_chunks_per_page",
+        "Chunks of a page.",
+        Slabs(SlabFigure::ChunksAPage),
+    ),
+    Family(
+        Gauge,
+        "memcached_slab_current_pages",
+        "Pages of the class.",
+        Slabs(SlabFigure::Pages),
+    ),
+    Family(
+        Gauge,
+        "memcached_slab_current_chunks",
+        "Chunks of its pages.",
+        Slabs(SlabFigure::Chunks),
+    ),
+    Family(
+        Gauge,
+        "memcached_slab_chunks_used",
+        "Chunks that items lie in.",
+        Slabs(SlabFigure::Used),
+    ),
+    Family(
+        Gauge,
+        "memcached_slab_chunks_free",
+        "Chunks that no item lies in.",
+        Slabs(SlabFigure::Free),
+    ),
+    Family(
+        Counter,
+        "memcached_read_bytes_total",
+        "Bytes read of connections.",
+        One(Count(C::Received)),
+    ),
+    Family(
+        Counter,
+        "memcached_written_bytes_total",
+        "Bytes written to connections.",
+        One(Count(C::Sent)),
+    ),
+    Family(
+        Counter,
+        "mcserver_refusals_total",
+        "Commands refused for want of a chunk.",
+        One(Count(C::Refused)),
+    ),
+    Family(
+        Gauge,
+        "mcserver_shelves",
+        "Shelves that keys lie on.",
+        One(Figure::Shelves),
+    ),
+    Family(
+        Counter,
+        "mcserver_connections_closed_total",
+        "Connections that were closed.",
+        Each(REASONS),
+    ),
+];

@@ -1,0 +1,275 @@
+"""With --metrics it tells Prometheus over HTTP what is counted, each exactly; who holds a connection there keeps nobody out."""
+import contextlib
+import socket
+import subprocess
+import threading
+import time
+
+from tests.lib.case import ProgramCase
+from tests.lib.listening import Listener, ended
+from tests.lib.peer import Peer, clients
+from tests.lib.scrape import GET, MetricsServer, rest, sent, told
+from tests.lib.server import HOST, MOMENT, Server, free_port
+from tests.lib.wait import until
+
+# A request comes whole within so many seconds, and one that waits behind such has its answer so soon.
+LIMIT, SOON = 2, 6
+LONGEST = 8192
+# How often each of the clients does the same, and how many there are.
+ROUNDS, CLIENTS = 300, 4
+LARGE = b"l" * 1000000
+
+
+def command(name, status):
+    return f'memcached_commands_total{{command="{name}",status="{status}"}}'
+
+
+def closed(reason):
+    return f'mcserver_connections_closed_total{{reason="{reason}"}}'
+
+
+ITEMS, STORED, REFUSED = "memcached_current_items", "memcached_items_total", "mcserver_refusals_total"
+READ, WRITTEN = "memcached_read_bytes_total", "memcached_written_bytes_total"
+# What is sent, what is answered, and what is counted for it, but for what stands then.
+COMMANDS = [
+    (b"set a 0 0 1\r\n5\r\n", b"STORED\r\n", [command("set", "hit"), STORED]),
+    (b"add a 0 0 1\r\n5\r\n", b"NOT_STORED\r\n", [command("set", "hit")]),
+    (b"add b 0 0 1\r\nx\r\n", b"STORED\r\n", [command("set", "hit"), STORED]),
+    (b"replace c 0 0 1\r\nx\r\n", b"NOT_STORED\r\n", [command("set", "hit")]),
+    (b"append b 0 0 1\r\ny\r\n", b"STORED\r\n", [command("set", "hit"), STORED]),
+    (b"prepend b 0 0 1 noreply\r\nz\r\nget b\r\n", b"VALUE b 0 3\r\nzxy\r\nEND\r\n", [command("set", "hit"), STORED, command("get", "hit")]),
+    (b"get a b c\r\n", b"VALUE a 0 1\r\n5\r\nVALUE b 0 3\r\nzxy\r\nEND\r\n", [command("get", "hit")] * 2 + [command("get", "miss")]),
+    (b"gets c\r\n", b"END\r\n", [command("get", "miss")]),
+    (b"gat 0 a c\r\n", b"VALUE a 0 1\r\n5\r\nEND\r\n", [command("touch", "hit"), command("touch", "miss")]),
+    (b"touch a 0\r\n", b"TOUCHED\r\n", [command("touch", "hit")]),
+    (b"touch c 0\r\n", b"NOT_FOUND\r\n", [command("touch", "miss")]),
+    (b"cas a 0 0 1 1\r\n7\r\n", b"STORED\r\n", [command("cas", "hit"), STORED]),
+    (b"cas a 0 0 1 1\r\n7\r\n", b"EXISTS\r\n", [command("cas", "badval")]),
+    (b"cas c 0 0 1 1\r\n7\r\n", b"NOT_FOUND\r\n", [command("cas", "miss")]),
+    (b"incr a 1\r\n", b"8\r\n", [command("incr", "hit")]),
+    (b"incr b 1\r\n", b"CLIENT_ERROR cannot increment or decrement non-numeric value\r\n", []),
+    (b"incr c 1\r\n", b"NOT_FOUND\r\n", [command("incr", "miss")]),
+    (b"decr a 1\r\n", b"7\r\n", [command("decr", "hit")]),
+    (b"decr c 1\r\n", b"NOT_FOUND\r\n", [command("decr", "miss")]),
+    (b"delete b\r\n", b"DELETED\r\n", [command("delete", "hit")]),
+    (b"delete b\r\n", b"NOT_FOUND\r\n", [command("delete", "miss")]),
+    (b"set a 0 0 1048576\r\n%s\r\n" % (b"x" * 1048576), b"SERVER_ERROR object too large for cache\r\n", []),
+    (b"version\r\n", b"VERSION 1.6.0\r\n", []),
+    (b"nonsense\r\n", b"ERROR\r\n", []),
+    (b"flush_all\r\n", b"OK\r\n", [command("flush", "hit")]),
+]
+# What is asked for over HTTP, and the status of its answer.
+REQUESTS = [
+    (b"GET /metrics HTTP/1.1\r\nHost: a\r\n\r\n", 200),
+    (b"GET /metrics HTTP/1.0\r\n\r\n", 200),
+    (b"GET /healthz HTTP/1.1\r\nHost: a\r\nAccept: */*\r\n\r\n", 200),
+    (b"GET / HTTP/1.1\r\nHost: a\r\n\r\n", 404),
+    (b"GET /metrics/ HTTP/1.1\r\nHost: a\r\n\r\n", 404),
+    (b"POST /metrics HTTP/1.1\r\nHost: a\r\nContent-Length: 3\r\n\r\nabc", 405),
+    (b"HEAD /metrics HTTP/1.1\r\nHost: a\r\n\r\n", 405),
+    (b"get /metrics HTTP/1.1\r\nHost: a\r\n\r\n", 405),
+    (b"GET /metrics HTTP/2.0\r\n\r\n", 400),
+    (b"GET /metrics\r\n\r\n", 400),
+    (b"get a\r\n", 400),
+    (b"GET /metrics HTTP/1.1\r\nHost a\r\n\r\n", 400),
+    (b"GET /metrics HTTP/1.1\r\n" + b"A: b\r\n" * 65 + b"\r\n", 400),
+    (b"\x00\xff\r\n\r\n", 400),
+    (b"GET /" + b"m" * LONGEST + b" HTTP/1.1\r\n\r\n", 431),
+    (b"GET / HTTP/1.1\r\nA: " + b"m" * (3 * LONGEST) + b"\r\n\r\n", 431),
+]
+
+
+class Metrics(ProgramCase):
+    def test_each_command_counts_as_what_it_is(self):
+        with MetricsServer() as server, Peer(server.port) as peer:
+            for request, answer, wanted in COMMANDS:
+                with self.subTest(request[:40]):
+                    before = server.scrape()
+                    peer.asks(request, answer)
+                    self.assertEqual({it: wanted.count(it) for it in wanted}, self.counted(server, before))
+
+    def counted(self, server, before):
+        kinds = ("memcached_commands_total", STORED, REFUSED)
+        return {name: grown for name, grown in server.grown(before).items() if name.startswith(kinds)}
+
+    def test_what_it_has(self):
+        """Items, bytes, classes, limits and the version are told as they are."""
+        with MetricsServer("-c", "77", "--shelves", "8", pages=3) as server, Peer(server.port) as peer:
+            now = server.scrape()
+            self.assertEqual([1, 3 * 1048576, 77, 8, 0, 0], [now[it] for it in (
+                "memcached_up", "memcached_limit_bytes", "memcached_max_connections", "mcserver_shelves", ITEMS, "memcached_current_bytes")])
+            self.assertFalse([it for it in now if "slab=" in it], "classes that have no page")
+            version = subprocess.run([self.program, "--version"], capture_output=True, text=True, check=True).stdout.split()[1]
+            self.assertEqual(1, now[f'memcached_version{{version="{version}"}}'])
+            for key in (b"a", b"b", b"c"):
+                peer.asks(b"set %s 0 0 10\r\n0123456789\r\n" % key, b"STORED\r\n")
+            peer.asks(b"set large 0 0 1000000\r\n%s\r\n" % LARGE, b"STORED\r\n")
+            peer.asks(b"delete b\r\n", b"DELETED\r\n")
+            now = server.scrape()
+            self.assertEqual([3, 2 * 96 + 1048576], [now[ITEMS], now["memcached_current_bytes"]])
+            for name, small, large in (("chunk_size_bytes", 96, 1048576), ("chunks_per_page", 10922, 1), ("current_pages", 1, 1),
+                                       ("current_chunks", 10922, 1), ("chunks_used", 2, 1), ("chunks_free", 10920, 0)):
+                samples = [now[it] for it in now if it.startswith(f"memcached_slab_{name}{{")]
+                self.assertEqual([small, large], samples, name)
+            peer.asks(b"flush_all\r\n", b"OK\r\n")
+            self.assertEqual(0, server.scrape()[ITEMS])
+
+    def test_refusals(self):
+        """Each reply for want of a chunk counts, and as nothing else."""
+        with MetricsServer(pages=1) as server, Peer(server.port) as peer:
+            peer.asks(b"set first 0 0 1000000\r\n%s\r\n" % LARGE, b"STORED\r\n")
+            before = server.scrape()
+            for _ in range(3):
+                peer.asks(b"set second 0 0 1\r\nx\r\n", b"SERVER_ERROR out of memory storing object\r\n")
+            peer.asks(b"add third 0 0 1 noreply\r\nx\r\nget third\r\n", b"END\r\n")
+            self.assertEqual({REFUSED: 4, command("get", "miss"): 1}, self.counted(server, before))
+
+    def test_connections_and_bytes(self):
+        with MetricsServer("-c", "4") as server:
+            server.settle()
+            until(lambda: server.scrape()["memcached_current_connections"] == 0, SOON)
+            before = server.scrape()
+            with clients(server.port, 4) as peers:
+                for peer in peers:
+                    peer.asks(b"get abc\r\n", b"END\r\n")
+                self.assertEqual(4, server.scrape()["memcached_current_connections"])
+                with Peer(server.port) as other:
+                    other.is_told(b"ERROR Too many open connections\r\n")
+                    self.assertTrue(other.is_closed())
+                peers[0].send(b"quit\r\n")
+                self.assertTrue(peers[0].is_closed())
+            wanted = {"memcached_connections_total": 5, closed("one_too_many"): 1, closed("session_over"): 1, closed("client_closed"): 3}
+            wanted |= {READ: 4 * len(b"get abc\r\n") + len(b"quit\r\n"), WRITTEN: 4 * len(b"END\r\n"), command("get", "miss"): 4}
+
+            def found():
+                return {name: grown for name, grown in server.grown(before).items() if name != "memcached_uptime_seconds"} == wanted
+
+            self.assertTrue(until(found, SOON), f"{server.grown(before)}, wanted {wanted}")
+
+    def test_idle_connections_are_closed(self):
+        with MetricsServer("--idle-timeout", "1") as server, clients(server.port, 3):
+            self.assertTrue(until(lambda: server.scrape()[closed("idle")] == 3, SOON), "three are idle")
+
+    def test_scrapes_while_clients_work(self):
+        """While four clients work each number only grows, and in the end all are those of what they did."""
+        with MetricsServer(workers=4) as server:
+            before = last = server.scrape()
+            threads = [threading.Thread(target=self.work, args=(server.port, number)) for number in range(CLIENTS)]
+            for thread in threads:
+                thread.start()
+            while any(thread.is_alive() for thread in threads):
+                now = server.scrape()
+                self.assertFalse([it for it in now if "_total" in it and now[it] < last[it]], "numbers that fell")
+                last = now
+            for thread in threads:
+                thread.join()
+            each = ROUNDS * CLIENTS
+            wanted = {command("set", "hit"): each, STORED: each, command("get", "hit"): each, command("get", "miss"): each}
+            wanted |= {command("delete", "hit"): each}
+            self.assertEqual(wanted, self.counted(server, before))
+
+    def work(self, port, number):
+        with Peer(port) as peer:
+            for _ in range(ROUNDS):
+                peer.asks(b"set k%d 0 0 1\r\nx\r\n" % number, b"STORED\r\n")
+                peer.asks(b"get k%d none\r\n" % number, b"VALUE k%d 0 1\r\nx\r\nEND\r\n" % number)
+                peer.asks(b"delete k%d\r\n" % number, b"DELETED\r\n")
+
+
+class Requests(ProgramCase):
+    def test_each_is_answered_by_what_it_is(self):
+        with MetricsServer() as server:
+            for request, status in REQUESTS:
+                with self.subTest(request[:40]):
+                    answer = told(sent(server.metrics, request))
+                    self.assertEqual(status, answer.status)
+                    if status not in (200, 404):
+                        self.assertEqual(b"", answer.body)
+            self.assertEqual(b"ok\n", told(sent(server.metrics, b"GET /healthz HTTP/1.1\r\n\r\n")).body)
+            self.assertEqual("GET", told(sent(server.metrics, b"PUT / HTTP/1.1\r\n\r\n")).fields["allow"])
+
+    def test_one_that_comes_byte_by_byte(self):
+        with MetricsServer() as server, socket.create_connection((HOST, server.metrics), timeout=SOON) as link:
+            for byte in GET:
+                link.sendall(bytes([byte]))
+            self.assertEqual(200, told(rest(link)).status)
+
+    def test_slow_ones_keep_nobody_out(self):
+        """One that says nothing, and one that says a little now and then, are closed in time, and a scrape behind each is answered."""
+        with MetricsServer() as server:
+            for said in (b"", b"GET /metrics HT"):
+                with socket.create_connection((HOST, server.metrics), timeout=SOON) as link:
+                    link.sendall(said)
+                    began = time.monotonic()
+                    server.scrape(SOON)
+                    self.assertGreater(time.monotonic() - began, LIMIT / 2, "it wasn't served behind the other")
+                    self.assertEqual(408, told(rest(link)).status)
+            self.drips(server)
+            began = time.monotonic()
+            server.scrape()
+            self.assertLess(time.monotonic() - began, LIMIT / 2)
+
+    def drips(self, server):
+        """Sends a byte of an endless request now and then until it is told that it took too long."""
+        with socket.create_connection((HOST, server.metrics), timeout=SOON) as link:
+            began = time.monotonic()
+            with contextlib.suppress(ConnectionError):
+                link.sendall(b"GET / HTTP/1.1\r\n")
+                while time.monotonic() - began < LIMIT + 0.3:
+                    link.sendall(b"a")
+                    time.sleep(0.1)
+            self.assertEqual(408, told(rest(link)).status)
+
+    def test_many_that_are_gone(self):
+        """Connections that are closed at once, before a request or in one, cost nothing."""
+        with MetricsServer() as server:
+            for said in (b"", b"GET", GET) * 20:
+                with socket.create_connection((HOST, server.metrics), timeout=SOON) as link:
+                    link.sendall(said)
+            began = time.monotonic()
+            server.scrape()
+            self.assertLess(time.monotonic() - began, LIMIT / 2)
+
+
+class Places(ProgramCase):
+    def test_where_it_answers(self):
+        for shape in ("%d", "127.0.0.1:%d", "[::1]:%d"):
+            host = "::1" if "[" in shape else HOST
+            with self.subTest(shape):
+                try:
+                    port = free_port(host)
+                except OSError:
+                    self.skipTest(f"{host} isn't an address of this machine")
+                words = ["-p", str(free_port()), "--metrics", shape % port, "--now", str(MOMENT)]
+                with Listener([self.program, *words]) as started:
+                    self.assertIn(b"listening on", started.line())
+                    place = shape % port if ":" in shape else f"{HOST}:{port}"
+                    self.assertEqual(f"mcserver: metrics at http://{place}/metrics\n".encode(), started.line())
+                    with socket.create_connection((host, port), timeout=SOON) as link:
+                        link.sendall(GET)
+                        self.assertTrue(link.recv(100).startswith(b"HTTP/1.1 200 "))
+
+    def test_places_that_it_cannot_have(self):
+        with socket.create_server((HOST, 0)) as other:
+            taken = str(other.getsockname()[1])
+            said = rb"mcserver: cannot listen on 127\.0\.0\.1:%s: something listens there already\n" % taken.encode()
+            ended(self.program, ["-p", str(free_port()), "--metrics", taken], 1, said)
+        port = str(free_port())
+        said = rb"mcserver: cannot listen on 127\.0\.0\.1:%s: something listens there already\n" % port.encode()
+        ended(self.program, ["-p", port, "--metrics", port], 1, said)
+        said = rb"mcserver: cannot listen on 192\.0\.2\.1:9150: the address isn't one of this machine\n"
+        ended(self.program, ["-p", str(free_port()), "--metrics", "192.0.2.1:9150"], 1, said)
+
+    def test_without_it_nothing_listens_there(self):
+        with Server() as server:
+            self.assertEqual(1, len(listeners(server)), "sockets that listen")
+        with MetricsServer() as server:
+            self.assertEqual(2, len(listeners(server)), "sockets that listen")
+
+
+def listeners(server):
+    """Those of the server's two ports at which something listens, as the system tells."""
+    with open(f"/proc/{server.pid}/net/tcp") as it:
+        rows = [line.split() for line in it.readlines()[1:]]
+    ports = {int(row[1].split(":")[1], 16) for row in rows if row[3] == "0A"}
+    return ports & {server.port, getattr(server, "metrics", 0)}
