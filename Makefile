@@ -39,7 +39,7 @@ bench-build:
 run: build
 	@$(PROGRAM) $(ARGS)
 
-# The gate: every proof from nothing, every must-fail edit, every test of the crates, and the tests of tests/.
+# The gate: every proof, every must-fail edit, every test of the crates, and the tests of tests/.
 test:
 	@python3 -m tests.gate
 

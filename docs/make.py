@@ -46,6 +46,7 @@ PORTS = {
     "clap": "reads the command line",
     "mio": "tells which sockets are ready",
     "crossbeam_queue": "hands connections to the workers",
+    "httparse": "reads the head of a request over HTTP",
 }
 # What ports bring with them, as the prints of a check of the program say ("statements NAME").
 BROUGHT = {"clap": "strsim", "crossbeam_queue": "crossbeam_utils"}
