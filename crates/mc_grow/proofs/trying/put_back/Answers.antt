@@ -1,6 +1,6 @@
 use Rattle.std.proofs.Common.{arith}
 use Rattle.mc_grow.proofs.StrayLemmas.{put_back_again}
-use Rattle.mc_grow.proofs.moving.put_back.Goals as goal
+use Rattle.mc_grow.proofs.trying.put_back.Goals as goal
 
 pub returns-clause-items : goal.returns-clause-items
 returns-clause-items g c items inside there out =
