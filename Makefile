@@ -15,12 +15,12 @@ DOCS = LICENSE CHANGELOG.md README.md docs/OPERATING.md docs/PROTOCOL.md docs/CL
 # Where the prefix is below a home, nothing of the system's is touched: of units there is at most the user's own.
 IN_HOME = $(filter $(HOME)/% /home/% /root/%,$(PREFIX)/)
 # The program's own version, as --version prints it.
-VERSION = $(shell sed -n 's/^const VERSION: .*"\([0-9.]*\) .*/\1/p' crates/mc_server/src/options.rt)
+VERSION = $(shell sed -n 's/^const VERSION: .*"\([0-9.]*\) .*/\1/p' crates/mc_options/src/options.rt)
 ARGS ?=
 JOBS ?= $(shell nproc)
 MINUTES ?= 30
 
-.PHONY: build bench-build run test check crate rows history fmt bench bench-tcp clean
+.PHONY: build bench-build run test check crate rows history fmt bench bench-tcp bench-waiting clean
 .PHONY: docs docs-check where test-clients test-scaling soak man install uninstall deb is-built
 
 # Proves the program and what is below it, and builds it. rt run runs it too: --help ends it at once. What it says goes to standard
@@ -35,9 +35,10 @@ build:
 bench-build:
 	@cd crates/mc_bench && rt run -- worlds 1 1 < /dev/null > /dev/null
 
-# Serves at the default port: make run ARGS="-p 11311 -t 2"
+# Serves at the default port: make run ARGS="-p 11311 -t 2". Ctrl-C ends it with status 130, which is no failure. By set -m the
+# terminal's signal comes to the program alone, as make would say that it was interrupted.
 run: build
-	@$(PROGRAM) $(ARGS)
+	@trap : INT; set -m 2> /dev/null; $(PROGRAM) $(ARGS) || { status=$$?; test $$status -eq 130 || exit $$status; }
 
 # The gate: every proof, every must-fail edit, every test of the crates, and the tests of tests/.
 test:
@@ -84,6 +85,10 @@ bench: build bench-build
 # Over TCP beside memcached, turn about: make bench-tcp OPTIONS="--quick --only get"
 bench-tcp: build
 	@python3 bench/tcp.py $(OPTIONS)
+
+# How long polite clients wait beside others, with memcached beside it: make bench-waiting OPTIONS="--quick --only flush"
+bench-waiting: build
+	@python3 bench/waiting.py --program $(abspath $(PROGRAM)) $(OPTIONS)
 
 # Debian's clients that are installed, each as its documentation uses it.
 test-clients: $(SERVED)

@@ -1,2 +1,1 @@
-mod AskedLemmas
 pub mod RunLemmas

@@ -1,5 +1,6 @@
 //! Links in memory, for tests.
 
+use crate::calls::{Call, Calls};
 use crate::link::{Got, Link, LinkFault, Took};
 use crate::worker::{Links, Next};
 use std::alloc::Global;
@@ -35,64 +36,6 @@ impl Seen {
     /// Tells how many bytes were right and how many were wrong.
     pub fn told(&self) -> (u64, u64) {
         (self.right(), self.wrong.load(Ordering::SeqCst))
-    }
-}
-
-/// How a call of a link goes.
-#[derive(Clone, Copy, Debug, PartialEq, Eq)]
-enum Call {
-    Fails,
-    /// The faults can't be counted any more.
-    GivesNone,
-    /// No bytes come or go.
-    IsEmpty,
-    /// One byte comes or goes, where there is one.
-    GoesOn,
-}
-
-/// The calls of a link, each other one of which is empty. Contracts see how many failed.
-#[derive(Drop)]
-struct Calls {
-    /// In how many calls from now one fails; none does at 0.
-    until_fault: u64,
-    faults: u64,
-    was_empty: bool,
-}
-
-impl Model for Calls {
-    ghost use Rattle.std.specs.Prelude.{ℕ};
-
-    ghost Value = { ℕ };
-
-    ghost view = { λ c. c.faults };
-}
-
-impl Calls {
-    ghost use Rattle.std.specs.Prelude.{◌≡◌, ◌+◌, ◌-◌, ◌^◌};
-
-    /// Says how the next call goes.
-    fn next(&mut self) -> Call
-        ensures full { self.old ≡ 2 ^ 64 - 1 → result ≡ Call.GivesNone }
-        ensures fails { result ≡ Call.Fails → self.new ≡ self.old + 1 }
-        ensures none { result ≡ Call.GivesNone → self.new ≡ self.old }
-        ensures empty { result ≡ Call.IsEmpty → self.new ≡ self.old }
-        ensures goes { result ≡ Call.GoesOn → self.new ≡ self.old }
-    {
-        if self.faults == u64::MAX {
-            return Call::GivesNone;
-        }
-        if self.until_fault == 1 {
-            self.until_fault = 0;
-            self.faults += 1;
-            return Call::Fails;
-        }
-        self.until_fault = self.until_fault.saturating_sub(1);
-        self.was_empty = !self.was_empty;
-        if self.was_empty {
-            Call::GoesOn
-        } else {
-            Call::IsEmpty
-        }
     }
 }
 
@@ -138,11 +81,7 @@ impl<'a> HeldLink<'a> {
             output: Vec::new(alloc),
             expected,
             seen,
-            calls: Calls {
-                until_fault: 0,
-                faults: 0,
-                was_empty: false,
-            },
+            calls: Calls::failing_at(0),
             gives: None,
             is_ended: false,
         }
@@ -150,7 +89,7 @@ impl<'a> HeldLink<'a> {
 
     /// Lets a call from now fail: the first at 1.
     pub fn failing_at(mut self, call: u64) -> HeldLink<'a> {
-        self.calls.until_fault = call;
+        self.calls = Calls::failing_at(call);
         self
     }
 
@@ -225,7 +164,7 @@ impl<'a> Link for HeldLink<'a> {
     }
 
     fn faults(&self) -> u64 {
-        self.calls.faults
+        self.calls.faults()
     }
 }
 
