@@ -1,0 +1,378 @@
+#!/usr/bin/env python3
+"""Measures how long polite clients wait beside others that are not, and prints a table with Debian's memcached beside it.
+
+For each row a server is started anew, first memcached and then the program, and one process asks it for small items over some
+connections at once, each with one request under way. Beside it other processes do what the row says. What is printed is the
+wait of the polite: the median, the 99th of a hundred, the longest, in milliseconds. It is no test: nothing fails for being slow.
+The status is 1 where an answer was wrong, or a server failed.
+
+    bench/waiting.py [--program PATH] [--only NAME ..] [--seconds S] [--quick] [--list]
+"""
+import argparse
+import contextlib
+import multiprocessing
+import os
+import resource
+import select
+import signal
+import socket
+import sys
+import time
+from dataclasses import dataclass, field
+
+HERE = os.path.dirname(os.path.realpath(__file__))
+sys.path.insert(0, os.path.dirname(HERE))
+
+from tests.lib.server import CannotStart, Server  # noqa: E402
+from tests.lib.settings import program as built  # noqa: E402
+from tests.lib.threads import held  # noqa: E402
+
+NAMES = ("memcached", "mcserver")
+POLITE = 50
+SMALL, LARGE = b"x" * 100, b"y" * 1_000_000
+# No answer may take longer; whoever waits so long is counted as not served.
+PATIENCE = 60
+FORK = multiprocessing.get_context("fork")
+
+
+class Failed(Exception):
+    """A server did not do what it was asked for."""
+
+
+# ---- clients
+
+
+def connect(port):
+    it = socket.create_connection(("127.0.0.1", port), timeout=PATIENCE)
+    it.setsockopt(socket.IPPROTO_TCP, socket.TCP_NODELAY, 1)
+    return it
+
+
+def answer(link, end):
+    """Reads to the end of one answer."""
+    got = b""
+    while not got.endswith(end):
+        piece = link.recv(1 << 20)
+        if not piece:
+            raise Failed("a connection was closed")
+        got = got[-len(end):] + piece if len(piece) < len(end) else piece
+    return got
+
+
+def put(link, key, value, exptime=0):
+    link.sendall(b"set %s 0 %d %d\r\n%s\r\n" % (key, exptime, len(value), value))
+    if answer(link, b"\r\n") != b"STORED\r\n":
+        raise Failed(f"{key.decode()} was not stored")
+
+
+def fill(port, count, exptime=0, value=SMALL, first=0):
+    """Stores so many items, with no answer to each."""
+    with connect(port) as link:
+        for start in range(first, first + count, 1000):
+            keys = range(start, min(start + 1000, first + count))
+            link.sendall(b"".join(b"set f%09d 0 %d %d noreply\r\n%s\r\n" % (key, exptime, len(value), value) for key in keys))
+        put(link, b"last", SMALL)
+
+
+def polite(port, until, waits, verb, ready, begun):
+    """Asks for small items over some connections at once, and again when all have answered; notes each wait, until a moment."""
+    links = [connect(port) for _ in range(POLITE)]
+    for number, link in enumerate(links):
+        put(link, b"p%d" % number, SMALL)
+    ready.set()
+    begun.wait()
+    asks = {"get": (b"get p%d\r\n", b"END\r\n"), "set": (b"set p%d 0 0 100\r\n" + SMALL + b"\r\n", b"STORED\r\n")}[verb]
+    found = []
+    while time.monotonic() < until.value:
+        starts = []
+        for number, link in enumerate(links):
+            starts.append(time.monotonic())
+            link.sendall(asks[0] % number)
+        for start, link in zip(starts, links):
+            answer(link, asks[1])
+            found.append(time.monotonic() - start)
+    waits.put(found)
+
+
+# ---- what others do meanwhile: each takes the server's port and the moment at which it ends
+
+
+def pipelines_gets(port, until, request, depth=4):
+    """Asks for so many at once, again and again, and reads all that comes."""
+    with connect(port) as link:
+        link.setblocking(False)
+        asked = b""
+        while time.monotonic() < until.value:
+            asked = asked or request * depth
+            readable, writable, _ = select.select([link], [link] if asked else [], [], 0.1)
+            with contextlib.suppress(BlockingIOError):
+                if writable:
+                    asked = asked[link.send(asked):]
+                if readable and not link.recv(1 << 20):
+                    raise Failed("a connection was closed")
+
+
+def repeats(port, until, request, end):
+    """Asks, waits for the answer, and asks again."""
+    with connect(port) as link:
+        while time.monotonic() < until.value:
+            link.sendall(request)
+            answer(link, end)
+
+
+def flushes(port, until):
+    """Empties the store once, when the polite have been at it for a second."""
+    time.sleep(1)
+    with connect(port) as link:
+        link.sendall(b"flush_all\r\n")
+        answer(link, b"OK\r\n")
+
+
+def grows(port, until):
+    """Stores new keys until the end."""
+    first = 100_000_000
+    while time.monotonic() < until.value:
+        fill(port, 100_000, first=first)
+        first += 100_000
+
+
+def appends(port, until):
+    """Appends to an item until it is large, and begins anew."""
+    piece = b"z" * 50_000
+    with connect(port) as link:
+        while time.monotonic() < until.value:
+            put(link, b"joined", piece)
+            for _ in range(18):
+                link.sendall(b"append joined 0 0 %d\r\n%s\r\n" % (len(piece), piece))
+                answer(link, b"STORED\r\n")
+
+
+def holds_a_worker(port, until, pid):
+    """Holds a worker's thread for ten milliseconds, ten times a second."""
+    worker = min(int(it) for it in os.listdir(f"/proc/{pid}/task") if int(it) != pid)
+    while time.monotonic() < until.value:
+        with held(worker):
+            time.sleep(0.01)
+        time.sleep(0.09)
+
+
+# ---- rows
+
+
+@dataclass
+class Row:
+    """What is done beside the polite. `before` fills the store, `others` are processes, `last` is how long it is measured."""
+
+    name: str
+    title: str
+    others: list = field(default_factory=list)
+    before: object = None
+    pages: int = 1024
+    threads: int = 4
+    seconds: float = 5
+    verb: str = "get"
+    holds: bool = False
+
+
+def large_item(port):
+    with connect(port) as link:
+        put(link, b"large", LARGE)
+
+
+def many_keys(port):
+    fill(port, 100_000)
+
+
+def rows(quick):
+    items = 300_000 if quick else 2_000_000
+    large = b"get large\r\n"
+    line = b"get " + b" ".join(b"f%09d" % key for key in range(3000)) + b"\r\n"
+    long_line = b"get " + b" ".join(b"n%d" % key for key in range(6000)) + b"\r\n"
+    set_large = b"set large 0 0 %d\r\n%s\r\n" % (len(LARGE), LARGE)
+    getting = [(pipelines_gets, (large,))]
+
+    def expiring(port):
+        fill(port, items, exptime=3)
+
+    def filled(port):
+        fill(port, items)
+
+    return [
+        Row("alone", "nothing else"),
+        *[Row(f"large-{n}", f"{n} that pipeline gets of 1 MB, one worker", getting * n, large_item, threads=1) for n in (1, 16, 20, 64)],
+        Row("large-16-t4", "16 that pipeline gets of 1 MB", getting * 16, large_item),
+        Row("lines", "8 that ask for 3,000 keys a line", [(repeats, (line, b"END\r\n"))] * 8, many_keys),
+        Row("misses", "8 that ask for 6,000 missing keys a line", [(repeats, (long_line, b"END\r\n"))] * 8),
+        Row("sets", "8 that set 1 MB", [(repeats, (set_large, b"STORED\r\n"))] * 8),
+        Row("flush", f"one flush of {items:,} items", [(flushes, ())], filled),
+        Row("tidy", f"{items:,} items expire", [], expiring, seconds=15 if quick else 70, verb="set"),
+        Row("growth", "one that stores new keys", [(grows, ())], seconds=8, verb="set"),
+        Row("joins", "4 that append 50 KB to items of up to 950 KB", [(appends, ())] * 4, verb="set"),
+        Row("stopped", "a worker's thread that is held for 10 ms, ten times a second", [(holds_a_worker, ())], verb="set", holds=True),
+    ]
+
+
+# ---- measuring
+
+
+def raise_limits():
+    most = resource.getrlimit(resource.RLIMIT_NOFILE)[1]
+    resource.setrlimit(resource.RLIMIT_NOFILE, (most, most))
+
+
+def servers(given, row):
+    for name in NAMES:
+        program = "memcached" if name == "memcached" else given.program
+        yield name, Server(program, pages=row.pages, workers=row.threads, args=["-c", "16384"])
+
+
+def measured(server, row, seconds):
+    """The waits of the polite while the others do theirs, in order."""
+    if row.before:
+        row.before(server.port)
+    until, waits, ready, begun = FORK.Value("d", 0), FORK.Queue(), FORK.Event(), FORK.Event()
+    asking = FORK.Process(target=polite, args=(server.port, until, waits, row.verb, ready, begun))
+    asking.start()
+    ready.wait(PATIENCE)
+    until.value = time.monotonic() + seconds
+    others = []
+    for act, words in row.others:
+        words = (*words, server.pid) if row.holds else words
+        others.append(FORK.Process(target=act, args=(server.port, until, *words)))
+    for it in others:
+        it.start()
+    begun.set()
+    found = sorted(waits.get(timeout=seconds + PATIENCE))
+    for it in [asking, *others]:
+        it.join(PATIENCE)
+        if it.is_alive():
+            it.kill()
+    if not server.runs():
+        raise Failed("the server ended")
+    return found
+
+
+def told(found):
+    """The median, the 99th of a hundred and the longest of waits, in milliseconds."""
+    at = [found[len(found) // 2], found[len(found) * 99 // 100], found[-1]]
+    return "".join(f"{it * 1000:9.2f}" for it in at) + f"{len(found):9,}"
+
+
+def waits_of(given, row):
+    print(row.title)
+    for name, server in servers(given, row):
+        with server:
+            found = measured(server, row, min(row.seconds, given.seconds) if row.name != "tidy" else row.seconds)
+        print(f"  {name:12}{told(found)}", flush=True)
+
+
+def opens(port, count, results):
+    """Opens connections one behind another without waiting, asks on each, and notes when each was answered."""
+    poll, links, start = select.poll(), {}, time.monotonic()
+    lost, times = 0, []
+    for _ in range(count):
+        try:
+            link = connect(port)
+            link.sendall(b"version\r\n")
+        except OSError:
+            lost += 1
+            continue
+        links[link.fileno()] = link
+        poll.register(link, select.POLLIN)
+    end = start + PATIENCE
+    while links and time.monotonic() < end:
+        for number, _ in poll.poll(100):
+            link = links.pop(number)
+            poll.unregister(number)
+            try:
+                good = link.recv(100).startswith(b"VERSION")
+            except OSError:
+                good = False
+            lost += not good
+            times.append(time.monotonic() - start)
+            link.close()
+    results.put((lost + len(links), max(times, default=0)))
+
+
+def burst_of(given, count, processes, row):
+    print(f"{count:,} connections at once, by {processes} processes{row.title}")
+    for name, server in servers(given, row):
+        with server:
+            if row.before:
+                row.before(server.port)
+            until = FORK.Value("d", time.monotonic() + PATIENCE)
+            others = [FORK.Process(target=act, args=(server.port, until, *words)) for act, words in row.others]
+            results = FORK.Queue()
+            opening = [FORK.Process(target=opens, args=(server.port, count // processes, results)) for _ in range(processes)]
+            for it in [*others, *opening]:
+                it.start()
+            found = [results.get(timeout=2 * PATIENCE) for _ in opening]
+            until.value = 0
+            for it in [*others, *opening]:
+                it.join(PATIENCE)
+        print(f"  {name:12}  not served {sum(lost for lost, _ in found)}, the last answered after {max(late for _, late in found):.2f} s", flush=True)
+
+
+def idle_of(given, count, seconds):
+    row = Row("idle", "")
+    print(f"{count:,} connections that ask nothing, for {seconds:.0f} seconds")
+    for name, server in servers(given, row):
+        with server:
+            links = [connect(server.port) for _ in range(count)]
+            time.sleep(1)
+            before = server.processor()
+            time.sleep(seconds)
+            used = server.processor() - before
+            memory = server.memory() / 1e6
+            for link in links:
+                link.close()
+        print(f"  {name:12}  {used:.2f} s of a processor, {memory:.0f} MB", flush=True)
+
+
+def bursts(given):
+    count = 2000 if given.quick else 10_000
+    large = [(pipelines_gets, (b"get large\r\n",))] * 16
+    return {
+        "burst": lambda: burst_of(given, count, 4, Row("burst", "")),
+        "burst-t1": lambda: burst_of(given, count, 4, Row("burst", ", one worker", threads=1)),
+        "burst-large": lambda: burst_of(given, 2000, 4, Row("burst", ", beside 16 that pipeline gets of 1 MB", large, large_item)),
+        "idle": lambda: idle_of(given, count, 5 if given.quick else 10),
+    }
+
+
+def arguments():
+    parser = argparse.ArgumentParser(description=__doc__, formatter_class=argparse.RawDescriptionHelpFormatter)
+    parser.add_argument("--program", default=built())
+    parser.add_argument("--only", nargs="*", default=[])
+    parser.add_argument("--seconds", type=float, default=60)
+    parser.add_argument("--quick", action="store_true", help="fewer items, and shorter")
+    parser.add_argument("--list", action="store_true")
+    return parser.parse_args()
+
+
+def main():
+    given = arguments()
+    signal.signal(signal.SIGTERM, lambda *_: sys.exit(1))
+    raise_limits()
+    acts = {row.name: lambda row=row: waits_of(given, row) for row in rows(given.quick)} | bursts(given)
+    if given.list:
+        print(*acts, sep="\n")
+        return 0
+    if unknown := set(given.only) - set(acts):
+        print(f"waiting.py: there is no row {', '.join(sorted(unknown))}", file=sys.stderr)
+        return 2
+    print(f"{'':14}   median     99 %  longest   waits   (milliseconds; gets or sets of {len(SMALL)} bytes by {POLITE} connections)")
+    for name, act in acts.items():
+        if not given.only or name in given.only:
+            act()
+    return 0
+
+
+if __name__ == "__main__":
+    try:
+        sys.exit(main())
+    except (Failed, CannotStart) as fault:
+        print(f"waiting.py: {fault}", file=sys.stderr)
+        sys.exit(1)
+    except KeyboardInterrupt:
+        sys.exit(130)
