@@ -17,6 +17,7 @@ import tempfile
 import time
 
 from tests.lib import settings
+from tests.lib.rows import GREATEST
 from tests.lib.wait import until
 
 HOST = "127.0.0.1"
@@ -173,8 +174,9 @@ class Server(Started):
 
 
 class StillServer(Server):
-    """A running server whose clock stands."""
+    """A running server whose clock stands, and whose items have at most so many bytes with key and header."""
 
-    def __init__(self, now=MOMENT, connections=MOST, **options):
+    def __init__(self, now=MOMENT, connections=MOST, greatest=GREATEST, **options):
         clock = [] if is_memcached(settings.program()) else ["--now", str(now)]
-        super().__init__(args=["-c", str(connections), *clock], **options)
+        largest = [] if greatest == GREATEST else ["-I", str(greatest)]
+        super().__init__(args=["-c", str(connections), *largest, *clock], **options)
