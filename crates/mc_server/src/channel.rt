@@ -43,7 +43,7 @@ impl Readiness {
 }
 
 /// A connection of which no call waits. Nobody can know which bytes reach a socket or leave it, so contracts
-/// see how often it failed and whether it is at its end.
+/// see how often it failed, whether it is at its end, and whether it was last asked to give.
 ///
 /// A call says that it would block only after the system itself said so, by an error or by a count
 /// that was short, and then lowers the flag: from there on the system reports the next change, and the
@@ -55,6 +55,7 @@ pub struct Channel {
     wire: Wire,
     faults: u64,
     is_ended: bool,
+    was_read: bool,
 }
 
 /// A connection, with what is known and counted of it.
@@ -87,6 +88,7 @@ impl Channel {
             wire,
             faults: 0,
             is_ended: false,
+            was_read: false,
         }
     }
 
@@ -233,9 +235,11 @@ impl Link for Channel {
       taken = None;
       faults = c.faults;
       is_ended = c.is_ended;
+      was_read = c.was_read;
     } };
 
     fn try_read(&mut self, piece: &mut [u8]) -> Result<Got, LinkFault> {
+        self.was_read = true;
         if self.faults == u64::MAX || piece.is_empty() {
             return Ok(Got::Later);
         }
@@ -258,6 +262,7 @@ impl Link for Channel {
     }
 
     fn try_write_both(&mut self, first: &[u8], second: &[u8]) -> Result<Took, LinkFault> {
+        self.was_read = false;
         if self.faults == u64::MAX {
             return Ok(Took::Later);
         }

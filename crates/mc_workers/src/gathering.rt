@@ -1,7 +1,8 @@
 //! Few large writes in the place of many small ones.
-ghost use Rattle.std.specs.Prelude.{◌≡◌, ◌↔◌, ◌-◌, ◌^◌, ◌++◌, [], Ok, IsTrue, IsFalse};
+ghost use Rattle.std.specs.Prelude.{◌≡◌, ◌↔◌, ◌-◌, ◌^◌, ◌++◌, [], Ok, IsTrue, IsFalse, true, false};
 ghost use Rattle.mc_workers.specs.Links.{Gives, Takes};
-ghost use Rattle.mc_workers.specs.Gathered.{over, whole, IsFront, Flushes, Gathers, AfterAll};
+ghost use Rattle.mc_workers.specs.Gathered.{over, whole, turned, IsFront, Flushes, Gathers, AfterAll};
+ghost use Rattle.mc_workers.specs.Gathered.{WaitsBelow};
 
 use crate::link::{Got, Link, LinkFault, Took};
 use mc_parse::Queue;
@@ -29,6 +30,8 @@ pub struct Gathering<L: Link + Drop> {
     alloc: Global,
     link: L,
     gathered: Queue<65536>,
+    /// Whether its last call was a read.
+    was_read: bool,
 }
 
 impl<L: Link + Drop> Model for Gathering<L> {
@@ -37,7 +40,11 @@ impl<L: Link + Drop> Model for Gathering<L> {
 
     ghost Value = { GatheringState };
 
-    ghost view = { λ g. record { link = L.shown g.link; gathered = g.gathered } };
+    ghost view = { λ g. record {
+      link = L.shown g.link;
+      gathered = g.gathered;
+      was_read = g.was_read;
+    } };
 
     ghost invariant = { λ g. length g.gathered ≤ 65536 };
 }
@@ -51,6 +58,7 @@ impl<L: Link + Drop> Gathering<L> {
             alloc,
             link,
             gathered: Queue::new(alloc),
+            was_read: false,
         }
     }
 
@@ -71,7 +79,8 @@ impl<L: Link + Drop> Gathering<L> {
     /// Hands on what is gathered, as far as the link below takes it. Where it took a part it is asked once
     /// more, and says by its answer that it takes no more.
     pub fn flush(&mut self) -> Result<(), LinkFault>
-        ensures { Flushes self.old result self.new }
+        ensures flushes { Flushes self.old result self.new }
+        ensures asks { (self.new.gathered ≡ [] → ⊥) → self.new.link.was_read ≡ false }
     {
         match self.hand_on() {
             Ok(()) => self.hand_on(),
@@ -81,7 +90,8 @@ impl<L: Link + Drop> Gathering<L> {
 
     /// Asks the link below once to take what is gathered.
     fn hand_on(&mut self) -> Result<(), LinkFault>
-        ensures { Flushes self.old result self.new }
+        ensures flushes { Flushes self.old result self.new }
+        ensures asks { (self.new.gathered ≡ [] → ⊥) → self.new.link.was_read ≡ false }
     {
         if self.gathered.is_empty() {
             return Ok(());
@@ -109,7 +119,8 @@ impl<L: Link + Drop> Gathering<L> {
 
     /// Asks the link below once to take what is gathered and then these bytes.
     fn send(&mut self, bytes: &[u8]) -> Result<Took, LinkFault>
-        ensures { Gathers self.old bytes.now result self.new }
+        ensures gathers { Gathers self.old bytes.now result self.new }
+        ensures asks { self.new.link.was_read ≡ false }
     {
         let before = self.gathered.len();
         match self
@@ -133,6 +144,8 @@ impl<L: Link + Drop> Gathering<L> {
     fn read_below(&mut self, piece: &mut [u8]) -> Result<Got, LinkFault>
         ensures gives { Gives self.old.link piece.new result self.new.link }
         ensures same { self.new.gathered ≡ self.old.gathered }
+        ensures asks { self.new.link.was_read ≡ true }
+        ensures was_read { self.new.was_read ≡ self.old.was_read }
     {
         let got = self.link.try_read(piece);
         if let Ok(Got::Later) = got {
@@ -159,7 +172,10 @@ impl<L: Link + Drop> Link for Gathering<L> {
         ensures gives { Gives (whole self.old) piece.new result (whole self.new) }
         ensures full { self.old.link.faults ≡ 2 ^ 64 - 1 → result ≡ Ok Got.Later }
         ensures after { AfterAll result self.new.gathered }
+        ensures waits { (self.old.link.faults ≡ 2 ^ 64 - 1 → ⊥) → result ≡ Ok Got.Later →
+            WaitsBelow self.new }
     {
+        self.was_read = true;
         if self.link.faults() == u64::MAX {
             return Ok(Got::Later);
         }
@@ -175,8 +191,11 @@ impl<L: Link + Drop> Link for Gathering<L> {
     fn try_write(&mut self, bytes: &[u8]) -> Result<Took, LinkFault>
         ensures takes { Takes (whole self.old) bytes.now result (whole self.new) }
         ensures full { self.old.link.faults ≡ 2 ^ 64 - 1 → result ≡ Ok Took.Later }
-        ensures gathers { Gathers self.old bytes.now result self.new }
+        ensures gathers { Gathers (turned false self.old) bytes.now result self.new }
+        ensures asks { (self.old.link.faults ≡ 2 ^ 64 - 1 → ⊥) → result ≡ Ok Took.Later →
+            self.new.link.was_read ≡ false }
     {
+        self.was_read = false;
         if self.link.faults() == u64::MAX {
             return Ok(Took::Later);
         }

@@ -14,6 +14,7 @@ struct Narrow {
     width: usize,
     taken: Vec<u8>,
     is_ended: bool,
+    was_read: bool,
     calls: Calls,
 }
 
@@ -28,6 +29,7 @@ impl Model for Narrow {
       taken = Some s.taken.items;
       faults = s.calls;
       is_ended = s.is_ended;
+      was_read = s.was_read;
     } };
 }
 
@@ -38,6 +40,7 @@ impl Narrow {
     fn take(&mut self, bytes: &[u8]) -> Result<Took, LinkFault>
         ensures { Takes self.old bytes.now result self.new }
     {
+        self.was_read = false;
         let count = bytes.len().min(self.width);
         let (front, _) = bytes.split_at(count);
         match self.taken.extend_from_slice(front) {
@@ -51,6 +54,7 @@ impl Link for Narrow {
     ghost shown = { λ s. s };
 
     fn try_read(&mut self, _piece: &mut [u8]) -> Result<Got, LinkFault> {
+        self.was_read = true;
         match self.calls.next() {
             Call::Fails => Err(LinkFault),
             Call::GivesNone | Call::IsEmpty => Ok(Got::Later),
@@ -62,6 +66,7 @@ impl Link for Narrow {
     }
 
     fn try_write(&mut self, bytes: &[u8]) -> Result<Took, LinkFault> {
+        self.was_read = false;
         match self.calls.next() {
             Call::Fails => Err(LinkFault),
             Call::GivesNone | Call::IsEmpty => Ok(Took::Later),
@@ -146,6 +151,7 @@ fn goes_through(alloc: Global, width: usize, fails_at: u64) -> Result<bool, Allo
         width,
         taken: Vec::new(alloc),
         is_ended: false,
+        was_read: false,
         calls: Calls::failing_at(fails_at),
     };
     let mut gathering = Gathering::new(alloc, link);

@@ -53,6 +53,7 @@ pub struct HeldLink<'a> {
     /// It gives nothing while this is 0.
     gives: Option<&'a AtomicU64>,
     is_ended: bool,
+    was_read: bool,
 }
 
 impl<'a> Model for HeldLink<'a> {
@@ -66,6 +67,7 @@ impl<'a> Model for HeldLink<'a> {
       taken = Some s.output.items;
       faults = s.calls;
       is_ended = s.is_ended;
+      was_read = s.was_read;
     } };
 }
 
@@ -84,6 +86,7 @@ impl<'a> HeldLink<'a> {
             calls: Calls::failing_at(0),
             gives: None,
             is_ended: false,
+            was_read: false,
         }
     }
 
@@ -111,6 +114,7 @@ impl<'a> HeldLink<'a> {
     fn give(&mut self, piece: &mut [u8]) -> Result<Got, LinkFault>
         ensures { Gives self.old piece.new result self.new }
     {
+        self.was_read = true;
         if self.at >= self.input.len() {
             self.is_ended = true;
             return Ok(Got::End);
@@ -127,6 +131,7 @@ impl<'a> HeldLink<'a> {
     fn take(&mut self, bytes: &[u8]) -> Result<Took, LinkFault>
         ensures { Takes self.old bytes.now result self.new }
     {
+        self.was_read = false;
         if bytes.is_empty() {
             return Ok(Took::Later);
         }
@@ -146,6 +151,7 @@ impl<'a> Link for HeldLink<'a> {
     ghost shown = { λ s. s };
 
     fn try_read(&mut self, piece: &mut [u8]) -> Result<Got, LinkFault> {
+        self.was_read = true;
         match self.calls.next() {
             Call::Fails => Err(LinkFault),
             Call::GivesNone => Ok(Got::Later),
@@ -155,6 +161,7 @@ impl<'a> Link for HeldLink<'a> {
     }
 
     fn try_write(&mut self, bytes: &[u8]) -> Result<Took, LinkFault> {
+        self.was_read = false;
         match self.calls.next() {
             Call::Fails => Err(LinkFault),
             Call::GivesNone => Ok(Took::Later),

@@ -30,7 +30,8 @@ pub trait Link {
     ghost use Rattle.std.specs.Prelude.{◌≡◌, ◌-◌, ◌^◌, ◌++◌, Ok};
     ghost use Rattle.mc_workers.specs.Links.{LinkState, Gives, Takes};
 
-    /// What it gave and took until now, how often it failed, and whether it is at its end.
+    /// What it gave and took until now, how often it failed, whether it is at its end, and whether it was
+    /// last asked to give and not to take.
     ghost shown: { Self → LinkState };
 
     /// Gives bytes where there are any, at most as many as the piece is long.
