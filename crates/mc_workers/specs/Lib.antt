@@ -2,6 +2,7 @@ pub mod Links
 pub mod Gathered
 pub mod Guests
 pub mod Visits
+pub mod Books
 pub mod Telling
 pub mod Tending
 pub mod Outcomes

@@ -1,6 +1,7 @@
 //! Guests in a row, each of which is found by the number of its link.
-ghost use Rattle.std.specs.Prelude.{◌≡◌, ◌<◌, ◌≤◌, ◌+◌, IsTrue, IsFalse};
+ghost use Rattle.std.specs.Prelude.{◌≡◌, ◌<◌, ◌≤◌, ◌-◌, [], drop, length, slice_get, Some, IfSome, IsTrue, IsFalse};
 ghost use Rattle.mc_workers.specs.Visits.{MakesRound};
+ghost use Rattle.mc_workers.specs.Books.{swapped, cut, joined, IsLastAt};
 
 use crate::guest::{Guest, Visit};
 use crate::link::Link;
@@ -11,7 +12,7 @@ use std::alloc::Global;
 use std::collections::HashMap;
 use std::marker::Model;
 
-/// Guests in a row. Contracts see how many there are.
+/// Guests in a row. Contracts see them, and beside each the number of its link.
 #[derive(Drop)]
 pub struct Row<L: Link + Drop> {
     guests: Vec<Guest<L>>,
@@ -22,11 +23,12 @@ pub struct Row<L: Link + Drop> {
 }
 
 impl<L: Link + Drop> Model for Row<L> {
-    ghost use Rattle.std.specs.Prelude.{◌≡◌, ℕ, length};
+    ghost use Rattle.std.specs.Prelude.{◌≡◌, length};
+    ghost use Rattle.mc_workers.specs.Books.{RowState};
 
-    ghost Value = { ℕ };
+    ghost Value = { RowState };
 
-    ghost view = { λ r. length r.guests.items };
+    ghost view = { λ r. record { guests = r.guests.items; numbers = r.numbers.items } };
 
     ghost invariant = { λ r. length r.numbers.items ≡ length r.guests.items };
 }
@@ -34,7 +36,7 @@ impl<L: Link + Drop> Model for Row<L> {
 impl<L: Link + Drop> Row<L> {
     /// Has no guests. It takes no memory.
     pub fn new(alloc: Global) -> Row<L>
-        ensures { result ≡ 0 }
+        ensures { result ≡ record { guests = []; numbers = [] } }
     {
         Row {
             guests: Vec::new(alloc),
@@ -45,7 +47,7 @@ impl<L: Link + Drop> Row<L> {
 
     /// Counts the guests.
     pub fn len(&self) -> usize
-        ensures { result ≡ self.now }
+        ensures { result ≡ length self.now.guests }
     {
         self.guests.len()
     }
@@ -53,7 +55,7 @@ impl<L: Link + Drop> Row<L> {
     /// Puts a guest behind the others, whose link has this number, and says whether there was memory
     /// for it. Without, the guest is dropped.
     pub fn push(&mut self, guest: Guest<L>, number: u64) -> bool
-        ensures pushed { IsTrue result → self.new ≡ self.old + 1 }
+        ensures pushed { IsTrue result → self.new ≡ joined guest number self.old }
         ensures refused { IsFalse result → self.new ≡ self.old }
     {
         let place = self.guests.len();
@@ -74,8 +76,8 @@ impl<L: Link + Drop> Row<L> {
 
     /// Drops the last guest.
     pub fn pop(&mut self)
-        requires { 0 < self.old }
-        ensures { self.new + 1 ≡ self.old }
+        requires { 0 < length self.old.guests }
+        ensures { self.new ≡ cut (length self.old.guests - 1) self.old }
     {
         self.guests.pop();
         if let Some(number) = self.numbers.pop() {
@@ -85,21 +87,39 @@ impl<L: Link + Drop> Row<L> {
 
     /// Says what a guest's last visit answered.
     pub fn last(&self, at: usize) -> Option<Visit>
-        requires { at < self.now }
+        requires { at < length self.now.guests }
+        ensures { IsLastAt at self.now result }
     {
         self.guests[at].last()
     }
 
     /// Says where the guest stands whose link has this number.
-    pub fn place_of(&self, number: u64) -> Option<usize> {
-        self.places.get(&number).copied()
+    pub fn place_of(&self, number: u64) -> Option<usize>
+        ensures { IfSome result (λ at. slice_get self.now.numbers at ≡ Some number) }
+    {
+        match self.places.get(&number) {
+            Some(at) if self.has_at(*at, number) => Some(*at),
+            _ => None,
+        }
+    }
+
+    /// Returns whether the link of the guest at a place has this number.
+    fn has_at(&self, at: usize, number: u64) -> bool
+        ensures { IsTrue result → slice_get self.now.numbers at ≡ Some number }
+    {
+        match self.numbers.get(at) {
+            Some(one) => *one == number,
+            None => false,
+        }
     }
 
     /// Visits each of the first `count` once.
     pub fn visit_front<S: Steps>(&mut self, alloc: Global, count: usize, store: &mut S, now: Moment)
-        requires { count ≤ self.old }
+        requires { count ≤ length self.old.guests }
         ensures round { MakesRound S.Steps now store.old store.new }
-        ensures same { self.new ≡ self.old }
+        ensures rest { drop count self.new.guests ≡ drop count self.old.guests }
+        ensures len { length self.new.guests ≡ length self.old.guests }
+        ensures numbers { self.new.numbers ≡ self.old.numbers }
     {
         let (front, _) = self.guests.as_mut_slice().split_at_mut(count);
         round(alloc, front, store, now);
@@ -107,9 +127,9 @@ impl<L: Link + Drop> Row<L> {
 
     /// Swaps two guests. It does nothing where they are one.
     pub fn swap(&mut self, one: usize, other: usize)
-        requires one { one < self.old }
-        requires other { other < self.old }
-        ensures { self.new ≡ self.old }
+        requires one { one < length self.old.guests }
+        requires other { other < length self.old.guests }
+        ensures { self.new ≡ swapped one other self.old }
     {
         if one == other {
             return;
@@ -122,7 +142,7 @@ impl<L: Link + Drop> Row<L> {
 
     /// Notes where a guest stands now.
     fn note_place(&mut self, at: usize)
-        requires { at < self.old }
+        requires { at < length self.old.guests }
         ensures { self.new ≡ self.old }
     {
         let number = self.numbers[at];
