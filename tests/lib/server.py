@@ -17,7 +17,6 @@ import tempfile
 import time
 
 from tests.lib import settings
-from tests.lib.rows import GREATEST
 from tests.lib.wait import until
 
 HOST = "127.0.0.1"
@@ -174,9 +173,8 @@ class Server(Started):
 
 
 class StillServer(Server):
-    """A running server whose clock stands, and whose items have at most so many bytes with key and header."""
+    """A running server whose clock stands."""
 
-    def __init__(self, now=MOMENT, connections=MOST, greatest=GREATEST, **options):
+    def __init__(self, now=MOMENT, connections=MOST, **options):
         clock = [] if is_memcached(settings.program()) else ["--now", str(now)]
-        largest = [] if greatest == GREATEST else ["-I", str(greatest)]
-        super().__init__(args=["-c", str(connections), *largest, *clock], **options)
+        super().__init__(args=["-c", str(connections), *clock], **options)

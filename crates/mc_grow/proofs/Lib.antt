@@ -4,4 +4,3 @@ pub mod PartLemmas
 pub mod CellLemmas
 pub mod ChangeLemmas
 pub mod IndexLemmas
-pub mod OrderLemmas

@@ -2,4 +2,3 @@ pub mod Indexes
 pub mod Parts
 pub mod Adding
 pub mod Moving
-pub mod Strays

@@ -1,1 +1,2 @@
+mod AskedLemmas
 pub mod RunLemmas

@@ -1,7 +1,7 @@
 //! Who hears of the steps of a worker.
 
 use crate::full::Refusals;
-use crate::metrics::{Counts, counted_as};
+use crate::metrics::Counts;
 use mc_command::KeyStep;
 use mc_workers::{Outcome, Tally};
 
@@ -14,9 +14,7 @@ pub struct Heard<'a> {
 
 impl Tally for Heard<'_> {
     fn took(&self, step: &KeyStep<'_>, outcome: Outcome) {
-        if let Some(counted) = counted_as(step, outcome) {
-            self.counts.add(counted, 1);
-        }
+        self.counts.took(step, outcome);
         self.refusals.took(step, outcome);
     }
 }

@@ -1,13 +1,16 @@
 //! What is counted, and how whoever asks over HTTP is told of it.
 
-mod counting;
+mod answer;
+mod counts;
 mod door;
 mod families;
 mod observer;
+mod page;
+mod reading;
+mod request;
 mod scrape;
 
-pub use counting::counted_as;
+pub use counts::{Counted, Counts};
 pub use door::{Door, opened};
-pub use mc_metrics::{Counted, Counts, LONGEST};
 pub use observer::Observer;
-pub use scrape::{Quitter, Teller};
+pub use scrape::{LONGEST, Teller};

@@ -10,7 +10,6 @@ pub mod SpreadLemmas
 pub mod Showing
 pub mod StepsKept
 pub mod Decisions
-pub mod HitLemmas
 pub mod Held
 pub mod Opening
 pub mod Stacked

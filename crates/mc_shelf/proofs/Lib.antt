@@ -1,6 +1,4 @@
 pub mod EntryLemmas
-pub mod NeedLemmas
-pub mod PartsLemmas
 pub mod IndexLemmas
 pub mod PlaceLemmas
 pub mod KeyLemmas

@@ -1,9 +1,2 @@
-pub mod ChunkLemmas
 pub mod ClassLemmas
-pub mod CutLemmas
-pub mod HeldLemmas
-pub mod NeedLemmas
-pub mod ReadyLemmas
-pub mod RoomLemmas
-pub mod SheetLemmas
 pub mod SlabLemmas

@@ -9,11 +9,18 @@ use Rattle.mc_parse.specs.Streams.{is_last}
 use Rattle.mc_session.specs.Turns.{SessionState, TakesTurn, moved, fed, turn_count}
 use Rattle.mc_workers.specs.Links.{LinkState, grown}
 use Rattle.mc_workers.specs.Guests.{GuestState, welcomed, told}
-use Rattle.mc_workers.proofs.LinkLemmas.{grown_nothing, grown_twice}
 use Rattle.mc_workers.specs.Visits.{Does, Visited, GoesRound, nobody, next, WritesFront}
 use Rattle.mc_workers.specs.Telling.{TakenTurn, Visits, nothing, visit, texts, turns_of}
 use Rattle.mc_workers.specs.declared.guest.Visit.{Visit}
 use Rattle.mc_workers.specs.declared.guest.Visit.TheVariants.{Wrote, Turned, Read, Later, Served, Broken, Refused}
+
+pub grown_nothing : (known : Option (List ℕ)) → grown known [] ≡ known
+grown_nothing None = refl
+grown_nothing (Some bytes) = ap (λ (l : List ℕ). Some l) (append-nil bytes)
+
+pub grown_twice : (known : Option (List ℕ)) (a b : List ℕ) → grown (grown known a) b ≡ grown known (a ++ b)
+grown_twice None a b = refl
+grown_twice (Some bytes) a b = ap (λ (l : List ℕ). Some l) (append_assoc bytes a b)
 
 -- where the link took nothing and the output is the same, the same is told
 told_same : (old new : GuestState) → new.link.taken ≡ old.link.taken → new.session.out ≡ old.session.out

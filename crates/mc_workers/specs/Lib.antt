@@ -1,8 +1,6 @@
 pub mod Links
-pub mod Gathered
 pub mod Guests
 pub mod Visits
-pub mod Books
 pub mod Telling
 pub mod Tending
 pub mod Outcomes

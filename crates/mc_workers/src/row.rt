@@ -1,7 +1,6 @@
 //! Guests in a row, each of which is found by the number of its link.
-ghost use Rattle.std.specs.Prelude.{◌≡◌, ◌<◌, ◌≤◌, ◌-◌, [], drop, length, slice_get, Some, IfSome, IsTrue, IsFalse};
+ghost use Rattle.std.specs.Prelude.{◌≡◌, ◌<◌, ◌≤◌, ◌+◌, IsTrue, IsFalse};
 ghost use Rattle.mc_workers.specs.Visits.{MakesRound};
-ghost use Rattle.mc_workers.specs.Books.{swapped, cut, joined, IsLastAt};
 
 use crate::guest::{Guest, Visit};
 use crate::link::Link;
@@ -12,7 +11,7 @@ use std::alloc::Global;
 use std::collections::HashMap;
 use std::marker::Model;
 
-/// Guests in a row. Contracts see them, and beside each the number of its link.
+/// Guests in a row. Contracts see how many there are.
 #[derive(Drop)]
 pub struct Row<L: Link + Drop> {
     guests: Vec<Guest<L>>,
@@ -23,12 +22,11 @@ pub struct Row<L: Link + Drop> {
 }
 
 impl<L: Link + Drop> Model for Row<L> {
-    ghost use Rattle.std.specs.Prelude.{◌≡◌, length};
-    ghost use Rattle.mc_workers.specs.Books.{RowState};
+    ghost use Rattle.std.specs.Prelude.{◌≡◌, ℕ, length};
 
-    ghost Value = { RowState };
+    ghost Value = { ℕ };
 
-    ghost view = { λ r. record { guests = r.guests.items; numbers = r.numbers.items } };
+    ghost view = { λ r. length r.guests.items };
 
     ghost invariant = { λ r. length r.numbers.items ≡ length r.guests.items };
 }
@@ -36,7 +34,7 @@ impl<L: Link + Drop> Model for Row<L> {
 impl<L: Link + Drop> Row<L> {
     /// Has no guests. It takes no memory.
     pub fn new(alloc: Global) -> Row<L>
-        ensures { result ≡ record { guests = []; numbers = [] } }
+        ensures { result ≡ 0 }
     {
         Row {
             guests: Vec::new(alloc),
@@ -47,7 +45,7 @@ impl<L: Link + Drop> Row<L> {
 
     /// Counts the guests.
     pub fn len(&self) -> usize
-        ensures { result ≡ length self.now.guests }
+        ensures { result ≡ self.now }
     {
         self.guests.len()
     }
@@ -55,7 +53,7 @@ impl<L: Link + Drop> Row<L> {
     /// Puts a guest behind the others, whose link has this number, and says whether there was memory
     /// for it. Without, the guest is dropped.
     pub fn push(&mut self, guest: Guest<L>, number: u64) -> bool
-        ensures pushed { IsTrue result → self.new ≡ joined guest number self.old }
+        ensures pushed { IsTrue result → self.new ≡ self.old + 1 }
         ensures refused { IsFalse result → self.new ≡ self.old }
     {
         let place = self.guests.len();
@@ -76,8 +74,8 @@ impl<L: Link + Drop> Row<L> {
 
     /// Drops the last guest.
     pub fn pop(&mut self)
-        requires { 0 < length self.old.guests }
-        ensures { self.new ≡ cut (length self.old.guests - 1) self.old }
+        requires { 0 < self.old }
+        ensures { self.new + 1 ≡ self.old }
     {
         self.guests.pop();
         if let Some(number) = self.numbers.pop() {
@@ -87,39 +85,21 @@ impl<L: Link + Drop> Row<L> {
 
     /// Says what a guest's last visit answered.
     pub fn last(&self, at: usize) -> Option<Visit>
-        requires { at < length self.now.guests }
-        ensures { IsLastAt at self.now result }
+        requires { at < self.now }
     {
         self.guests[at].last()
     }
 
     /// Says where the guest stands whose link has this number.
-    pub fn place_of(&self, number: u64) -> Option<usize>
-        ensures { IfSome result (λ at. slice_get self.now.numbers at ≡ Some number) }
-    {
-        match self.places.get(&number) {
-            Some(at) if self.has_at(*at, number) => Some(*at),
-            _ => None,
-        }
-    }
-
-    /// Returns whether the link of the guest at a place has this number.
-    fn has_at(&self, at: usize, number: u64) -> bool
-        ensures { IsTrue result → slice_get self.now.numbers at ≡ Some number }
-    {
-        match self.numbers.get(at) {
-            Some(one) => *one == number,
-            None => false,
-        }
+    pub fn place_of(&self, number: u64) -> Option<usize> {
+        self.places.get(&number).copied()
     }
 
     /// Visits each of the first `count` once.
     pub fn visit_front<S: Steps>(&mut self, alloc: Global, count: usize, store: &mut S, now: Moment)
-        requires { count ≤ length self.old.guests }
+        requires { count ≤ self.old }
         ensures round { MakesRound S.Steps now store.old store.new }
-        ensures rest { drop count self.new.guests ≡ drop count self.old.guests }
-        ensures len { length self.new.guests ≡ length self.old.guests }
-        ensures numbers { self.new.numbers ≡ self.old.numbers }
+        ensures same { self.new ≡ self.old }
     {
         let (front, _) = self.guests.as_mut_slice().split_at_mut(count);
         round(alloc, front, store, now);
@@ -127,9 +107,9 @@ impl<L: Link + Drop> Row<L> {
 
     /// Swaps two guests. It does nothing where they are one.
     pub fn swap(&mut self, one: usize, other: usize)
-        requires one { one < length self.old.guests }
-        requires other { other < length self.old.guests }
-        ensures { self.new ≡ swapped one other self.old }
+        requires one { one < self.old }
+        requires other { other < self.old }
+        ensures { self.new ≡ self.old }
     {
         if one == other {
             return;
@@ -142,7 +122,7 @@ impl<L: Link + Drop> Row<L> {
 
     /// Notes where a guest stands now.
     fn note_place(&mut self, at: usize)
-        requires { at < length self.old.guests }
+        requires { at < self.old }
         ensures { self.new ≡ self.old }
     {
         let number = self.numbers[at];

@@ -5,8 +5,6 @@
 mod event;
 #[cfg(test)]
 mod hostile_tests;
-#[cfg(test)]
-mod large_tests;
 mod laws;
 mod parts;
 #[cfg(test)]
