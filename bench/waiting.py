@@ -12,6 +12,7 @@ import argparse
 import contextlib
 import multiprocessing
 import os
+import queue
 import resource
 import select
 import signal
@@ -81,17 +82,41 @@ def polite(port, until, waits, verb, ready, begun):
         put(link, b"p%d" % number, SMALL)
     ready.set()
     begun.wait()
-    asks = {"get": (b"get p%d\r\n", b"END\r\n"), "set": (b"set p%d 0 0 100\r\n" + SMALL + b"\r\n", b"STORED\r\n")}[verb]
+    asked, wanted = zip(*(exchange(verb, number) for number in range(POLITE)))
     found = []
     while time.monotonic() < until.value:
-        starts = []
-        for number, link in enumerate(links):
-            starts.append(time.monotonic())
-            link.sendall(asks[0] % number)
-        for start, link in zip(starts, links):
-            answer(link, asks[1])
-            found.append(time.monotonic() - start)
+        found += waited(links, asked, wanted)
     waits.put(found)
+
+
+def exchange(verb, number):
+    """What a polite client asks for, and what is to be answered."""
+    if verb == "set":
+        return b"set p%d 0 0 %d\r\n%s\r\n" % (number, len(SMALL), SMALL), b"STORED\r\n"
+    return b"get p%d\r\n" % number, b"VALUE p%d 0 %d\r\n%s\r\nEND\r\n" % (number, len(SMALL), SMALL)
+
+
+def waited(links, asked, wanted):
+    """Asks on each connection, and gives how long each answer took, by the moment at which its last byte came."""
+    chooser, starts, got, found = select.poll(), {}, {}, []
+    for number, link in enumerate(links):
+        starts[link.fileno()], got[link.fileno()] = (number, time.monotonic()), b""
+        link.sendall(asked[number])
+        chooser.register(link, select.POLLIN)
+    while starts:
+        ready = chooser.poll(PATIENCE * 1000)
+        if not ready:
+            raise Failed(f"{len(starts)} had no answer in {PATIENCE} seconds")
+        for at, _ in ready:
+            number, start = starts[at]
+            got[at] += links[number].recv(65536)
+            if not wanted[number].startswith(got[at]) or not got[at]:
+                raise Failed(f"a wrong answer: {got[at][:60]}")
+            if got[at] == wanted[number]:
+                found.append(time.monotonic() - start)
+                chooser.unregister(at)
+                del starts[at]
+    return found
 
 
 # ---- what others do meanwhile: each takes the server's port and the moment at which it ends
@@ -192,7 +217,8 @@ def rows(quick):
     getting = [(pipelines_gets, (large,))]
 
     def expiring(port):
-        fill(port, items, exptime=3)
+        # longer than the filling takes, and shorter than the row
+        fill(port, items, exptime=5 if quick else 20)
 
     def filled(port):
         fill(port, items)
@@ -242,14 +268,31 @@ def measured(server, row, seconds):
     for it in others:
         it.start()
     begun.set()
-    found = sorted(waits.get(timeout=seconds + PATIENCE))
-    for it in [asking, *others]:
+    try:
+        found = sorted(waits.get(timeout=seconds + PATIENCE))
+    except queue.Empty:
+        raise Failed("the polite were not answered") from None
+    finally:
+        over([asking, *others])
+    ended_well(server, [asking, *others])
+    return found
+
+
+def over(processes):
+    """Waits until they have ended, and ends those that don't."""
+    for it in processes:
         it.join(PATIENCE)
         if it.is_alive():
             it.kill()
+            it.join()
+
+
+def ended_well(server, processes):
+    """Fails where the server has ended, or one of the clients found something wrong."""
     if not server.runs():
         raise Failed("the server ended")
-    return found
+    if any(it.exitcode for it in processes):
+        raise Failed("a client was answered wrongly, or not in time")
 
 
 def told(found):
@@ -308,8 +351,8 @@ def burst_of(given, count, processes, row):
                 it.start()
             found = [results.get(timeout=2 * PATIENCE) for _ in opening]
             until.value = 0
-            for it in [*others, *opening]:
-                it.join(PATIENCE)
+            over([*others, *opening])
+            ended_well(server, [*others, *opening])
         print(f"  {name:12}  not served {sum(lost for lost, _ in found)}, the last answered after {max(late for _, late in found):.2f} s", flush=True)
 
 
