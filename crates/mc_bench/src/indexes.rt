@@ -5,7 +5,7 @@ use crate::finds::{Search, fnv};
 use mc_grow::Index;
 use mc_hop::Keyed;
 use mc_item::{Item, Parts};
-use mc_slab::{Slab, class_of};
+use mc_slab::{Slab, need_of};
 use mc_time::{Expiry, Moment};
 use std::alloc::{AllocError, Global};
 
@@ -35,17 +35,14 @@ impl Keyed for Entry {
     }
 }
 
-/// Writes an item into a chunk of the slab.
+/// Writes an item into chunks of the slab.
 fn written(slab: &mut Slab, alloc: Global, key: &[u8; 32]) -> Result<Entry, AllocError> {
-    let Some(class) = class_of(CHARGE as u64) else {
+    let Some(need) = need_of(CHARGE as u64) else {
         return Err(AllocError);
     };
-    let Ok(chunk) = slab.take(alloc, class) else {
+    let Ok(chunks) = slab.take_all(alloc, need) else {
         return Err(AllocError);
     };
-    if chunk.bytes().len() < CHARGE {
-        return Err(AllocError);
-    }
     let parts = Parts {
         hash: fnv(key),
         key,
@@ -57,7 +54,7 @@ fn written(slab: &mut Slab, alloc: Global, key: &[u8; 32]) -> Result<Entry, Allo
         updated: Moment::from_seconds_at_most(1000),
     };
     Ok(Entry {
-        item: Item::write(chunk, parts),
+        item: Item::write(chunks, parts),
     })
 }
 

@@ -6,7 +6,8 @@ use Rattle.std.specs.Cmp.{eq_by_cmp_equiv, IsEquivalence}
 use Rattle.std.specs.Cmp.Lexicographic.{slice_cmp, nat_list_cmp_total}
 use Rattle.std.specs.declared.cmp.Ordering.{Ordering}
 use Rattle.std.specs.declared.cmp.Ordering.TheVariants.{Less, Equal, Greater}
-use Rattle.std.specs.FinMap.{get, insert, remove, retain_keys, from_entries, find, get-from_entries, get-insert, get-remove, get-retain_keys, same_map, slice_cmp-IsAntisymmetric, nat_cmp-IsAntisymmetric, IsAntisymmetric}
+use Rattle.std.specs.FinMap.{get, insert, remove, retain_keys, from_entries, find, get-from_entries, get-insert, get-remove, get-retain_keys, same_map, slice_cmp-IsAntisymmetric}
+use Rattle.std.specs.FinMap.{nat_cmp-IsAntisymmetric, IsAntisymmetric}
 use Rattle.std.specs.BTreeMap.{is_at, insert_entry}
 use Rattle.std.specs.Map.{lookup, set_value, keys_of}
 use Rattle.std.specs.List.{filter, AllByRecursion, IsDistinct}
@@ -94,7 +95,9 @@ swapped false d x y z h = refl
 item_at-insert_entry : (es : Entries) (k : Vec ℕ Global) (i : Entry) (q : List ℕ) → item_at (insert_entry key_cmp es k i) q ≡ cond (is_at (bytes_cmp q) k.items) (Some i) (item_at es q)
 item_at-insert_entry [] k i q = refl
 item_at-insert_entry (e ∷ es) k i q =
-    elim (bytes_cmp k.items e.0.items) as (λ o. bytes_cmp k.items e.0.items ≡ o → item_at (match_ordering o ((k, i) ∷ e ∷ es) ((e.0, i) ∷ es) (e ∷ insert_entry key_cmp es k i)) q ≡ cond (is_at (bytes_cmp q) k.items) (Some i) (item_at (e ∷ es) q)) [
+    elim (bytes_cmp k.items e.0.items) as
+    (λ o. bytes_cmp k.items e.0.items ≡ o
+    → item_at (match_ordering o ((k, i) ∷ e ∷ es) ((e.0, i) ∷ es) (e ∷ insert_entry key_cmp es k i)) q ≡ cond (is_at (bytes_cmp q) k.items) (Some i) (item_at (e ∷ es) q)) [
       | Less ↦ λ h. refl
       | Equal ↦ λ h.
           let same : k.items ≡ e.0.items = exact k.items e.0.items h in
@@ -142,7 +145,9 @@ items_of-removed es fs q without =
 pairs-set_value : (es : Entries) (q : List ℕ) (i : Entry) → pairs (set_value (λ (k : Vec ℕ Global). is_at (bytes_cmp q) k.items) es i) ≡ set_value (same_bytes q) (pairs es) i
 pairs-set_value [] q i = refl
 pairs-set_value (e ∷ es) q i =
-    elim (same_bytes q e.0.items) as (λ b. pairs (cond b ((e.0, i) ∷ es) (e ∷ set_value (λ (k : Vec ℕ Global). is_at (bytes_cmp q) k.items) es i)) ≡ cond b ((e.0.items, i) ∷ pairs es) ((e.0.items, e.1) ∷ set_value (same_bytes q) (pairs es) i)) [
+    elim (same_bytes q e.0.items) as
+    (λ b. pairs (cond b ((e.0, i) ∷ es) (e ∷ set_value (λ (k : Vec ℕ Global). is_at (bytes_cmp q) k.items) es i)) ≡ cond b ((e.0.items, i) ∷ pairs es)
+    ((e.0.items, e.1) ∷ set_value (same_bytes q) (pairs es) i)) [
       | true ↦ refl
       | false ↦ ap (λ xs. (e.0.items, e.1) ∷ xs) (pairs-set_value es q i)
     ]
@@ -232,7 +237,8 @@ module _ (meant : List ℕ → Bool) (cut : Option ℕ) (now : ℕ) where
         | false ↦ kept_all o
       ]
 
-  pub items_of-purged : (es : Entries) → IsStrictlySortedBy key_cmp (keys_of es) → items_of (filter stays es) ≡ retain_keys (items_of es) (λ key. not (meant key) || is_some (alive cut now (get (items_of es) key)))
+  pub items_of-purged : (es : Entries) → IsStrictlySortedBy key_cmp (keys_of es)
+      → items_of (filter stays es) ≡ retain_keys (items_of es) (λ key. not (meant key) || is_some (alive cut now (get (items_of es) key)))
   items_of-purged es sorted =
       same_map nat_list_cmp_total exact _ _ (λ q.
       get-items_of (filter stays es) q ∙ item_at-stays es q ∙ sym (get-items_of (filter (λ e. stays_at q e.1) es) q)

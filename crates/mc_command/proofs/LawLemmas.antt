@@ -1,5 +1,5 @@
 -- What a step does to the items under other keys, and what it depends on.
-use Rattle.std.proofs.Common.{◌≡◌, ◌≢◌, ◌≤◌, ◌<◌, ◌+◌, ◌-◌, ◌&&◌, ◌||◌, ℕ, Bool, true, false, cond, leb, ltb, eqb, set, List, Option, Some, None, refl, sym, ap, subst, ◌∙◌, arith}
+use Rattle.std.proofs.Common.{◌≡◌, ◌≢◌, ◌≤◌, ◌<◌, ◌+◌, ◌&&◌, ◌||◌, ℕ, Bool, true, false, cond, leb, ltb, eqb, List, Option, Some, None, refl, sym, ap, subst, ◌∙◌, arith}
 use Rattle.std.proofs.lemmas.Bool.{le-leb, leb-true, lt-ltb, ne_eqb, false_from_ne_true}
 use Rattle.std.specs.Prelude.{is_some}
 use Rattle.std.specs.Cmp.Lexicographic.{nat_list_cmp_total}
@@ -11,11 +11,12 @@ use Rattle.mc_command.specs.declared.reply.Reply.{Reply}
 use Rattle.mc_command.specs.declared.reply.Reply.TheVariants.{TooLarge, NoChunk}
 use Rattle.mc_command.specs.declared.step.KeyStep.{KeyStep}
 use Rattle.mc_command.specs.declared.step.KeyStep.TheVariants.{Flush}
-use Rattle.mc_slab.specs.Classes.{class_holding}
+use Rattle.mc_slab.specs.Needs.{NeedState, need_for}
 use Rattle.mc_command.specs.Commands.{key_of}
 use Rattle.mc_command.specs.declared.row.Row.{Row}
 use Rattle.mc_command.specs.declared.row.Row.TheVariants.{Refuses, Reads, Touches, Deletes, Writes}
-use Rattle.mc_command.specs.Plain.{Plain, Entry, Items, Outcome, Answered, Spent, plain, stepped, changed, wrote, charge, count_of, pages_of, chunks_of, has_room, with_chunk, written, without_dead, expiring, perhaps_expiring, standing, alive, living, flushed, keeps_chunk, write_reply, block_of, written_block, row_of}
+use Rattle.mc_command.specs.Plain.{Plain, Entry, Items, Outcome, Answered, Spent, plain, stepped, changed, wrote, charge, has_room, with_chunk, written, without_dead, expiring}
+use Rattle.mc_command.specs.Plain.{perhaps_expiring, standing, alive, living, flushed, keeps_chunk, write_reply, block_of, written_block, row_of}
 use Rattle.mc_command.specs.Laws.{IsOnKey, AgreeAt, AgreeAfter, HaveSameRoom}
 use Rattle.mc_command.proofs.ItemLemmas.{bytes_cmp, same_bytes, laws, exact, is_equal}
 
@@ -38,14 +39,6 @@ abbrev Keeps : Plain → List ℕ → Outcome → Type 0
 Keeps old other (Answered reply new) = get new.items other ≡ get old.items other
 Keeps old other Spent = Unit {0}
 
--- a page more changes no item
-paged_items : (b : Bool) (more old : Plain) → more.items ≡ old.items → (cond b more old).items ≡ old.items
-paged_items true more old same = same
-paged_items false more old same = refl
-
-with_chunk-items : (old : Plain) (class : ℕ) → (with_chunk old class).items ≡ old.items
-with_chunk-items old class = paged_items (eqb (count_of old.items class) (chunks_of old class)) (record old { pages = set old.pages (class - 1) (pages_of old class + 1) }) old refl
-
 write_keeps : (too_large spent stays room : Bool) (reply : Reply) (old new placed : Plain) (other : List ℕ) → get new.items other ≡ get old.items other → get placed.items other ≡ get old.items other
     → Keeps old other (cond too_large (Answered TooLarge old) (cond spent Spent (cond stays (Answered reply new) (cond room (Answered reply placed) (Answered NoChunk old)))))
 write_keeps true spent stays room reply old new placed other h k = refl
@@ -54,12 +47,14 @@ write_keeps false false true room reply old new placed other h k = h
 write_keeps false false false true reply old new placed other h k = k
 write_keeps false false false false reply old new placed other h k = refl
 
-wrote_keeps : (stays : Bool) (reply : Reply) (key : List ℕ) (flags : ℕ) (expiry : Expiry) (block : List ℕ) (old : Plain) (now : ℕ) (other : List ℕ) → other ≢ key → Keeps old other (wrote stays reply key flags expiry block old now)
+wrote_keeps : (stays : Bool) (reply : Reply) (key : List ℕ) (flags : ℕ) (expiry : Expiry) (block : List ℕ) (old : Plain) (now : ℕ) (other : List ℕ)
+    → other ≢ key → Keeps old other (wrote stays reply key flags expiry block old now)
 wrote_keeps stays reply key flags expiry block old now other ne =
-    let class : ℕ = class_holding (charge key block) in
-    write_keeps (ltb old.greatest (charge key block)) (eqb old.next_unique 18446744073709551615) stays (has_room old class) reply old (written old key flags expiry block now) (written (with_chunk old class) key flags expiry block now) other
+    let need : NeedState = need_for (charge key block) in
+    write_keeps (ltb old.greatest (charge key block)) (eqb old.next_unique 18446744073709551615) stays (has_room old need) reply old
+    (written old key flags expiry block now) (written (with_chunk old need) key flags expiry block now) other
     (inserted_other old.items key other _ ne)
-    (inserted_other (with_chunk old class).items key other _ ne ∙ ap (λ (m : Items). get m other) (with_chunk-items old class))
+    (inserted_other old.items key other _ ne)
 
 expiring_other : (item : Option Entry) (key other : List ℕ) (expiry : Expiry) (old : Plain)
     → other ≢ key → get (expiring item key expiry old).items other ≡ get old.items other
@@ -126,20 +121,11 @@ write_agrees false false true room reply key a b new other placed moved same aft
 write_agrees false false false true reply key a b new other placed moved same after took = (refl, took)
 write_agrees false false false false reply key a b new other placed moved same after took = (refl, same)
 
-paged_agrees : (here there : Bool) (key : List ℕ) (a b more other : Plain) → AgreeAt key a b → AgreeAt key more b → AgreeAt key a other → AgreeAt key more other → AgreeAt key (cond here more a) (cond there other b)
-paged_agrees true true key a b more other h k l m = m
-paged_agrees true false key a b more other h k l m = k
-paged_agrees false true key a b more other h k l m = l
-paged_agrees false false key a b more other h k l m = h
+with_chunk_agrees : (key : List ℕ) (a b : Plain) (need : NeedState) → AgreeAt key a b → AgreeAt key (with_chunk a need) (with_chunk b need)
+with_chunk_agrees key a b need same = record { item = same.item; cut = same.cut; next_unique = same.next_unique; greatest = same.greatest }
 
-with_chunk_agrees : (key : List ℕ) (a b : Plain) (class : ℕ) → AgreeAt key a b → AgreeAt key (with_chunk a class) (with_chunk b class)
-with_chunk_agrees key a b class same =
-    paged_agrees (eqb (count_of a.items class) (chunks_of a class)) (eqb (count_of b.items class) (chunks_of b class)) key a b (record a { pages = set a.pages (class - 1) (pages_of a class + 1) }) (record b { pages = set b.pages (class - 1) (pages_of b class + 1) }) same
-    (record { item = same.item; cut = same.cut; next_unique = same.next_unique; greatest = same.greatest })
-    (record { item = same.item; cut = same.cut; next_unique = same.next_unique; greatest = same.greatest })
-    (record { item = same.item; cut = same.cut; next_unique = same.next_unique; greatest = same.greatest })
-
-written_agrees : (key : List ℕ) (flags : ℕ) (expiry : Expiry) (block : List ℕ) (a b : Plain) (now : ℕ) → AgreeAt key a b → AgreeAt key (written a key flags expiry block now) (written b key flags expiry block now)
+written_agrees : (key : List ℕ) (flags : ℕ) (expiry : Expiry) (block : List ℕ) (a b : Plain) (now : ℕ) → AgreeAt key a b
+    → AgreeAt key (written a key flags expiry block now) (written b key flags expiry block now)
 written_agrees key flags expiry block a b now same =
     let put : ℕ → Entry = λ n. record { flags = flags; expiry = expiry; block = block; unique = n; updated = now } in
     record {
@@ -151,17 +137,21 @@ written_agrees key flags expiry block a b now same =
 
 -- the same tests in two states
 same_tests : (n m u v : ℕ) (r s stays : Bool) (charge : ℕ) (large short kept placed full : Outcome) → n ≡ m → u ≡ v → r ≡ s
-    → cond (ltb n charge) large (cond (eqb u 18446744073709551615) short (cond stays kept (cond r placed full))) ≡ cond (ltb m charge) large (cond (eqb v 18446744073709551615) short (cond stays kept (cond s placed full)))
+    → cond (ltb n charge) large (cond (eqb u 18446744073709551615) short (cond stays kept (cond r placed full))) ≡ cond (ltb m charge) large
+    (cond (eqb v 18446744073709551615) short (cond stays kept (cond s placed full)))
 same_tests n m u v r s stays charge large short kept placed full e f g = cc
 
-wrote_agrees : (stays : Bool) (reply : Reply) (key : List ℕ) (flags : ℕ) (expiry : Expiry) (block : List ℕ) (a b : Plain) (now : ℕ) → AgreeAt key a b → ((class : ℕ) → has_room a class ≡ has_room b class)
+wrote_agrees : (stays : Bool) (reply : Reply) (key : List ℕ) (flags : ℕ) (expiry : Expiry) (block : List ℕ) (a b : Plain) (now : ℕ) → AgreeAt key a b
+    → ((need : NeedState) → has_room a need ≡ has_room b need)
     → AgreeAfter key (wrote stays reply key flags expiry block a now) (wrote stays reply key flags expiry block b now)
 wrote_agrees stays reply key flags expiry block a b now same room =
-    let class : ℕ = class_holding (charge key block) in
+    let need : NeedState = need_for (charge key block) in
     subst (λ (o : Outcome). AgreeAfter key (wrote stays reply key flags expiry block a now) o)
-    (same_tests a.greatest b.greatest a.next_unique b.next_unique (has_room a class) (has_room b class) stays (charge key block) (Answered TooLarge b) Spent (Answered reply (written b key flags expiry block now)) (Answered reply (written (with_chunk b class) key flags expiry block now)) (Answered NoChunk b) same.greatest same.next_unique (room class))
-    (write_agrees (ltb a.greatest (charge key block)) (eqb a.next_unique 18446744073709551615) stays (has_room a class) reply key a b _ _ _ _ same (written_agrees key flags expiry block a b now same)
-    (written_agrees key flags expiry block (with_chunk a class) (with_chunk b class) now (with_chunk_agrees key a b class same)))
+    (same_tests a.greatest b.greatest a.next_unique b.next_unique (has_room a need) (has_room b need) stays (charge key block) (Answered TooLarge b) Spent
+    (Answered reply (written b key flags expiry block now)) (Answered reply (written (with_chunk b need) key flags expiry block now))
+    (Answered NoChunk b) same.greatest same.next_unique (room need))
+    (write_agrees (ltb a.greatest (charge key block)) (eqb a.next_unique 18446744073709551615) stays (has_room a need) reply key a b _ _ _ _ same (written_agrees key flags expiry block a b now same)
+    (written_agrees key flags expiry block (with_chunk a need) (with_chunk b need) now (with_chunk_agrees key a b need same)))
 
 expiring_agrees : (item : Option Entry) (key : List ℕ) (expiry : Expiry) (a b : Plain)
     → AgreeAt key a b → AgreeAt key (expiring item key expiry a) (expiring item key expiry b)
@@ -179,7 +169,7 @@ perhaps_agrees item key None a b same = same
 perhaps_agrees item key (Some expiry) a b same = expiring_agrees item key expiry a b same
 
 changed_agrees : (row : Row) (step : KeyStep) (item : Option Entry) (a b : Plain) (now : ℕ)
-    → AgreeAt (key_of step) a b → ((class : ℕ) → has_room a class ≡ has_room b class)
+    → AgreeAt (key_of step) a b → ((need : NeedState) → has_room a need ≡ has_room b need)
     → AgreeAfter (key_of step) (changed row step item a now) (changed row step item b now)
 changed_agrees (Refuses why) step item a b now same room = (refl, same)
 changed_agrees (Reads expiry) step item a b now same room = (refl, perhaps_agrees item (key_of step) expiry a b same)
@@ -209,7 +199,7 @@ stepped_agrees a b step now same room =
     subst (λ (item : Option Entry). AgreeAfter key (stepped a step now) (changed (row_of step now item) step item (without_dead item key b) now)) stands
     (changed_agrees (row_of step now (standing a key now)) step (standing a key now) _ _ now
     (without_dead_agrees (standing a key now) key a b same)
-    (λ class. room class ∙ ap (λ (item : Option Entry). has_room (without_dead item key b) class) (sym stands)))
+    (λ need. room need ∙ ap (λ (item : Option Entry). has_room (without_dead item key b) need) (sym stands)))
 
 pub one_key : (a b : Plain) (step : KeyStep) (now : ℕ)
     → IsOnKey step → AgreeAt (key_of step) a b → HaveSameRoom step now a b
@@ -259,7 +249,8 @@ kept_is cut now None = refl
 kept_is cut now (Some item) =
     elim (is_dead item.expiry item.updated cut now) as (λ b. cond (is_some (cond b None (Some item))) (Some item) None ≡ cond b None (Some item)) [ true ↦ refl | false ↦ refl ]
 
-pub flushed_kept : (old new : Plain) (delay now : ℕ) (reply : Reply) (key : List ℕ) → 0 < delay → plain old (Flush delay) now ≡ Answered reply new → get new.items key ≡ alive old.cut now (get old.items key)
+pub flushed_kept : (old new : Plain) (delay now : ℕ) (reply : Reply) (key : List ℕ) → 0 < delay → plain old (Flush delay) now ≡ Answered reply new
+    → get new.items key ≡ alive old.cut now (get old.items key)
 flushed_kept old new delay now reply key some is =
     ap (λ (s : Plain). get s.items key) (sym (left_is _ _ _ _ is) ∙ delayed_is delay now old some)
     ∙ get-retain_keys old.items (λ k. is_some (alive old.cut now (get old.items k))) key (λ x h. ap (λ (k : List ℕ). is_some (alive old.cut now (get old.items k))) (sym (exact key x h)))
@@ -269,7 +260,8 @@ or_true : (b : Bool) → (b || true) ≡ true
 or_true true = refl
 or_true false = refl
 
-pub flushed_dead : (old new : Plain) (delay now later : ℕ) (reply : Reply) (item : Entry) → 0 < delay → plain old (Flush delay) now ≡ Answered reply new → moment_named delay now ≤ later → item.updated < moment_named delay now → alive new.cut later (Some item) ≡ None
+pub flushed_dead : (old new : Plain) (delay now later : ℕ) (reply : Reply) (item : Entry) → 0 < delay → plain old (Flush delay) now ≡ Answered reply new
+    → moment_named delay now ≤ later → item.updated < moment_named delay now → alive new.cut later (Some item) ≡ None
 flushed_dead old new delay now later reply item some is come before =
     let cut : new.cut ≡ Some (moment_named delay now) = ap (λ (s : Plain). s.cut) (sym (left_is _ _ _ _ is) ∙ delayed_is delay now old some) in
     let a : leb (moment_named delay now) later ≡ true = le-leb _ _ come in

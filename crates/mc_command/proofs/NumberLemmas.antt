@@ -1,14 +1,16 @@
 -- When a word writes a number up to a limit.
-use Rattle.std.proofs.Common.{◌≡◌, ◌<◌, ◌≤◌, ◌+◌, ◌*◌, ℕ, Bool, true, false, cond, ◌&&◌, List, [], ◌∷◌, Some, None, length, get_or, take, refl, sym, ap, ◌∙◌, arith, leb, ltb, ◌-◌, ◌^◌}
-use Rattle.std.proofs.lemmas.Bool.{le-leb, leb-true, le-ltb, lt-ltb}
+use Rattle.std.proofs.Common.{◌≡◌, ◌<◌, ◌≤◌, ◌+◌, ◌*◌, ℕ, Bool, true, false, cond, ◌&&◌, List, [], ◌∷◌, ◌++◌, Option, Some, None, length, get_or, take, refl, sym, ap, ◌∙◌, ⊎_elim}
+use Rattle.std.proofs.Common.{arith, leb, ltb, ◌-◌, ◌^◌}
+use Rattle.std.proofs.lemmas.Bool.{cases_lt, le-leb, lt-leb, leb-true, le-ltb, lt-ltb}
 use Rattle.std.proofs.lemmas.Str.Parse.{IsNumeralModel, numerals_by_value, tells_all_ascii_digits, digit_at, digits_value-take-le}
 use Rattle.std.proofs.lemmas.Int.Digits.{digits_value_more, digits_more}
-use Rattle.std.proofs.lemmas.List.{take_all}
+use Rattle.std.proofs.lemmas.List.{take_all, take-append-le, drop-append-le}
+use Rattle.std.proofs.lemmas.List.Folds.{list_all-append}
 use Rattle.std.specs.Str.{all_ascii_digits}
 use Rattle.std.specs.Str.Parse.{digits_value, AllDigits}
 use Rattle.std.specs.Char.{digit_value, is_ascii_digit}
 use Rattle.std.specs.Prelude.{nat_le, drop}
-use Rattle.std.specs.List.{take_while, list_all}
+use Rattle.std.specs.List.{take_while, prefix_len, list_all}
 use Rattle.mc_command.specs.Words.{is_space}
 use Rattle.mc_command.specs.Plain.{number_of}
 use Rattle.mc_command.proofs.WordLemmas.{length-take_while}
@@ -87,7 +89,67 @@ number_of-as block digits rest n len front back =
     let after : drop (length (take_while is_ascii_digit block)) block ≡ rest = ap (λ k. drop k block) (sym len) ∙ sym back in
     rw (after, at) refl
 
-pub number_of-yes : (block : List ℕ) (n : ℕ) (digits rest : List ℕ) → n ≡ length (take_while is_ascii_digit block) → digits ≡ take n block → rest ≡ drop n block → length digits ≤ 20 → list_all is_space rest ≡ true → number_of block ≡ number_up_to (2 ^ 64 - 1) digits
+pub number_of-yes : (block : List ℕ) (n : ℕ) (digits rest : List ℕ) → n ≡ length (take_while is_ascii_digit block) → digits ≡ take n block → rest ≡ drop n block
+    → length digits ≤ 20 → list_all is_space rest ≡ true → number_of block ≡ number_up_to (2 ^ 64 - 1) digits
 number_of-yes block n digits rest len front back few blank =
     let a : nat_le (length digits) 20 ≡ true = le-leb _ _ few in
     number_of-as block digits rest n len front back ∙ rw (a, blank) refl
+
+-- ---- a block in two parts, of which the first is longer than the digits of a number
+
+-- the digits end in the first
+ends-in_front : (p : ℕ → Bool) (front rest : List ℕ) → prefix_len p front < length front → prefix_len p (front ++ rest) ≡ prefix_len p front
+ends-in_front p [] rest below = absurd (omega arith)
+ends-in_front p (b ∷ front) rest below =
+    elim (p b) as (λ t. cond t (1 + prefix_len p front) 0 < length (b ∷ front) → cond t (1 + prefix_len p (front ++ rest)) 0 ≡ cond t (1 + prefix_len p front) 0) [
+      | true ↦ λ less. ap (λ (n : ℕ). 1 + n) (ends-in_front p front rest (omega (arith, less)))
+      | false ↦ λ less. refl
+    ] below
+
+-- or they go on behind it
+goes-on : (p : ℕ → Bool) (front rest : List ℕ) → length front ≤ prefix_len p front → length front ≤ prefix_len p (front ++ rest)
+goes-on p [] rest all = omega arith
+goes-on p (b ∷ front) rest all =
+    elim (p b) as (λ t. length (b ∷ front) ≤ cond t (1 + prefix_len p front) 0 → length (b ∷ front) ≤ cond t (1 + prefix_len p (front ++ rest)) 0) [
+      | true ↦ λ more. let here = goes-on p front rest (omega (arith, more)) in omega (arith, here)
+      | false ↦ λ more. absurd (omega (arith, more))
+    ] all
+
+abbrev read : (digits behind : List ℕ) → Option ℕ
+read digits behind = cond (nat_le (length digits) 20 && list_all is_space behind) (number_up_to (2 ^ 64 - 1) digits) None
+
+many-none : (digits behind : List ℕ) → 20 < length digits → read digits behind ≡ None
+many-none digits behind many = ap (λ (t : Bool). cond (t && list_all is_space behind) (number_up_to (2 ^ 64 - 1) digits) None) (lt-leb (length digits) 20 many)
+
+parted : (few here there : Bool) (x : Option ℕ) → cond (few && (here && there)) x None ≡ cond there (cond (few && here) x None) None
+parted true true true x = refl
+parted true true false x = refl
+parted true false true x = refl
+parted true false false x = refl
+parted false here true x = refl
+parted false here false x = refl
+
+none-twice : (t : Bool) (x : Option ℕ) → x ≡ None → None ≡ cond t x None
+none-twice true x none = sym none
+none-twice false x none = refl
+
+pub number_of-joined : (front rest : List ℕ) → 20 < length front → number_of (front ++ rest) ≡ cond (list_all is_space rest) (number_of front) None
+number_of-joined front rest long =
+    let digits : List ℕ = take_while is_ascii_digit front in
+    let n : ℕ = prefix_len is_ascii_digit front in
+    let long_as : length digits ≡ n = length-take_while is_ascii_digit front in
+    ⊎_elim
+    (λ (below : n < length front).
+    let same : take_while is_ascii_digit (front ++ rest) ≡ digits =
+    ap (λ (k : ℕ). take k (front ++ rest)) (ends-in_front is_ascii_digit front rest below) ∙ take-append-le n front rest (omega arith) in
+    let behind : drop (length digits) (front ++ rest) ≡ drop (length digits) front ++ rest = drop-append-le (length digits) front rest (omega (arith, long_as, below)) in
+    ap (λ (ds : List ℕ). read ds (drop (length ds) (front ++ rest))) same
+    ∙ ap (read digits) behind
+    ∙ ap (λ (t : Bool). cond (nat_le (length digits) 20 && t) (number_up_to (2 ^ 64 - 1) digits) None) (list_all-append is_space (drop (length digits) front) rest)
+    ∙ parted (nat_le (length digits) 20) (list_all is_space (drop (length digits) front)) (list_all is_space rest) (number_up_to (2 ^ 64 - 1) digits))
+    (λ (all : length front ≤ n).
+    let more = goes-on is_ascii_digit front rest all in
+    let whole = length-take_while is_ascii_digit (front ++ rest) in
+    many-none (take_while is_ascii_digit (front ++ rest)) (drop (length (take_while is_ascii_digit (front ++ rest))) (front ++ rest)) (omega (arith, long, more, whole))
+    ∙ none-twice (list_all is_space rest) (number_of front) (many-none digits (drop (length digits) front) (omega (arith, long, all, long_as))))
+    (cases_lt n (length front))

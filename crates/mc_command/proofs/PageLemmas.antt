@@ -1,10 +1,13 @@
--- What a step does to the pages, and when it is refused for want of a chunk.
-use Rattle.std.proofs.Common.{◌≡◌, ◌≤◌, ◌<◌, ◌+◌, ◌-◌, ◌||◌, ℕ, zero, suc, Bool, true, false, cond, ltb, eqb, List, [], ◌∷◌, length, get_or, set, sum, Option, Some, None, refl, ap, subst, ◌∙◌, ⊎_elim, arith}
-use Rattle.std.proofs.lemmas.Bool.{cases_lt, ltb-true, eqb-true, or_cases}
+-- What a step does to the pages, and which are the least that a write takes.
+use Rattle.std.proofs.Common.{◌≡◌, ◌≤◌, ◌<◌, ◌+◌, ◌-◌, ◌*◌, ◌/◌, ◌⊎◌, inl, inr, ℕ, zero, suc, Bool, true, false, cond, leb, ltb, eqb, List, [], ◌∷◌, length, get_or, set, sum}
+use Rattle.std.proofs.Common.{Option, Some, None, refl, sym, ap, subst, ◌∙◌, ⊎_elim, arith}
+use Rattle.std.proofs.lemmas.Bool.{cases_lt, leb-true}
 use Rattle.std.proofs.lemmas.List.{set_past}
 use Rattle.std.proofs.lemmas.List.Sums.{sum_by-set}
 use Rattle.mc_time.specs.declared.expiry.Expiry.{Expiry}
-use Rattle.mc_slab.specs.Classes.{class_holding}
+use Rattle.mc_slab.specs.Classes.{chunk_sizes, chunks_a_page, class_holding}
+use Rattle.mc_slab.specs.Needs.{NeedState, IsNeed, need_for}
+use Rattle.mc_slab.proofs.ClassLemmas.{chunks_a_page-least}
 use Rattle.mc_command.specs.declared.reply.Reply.{Reply}
 use Rattle.mc_command.specs.declared.reply.Reply.TheVariants.{TooLarge, NoChunk}
 use Rattle.mc_command.specs.declared.step.KeyStep.{KeyStep}
@@ -12,7 +15,8 @@ use Rattle.mc_command.specs.declared.step.KeyStep.TheVariants.{Flush}
 use Rattle.mc_command.specs.declared.row.Row.{Row}
 use Rattle.mc_command.specs.declared.row.Row.TheVariants.{Refuses, Reads, Touches, Deletes, Writes}
 use Rattle.mc_command.specs.Commands.{key_of}
-use Rattle.mc_command.specs.Plain.{Plain, Entry, Outcome, Answered, Spent, plain, stepped, changed, wrote, charge, count_of, pages_of, chunks_of, has_room, with_chunk, written, without_dead, expiring, perhaps_expiring, standing, write_reply, keeps_chunk, block_of, written_block, row_of}
+use Rattle.mc_command.specs.Plain.{Plain, Entry, Outcome, Answered, Spent, plain, stepped, changed, wrote, charge, count_of, pages_of, chunks_of, unused, has_room, with_chunk}
+use Rattle.mc_command.specs.Plain.{written, without_dead, expiring, perhaps_expiring, standing, write_reply, keeps_chunk, block_of, written_block, row_of}
 
 -- one state's pages and limit after another's
 record Grows (old new : Plain) : Type 0 where
@@ -31,43 +35,61 @@ stays old new pages limit = record {
   within = λ fits. let same : sum new.pages ≡ sum old.pages = ap sum pages in omega arith;
 }
 
-set-grows : (xs : List ℕ) (i j : ℕ) → get_or xs j 0 ≤ get_or (set xs i (get_or xs i 0 + 1)) j 0
-set-grows [] i j = omega arith
-set-grows (x ∷ xs) zero zero = omega arith
-set-grows (x ∷ xs) zero (suc j) = omega arith
-set-grows (x ∷ xs) (suc i) zero = omega arith
-set-grows (x ∷ xs) (suc i) (suc j) = set-grows xs i j
+set-grows : (xs : List ℕ) (i j n : ℕ) → get_or xs j 0 ≤ get_or (set xs i (get_or xs i 0 + n)) j 0
+set-grows [] i j n = omega arith
+set-grows (x ∷ xs) zero zero n = omega arith
+set-grows (x ∷ xs) zero (suc j) n = omega arith
+set-grows (x ∷ xs) (suc i) zero n = omega arith
+set-grows (x ∷ xs) (suc i) (suc j) n = set-grows xs i j n
 
-set-sum : (xs : List ℕ) (i : ℕ) → sum (set xs i (get_or xs i 0 + 1)) ≤ sum xs + 1
-set-sum xs i =
+set-sum : (xs : List ℕ) (i n : ℕ) → sum (set xs i (get_or xs i 0 + n)) ≤ sum xs + n
+set-sum xs i n =
     ⊎_elim
-    (λ (below : i < length xs). let sums : sum (set xs i (get_or xs i 0 + 1)) + get_or xs i 0 ≡ sum xs + (get_or xs i 0 + 1) = sum_by-set (λ (n : ℕ). n) xs i (get_or xs i 0 + 1) 0 below in omega arith)
-    (λ past. let same : sum (set xs i (get_or xs i 0 + 1)) ≡ sum xs = ap sum (set_past xs i (get_or xs i 0 + 1) past) in omega arith)
+    (λ (below : i < length xs).
+    let sums : sum (set xs i (get_or xs i 0 + n)) + get_or xs i 0 ≡ sum xs + (get_or xs i 0 + n) = sum_by-set (λ (n : ℕ). n) xs i (get_or xs i 0 + n) 0 below in omega arith)
+    (λ past. let same : sum (set xs i (get_or xs i 0 + n)) ≡ sum xs = ap sum (set_past xs i (get_or xs i 0 + n) past) in omega arith)
     (cases_lt i (length xs))
 
--- a page goes to a class only where one is left
-pub page-left : (count chunks pages limit : ℕ) → ltb count chunks || ltb pages limit ≡ true → eqb count chunks ≡ true → pages < limit
-page-left count chunks pages limit room full =
-    ⊎_elim
-    (λ free. let less : count < chunks = ltb-true _ _ free in let same : count ≡ chunks = eqb-true _ _ full in absurd (omega arith))
-    (λ page. ltb-true _ _ page)
-    (or_cases (ltb count chunks) (ltb pages limit) room)
+-- a page of the last class is one chunk
+whole : chunks_a_page 40 ≡ 1
+unfolding chunk_sizes
+whole = refl
 
-more_grows : (old : Plain) (class : ℕ) → sum old.pages < old.limit → Grows old (record old { pages = set old.pages (class - 1) (pages_of old class + 1) })
-more_grows old class left = record {
-  grows = λ other. set-grows old.pages (class - 1) (other - 1);
-  limit = refl;
-  within = λ fits. let sums = set-sum old.pages (class - 1) in omega arith;
-}
+-- one chunk is needed, or whole pages are
+abbrev pub InPages : NeedState → Type 0
+InPages need = (need.count ≡ 1) ⊎ (need.class ≡ 40)
 
-paged_grows : (b : Bool) (more old : Plain) → (b ≡ true → Grows old more) → Grows old (cond b more old)
-paged_grows true more old h = h refl
-paged_grows false more old h = stays old old refl refl
+pub in-pages : (charge : ℕ) → InPages (need_for charge)
+in-pages charge =
+    elim (leb charge 1048576) as (λ b. InPages (cond b (record { class = class_holding charge; count = 1 }) (record { class = 40; count = (charge + 1048575) / 1048576 }))) [
+      | true ↦ inl refl
+      | false ↦ inr refl
+    ]
 
-with_chunk-grows : (old : Plain) (class : ℕ) → has_room old class ≡ true → Grows old (with_chunk old class)
-with_chunk-grows old class room =
-    paged_grows (eqb (count_of old.items class) (chunks_of old class)) (record old { pages = set old.pages (class - 1) (pages_of old class + 1) }) old
-    (λ full. more_grows old class (page-left (count_of old.items class) (chunks_of old class) (sum old.pages) old.limit room full))
+-- the pages that are wanted are left, where there is room
+one-left : (free left capacity : ℕ) → 1 ≤ free + left * capacity → 1 - free ≤ left
+one-left free zero capacity room = omega arith
+one-left free (suc left) capacity room = omega arith
+
+pub pages-left : (need : NeedState) (free left : ℕ) → InPages need → leb need.count (free + left * chunks_a_page need.class) ≡ true → need.count - free ≤ left
+pages-left need free left (inl one) room =
+    let fits : need.count ≤ free + left * chunks_a_page need.class = leb-true _ _ room in
+    let few = one-left free left (chunks_a_page need.class) (subst (λ (n : ℕ). n ≤ free + left * chunks_a_page need.class) one fits) in
+    omega (arith, few, one)
+pages-left need free left (inr last) room =
+    let capacity : chunks_a_page need.class ≡ 1 = ap chunks_a_page last ∙ whole in
+    let fits : need.count ≤ free + left * 1 = subst (λ (n : ℕ). need.count ≤ free + left * n) capacity (leb-true _ _ room) in
+    omega (arith, fits)
+
+with_chunk-grows : (old : Plain) (need : NeedState) → InPages need → has_room old need ≡ true → Grows old (with_chunk old need)
+with_chunk-grows old need pages room =
+    let more : ℕ = need.count - unused old need.class in
+    let left : more ≤ old.limit - sum old.pages = pages-left need (unused old need.class) (old.limit - sum old.pages) pages room in
+    record {
+      grows = λ other. set-grows old.pages (need.class - 1) (other - 1) more;
+      limit = refl;
+      within = λ fits. let sums : sum (with_chunk old need).pages ≤ sum old.pages + more = set-sum old.pages (need.class - 1) more in omega arith;
+    }
 
 write_grows : (too_large spent stays room : Bool) (reply : Reply) (old new placed : Plain) → Grows old old → Grows old new → (room ≡ true → Grows old placed)
     → GrowsTo old (cond too_large (Answered TooLarge old) (cond spent Spent (cond stays (Answered reply new) (cond room (Answered reply placed) (Answered NoChunk old)))))
@@ -79,10 +101,11 @@ write_grows false false false false reply old new placed g h k = g
 
 wrote_grows : (keeps : Bool) (reply : Reply) (key : List ℕ) (flags : ℕ) (expiry : Expiry) (block : List ℕ) (old : Plain) (now : ℕ) → GrowsTo old (wrote keeps reply key flags expiry block old now)
 wrote_grows keeps reply key flags expiry block old now =
-    let class : ℕ = class_holding (charge key block) in
-    write_grows (ltb old.greatest (charge key block)) (eqb old.next_unique 18446744073709551615) keeps (has_room old class) reply old (written old key flags expiry block now) (written (with_chunk old class) key flags expiry block now)
+    let need : NeedState = need_for (charge key block) in
+    write_grows (ltb old.greatest (charge key block)) (eqb old.next_unique 18446744073709551615) keeps (has_room old need) reply old
+    (written old key flags expiry block now) (written (with_chunk old need) key flags expiry block now)
     (stays old old refl refl) (stays old (written old key flags expiry block now) refl refl)
-    (λ room. let g = with_chunk-grows old class room in record { grows = g.grows; limit = g.limit; within = g.within })
+    (λ room. let g = with_chunk-grows old need (in-pages (charge key block)) room in record { grows = g.grows; limit = g.limit; within = g.within })
 
 expiring_grows : (item : Option Entry) (key : List ℕ) (expiry : Expiry) (old : Plain) → Grows old (expiring item key expiry old)
 expiring_grows None key expiry old = stays old old refl refl
@@ -141,3 +164,67 @@ limit_stays old new step now reply is = (subst (GrowsTo old) is (plain_grows old
 
 pub pages_within : (old new : Plain) (step : KeyStep) (now : ℕ) (reply : Reply) → plain old step now ≡ Answered reply new → sum old.pages ≤ old.limit → sum new.pages ≤ new.limit
 pages_within old new step now reply is fits = (subst (GrowsTo old) is (plain_grows old step now)).within fits
+
+-- ---- the least pages
+
+set-here : (xs : List ℕ) (i n : ℕ) → i < length xs → get_or (set xs i n) i 0 ≡ n
+set-here [] i n below = absurd (omega arith)
+set-here (x ∷ xs) zero n below = refl
+set-here (x ∷ xs) (suc i) n below = set-here xs i n (omega arith)
+
+set-most : (xs : List ℕ) (i n : ℕ) → get_or (set xs i n) i 0 ≤ n
+set-most [] i n = omega arith
+set-most (x ∷ xs) zero n = omega arith
+set-most (x ∷ xs) (suc i) n = set-most xs i n
+
+-- one chunk, which a page gives where none is free
+one-enough : (pages capacity items : ℕ) → 1 ≤ capacity → items ≤ pages * capacity → 1 ≤ (pages + (1 - (pages * capacity - items))) * capacity - items
+one-enough pages capacity items some fits =
+    ⊎_elim
+    (λ (free : items < pages * capacity). let same : pages + (1 - (pages * capacity - items)) ≡ pages = omega arith in rw same (omega arith))
+    (λ (full : pages * capacity ≤ items).
+    let same : pages + (1 - (pages * capacity - items)) ≡ pages + 1 = omega arith in
+    let more : (pages + 1) * capacity ≡ pages * capacity + capacity = omega arith in
+    rw same (omega (arith, more, full, some)))
+    (cases_lt items (pages * capacity))
+
+one-least : (before capacity items pages : ℕ) → before ≤ pages → pages < before + (1 - (before * capacity - items)) → pages * capacity - items < 1
+one-least before capacity items pages from below =
+    let same : pages ≡ before = omega arith in
+    let none : before * capacity - items ≡ 0 = omega arith in
+    rw same (omega arith)
+
+pub enough : (old : Plain) (need : NeedState) → IsNeed need → length old.pages ≡ 40 → count_of old.items need.class ≤ chunks_of old need.class → need.count ≤ unused (with_chunk old need) need.class
+enough old need is long fits =
+    let before : ℕ = pages_of old need.class in
+    let items : ℕ = count_of old.items need.class in
+    let after : pages_of (with_chunk old need) need.class ≡ before + (need.count - (before * chunks_a_page need.class - items)) =
+    set-here old.pages (need.class - 1) _ (omega (arith, long, is.is_class)) in
+    subst (λ (n : ℕ). need.count ≤ n * chunks_a_page need.class - items) (sym after)
+    (⊎_elim
+    (λ (one : need.count ≡ 1).
+    subst (λ (n : ℕ). n ≤ (before + (n - (before * chunks_a_page need.class - items))) * chunks_a_page need.class - items) (sym one)
+    (one-enough before (chunks_a_page need.class) items (chunks_a_page-least need.class is.is_class) fits))
+    (λ (last : need.class ≡ 40).
+    let capacity : chunks_a_page need.class ≡ 1 = ap chunks_a_page last ∙ whole in
+    let fits : items ≤ before * 1 = subst (λ (n : ℕ). items ≤ before * n) capacity fits in
+    subst (λ (n : ℕ). need.count ≤ (before + (need.count - (before * n - items))) * n - items) (sym capacity) (omega (arith, fits)))
+    is.pages)
+
+pub least : (old : Plain) (need : NeedState) (pages : ℕ) → IsNeed need → pages_of old need.class ≤ pages → pages < pages_of (with_chunk old need) need.class
+    → pages * chunks_a_page need.class - count_of old.items need.class < need.count
+least old need pages is from below =
+    let before : ℕ = pages_of old need.class in
+    let items : ℕ = count_of old.items need.class in
+    let most : pages_of (with_chunk old need) need.class ≤ before + (need.count - (before * chunks_a_page need.class - items)) = set-most old.pages (need.class - 1) _ in
+    let less : pages < before + (need.count - (before * chunks_a_page need.class - items)) = omega arith in
+    ⊎_elim
+    (λ (one : need.count ≡ 1).
+    subst (λ (n : ℕ). pages * chunks_a_page need.class - items < n) (sym one)
+    (one-least before (chunks_a_page need.class) items pages from (subst (λ (n : ℕ). pages < before + (n - (before * chunks_a_page need.class - items))) one less)))
+    (λ (last : need.class ≡ 40).
+    let capacity : chunks_a_page need.class ≡ 1 = ap chunks_a_page last ∙ whole in
+    let less : pages < before + (need.count - (before * 1 - items)) = subst (λ (n : ℕ). pages < before + (need.count - (before * n - items))) capacity less in
+    let some = is.some in
+    subst (λ (n : ℕ). pages * n - items < need.count) (sym capacity) (omega (arith, less, from, some)))
+    is.pages

@@ -1,9 +1,9 @@
--- When a step is refused for want of a chunk.
+-- When a step is refused for want of chunks.
 use Rattle.std.proofs.Common.{◌≡◌, ◌≢◌, ℕ, Bool, true, false, cond, ltb, eqb, List, Option, Some, None, refl, sym, ap}
 use Rattle.std.specs.Prelude.{◌↔◌}
 use Rattle.std.proofs.lemmas.Bool.{ltb-false, le-ltb, eq-eqb, ne_eqb}
 use Rattle.mc_time.specs.declared.expiry.Expiry.{Expiry}
-use Rattle.mc_slab.specs.Classes.{class_holding}
+use Rattle.mc_slab.specs.Needs.{NeedState, need_for}
 use Rattle.mc_command.specs.declared.reply.Reply.{Reply}
 use Rattle.mc_command.specs.declared.reply.Reply.TheVariants.{Stored, NotStored, Exists, NotFound, Miss, Hit, Touched, Deleted, Number, NotNumeric, TooLarge, NoChunk, Flushed}
 use Rattle.mc_command.specs.declared.step.KeyStep.{KeyStep}
@@ -15,7 +15,8 @@ use Rattle.mc_command.specs.declared.row.Refusal.TheVariants as refusal
 use Rattle.mc_command.specs.declared.row.Body.{Body}
 use Rattle.mc_command.specs.declared.row.Body.TheVariants.{Given, Appended, Prepended, Counted}
 use Rattle.mc_command.specs.Commands.{key_of}
-use Rattle.mc_command.specs.Plain.{Plain, Entry, Outcome, Answered, Spent, plain, stepped, changed, wrote, charge, has_room, with_chunk, written, without_dead, standing, refusal_reply, hit_of, write_reply, keeps_chunk, block_of, written_block, row_of}
+use Rattle.mc_command.specs.Plain.{Plain, Entry, Outcome, Answered, Spent, plain, stepped, changed, wrote, charge, has_room, with_chunk, written, without_dead, standing}
+use Rattle.mc_command.specs.Plain.{refusal_reply, hit_of, write_reply, keeps_chunk, block_of, written_block, row_of}
 use Rattle.mc_command.specs.Laws.{IsOnKey, found_by, chunk_taken, chunk_of, LacksChunk}
 use Rattle.mc_command.proofs.LawLemmas.{on_key}
 
@@ -67,12 +68,14 @@ told-write (Counted number) = refl
 
 -- the tests of a write, which is refused by the last
 abbrev tested : (too_large spent stays room : Bool) → Reply → (old new placed : Plain) → Outcome
-tested too_large spent stays room reply old new placed = cond too_large (Answered TooLarge old) (cond spent Spent (cond stays (Answered reply new) (cond room (Answered reply placed) (Answered NoChunk old))))
+tested too_large spent stays room reply old new placed =
+    cond too_large (Answered TooLarge old) (cond spent Spent (cond stays (Answered reply new) (cond room (Answered reply placed) (Answered NoChunk old))))
 
 abbrev Fails : (too_large spent stays room : Bool) → Type 0
 Fails too_large spent stays room = (too_large ≡ false) × (spent ≡ false) × (stays ≡ false) × (room ≡ false)
 
-pub tested-fails : (too_large spent stays room : Bool) (reply : Reply) (old new placed left : Plain) → is_refusal reply ≡ false → tested too_large spent stays room reply old new placed ≡ Answered NoChunk left → Fails too_large spent stays room × (left ≡ old)
+pub tested-fails : (too_large spent stays room : Bool) (reply : Reply) (old new placed left : Plain) → is_refusal reply ≡ false
+    → tested too_large spent stays room reply old new placed ≡ Answered NoChunk left → Fails too_large spent stays room × (left ≡ old)
 tested-fails true spent stays room reply old new placed left other is = absurd (not_refused (Answered TooLarge old) left refl is)
 tested-fails false true stays room reply old new placed left other is = absurd (not_refused Spent left refl is)
 tested-fails false false true room reply old new placed left other is = absurd (not_refused (Answered reply new) left other is)
@@ -88,21 +91,27 @@ ne-from a b other same = let yes : eqb a b ≡ true = eq-eqb a b same in cc
 wrote-exactly : (stays : Bool) (reply : Reply) (key : List ℕ) (flags : ℕ) (expiry : Expiry) (block : List ℕ) (old : Plain) (now : ℕ) → is_refusal reply ≡ false
     → (wrote stays reply key flags expiry block old now ≡ Answered NoChunk old) ↔ LacksChunk old (cond stays None (Some (charge key block)))
 wrote-exactly true reply key flags expiry block old now other =
-    let class : ℕ = class_holding (charge key block) in (
-      (λ is. let fails = (tested-fails (ltb old.greatest (charge key block)) (eqb old.next_unique 18446744073709551615) true (has_room old class) reply old (written old key flags expiry block now) (written (with_chunk old class) key flags expiry block now) old other is).0 in absurd (no_truth fails.2)),
+    let need : NeedState = need_for (charge key block) in (
+      (λ is. let fails =
+          (tested-fails (ltb old.greatest (charge key block)) (eqb old.next_unique 18446744073709551615) true (has_room old need) reply old
+          (written old key flags expiry block now) (written (with_chunk old need) key flags expiry block now) old other is).0 in absurd (no_truth fails.2)),
       (λ lacks. absurd lacks),
     )
 wrote-exactly false reply key flags expiry block old now other =
-    let class : ℕ = class_holding (charge key block) in (
-      (λ is. let fails = (tested-fails (ltb old.greatest (charge key block)) (eqb old.next_unique 18446744073709551615) false (has_room old class) reply old (written old key flags expiry block now) (written (with_chunk old class) key flags expiry block now) old other is).0 in
+    let need : NeedState = need_for (charge key block) in (
+      (λ is. let fails =
+          (tested-fails (ltb old.greatest (charge key block)) (eqb old.next_unique 18446744073709551615) false (has_room old need) reply old
+          (written old key flags expiry block now) (written (with_chunk old need) key flags expiry block now) old other is).0 in
           (ltb-false _ _ fails.0, ne-from _ _ fails.1, fails.3)),
       (λ lacks. rw (le-ltb _ _ lacks.0, ne_eqb _ _ lacks.1, lacks.2) refl),
     )
 
-wrote-left : (stays : Bool) (reply : Reply) (key : List ℕ) (flags : ℕ) (expiry : Expiry) (block : List ℕ) (old new : Plain) (now : ℕ) → is_refusal reply ≡ false → wrote stays reply key flags expiry block old now ≡ Answered NoChunk new → new ≡ old
+wrote-left : (stays : Bool) (reply : Reply) (key : List ℕ) (flags : ℕ) (expiry : Expiry) (block : List ℕ) (old new : Plain) (now : ℕ) → is_refusal reply ≡ false
+    → wrote stays reply key flags expiry block old now ≡ Answered NoChunk new → new ≡ old
 wrote-left stays reply key flags expiry block old new now other is =
-    let class : ℕ = class_holding (charge key block) in
-    (tested-fails (ltb old.greatest (charge key block)) (eqb old.next_unique 18446744073709551615) stays (has_room old class) reply old (written old key flags expiry block now) (written (with_chunk old class) key flags expiry block now) new other is).1
+    let need : NeedState = need_for (charge key block) in
+    (tested-fails (ltb old.greatest (charge key block)) (eqb old.next_unique 18446744073709551615) stays (has_room old need) reply old
+    (written old key flags expiry block now) (written (with_chunk old need) key flags expiry block now) new other is).1
 
 changed-exactly : (row : Row) (step : KeyStep) (item : Option Entry) (old : Plain) (now : ℕ)
     → (changed row step item old now ≡ Answered NoChunk old) ↔ LacksChunk old (chunk_taken step row item)

@@ -1,12 +1,15 @@
 -- A write's outcome, by the tests that it passes.
-use Rattle.std.proofs.Common.{◌≡◌, ◌<◌, ℕ, Bool, true, false, cond, eqb, ltb, List, append-nil, Option, Some, None, Result, Ok, Err, refl, ap, sym, subst, ◌∙◌, ⊎_elim, arith}
-use Rattle.std.specs.Prelude.{IsSome, decimal}
+use Rattle.std.proofs.Common.{◌≡◌, ◌<◌, ◌≤◌, ◌+◌, ◌/◌, ◌^◌, ◌&&◌, ℕ, Bool, true, false, cond, eqb, ltb, List, length, append-nil, Option, Some, None, Result, Ok, Err, refl, ap}
+use Rattle.std.proofs.Common.{sym, subst, ◌∙◌, ⊎_elim, arith}
+use Rattle.std.specs.Prelude.{IsSome, IsTrue, decimal}
 use Rattle.std.specs.Borrow.{Bor}
-use Rattle.std.specs.Option.{option_copied, option_eq}
+use Rattle.std.specs.Option.{option_copied}
 use Rattle.std.specs.FinMap.{get, get-remove}
 use Rattle.std.specs.Cmp.Lexicographic.{nat_list_cmp_total}
 use Rattle.std.proofs.lemmas.Bool.{cases_lt, ne_eqb, lt-leb, le-leb}
-use Rattle.mc_slab.specs.Classes.{class_holding, class_of}
+use Rattle.std.proofs.lemmas.Fmt.{length-decimal-le}
+use Rattle.mc_slab.specs.Classes.{class_holding}
+use Rattle.mc_slab.specs.Needs.{NeedState, need_for, need_of, same_need}
 use Rattle.mc_command.specs.declared.step.StepFault.{StepFault}
 use Rattle.mc_command.specs.declared.step.StepFault.TheVariants.{NoMemory, NumbersSpent}
 use Rattle.mc_command.specs.declared.reply.Reply.{Reply}
@@ -16,13 +19,11 @@ use Rattle.mc_command.specs.declared.row.Body.{Body}
 use Rattle.mc_command.specs.declared.row.Body.TheVariants.{Given, Appended, Prepended, Counted}
 use Rattle.mc_command.specs.declared.plain.item.Written.{Written}
 use Rattle.mc_command.specs.declared.plain.write.Next.{Next}
-use Rattle.mc_command.specs.Plain.{Plain, Entry, Outcome, Answered, CopiesBlock, charge, item_class, has_room, keeps_chunk, standing, without_dead, write_reply, written_block}
+use Rattle.mc_command.specs.Plain.{Plain, Entry, Outcome, Answered, CopiesBlock, charge, item_need, has_room, keeps_chunk, standing, without_dead, write_reply, written_block}
 use Rattle.mc_command.specs.Rows.{standing_in}
-use Rattle.mc_command.specs.Laws.{of_class}
-use Rattle.mc_command.specs.Steps.{Ends, Prepares, block_in, done, drafting, found, made, made_block, number_in, placed, rewritten, writing}
+use Rattle.mc_command.specs.Steps.{Ends, Prepares, block_in, done, drafting, found, made, made_block, needs_this, number_in, placed, same_needs, rewritten, writing}
 use Rattle.mc_command.proofs.ItemLemmas.{laws}
-use Rattle.mc_command.proofs.PlainLemmas.{of_class-some, standing-there}
-use Rattle.mc_command.proofs.RoomLemmas.{holding-none, holding-class}
+use Rattle.mc_command.proofs.PlainLemmas.{needs_this-some, standing-there}
 
 pub found-greatest : (item : Option Entry) (key : List ℕ) (old : Plain) → (without_dead item key old).greatest ≡ old.greatest
 found-greatest None key old = refl
@@ -37,41 +38,42 @@ pub found-stands : (item : Option Entry) (key : List ℕ) (old : Plain) → IsSo
 found-stands None key old some = cc
 found-stands (Some item) key old some = refl
 
--- a class that was found is that of a charge that isn't too large
-pub fits-by : (large : Bool) (k class : ℕ) → Some class ≡ cond large None (Some k) → large ≡ false
-fits-by true k class h = cc
-fits-by false k class h = refl
+-- a need that was found is that of a charge that isn't too large
+pub fits-by : (large : Bool) (k need : NeedState) → Some need ≡ cond large None (Some k) → large ≡ false
+fits-by true k need h = cc
+fits-by false k need h = refl
 
-pub class-by : (large : Bool) (k class : ℕ) → Some class ≡ cond large None (Some k) → class ≡ k
-class-by true k class h = cc
-class-by false k class h = cc
+pub need-by : (large : Bool) (k need : NeedState) → Some need ≡ cond large None (Some k) → need ≡ k
+need-by true k need h = cc
+need-by false k need h = cc
 
-module _ (old : Plain) (key : List ℕ) (now : ℕ) (w : Written) (reply : Reply) (class : ℕ)
-    (for : Some class ≡ cond (ltb old.greatest (charge key w.block)) None (Some (class_holding (charge key w.block))))
+module _ (old : Plain) (key : List ℕ) (now : ℕ) (w : Written) (reply : Reply) (need : NeedState)
+    (for : Some need ≡ cond (ltb old.greatest (charge key w.block)) None (Some (need_for (charge key w.block))))
     (left : eqb old.next_unique 18446744073709551615 ≡ false) where
   fits : ltb (found key old now).greatest (charge key w.block) ≡ false
-  fits = ap (λ (n : ℕ). ltb n (charge key w.block)) (found-greatest (standing old key now) key old) ∙ fits-by (ltb old.greatest (charge key w.block)) (class_holding (charge key w.block)) class for
+  fits = ap (λ (n : ℕ). ltb n (charge key w.block)) (found-greatest (standing old key now) key old) ∙ fits-by (ltb old.greatest (charge key w.block)) (need_for (charge key w.block)) need for
 
   number : eqb (found key old now).next_unique 18446744073709551615 ≡ false
   number = ap (λ (n : ℕ). eqb n 18446744073709551615) (found-next (standing old key now) key old) ∙ left
 
-  class-is : class ≡ class_holding (charge key w.block)
-  class-is = class-by (ltb old.greatest (charge key w.block)) (class_holding (charge key w.block)) class for
+  need-is : need ≡ need_for (charge key w.block)
+  need-is = need-by (ltb old.greatest (charge key w.block)) (need_for (charge key w.block)) need for
 
-  pub write-full : (stays : Bool) → stays ≡ false → has_room (found key old now) class ≡ false → writing stays reply w key old now ≡ Answered NoChunk (found key old now)
+  pub write-full : (stays : Bool) → stays ≡ false → has_room (found key old now) need ≡ false → writing stays reply w key old now ≡ Answered NoChunk (found key old now)
   write-full stays goes full =
-      let full : has_room (found key old now) (class_holding (charge key w.block)) ≡ false = ap (has_room (found key old now)) (sym class-is) ∙ full in
+      let full : has_room (found key old now) (need_for (charge key w.block)) ≡ false = ap (has_room (found key old now)) (sym need-is) ∙ full in
       rw (fits, number, goes, full) refl
 
-  pub write-placed : (stays : Bool) → stays ≡ false → has_room (found key old now) class ≡ true → writing stays reply w key old now ≡ Answered reply (placed w key old now)
+  pub write-placed : (stays : Bool) → stays ≡ false → has_room (found key old now) need ≡ true → writing stays reply w key old now ≡ Answered reply (placed w key old now)
   write-placed stays goes room =
-      let room : has_room (found key old now) (class_holding (charge key w.block)) ≡ true = ap (has_room (found key old now)) (sym class-is) ∙ room in
+      let room : has_room (found key old now) (need_for (charge key w.block)) ≡ true = ap (has_room (found key old now)) (sym need-is) ∙ room in
       rw (fits, number, goes, room) refl
 
-  pub write-kept : (stays : Bool) → stays ≡ true → of_class key (standing old key now) (class_holding (charge key w.block)) ≡ 1 → writing stays reply w key old now ≡ Answered reply (rewritten w key old now)
+  pub write-kept : (stays : Bool) → stays ≡ true → IsTrue (needs_this key (standing old key now) (need_for (charge key w.block)))
+      → writing stays reply w key old now ≡ Answered reply (rewritten w key old now)
   write-kept stays keeps there =
       rw (fits, number, keeps)
-      (ap (λ (p : Plain). Answered reply (rewritten w key p now)) (found-stands (standing old key now) key old (of_class-some key (standing old key now) _ there)))
+      (ap (λ (p : Plain). Answered reply (rewritten w key p now)) (found-stands (standing old key now) key old (needs_this-some key (standing old key now) _ there)))
 
 -- what is made of a draft is what it writes
 pub made-is : (body : Body) (block : List ℕ) (item : Option Entry) → made_block body block (block_in item) (decimal (number_in body)) ≡ written_block body block item
@@ -88,13 +90,13 @@ write-copies Appended = tt
 write-copies Prepended = tt
 write-copies (Counted n) = tt
 
--- a write that stays in the chunk of the item that stands has its class
-pub keeps-class : (body : Body) (key block : List ℕ) (item : Option Entry) → keeps_chunk body key item ≡ true → of_class key item (class_holding (charge key (written_block body block item))) ≡ 1
-keeps-class Given key block item keeps = absurd (cc keeps)
-keeps-class Appended key block item keeps = absurd (cc keeps)
-keeps-class Prepended key block item keeps = absurd (cc keeps)
-keeps-class (Counted n) key block None keeps = absurd (cc keeps)
-keeps-class (Counted n) key block (Some old) keeps = ap (λ b. cond b 1 0) keeps
+-- a write that stays in the chunks of the item that stands needs what that does
+pub keeps-need : (body : Body) (key block : List ℕ) (item : Option Entry) → keeps_chunk body key item ≡ true → IsTrue (needs_this key item (need_for (charge key (written_block body block item))))
+keeps-need Given key block item keeps = absurd (cc keeps)
+keeps-need Appended key block item keeps = absurd (cc keeps)
+keeps-need Prepended key block item keeps = absurd (cc keeps)
+keeps-need (Counted n) key block None keeps = absurd (cc keeps)
+keeps-need (Counted n) key block (Some old) keeps = keeps
 
 -- what is made of a draft, of the step's block, that of the item that stands, and a number's digits
 module _ (draft : Draft) (key block stood digits : List ℕ) (old : Plain) (now : ℕ) (there : Option (Bor Entry)) (w : Written) (stays : Bool)
@@ -108,11 +110,11 @@ module _ (draft : Draft) (key block stood digits : List ℕ) (old : Plain) (now 
   stays-by : stays ≡ keeps_chunk draft.body key (option_copied there)
   stays-by = keeps block (ap (λ (v : Written). v.block) is ∙ block-is)
 
-  pub draft-stays : stays ≡ true → of_class key (standing old key now) (class_holding (charge key w.block)) ≡ 1
+  pub draft-stays : stays ≡ true → IsTrue (needs_this key (standing old key now) (need_for (charge key w.block)))
   draft-stays stay =
-      subst (λ (o : Option Entry). of_class key o (class_holding (charge key w.block)) ≡ 1) stands
-      (subst (λ (b : List ℕ). of_class key (option_copied there) (class_holding (charge key b)) ≡ 1) (sym (ap (λ (v : Written). v.block) is ∙ block-is))
-      (keeps-class draft.body key block (option_copied there) (sym stays-by ∙ stay)))
+      subst (λ (o : Option Entry). IsTrue (needs_this key o (need_for (charge key w.block)))) stands
+      (subst (λ (b : List ℕ). IsTrue (needs_this key (option_copied there) (need_for (charge key b)))) (sym (ap (λ (v : Written). v.block) is ∙ block-is))
+      (keeps-need draft.body key block (option_copied there) (sym stays-by ∙ stay)))
 
   pub draft-is : (reply : Reply) → reply ≡ write_reply draft.body → drafting draft key block old now ≡ writing stays reply w key old now
   draft-is reply same =
@@ -158,31 +160,48 @@ pub Prepares-refused : (outcome : Outcome) (reply : Reply) (new : Plain) (result
 Prepares-refused outcome reply new result key old now is copies ends =
     rw (ends, is) (record { ready = tt; same = tt; spent = λ e. cc; refused = λ e. copies })
 
--- chunks of one class
-pub same-class : (a b : ℕ) → option_eq eqb (class_of a) (class_of b) ≡ eqb (class_holding a) (class_holding b)
-same-class a b =
-    ⊎_elim
-    (λ (large : 1048576 < a).
-    ⊎_elim
-    (λ (larger : 1048576 < b). rw (lt-leb a 1048576 large, lt-leb b 1048576 larger, holding-none a large, holding-none b larger) refl)
-    (λ fits. let is = holding-class b fits in let other = ne_eqb 41 (class_holding b) (omega arith) in rw (lt-leb a 1048576 large, le-leb b 1048576 fits, holding-none a large) (sym other))
-    (cases_lt 1048576 b))
-    (λ fits_a.
-    ⊎_elim
-    (λ (larger : 1048576 < b). let is = holding-class a fits_a in let other = ne_eqb (class_holding a) 41 (omega arith) in rw (le-leb a 1048576 fits_a, lt-leb b 1048576 larger, holding-none b larger) (sym other))
-    (λ fits. rw (le-leb a 1048576 fits_a, le-leb b 1048576 fits) refl)
-    (cases_lt 1048576 b))
-    (cases_lt 1048576 a)
+-- what two charges need, of which the second isn't above a page
+page-least : (charge : ℕ) → 1048576 < charge → 2 ≤ (charge + 1048575) / 1048576
+page-least charge above = omega arith
 
-pub stays-is : (key block : List ℕ) (item : Entry) (a b : Option ℕ) → a ≡ class_of (charge key item.block) → b ≡ class_of (charge key block) → option_eq eqb a b ≡ eqb (item_class key item) (class_holding (charge key block))
-stays-is key block item a b is other =
-    ap (λ (o : Option ℕ). option_eq eqb o b) is ∙ ap (λ (o : Option ℕ). option_eq eqb (class_of (charge key item.block)) o) other
-    ∙ same-class (charge key item.block) (charge key block)
+unlike : (same : Bool) (count : ℕ) → 2 ≤ count → (same && eqb count 1) ≡ false
+unlike true count some = ne_eqb count 1 (omega arith)
+unlike false count some = refl
 
--- a write of a number stays where both chunks are of one class
-pub stays-kept : (body : Body) (n : ℕ) (key block w : List ℕ) (found : Option (Bor Entry)) (item : Bor Entry) (a b : Option ℕ) (result : Bool)
-    → body ≡ Counted n → found ≡ Some item → w ≡ written_block body block (option_copied found) → result ≡ option_eq eqb a b → a ≡ class_of (charge key item.now.block) → b ≡ class_of (charge key w)
+abbrev one_chunk : ℕ → NeedState
+one_chunk charge = record { class = class_holding charge; count = 1 }
+
+abbrev whole_pages : ℕ → NeedState
+whole_pages charge = record { class = 40; count = (charge + 1048575) / 1048576 }
+
+pub same-by : (a b : ℕ) → b ≤ 1048576 → same_needs (need_of a) (need_of b) ≡ same_need (need_for a) (need_for b)
+same-by a b small =
+    let is_b : need_of b ≡ Some (need_for b) = ap (λ (t : Bool). cond t (Some (need_for b)) None) (le-leb b 8388608 (omega arith)) in
+    ⊎_elim
+    (λ (larger : 8388608 < a).
+    let large : 1048576 < a = omega arith in
+    let is_a : need_of a ≡ None = ap (λ (t : Bool). cond t (Some (need_for a)) None) (lt-leb a 8388608 larger) in
+    let pages : need_for a ≡ whole_pages a = ap (λ (t : Bool). cond t (one_chunk a) (whole_pages a)) (lt-leb a 1048576 large) in
+    let one : need_for b ≡ one_chunk b = ap (λ (t : Bool). cond t (one_chunk b) (whole_pages b)) (le-leb b 1048576 small) in
+    ap (λ (o : Option NeedState). same_needs o (need_of b)) is_a
+    ∙ sym (ap (λ (n : NeedState). same_need n (need_for b)) pages ∙ ap (same_need (whole_pages a)) one ∙ unlike (eqb 40 (class_holding b)) ((a + 1048575) / 1048576) (page-least a large)))
+    (λ held.
+    let is_a : need_of a ≡ Some (need_for a) = ap (λ (t : Bool). cond t (Some (need_for a)) None) (le-leb a 8388608 held) in
+    ap (λ (o : Option NeedState). same_needs o (need_of b)) is_a ∙ ap (same_needs (Some (need_for a))) is_b)
+    (cases_lt 8388608 a)
+
+pub stays-is : (key block : List ℕ) (item : Entry) (a b : Option NeedState) → charge key block ≤ 1048576 → a ≡ need_of (charge key item.block) → b ≡ need_of (charge key block)
+    → same_needs a b ≡ same_need (item_need key item) (need_for (charge key block))
+stays-is key block item a b fits is other =
+    ap (λ (o : Option NeedState). same_needs o b) is ∙ ap (λ (o : Option NeedState). same_needs (need_of (charge key item.block)) o) other
+    ∙ same-by (charge key item.block) (charge key block) fits
+
+-- a write of a number stays where both need the same
+pub stays-kept : (body : Body) (n : ℕ) (key block w : List ℕ) (found : Option (Bor Entry)) (item : Bor Entry) (a b : Option NeedState) (result : Bool)
+    → length key ≤ 250 → n < 2 ^ 64 → body ≡ Counted n → found ≡ Some item
+    → w ≡ written_block body block (option_copied found) → result ≡ same_needs a b → a ≡ need_of (charge key item.now.block) → b ≡ need_of (charge key w)
     → result ≡ keeps_chunk body key (option_copied found)
-stays-kept body n key block w found item a b result is some made same old new =
+stays-kept body n key block w found item a b result short below is some made same old new =
     let digits : w ≡ decimal n = made ∙ ap (λ (y : Body). written_block y block (option_copied found)) is in
-    rw (is, some) (same ∙ stays-is key (decimal n) item.now a b old (new ∙ ap (λ (d : List ℕ). class_of (charge key d)) digits))
+    let few = length-decimal-le 20 n (omega arith) (omega arith) below in
+    rw (is, some) (same ∙ stays-is key (decimal n) item.now a b (omega arith) old (new ∙ ap (λ (d : List ℕ). need_of (charge key d)) digits))

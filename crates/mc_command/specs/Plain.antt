@@ -1,15 +1,16 @@
 -- The plain machine: one step on one key at a time.
-use Rattle.std.specs.Prelude.{ℕ, ◌+◌, ◌-◌, ◌*◌, ◌^◌, ◌%◌, ◌==◌, ◌&&◌, ◌||◌, Bool, true, false, List, [], ◌++◌, length, drop, replicate, sum, slice_index, slice_set, Option, Some, None, is_some, refl, nat_lt, nat_le, decimal, if◌then◌else◌}
+use Rattle.std.specs.Prelude.{ℕ, ◌+◌, ◌-◌, ◌*◌, ◌^◌, ◌%◌, ◌==◌, ◌&&◌, Bool, true, false, List, [], ◌++◌, length, drop, replicate, sum, slice_index, slice_set, Option, Some, None, is_some, refl, nat_lt, nat_le, decimal, if◌then◌else◌}
 use Rattle.std.specs.Coded.{Coded, code_by, coded×, coded_ℕ, coded_list, coded_option}
 use Rattle.std.specs.Ordering.{nat_cmp}
 use Rattle.std.specs.Cmp.Lexicographic.{slice_cmp}
 use Rattle.std.specs.FinMap.{FinMap, entries, get, insert, remove, retain_keys, empty, code}
-use Rattle.std.specs.List.{take_while, list_all, count_by}
+use Rattle.std.specs.List.{take_while, list_all, sum_by}
 use Rattle.std.specs.Char.{is_ascii_digit}
 use Rattle.mc_time.specs.declared.expiry.Expiry.{Expiry}
 use Rattle.mc_time.specs.Death.{expiry_of, moment_named, is_dead}
 use Rattle.mc_time.specs.Stored.{coded_expiry}
-use Rattle.mc_slab.specs.Classes.{class_holding, chunks_a_page}
+use Rattle.mc_slab.specs.Classes.{chunks_a_page}
+use Rattle.mc_slab.specs.Needs.{NeedState, need_for, same_need}
 use Rattle.mc_command.specs.Words.{is_space}
 use Rattle.mc_command.specs.Numbers.{number_up_to}
 use Rattle.mc_command.specs.declared.step.Verb.{Verb}
@@ -82,17 +83,21 @@ chunk_head = 48
 abbrev pub charge : List ℕ → List ℕ → ℕ
 charge key block = chunk_head + length key + length block
 
--- the class of that charge
-abbrev pub block_class : List ℕ → List ℕ → ℕ
-block_class key block = class_holding (charge key block)
+-- what that charge needs
+abbrev pub block_need : List ℕ → List ℕ → NeedState
+block_need key block = need_for (charge key block)
 
--- an item's class: that of its charge
-abbrev pub item_class : List ℕ → Entry → ℕ
-item_class key item = block_class key item.block
+-- what an item needs: what its charge does
+abbrev pub item_need : List ℕ → Entry → NeedState
+item_need key item = block_need key item.block
 
--- how many items of a class are in the map, the dead ones too that aren't dropped yet
+-- how many chunks of a class a need asks for
+abbrev pub chunks_in : NeedState → ℕ → ℕ
+chunks_in need class = if need.class == class then need.count else 0
+
+-- how many chunks of a class the items in the map have, the dead ones too that aren't dropped yet
 abbrev pub count_of : Items → ℕ → ℕ
-count_of items class = count_by (λ e. item_class e.0 e.1 == class) (entries items)
+count_of items class = sum_by (λ e. chunks_in (item_need e.0 e.1) class) (entries items)
 
 -- a class's pages
 abbrev pub pages_of : Plain → ℕ → ℕ
@@ -102,17 +107,22 @@ pages_of old class = slice_index old.pages (class - 1)
 abbrev pub chunks_of : Plain → ℕ → ℕ
 chunks_of old class = pages_of old class * chunks_a_page class
 
--- a chunk of the class can be had: its items are fewer than its pages' chunks, or a page is left
-abbrev pub has_room : Plain → ℕ → Bool
-has_room old class =
-    nat_lt (count_of old.items class) (chunks_of old class) || nat_lt (sum old.pages) old.limit
+-- how many of its pages' chunks no item has
+abbrev pub unused : Plain → ℕ → ℕ
+unused old class = chunks_of old class - count_of old.items class
 
--- a page more for the class, where all its chunks are in use
-abbrev pub with_chunk : Plain → ℕ → Plain
-with_chunk old class =
-    if count_of old.items class == chunks_of old class
-    then record old { pages = slice_set old.pages (class - 1) (pages_of old class + 1) }
-    else old
+-- the chunks of a need can be had: so many have no item, or can be cut of the pages that are left
+abbrev pub has_room : Plain → NeedState → Bool
+has_room old need =
+    nat_le need.count
+    (unused old need.class + (old.limit - sum old.pages) * chunks_a_page need.class)
+
+-- the pages more for its class that a need wants, where too few chunks have no item
+abbrev pub with_chunk : Plain → NeedState → Plain
+with_chunk old need = record old {
+  pages = slice_set old.pages (need.class - 1)
+      (pages_of old need.class + (need.count - unused old need.class));
+}
 
 -- the number that a block is: 1 to 20 digits of a value below 2 ^ 64, followed by any number of
 -- spaces and nothing else
@@ -232,14 +242,14 @@ written_block Prepended block None = block
 written_block Prepended block (Some old) = block ++ old.block
 written_block (Counted number) block item = decimal number
 
--- a number that an item was counted to stays in its chunk where its class stays
+-- a number that an item was counted to stays in its chunks where it needs the same
 abbrev pub keeps_chunk : Body → List ℕ → Option Entry → Bool
 keeps_chunk Given key item = false
 keeps_chunk Appended key item = false
 keeps_chunk Prepended key item = false
 keeps_chunk (Counted number) key None = false
 keeps_chunk (Counted number) key (Some old) =
-    item_class key old == block_class key (decimal number)
+    same_need (item_need key old) (block_need key (decimal number))
 
 -- an item that isn't dead
 abbrev pub alive : Option ℕ → ℕ → Option Entry → Option Entry
@@ -272,9 +282,9 @@ written old key flags expiry block now = record old {
   next_unique = old.next_unique + 1;
 }
 
--- A write, of an item that stays in the old one's chunk or takes one of its class. It is asked
+-- A write, of an item that stays in the old one's chunks or takes those that it needs. It is asked
 -- first whether the charge is at most the greatest, then whether a unique number is left, and then,
--- of one that takes a chunk, whether one can be had.
+-- of one that takes chunks, whether they can be had.
 abbrev pub wrote
     : (stays : Bool) → Reply → List ℕ → (flags : ℕ) → Expiry → (block : List ℕ) → Plain → ℕ
     → Outcome
@@ -282,8 +292,8 @@ wrote stays reply key flags expiry block old now =
     if nat_lt old.greatest (charge key block) then Answered TooLarge old
     else if old.next_unique == 2 ^ 64 - 1 then Spent
     else if stays then Answered reply (written old key flags expiry block now)
-    else if has_room old (block_class key block) then
-    Answered reply (written (with_chunk old (block_class key block)) key flags expiry block now)
+    else if has_room old (block_need key block) then
+    Answered reply (written (with_chunk old (block_need key block)) key flags expiry block now)
     else Answered NoChunk old
 
 -- the key's item with another expiry, if there is one

@@ -1,7 +1,7 @@
 -- How the plain store takes a step, part by part.
-use Rattle.std.specs.Prelude.{◌≡◌, ◌≢◌, ℕ, ◌+◌, ◌-◌, ◌^◌, ◌++◌, Bool, List, [], Option, Some, None, Result, Err, IfOk, OnErr, IsTrue, slice_set, if◌then◌else◌}
+use Rattle.std.specs.Prelude.{◌≡◌, ◌≢◌, ℕ, ◌+◌, ◌-◌, ◌^◌, ◌++◌, Bool, false, List, [], Option, Some, None, Result, Err, IfOk, OnErr, IsTrue, slice_set}
 use Rattle.mc_time.specs.declared.expiry.Expiry.{Expiry}
-use Rattle.mc_slab.specs.Classes.{IsClass}
+use Rattle.mc_slab.specs.Needs.{NeedState, IsNeed, same_need}
 use Rattle.mc_command.specs.Commands.{key_of}
 use Rattle.mc_command.specs.declared.step.KeyStep.{KeyStep}
 use Rattle.mc_command.specs.declared.step.StepFault.{StepFault}
@@ -14,8 +14,7 @@ use Rattle.mc_command.specs.declared.row.Body.TheVariants.{Given, Appended, Prep
 use Rattle.mc_command.specs.declared.plain.item.Written.{Written}
 use Rattle.mc_command.specs.declared.plain.write.Next.{Next}
 use Rattle.mc_command.specs.declared.plain.write.Next.TheVariants.{Answer, Rewrite, Place}
-use Rattle.mc_command.specs.Laws.{of_class}
-use Rattle.mc_command.specs.Plain.{Plain, Entry, Outcome, Answered, Spent, MayFail, CopiesBlock, block_class, has_room, pages_of, with_chunk, standing, without_dead, written, wrote, changed, hit_of, perhaps_expiring, keeps_chunk, write_reply, written_block}
+use Rattle.mc_command.specs.Plain.{Plain, Entry, Outcome, Answered, Spent, MayFail, CopiesBlock, block_need, item_need, has_room, pages_of, with_chunk, standing, without_dead, written, wrote, changed, hit_of, perhaps_expiring, keeps_chunk, write_reply, written_block}
 
 -- a step ends as the plain machine says, and where it isn't taken nothing changes
 pub record Ends (outcome : Outcome) (result : Result Reply StepFault) (old new : Plain)
@@ -34,24 +33,34 @@ abbrev pub writing : (stays : Bool) → Reply → Written → List ℕ → Plain
 writing stays reply w key old now =
     wrote stays reply key w.flags w.expiry w.block (found key old now) now
 
--- a page more for a class that is full
-abbrev pub paged : Bool → Plain → (class : ℕ) → Plain
-paged is_full old class =
-    if is_full then record old { pages = slice_set old.pages (class - 1) (pages_of old class + 1) }
-    else old
+-- so many pages more for a class
+abbrev pub paged : ℕ → Plain → (class : ℕ) → Plain
+paged more old class =
+    record old { pages = slice_set old.pages (class - 1) (pages_of old class + more) }
 
--- what a write leaves that stays in the old item's chunk
+-- what a write leaves that stays in the old item's chunks
 abbrev pub rewritten : Written → List ℕ → Plain → ℕ → Plain
 rewritten w key old now = written old key w.flags w.expiry w.block now
 
--- what a write leaves that takes a chunk
+-- what a write leaves that takes chunks
 abbrev pub placed : Written → List ℕ → Plain → ℕ → Plain
 placed w key old now =
-    rewritten w key (with_chunk (found key old now) (block_class key w.block)) now
+    rewritten w key (with_chunk (found key old now) (block_need key w.block)) now
 
--- the item that stands under the key is of the class of the write, so that its chunk holds it
+-- an item needs this, where there is one
+abbrev pub needs_this : List ℕ → Option Entry → NeedState → Bool
+needs_this key None need = false
+needs_this key (Some item) need = same_need (item_need key item) need
+
+-- two needs are there, and ask for the same
+abbrev pub same_needs : Option NeedState → Option NeedState → Bool
+same_needs None other = false
+same_needs (Some one) None = false
+same_needs (Some one) (Some other) = same_need one other
+
+-- the item that stands under the key needs what the write does, so that its chunks hold it
 abbrev pub StaysIn : Plain → (key : List ℕ) → Written → ℕ → Type 0
-StaysIn old key w now = of_class key (standing old key now) (block_class key w.block) ≡ 1
+StaysIn old key w now = IsTrue (needs_this key (standing old key now) (block_need key w.block))
 
 -- the number that a body counts to, and 0 where it counts none
 abbrev pub number_in : Body → ℕ
@@ -102,29 +111,29 @@ drafting draft key block old now =
 abbrev pub done : Next → List ℕ → Plain → ℕ → Outcome
 done (Answer reply) key old now = Answered reply (found key old now)
 done (Rewrite reply w) key old now = Answered reply (rewritten w key old now)
-done (Place reply class w) key old now = Answered reply (placed w key old now)
+done (Place reply need w) key old now = Answered reply (placed w key old now)
 
--- an item that is written in the chunk of one of its class
+-- an item that is written in the chunks of one that needs the same
 pub record CanRewrite (reply : Reply) (w : Written) (key : List ℕ) (old : Plain) (now : ℕ)
     : Type 0 where
   pub copies : CopiesBlock reply
   pub stays : StaysIn old key w now
   pub number : old.next_unique ≢ 2 ^ 64 - 1
 
--- an item that is written in another chunk, of its class
-pub record CanPlace (reply : Reply) (class : ℕ) (w : Written) (key : List ℕ) (old : Plain) (now : ℕ)
-    : Type 0 where
+-- an item that is written in other chunks, those that it needs
+pub record CanPlace (reply : Reply) (need : NeedState) (w : Written) (key : List ℕ) (old : Plain)
+    (now : ℕ) : Type 0 where
   pub copies : CopiesBlock reply
-  pub class_is : class ≡ block_class key w.block
-  pub is_class : IsClass class
-  pub room : IsTrue (has_room (found key old now) class)
+  pub need_is : need ≡ block_need key w.block
+  pub is_need : IsNeed need
+  pub room : IsTrue (has_room (found key old now) need)
   pub number : old.next_unique ≢ 2 ^ 64 - 1
 
 -- a write that can be done
 abbrev pub IsReady : Next → List ℕ → Plain → ℕ → Type 0
 IsReady (Answer reply) key old now = Unit {0}
 IsReady (Rewrite reply w) key old now = CanRewrite reply w key old now
-IsReady (Place reply class w) key old now = CanPlace reply class w key old now
+IsReady (Place reply need w) key old now = CanPlace reply need w key old now
 
 -- a write that is made ready for what the plain machine says, or is refused
 pub record Prepares (outcome : Outcome) (result : Result Next StepFault) (key : List ℕ)

@@ -1,13 +1,17 @@
 //! Laws of the plain machine, each the contract of a function that does nothing.
 
-ghost use Rattle.std.specs.Prelude.{◌≡◌, ◌≢◌, ◌+◌, ◌≤◌, ◌<◌, ◌↔◌, ℕ, List, Bool, not, Option, Some, None, sum, true};
+ghost use Rattle.std.specs.Prelude.{◌≡◌, ◌≢◌, ◌+◌, ◌-◌, ◌*◌, ◌≤◌, ◌<◌, ◌↔◌, ◌++◌, ℕ, List, Bool, not, if◌then◌else◌, Option, Some, None, length, sum, true};
+ghost use Rattle.std.specs.List.{list_all};
 ghost use Rattle.std.specs.FinMap.{get, insert, remove, retain_keys, empty};
 ghost use Rattle.mc_time.specs.declared.expiry.Expiry.{Expiry};
 ghost use Rattle.mc_time.specs.Death.{is_dead, moment_named};
 ghost use Rattle.mc_command.specs.declared.step.KeyStep.{KeyStep};
 ghost use Rattle.mc_command.specs.declared.reply.Reply.{Reply};
 ghost use Rattle.mc_command.specs.Commands.{key_of};
-ghost use Rattle.mc_command.specs.Plain.{Plain, Items, Entry, plain, alive, standing, count_of, pages_of, Answered};
+ghost use Rattle.mc_slab.specs.Classes.{chunks_a_page};
+ghost use Rattle.mc_slab.specs.Needs.{NeedState, IsNeed};
+ghost use Rattle.mc_command.specs.Words.{is_space};
+ghost use Rattle.mc_command.specs.Plain.{number_of, Plain, Items, Entry, class_count, plain, alive, standing, count_of, pages_of, chunks_of, unused, with_chunk, Answered};
 ghost use Rattle.mc_command.specs.Laws.{IsOnKey, AgreeAt, AgreeAfter, HaveSameRoom, found_by, chunk_of, LacksChunk, of_class};
 
 /// States that a step on one key leaves the items under other keys as they are.
@@ -18,7 +22,7 @@ pub fn other_keys_stay()
 {}
 
 /// States that a step on one key depends on that key's item, the cut, the next unique number, the
-/// greatest charge, and for which classes there is room: states that agree there give one answer,
+/// greatest charge, and for which needs there is room: states that agree there give one answer,
 /// and agree at the key and in those numbers after it.
 pub fn one_key_decides()
     ensures { (a b : Plain) (step : KeyStep) (now : ℕ) →
@@ -26,7 +30,7 @@ pub fn one_key_decides()
         AgreeAfter (key_of step) (plain a step now) (plain b step now) }
 {}
 
-/// States that a step is refused for want of a chunk exactly where what it writes takes one, is not
+/// States that a step is refused for want of chunks exactly where what it writes takes some, is not
 /// too large, can draw a unique number, and finds no room. Nothing changes then, but that a dead
 /// item of the key is dropped.
 pub fn refused_without_room()
@@ -49,8 +53,22 @@ pub fn pages_stay()
         sum old.pages ≤ old.limit → sum new.pages ≤ new.limit }
 {}
 
-/// States how many items of a class there are after each change of the items: an item that is put
-/// takes the place of the key's old one, and one that is taken out counts no more.
+/// States that a write takes the least pages with which the chunks that it needs can be had: with
+/// its class's pages then so many chunks have no item, and with fewer, but no fewer than it has,
+/// there aren't so many.
+pub fn wanted_pages_are_least()
+    ensures enough { (old : Plain) (need : NeedState) →
+        IsNeed need → length old.pages ≡ class_count →
+        count_of old.items need.class ≤ chunks_of old need.class →
+        need.count ≤ unused (with_chunk old need) need.class }
+    ensures least { (old : Plain) (need : NeedState) (pages : ℕ) →
+        IsNeed need → pages_of old need.class ≤ pages →
+        pages < pages_of (with_chunk old need) need.class →
+        pages * chunks_a_page need.class - count_of old.items need.class < need.count }
+{}
+
+/// States how many chunks of a class the items have after each change of the items: an item that is
+/// put takes the place of the key's old one, and one that is taken out counts no more.
 pub fn counts_follow()
     ensures empty { (class : ℕ) → count_of empty class ≡ 0 }
     ensures insert { (items : Items) (key : List ℕ) (item : Entry) (class : ℕ) →
@@ -86,4 +104,12 @@ pub fn flushes_empty()
         0 < delay → plain old (KeyStep.Flush delay) now ≡ Answered reply new →
         moment_named delay now ≤ later → item.updated < moment_named delay now →
         alive new.cut later (Some item) ≡ None }
+{}
+
+/// States that a block in two parts, of which the first is longer than the digits of a number, is
+/// the number that the first is, if the second has nothing but spaces, and else no number.
+pub fn a_front_tells_the_number()
+    ensures { (front rest : List ℕ) → 20 < length front →
+        number_of (front ++ rest)
+        ≡ (if list_all is_space rest then number_of front else None) }
 {}

@@ -23,8 +23,8 @@ pub use command::{Command, CommandOf, is_quiet, step_at, steps_of};
 pub use fault::LineFault;
 pub use keys::Keys;
 pub use laws::{
-    counts_follow, flushes_empty, one_key_decides, other_keys_stay, pages_stay,
-    refused_without_room, the_dead_stay_dead,
+    a_front_tells_the_number, counts_follow, flushes_empty, one_key_decides, other_keys_stay,
+    pages_stay, refused_without_room, the_dead_stay_dead, wanted_pages_are_least,
 };
 pub use lone::Lone;
 pub use number::{counted, number_of, number_up_to};

@@ -61,10 +61,10 @@ impl Model for PlainStore {
 
 impl PlainStore {
     /// Makes a store of no items, with at most that many pages, 1 to 65536, and that greatest
-    /// charge of an item in bytes, at most 1048576. Refused where memory is.
+    /// charge of an item in bytes, at most 8388608. Refused where memory is.
     pub fn new(alloc: Global, pages: u32, greatest: u64) -> Result<PlainStore, AllocError>
         requires pages { (1 ≤ pages) × (pages ≤ 65536) }
-        requires greatest { greatest ≤ 1048576 }
+        requires greatest { greatest ≤ 8388608 }
         ensures { IfOk result (λ store. store ≡ opening pages greatest) }
     {
         PlainStore::starting(alloc, pages, greatest, 1)
@@ -79,7 +79,7 @@ impl PlainStore {
         next: u64,
     ) -> Result<PlainStore, AllocError>
         requires pages { (1 ≤ pages) × (pages ≤ 65536) }
-        requires greatest { greatest ≤ 1048576 }
+        requires greatest { greatest ≤ 8388608 }
         requires next { 1 ≤ next }
         ensures { IfOk result (λ store. store ≡ starting pages greatest next) }
     {
@@ -136,6 +136,7 @@ impl PlainStore {
 impl PlainStore {
     /// Takes a step. A step that writes no item and hits none takes no memory.
     fn taken(&mut self, alloc: Global, step: &KeyStep<'_>, now: Moment) -> Result<Reply, StepFault>
+        requires { length (key_of step.now) ≤ longest_key }
         ensures { Ends (plain self.old step.now now) result self.old self.new }
     {
         match step {
@@ -151,6 +152,7 @@ impl PlainStore {
         step: &KeyStep<'_>,
         now: Moment,
     ) -> Result<Reply, StepFault>
+        requires { length (key_of step.now) ≤ longest_key }
         ensures { Ends (stepped self.old step.now now) result self.old self.new }
     {
         let row = row_of(step, self.standing(step.key(), now), now);
@@ -165,6 +167,7 @@ impl PlainStore {
         step: &KeyStep<'_>,
         now: Moment,
     ) -> Result<Reply, StepFault>
+        requires { length (key_of step.now) ≤ longest_key }
         ensures { Ends (applied row step.now self.old now) result self.old self.new }
     {
         let key = step.key();

@@ -5,7 +5,7 @@ ghost use Rattle.mc_command.specs.Plain as machine;
 ghost use Rattle.mc_command.specs.Plain.{refusal_reply, write_reply};
 ghost use Rattle.mc_command.specs.Rows.{standing_in};
 
-use crate::number::{counted, number_of};
+use crate::number::counted;
 use crate::reply::Reply;
 use crate::step::{KeyStep, Verb};
 use mc_time::{Expiry, Moment, expiry_of};
@@ -91,7 +91,7 @@ pub enum Row {
 /// What stands under a key, and lends its fields.
 pub trait Standing {
     ghost use Rattle.std.specs.Prelude.{◌≡◌};
-    ghost use Rattle.mc_command.specs.Plain.{Entry};
+    ghost use Rattle.mc_command.specs.Plain.{Entry, number_of};
 
     /// The item, as contracts see it.
     ghost entry_of: { Self → Entry };
@@ -108,9 +108,10 @@ pub trait Standing {
     fn unique(&self) -> u64
         ensures { result ≡ (entry_of self.now).unique };
 
-    /// Lends its block.
-    fn block(&self) -> &[u8]
-        ensures { result.now ≡ (entry_of self.now).block };
+    /// Reads the number that its block is, as [`number_of`] does; none where it is none. The cost
+    /// grows with the block's length.
+    fn number(&self) -> Option<u64>
+        ensures { result ≡ number_of (entry_of self.now).block };
 }
 
 /// Finds the row of a step by the item that stands under its key, at a moment. A flush is on no
@@ -233,7 +234,7 @@ fn count_row<T: Standing>(up: bool, by: u64, item: Option<&T>) -> Row
 {
     match item {
         None => Row::Refuses(Refusal::NotFound),
-        Some(old) => match number_of(old.block()) {
+        Some(old) => match old.number() {
             None => Row::Refuses(Refusal::NotNumeric),
             Some(number) => joined(old, Body::Counted(counted(up, by, number))),
         },

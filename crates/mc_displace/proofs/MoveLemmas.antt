@@ -10,7 +10,8 @@ same_Some : {X : Type 0} (x y : X) → Some x ≡ Some y → x ≡ y
 same_Some x y e = cc
 
 -- an entry of the home is in reach of the empty bucket
-pub within_reach : {X : Type 0} (hash_of : X → ℕ) (k : ℕ) (items : List (Option X)) (free at : ℕ) (x : X) (home : ℕ) → IsMovable hash_of k items free at → get_or items at None ≡ Some x → home_in k (hash_of x) ≡ home → home_in k (hash_of x) ≤ at → (home ≤ free) × (free ≤ home + 31)
+pub within_reach : {X : Type 0} (hash_of : X → ℕ) (k : ℕ) (items : List (Option X)) (free at : ℕ) (x : X) (home : ℕ) → IsMovable hash_of k items free at
+    → get_or items at None ≡ Some x → home_in k (hash_of x) ≡ home → home_in k (hash_of x) ≤ at → (home ≤ free) × (free ≤ home + 31)
 within_reach hash_of k items free at x home m there is near =
     let its : home_in k (hash_of m.entry) ≡ home = ap (λ z. home_in k (hash_of z)) (same_Some m.entry x (sym m.there ∙ there)) ∙ is in
     (omega (arith, m.before, near, is), omega (arith, m.reach, its))
@@ -20,7 +21,9 @@ abbrev pub NoneOfHomesBelow : {X : Type 0} → (X → ℕ) → ℕ → List (Opt
 NoneOfHomesBelow hash_of k items free home = (at : ℕ) (m : IsMovable hash_of k items free at) → home_in k (hash_of m.entry) < home → ⊥
 
 -- where the bits below the empty bucket are clear, no entry of the home can be moved
-pub none_of_home : {X : Type 0} (hash_of : X → ℕ) (k : ℕ) (items : List (Option X)) (free home word : ℕ) → NoneOfHomesBelow hash_of k items free home → ((at : ℕ) (x : X) → get_or items at None ≡ Some x → (home_in k (hash_of x) ≤ at) × (at ≤ home_in k (hash_of x) + 31)) → ((j : ℕ) → j < 32 → bit_at word j ≡ homed hash_of k home (get_or items (home + j) None)) → ((j : ℕ) → j < free - home → bit_at word j ≡ 0) → NoneOfHomesBelow hash_of k items free (home + 1)
+pub none_of_home : {X : Type 0} (hash_of : X → ℕ) (k : ℕ) (items : List (Option X)) (free home word : ℕ) → NoneOfHomesBelow hash_of k items free home
+    → ((at : ℕ) (x : X) → get_or items at None ≡ Some x → (home_in k (hash_of x) ≤ at) × (at ≤ home_in k (hash_of x) + 31))
+    → ((j : ℕ) → j < 32 → bit_at word j ≡ homed hash_of k home (get_or items (home + j) None)) → ((j : ℕ) → j < free - home → bit_at word j ≡ 0) → NoneOfHomesBelow hash_of k items free (home + 1)
 none_of_home hash_of k items free home word before near bits clear at m below =
     ⊎_elim
     (λ (e : home_in k (hash_of m.entry) ≡ home).

@@ -1,5 +1,6 @@
 -- The places of an index, by its parts: the old table's buckets, the table's, and the strays.
-use Rattle.std.proofs.Common.{◌≡◌, ℕ, zero, suc, ◌+◌, ◌-◌, ◌<◌, ◌≤◌, ◌^◌, ◌⊎◌, inl, inr, List, [], ◌∷◌, ◌++◌, Option, Some, None, map, drop, length, length-set, get_or, set, refl, sym, ap, subst, ◌∙◌, arith, ⊎_elim}
+use Rattle.std.proofs.Common.{◌≡◌, ℕ, zero, suc, ◌+◌, ◌-◌, ◌<◌, ◌≤◌, ◌^◌, ◌⊎◌, inl, inr, List, [], ◌∷◌, ◌++◌, Option, Some, None, map, drop, length, length-set, get_or, set, refl}
+use Rattle.std.proofs.Common.{sym, ap, subst, ◌∙◌, arith, ⊎_elim}
 use Rattle.std.proofs.lemmas.Bool.{cases_eq, cases_lt}
 use Rattle.std.proofs.lemmas.Option.{none-some}
 use Rattle.std.proofs.Math.Seq.{drop-nil}
@@ -61,7 +62,8 @@ drop-taken (o ∷ items) (suc at) x e = drop-taken items at x e
 
 -- ---- one list behind another
 
-pub in_one : {X : Type 0} (xs ys : List (Option X)) (at : ℕ) (x : X) → get_or (xs ++ ys) at None ≡ Some x → (get_or xs at None ≡ Some x) ⊎ ((other : ℕ) × (at ≡ length xs + other) × (get_or ys other None ≡ Some x))
+pub in_one : {X : Type 0} (xs ys : List (Option X)) (at : ℕ) (x : X) → get_or (xs ++ ys) at None ≡ Some x → (get_or xs at None ≡ Some x)
+    ⊎ ((other : ℕ) × (at ≡ length xs + other) × (get_or ys other None ≡ Some x))
 in_one [] ys at x e = inr (at, omega arith, e)
 in_one (o ∷ xs) ys zero x e = inl e
 in_one (o ∷ xs) ys (suc at) x e = ⊎_elim inl (λ r. inr (r.0, omega (arith, r.1), r.2)) (in_one xs ys at x e)
@@ -79,7 +81,8 @@ set_first {X} (p ∷ xs) ys (suc at) o l = ap (λ (zs : List (Option X)). p ∷ 
 
 pub set_second : {X : Type 0} (xs ys : List (Option X)) (at : ℕ) (o : Option X) → set (xs ++ ys) (length xs + at) o ≡ xs ++ set ys at o
 set_second {X} [] ys at o = ap (λ (n : ℕ). set ys n o) (omega arith)
-set_second {X} (p ∷ xs) ys at o = ap (λ (n : ℕ). set (p ∷ (xs ++ ys)) n o) {x = suc (length xs) + at} {y = suc (length xs + at)} (omega arith) ∙ ap (λ (zs : List (Option X)). p ∷ zs) (set_second xs ys at o)
+set_second {X} (p ∷ xs) ys at o = ap (λ (n : ℕ). set (p ∷ (xs ++ ys)) n o) {x = suc (length xs) + at} {y = suc (length xs + at)} (omega arith)
+    ∙ ap (λ (zs : List (Option X)). p ∷ zs) (set_second xs ys at o)
 
 -- ---- the parts of an index
 
@@ -105,7 +108,8 @@ module _ {X : Type 0} (old table : List (Option X)) (strays : List X) where
   count_parts = omega (arith, filled-append old (table ++ map Some strays), filled-append table (map Some strays), filled-strays strays)
 
   -- a place is empty where it is empty in its part
-  cell_none : (k : ℕ) → (k < length old → get_or old k None ≡ None) → ((j : ℕ) → k ≡ length old + j → j < length table → get_or table j None ≡ None) → ((j : ℕ) → k ≡ length old + (length table + j) → get_or (map Some strays) j None ≡ None) → get_or all k None ≡ None
+  cell_none : (k : ℕ) → (k < length old → get_or old k None ≡ None) → ((j : ℕ) → k ≡ length old + j → j < length table → get_or table j None ≡ None)
+      → ((j : ℕ) → k ≡ length old + (length table + j) → get_or (map Some strays) j None ≡ None) → get_or all k None ≡ None
   cell_none k in_old in_table in_strays =
       ⊎_elim
       (λ (l : k < length old). cell_drained k l ∙ in_old l)
@@ -142,7 +146,8 @@ module _ {X : Type 0} (old table : List (Option X)) (strays : List X) where
         (λ j e. absurd (omega (arith, e, high, inside table n first.entry first.there)));
   }
 
-  pub first_stray : (at from n : ℕ) → NoneFilledFrom old at → from ≡ at - length old → NoneFilledFrom table from → n ≡ at - (length old + length table) → n < length strays → IsFirstFilled all at (length old + (length table + n))
+  pub first_stray : (at from n : ℕ) → NoneFilledFrom old at → from ≡ at - length old → NoneFilledFrom table from → n ≡ at - (length old + length table)
+      → n < length strays → IsFirstFilled all at (length old + (length table + n))
   first_stray at from n none is none_table n_is below = record {
     entry = (some_stray strays n below).0;
     there = cell_stray n ∙ (some_stray strays n below).1;
@@ -176,7 +181,8 @@ module _ {X : Type 0} (old table : List (Option X)) (strays : List X) where
         (λ (r : (j : ℕ) × (at ≡ length old + j) × (get_or (table ++ map Some strays) j None ≡ Some is.entry)).
         ⊎_elim
         (λ (e : get_or table r.0 None ≡ Some is.entry). no_table r.0 (record { entry = is.entry; there = e; same_hash = is.same_hash; same_key = is.same_key }))
-        (λ (t : (i : ℕ) × (r.0 ≡ length table + i) × (get_or (map Some strays) i None ≡ Some is.entry)). no_stray t.0 (record { entry = is.entry; there = t.2; same_hash = is.same_hash; same_key = is.same_key }))
+        (λ (t : (i : ℕ) × (r.0 ≡ length table + i) × (get_or (map Some strays) i None ≡ Some is.entry)). no_stray t.0
+        (record { entry = is.entry; there = t.2; same_hash = is.same_hash; same_key = is.same_key }))
         (in_one table (map Some strays) r.0 is.entry r.2))
         (in_one old (table ++ map Some strays) at is.entry is.there)
 
@@ -196,7 +202,10 @@ first_from index at place first small =
           ∙ ap (λ (n : ℕ). filled (drop n (cells index)) + 1) {x = suc place.number} (omega arith);
     }
 
-pub placed : {X : Type 0} (hash_of : X → ℕ) (key_of : X → List ℕ) (index : IndexState X) (hash : ℕ) (key : List ℕ) (place : Place) → ((items : List (Option X)) (x : X) → AreApart hash_of key_of items → HasEntry items x → get (content hash_of key_of items) (hash_of x ∷ key_of x) ≡ Some x) → AreApart hash_of key_of (cells index) → IsAt hash_of key_of (cells index) hash key place.number → IsPlaceOf hash_of key_of index hash key place
+pub placed : {X : Type 0} (hash_of : X → ℕ) (key_of : X → List ℕ) (index : IndexState X) (hash : ℕ) (key : List ℕ) (place : Place)
+    → ((items : List (Option X)) (x : X) → AreApart hash_of key_of items → HasEntry items x
+    → get (content hash_of key_of items) (hash_of x ∷ key_of x) ≡ Some x) → AreApart hash_of key_of (cells index)
+    → IsAt hash_of key_of (cells index) hash key place.number → IsPlaceOf hash_of key_of index hash key place
 placed hash_of key_of index hash key place law apart is = record {
   entry = is.entry;
   there = is.there;

@@ -1,10 +1,12 @@
 -- An entry is changed, or taken out.
-use Rattle.std.proofs.Common.{◌≡◌, ℕ, zero, suc, ◌+◌, ◌-◌, ◌<◌, ◌≤◌, ◌⊎◌, ◌↔◌, inl, inr, List, [], ◌∷◌, ◌++◌, Option, Some, None, map, drop, length, get_or, set, refl, sym, ap, subst, ◌∙◌, arith, ⊎_elim}
+use Rattle.std.proofs.Common.{◌≡◌, ℕ, zero, suc, ◌+◌, ◌-◌, ◌<◌, ◌≤◌, ◌⊎◌, ◌↔◌, inl, inr, List, [], ◌∷◌, ◌++◌, Option, Some, None, map, drop, length, get_or, set, refl, sym, ap}
+use Rattle.std.proofs.Common.{subst, ◌∙◌, arith, ⊎_elim}
 use Rattle.std.proofs.lemmas.Bool.{cases_eq, cases_lt}
 use Rattle.std.proofs.lemmas.Option.{none-some}
 use Rattle.std.proofs.Math.Seq.{drop-append-add}
 use Rattle.std.proofs.lemmas.List.{get_or-map, get_or_append_left, get_or-append-add, get_or-set_same, get_or-set_other, length-map, length-append, append_assoc}
 use Rattle.std.specs.FinMap.{insert, remove}
+use Rattle.std.specs.List.{swap_remove}
 use Rattle.mc_hop.specs.Cells.{filled}
 use Rattle.mc_hop.specs.Contents.{content}
 use Rattle.mc_hop.specs.Links.{IsSwapped}
@@ -12,7 +14,8 @@ use Rattle.mc_hop.specs.Tables.{AreApart, HasEntry}
 use Rattle.mc_grow.specs.declared.index.Place.{Place}
 use Rattle.mc_grow.specs.Indexes.{IndexState, IsRemoved, IsUpdated, cells, entry_at, left}
 use Rattle.mc_grow.proofs.PartLemmas.{inside, stray_inside, stray_is, stray_there}
-use Rattle.mc_grow.proofs.CellLemmas.{all, in_first, in_second, in_one, set_first, set_second, filled-append, filled-strays, filled-taken, filled-changed, drop-taken, was, apart_taken, cell_drained, cell_table, cell_stray}
+use Rattle.mc_grow.proofs.CellLemmas.{all, in_first, in_second, in_one, set_first, set_second, filled-append, filled-strays, filled-taken, filled-changed, drop-taken, was}
+use Rattle.mc_grow.proofs.CellLemmas.{apart_taken, cell_drained, cell_table, cell_stray}
 
 -- ---- one place of all
 
@@ -22,14 +25,16 @@ module _ {X : Type 0} (old table : List (Option X)) (strays : List X) where
       ap (λ (items : List (Option X)). all items table strays) e ∙ sym (set_first old (table ++ map Some strays) at o l)
       ∙ ap (λ (n : ℕ). set (all old table strays) n o) (sym is)
 
-  pub set_table : (at number : ℕ) (o : Option X) {changed : List (Option X)} → at < length table → number ≡ length old + at → changed ≡ set table at o → all old changed strays ≡ set (all old table strays) number o
+  pub set_table : (at number : ℕ) (o : Option X) {changed : List (Option X)} → at < length table → number ≡ length old + at → changed ≡ set table at o
+      → all old changed strays ≡ set (all old table strays) number o
   set_table at number o {changed} l is e =
       ap (λ (items : List (Option X)). all old items strays) e
       ∙ ap (λ (items : List (Option X)). old ++ items) (sym (set_first table (map Some strays) at o l))
       ∙ sym (set_second old (table ++ map Some strays) at o)
       ∙ ap (λ (n : ℕ). set (all old table strays) n o) (sym is)
 
-  pub set_stray : (at number : ℕ) (o : Option X) (changed : List X) → number ≡ length old + (length table + at) → map Some changed ≡ set (map Some strays) at o → all old table changed ≡ set (all old table strays) number o
+  pub set_stray : (at number : ℕ) (o : Option X) (changed : List X) → number ≡ length old + (length table + at) → map Some changed ≡ set (map Some strays) at o
+      → all old table changed ≡ set (all old table strays) number o
   set_stray at number o changed is e =
       ap (λ (items : List (Option X)). old ++ (table ++ items)) e
       ∙ ap (λ (items : List (Option X)). old ++ items) (sym (set_second table (map Some strays) at o))
@@ -38,7 +43,13 @@ module _ {X : Type 0} (old table : List (Option X)) (strays : List X) where
 
 -- ---- an entry is changed
 
-pub updated : {X R : Type 0} (hash_of : X → ℕ) (key_of : X → List ℕ) {post : X → X × R → Type 0} (entry given : X) {answer : R} (place : Place) (old new : IndexState X) → ((items : List (Option X)) (at : ℕ) (x y : X) → AreApart hash_of key_of items → get_or items at None ≡ Some x → hash_of y ≡ hash_of x → key_of y ≡ key_of x → content hash_of key_of (set items at (Some y)) ≡ insert (content hash_of key_of items) (hash_of x ∷ key_of x) y) → AreApart hash_of key_of (cells old) → entry_at old place ≡ Some entry → hash_of given ≡ hash_of entry → key_of given ≡ key_of entry → post entry (given, answer) → cells new ≡ set (cells old) place.number (Some given) → new.k ≡ old.k → new.growing ≡ old.growing → left new ≡ left old → new.spare ≡ old.spare → IsUpdated hash_of key_of post entry place old new answer
+pub updated : {X R : Type 0} (hash_of : X → ℕ) (key_of : X → List ℕ) {post : X → X × R → Type 0} (entry given : X) {answer : R} (place : Place)
+    (old new : IndexState X)
+    → ((items : List (Option X)) (at : ℕ) (x y : X) → AreApart hash_of key_of items → get_or items at None ≡ Some x → hash_of y ≡ hash_of x
+    → key_of y ≡ key_of x → content hash_of key_of (set items at (Some y)) ≡ insert (content hash_of key_of items) (hash_of x ∷ key_of x) y)
+    → AreApart hash_of key_of (cells old) → entry_at old place ≡ Some entry → hash_of given ≡ hash_of entry → key_of given ≡ key_of entry
+    → post entry (given, answer) → cells new ≡ set (cells old) place.number (Some given) → new.k ≡ old.k → new.growing ≡ old.growing → left new ≡ left old
+    → new.spare ≡ old.spare → IsUpdated hash_of key_of post entry place old new answer
 updated hash_of key_of entry given place old new law apart there same_hash same_key called changed k growing many spare = record {
   given = given;
   called = called;
@@ -53,14 +64,19 @@ updated hash_of key_of entry given place old new law apart there same_hash same_
 
 -- ---- an entry is taken out of a table
 
-pub removed : {X : Type 0} (hash_of : X → ℕ) (key_of : X → List ℕ) (entry : X) (place : Place) (old new : IndexState X) → ((items : List (Option X)) (at : ℕ) (x : X) → AreApart hash_of key_of items → get_or items at None ≡ Some x → content hash_of key_of (set items at None) ≡ remove (content hash_of key_of items) (hash_of x ∷ key_of x)) → AreApart hash_of key_of (cells old) → entry_at old place ≡ Some entry → cells new ≡ set (cells old) place.number None → new.k ≡ old.k → new.growing ≡ old.growing → left new ≤ left old → old.spare ≤ new.spare → IsRemoved hash_of key_of place entry old new
-removed {X} hash_of key_of entry place old new law apart there changed k growing less spare = record {
+pub removed : {X : Type 0} (hash_of : X → ℕ) (key_of : X → List ℕ) (entry : X) (place : Place) (old new : IndexState X)
+    → ((items : List (Option X)) (at : ℕ) (x : X) → AreApart hash_of key_of items → get_or items at None ≡ Some x
+    → content hash_of key_of (set items at None) ≡ remove (content hash_of key_of items) (hash_of x ∷ key_of x)) → AreApart hash_of key_of (cells old)
+    → entry_at old place ≡ Some entry → cells new ≡ set (cells old) place.number None → place.number < length old.draining + length old.table
+    → new.strays ≡ old.strays → new.k ≡ old.k → new.growing ≡ old.growing → left new ≤ left old → old.spare ≤ new.spare → IsRemoved hash_of key_of place entry old new
+removed {X} hash_of key_of entry place old new law apart there changed bucket strays k growing less spare = record {
   there = there;
   removed = ap (content hash_of key_of) changed ∙ law (cells old) place.number entry apart there;
   lower = record {
     lower = λ n l. ap (λ (items : List (Option X)). get_or items n None) changed ∙ get_or-set_other (cells old) place.number n None None (λ e. omega (arith, e, l));
     count = drop-taken (cells old) place.number entry there ∙ ap (λ (items : List (Option X)). filled (drop place.number items) + 1) (sym changed);
   };
+  others = record { of_tables = λ _. (changed, strays); of_strays = λ behind. absurd (omega (arith, bucket, behind)) };
   room = spare;
   less_left = less;
   fewer = filled-taken (cells old) place.number entry there ∙ ap (λ (items : List (Option X)). filled items + 1) (sym changed);
@@ -95,7 +111,11 @@ module _ {X : Type 0} (hash_of : X → ℕ) (key_of : X → List ℕ) (front : L
       let is = stray_is less j z z e in
       ⊎_elim
       (λ (same : j ≡ at).
-      inr (same, stray_there strays (length less) z (omega (arith, swap.shorter)) (sym is ∙ ap (λ (n : ℕ). get_or less n z) same ∙ swap.last z (omega (arith, l, same, swap.shorter)) ∙ ap (λ (n : ℕ). get_or strays n z) (omega (arith, swap.shorter)))))
+      inr (
+        same,
+        stray_there strays (length less) z (omega (arith, swap.shorter))
+            (sym is ∙ ap (λ (n : ℕ). get_or less n z) same ∙ swap.last z (omega (arith, l, same, swap.shorter)) ∙ ap (λ (n : ℕ). get_or strays n z) (omega (arith, swap.shorter))),
+      ))
       (λ (d : j ≡ at → ⊥).
       inl (d, stray_there strays j z (omega (arith, l, swap.shorter)) (sym is ∙ swap.others j z d (omega (arith, l, swap.shorter)))))
       (cases_eq j at)
@@ -147,8 +167,12 @@ module _ {X : Type 0} (hash_of : X → ℕ) (key_of : X → List ℕ) (front : L
       let is = stray_is strays j z z second.2 in
       let other : j ≡ at → ⊥ = λ same. d (omega (arith, same, second.1)) in
       ⊎_elim
-      (λ (its : j ≡ length less).
-      (number, in_second front (map Some less) at z (stray_there less at z (omega (arith, its, other, below, swap.shorter)) (sym is ∙ ap (λ (n : ℕ). get_or strays n z) (omega (arith, its, swap.shorter)) ∙ sym (swap.last z (omega (arith, its, other, below, swap.shorter)))))))
+      (λ (its : j ≡ length less). (
+        number,
+        in_second front (map Some less) at z
+            (stray_there less at z (omega (arith, its, other, below, swap.shorter))
+            (sym is ∙ ap (λ (n : ℕ). get_or strays n z) (omega (arith, its, swap.shorter)) ∙ sym (swap.last z (omega (arith, its, other, below, swap.shorter))))),
+      ))
       (λ (n : j ≡ length less → ⊥).
       (length front + j, in_second front (map Some less) j z (stray_there less j z (omega (arith, n, l, swap.shorter)) (sym is ∙ sym (swap.others j z other (omega (arith, n, l, swap.shorter)))))))
       (cases_eq j (length less)))
@@ -194,8 +218,15 @@ module _ {X : Type 0} (hash_of : X → ℕ) (key_of : X → List ℕ) (front : L
   fewer = omega (arith, filled-append front (map Some strays), filled-append front (map Some less), filled-strays strays, filled-strays less, swap.shorter)
 
 -- what a removal among the strays is
-pub removed_stray : {X : Type 0} (hash_of : X → ℕ) (key_of : X → List ℕ) (strays less : List X) (at : ℕ) (entry : X) (place : Place) (old new : IndexState X) → ((items : List (Option X)) (at : ℕ) (x : X) → AreApart hash_of key_of items → get_or items at None ≡ Some x → content hash_of key_of (set items at None) ≡ remove (content hash_of key_of items) (hash_of x ∷ key_of x)) → ((items others : List (Option X)) → AreApart hash_of key_of items → AreApart hash_of key_of others → ((x : X) → HasEntry items x ↔ HasEntry others x) → content hash_of key_of items ≡ content hash_of key_of others) → IsSwapped strays less at → at < length strays → entry ≡ get_or strays at entry → AreApart hash_of key_of (cells old) → cells old ≡ all old.draining old.table strays → cells new ≡ all old.draining old.table less → place.number ≡ length old.draining + (length old.table + at) → new.k ≡ old.k → new.growing ≡ old.growing → left new ≤ left old → old.spare ≤ new.spare → IsRemoved hash_of key_of place entry old new
-removed_stray {X} hash_of key_of strays less at entry place old new taken same swap below is apart old_is new_is number_is k growing fewer_left spare =
+pub removed_stray : {X : Type 0} (hash_of : X → ℕ) (key_of : X → List ℕ) (strays less : List X) (at : ℕ) (entry : X) (place : Place) (old new : IndexState X)
+    → ((items : List (Option X)) (at : ℕ) (x : X) → AreApart hash_of key_of items → get_or items at None ≡ Some x
+    → content hash_of key_of (set items at None) ≡ remove (content hash_of key_of items) (hash_of x ∷ key_of x))
+    → ((items others : List (Option X)) → AreApart hash_of key_of items → AreApart hash_of key_of others → ((x : X) → HasEntry items x ↔ HasEntry others x)
+    → content hash_of key_of items ≡ content hash_of key_of others) → IsSwapped strays less at → at < length strays → entry ≡ get_or strays at entry
+    → AreApart hash_of key_of (cells old) → cells old ≡ all old.draining old.table strays → cells new ≡ all old.draining old.table less
+    → place.number ≡ length old.draining + (length old.table + at) → new.draining ≡ old.draining → new.table ≡ old.table
+    → new.strays ≡ swap_remove old.strays at entry → new.k ≡ old.k → new.growing ≡ old.growing → left new ≤ left old → old.spare ≤ new.spare → IsRemoved hash_of key_of place entry old new
+removed_stray {X} hash_of key_of strays less at entry place old new taken same swap below is apart old_is new_is number_is same_old same_table strays_are k growing fewer_left spare =
     let front = old.draining ++ old.table in
     let olds : cells old ≡ front ++ map Some strays = old_is ∙ sym (append_assoc old.draining old.table (map Some strays)) in
     let news : cells new ≡ front ++ map Some less = new_is ∙ sym (append_assoc old.draining old.table (map Some less)) in
@@ -206,14 +237,22 @@ removed_stray {X} hash_of key_of strays less at entry place old new taken same s
       there = ap (λ (items : List (Option X)). get_or items place.number None) olds ∙ ap (λ (n : ℕ). get_or (front ++ map Some strays) n None) its ∙ there;
       removed =
           ap (content hash_of key_of) news
-          ∙ same (front ++ map Some less) (set (front ++ map Some strays) (length front + at) None) (apart_less hash_of key_of front strays less at swap below apart_whole) (apart_taken hash_of key_of (front ++ map Some strays) (length front + at) apart_whole) (same_rest hash_of key_of front strays less at swap below)
+          ∙ same (front ++ map Some less) (set (front ++ map Some strays) (length front + at) None)
+          (apart_less hash_of key_of front strays less at swap below apart_whole)
+          (apart_taken hash_of key_of (front ++ map Some strays) (length front + at) apart_whole) (same_rest hash_of key_of front strays less at swap below)
           ∙ taken (front ++ map Some strays) (length front + at) entry apart_whole there
           ∙ ap (λ (items : List (Option X)). remove (content hash_of key_of items) (hash_of entry ∷ key_of entry)) (sym olds);
       lower = record {
-        lower = λ n l. ap (λ (items : List (Option X)). get_or items n None) news ∙ lower hash_of key_of front strays less at swap below entry n (omega (arith, its, l)) ∙ ap (λ (items : List (Option X)). get_or items n None) (sym olds);
+        lower = λ n l. ap (λ (items : List (Option X)). get_or items n None) news
+            ∙ lower hash_of key_of front strays less at swap below entry n (omega (arith, its, l)) ∙ ap (λ (items : List (Option X)). get_or items n None) (sym olds);
         count =
             (λ i. filled (drop (its i) (olds i))) ∙ count_lower hash_of key_of front strays less at swap below
             ∙ sym (λ i. filled (drop (its i) (news i)) + 1);
+      };
+      others = record {
+        of_tables = λ bucket. absurd (omega (arith, bucket, number_is));
+        of_strays =
+            λ _. (same_old, same_table, strays_are ∙ ap (λ (n : ℕ). swap_remove old.strays n entry) {x = at} {y = place.number - (length old.draining + length old.table)} (omega (arith, number_is)));
       };
       room = spare;
       less_left = fewer_left;
@@ -222,7 +261,8 @@ removed_stray {X} hash_of key_of strays less at entry place old new taken same s
       same_growing = growing;
     }
 
-pub apart_shorter : {X : Type 0} (hash_of : X → ℕ) (key_of : X → List ℕ) (old table : List (Option X)) (strays less : List X) (at : ℕ) → IsSwapped strays less at → at < length strays → AreApart hash_of key_of (all old table strays) → AreApart hash_of key_of (all old table less)
+pub apart_shorter : {X : Type 0} (hash_of : X → ℕ) (key_of : X → List ℕ) (old table : List (Option X)) (strays less : List X) (at : ℕ)
+    → IsSwapped strays less at → at < length strays → AreApart hash_of key_of (all old table strays) → AreApart hash_of key_of (all old table less)
 apart_shorter hash_of key_of old table strays less at swap below apart =
     subst (AreApart hash_of key_of) (append_assoc old table (map Some less))
     (apart_less hash_of key_of (old ++ table) strays less at swap below (subst (AreApart hash_of key_of) (sym (append_assoc old table (map Some strays))) apart))
@@ -270,10 +310,13 @@ one_stray_less room new_room len new_len more same less = omega (arith, same, le
 
 -- ---- the same as contracts see it
 
-pub seen_removed : {X : Type 0} {hash_of : X → ℕ} {key_of : X → List ℕ} {place : Place} {x : X} {v now new : IndexState X} → v ≡ now → IsRemoved hash_of key_of place x v new → IsRemoved hash_of key_of place x now new
+pub seen_removed : {X : Type 0} {hash_of : X → ℕ} {key_of : X → List ℕ} {place : Place} {x : X} {v now new : IndexState X} → v ≡ now
+    → IsRemoved hash_of key_of place x v new → IsRemoved hash_of key_of place x now new
 seen_removed {X} {hash_of} {key_of} {place} {x} {new = new} same is = subst (λ (s : IndexState X). IsRemoved hash_of key_of place x s new) same is
 
-pub seen_updated : {X R : Type 0} {hash_of : X → ℕ} {key_of : X → List ℕ} {post : X → X × R → Type 0} {entry : X} {place : Place} {v now new : IndexState X} {answer : R} → v ≡ now → IsUpdated hash_of key_of post entry place v new answer → IsUpdated hash_of key_of post entry place now new answer
+pub seen_updated : {X R : Type 0} {hash_of : X → ℕ} {key_of : X → List ℕ} {post : X → X × R
+    → Type 0} {entry : X} {place : Place} {v now new : IndexState X} {answer : R} → v ≡ now → IsUpdated hash_of key_of post entry place v new answer
+    → IsUpdated hash_of key_of post entry place now new answer
 seen_updated {X} {R} {hash_of} {key_of} {post} {entry} {place} {new = new} {answer} same is = subst (λ (s : IndexState X). IsUpdated hash_of key_of post entry place s new answer) same is
 
 pub seen_entry : {X : Type 0} (place : Place) {x : X} {v now : IndexState X} → v ≡ now → entry_at v place ≡ Some x → entry_at now place ≡ Some x

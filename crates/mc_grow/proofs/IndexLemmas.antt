@@ -1,5 +1,6 @@
 -- What an index is after moves and inserts, by its parts.
-use Rattle.std.proofs.Common.{◌≡◌, ℕ, zero, suc, cond, replicate, is_some, not, ◌&&◌, Bool, ◌≤◌, ◌<◌, true, false, true≢false, List, [], ◌∷◌, ◌++◌, map, Option, Some, None, ◌+◌, length, get_or, refl, sym, ap, subst, ◌∙◌, arith}
+use Rattle.std.proofs.Common.{◌≡◌, ℕ, zero, suc, cond, replicate, is_some, not, ◌&&◌, Bool, ◌≤◌, ◌<◌, true, false, true≢false, List, [], ◌∷◌, ◌++◌, map, Option, Some, None, ◌+◌}
+use Rattle.std.proofs.Common.{length, get_or, refl, sym, ap, subst, ◌∙◌, arith}
 use Rattle.std.specs.Prelude.{nat_lt}
 use Rattle.mc_hop.specs.Cells.{filled}
 use Rattle.mc_hop.specs.Contents.{content}
@@ -38,7 +39,10 @@ module _ {X : Type 0} (hash_of : X → ℕ) (key_of : X → List ℕ) where
     none_now = ap (λ (s : IndexState X). s.draining) same ∙ none
 
   -- the last entries were moved
-  pub moved_to_the_end : (old new : IndexState X) (n k k_then k_now : ℕ) (first drained : List (Option X)) (start side last : Side X) → ContentLaws hash_of key_of → old.growing ≡ true → first ≡ old.draining → k ≡ old.k → start ≡ side_of old → AreTaken hash_of key_of k n first drained start side → filled drained ≡ 0 → AreTried hash_of key_of k_then side last → k_then ≡ k → k_now ≡ k_then → new.k ≡ k_now → new.draining ≡ [] → new.growing ≡ false → side_of new ≡ last → AreMoved hash_of key_of n old new
+  pub moved_to_the_end : (old new : IndexState X) (n k k_then k_now : ℕ) (first drained : List (Option X)) (start side last : Side X)
+      → ContentLaws hash_of key_of → old.growing ≡ true → first ≡ old.draining → k ≡ old.k → start ≡ side_of old
+      → AreTaken hash_of key_of k n first drained start side → filled drained ≡ 0 → AreTried hash_of key_of k_then side last → k_then ≡ k → k_now ≡ k_then
+      → new.k ≡ k_now → new.draining ≡ [] → new.growing ≡ false → side_of new ≡ last → AreMoved hash_of key_of n old new
   moved_to_the_end old new n k k_then k_now first drained start side last laws runs drain kept beside taken empty tried same_then same_now new_k none_now rests_now ends = record {
     same_k = new_k ∙ same_now ∙ same_then ∙ kept;
     idle = λ e. absurd (true≢false (sym runs ∙ e));
@@ -46,7 +50,8 @@ module _ {X : Type 0} (hash_of : X → ℕ) (key_of : X → List ℕ) where
     moved = record {
       entries = taken.entries;
       many = taken.many;
-      taken = laws.parts (map Some taken.entries) new.draining (map Some taken.entries) drained refl (ap (content hash_of key_of) none_now ∙ sym (laws.none drained empty)) ∙ taken.taken ∙ ap (content hash_of key_of) drain;
+      taken = laws.parts (map Some taken.entries) new.draining (map Some taken.entries) drained refl
+          (ap (content hash_of key_of) none_now ∙ sym (laws.none drained empty)) ∙ taken.taken ∙ ap (content hash_of key_of) drain;
       added = subst (λ (s : Side X). AreAdded hash_of key_of old.k taken.entries s side) beside (subst (λ (m : ℕ). AreAdded hash_of key_of m taken.entries start side) kept taken.added);
     };
     goes_on = λ l. absurd (none_left new.draining none_now l);
@@ -58,7 +63,9 @@ module _ {X : Type 0} (hash_of : X → ℕ) (key_of : X → List ℕ) where
     none_left d e l = omega (arith, ap filled e, l)
 
   -- entries were moved, and some are left
-  pub moved_some : (old new : IndexState X) (n k k_now : ℕ) (first drained : List (Option X)) (start side : Side X) → old.growing ≡ true → first ≡ old.draining → k ≡ old.k → start ≡ side_of old → AreTaken hash_of key_of k n first drained start side → (filled drained ≡ 0 → ⊥) → k_now ≡ k → new.k ≡ k_now → new.draining ≡ drained → new.growing ≡ true → side_of new ≡ side → AreMoved hash_of key_of n old new
+  pub moved_some : (old new : IndexState X) (n k k_now : ℕ) (first drained : List (Option X)) (start side : Side X) → old.growing ≡ true → first ≡ old.draining
+      → k ≡ old.k → start ≡ side_of old → AreTaken hash_of key_of k n first drained start side → (filled drained ≡ 0 → ⊥) → k_now ≡ k → new.k ≡ k_now
+      → new.draining ≡ drained → new.growing ≡ true → side_of new ≡ side → AreMoved hash_of key_of n old new
   moved_some old new n k k_now first drained start side runs drain kept beside taken some same_now new_k left grows is = record {
     same_k = new_k ∙ same_now ∙ kept;
     idle = λ e. absurd (true≢false (sym runs ∙ e));
@@ -78,11 +85,13 @@ module _ {X : Type 0} (hash_of : X → ℕ) (key_of : X → List ℕ) where
     is_some_left m some = lt-ltb 0 m (omega (arith, some))
 
 -- what is new to an index as contracts see it is new to its parts
-pub still_new : {X : Type 0} (hash_of : X → ℕ) (key_of : X → List ℕ) {v now : IndexState X} (key : List ℕ) → v ≡ now → get (holds hash_of key_of now) key ≡ None → get (holds hash_of key_of v) key ≡ None
+pub still_new : {X : Type 0} (hash_of : X → ℕ) (key_of : X → List ℕ) {v now : IndexState X} (key : List ℕ) → v ≡ now → get (holds hash_of key_of now) key ≡ None
+    → get (holds hash_of key_of v) key ≡ None
 still_new {X} hash_of key_of {v} {now} key same none = ap (λ (s : IndexState X). get (holds hash_of key_of s) key) same ∙ none
 
 -- an entry has come to the table and the strays of an index
-module _ {X : Type 0} (hash_of : X → ℕ) (key_of : X → List ℕ) (laws : ContentLaws hash_of key_of) (drained old new : List (Option X)) (entry : X) (apart : AreApart hash_of key_of (drained ++ old)) (fresh : get (content hash_of key_of (drained ++ old)) (hash_of entry ∷ key_of entry) ≡ None) (come : IsIn hash_of key_of entry old new) where
+module _ {X : Type 0} (hash_of : X → ℕ) (key_of : X → List ℕ) (laws : ContentLaws hash_of key_of) (drained old new : List (Option X)) (entry : X)
+    (apart : AreApart hash_of key_of (drained ++ old)) (fresh : get (content hash_of key_of (drained ++ old)) (hash_of entry ∷ key_of entry) ≡ None) (come : IsIn hash_of key_of entry old new) where
   pub all_apart : AreApart hash_of key_of (drained ++ new)
   all_apart = (in_second hash_of key_of laws drained old new entry apart fresh come).apart
 
@@ -96,7 +105,8 @@ module _ {X : Type 0} (hash_of : X → ℕ) (key_of : X → List ℕ) (laws : Co
       ∙ ap (λ (o : Option X). cond (is_some o) many (many + 1)) fresh
       ∙ ap (λ (n : ℕ). n + 1) (laws.many (drained ++ old) apart)
 
-  pub its_place : (index : IndexState X) → cells index ≡ drained ++ new → (buckets at : ℕ) → buckets ≡ length drained → get_or new at None ≡ Some entry → IsPlaceOf hash_of key_of index (hash_of entry) (key_of entry) (record { number = buckets + at })
+  pub its_place : (index : IndexState X) → cells index ≡ drained ++ new → (buckets at : ℕ) → buckets ≡ length drained → get_or new at None ≡ Some entry
+      → IsPlaceOf hash_of key_of index (hash_of entry) (key_of entry) (record { number = buckets + at })
   its_place index is buckets at many there = record {
     entry = entry;
     there = ap (λ (l : List (Option X)). get_or l (buckets + at) None) is ∙ ap (λ (n : ℕ). get_or (drained ++ new) (n + at) None) many ∙ get_or-append-add drained new at None ∙ there;
@@ -116,7 +126,8 @@ module _ {X : Type 0} (hash_of : X → ℕ) (key_of : X → List ℕ) (laws : Co
   pub as_many_stay : (old : IndexState X) (drained : List (Option X)) (side : Side X) → drained ≡ old.draining → side ≡ side_of old → filled (drained ++ cells_of side) ≡ count old
   as_many_stay old drained side same_old same = λ i. filled (same_old i ++ cells_of (same i))
 
-  module _ (old : IndexState X) (first drained : List (Option X)) (start side : Side X) (drain : first ≡ old.draining) (beside : start ≡ side_of old) (apart : AreApart hash_of key_of (cells old)) (moved : HoldsAll hash_of key_of (first ++ cells_of start) (drained ++ cells_of side)) where
+  module _ (old : IndexState X) (first drained : List (Option X)) (start side : Side X) (drain : first ≡ old.draining) (beside : start ≡ side_of old)
+      (apart : AreApart hash_of key_of (cells old)) (moved : HoldsAll hash_of key_of (first ++ cells_of start) (drained ++ cells_of side)) where
     was : first ++ cells_of start ≡ cells old
     was = λ i. drain i ++ cells_of (beside i)
 
@@ -126,7 +137,8 @@ module _ {X : Type 0} (hash_of : X → ℕ) (key_of : X → List ℕ) (laws : Co
     pub as_many_left : (new : IndexState X) → new.draining ≡ drained → side_of new ≡ side → count new ≡ count old
     as_many_left new left is = (λ i. filled (left i ++ cells_of (is i))) ∙ as_many_then ∙ ap filled was
 
-    pub as_many_at_the_end : (left : List (Option X)) (last : Side X) → left ≡ [] → filled drained ≡ 0 → HoldsAll hash_of key_of (cells_of side) (cells_of last) → filled (left ++ cells_of last) ≡ count old
+    pub as_many_at_the_end : (left : List (Option X)) (last : Side X) → left ≡ [] → filled drained ≡ 0 → HoldsAll hash_of key_of (cells_of side) (cells_of last)
+        → filled (left ++ cells_of last) ≡ count old
     as_many_at_the_end left last none empty tried =
         let own = ((laws.apart drained (cells_of side)).0 moved.apart).1 in
         let ends : filled (cells_of last) ≡ filled (drained ++ cells_of side) =
@@ -152,10 +164,15 @@ due_rests true rest e = absurd (true≢false (sym e))
 due_rests false rest e = refl
 
 -- a growth begins: the content stays
-pub begun : {X : Type 0} (hash_of : X → ℕ) (key_of : X → List ℕ) (laws : ContentLaws hash_of key_of) (draining : Option (HopState X)) (table made drained now : HopState X) (strays strays_now : List X) (k n : ℕ) → is_some draining ≡ false → drained ≡ table → now ≡ made → made ≡ record { k = k; items = replicate n None } → AreApart hash_of key_of made.items → strays_now ≡ strays → AreApart hash_of key_of (drained_items draining ++ (table.items ++ map Some strays)) → HoldsAll hash_of key_of (drained_items draining ++ (table.items ++ map Some strays)) (drained.items ++ (now.items ++ map Some strays_now))
+pub begun : {X : Type 0} (hash_of : X → ℕ) (key_of : X → List ℕ) (laws : ContentLaws hash_of key_of) (draining : Option (HopState X))
+    (table made drained now : HopState X) (strays strays_now : List X) (k n : ℕ) → is_some draining ≡ false → drained ≡ table → now ≡ made
+    → made ≡ record { k = k; items = replicate n None } → AreApart hash_of key_of made.items → strays_now ≡ strays
+    → AreApart hash_of key_of (drained_items draining ++ (table.items ++ map Some strays))
+    → HoldsAll hash_of key_of (drained_items draining ++ (table.items ++ map Some strays)) (drained.items ++ (now.items ++ map Some strays_now))
 begun {X} hash_of key_of laws draining table made drained now strays strays_now k n rests old_is new_is empty own same apart =
     let nothing : filled made.items ≡ 0 = ap (λ (t : HopState X). filled t.items) empty ∙ filled_none X n in
-    let bare : drained_items draining ++ (table.items ++ map Some strays) ≡ table.items ++ map Some strays = ap (λ (l : List (Option X)). l ++ (table.items ++ map Some strays)) (no_drained draining rests) in
+    let bare : drained_items draining ++ (table.items ++ map Some strays) ≡ table.items ++ map Some strays =
+    ap (λ (l : List (Option X)). l ++ (table.items ++ map Some strays)) (no_drained draining rests) in
     let whole : HoldsAll hash_of key_of (table.items ++ map Some strays) (table.items ++ (made.items ++ map Some strays)) =
     more_buckets hash_of key_of laws table.items (map Some strays) made.items nothing own (subst (AreApart hash_of key_of) bare apart) in
     let is : drained.items ++ (now.items ++ map Some strays_now) ≡ table.items ++ (made.items ++ map Some strays) =

@@ -4,3 +4,4 @@ pub mod PartLemmas
 pub mod CellLemmas
 pub mod ChangeLemmas
 pub mod IndexLemmas
+pub mod OrderLemmas

@@ -1,5 +1,6 @@
 -- What the content of buckets is when an entry comes to a part of them, or goes from one part to another.
-use Rattle.std.proofs.Common.{◌≡◌, ℕ, zero, suc, ◌+◌, ◌⊎◌, inl, inr, Bool, true, false, cond, List, [], ◌∷◌, ◌++◌, map, Option, Some, None, get_or, set, is_some, true≢false, ◌≤◌, refl, sym, ap, subst, ◌∙◌, arith, length-append}
+use Rattle.std.proofs.Common.{◌≡◌, ℕ, zero, suc, ◌+◌, ◌⊎◌, inl, inr, Bool, true, false, cond, List, [], ◌∷◌, ◌++◌, map, Option, Some, None, get_or, set, is_some, true≢false, ◌≤◌}
+use Rattle.std.proofs.Common.{refl, sym, ap, subst, ◌∙◌, arith, length-append}
 use Rattle.std.proofs.lemmas.Option.{none-some}
 use Rattle.std.proofs.lemmas.List.{map-append, append_assoc, append-nil}
 use Rattle.std.proofs.lemmas.Cmp.{eq_by_cmp_equiv}
@@ -125,7 +126,8 @@ pub record MovedSoFar {X : Type 0} (hash_of : X → ℕ) (key_of : X → List �
   pub held : HoldsAll hash_of key_of (first ++ cells_of start) (drained ++ cells_of side)
   pub left : filled drained + n ≡ filled first
 
-pub none_moved : {X : Type 0} (hash_of : X → ℕ) (key_of : X → List ℕ) (k : ℕ) (drained : List (Option X)) (side : Side X) → AreApart hash_of key_of (drained ++ cells_of side) → MovedSoFar hash_of key_of k 0 drained drained side side
+pub none_moved : {X : Type 0} (hash_of : X → ℕ) (key_of : X → List ℕ) (k : ℕ) (drained : List (Option X)) (side : Side X)
+    → AreApart hash_of key_of (drained ++ cells_of side) → MovedSoFar hash_of key_of k 0 drained drained side side
 none_moved hash_of key_of k drained side apart = record {
   taken = record { entries = []; many = refl; taken = refl; added = none_added side };
   held = record { same = refl; apart = apart };
@@ -204,7 +206,9 @@ module _ {X : Type 0} (hash_of : X → ℕ) (key_of : X → List ℕ) (laws : Co
       (record { come = refl; apart = one_apart hash_of key_of (Some x) }))
 
   -- an entry comes to a table, or to the strays behind it, while the table keeps what it holds
-  pub strayed : (items others : Cells) (strays new_strays : List X) (x : X) → AreApart hash_of key_of (items ++ map Some strays) → get (holds (items ++ map Some strays)) (key x) ≡ None → AreApart hash_of key_of others → holds others ≡ holds items → new_strays ≡ strays ++ (x ∷ []) → IsIn hash_of key_of x (items ++ map Some strays) (others ++ map Some new_strays)
+  pub strayed : (items others : Cells) (strays new_strays : List X) (x : X) → AreApart hash_of key_of (items ++ map Some strays)
+      → get (holds (items ++ map Some strays)) (key x) ≡ None → AreApart hash_of key_of others → holds others ≡ holds items → new_strays ≡ strays ++ (x ∷ [])
+      → IsIn hash_of key_of x (items ++ map Some strays) (others ++ map Some new_strays)
   strayed items others strays new_strays x apart new own is pushed =
       let kept = instead items (map Some strays) others apart own is in
       let mapped : map Some new_strays ≡ map Some strays ++ (Some x ∷ []) = ap (map Some) pushed ∙ map-append Some strays (x ∷ []) in
@@ -233,7 +237,8 @@ module _ {X : Type 0} (hash_of : X → ℕ) (key_of : X → List ℕ) (laws : Co
       }
 
   -- it goes from the first part to the second
-  pub moved : (xs ys zs others : Cells) (x : X) → AreApart hash_of key_of (xs ++ ys) → IsOut hash_of key_of x xs zs → IsIn hash_of key_of x ys others → HoldsAll hash_of key_of (xs ++ ys) (zs ++ others)
+  pub moved : (xs ys zs others : Cells) (x : X) → AreApart hash_of key_of (xs ++ ys) → IsOut hash_of key_of x xs zs → IsIn hash_of key_of x ys others
+      → HoldsAll hash_of key_of (xs ++ ys) (zs ++ others)
   moved xs ys zs others x apart out come =
       let rest = out_first xs ys zs x apart out in
       let all = in_second zs ys others x rest.apart rest.gone come in
@@ -257,14 +262,17 @@ module _ {X : Type 0} (hash_of : X → ℕ) (key_of : X → List ℕ) (laws : Co
         none_in_nothing q = get-empty (slice_cmp nat_cmp) q
 
   -- what was taken so far, and one entry more
-  pub taken_more : (entries : List X) (xs zs old : Cells) (x : X) → holds (map Some entries ++ xs) ≡ holds old → holds xs ≡ insert (holds zs) (key x) x → holds (map Some (entries ++ (x ∷ [])) ++ zs) ≡ holds old
+  pub taken_more : (entries : List X) (xs zs old : Cells) (x : X) → holds (map Some entries ++ xs) ≡ holds old → holds xs ≡ insert (holds zs) (key x) x
+      → holds (map Some (entries ++ (x ∷ [])) ++ zs) ≡ holds old
   taken_more entries xs zs old x before out =
       ap (λ (l : Cells). holds (l ++ zs)) (map-append Some entries (x ∷ []))
       ∙ ap holds (append_assoc (map Some entries) (Some x ∷ []) zs)
       ∙ laws.parts (map Some entries) (Some x ∷ zs) (map Some entries) xs refl (sym out)
       ∙ before
 
-  pub moved_more : (k n k_now : ℕ) (first drained drained_now : Cells) (start side side_now : Side X) → MovedSoFar hash_of key_of k n first drained start side → IsTaken hash_of key_of k_now drained drained_now side side_now → k_now ≡ k → filled drained ≡ filled drained_now + 1 → HoldsAll hash_of key_of (drained ++ cells_of side) (drained_now ++ cells_of side_now) → MovedSoFar hash_of key_of k (n + 1) first drained_now start side_now
+  pub moved_more : (k n k_now : ℕ) (first drained drained_now : Cells) (start side side_now : Side X) → MovedSoFar hash_of key_of k n first drained start side
+      → IsTaken hash_of key_of k_now drained drained_now side side_now → k_now ≡ k → filled drained ≡ filled drained_now + 1
+      → HoldsAll hash_of key_of (drained ++ cells_of side) (drained_now ++ cells_of side_now) → MovedSoFar hash_of key_of k (n + 1) first drained_now start side_now
   moved_more k n k_now first drained drained_now start side side_now before one is fewer held = record {
     taken = record {
       entries = before.taken.entries ++ (one.entry ∷ []);

@@ -1,5 +1,6 @@
 -- The parts of an index: strays that are changed or taken out, and walks over buckets.
-use Rattle.std.proofs.Common.{◌≡◌, ◌≢◌, ℕ, zero, suc, ◌+◌, ◌-◌, ◌<◌, ◌≤◌, Bool, true, false, List, [], ◌∷◌, ◌++◌, Option, Some, None, map, length, length-set, get_or, set, sym, ap, subst, ◌∙◌, arith, ⊎_elim}
+use Rattle.std.proofs.Common.{◌≡◌, ◌≢◌, ℕ, zero, suc, ◌+◌, ◌-◌, ◌<◌, ◌≤◌, Bool, true, false, List, [], ◌∷◌, ◌++◌, Option, Some, None, map, length, length-set, get_or, set, sym, ap}
+use Rattle.std.proofs.Common.{subst, ◌∙◌, arith, ⊎_elim}
 use Rattle.std.proofs.lemmas.Bool.{cases_eq, cases_lt, true≢false}
 use Rattle.std.proofs.lemmas.Option.{none-some}
 use Rattle.std.proofs.lemmas.List.{ext_get_or, get_or_past, get_or-map, get_or_append_left, get_or-append-add, get_or-set_same, get_or-set_other, length-map, length-append}
@@ -38,7 +39,8 @@ stray_inside xs at x e = subst (λ (n : ℕ). at < n) (length-map xs Some) (insi
 pub stray_is : {X : Type 0} (xs : List X) (at : ℕ) (x d : X) → get_or (map Some xs) at None ≡ Some x → get_or xs at d ≡ x
 stray_is xs at x d e = same_Some (get_or xs at d) x (sym (get_or-map Some xs at d None (stray_inside xs at x e)) ∙ e)
 
-pub swapped : {X : Type 0} {old new : List X} {p old_len new_len : ℕ} → old_len ≡ length old → new_len ≡ length new → new_len + 1 ≡ old_len → ((d : X) → p + 1 < old_len → get_or new p d ≡ get_or old (old_len - 1) d) × ((k : ℕ) (d : X) → k ≢ p → k + 1 < old_len → get_or new k d ≡ get_or old k d) → IsSwapped old new p
+pub swapped : {X : Type 0} {old new : List X} {p old_len new_len : ℕ} → old_len ≡ length old → new_len ≡ length new → new_len + 1 ≡ old_len
+    → ((d : X) → p + 1 < old_len → get_or new p d ≡ get_or old (old_len - 1) d) × ((k : ℕ) (d : X) → k ≢ p → k + 1 < old_len → get_or new k d ≡ get_or old k d) → IsSwapped old new p
 swapped {X} {old} {new} {p} {old_len} {new_len} o n less by = record {
   shorter = omega (arith, o, n, less);
   last = λ d l. by.0 d (omega (arith, o, l)) ∙ ap (λ (m : ℕ). get_or old (m - 1) d) o;
@@ -46,7 +48,8 @@ swapped {X} {old} {new} {p} {old_len} {new_len} o n less by = record {
 }
 
 -- what was taken out, changed and pushed stands at its old place again once it is swapped with the last
-pub put_back : {X : Type 0} (old less more new : List X) (at last : ℕ) (y : X) → at < length old → length old ≡ last + 1 → IsSwapped old less at → more ≡ less ++ y ∷ [] → SwappedAt more new at last → length new ≡ length more → new ≡ set old at y
+pub put_back : {X : Type 0} (old less more new : List X) (at last : ℕ) (y : X) → at < length old → length old ≡ last + 1 → IsSwapped old less at
+    → more ≡ less ++ y ∷ [] → SwappedAt more new at last → length new ≡ length more → new ≡ set old at y
 put_back {X} old less more new at last y l many swap pushed back len =
     ext_get_or y new (set old at y) (omega (arith, len, size, many, length-set old at y)) (λ k below. one k (omega (arith, below, len, size))) where
       shorter : length less ≡ last
@@ -87,7 +90,8 @@ module _ {X : Type 0} (hash_of : X → ℕ) (key_of : X → List ℕ) (xs : List
   pub is_stray : (at : ℕ) (x : X) → at < length xs → x ≡ get_or xs at x → (hash_of x ≡ hash) × (key_of x ≡ key) → IsAt hash_of key_of (map Some xs) hash key at
   is_stray at x l e same = record { entry = x; there = stray_there xs at x l e; same_hash = same.0; same_key = same.1 }
 
-  pub not_more : (at : ℕ) (x : X) (b : Bool) → ((n : ℕ) → n < at → IsAt hash_of key_of (map Some xs) hash key n → ⊥) → x ≡ get_or xs at x → (hash_of x ≡ hash → key_of x ≡ key → b ≡ true) → b ≡ false → (n : ℕ) → n < at + 1 → IsAt hash_of key_of (map Some xs) hash key n → ⊥
+  pub not_more : (at : ℕ) (x : X) (b : Bool) → ((n : ℕ) → n < at → IsAt hash_of key_of (map Some xs) hash key n → ⊥) → x ≡ get_or xs at x
+      → (hash_of x ≡ hash → key_of x ≡ key → b ≡ true) → b ≡ false → (n : ℕ) → n < at + 1 → IsAt hash_of key_of (map Some xs) hash key n → ⊥
   not_more at x b before e misses not_it n below is =
       ⊎_elim
       (λ (same : n ≡ at).

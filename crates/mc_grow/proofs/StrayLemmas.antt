@@ -1,9 +1,11 @@
 -- The strays in another order, and one of them taken out.
-use Rattle.std.proofs.Common.{◌≡◌, ◌≢◌, ℕ, zero, suc, ◌+◌, ◌-◌, ◌<◌, ◌≤◌, inl, inr, Bool, true, false, cond, List, [], ◌∷◌, ◌++◌, map, length, length-set, take, drop, set, Option, Some, None, get_or, refl, sym, ap, subst, ◌∙◌, arith, ⊎_elim}
+use Rattle.std.proofs.Common.{◌≡◌, ◌≢◌, ℕ, zero, suc, ◌+◌, ◌-◌, ◌<◌, ◌≤◌, inl, inr, Bool, true, false, cond, List, [], ◌∷◌, ◌++◌, map, length, length-set, take, drop, set, Option}
+use Rattle.std.proofs.Common.{Some, None, get_or, refl, sym, ap, subst, ◌∙◌, arith, ⊎_elim}
 use Rattle.std.proofs.lemmas.Option.{none-some}
 use Rattle.std.proofs.lemmas.List.Sums.{sum_by-cons}
 use Rattle.std.proofs.lemmas.List.Sorted.{sum_by-IsPermutation, Contains-permutation, IsPermutation-append_right, IsPermutation-refl, IsPermutation-swap_remove, IsPermutation-sym, IsPermutation-trans}
-use Rattle.std.proofs.lemmas.List.{append_assoc, append-nil, length-drop, length-take, take-take, take_all, get_or-drop, drop-set, drop-take, take-set, ext_get_or, get_or-map, get_or_push, get_or_append_left}
+use Rattle.std.proofs.lemmas.List.{append_assoc, append-nil, length-drop, length-take, take-take, take_all, get_or-drop, drop-set, drop-take, take-set, ext_get_or, get_or-map}
+use Rattle.std.proofs.lemmas.List.{get_or_push, get_or_append_left}
 use Rattle.std.proofs.lemmas.Bool.{cases_eq}
 use Rattle.std.proofs.Math.Seq.{drop-cons, take-suc}
 use Rattle.std.proofs.Math.ListN.{drop_of_length-le}
@@ -101,7 +103,8 @@ module _ {X : Type 0} (hash_of : X → ℕ) (key_of : X → List ℕ) (laws : Co
       laws.alike (map Some xs) (map Some ys) apart (apart_permutation hash_of key_of xs ys moves apart) (λ y. (entries_move xs ys moves y, entries_move ys xs (IsPermutation-sym xs ys moves) y))
 
   -- a stray is new to the table, and to the other strays
-  pub stray_is_new : (items : List (Option X)) (strays : List X) (x : X) → AreApart hash_of key_of (items ++ map Some strays) → get (holds (map Some strays)) (key hash_of key_of x) ≡ Some x → get (holds items) (key hash_of key_of x) ≡ None
+  pub stray_is_new : (items : List (Option X)) (strays : List X) (x : X) → AreApart hash_of key_of (items ++ map Some strays)
+      → get (holds (map Some strays)) (key hash_of key_of x) ≡ Some x → get (holds items) (key hash_of key_of x) ≡ None
   stray_is_new items strays x apart stands =
       none_before (holds items) (holds (map Some strays)) (key hash_of key_of x) x ((laws.apart items (map Some strays)).0 apart).2 stands
 
@@ -110,12 +113,15 @@ module _ {X : Type 0} (hash_of : X → ℕ) (key_of : X → List ℕ) (laws : Co
       ap (λ (m : Map X). get m (key hash_of key_of x)) (content_permutation strays (x ∷ rest) moves apart) ∙ at_its_key (holds (map Some rest)) (key hash_of key_of x) x
 
   -- a stray goes to the table
-  pub stray_put : (items others : List (Option X)) (strays rest : List X) (x : X) → AreApart hash_of key_of (items ++ map Some strays) → IsPermutation strays (x ∷ rest) → AreApart hash_of key_of others → holds others ≡ insert (holds items) (key hash_of key_of x) x → HoldsAll hash_of key_of (items ++ map Some strays) (others ++ map Some rest)
+  pub stray_put : (items others : List (Option X)) (strays rest : List X) (x : X) → AreApart hash_of key_of (items ++ map Some strays)
+      → IsPermutation strays (x ∷ rest) → AreApart hash_of key_of others → holds others ≡ insert (holds items) (key hash_of key_of x) x
+      → HoldsAll hash_of key_of (items ++ map Some strays) (others ++ map Some rest)
   stray_put items others strays rest x apart moves own put =
       let parts = (laws.apart items (map Some strays)).0 apart in
       let in_order = content_permutation strays (x ∷ rest) moves parts.1 in
       let front = (laws.apart (Some x ∷ []) (map Some rest)).0 (apart_permutation hash_of key_of strays (x ∷ rest) moves parts.1) in
-      let gone : get (holds (map Some rest)) (key hash_of key_of x) ≡ None = none_beside (holds (Some x ∷ [])) (holds (map Some rest)) (key hash_of key_of x) x front.2 (at_its_key (holds []) (key hash_of key_of x) x) in
+      let gone : get (holds (map Some rest)) (key hash_of key_of x) ≡ None =
+      none_beside (holds (Some x ∷ [])) (holds (map Some rest)) (key hash_of key_of x) x front.2 (at_its_key (holds []) (key hash_of key_of x) x) in
       let beside : AreDisjoint (holds items) (insert (holds (map Some rest)) (key hash_of key_of x) x) = subst (λ (m : Map X). AreDisjoint (holds items) m) in_order parts.2 in
       let fresh : get (holds items) (key hash_of key_of x) ≡ None = stray_is_new items strays x apart (stray_stands strays rest x moves parts.1) in
       record {
@@ -133,7 +139,8 @@ add-one : (n : ℕ) → suc n ≡ n + 1
 add-one n = omega arith
 
 -- what `swap_remove` says of each place
-pub swapped_by : {X : Type 0} (old new : List X) (at old_len new_len : ℕ) → old_len ≡ length old → new_len ≡ length new → new_len + 1 ≡ old_len → ((d : X) → at + 1 < old_len → get_or new at d ≡ get_or old (old_len - 1) d) × ((k : ℕ) (d : X) → k ≢ at → k + 1 < old_len → get_or new k d ≡ get_or old k d) → IsSwapped old new at
+pub swapped_by : {X : Type 0} (old new : List X) (at old_len new_len : ℕ) → old_len ≡ length old → new_len ≡ length new → new_len + 1 ≡ old_len
+    → ((d : X) → at + 1 < old_len → get_or new at d ≡ get_or old (old_len - 1) d) × ((k : ℕ) (d : X) → k ≢ at → k + 1 < old_len → get_or new k d ≡ get_or old k d) → IsSwapped old new at
 swapped_by {X} old new at old_len new_len is are less by = record {
   shorter = omega (arith, is, are, less);
   last = λ d below. by.0 d (omega (arith, is, below)) ∙ ap (λ (n : ℕ). get_or old (n - 1) d) is;
@@ -144,7 +151,8 @@ pub same_read : {X : Type 0} (xs : List X) (at : ℕ) (x y : X) → x ≡ y → 
 same_read {X} xs at x y e read = e ∙ read ∙ ap (get_or xs at) (sym e)
 
 -- a stray goes out, and comes back under its number
-pub put_back_again : {X : Type 0} (items old pushed new : List X) (at last : ℕ) (x : X) → at < length items → x ≡ get_or items at x → IsSwapped items old at → pushed ≡ old ++ (x ∷ []) → last ≡ length old → SwappedAt pushed new at last → length new ≡ length items → new ≡ items
+pub put_back_again : {X : Type 0} (items old pushed new : List X) (at last : ℕ) (x : X) → at < length items → x ≡ get_or items at x → IsSwapped items old at
+    → pushed ≡ old ++ (x ∷ []) → last ≡ length old → SwappedAt pushed new at last → length new ≡ length items → new ≡ items
 put_back_again {X} items old pushed new at last x inside there out push ends swapped same_length =
     ext_get_or x new items same_length (λ k below.
     let in_items : k < length items = omega (arith, below, same_length) in
@@ -165,7 +173,8 @@ put_back_again {X} items old pushed new at last x inside there out push ends swa
     (cases_eq k at))
 
 -- what was not tried yet, when a stray of it goes out
-swapped_out : {X : Type 0} (xs rest : List X) (at : ℕ) (x : X) → at < length xs → x ≡ get_or xs at x → rest ≡ swap_remove xs at x → (take at rest ≡ take at xs) × IsPermutation (drop at xs) (x ∷ drop at rest)
+swapped_out : {X : Type 0} (xs rest : List X) (at : ℕ) (x : X) → at < length xs → x ≡ get_or xs at x → rest ≡ swap_remove xs at x → (take at rest ≡ take at xs)
+    × IsPermutation (drop at xs) (x ∷ drop at rest)
 swapped_out {X} xs rest at x inside there out =
     let m = length xs - (at + 1) in
     let end : X = get_or xs (length xs - 1) x in
@@ -183,12 +192,15 @@ swapped_out {X} xs rest at x inside there out =
     )
 
 module _ {X : Type 0} (hash_of : X → ℕ) (key_of : X → List ℕ) (laws : ContentLaws hash_of key_of) where
-  pub stray_at_is_new : (items : List (Option X)) (strays rest : List X) (at : ℕ) (x : X) → AreApart hash_of key_of (items ++ map Some strays) → at < length strays → x ≡ get_or strays at x → rest ≡ swap_remove strays at x → get (content hash_of key_of items) (hash_of x ∷ key_of x) ≡ None
+  pub stray_at_is_new : (items : List (Option X)) (strays rest : List X) (at : ℕ) (x : X) → AreApart hash_of key_of (items ++ map Some strays)
+      → at < length strays → x ≡ get_or strays at x → rest ≡ swap_remove strays at x → get (content hash_of key_of items) (hash_of x ∷ key_of x) ≡ None
   stray_at_is_new items strays rest at x apart inside there out =
       stray_is_new hash_of key_of laws items strays x apart
       (stray_stands hash_of key_of laws strays (swap_remove strays at x) x (IsPermutation-swap_remove strays at x inside there) ((laws.apart items (map Some strays)).0 apart).1)
 
-  pub stray_put_at : (items others : List (Option X)) (strays rest : List X) (at : ℕ) (x : X) → AreApart hash_of key_of (items ++ map Some strays) → at < length strays → x ≡ get_or strays at x → rest ≡ swap_remove strays at x → AreApart hash_of key_of others → content hash_of key_of others ≡ insert (content hash_of key_of items) (hash_of x ∷ key_of x) x → HoldsAll hash_of key_of (items ++ map Some strays) (others ++ map Some rest)
+  pub stray_put_at : (items others : List (Option X)) (strays rest : List X) (at : ℕ) (x : X) → AreApart hash_of key_of (items ++ map Some strays)
+      → at < length strays → x ≡ get_or strays at x → rest ≡ swap_remove strays at x → AreApart hash_of key_of others
+      → content hash_of key_of others ≡ insert (content hash_of key_of items) (hash_of x ∷ key_of x) x → HoldsAll hash_of key_of (items ++ map Some strays) (others ++ map Some rest)
   stray_put_at items others strays rest at x apart inside there out own put =
       stray_put hash_of key_of laws items others strays rest x apart (subst (λ (l : List X). IsPermutation strays (x ∷ l)) (sym out) (IsPermutation-swap_remove strays at x inside there)) own put
 
@@ -211,7 +223,9 @@ none_tried hash_of key_of k side apart = record {
   held = record { same = refl; apart = apart };
 }
 
-pub tried_put : {X : Type 0} (hash_of : X → ℕ) (key_of : X → List ℕ) (k k_now turn kept : ℕ) (start side side_now : Side X) → TriedSoFar hash_of key_of k turn kept start side → IsTried hash_of key_of k_now kept true side side_now → k_now ≡ k → HoldsAll hash_of key_of (cells_of side) (cells_of side_now) → TriedSoFar hash_of key_of k (turn + 1) kept start side_now
+pub tried_put : {X : Type 0} (hash_of : X → ℕ) (key_of : X → List ℕ) (k k_now turn kept : ℕ) (start side side_now : Side X)
+    → TriedSoFar hash_of key_of k turn kept start side → IsTried hash_of key_of k_now kept true side side_now → k_now ≡ k
+    → HoldsAll hash_of key_of (cells_of side) (cells_of side_now) → TriedSoFar hash_of key_of k (turn + 1) kept start side_now
 tried_put {X} hash_of key_of k k_now turn kept start side side_now before one is held =
     let x = one.entry in
     let out = swapped_out side.strays side_now.strays kept x one.inside one.there one.outcome.2 in
@@ -234,16 +248,21 @@ tried_put {X} hash_of key_of k k_now turn kept start side side_now before one is
       shorter : (xs : List X) (at : ℕ) (y : X) → at < length xs → length (swap_remove xs at y) + 1 ≡ length xs
       shorter xs at y below = omega (arith, length-take (length xs - 1) (set xs at (get_or xs (length xs - 1) y)), length-set xs at (get_or xs (length xs - 1) y))
 
-pub tried_kept : {X : Type 0} (hash_of : X → ℕ) (key_of : X → List ℕ) (k k_now turn kept : ℕ) (start side side_now : Side X) → TriedSoFar hash_of key_of k turn kept start side → IsTried hash_of key_of k_now kept false side side_now → k_now ≡ k → HoldsAll hash_of key_of (cells_of side) (cells_of side_now) → TriedSoFar hash_of key_of k (turn + 1) (kept + 1) start side_now
+pub tried_kept : {X : Type 0} (hash_of : X → ℕ) (key_of : X → List ℕ) (k k_now turn kept : ℕ) (start side side_now : Side X)
+    → TriedSoFar hash_of key_of k turn kept start side → IsTried hash_of key_of k_now kept false side side_now → k_now ≡ k
+    → HoldsAll hash_of key_of (cells_of side) (cells_of side_now) → TriedSoFar hash_of key_of k (turn + 1) (kept + 1) start side_now
 tried_kept {X} hash_of key_of k k_now turn kept start side side_now before one is held =
     let x = one.entry in
     let stays : side_now.strays ≡ side.strays = one.outcome.3 in
-    let front : drop kept side.strays ≡ x ∷ drop (kept + 1) side.strays = drop-cons side.strays kept x one.inside ∙ ap (λ (y : X). y ∷ drop (suc kept) side.strays) (sym one.there) ∙ ap (λ (n : ℕ). x ∷ drop n side.strays) (add-one kept) in
-    let taken : take (kept + 1) side.strays ≡ take kept side.strays ++ (x ∷ []) = ap (λ (n : ℕ). take n side.strays) (sym (add-one kept)) ∙ take-suc side.strays kept x one.inside ∙ ap (λ (y : X). take kept side.strays ++ (y ∷ [])) (sym one.there) in
+    let front : drop kept side.strays ≡ x ∷ drop (kept + 1) side.strays = drop-cons side.strays kept x one.inside
+    ∙ ap (λ (y : X). y ∷ drop (suc kept) side.strays) (sym one.there) ∙ ap (λ (n : ℕ). x ∷ drop n side.strays) (add-one kept) in
+    let taken : take (kept + 1) side.strays ≡ take kept side.strays ++ (x ∷ []) = ap (λ (n : ℕ). take n side.strays) (sym (add-one kept))
+    ∙ take-suc side.strays kept x one.inside ∙ ap (λ (y : X). take kept side.strays ++ (y ∷ [])) (sym one.there) in
     record {
       tried = before.tried ++ (x ∷ []);
       each = subst (λ (l : List X). IsPermutation start.strays l)
-          (ap (λ (l : List X). before.tried ++ l) front ∙ sym (append_assoc before.tried (x ∷ []) (drop (kept + 1) side.strays)) ∙ ap (λ (l : List X). (before.tried ++ (x ∷ [])) ++ drop (kept + 1) l) (sym stays)) before.each;
+          (ap (λ (l : List X). before.tried ++ l) front ∙ sym (append_assoc before.tried (x ∷ []) (drop (kept + 1) side.strays))
+          ∙ ap (λ (l : List X). (before.tried ++ (x ∷ [])) ++ drop (kept + 1) l) (sym stays)) before.each;
       many = omega (arith, before.many, ap length stays, one.inside);
       inside = omega (arith, ap length stays, one.inside);
       added = one_added before.tried x (record start { strays = [] }) (record side { strays = take kept side.strays }) (record side_now { strays = take (kept + 1) side_now.strays }) before.added
@@ -257,7 +276,8 @@ tried_kept {X} hash_of key_of k k_now turn kept start side side_now before one i
     }
 
 -- when each had its turn, the strays that were kept are all
-pub all_tried : {X : Type 0} (hash_of : X → ℕ) (key_of : X → List ℕ) (k turn kept : ℕ) (start side : Side X) → TriedSoFar hash_of key_of k turn kept start side → length start.strays ≤ turn → AreTried hash_of key_of k start side
+pub all_tried : {X : Type 0} (hash_of : X → ℕ) (key_of : X → List ℕ) (k turn kept : ℕ) (start side : Side X) → TriedSoFar hash_of key_of k turn kept start side
+    → length start.strays ≤ turn → AreTried hash_of key_of k start side
 all_tried {X} hash_of key_of k turn kept start side so_far done =
     let ends : length side.strays ≤ kept = omega (arith, so_far.many, done) in
     record {
@@ -266,7 +286,10 @@ all_tried {X} hash_of key_of k turn kept start side so_far done =
       added = subst (λ (l : List X). AreAdded hash_of key_of k so_far.tried (record start { strays = [] }) (record side { strays = l })) (take_all kept side.strays ends) so_far.added;
     }
 
-pub tried_more : {X : Type 0} (hash_of : X → ℕ) (key_of : X → List ℕ) (k k_now turn kept kept_now : ℕ) (put : Bool) (start side side_now : Side X) → TriedSoFar hash_of key_of k turn kept start side → IsTried hash_of key_of k_now kept put side side_now → k_now ≡ k → HoldsAll hash_of key_of (cells_of side) (cells_of side_now) → (put ≡ true → kept_now ≡ kept) → (put ≡ false → kept_now ≡ kept + 1) → TriedSoFar hash_of key_of k (turn + 1) kept_now start side_now
+pub tried_more : {X : Type 0} (hash_of : X → ℕ) (key_of : X → List ℕ) (k k_now turn kept kept_now : ℕ) (put : Bool) (start side side_now : Side X)
+    → TriedSoFar hash_of key_of k turn kept start side → IsTried hash_of key_of k_now kept put side side_now → k_now ≡ k
+    → HoldsAll hash_of key_of (cells_of side) (cells_of side_now) → (put ≡ true → kept_now ≡ kept) → (put ≡ false → kept_now ≡ kept + 1)
+    → TriedSoFar hash_of key_of k (turn + 1) kept_now start side_now
 tried_more hash_of key_of k k_now turn kept kept_now true start side side_now before one is held goes stays =
     subst (λ (n : ℕ). TriedSoFar hash_of key_of k (turn + 1) n start side_now) (sym (goes refl)) (tried_put hash_of key_of k k_now turn kept start side side_now before one is held)
 tried_more hash_of key_of k k_now turn kept kept_now false start side side_now before one is held goes stays =

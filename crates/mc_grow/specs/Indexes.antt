@@ -1,9 +1,10 @@
 -- An index of entries: what contracts see of it.
-use Rattle.std.specs.Prelude.{◌≡◌, ℕ, ◌+◌, ◌*◌, ◌-◌, ◌^◌, ◌<◌, ◌≤◌, ◌&&◌, ◌||◌, Bool, true, false, not, List, [], ◌∷◌, ◌++◌, Option, Some, None, map, drop, length, replicate, nat_lt, if◌then◌else◌, slice_index_or, slice_set, refl}
+use Rattle.std.specs.Prelude.{◌≡◌, ℕ, zero, suc, ◌+◌, ◌*◌, ◌-◌, ◌/◌, ◌^◌, ◌<◌, ◌≤◌, ◌&&◌, ◌||◌, Bool, true, false, not, List, [], ◌∷◌, ◌++◌, Option, Some, None, map, drop, length, replicate, nat_lt, if◌then◌else◌, slice_index_or, slice_set, refl}
 use Rattle.std.specs.Coded.{Coded, code_by, coded×, coded_ℕ, coded_bool, coded_list, coded_option}
 use Rattle.std.specs.Ordering.{nat_cmp}
 use Rattle.std.specs.Cmp.Lexicographic.{slice_cmp}
 use Rattle.std.specs.FinMap.{FinMap, get, insert, remove}
+use Rattle.std.specs.List.{swap_remove}
 use Rattle.mc_hop.specs.Cells.{filled}
 use Rattle.mc_hop.specs.Contents.{content}
 use Rattle.mc_grow.specs.declared.index.Place.{Place}
@@ -95,9 +96,18 @@ abbrev pub IsFound : {X : Type 0} → (X → ℕ) → (X → List ℕ) → Index
 IsFound hash_of key_of index hash key None = get (holds hash_of key_of index) (hash ∷ key) ≡ None
 IsFound hash_of key_of index hash key (Some place) = IsPlaceOf hash_of key_of index hash key place
 
--- how many reads of entries a search makes at most: 32 in each table, and the strays
+-- how many binary digits a number has that is at most the first one
+abbrev pub digits_in : ℕ → ℕ → ℕ
+digits_in zero n = 0
+digits_in (suc most) zero = 0
+digits_in (suc most) (suc n) = suc (digits_in most (suc n / 2))
+
+abbrev pub binary_digits : ℕ → ℕ
+binary_digits n = digits_in n n
+
+-- how many reads of entries a search makes at most: 32 in each table, and of the strays as many as their count has binary digits
 abbrev pub most_reads : {X : Type 0} → IndexState X → ℕ
-most_reads index = (if index.growing then 64 else 32) + length index.strays
+most_reads index = (if index.growing then 64 else 32) + binary_digits (length index.strays)
 
 -- no place from one number up to another has an entry
 abbrev pub NoneFrom : {X : Type 0} → IndexState X → (low high : ℕ) → Type 0
@@ -128,11 +138,18 @@ pub record KeepsLower {X : Type 0} (old new : IndexState X) (number : ℕ) : Typ
   pub lower : (k : ℕ) → k < number → slice_index_or (cells new) k None ≡ slice_index_or (cells old) k None
   pub count : count_from old number ≡ count_from new number + 1
 
+-- What stands where once a number's entry is gone. Where it stood in a table its bucket is empty, and all others stand as they stood.
+-- Where it was a stray, the last stray has its number, and all others stand as they stood.
+pub record OthersStay {X : Type 0} (entry : X) (number : ℕ) (old new : IndexState X) : Type 0 where
+  pub of_tables : number < length old.draining + length old.table → (cells new ≡ slice_set (cells old) number None) × (new.strays ≡ old.strays)
+  pub of_strays : length old.draining + length old.table ≤ number → (new.draining ≡ old.draining) × (new.table ≡ old.table) × (new.strays ≡ swap_remove old.strays (number - (length old.draining + length old.table)) entry)
+
 -- the entry at a place was taken out: lower numbers stay, and there is no less room than before
 pub record IsRemoved {X : Type 0} (hash_of : X → ℕ) (key_of : X → List ℕ) (place : Place) (entry : X) (old new : IndexState X) : Type 0 where
   pub there : entry_at old place ≡ Some entry
   pub removed : holds hash_of key_of new ≡ remove (holds hash_of key_of old) (hash_of entry ∷ key_of entry)
   pub lower : KeepsLower old new place.number
+  pub others : OthersStay entry place.number old new
   pub room : old.spare ≤ new.spare
   pub less_left : left new ≤ left old
   pub fewer : count old ≡ count new + 1

@@ -2,3 +2,4 @@ pub mod Indexes
 pub mod Parts
 pub mod Adding
 pub mod Moving
+pub mod Strays

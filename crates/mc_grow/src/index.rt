@@ -12,8 +12,9 @@ ghost use Rattle.mc_grow.specs.Adding.{AreMoved, IsInserted};
 use crate::moving::{content_laws, move_entries, place, try_strays};
 use crate::parts::{
     Spot, drained_buckets, drained_entry, drained_len, filled_bucket, filled_drained, find_drained,
-    find_stray, remove_drained, stray, update_drained, update_stray,
+    remove_drained, update_drained,
 };
+use crate::strays::Strays;
 use mc_hop::{
     Counts, Hop, Keyed, Uncounted, content_changes_at_one_key, content_counts_entries,
     content_has_each_entry,
@@ -40,11 +41,11 @@ pub struct Place {
 pub struct Index<T: Keyed + Drop> {
     draining: Option<Hop<T>>,
     table: Hop<T>,
-    strays: Vec<T>,
+    strays: Strays<T>,
 }
 
 impl<T: Keyed + Drop> Model for Index<T> {
-    ghost use Rattle.std.specs.Prelude.{◌+◌, ◌-◌, is_some, vec_capacity, vec_len};
+    ghost use Rattle.std.specs.Prelude.{◌+◌, ◌-◌, is_some, length};
     ghost use Rattle.mc_hop.specs.Cells.{filled};
     ghost use Rattle.mc_grow.specs.Indexes.{IndexState, coded_index};
     ghost use Rattle.mc_grow.specs.Parts.{IsIndex, drained_items};
@@ -59,11 +60,11 @@ impl<T: Keyed + Drop> Model for Index<T> {
       table = i.table.items;
       strays = i.strays.items;
       growing = is_some i.draining;
-      spare = vec_capacity i.strays - (vec_len i.strays + filled (drained_items i.draining));
+      spare = i.strays.room - (length i.strays.items + filled (drained_items i.draining));
     } };
 
     ghost invariant = { λ i. IsIndex T.hash_of T.key_of i.draining i.table i.strays.items
-        (vec_capacity i.strays) };
+        i.strays.room };
 }
 
 impl<T: Keyed + Drop> Index<T> {
@@ -75,18 +76,19 @@ impl<T: Keyed + Drop> Index<T> {
         Ok(Index {
             draining: None,
             table: Hop::new(alloc, k)?,
-            strays: Vec::new(alloc),
+            strays: Strays::new(alloc),
         })
     }
 
-    /// Finds the place of the entry of that hash and key. It reads at most 32 entries of each table, then the strays.
+    /// Finds the place of the entry of that hash and key. It reads at most 32 entries of each table, and of the strays as many as
+    /// their count has binary digits.
     pub fn find(&self, hash: u64, key: &[u8]) -> Option<Place>
         ensures { IsFound T.hash_of T.key_of self.now hash key.now result }
     {
         self.find_counted(hash, key, &mut Uncounted)
     }
 
-    /// Finds the place as `find` does, by the same walk, and counts the entries that it reads.
+    /// Finds the place as `find` does, by the same reads, and counts the entries that it reads.
     pub fn find_counted<C: Counts>(&self, hash: u64, key: &[u8], reads: &mut C) -> Option<Place>
         ensures found { IsFound T.hash_of T.key_of self.now hash key.now result }
         ensures reads { C.count reads.new ≤ C.count reads.old + most_reads self.now }
@@ -100,7 +102,7 @@ impl<T: Keyed + Drop> Index<T> {
         if let Some(at) = self.table.find_counted(hash, key, reads) {
             return Some(Place { number: first + at });
         }
-        match find_stray(&self.strays, hash, key, reads) {
+        match self.strays.find(hash, key, reads) {
             Some(at) => Some(Place {
                 number: second + at,
             }),
@@ -174,7 +176,7 @@ impl<T: Keyed + Drop> Index<T> {
         match self.spot(place) {
             Spot::Drained(at) => drained_entry(&self.draining, at),
             Spot::Table(at) => self.table.get(at),
-            Spot::Stray(at) => stray(&self.strays, at),
+            Spot::Stray(at) => self.strays.get(at),
         }
     }
 
@@ -191,7 +193,7 @@ impl<T: Keyed + Drop> Index<T> {
         match self.spot(place) {
             Spot::Drained(at) => update_drained(&mut self.draining, at, change),
             Spot::Table(at) => self.table.update(at, change),
-            Spot::Stray(at) => update_stray(&mut self.strays, at, change),
+            Spot::Stray(at) => self.strays.update(at, change),
         }
     }
 
@@ -222,7 +224,7 @@ impl<T: Keyed + Drop> Index<T> {
     /// Returns whether a growth lags: it runs, and with one entry more there would be more than
     /// three for every four homes of the new table. Were none running, that load would begin one.
     /// Whoever puts in entries calls `move_some` then: if the new table is full before the old one
-    /// is empty, further entries are strays, which searches walk.
+    /// is empty, further entries are strays, each of which is put into their order by a move of memory.
     pub fn lags(&self) -> bool
         ensures { result ≡ lags self.now }
     {
@@ -241,7 +243,8 @@ impl<T: Keyed + Drop> Index<T> {
         Some((number, Place { number }))
     }
 
-    /// Takes the entry at a place out. It takes no memory.
+    /// Takes the entry at a place out. All others stand where they stood, but that the last stray has the number of one that goes.
+    /// It takes no memory. A stray costs a move of 8 bytes for each that stands behind it in the order of hashes and keys.
     pub fn remove(&mut self, place: Place) -> T
         requires { IsFilled self.old place }
         ensures { IsRemoved T.hash_of T.key_of place result self.old self.new }
@@ -275,7 +278,8 @@ impl<T: Keyed + Drop> Index<T> {
     }
 
     /// Puts in an entry of a new hash and key, for which there is room, and answers its place: in a bucket of the table near its home,
-    /// or among the strays where none can be had. It takes no memory.
+    /// or among the strays where none can be had. It takes no memory. A stray costs a move of 8 bytes for each that stands behind it
+    /// in the order of hashes and keys.
     pub fn insert_reserved(&mut self, entry: T) -> Place
         requires new { get (holds T.hash_of T.key_of self.old) (T.hash_of entry ∷ T.key_of entry)
             ≡ None }
@@ -324,11 +328,8 @@ impl<T: Keyed + Drop> Index<T> {
     fn give_back_room(&mut self, alloc: Global)
         ensures { StandsAs self.old self.new }
     {
-        if self.draining.is_none()
-            && self.strays.is_empty()
-            && self.strays.capacity() > SMALL_ROOM
-        {
-            self.strays = Vec::new(alloc);
+        if self.draining.is_none() && self.strays.len() == 0 && self.strays.room() > SMALL_ROOM {
+            self.strays = Strays::new(alloc);
         }
     }
 
@@ -342,7 +343,7 @@ impl<T: Keyed + Drop> Index<T> {
         }
         let homes = 1usize << k;
         let entries = self.len().saturating_add(1).saturating_mul(4);
-        entries > 3 * homes || (!self.strays.is_empty() && entries >= homes)
+        entries > 3 * homes || (self.strays.len() > 0 && entries >= homes)
     }
 
     /// Begins a growth: makes the table of twice the homes, and room among the strays for every entry of the old one and the one

@@ -13,7 +13,9 @@ mod moving;
 mod parts;
 #[cfg(test)]
 mod random_tests;
+mod strays;
 #[cfg(test)]
 mod tests;
+mod trying;
 
 pub use index::{Index, Place};

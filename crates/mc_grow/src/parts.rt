@@ -5,6 +5,7 @@ ghost use Rattle.std.specs.Prelude.{option_copied, slice_index_or, slice_set};
 ghost use Rattle.mc_hop.specs.Cells.{filled};
 ghost use Rattle.mc_hop.specs.Tables.{IsAbsent, IsAt, KeepsKey};
 ghost use Rattle.mc_grow.specs.Parts.{IsChanged, IsFirstFilled, NoneFilledFrom, drained_items};
+ghost use Rattle.mc_grow.specs.Strays.{keys_in};
 
 use mc_hop::{Counts, Hop, Keyed};
 
@@ -58,38 +59,6 @@ pub(crate) fn find_drained<T: Keyed + Drop, C: Counts>(
     }
 }
 
-/// Tells whether an entry has that hash and key. It is the one read of a stray that a search makes.
-fn has_key<T: Keyed + Drop, C: Counts>(entry: &T, hash: u64, key: &[u8], reads: &mut C) -> bool
-    ensures reads { C.count reads.new ≤ C.count reads.old + 1 }
-    ensures yes { result ≡ true →
-        (T.hash_of entry.now ≡ hash) × (T.key_of entry.now ≡ key.now) }
-    ensures no { T.hash_of entry.now ≡ hash → T.key_of entry.now ≡ key.now → result ≡ true }
-{
-    reads.tick();
-    entry.hash() == hash && entry.key() == key
-}
-
-/// Finds the stray of that hash and key. It reads each stray at most once.
-pub(crate) fn find_stray<T: Keyed + Drop, C: Counts>(
-    strays: &Vec<T>,
-    hash: u64,
-    key: &[u8],
-    reads: &mut C,
-) -> Option<usize>
-    ensures found { IfSome result (λ at. (at < length strays.now.items)
-        × IsAt T.hash_of T.key_of (map Some strays.now.items) hash key.now at) }
-    ensures none { IsNone result →
-        IsAbsent T.hash_of T.key_of (map Some strays.now.items) hash key.now }
-    ensures reads { C.count reads.new ≤ C.count reads.old + length strays.now.items }
-{
-    for at in 0..strays.len() {
-        if has_key(&strays[at], hash, key, reads) {
-            return Some(at);
-        }
-    }
-    None
-}
-
 /// Lends the entry of a bucket of an old table, where it has one.
 pub(crate) fn drained_entry<T: Keyed + Drop>(draining: &Option<Hop<T>>, at: usize) -> Option<&T>
     requires { at < length (drained_items draining.now) }
@@ -99,13 +68,6 @@ pub(crate) fn drained_entry<T: Keyed + Drop>(draining: &Option<Hop<T>>, at: usiz
         Some(old) => old.get(at),
         None => None,
     }
-}
-
-/// Lends a stray, where there is one of that number.
-pub(crate) fn stray<T: Drop>(strays: &Vec<T>, at: usize) -> Option<&T>
-    ensures { option_copied result ≡ slice_index_or (map Some strays.now.items) at None }
-{
-    strays.get(at)
 }
 
 /// Changes the entry of a bucket of an old table.
@@ -131,7 +93,7 @@ pub(crate) fn update_drained<T: Keyed + Drop, R, F: FnOnce(T) -> (T, R)>(
 }
 
 /// Changes a stray. It takes no memory of its own.
-pub(crate) fn update_stray<T: Drop, R, F: FnOnce(T) -> (T, R)>(
+pub(crate) fn update_stray<T: Keyed + Drop, R, F: FnOnce(T) -> (T, R)>(
     strays: &mut Vec<T>,
     at: usize,
     change: F,
@@ -139,10 +101,15 @@ pub(crate) fn update_stray<T: Drop, R, F: FnOnce(T) -> (T, R)>(
     requires inside { at < vec_len strays.old }
     requires may { (entry : T) →
         slice_index_or (map Some strays.old.items) at None ≡ Some entry → F.pre change entry }
+    requires keeps { (entry : T) →
+        slice_index_or (map Some strays.old.items) at None ≡ Some entry →
+        KeepsKey T.hash_of T.key_of (F.pre change) (F.post change) entry }
     ensures changed { (entry : T) →
         slice_index_or (map Some strays.old.items) at None ≡ Some entry →
         IsChanged (F.post change) entry at
         (map Some strays.old.items) (map Some strays.new.items) result }
+    ensures keys { keys_in T.hash_of T.key_of strays.new.items
+        ≡ keys_in T.hash_of T.key_of strays.old.items }
     ensures capacity { vec_capacity strays.new ≡ vec_capacity strays.old }
     ensures len { vec_len strays.new ≡ vec_len strays.old }
 {

@@ -1,5 +1,5 @@
 //! An index beside std's map: the same steps, drawn at random while tables grow, with hashes that are well spread, of eight values,
-//! and all one. Where memory is refused a step asks again.
+//! of one home, and all one. Where memory is refused a step asks again.
 
 use super::*;
 use crate::marked::{add, count_at, count_more, opened, take};
@@ -14,6 +14,7 @@ use std::test::*;
 enum Hashes {
     Spread,
     Eight,
+    Home,
     One,
 }
 
@@ -23,6 +24,7 @@ impl Hashes {
         match self {
             Hashes::Spread => Fnv.hash(&key),
             Hashes::Eight => Fnv.hash(&key) % 8 * 256,
+            Hashes::Home => Fnv.hash(&key) >> 40 << 40,
             Hashes::One => 0,
         }
     }
@@ -139,7 +141,7 @@ fn put(map: &mut BTreeMap<u16, u32>, key: u16) -> Result<(), AllocError> {
 
 #[test]
 fn random_steps_leave_what_a_map_has(rt: HostRuntime) -> Result<(), Fail> {
-    for hashes in [Hashes::Spread, Hashes::Eight, Hashes::One] {
+    for hashes in [Hashes::Spread, Hashes::Eight, Hashes::Home, Hashes::One] {
         let mut pair = Pair::open(rt.alloc(), hashes)?;
         let mut dice = Dice::new(1);
         let mut moves = false;

@@ -70,7 +70,8 @@ module _ {X : Type 0} (hash_of : X → ℕ) (key_of : X → List ℕ) where
   rest_none true y o e = absurd (none-some y (sym e))
   rest_none false y o e = e
 
-  found-put : (items : List (Option X)) (at : ℕ) (x : X) (q : List ℕ) → at < length items → get_or items at None ≡ None → found (key x) items ≡ None → found q (set items at (Some x)) ≡ cond (same q (key x)) (Some x) (found q items)
+  found-put : (items : List (Option X)) (at : ℕ) (x : X) (q : List ℕ) → at < length items → get_or items at None ≡ None → found (key x) items ≡ None
+      → found q (set items at (Some x)) ≡ cond (same q (key x)) (Some x) (found q items)
   found-put [] at x q l e n = absurd (omega (arith, l))
   found-put (None ∷ items) zero x q l e n = refl
   found-put (Some y ∷ items) zero x q l e n = absurd (none-some y (sym e))
@@ -79,7 +80,8 @@ module _ {X : Type 0} (hash_of : X → ℕ) (key_of : X → List ℕ) where
       ap (cond (same q (key y)) (Some y)) (found-put items at x q (omega (arith, l)) e (rest_none (same (key x) (key y)) y (found (key x) items) n))
       ∙ swap_tests (same q (key x)) (same q (key y)) (Some x) (Some y) (found q items) (tests_apart q x y (found (key x) items) n)
 
-  found-remove : (items : List (Option X)) (at : ℕ) (x : X) (q : List ℕ) → get_or items at None ≡ Some x → found (key x) (set items at None) ≡ None → found q (set items at None) ≡ cond (same q (key x)) None (found q items)
+  found-remove : (items : List (Option X)) (at : ℕ) (x : X) (q : List ℕ) → get_or items at None ≡ Some x → found (key x) (set items at None) ≡ None
+      → found q (set items at None) ≡ cond (same q (key x)) None (found q items)
   found-remove [] at x q e n = absurd (none-some x e)
   found-remove (None ∷ items) zero x q e n = absurd (none-some x e)
   found-remove (Some y ∷ items) zero x q e n =
@@ -94,7 +96,8 @@ module _ {X : Type 0} (hash_of : X → ℕ) (key_of : X → List ℕ) where
       ∙ swap_tests (same q (key x)) (same q (key y)) None (Some y) (found q items) (tests_apart q x y (found (key x) (set items at None)) n)
 
   -- an entry of a new key in an empty bucket
-  pub content-put : (items : List (Option X)) (at : ℕ) (x : X) → at < length items → get_or items at None ≡ None → IsAbsent hash_of key_of items (hash_of x) (key_of x) → content hash_of key_of (set items at (Some x)) ≡ insert (content hash_of key_of items) (hash_of x ∷ key_of x) x
+  pub content-put : (items : List (Option X)) (at : ℕ) (x : X) → at < length items → get_or items at None ≡ None
+      → IsAbsent hash_of key_of items (hash_of x) (key_of x) → content hash_of key_of (set items at (Some x)) ≡ insert (content hash_of key_of items) (hash_of x ∷ key_of x) x
   content-put items at x l e absent =
       same_map nat_list_cmp_total (slice_cmp-IsAntisymmetric nat_cmp-IsAntisymmetric) _ _ (λ q.
       get-from_entries nat_list_cmp_total (rows hash_of key_of (set items at (Some x))) q
@@ -102,7 +105,9 @@ module _ {X : Type 0} (hash_of : X → ℕ) (key_of : X → List ℕ) where
       ∙ sym (get-insert nat_list_cmp_total (content hash_of key_of items) (key x) x q ∙ ap (cond (same q (key x)) (Some x)) (get-from_entries nat_list_cmp_total (rows hash_of key_of items) q)))
 
   -- a bucket whose entry, the one of its key, is taken out
-  pub content-remove : (items : List (Option X)) (at : ℕ) (x : X) → get_or items at None ≡ Some x → ((other : ℕ) (y : X) → get_or items other None ≡ Some y → hash_of y ≡ hash_of x → key_of y ≡ key_of x → other ≡ at) → at < length items → content hash_of key_of (set items at None) ≡ remove (content hash_of key_of items) (hash_of x ∷ key_of x)
+  pub content-remove : (items : List (Option X)) (at : ℕ) (x : X) → get_or items at None ≡ Some x
+      → ((other : ℕ) (y : X) → get_or items other None ≡ Some y → hash_of y ≡ hash_of x → key_of y ≡ key_of x → other ≡ at) → at < length items
+      → content hash_of key_of (set items at None) ≡ remove (content hash_of key_of items) (hash_of x ∷ key_of x)
   content-remove items at x e alone l =
       same_map nat_list_cmp_total (slice_cmp-IsAntisymmetric nat_cmp-IsAntisymmetric) _ _ (λ q.
       get-from_entries nat_list_cmp_total (rows hash_of key_of (set items at None)) q
@@ -116,7 +121,9 @@ module _ {X : Type 0} (hash_of : X → ℕ) (key_of : X → List ℕ) where
             (cases_eq p at)
 
   -- then no bucket has its key
-  pub gone_after : (items : List (Option X)) (at : ℕ) (x : X) → ((other : ℕ) (y : X) → get_or items other None ≡ Some y → hash_of y ≡ hash_of x → key_of y ≡ key_of x → other ≡ at) → at < length items → IsAbsent hash_of key_of (set items at None) (hash_of x) (key_of x)
+  pub gone_after : (items : List (Option X)) (at : ℕ) (x : X)
+      → ((other : ℕ) (y : X) → get_or items other None ≡ Some y → hash_of y ≡ hash_of x → key_of y ≡ key_of x → other ≡ at) → at < length items
+      → IsAbsent hash_of key_of (set items at None) (hash_of x) (key_of x)
   gone_after items at x alone l p is =
       ⊎_elim
       (λ (d : p ≡ at). none-some is.entry (sym (get_or-set_same items at None None l) ∙ ap (λ (n : ℕ). get_or (set items at None) n None) (sym d) ∙ is.there))
@@ -124,7 +131,9 @@ module _ {X : Type 0} (hash_of : X → ℕ) (key_of : X → List ℕ) where
       (cases_eq p at)
 
   -- put back, it makes the content that was there
-  pub content-back : (items : List (Option X)) (at : ℕ) (x : X) → get_or items at None ≡ Some x → ((other : ℕ) (y : X) → get_or items other None ≡ Some y → hash_of y ≡ hash_of x → key_of y ≡ key_of x → other ≡ at) → at < length items → content hash_of key_of items ≡ insert (content hash_of key_of (set items at None)) (hash_of x ∷ key_of x) x
+  pub content-back : (items : List (Option X)) (at : ℕ) (x : X) → get_or items at None ≡ Some x
+      → ((other : ℕ) (y : X) → get_or items other None ≡ Some y → hash_of y ≡ hash_of x → key_of y ≡ key_of x → other ≡ at) → at < length items
+      → content hash_of key_of items ≡ insert (content hash_of key_of (set items at None)) (hash_of x ∷ key_of x) x
   content-back items at x e alone l =
       let whole : set (set items at None) at (Some x) ≡ items = set-set items at None (Some x) ∙ ap (set items at) (sym e) ∙ set-get_or items at None in
       ap (content hash_of key_of) (sym whole)
@@ -142,10 +151,13 @@ module _ {X : Type 0} (hash_of : X → ℕ) (key_of : X → List ℕ) where
         twice true a o r = refl
         twice false a o r = refl
 
-  pub content-over : (items : List (Option X)) (at : ℕ) (x y : X) → get_or items at None ≡ Some x → hash_of y ≡ hash_of x → key_of y ≡ key_of x → ((other : ℕ) (z : X) → get_or items other None ≡ Some z → hash_of z ≡ hash_of x → key_of z ≡ key_of x → other ≡ at) → at < length items → content hash_of key_of (set items at (Some y)) ≡ insert (content hash_of key_of items) (hash_of x ∷ key_of x) y
+  pub content-over : (items : List (Option X)) (at : ℕ) (x y : X) → get_or items at None ≡ Some x → hash_of y ≡ hash_of x → key_of y ≡ key_of x
+      → ((other : ℕ) (z : X) → get_or items other None ≡ Some z → hash_of z ≡ hash_of x → key_of z ≡ key_of x → other ≡ at) → at < length items
+      → content hash_of key_of (set items at (Some y)) ≡ insert (content hash_of key_of items) (hash_of x ∷ key_of x) y
   content-over items at x y e same_hash same_keys alone l =
       let gone = gone_after items at x alone l in
-      let absent : IsAbsent hash_of key_of (set items at None) (hash_of y) (key_of y) = λ p is. gone p (record { entry = is.entry; there = is.there; same_hash = is.same_hash ∙ same_hash; same_key = is.same_key ∙ same_keys }) in
+      let absent : IsAbsent hash_of key_of (set items at None) (hash_of y) (key_of y) =
+      λ p is. gone p (record { entry = is.entry; there = is.there; same_hash = is.same_hash ∙ same_hash; same_key = is.same_key ∙ same_keys }) in
       ap (content hash_of key_of) (sym (set-set items at None (Some y)))
       ∙ content-put (set items at None) at y (subst (λ (n : ℕ). at < n) (sym (length-set items at None)) l) (get_or-set_same items at None None l) absent
       ∙ ap (λ (q : List ℕ). insert (content hash_of key_of (set items at None)) q y) (λ i. same_hash i ∷ same_keys i)

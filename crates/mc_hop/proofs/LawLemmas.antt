@@ -1,5 +1,6 @@
 -- What the content of buckets has.
-use Rattle.std.proofs.Common.{◌≡◌, ℕ, zero, suc, ◌+◌, ◌<◌, ◌↔◌, ◌⊎◌, inl, inr, Bool, true, false, cond, List, [], ◌∷◌, ◌++◌, Option, Some, None, is_some, length, get_or, set, refl, sym, ap, ◌∙◌, arith, ⊎_elim}
+use Rattle.std.proofs.Common.{◌≡◌, ℕ, zero, suc, ◌+◌, ◌<◌, ◌↔◌, ◌⊎◌, inl, inr, Bool, true, false, cond, List, [], ◌∷◌, ◌++◌, Option, Some, None, is_some, length, get_or, set, refl}
+use Rattle.std.proofs.Common.{sym, ap, ◌∙◌, arith, ⊎_elim}
 use Rattle.std.proofs.lemmas.Option.{none-some}
 use Rattle.std.proofs.lemmas.List.{get_or_append_left, get_or-append-add}
 use Rattle.std.proofs.lemmas.Cmp.{eq_by_cmp_equiv}
@@ -119,19 +120,24 @@ module _ {X : Type 0} (hash_of : X → ℕ) (key_of : X → List ℕ) where
 
   -- ---- a change of one bucket
 
-  alone : (items : List (Option X)) (at : ℕ) (x : X) → AreApart hash_of key_of items → get_or items at None ≡ Some x → (other : ℕ) (y : X) → get_or items other None ≡ Some y → hash_of y ≡ hash_of x → key_of y ≡ key_of x → other ≡ at
+  alone : (items : List (Option X)) (at : ℕ) (x : X) → AreApart hash_of key_of items → get_or items at None ≡ Some x → (other : ℕ) (y : X)
+      → get_or items other None ≡ Some y → hash_of y ≡ hash_of x → key_of y ≡ key_of x → other ≡ at
   alone items at x apart there other y elsewhere hashes keys = apart other at y x elsewhere there hashes keys
 
-  pub change_put : (items : List (Option X)) (at : ℕ) (x : X) → at < length items → get_or items at None ≡ None → get (map_of items) (hash_of x ∷ key_of x) ≡ None → map_of (set items at (Some x)) ≡ insert (map_of items) (hash_of x ∷ key_of x) x
+  pub change_put : (items : List (Option X)) (at : ℕ) (x : X) → at < length items → get_or items at None ≡ None
+      → get (map_of items) (hash_of x ∷ key_of x) ≡ None → map_of (set items at (Some x)) ≡ insert (map_of items) (hash_of x ∷ key_of x) x
   change_put items at x l e none = content-put hash_of key_of items at x l e (absent_of items (hash_of x) (key_of x) none)
 
-  pub change_taken : (items : List (Option X)) (at : ℕ) (x : X) → AreApart hash_of key_of items → get_or items at None ≡ Some x → map_of (set items at None) ≡ remove (map_of items) (hash_of x ∷ key_of x)
+  pub change_taken : (items : List (Option X)) (at : ℕ) (x : X) → AreApart hash_of key_of items → get_or items at None ≡ Some x
+      → map_of (set items at None) ≡ remove (map_of items) (hash_of x ∷ key_of x)
   change_taken items at x apart e = content-remove hash_of key_of items at x e (alone items at x apart e) (filled_inside items at x e)
 
-  pub change_back : (items : List (Option X)) (at : ℕ) (x : X) → AreApart hash_of key_of items → get_or items at None ≡ Some x → map_of items ≡ insert (map_of (set items at None)) (hash_of x ∷ key_of x) x
+  pub change_back : (items : List (Option X)) (at : ℕ) (x : X) → AreApart hash_of key_of items → get_or items at None ≡ Some x
+      → map_of items ≡ insert (map_of (set items at None)) (hash_of x ∷ key_of x) x
   change_back items at x apart e = content-back hash_of key_of items at x e (alone items at x apart e) (filled_inside items at x e)
 
-  pub change_replaced : (items : List (Option X)) (at : ℕ) (x y : X) → AreApart hash_of key_of items → get_or items at None ≡ Some x → hash_of y ≡ hash_of x → key_of y ≡ key_of x → map_of (set items at (Some y)) ≡ insert (map_of items) (hash_of x ∷ key_of x) y
+  pub change_replaced : (items : List (Option X)) (at : ℕ) (x y : X) → AreApart hash_of key_of items → get_or items at None ≡ Some x → hash_of y ≡ hash_of x
+      → key_of y ≡ key_of x → map_of (set items at (Some y)) ≡ insert (map_of items) (hash_of x ∷ key_of x) y
   change_replaced items at x y apart e hashes keys = content-over hash_of key_of items at x y e hashes keys (alone items at x apart e) (filled_inside items at x e)
 
   -- ---- two lists, one after the other
@@ -186,7 +192,12 @@ module _ {X : Type 0} (hash_of : X → ℕ) (key_of : X → List ℕ) where
     λ q x y e f.
         let r = entry_there xs q x e in
         let s = entry_there ys q y f in
-        omega (arith, filled_inside xs r.1.0 x r.1.1, apart r.1.0 (length xs + s.1.0) x y (in_first xs ys r.1.0 x r.1.1) (in_second xs ys s.1.0 y s.1.1) (ap head_of (sym r.0 ∙ s.0)) (ap tail_of (sym r.0 ∙ s.0))),
+        omega (
+          arith,
+          filled_inside xs r.1.0 x r.1.1,
+          apart r.1.0 (length xs + s.1.0) x y (in_first xs ys r.1.0 x r.1.1) (in_second xs ys s.1.0 y s.1.1)
+              (ap head_of (sym r.0 ∙ s.0)) (ap tail_of (sym r.0 ∙ s.0)),
+        ),
   )
 
   pub apart_joined : (xs ys : List (Option X)) → AreApart hash_of key_of xs × AreApart hash_of key_of ys × AreDisjoint (map_of xs) (map_of ys) → AreApart hash_of key_of (xs ++ ys)

@@ -1,5 +1,6 @@
 -- The numbers of buckets and the places of values: what putting and taking a value changes.
-use Rattle.std.proofs.Common.{◌≡◌, ◌≢◌, ℕ, zero, suc, ◌+◌, ◌-◌, ◌<◌, ◌≤◌, ◌^◌, Bool, true, cond, List, [], ◌∷◌, ◌++◌, Option, Some, None, is_some, true≢false, replicate, map, length, length-set, length-append, get_or, set, refl, sym, ap, subst, ◌∙◌, arith, ⊎_elim}
+use Rattle.std.proofs.Common.{◌≡◌, ◌≢◌, ℕ, zero, suc, ◌+◌, ◌-◌, ◌<◌, ◌≤◌, ◌^◌, Bool, true, cond, List, [], ◌∷◌, ◌++◌, Option, Some, None, is_some, true≢false, replicate, map}
+use Rattle.std.proofs.Common.{length, length-set, length-append, get_or, set, refl, sym, ap, subst, ◌∙◌, arith, ⊎_elim}
 use Rattle.std.proofs.lemmas.Bool.{cases_eq, cases_lt, lt-ltb, le-ltb}
 use Rattle.std.proofs.lemmas.Option.{none-some, slice_get_read, get_or_from_slice_get}
 use Rattle.std.proofs.Math.Seq.{get_or-append_seam}
@@ -155,7 +156,9 @@ same_there xs ys i j li lj same =
     let read : x.0 ≡ get_or ys j x.0 = sym (get_or_from_slice_get xs i x.0 x.0 x.1) ∙ same x.0 in
     x.1 ∙ sym (slice_get_read ys (length ys) j x.0 refl lj read)
 
-module _ {X : Type 0} (ats : List ℕ) (items : List X) (places : List ℕ) (item_room place_room : ℕ) (links : IsLinked ats items places item_room place_room) (at p : ℕ) (inside_at : at < length ats) (number_is : get_or ats at 0 ≡ suc p) (items_new : List X) (places_new : List ℕ) (items_swapped : IsSwapped items items_new p) (places_swapped : IsSwapped places places_new p) where
+module _ {X : Type 0} (ats : List ℕ) (items : List X) (places : List ℕ) (item_room place_room : ℕ) (links : IsLinked ats items places item_room place_room)
+    (at p : ℕ) (inside_at : at < length ats) (number_is : get_or ats at 0 ≡ suc p) (items_new : List X) (places_new : List ℕ)
+    (items_swapped : IsSwapped items items_new p) (places_swapped : IsSwapped places places_new p) where
   abbrev cleared : List ℕ
   cleared = set ats at 0
 
@@ -256,7 +259,8 @@ module _ {X : Type 0} (ats : List ℕ) (items : List X) (places : List ℕ) (ite
         subst (λ (n : ℕ). get_or places_new i 0 < n) (sym same_length)
         (⊎_elim
         (λ (d : i ≡ p). subst (λ (n : ℕ). n < length ats) (sym (ap (λ (n : ℕ). get_or places_new n 0) d ∙ moved_is (subst (λ (n : ℕ). n < length places_new) d below))) mover_inside)
-        (λ (d : i ≡ p → ⊥). subst (λ (n : ℕ). n < length ats) (sym (places_swapped.others i 0 d (omega (arith, below, places_swapped.shorter)))) (links.inside i (omega (arith, below, places_swapped.shorter))))
+        (λ (d : i ≡ p → ⊥). subst (λ (n : ℕ). n < length ats) (sym (places_swapped.others i 0 d (omega (arith, below, places_swapped.shorter))))
+        (links.inside i (omega (arith, below, places_swapped.shorter))))
         (cases_eq i p));
     there = λ i below.
         ⊎_elim
@@ -310,13 +314,15 @@ module _ {X : Type 0} (ats : List ℕ) (items : List X) (places : List ℕ) (ite
       ∙ ⊎_elim
       (λ (d : b ≡ at).
       ap (item_of items_new) (ap (λ (n : ℕ). get_or now n 0) d ∙ number_at)
-      ∙ sym (ap (λ (n : ℕ). get_or (set (map (item_of items) ats) at None) n None) d ∙ get_or-set_same (map (item_of items) ats) at None None (subst (λ (n : ℕ). at < n) (sym (length-map ats (item_of items))) inside_at)))
+      ∙ sym (ap (λ (n : ℕ). get_or (set (map (item_of items) ats) at None) n None) d
+      ∙ get_or-set_same (map (item_of items) ats) at None None (subst (λ (n : ℕ). at < n) (sym (length-map ats (item_of items))) inside_at)))
       (λ (d : b ≡ at → ⊥).
       ⊎_elim
       (λ (e : get_or ats b 0 ≡ length places).
       let its = number_mover b d e in
       ap (item_of items_new) its.1
-      ∙ same_there items_new items p (length places - 1) (omega (arith, its.0, items_swapped.shorter, places_swapped.shorter, links.same_length)) (omega (arith, its.0, places_swapped.shorter, links.same_length))
+      ∙ same_there items_new items p (length places - 1) (omega (arith, its.0, items_swapped.shorter, places_swapped.shorter, links.same_length))
+      (omega (arith, its.0, places_swapped.shorter, links.same_length))
       (λ x. items_swapped.last x (omega (arith, its.0, places_swapped.shorter, links.same_length)) ∙ ap (λ (n : ℕ). get_or items (n - 1) x) (sym links.same_length))
       ∙ ap (item_of items) {x = suc (length places - 1)} (omega (arith, e, below_places)))
       (λ (e : get_or ats b 0 ≡ length places → ⊥).
@@ -328,11 +334,14 @@ module _ {X : Type 0} (ats : List ℕ) (items : List X) (places : List ℕ) (ite
       (cases_eq b at)) where
         kept : (n : ℕ) → (n ≡ suc p → ⊥) → n < length places → item_of items_new n ≡ item_of items n
         kept zero apart l = refl
-        kept (suc i) apart l = same_there items_new items i i (omega (arith, l, items_swapped.shorter, links.same_length)) (omega (arith, l, links.same_length)) (λ x. items_swapped.others i x (λ same. apart (ap suc same)) (omega (arith, l, links.same_length)))
+        kept (suc i) apart l =
+            same_there items_new items i i (omega (arith, l, items_swapped.shorter, links.same_length)) (omega (arith, l, links.same_length))
+            (λ x. items_swapped.others i x (λ same. apart (ap suc same)) (omega (arith, l, links.same_length)))
 
 -- ---- the same as the code shows it
 
-pub same_state : {X : Type 0} {words words_to tags tags_to : List ℕ} {items items_to : List (Option X)} → words ≡ words_to → tags ≡ tags_to → items ≡ items_to → ◌≡◌ {A = CellsState X} (record { words = words; tags = tags; items = items }) (record { words = words_to; tags = tags_to; items = items_to })
+pub same_state : {X : Type 0} {words words_to tags tags_to : List ℕ} {items items_to : List (Option X)} → words ≡ words_to → tags ≡ tags_to → items ≡ items_to
+    → ◌≡◌ {A = CellsState X} (record { words = words; tags = tags; items = items }) (record { words = words_to; tags = tags_to; items = items_to })
 same_state p q r = λ k. record { words = p k; tags = q k; items = r k }
 
 pub seen_items : {X : Type 0} {words tags : List ℕ} {items : List (Option X)} {s : CellsState X} → ◌≡◌ {A = CellsState X} (record { words = words; tags = tags; items = items }) s → items ≡ s.items
@@ -353,13 +362,18 @@ module _ {X : Type 0} (ats : List ℕ) (items : List X) (places : List ℕ) (ite
       let below = some_room ats items places item_room place_room links at (inside_by ats items old at e l) (ap (λ (os : List (Option X)). get_or os at None) e ∙ empty) in
       (omega (arith, below, links.room), (omega (arith, below, links.more, links.same_length), omega (arith, below, links.small)))
 
-  pub put_linked : (x : X) → map (item_of items) ats ≡ old → at < length old → get_or old at None ≡ None → {items_new : List X} {places_new ats_new : List ℕ} {n item_room_new place_room_new : ℕ} → items_new ≡ items ++ x ∷ [] → places_new ≡ places ++ at ∷ [] → ats_new ≡ set ats at n → n ≡ suc (length items) → item_room_new ≡ item_room → place_room_new ≡ place_room → IsLinked ats_new items_new places_new item_room_new place_room_new
+  pub put_linked : (x : X) → map (item_of items) ats ≡ old → at < length old → get_or old at None ≡ None
+      → {items_new : List X} {places_new ats_new : List ℕ} {n item_room_new place_room_new : ℕ} → items_new ≡ items ++ x ∷ [] → places_new ≡ places ++ at ∷ []
+      → ats_new ≡ set ats at n → n ≡ suc (length items) → item_room_new ≡ item_room → place_room_new ≡ place_room → IsLinked ats_new items_new places_new item_room_new place_room_new
   put_linked x e l empty {items_new} {places_new} {ats_new} {n} {item_room_new} {place_room_new} is ps ns num ir pr =
       let inside = inside_by ats items old at e l in
-      let base = IsLinked-put ats items places item_room place_room links at x inside (unused ats items places item_room place_room links at inside (ap (λ (os : List (Option X)). get_or os at None) e ∙ empty)) in
+      let base =
+      IsLinked-put ats items places item_room place_room links at x inside
+      (unused ats items places item_room place_room links at inside (ap (λ (os : List (Option X)). get_or os at None) e ∙ empty)) in
       rw (ns, num, is, ps, ir, pr) base
 
-  pub put_items : (x : X) → map (item_of items) ats ≡ old → at < length old → {items_new : List X} {ats_new : List ℕ} {n : ℕ} → items_new ≡ items ++ x ∷ [] → ats_new ≡ set ats at n → n ≡ suc (length items) → map (item_of items_new) ats_new ≡ set old at (Some x)
+  pub put_items : (x : X) → map (item_of items) ats ≡ old → at < length old → {items_new : List X} {ats_new : List ℕ} {n : ℕ} → items_new ≡ items ++ x ∷ []
+      → ats_new ≡ set ats at n → n ≡ suc (length items) → map (item_of items_new) ats_new ≡ set old at (Some x)
   put_items x e l is ns num =
       rw (ns, num, is) (items-put ats items places item_room place_room links at x (inside_by ats items old at e l) ∙ ap (λ (os : List (Option X)). set os at (Some x)) e)
 
@@ -376,32 +390,41 @@ module _ {X : Type 0} (ats : List ℕ) (items : List X) (places : List ℕ) (ite
             (cases_eq (get_or ats at 0) 0),
       ))
       (λ (g : length ats ≤ at).
-      absurd (true≢false (sym some ∙ ap (λ (os : List (Option X)). is_some (get_or os at None)) (sym e) ∙ ap is_some (get_or_past (map (item_of items) ats) at None (subst (λ (n : ℕ). n ≤ at) (sym (length-map ats (item_of items))) g)))))
+      absurd (true≢false
+      (sym some ∙ ap (λ (os : List (Option X)). is_some (get_or os at None)) (sym e)
+      ∙ ap is_some (get_or_past (map (item_of items) ats) at None (subst (λ (n : ℕ). n ≤ at) (sym (length-map ats (item_of items))) g)))))
       (cases_lt at (length ats))
 
   pub take_small : map (item_of items) ats ≡ old → is_some (get_or old at None) ≡ true → length places < 2 ^ 25 - 1
   take_small e some = omega (arith, used-le ats, links.count, links.small)
 
-  pub take_linked : {p number item_room_new place_room_new : ℕ} {items_new : List X} {places_new ats_cleared ats_new : List ℕ} → map (item_of items) ats ≡ old → is_some (get_or old at None) ≡ true → number ≡ get_or ats at 0 → p ≡ number - 1 → IsSwapped items items_new p → IsSwapped places places_new p → ats_cleared ≡ set ats at 0 → ats_new ≡ renumbered ats_cleared places_new p → item_room_new ≡ item_room → place_room_new ≡ place_room → IsLinked ats_new items_new places_new item_room_new place_room_new
+  pub take_linked : {p number item_room_new place_room_new : ℕ} {items_new : List X} {places_new ats_cleared ats_new : List ℕ} → map (item_of items) ats ≡ old
+      → is_some (get_or old at None) ≡ true → number ≡ get_or ats at 0 → p ≡ number - 1 → IsSwapped items items_new p → IsSwapped places places_new p
+      → ats_cleared ≡ set ats at 0 → ats_new ≡ renumbered ats_cleared places_new p → item_room_new ≡ item_room → place_room_new ≡ place_room
+      → IsLinked ats_new items_new places_new item_room_new place_room_new
   take_linked {p} {number} e some num ps si sp cleared renumber ir pr =
       let it = take_number e some in
       let is : get_or ats at 0 ≡ suc p = omega (arith, num, ps, it.1) in
       rw (renumber, cleared, ir, pr) (IsLinked-take ats items places item_room place_room links at p it.0 is _ _ si sp)
 
-  pub take_items : {p number : ℕ} {items_new : List X} {places_new ats_cleared ats_new : List ℕ} → map (item_of items) ats ≡ old → is_some (get_or old at None) ≡ true → number ≡ get_or ats at 0 → p ≡ number - 1 → IsSwapped items items_new p → IsSwapped places places_new p → ats_cleared ≡ set ats at 0 → ats_new ≡ renumbered ats_cleared places_new p → map (item_of items_new) ats_new ≡ set old at None
+  pub take_items : {p number : ℕ} {items_new : List X} {places_new ats_cleared ats_new : List ℕ} → map (item_of items) ats ≡ old
+      → is_some (get_or old at None) ≡ true → number ≡ get_or ats at 0 → p ≡ number - 1 → IsSwapped items items_new p → IsSwapped places places_new p
+      → ats_cleared ≡ set ats at 0 → ats_new ≡ renumbered ats_cleared places_new p → map (item_of items_new) ats_new ≡ set old at None
   take_items {p} {number} e some num ps si sp cleared renumber =
       let it = take_number e some in
       let is : get_or ats at 0 ≡ suc p = omega (arith, num, ps, it.1) in
       rw (renumber, cleared) (items-take ats items places item_room place_room links at p it.0 is _ _ si sp ∙ ap (λ (os : List (Option X)). set os at None) e)
 
-  pub take_here : {p number : ℕ} {x : X} → map (item_of items) ats ≡ old → is_some (get_or old at None) ≡ true → number ≡ get_or ats at 0 → p ≡ number - 1 → x ≡ get_or items p x → get_or old at None ≡ Some x
+  pub take_here : {p number : ℕ} {x : X} → map (item_of items) ats ≡ old → is_some (get_or old at None) ≡ true → number ≡ get_or ats at 0 → p ≡ number - 1
+      → x ≡ get_or items p x → get_or old at None ≡ Some x
   take_here {p} {number} {x} e some num ps read =
       let it = take_number e some in
       let is : get_or ats at 0 ≡ suc p = omega (arith, num, ps, it.1) in
       ap (λ (os : List (Option X)). get_or os at None) (sym e) ∙ item_at items ats at it.0 ∙ ap (item_of items) is
       ∙ slice_get_read items (length items) p x refl (omega (arith, is, links.within at, links.same_length)) read
 
-pub swapped : {X : Type 0} {old new : List X} {p old_len new_len : ℕ} → old_len ≡ length old → new_len ≡ length new → new_len + 1 ≡ old_len → ((d : X) → p + 1 < old_len → get_or new p d ≡ get_or old (old_len - 1) d) × ((k : ℕ) (d : X) → k ≢ p → k + 1 < old_len → get_or new k d ≡ get_or old k d) → IsSwapped old new p
+pub swapped : {X : Type 0} {old new : List X} {p old_len new_len : ℕ} → old_len ≡ length old → new_len ≡ length new → new_len + 1 ≡ old_len
+    → ((d : X) → p + 1 < old_len → get_or new p d ≡ get_or old (old_len - 1) d) × ((k : ℕ) (d : X) → k ≢ p → k + 1 < old_len → get_or new k d ≡ get_or old k d) → IsSwapped old new p
 swapped {X} {old} {new} {p} {old_len} {new_len} o n less by = record {
   shorter = omega (arith, o, n, less);
   last = λ d l. by.0 d (omega (arith, o, l)) ∙ ap (λ (m : ℕ). get_or old (m - 1) d) o;
@@ -429,7 +452,8 @@ zero_there zero b = refl
 zero_there (suc n) zero = refl
 zero_there (suc n) (suc b) = zero_there n b
 
-pub IsLinked-none : {X : Type 0} (n : ℕ) {items : List X} {places ats : List ℕ} {item_room place_room : ℕ} → ats ≡ replicate n 0 → items ≡ [] → places ≡ [] → n ≤ item_room → n ≤ place_room → n < 2 ^ 25 - 1 → IsLinked ats items places item_room place_room
+pub IsLinked-none : {X : Type 0} (n : ℕ) {items : List X} {places ats : List ℕ} {item_room place_room : ℕ} → ats ≡ replicate n 0 → items ≡ [] → places ≡ []
+    → n ≤ item_room → n ≤ place_room → n < 2 ^ 25 - 1 → IsLinked ats items places item_room place_room
 IsLinked-none n {item_room = item_room} {place_room = place_room} as_are is ps ir pr small = rw (as_are, is, ps) (record {
   same_length = refl;
   inside = λ i l. absurd (omega (arith, l));
@@ -464,7 +488,8 @@ no_tags n cells e = ap tags_of e ∙ tags n where
   tags (suc n) = ap (λ (l : List ℕ). 0 ∷ l) (tags n)
 
 -- the bucket of a place has a value
-pub filled_at_place : {X : Type 0} (ats : List ℕ) (items : List X) (places : List ℕ) (item_room place_room : ℕ) → IsLinked ats items places item_room place_room → (old : List (Option X)) → map (item_of items) ats ≡ old → (i at : ℕ) → i < length places → at ≡ get_or places i 0 → is_some (get_or old at None) ≡ true
+pub filled_at_place : {X : Type 0} (ats : List ℕ) (items : List X) (places : List ℕ) (item_room place_room : ℕ) → IsLinked ats items places item_room place_room
+    → (old : List (Option X)) → map (item_of items) ats ≡ old → (i at : ℕ) → i < length places → at ≡ get_or places i 0 → is_some (get_or old at None) ≡ true
 filled_at_place {X} ats items places item_room place_room linked old seen i at l is =
     let inside : at < length ats = subst (λ (n : ℕ). n < length ats) (sym is) (linked.inside i l) in
     let number : get_or ats at 0 ≡ suc i = ap (λ (n : ℕ). get_or ats n 0) is ∙ linked.there i l ∙ omega arith in

@@ -1,5 +1,6 @@
 -- One hopscotch table: walks over a hop word, and what a change of one bucket changes.
-use Rattle.std.proofs.Common.{◌≡◌, ◌≢◌, ℕ, ◌+◌, ◌-◌, ◌/◌, ◌<◌, ◌≤◌, ◌^◌, Bool, cond, eqb, List, [], ◌∷◌, Option, Some, None, zero, suc, replicate, length, length-set, get_or, set, refl, sym, ap, subst, ◌∙◌, arith, ⊎_elim}
+use Rattle.std.proofs.Common.{◌≡◌, ◌≢◌, ℕ, ◌+◌, ◌-◌, ◌/◌, ◌<◌, ◌≤◌, ◌^◌, Bool, cond, eqb, List, [], ◌∷◌, Option, Some, None, zero, suc, replicate, length, length-set, get_or, set}
+use Rattle.std.proofs.Common.{refl, sym, ap, subst, ◌∙◌, arith, ⊎_elim}
 use Rattle.std.proofs.lemmas.Bool.{cases_eq, eq-eqb, ne_eqb}
 use Rattle.std.proofs.lemmas.Option.{none-some}
 use Rattle.std.proofs.lemmas.List.{length-replicate, get_or-set_same, get_or-set_other}
@@ -28,7 +29,9 @@ homed_elsewhere : {X : Type 0} (hash_of : X → ℕ) (k b : ℕ) (x : X) → (ho
 homed_elsewhere hash_of k b x n = ap (λ (v : Bool). cond v 1 0) (ne_eqb _ _ n)
 
 -- a walk that is through has met every entry of the home
-pub absent_after : {X : Type 0} (hash_of : X → ℕ) (key_of : X → List ℕ) (k : ℕ) (words : List ℕ) (items : List (Option X)) (hash : ℕ) (key : List ℕ) (home word turn : ℕ) → IsTable hash_of key_of k words items → home ≡ home_in k hash → Walked hash_of key_of k items hash key home word turn → ((j : ℕ) → j < 32 → bit_at word j ≡ 0) → IsAbsent hash_of key_of items hash key
+pub absent_after : {X : Type 0} (hash_of : X → ℕ) (key_of : X → List ℕ) (k : ℕ) (words : List ℕ) (items : List (Option X)) (hash : ℕ) (key : List ℕ)
+    (home word turn : ℕ) → IsTable hash_of key_of k words items → home ≡ home_in k hash → Walked hash_of key_of k items hash key home word turn
+    → ((j : ℕ) → j < 32 → bit_at word j ≡ 0) → IsAbsent hash_of key_of items hash key
 absent_after hash_of key_of k words items hash key home word turn table is walked clear at there =
     let near = table.near at there.entry there.there in
     let its : home_in k (hash_of there.entry) ≡ home = ap (home_in k) there.same_hash ∙ sym is in
@@ -40,21 +43,26 @@ absent_after hash_of key_of k words items hash key home word turn table is walke
     subst (λ (n : ℕ). homed hash_of k home (get_or items n None) ≡ 1) same (ap (homed hash_of k home) there.there ∙ homed_here hash_of k home there.entry its) in
     walked.tried (at - home) within (clear (at - home) within) one (subst (λ (n : ℕ). IsAt hash_of key_of items hash key n) same there)
 
-module _ {X : Type 0} (hash_of : X → ℕ) (key_of : X → List ℕ) (k : ℕ) (words : List ℕ) (items : List (Option X)) (table : IsTable hash_of key_of k words items) (home at word : ℕ) (low : home ≤ at) (high : at ≤ home + 31) (small : home < 2 ^ k) (others : (j : ℕ) → j < 32 → j ≢ at - home → bit_at word j ≡ bit_at (get_or words home 0) j) where
+module _ {X : Type 0} (hash_of : X → ℕ) (key_of : X → List ℕ) (k : ℕ) (words : List ℕ) (items : List (Option X)) (table : IsTable hash_of key_of k words items)
+    (home at word : ℕ) (low : home ≤ at) (high : at ≤ home + 31) (small : home < 2 ^ k) (others : (j : ℕ) → j < 32 → j ≢ at - home → bit_at word j ≡ bit_at (get_or words home 0) j) where
   inside : at < length items
   inside = subst (λ (n : ℕ). at < n) (sym table.items_length) (omega arith)
 
   -- a bucket's bits after a change of one bucket of the home's neighbourhood
-  hops : (o : Option X) → bit_at word (at - home) ≡ homed hash_of k home o → ((b : ℕ) → b ≢ home → homed hash_of k b o ≡ homed hash_of k b (get_or items at None)) → (b j : ℕ) → j < 32 → bit_at (get_or (set words home word) b 0) j ≡ homed hash_of k b (get_or (set items at o) (b + j) None)
+  hops : (o : Option X) → bit_at word (at - home) ≡ homed hash_of k home o
+      → ((b : ℕ) → b ≢ home → homed hash_of k b o ≡ homed hash_of k b (get_or items at None)) → (b j : ℕ) → j < 32
+      → bit_at (get_or (set words home word) b 0) j ≡ homed hash_of k b (get_or (set items at o) (b + j) None)
   hops o bit beside b j within =
       ⊎_elim
       (λ (e : b ≡ home).
-      let read : get_or (set words home word) b 0 ≡ word = ap (λ (n : ℕ). get_or (set words home word) n 0) e ∙ get_or-set_same words home word 0 (subst (λ (n : ℕ). home < n) (sym table.words_length) (omega arith)) in
+      let read : get_or (set words home word) b 0 ≡ word = ap (λ (n : ℕ). get_or (set words home word) n 0) e
+      ∙ get_or-set_same words home word 0 (subst (λ (n : ℕ). home < n) (sym table.words_length) (omega arith)) in
       ⊎_elim
       (λ (d : j ≡ at - home).
       let place : b + j ≡ at = omega (arith, e, d, low) in
       ap (λ (n : ℕ). bit_at n j) read ∙ ap (bit_at word) d ∙ bit
-      ∙ sym (ap (λ (n : ℕ). homed hash_of k n (get_or (set items at o) (b + j) None)) e ∙ ap (λ (n : ℕ). homed hash_of k home (get_or (set items at o) n None)) place ∙ ap (homed hash_of k home) (get_or-set_same items at o None inside)))
+      ∙ sym (ap (λ (n : ℕ). homed hash_of k n (get_or (set items at o) (b + j) None)) e
+      ∙ ap (λ (n : ℕ). homed hash_of k home (get_or (set items at o) n None)) place ∙ ap (homed hash_of k home) (get_or-set_same items at o None inside)))
       (λ (d : j ≡ at - home → ⊥).
       let place : b + j ≡ at → ⊥ = λ same. d (omega (arith, e, same)) in
       ap (λ (n : ℕ). bit_at n j) read ∙ others j within d ∙ ap (λ (n : ℕ). bit_at (get_or words n 0) j) (sym e) ∙ table.true_hops b j within
@@ -74,7 +82,8 @@ module _ {X : Type 0} (hash_of : X → ℕ) (key_of : X → List ℕ) (k : ℕ) 
       (cases_eq b home)
 
   -- an entry of a new key in an empty bucket
-  pub IsTable-put : (x : X) → home ≡ home_in k (hash_of x) → get_or items at None ≡ None → IsAbsent hash_of key_of items (hash_of x) (key_of x) → bit_at word (at - home) ≡ 1 → IsTable hash_of key_of k (set words home word) (set items at (Some x))
+  pub IsTable-put : (x : X) → home ≡ home_in k (hash_of x) → get_or items at None ≡ None → IsAbsent hash_of key_of items (hash_of x) (key_of x)
+      → bit_at word (at - home) ≡ 1 → IsTable hash_of key_of k (set words home word) (set items at (Some x))
   IsTable-put x is empty new bit = record {
     least = table.least;
     most = table.most;
@@ -131,7 +140,9 @@ module _ {X : Type 0} (hash_of : X → ℕ) (key_of : X → List ℕ) (k : ℕ) 
         (cases_eq p at)
 
 -- the same of a table that contracts see as that value
-pub absent_by_value : {X : Type 0} (hash_of : X → ℕ) (key_of : X → List ℕ) (s : HopState X) (k : ℕ) (words : List ℕ) (items : List (Option X)) (hash : ℕ) (key : List ℕ) (home word : ℕ) {turn : ℕ} → record { k = k; items = items } ≡ s → IsTable hash_of key_of k words items → home ≡ home_in s.k hash → Walked hash_of key_of s.k s.items hash key home word turn → ((j : ℕ) → j < 32 → bit_at word j ≡ 0) → IsAbsent hash_of key_of s.items hash key
+pub absent_by_value : {X : Type 0} (hash_of : X → ℕ) (key_of : X → List ℕ) (s : HopState X) (k : ℕ) (words : List ℕ) (items : List (Option X)) (hash : ℕ)
+    (key : List ℕ) (home word : ℕ) {turn : ℕ} → record { k = k; items = items } ≡ s → IsTable hash_of key_of k words items → home ≡ home_in s.k hash
+    → Walked hash_of key_of s.k s.items hash key home word turn → ((j : ℕ) → j < 32 → bit_at word j ≡ 0) → IsAbsent hash_of key_of s.items hash key
 absent_by_value {X} hash_of key_of s k words items hash key home word {turn} seen table is walked clear =
     let k_is : k ≡ s.k = ap (λ (t : HopState X). t.k) seen in
     let items_are : items ≡ s.items = ap (λ (t : HopState X). t.items) seen in
@@ -142,16 +153,22 @@ absent_by_value {X} hash_of key_of s k words items hash key home word {turn} see
     clear)
 
 -- an entry put, as the code shows it: contracts see the table as the value s
-pub put_by_value : {X : Type 0} (hash_of : X → ℕ) (key_of : X → List ℕ) (s : HopState X) (k : ℕ) (words : List ℕ) (items : List (Option X)) (home at word : ℕ) (x : X) → record { k = k; items = items } ≡ s → IsTable hash_of key_of k words items → home ≡ home_in s.k (hash_of x) → home ≤ at → at ≤ home + 31 → get_or s.items at None ≡ None → IsAbsent hash_of key_of s.items (hash_of x) (key_of x) → {old : ℕ} → old ≡ get_or words home 0 → bit_at word (at - home) ≡ 1 → ((j : ℕ) → j < 32 → j ≢ at - home → bit_at word j ≡ bit_at old j) → IsTable hash_of key_of k (set words home word) (set items at (Some x))
+pub put_by_value : {X : Type 0} (hash_of : X → ℕ) (key_of : X → List ℕ) (s : HopState X) (k : ℕ) (words : List ℕ) (items : List (Option X)) (home at word : ℕ)
+    (x : X) → record { k = k; items = items } ≡ s → IsTable hash_of key_of k words items → home ≡ home_in s.k (hash_of x) → home ≤ at → at ≤ home + 31
+    → get_or s.items at None ≡ None → IsAbsent hash_of key_of s.items (hash_of x) (key_of x) → {old : ℕ} → old ≡ get_or words home 0
+    → bit_at word (at - home) ≡ 1 → ((j : ℕ) → j < 32 → j ≢ at - home → bit_at word j ≡ bit_at old j) → IsTable hash_of key_of k (set words home word) (set items at (Some x))
 put_by_value {X} hash_of key_of s k words items home at word x seen table is low high empty new {old} read bit others =
     let k_is : k ≡ s.k = ap (λ (t : HopState X). t.k) seen in
     let items_are : items ≡ s.items = ap (λ (t : HopState X). t.items) seen in
     let of : home ≡ home_in k (hash_of x) = is ∙ ap (λ (n : ℕ). home_in n (hash_of x)) (sym k_is) in
     let below : home < 2 ^ k = subst (λ (n : ℕ). n < 2 ^ k) (sym of) (home_below k (hash_of x)) in
-    IsTable-put hash_of key_of k words items table home at word low high below (λ j within other. others j within other ∙ ap (λ (n : ℕ). bit_at n j) read) x of (ap (λ (l : List (Option X)). get_or l at None) items_are ∙ empty) (subst (λ (l : List (Option X)). IsAbsent hash_of key_of l (hash_of x) (key_of x)) (sym items_are) new) bit
+    IsTable-put hash_of key_of k words items table home at word low high below (λ j within other. others j within other ∙ ap (λ (n : ℕ). bit_at n j) read) x of
+    (ap (λ (l : List (Option X)). get_or l at None) items_are ∙ empty) (subst (λ (l : List (Option X)). IsAbsent hash_of key_of l (hash_of x) (key_of x)) (sym items_are) new) bit
 
 -- an entry taken out, in the same form
-pub remove_by_value : {X : Type 0} (hash_of : X → ℕ) (key_of : X → List ℕ) (k : ℕ) (words : List ℕ) (items : List (Option X)) (home at word : ℕ) (x : X) → IsTable hash_of key_of k words items → home ≡ home_in k (hash_of x) → get_or items at None ≡ Some x → {old : ℕ} → old ≡ get_or words home 0 → bit_at word (at - home) ≡ 0 → ((j : ℕ) → j < 32 → j ≢ at - home → bit_at word j ≡ bit_at old j) → IsTable hash_of key_of k (set words home word) (set items at None)
+pub remove_by_value : {X : Type 0} (hash_of : X → ℕ) (key_of : X → List ℕ) (k : ℕ) (words : List ℕ) (items : List (Option X)) (home at word : ℕ) (x : X)
+    → IsTable hash_of key_of k words items → home ≡ home_in k (hash_of x) → get_or items at None ≡ Some x → {old : ℕ} → old ≡ get_or words home 0
+    → bit_at word (at - home) ≡ 0 → ((j : ℕ) → j < 32 → j ≢ at - home → bit_at word j ≡ bit_at old j) → IsTable hash_of key_of k (set words home word) (set items at None)
 remove_by_value hash_of key_of k words items home at word x table is there {old} read bit others =
     let near = table.near at x there in
     let low : home ≤ at = subst (λ (n : ℕ). n ≤ at) (sym is) near.0 in
@@ -181,19 +198,22 @@ IsTable-none {X} hash_of key_of k least most n is = record {
   all_none (suc n) (suc b) = all_none n b
 
 -- the bucket of a put is there
-pub inside_by : {X : Type 0} (hash_of : X → ℕ) (key_of : X → List ℕ) (s : HopState X) (k : ℕ) (words : List ℕ) (items : List (Option X)) (home at hash : ℕ) → record { k = k; items = items } ≡ s → IsTable hash_of key_of k words items → home ≡ home_in s.k hash → at ≤ home + 31 → at < length s.items
+pub inside_by : {X : Type 0} (hash_of : X → ℕ) (key_of : X → List ℕ) (s : HopState X) (k : ℕ) (words : List ℕ) (items : List (Option X)) (home at hash : ℕ)
+    → record { k = k; items = items } ≡ s → IsTable hash_of key_of k words items → home ≡ home_in s.k hash → at ≤ home + 31 → at < length s.items
 inside_by {X} hash_of key_of s k words items home at hash seen table is high =
     let k_is : k ≡ s.k = ap (λ (t : HopState X). t.k) seen in
     let items_are : items ≡ s.items = ap (λ (t : HopState X). t.items) seen in
     let below : home < 2 ^ k = subst (λ (n : ℕ). n < 2 ^ k) (sym (is ∙ ap (λ (n : ℕ). home_in n hash) (sym k_is))) (home_below k hash) in
     subst (λ (n : ℕ). at < n) (sym (ap length (sym items_are) ∙ table.items_length)) (omega (arith, below, high))
 
-pub inside_of : {X : Type 0} (hash_of : X → ℕ) (key_of : X → List ℕ) (s : HopState X) (k : ℕ) (words : List ℕ) (items : List (Option X)) (home at hash : ℕ) → record { k = k; items = items } ≡ s → IsTable hash_of key_of k words items → home ≡ home_in s.k hash → at ≤ home + 31 → at < length items
+pub inside_of : {X : Type 0} (hash_of : X → ℕ) (key_of : X → List ℕ) (s : HopState X) (k : ℕ) (words : List ℕ) (items : List (Option X)) (home at hash : ℕ)
+    → record { k = k; items = items } ≡ s → IsTable hash_of key_of k words items → home ≡ home_in s.k hash → at ≤ home + 31 → at < length items
 inside_of {X} hash_of key_of s k words items home at hash seen table is high =
     subst (λ (t : HopState X). at < length t.items) (sym seen) (inside_by hash_of key_of s k words items home at hash seen table is high)
 
 -- no other bucket has the key of an entry
-pub alone : {X : Type 0} (hash_of : X → ℕ) (key_of : X → List ℕ) (k : ℕ) (words : List ℕ) (items : List (Option X)) → IsTable hash_of key_of k words items → (at : ℕ) (x : X) → get_or items at None ≡ Some x → (other : ℕ) (y : X) → get_or items other None ≡ Some y → hash_of y ≡ hash_of x → key_of y ≡ key_of x → other ≡ at
+pub alone : {X : Type 0} (hash_of : X → ℕ) (key_of : X → List ℕ) (k : ℕ) (words : List ℕ) (items : List (Option X)) → IsTable hash_of key_of k words items
+    → (at : ℕ) (x : X) → get_or items at None ≡ Some x → (other : ℕ) (y : X) → get_or items other None ≡ Some y → hash_of y ≡ hash_of x → key_of y ≡ key_of x → other ≡ at
 alone hash_of key_of k words items table at x there other y elsewhere hashes keys = table.apart other at y x elsewhere there hashes keys
 
 -- a bucket that has an entry is there
@@ -203,7 +223,8 @@ filled_inside (o ∷ items) zero x e = omega arith
 filled_inside (o ∷ items) (suc at) x e = omega (arith, filled_inside items at x e)
 
 -- another entry of the same hash and key in an entry's place
-pub IsTable-over : {X : Type 0} (hash_of : X → ℕ) (key_of : X → List ℕ) (k : ℕ) (words : List ℕ) (items : List (Option X)) (at : ℕ) (x y : X) → IsTable hash_of key_of k words items → get_or items at None ≡ Some x → hash_of y ≡ hash_of x → key_of y ≡ key_of x → IsTable hash_of key_of k words (set items at (Some y))
+pub IsTable-over : {X : Type 0} (hash_of : X → ℕ) (key_of : X → List ℕ) (k : ℕ) (words : List ℕ) (items : List (Option X)) (at : ℕ) (x y : X)
+    → IsTable hash_of key_of k words items → get_or items at None ≡ Some x → hash_of y ≡ hash_of x → key_of y ≡ key_of x → IsTable hash_of key_of k words (set items at (Some y))
 IsTable-over {X} hash_of key_of k words items at x y table there same_hash same_keys = record {
   least = table.least;
   most = table.most;

@@ -31,13 +31,15 @@ behind offset size old =
     rw (none, all, append-nil) (drop-drop size offset old)
 
 -- a field was written at the offset
-pub take-field : (offset size : ℕ) (old field : List ℕ) → offset + size ≤ length old → length field ≡ size → take (offset + size) (put_mid offset (length old - offset) old (field ++ drop size (take (length old - offset) (drop offset old)))) ≡ take offset old ++ field
+pub take-field : (offset size : ℕ) (old field : List ℕ) → offset + size ≤ length old → length field ≡ size
+    → take (offset + size) (put_mid offset (length old - offset) old (field ++ drop size (take (length old - offset) (drop offset old)))) ≡ take offset old ++ field
 take-field offset size old field within same =
     let front : length (take offset old) ≡ offset = length-take-le offset old (omega arith) in
     take_front (take offset old) field _ _ (offset + size) (omega arith)
 
 -- and what is behind it stays
-pub drop-field : (offset size : ℕ) (old field : List ℕ) → offset + size ≤ length old → length field ≡ size → drop (offset + size) (put_mid offset (length old - offset) old (field ++ drop size (take (length old - offset) (drop offset old)))) ≡ drop (offset + size) old
+pub drop-field : (offset size : ℕ) (old field : List ℕ) → offset + size ≤ length old → length field ≡ size
+    → drop (offset + size) (put_mid offset (length old - offset) old (field ++ drop size (take (length old - offset) (drop offset old)))) ≡ drop (offset + size) old
 drop-field offset size old field within same =
     let front : length (take offset old) ≡ offset = length-take-le offset old (omega arith) in
     drop_front (take offset old) field _ _ (offset + size) (omega arith) ∙ behind offset size old
@@ -74,12 +76,20 @@ pub record Reads (hash flags expires moment unique updated key_length block_leng
   pub key_length_is : number_at 40 4 bytes ≡ key_length
   pub block_length_is : number_at 44 4 bytes ≡ block_length
 
-reads_header : (hash flags expires moment unique updated key_length block_length : ℕ) (rest : List ℕ) → hash < 2 ^ 64 → flags < 2 ^ 32 → expires < 2 ^ 32 → moment < 2 ^ 64 → unique < 2 ^ 64 → updated < 2 ^ 64 → key_length < 2 ^ 32 → block_length < 2 ^ 32 → Reads hash flags expires moment unique updated key_length block_length (header_bytes hash flags expires moment unique updated key_length block_length ++ rest)
+reads_header : (hash flags expires moment unique updated key_length block_length : ℕ) (rest : List ℕ) → hash < 2 ^ 64 → flags < 2 ^ 32 → expires < 2 ^ 32
+    → moment < 2 ^ 64 → unique < 2 ^ 64 → updated < 2 ^ 64 → key_length < 2 ^ 32 → block_length < 2 ^ 32
+    → Reads hash flags expires moment unique updated key_length block_length (header_bytes hash flags expires moment unique updated key_length block_length ++ rest)
 unfolding number_at number_bytes
 reads_header hash flags expires moment unique updated key_length block_length rest h f e m u d k b = record {
-  hash_is = little_number-reads_back 8 hash (number_bytes 4 flags ++ (number_bytes 4 expires ++ (number_bytes 8 moment ++ (number_bytes 8 unique ++ (number_bytes 8 updated ++ (number_bytes 4 key_length ++ (number_bytes 4 block_length ++ rest))))))) h;
-  flags_is = little_number-reads_back 4 flags (number_bytes 4 expires ++ (number_bytes 8 moment ++ (number_bytes 8 unique ++ (number_bytes 8 updated ++ (number_bytes 4 key_length ++ (number_bytes 4 block_length ++ rest)))))) f;
-  expires_is = little_number-reads_back 4 expires (number_bytes 8 moment ++ (number_bytes 8 unique ++ (number_bytes 8 updated ++ (number_bytes 4 key_length ++ (number_bytes 4 block_length ++ rest))))) e;
+  hash_is =
+      little_number-reads_back 8 hash
+      (number_bytes 4 flags ++
+      (number_bytes 4 expires ++ (number_bytes 8 moment ++ (number_bytes 8 unique ++ (number_bytes 8 updated ++ (number_bytes 4 key_length ++ (number_bytes 4 block_length ++ rest))))))) h;
+  flags_is =
+      little_number-reads_back 4 flags
+      (number_bytes 4 expires ++ (number_bytes 8 moment ++ (number_bytes 8 unique ++ (number_bytes 8 updated ++ (number_bytes 4 key_length ++ (number_bytes 4 block_length ++ rest)))))) f;
+  expires_is =
+      little_number-reads_back 4 expires (number_bytes 8 moment ++ (number_bytes 8 unique ++ (number_bytes 8 updated ++ (number_bytes 4 key_length ++ (number_bytes 4 block_length ++ rest))))) e;
   moment_is = little_number-reads_back 8 moment (number_bytes 8 unique ++ (number_bytes 8 updated ++ (number_bytes 4 key_length ++ (number_bytes 4 block_length ++ rest)))) m;
   unique_is = little_number-reads_back 8 unique (number_bytes 8 updated ++ (number_bytes 4 key_length ++ (number_bytes 4 block_length ++ rest))) u;
   updated_is = little_number-reads_back 8 updated (number_bytes 4 key_length ++ (number_bytes 4 block_length ++ rest)) d;
@@ -88,9 +98,12 @@ reads_header hash flags expires moment unique updated key_length block_length re
 }
 
 -- a header that was written number by number reads as it was
-pub Reads-taken : (hash flags expires moment unique updated key_length block_length : ℕ) (bytes : List ℕ) → take 48 bytes ≡ header_bytes hash flags expires moment unique updated key_length block_length → hash < 2 ^ 64 → flags < 2 ^ 32 → expires < 2 ^ 32 → moment < 2 ^ 64 → unique < 2 ^ 64 → updated < 2 ^ 64 → key_length < 2 ^ 32 → block_length < 2 ^ 32 → Reads hash flags expires moment unique updated key_length block_length bytes
+pub Reads-taken : (hash flags expires moment unique updated key_length block_length : ℕ) (bytes : List ℕ)
+    → take 48 bytes ≡ header_bytes hash flags expires moment unique updated key_length block_length → hash < 2 ^ 64 → flags < 2 ^ 32 → expires < 2 ^ 32
+    → moment < 2 ^ 64 → unique < 2 ^ 64 → updated < 2 ^ 64 → key_length < 2 ^ 32 → block_length < 2 ^ 32 → Reads hash flags expires moment unique updated key_length block_length bytes
 Reads-taken hash flags expires moment unique updated key_length block_length bytes same h f e m u d k b =
-    let whole : header_bytes hash flags expires moment unique updated key_length block_length ++ drop 48 bytes ≡ bytes = ap (λ (front : List ℕ). front ++ drop 48 bytes) (sym same) ∙ take-append-drop 48 bytes in
+    let whole : header_bytes hash flags expires moment unique updated key_length block_length ++ drop 48 bytes ≡ bytes =
+    ap (λ (front : List ℕ). front ++ drop 48 bytes) (sym same) ∙ take-append-drop 48 bytes in
     subst (Reads hash flags expires moment unique updated key_length block_length) whole (reads_header hash flags expires moment unique updated key_length block_length (drop 48 bytes) h f e m u d k b)
 
 -- an expiry is read as it was written
@@ -98,9 +111,22 @@ expiry_read : (expiry : Expiry) (expires moment : ℕ) → expires ≡ expires_n
 expiry_read Never expires moment e m = rw e refl
 expiry_read (At second) expires moment e m = rw (e, m) refl
 
-pub header_in-reads : (header : Header) (expires moment updated : ℕ) (bytes : List ℕ) → expires ≡ expires_number header.expiry → moment ≡ moment_number header.expiry → updated ≡ header.updated → Reads header.hash header.flags expires moment header.unique updated header.key_length header.block_length bytes → header_in bytes ≡ header
+pub header_in-reads : (header : Header) (expires moment updated : ℕ) (bytes : List ℕ) → expires ≡ expires_number header.expiry
+    → moment ≡ moment_number header.expiry → updated ≡ header.updated
+    → Reads header.hash header.flags expires moment header.unique updated header.key_length header.block_length bytes → header_in bytes ≡ header
 header_in-reads header expires moment updated bytes e m u reads =
-    rw (reads.hash_is, reads.flags_is, reads.expires_is, reads.moment_is, reads.unique_is, reads.updated_is, reads.key_length_is, reads.block_length_is, u, expiry_read header.expiry expires moment e m) refl
+    rw (
+      reads.hash_is,
+      reads.flags_is,
+      reads.expires_is,
+      reads.moment_is,
+      reads.unique_is,
+      reads.updated_is,
+      reads.key_length_is,
+      reads.block_length_is,
+      u,
+      expiry_read header.expiry expires moment e m,
+    ) refl
 
 -- what stays behind a place stays behind a later one
 pub drop-further : (near far : ℕ) (xs ys : List ℕ) → near ≤ far → drop near xs ≡ drop near ys → drop far xs ≡ drop far ys

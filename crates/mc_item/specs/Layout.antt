@@ -1,4 +1,5 @@
--- How an item lies in its chunk: a header of 48 bytes, the key, and the block, in one run. What is behind is of any content.
+-- How an item lies in its chunks, whose bytes are one after another: a header of 48 bytes, the key, and the block, in one
+-- run. What is behind is of any content.
 --
 -- The header's numbers stand with their lowest byte first:
 --
@@ -15,7 +16,7 @@ use Rattle.std.specs.Prelude.{ℕ, ◌+◌, ◌≤◌, ◌^◌, ◌==◌, List, 
 use Rattle.byteorder.specs.Endian.{little_number, little_bytes}
 use Rattle.mc_time.specs.declared.expiry.Expiry.{Expiry}
 use Rattle.mc_time.specs.declared.expiry.Expiry.TheVariants.{Never, At}
-use Rattle.mc_slab.specs.Chunks.{IsChunk, chunk_class}
+use Rattle.mc_slab.specs.Chunks.{ChunksState, AreChunks}
 use Rattle.mc_item.specs.Items.{ItemState, header_size, longest_key}
 use Rattle.mc_item.specs.declared.header.Header.{Header}
 
@@ -84,22 +85,24 @@ key_in bytes = take (key_length_in bytes) (drop header_size bytes)
 abbrev pub block_in : List ℕ → List ℕ
 block_in bytes = take (block_length_in bytes) (drop (header_size + key_length_in bytes) bytes)
 
--- the item that lies in a chunk
-abbrev pub item_in : List ℕ → ItemState
-item_in chunk = record {
-  hash = hash_in chunk;
-  key = key_in chunk;
-  flags = flags_in chunk;
-  expiry = expiry_in chunk;
-  block = block_in chunk;
-  unique = unique_in chunk;
-  updated = updated_in chunk;
-  class = chunk_class chunk;
+-- the item that lies in chunks
+abbrev pub item_in : ChunksState → ItemState
+item_in chunks = record {
+  hash = hash_in chunks.bytes;
+  key = key_in chunks.bytes;
+  flags = flags_in chunks.bytes;
+  expiry = expiry_in chunks.bytes;
+  block = block_in chunks.bytes;
+  unique = unique_in chunks.bytes;
+  updated = updated_in chunks.bytes;
+  class = chunks.class;
+  count = chunks.count;
 }
 
--- An item lies in the bytes: they are a chunk, the key is not too long, the run ends within them, and the moment is one.
-pub record HoldsItem (bytes : List ℕ) : Type 0 where
-  pub chunk : IsChunk bytes
-  pub key : key_length_in bytes ≤ longest_key
-  pub room : header_size + key_length_in bytes + block_length_in bytes ≤ length bytes
-  pub updated : updated_in bytes ≤ 2 ^ 62
+-- An item lies in the chunks: the key is not too long, the run ends within them, and the moment is one.
+pub record HoldsItem (chunks : ChunksState) : Type 0 where
+  pub are : AreChunks chunks
+  pub key : key_length_in chunks.bytes ≤ longest_key
+  pub room : header_size + key_length_in chunks.bytes + block_length_in chunks.bytes
+      ≤ length chunks.bytes
+  pub updated : updated_in chunks.bytes ≤ 2 ^ 62

@@ -6,7 +6,7 @@ ghost use Rattle.mc_item.specs.Layout.{number_at, number_bytes, header_in, updat
 use byteorder::{ByteOrder, LittleEndian};
 use mc_time::{Expiry, Moment};
 
-/// How many bytes of an item's chunk come before its key.
+/// How many bytes of an item's first chunk come before its key.
 pub(crate) const HEADER: usize = 48;
 
 // Where the numbers of the header stand. The flags, whether the item expires and the lengths have 4 bytes each, the others 8.

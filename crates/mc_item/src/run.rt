@@ -1,57 +1,87 @@
 //! Writing an item's run of bytes.
 
-ghost use Rattle.std.specs.Prelude.{◌≡◌, ◌+◌, ◌≤◌, ◌^◌, ◌++◌, length, take, drop, decimal};
-ghost use Rattle.mc_slab.specs.Chunks.{IsChunk, chunk_class};
-ghost use Rattle.mc_item.specs.Items.{header_size, longest_key};
-ghost use Rattle.mc_item.specs.Layout.{block_in, header_in, item_in, key_length_in, HoldsItem};
+ghost use Rattle.std.specs.Prelude.{◌≡◌, ◌+◌, ◌<◌, ◌≤◌, ◌^◌, ◌++◌, length, take, drop, decimal, Some, slice_get, vec_capacity};
+ghost use Rattle.mc_slab.specs.Classes.{size_of};
+ghost use Rattle.mc_slab.specs.Chunks.{AreChunks, need_in, with_part};
+ghost use Rattle.mc_item.specs.Items.{header_size, longest_key, parts_of};
+ghost use Rattle.mc_item.specs.Layout.{
+  block_in,
+  block_length_in,
+  header_in,
+  item_in,
+  key_in,
+  key_length_in,
+  updated_in,
+  HoldsItem,
+};
 
-use crate::header::{HEADER, Header};
+use crate::header::{HEADER, Header, block_length_in, key_length_in};
 use itoa::Buffer;
-use mc_slab::Chunk;
+use mc_slab::Chunks;
 use mc_time::{Expiry, Moment};
 
-/// A length of what a chunk has room for. A chunk has at most 1048576 bytes.
-pub(crate) fn length_in(chunk: &[u8], count: usize) -> u32
-    requires chunk { IsChunk chunk.now }
-    requires room { count ≤ length chunk.now }
+/// The bytes of the first of an item's chunks, in which its header and its key lie.
+pub(crate) fn front(chunks: &Chunks) -> &[u8]
+    requires { HoldsItem chunks.now }
+    ensures value { result.now ≡ take (size_of chunks.now.class) chunks.now.bytes }
+    ensures header { header_in result.now ≡ header_in chunks.now.bytes }
+    ensures key { key_in result.now ≡ key_in chunks.now.bytes }
+    ensures room { header_size + key_length_in chunks.now.bytes ≤ length result.now }
+    ensures latest { updated_in result.now ≤ 2 ^ 62 }
+{
+    chunks.first()
+}
+
+/// A length of what chunks have room for. They have at most 8388608 bytes.
+pub(crate) fn length_in(chunks: &Chunks, count: usize) -> u32
+    requires { count ≤ length chunks.now.bytes }
     ensures { result ≡ count }
 {
+    let _ = chunks.first();
     count as u32
 }
 
 /// Copies the source to the offset.
-fn put(chunk: &mut Chunk, offset: usize, source: &[u8])
-    requires { offset + length source.now ≤ length chunk.old }
-    ensures before { take (offset + length source.now) chunk.new
-        ≡ take offset chunk.old ++ source.now }
-    ensures behind { drop (offset + length source.now) chunk.new
-        ≡ drop (offset + length source.now) chunk.old }
-    ensures size { length chunk.new ≡ length chunk.old }
-    ensures chunk { IsChunk chunk.new }
+fn put(chunks: &mut Chunks, offset: usize, source: &[u8])
+    requires { offset + length source.now ≤ length chunks.old.bytes }
+    ensures before { take (offset + length source.now) chunks.new.bytes
+        ≡ take offset chunks.old.bytes ++ source.now }
+    ensures behind { drop (offset + length source.now) chunks.new.bytes
+        ≡ drop (offset + length source.now) chunks.old.bytes }
+    ensures size { length chunks.new.bytes ≡ length chunks.old.bytes }
+    ensures need { need_in chunks.new ≡ need_in chunks.old }
+    ensures are { AreChunks chunks.new }
 {
-    chunk.write_at(offset, source);
+    chunks.write_at(offset, source);
 }
 
 /// Writes the header. What is behind it stays.
-fn put_header(chunk: &mut Chunk, header: Header)
-    requires { 48 ≤ length chunk.old }
-    ensures value { header_in chunk.new ≡ header }
+fn put_header(chunks: &mut Chunks, header: Header)
+    requires { 48 ≤ length chunks.old.bytes }
+    ensures value { header_in chunks.new.bytes ≡ header }
     ensures latest { header.updated ≤ 2 ^ 62 }
-    ensures behind { drop 48 chunk.new ≡ drop 48 chunk.old }
-    ensures size { length chunk.new ≡ length chunk.old }
-    ensures chunk { IsChunk chunk.new }
+    ensures behind { drop 48 chunks.new.bytes ≡ drop 48 chunks.old.bytes }
+    ensures size { length chunks.new.bytes ≡ length chunks.old.bytes }
+    ensures need { need_in chunks.new ≡ need_in chunks.old }
+    ensures are { AreChunks chunks.new }
 {
-    put(chunk, 0, &header.bytes());
+    put(chunks, 0, &header.bytes());
 }
 
-/// Writes an item into a chunk: the header, the key, and the block, which is `first` followed by `second`.
-pub(crate) fn write_item(chunk: &mut Chunk, header: Header, key: &[u8], first: &[u8], second: &[u8])
+/// Writes an item into chunks: the header, the key, and the block, which is `first` followed by `second`.
+pub(crate) fn write_item(
+    chunks: &mut Chunks,
+    header: Header,
+    key: &[u8],
+    first: &[u8],
+    second: &[u8],
+)
     requires short { length key.now ≤ longest_key }
     requires key_length { header.key_length ≡ length key.now }
     requires block_length { header.block_length ≡ length first.now + length second.now }
     requires room { header_size + length key.now + (length first.now + length second.now)
-        ≤ length chunk.old }
-    ensures value { item_in chunk.new ≡ record {
+        ≤ length chunks.old.bytes }
+    ensures value { item_in chunks.new ≡ record {
       hash = header.hash;
       key = key.now;
       flags = header.flags;
@@ -59,71 +89,113 @@ pub(crate) fn write_item(chunk: &mut Chunk, header: Header, key: &[u8], first: &
       block = first.now ++ second.now;
       unique = header.unique;
       updated = header.updated;
-      class = chunk_class chunk.old;
+      class = chunks.old.class;
+      count = chunks.old.count;
     } }
-    ensures holds { HoldsItem chunk.new }
+    ensures holds { HoldsItem chunks.new }
 {
-    put_header(chunk, header);
+    put_header(chunks, header);
     let block = HEADER + key.len();
-    put(chunk, HEADER, key);
-    put(chunk, block, first);
-    put(chunk, block + first.len(), second);
+    put(chunks, HEADER, key);
+    put(chunks, block, first);
+    put(chunks, block + first.len(), second);
 }
 
-/// Writes an item into a chunk, but for the bytes of its block: those stay as the chunk has them.
-pub(crate) fn write_head(chunk: &mut Chunk, header: Header, key: &[u8])
+/// Writes an item into chunks, but for the bytes of its block: those stay as the chunks have them.
+pub(crate) fn write_head(chunks: &mut Chunks, header: Header, key: &[u8])
     requires short { length key.now ≤ longest_key }
     requires key_length { header.key_length ≡ length key.now }
-    requires room { header_size + length key.now + header.block_length ≤ length chunk.old }
-    ensures value { item_in chunk.new ≡ record {
+    requires room { header_size + length key.now + header.block_length ≤ length chunks.old.bytes }
+    ensures value { item_in chunks.new ≡ record {
       hash = header.hash;
       key = key.now;
       flags = header.flags;
       expiry = header.expiry;
-      block = block_in chunk.new;
+      block = block_in chunks.new.bytes;
       unique = header.unique;
       updated = header.updated;
-      class = chunk_class chunk.old;
+      class = chunks.old.class;
+      count = chunks.old.count;
     } }
-    ensures length { length (block_in chunk.new) ≡ header.block_length }
-    ensures holds { HoldsItem chunk.new }
+    ensures length { length (block_in chunks.new.bytes) ≡ header.block_length }
+    ensures holds { HoldsItem chunks.new }
 {
-    put_header(chunk, header);
-    put(chunk, HEADER, key);
+    put_header(chunks, header);
+    put(chunks, HEADER, key);
 }
 
-/// The block of the item in a chunk becomes the number's digits.
-pub(crate) fn write_number(chunk: &mut Chunk, number: u64, unique: u64, updated: Moment)
-    requires item { HoldsItem chunk.old }
-    requires room { header_size + key_length_in chunk.old + length (decimal number)
-        ≤ length chunk.old }
-    ensures value { item_in chunk.new ≡ record (item_in chunk.old) {
+/// Copies a part into the block of the item in chunks. All else stays.
+pub(crate) fn write_block(chunks: &mut Chunks, at: usize, part: &[u8])
+    requires item { HoldsItem chunks.old }
+    requires room { at + length part.now ≤ block_length_in chunks.old.bytes }
+    ensures value { item_in chunks.new ≡ record (item_in chunks.old) {
+      block = with_part (block_in chunks.old.bytes) at part.now;
+    } }
+    ensures holds { HoldsItem chunks.new }
+{
+    let start = HEADER + key_length_in(front(chunks)) as usize;
+    put(chunks, start + at, part);
+}
+
+/// The block of the item in chunks becomes the number's digits.
+pub(crate) fn write_number(chunks: &mut Chunks, number: u64, unique: u64, updated: Moment)
+    requires item { HoldsItem chunks.old }
+    requires room { header_size + key_length_in chunks.old.bytes + length (decimal number)
+        ≤ length chunks.old.bytes }
+    ensures value { item_in chunks.new ≡ record (item_in chunks.old) {
       block = decimal number;
       unique = unique;
       updated = updated;
     } }
-    ensures holds { HoldsItem chunk.new }
+    ensures holds { HoldsItem chunks.new }
 {
     let mut buffer = Buffer::new();
     let digits = buffer.format(number).as_bytes();
-    let old = Header::read(chunk.bytes());
+    let old = Header::read(front(chunks));
     let header = Header {
         unique,
         updated,
         block_length: digits.len() as u32,
         ..old
     };
-    put_header(chunk, header);
-    put(chunk, HEADER + old.key_length as usize, digits);
+    put_header(chunks, header);
+    put(chunks, HEADER + old.key_length as usize, digits);
 }
 
-/// The item in a chunk expires then.
-pub(crate) fn write_expiry(chunk: &mut Chunk, expiry: Expiry)
-    requires { HoldsItem chunk.old }
-    ensures value { item_in chunk.new ≡ record (item_in chunk.old) { expiry = expiry } }
-    ensures holds { HoldsItem chunk.new }
+/// The item in chunks expires then.
+pub(crate) fn write_expiry(chunks: &mut Chunks, expiry: Expiry)
+    requires { HoldsItem chunks.old }
+    ensures value { item_in chunks.new ≡ record (item_in chunks.old) { expiry = expiry } }
+    ensures holds { HoldsItem chunks.new }
 {
-    let old = Header::read(chunk.bytes());
+    let old = Header::read(front(chunks));
     let header = Header { expiry, ..old };
-    put_header(chunk, header);
+    put_header(chunks, header);
+}
+
+/// The part of the block of the item in chunks that lies in the chunk at the place, the first at 0.
+pub(crate) fn part_of(chunks: &Chunks, at: usize) -> &[u8]
+    requires item { HoldsItem chunks.now }
+    requires place { at < chunks.now.count }
+    ensures value { slice_get (parts_of (item_in chunks.now)) at ≡ Some result.now }
+    ensures lone { chunks.now.count ≡ 1 → result.now ≡ block_in chunks.now.bytes }
+{
+    let first = front(chunks);
+    let start = HEADER + key_length_in(first) as usize;
+    let end = start + block_length_in(first) as usize;
+    if at == 0 {
+        return &first[start..usize::min(end, first.len())];
+    }
+    let chunk = chunks.part(at);
+    let left = end.saturating_sub(at * chunk.len());
+    &chunk[..usize::min(left, chunk.len())]
+}
+
+/// Appends bytes to a vector that has room for them.
+pub(crate) fn append_reserved(out: &mut Vec<u8>, bytes: &[u8])
+    requires { length out.old.items + length bytes.now ≤ vec_capacity out.old }
+    ensures items { out.new.items ≡ out.old.items ++ bytes.now }
+    ensures room { vec_capacity out.old ≤ vec_capacity out.new }
+{
+    let _ = out.extend_from_slice(bytes);
 }

@@ -1,25 +1,49 @@
-ghost use Rattle.std.specs.Prelude.{◌≤◌, length, IfOk};
+ghost use Rattle.std.specs.Prelude.{◌≡◌, ◌≤◌, [], length, vec_capacity, IfOk};
+ghost use Rattle.mc_slab.specs.Needs.{size_in};
 
 use super::*;
-use mc_slab::{Chunk, Slab, class_of};
+use mc_slab::{Chunks, Need, Slab, need_of};
 use mc_time::{Expiry, Moment};
-use std::alloc::Global;
+use std::alloc::{AllocError, Global};
+use std::mem::size_of;
 use std::process::Abort;
 use std::test::*;
 
-/// A chunk that holds the charge. A run may refuse one allocation, so each call that takes memory is made twice.
-fn chunk_for(rt: &impl Abort, alloc: Global, charge: u64) -> Result<Chunk, Fail>
-    ensures { IfOk result (λ chunk. charge ≤ length chunk) }
+/// Chunks that hold the charge. A run may refuse one allocation, so each call that takes memory is made twice.
+fn chunks_for(rt: &impl Abort, alloc: Global, charge: u64) -> Result<Chunks, Fail>
+    ensures { IfOk result (λ chunks. charge ≤ length chunks.bytes) }
 {
-    let class = class_of(charge).expect(rt, "a class");
-    let mut slab = match Slab::new(alloc, 1) {
+    let need = need_of(charge).expect(rt, "a need");
+    let mut slab = match Slab::new(alloc, 8) {
         Ok(slab) => slab,
-        Err(_) => Slab::new(alloc, 1)?,
+        Err(_) => Slab::new(alloc, 8)?,
     };
-    match slab.take(alloc, class) {
-        Ok(chunk) => Ok(chunk),
-        Err(_) => Ok(slab.take(alloc, class)?),
+    match slab.take_all(alloc, need) {
+        Ok(chunks) => Ok(chunks),
+        Err(_) => Ok(slab.take_all(alloc, need)?),
     }
+}
+
+/// An empty vector with room for so many bytes.
+fn roomy(alloc: Global, count: usize) -> Result<Vec<u8>, AllocError>
+    ensures empty { IfOk result (λ bytes. bytes.items ≡ []) }
+    ensures room { IfOk result (λ bytes. count ≤ vec_capacity bytes) }
+{
+    match Vec::with_capacity(alloc, count) {
+        Ok(bytes) => Ok(bytes),
+        Err(_) => Vec::with_capacity(alloc, count),
+    }
+}
+
+/// Bytes that tell their places: each is the remainder of its place by 251.
+fn pattern(alloc: Global, count: usize) -> Result<Vec<u8>, AllocError>
+    ensures { IfOk result (λ bytes. length bytes.items ≡ count) }
+{
+    let mut bytes = roomy(alloc, count)?;
+    for place in 0..count {
+        bytes.push_reserved((place % 251) as u8);
+    }
+    Ok(bytes)
 }
 
 /// What an item has beside its key and its block.
@@ -40,7 +64,7 @@ const ZEROS: Numbers = Numbers {
     updated: 0,
 };
 
-/// The item of those parts, in the smallest chunk that holds it.
+/// The item of those parts, in the smallest chunks that hold it.
 fn item_of(
     rt: &impl Abort,
     alloc: Global,
@@ -50,8 +74,8 @@ fn item_of(
     numbers: Numbers,
 ) -> Result<Item, Fail> {
     let (k, f, s) = (key.len(), first.len(), second.len());
-    assert!(rt; k <= 250 && f <= 1000 && s <= 1000);
-    let chunk = chunk_for(rt, alloc, (48 + k + f + s) as u64)?;
+    assert!(rt; k <= 250 && f <= 4000000 && s <= 4000000);
+    let chunks = chunks_for(rt, alloc, (48 + k + f + s) as u64)?;
     let parts = Parts {
         hash: numbers.hash,
         key,
@@ -62,7 +86,30 @@ fn item_of(
         unique: numbers.unique,
         updated: Moment::from_seconds_at_most(numbers.updated),
     };
-    Ok(Item::write(chunk, parts))
+    Ok(Item::write(chunks, parts))
+}
+
+/// An item of one chunk has that block.
+fn is_block(rt: &impl Abort, item: &Item, block: &[u8]) {
+    assert_eq!(rt; item.parts(), 1);
+    assert!(rt; item.part(0) == block);
+}
+
+/// An item of any chunks has that block.
+fn joins_to(rt: &impl Abort, alloc: Global, item: &Item, block: &[u8]) -> Result<(), Fail> {
+    let mut out = Vec::new(alloc);
+    if item.append_to(&mut out).is_err() {
+        assert!(rt; out.as_slice().is_empty());
+        item.append_to(&mut out)?;
+    }
+    assert_eq!(rt; item.block_len(), block.len());
+    assert!(rt; out.as_slice() == block);
+    Ok(())
+}
+
+#[test]
+fn an_item_is_no_larger_than_two_words(rt: HostRuntime) {
+    assert_eq!(rt; size_of::<Item>(), 16);
 }
 
 #[test]
@@ -99,7 +146,7 @@ fn an_item_gives_back_its_parts(rt: HostRuntime) -> Result<(), Fail> {
     ] {
         let item = item_of(&rt, alloc, key, first, second, ZEROS)?;
         assert!(rt; item.key() == key);
-        assert!(rt; item.block() == block);
+        is_block(&rt, &item, block);
         assert_eq!(rt; item.charge(), (48 + key.len() + block.len()) as u64);
         assert_eq!(rt; item.class().number(), class);
     }
@@ -138,35 +185,43 @@ fn an_item_gives_back_its_numbers(rt: HostRuntime) -> Result<(), Fail> {
     Ok(())
 }
 
-/// The same, but for the bytes of its block, which are left to be written.
+/// An item of that key and those numbers, with a block of so many bytes that are left to be written.
 fn begun_of(
     rt: &impl Abort,
     alloc: Global,
     key: &[u8],
-    block: &[u8],
+    block_len: usize,
     numbers: Numbers,
-) -> Result<Item, Fail> {
-    let (k, b) = (key.len(), block.len());
-    assert!(rt; k <= 250 && b <= 1000);
-    let chunk = chunk_for(rt, alloc, (48 + k + b) as u64)?;
-    let parts = Parts {
+) -> Result<Item, Fail>
+    ensures { IfOk result (λ item. length item.block ≡ block_len) }
+{
+    let k = key.len();
+    assert!(rt; k <= 250 && block_len <= 8000000);
+    let chunks = chunks_for(rt, alloc, (48 + k + block_len) as u64)?;
+    let head = Head {
         hash: numbers.hash,
         key,
-        first: &[],
-        second: block,
         flags: numbers.flags,
         expiry: numbers.expiry,
         unique: numbers.unique,
         updated: Moment::from_seconds_at_most(numbers.updated),
     };
-    Ok(Item::begin(chunk, parts))
+    Ok(Item::begin(chunks, head, block_len))
 }
 
-/// Writes an item whole in its chunk.
+/// How many bytes the chunks have.
+fn room_of(need: Need) -> usize
+    ensures { result ≡ size_in need }
+{
+    need.count() as usize * need.class().size() as usize
+}
+
+/// Writes an item whole in its chunks.
 fn write_whole(rt: &impl Abort, item: &mut Item, key: &[u8], block: &[u8], numbers: Numbers) {
-    let room = item.class().size() as usize;
+    let room = room_of(item.need());
     let (k, b) = (key.len(), block.len());
-    assert!(rt; k <= 250 && b <= 1000 && 48 + k + b <= room);
+    assert!(rt; k <= 250 && b <= 4000000);
+    assert!(rt; 48 + k + b <= room);
     let parts = Parts {
         hash: numbers.hash,
         key,
@@ -191,7 +246,7 @@ fn has_head(rt: &impl Abort, item: &Item, key: &[u8], numbers: Numbers) {
 }
 
 #[test]
-fn an_item_is_begun_and_then_written(rt: HostRuntime) -> Result<(), Fail> {
+fn an_item_is_begun_and_then_filled(rt: HostRuntime) -> Result<(), Fail> {
     let alloc = rt.alloc();
     let longest = [b'k'; 250];
     let numbers = Numbers {
@@ -208,23 +263,37 @@ fn an_item_is_begun_and_then_written(rt: HostRuntime) -> Result<(), Fail> {
         (b"eightkey", &longest[..41], 2),
         (&longest, b"ab", 6),
     ] {
-        let mut item = begun_of(&rt, alloc, key, block, numbers)?;
+        let mut item = begun_of(&rt, alloc, key, block.len(), numbers)?;
         has_head(&rt, &item, key, numbers);
-        assert_eq!(rt; item.block().len(), block.len());
         assert_eq!(rt; item.class().number(), class);
-        write_whole(&rt, &mut item, key, block, numbers);
-        let written = item_of(&rt, alloc, key, b"", block, numbers)?;
+        item.fill(0, block);
         has_head(&rt, &item, key, numbers);
-        has_head(&rt, &written, key, numbers);
-        assert!(rt; item.block() == block && written.block() == block);
-        assert_eq!(rt; item.class().number(), written.class().number());
+        is_block(&rt, &item, block);
     }
+    Ok(())
+}
+
+#[test]
+fn other_parts_take_the_place_of_an_item(rt: HostRuntime) -> Result<(), Fail> {
+    let alloc = rt.alloc();
+    let mut item = item_of(&rt, alloc, b"key", b"a longer ", b"block", ZEROS)?;
+    let numbers = Numbers {
+        hash: 11,
+        flags: 7,
+        expiry: Expiry::At(5),
+        unique: 3,
+        updated: 4,
+    };
+    write_whole(&rt, &mut item, b"another", b"block", numbers);
+    has_head(&rt, &item, b"another", numbers);
+    is_block(&rt, &item, b"block");
+    assert_eq!(rt; item.class().number(), 1);
     Ok(())
 }
 
 /// Writes the number at second 9, as the unique number 2.
 fn rewrite(rt: &impl Abort, item: &mut Item, number: u64) {
-    let room = item.class().size() as usize;
+    let room = room_of(item.need());
     let key = item.key().len();
     assert!(rt; 68 + key <= room);
     item.rewrite_number(number, 2, Moment::from_seconds(9));
@@ -248,7 +317,7 @@ fn a_number_takes_the_place_of_a_block(rt: HostRuntime) -> Result<(), Fail> {
         };
         let mut item = item_of(&rt, alloc, b"number", block, b"", numbers)?;
         rewrite(&rt, &mut item, number);
-        assert!(rt; item.block() == digits);
+        is_block(&rt, &item, digits);
         assert!(rt; item.key() == b"number".as_slice());
         assert_eq!(rt; item.hash(), 11);
         assert_eq!(rt; item.flags(), 7);
@@ -276,7 +345,7 @@ fn an_expiry_is_set_alone(rt: HostRuntime) -> Result<(), Fail> {
     ] {
         item.set_expiry(expiry);
         assert!(rt; item.expiry() == expiry);
-        assert!(rt; item.block() == b"block".as_slice());
+        is_block(&rt, &item, b"block");
         assert_eq!(rt; item.hash(), 11);
         assert_eq!(rt; item.unique(), 3);
         assert_eq!(rt; item.updated().seconds(), 4);
@@ -294,15 +363,72 @@ fn an_item_is_one_run_of_its_chunk(rt: HostRuntime) -> Result<(), Fail> {
         updated: 0x3837363534333231,
     };
     let item = item_of(&rt, rt.alloc(), b"key", b"blo", b"ck", numbers)?;
-    let chunk = item.into_chunk();
+    let chunks = item.into_chunks();
     let run = [
         0x41, 0x42, 0x43, 0x44, 0x45, 0x46, 0x47, 0x48, 1, 2, 3, 4, 1, 0, 0, 0, 0x11, 0x12, 0x13,
         0x14, 0x15, 0x16, 0x17, 0x18, 0x21, 0x22, 0x23, 0x24, 0x25, 0x26, 0x27, 0x28, 0x31, 0x32,
         0x33, 0x34, 0x35, 0x36, 0x37, 0x38, 3, 0, 0, 0, 5, 0, 0, 0, b'k', b'e', b'y', b'b', b'l',
         b'o', b'c', b'k',
     ];
-    assert_eq!(rt; chunk.bytes().len(), 96);
-    let front: Vec<u8> = chunk.bytes().iter().take(56).copied().collect(rt.alloc())?;
+    assert_eq!(rt; chunks.first().len(), 96);
+    let front: Vec<u8> = chunks.first().iter().take(56).copied().collect(rt.alloc())?;
     assert!(rt; front.as_slice() == run.as_slice());
     Ok(())
+}
+
+/// The parts of an item of three chunks have these lengths.
+fn has_lengths(rt: &impl Abort, item: &Item, lengths: [usize; 3]) {
+    assert_eq!(rt; item.class().number(), 40);
+    assert_eq!(rt; item.parts(), 3);
+    assert_eq!(rt; item.part(0).len(), lengths[0]);
+    assert_eq!(rt; item.part(1).len(), lengths[1]);
+    assert_eq!(rt; item.part(2).len(), lengths[2]);
+}
+
+#[test]
+fn a_large_block_lies_in_several_chunks(rt: HostRuntime) -> Result<(), Fail> {
+    let alloc = rt.alloc();
+    let block = pattern(alloc, 3000000)?;
+    let (first, second) = block.as_slice().split_at(1000000);
+    let item = item_of(&rt, alloc, b"key", first, second, ZEROS)?;
+    has_head(&rt, &item, b"key", ZEROS);
+    has_lengths(&rt, &item, [1048525, 1048576, 902899]);
+    joins_to(&rt, alloc, &item, block.as_slice())
+}
+
+#[test]
+fn a_number_takes_the_place_of_a_large_block(rt: HostRuntime) -> Result<(), Fail> {
+    let alloc = rt.alloc();
+    let block = pattern(alloc, 3000000)?;
+    let mut item = item_of(&rt, alloc, b"key", b"", block.as_slice(), ZEROS)?;
+    rewrite(&rt, &mut item, 18446744073709551615);
+    has_lengths(&rt, &item, [20, 0, 0]);
+    joins_to(&rt, alloc, &item, b"18446744073709551615")
+}
+
+#[test]
+fn a_large_block_is_filled_across_chunks(rt: HostRuntime) -> Result<(), Fail> {
+    let alloc = rt.alloc();
+    let block = pattern(alloc, 3000000)?;
+    let mut item = begun_of(&rt, alloc, b"key", 3000000, ZEROS)?;
+    let (first, second) = block.as_slice().split_at(700000);
+    item.fill(700000, second);
+    item.fill(0, first);
+    has_head(&rt, &item, b"key", ZEROS);
+    has_lengths(&rt, &item, [1048525, 1048576, 902899]);
+    joins_to(&rt, alloc, &item, block.as_slice())
+}
+
+#[test]
+fn a_large_block_is_filled_from_another(rt: HostRuntime) -> Result<(), Fail> {
+    let alloc = rt.alloc();
+    let block = pattern(alloc, 3000000)?;
+    let (first, second) = block.as_slice().split_at(700000);
+    let other = item_of(&rt, alloc, b"other", b"", second, ZEROS)?;
+    let mut item = begun_of(&rt, alloc, b"key", 3000000, ZEROS)?;
+    assert_eq!(rt; other.block_len(), 2300000);
+    item.fill_from(700000, &other);
+    item.fill(0, first);
+    has_head(&rt, &item, b"key", ZEROS);
+    joins_to(&rt, alloc, &item, block.as_slice())
 }

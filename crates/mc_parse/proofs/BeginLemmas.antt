@@ -1,5 +1,6 @@
 -- Bytes begin with a unit, or no front of them spells anything.
-use Rattle.std.proofs.Common.{◌≡◌, ◌<◌, ◌≤◌, ◌+◌, ℕ, true, false, ◌⊎◌, inl, inr, List, [], ◌∷◌, ◌++◌, length, take, drop, refl, sym, ap, ◌∙◌, subst, arith, Result, Ok, Err, Option, Some, None, length-append, length-drop, if◌then◌else◌}
+use Rattle.std.proofs.Common.{◌≡◌, ◌<◌, ◌≤◌, ◌+◌, ℕ, true, false, ◌⊎◌, inl, inr, List, [], ◌∷◌, ◌++◌, length, take, drop, refl, sym, ap, ◌∙◌, subst, arith, Result, Ok, Err, Option}
+use Rattle.std.proofs.Common.{Some, None, length-append, length-drop, if◌then◌else◌}
 use Rattle.std.proofs.Math.Seq.{take-append_seam, take-append-add}
 use Rattle.std.proofs.lemmas.Bool.{cases_eq, cases_lt}
 use Rattle.std.proofs.lemmas.List.{take_all, take-append-drop, length-take, length-take-le, append_assoc}
@@ -46,7 +47,8 @@ line_here bytes text after parts none short =
 -- what a line and a block complete is spelled by them
 stored_spelled : (greatest : ℕ) (head : Line) (block ended front : List ℕ) → SpellsLine greatest (stored head block ended) front → Spells greatest (stored head block ended) front
 stored_spelled greatest head block ended front =
-    elim (bytes_eq ended (13 ∷ 10 ∷ [])) as (λ b. SpellsLine greatest (if b then Request (with_block head block) else Fault BadChunk) front → Spells greatest (if b then Request (with_block head block) else Fault BadChunk) front) [
+    elim (bytes_eq ended (13 ∷ 10 ∷ [])) as
+    (λ b. SpellsLine greatest (if b then Request (with_block head block) else Fault BadChunk) front → Spells greatest (if b then Request (with_block head block) else Fault BadChunk) front) [
       | true ↦ λ h. h
       | false ↦ λ h. h
     ]
@@ -66,18 +68,25 @@ module _ (greatest : ℕ) (bytes : List ℕ) (end : ℕ) (inside : end < length 
         end + 1 + (len + 2),
         record {
           within = omega (arith, length-drop (end + 1) bytes);
-          spelled = stored_spelled greatest head (take len rest) (take 2 (drop len rest)) (take (end + 1 + (len + 2)) bytes) (spells_block greatest bytes end line head len rest (take len rest) (take 2 (drop len rest)) _ is its refl enough refl refl refl);
+          spelled =
+              stored_spelled greatest head (take len rest) (take 2 (drop len rest)) (take (end + 1 + (len + 2)) bytes)
+              (spells_block greatest bytes end line head len rest (take len rest) (take 2 (drop len rest)) _ is its refl enough refl refl refl);
         },
       )
 
   begins_by : (head : Line) (its : Option ℕ) → said ≡ Ok head → block_in head ≡ its → Begins greatest bytes
   begins_by head None is its =
       let whole : CompletesBy (block_in head) head [] (Request (with_block head [])) = subst (λ n. CompletesBy n head [] (Request (with_block head []))) (sym its) (refl, refl) in
-      inr (Request (with_block head []), end + 1, record { within = omega arith; spelled = spells_bare greatest bytes end line (Request (with_block head [])) (subst (λ m. Completes m [] (Request (with_block head []))) (sym is) whole) })
+      inr (
+        Request (with_block head []),
+        end + 1,
+        record { within = omega arith; spelled = spells_bare greatest bytes end line (Request (with_block head [])) (subst (λ m. Completes m [] (Request (with_block head []))) (sym is) whole) },
+      )
   begins_by head (Some len) is its = begins_block head len is its (cases_lt (length (drop (end + 1) bytes)) (len + 2))
 
   begins_said : (m : Result Line LineFault) → said ≡ m → Begins greatest bytes
-  begins_said (Err fault) is = inr (Fault fault, end + 1, record { within = omega arith; spelled = spells_bare greatest bytes end line (Fault fault) (subst (λ m. Completes m [] (Fault fault)) (sym is) (refl, refl)) })
+  begins_said (Err fault) is =
+      inr (Fault fault, end + 1, record { within = omega arith; spelled = spells_bare greatest bytes end line (Fault fault) (subst (λ m. Completes m [] (Fault fault)) (sym is) (refl, refl)) })
   begins_said (Ok head) is = begins_by head (block_in head) is refl
 
   begins_line : Begins greatest bytes
@@ -91,7 +100,8 @@ begins_free greatest bytes none (inr long) = inr (LongLine, 65537, record { with
 begins_from : (greatest : ℕ) (bytes : List ℕ) → NoFeed (take 65537 bytes) ⊎ FirstFeed (take 65537 bytes) → Begins greatest bytes
 begins_from greatest bytes (inl none) = begins_free greatest bytes none (cases_lt (length bytes) 65537)
 begins_from greatest bytes (inr first) =
-    let parts : bytes ≡ first.text ++ 10 ∷ (first.after ++ drop 65537 bytes) = sym (take-append-drop 65537 bytes) ∙ ap (λ k. k ++ drop 65537 bytes) first.parts ∙ append_assoc first.text (10 ∷ first.after) (drop 65537 bytes) in
+    let parts : bytes ≡ first.text ++ 10 ∷ (first.after ++ drop 65537 bytes) = sym (take-append-drop 65537 bytes) ∙ ap (λ k. k ++ drop 65537 bytes) first.parts
+    ∙ append_assoc first.text (10 ∷ first.after) (drop 65537 bytes) in
     let inside : length first.text < length bytes = omega (arith, ap length parts, length-append first.text (10 ∷ (first.after ++ drop 65537 bytes))) in
     let short : length first.text ≤ 65536 = omega (arith, ap length first.parts, length-append first.text (10 ∷ first.after), length-take 65537 bytes) in
     begins_line greatest bytes (length first.text) inside (line_here bytes first.text (first.after ++ drop 65537 bytes) parts first.one_line short)

@@ -1,5 +1,6 @@
 -- A note of the turns that were taken fits the bytes: before the first turn, one turn on, and behind the last key.
-use Rattle.std.proofs.Common.{◌≡◌, ◌==◌, ◌≤◌, ◌+◌, ◌-◌, if◌then◌else◌, ℕ, Bool, true, false, List, [], ◌∷◌, ◌++◌, length, take, drop, refl, sym, ap, ◌∙◌, arith, ℤ, Option, Some, None, Result, Ok, Err, length-append, length-drop}
+use Rattle.std.proofs.Common.{◌≡◌, ◌==◌, ◌≤◌, ◌+◌, ◌-◌, if◌then◌else◌, ℕ, Bool, true, false, List, [], ◌∷◌, ◌++◌, length, take, drop, refl, sym, ap, ◌∙◌, arith, ℤ, Option, Some}
+use Rattle.std.proofs.Common.{None, Result, Ok, Err, length-append, length-drop}
 use Rattle.std.proofs.Math.Seq.{take-append_seam}
 use Rattle.std.proofs.lemmas.List.{append-nil, drop-drop, take-take, take-append-le, length-take, length-take-le, take_all}
 use Rattle.std.specs.Str.Lines.{strip_carriage_return}
@@ -40,7 +41,8 @@ retrieval_whole None keys with_unique = refl
 retrieval_whole (Some exptime) keys with_unique = refl
 
 -- one turn further, where the first word of the text and what is before it take n bytes
-module _ (cursor : Cursor) (bytes text : List ℕ) (n left : ℕ) (is_text : text ≡ text_left cursor bytes) (inside : n ≤ length text) (rest : words (drop n text) ≡ drop 1 (words text)) (one_less : left ≡ cursor.left - 1) where
+module _ (cursor : Cursor) (bytes text : List ℕ) (n left : ℕ) (is_text : text ≡ text_left cursor bytes) (inside : n ≤ length text)
+    (rest : words (drop n text) ≡ drop 1 (words text)) (one_less : left ≡ cursor.left - 1) where
   abbrev next : Cursor
   next = record cursor { taken = cursor.taken + 1; from = cursor.from + n; left = left }
 

@@ -39,7 +39,9 @@ none_yet greatest passed cursor ahead bytes kept some =
     subst (BeginsWithNone greatest) (sym nothing) (record { none = none_in greatest [] tt (omega arith) })
 
 -- what was found is what is left, where turns leave it whole
-pub left_found : (greatest taken passed : ℕ) (bytes : List ℕ) (found : Option (ProtocolUnit × ℕ)) → IfSome found (λ p. (passed ≡ 0) × IsSpelled greatest p bytes) → ((unit : ProtocolUnit) (len : ℕ) → IsSpelled greatest (unit, len) bytes → left_of unit taken ≡ unit) → IfSome found (λ p. (passed ≡ 0) × IsLeft greatest taken p bytes)
+pub left_found : (greatest taken passed : ℕ) (bytes : List ℕ) (found : Option (ProtocolUnit × ℕ))
+    → IfSome found (λ p. (passed ≡ 0) × IsSpelled greatest p bytes)
+    → ((unit : ProtocolUnit) (len : ℕ) → IsSpelled greatest (unit, len) bytes → left_of unit taken ≡ unit) → IfSome found (λ p. (passed ≡ 0) × IsLeft greatest taken p bytes)
 left_found greatest taken passed bytes None h whole = tt
 left_found greatest taken passed bytes (Some (unit, len)) h whole = (h.0, record { unit = unit; spelled = h.1; left = sym (whole unit len h.1) })
 
@@ -86,7 +88,8 @@ cursor_pushed greatest None bytes more is = tt
 cursor_pushed greatest (Some cursor) bytes more is = points_more greatest cursor bytes more is
 
 -- A piece has come of which the first bytes, so many, are passed over.
-module _ (passed skipped : ℕ) (bytes piece kept : List ℕ) (settled : (passed ≡ 0) ⊎ (bytes ≡ [])) (behind : kept ≡ drop skipped piece) (all : length piece ≤ passed → skipped ≡ length piece) (some : passed ≤ length piece → skipped ≡ passed) where
+module _ (passed skipped : ℕ) (bytes piece kept : List ℕ) (settled : (passed ≡ 0) ⊎ (bytes ≡ [])) (behind : kept ≡ drop skipped piece)
+    (all : length piece ≤ passed → skipped ≡ length piece) (some : passed ≤ length piece → skipped ≡ passed) where
   no_bytes : bytes ≡ [] → (passed < length piece) ⊎ (length piece ≤ passed) → (passed - skipped ≡ 0) ⊎ (bytes ++ kept ≡ [])
   no_bytes none (inl less) = inl (omega (arith, some))
   no_bytes none (inr more) = inr (ap (λ b. b ++ kept) none ∙ behind ∙ drop_of_length-le piece (omega (arith, all more)))
@@ -122,7 +125,8 @@ module _ (passed skipped : ℕ) (bytes piece kept : List ℕ) (settled : (passed
   view_pushed greatest new is = rw (is, count_is, kept_is) refl
 
 -- a unit was read, and so many of the bytes that it passes over have come
-pub view_read : (greatest : ℕ) (u : Unread) (old new : List ℕ) (len passed dropped : ℕ) → u ≡ unread greatest 0 old → new ≡ drop (len + dropped) old → len ≤ length old → (passed ≤ length old - len → dropped ≡ passed) → (length old - len ≤ passed → dropped ≡ length old - len) → unread greatest (passed - dropped) new ≡ read u len passed
+pub view_read : (greatest : ℕ) (u : Unread) (old new : List ℕ) (len passed dropped : ℕ) → u ≡ unread greatest 0 old → new ≡ drop (len + dropped) old
+    → len ≤ length old → (passed ≤ length old - len → dropped ≡ passed) → (length old - len ≤ passed → dropped ≡ length old - len) → unread greatest (passed - dropped) new ≡ read u len passed
 view_read greatest u old new len passed dropped is behind inside some all =
     let left : length (drop len old) ≡ length old - len = length-drop len old in
     let count : passed - dropped ≡ passed - length (drop len old) = elim (cases_lt passed (length old - len)) as (λ _. passed - dropped ≡ passed - length (drop len old)) [

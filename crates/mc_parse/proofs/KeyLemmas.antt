@@ -30,7 +30,8 @@ line_is None line rest command h = let e = h.1 in ([], cc)
 line_is (Some len) line rest command h = (h.0, stored_is line h.0 h.1 command h.5)
 
 -- a command that is completed is that of the line, with its block
-pub command_is : (m : Result Line LineFault) (rest : List ℕ) (command : Command) → Completes m rest (Request command) → (line : Line) × (m ≡ Ok line) × (block : List ℕ) × (command ≡ with_block line block)
+pub command_is : (m : Result Line LineFault) (rest : List ℕ) (command : Command) → Completes m rest (Request command) → (line : Line) × (m ≡ Ok line)
+    × (block : List ℕ) × (command ≡ with_block line block)
 command_is (Err fault) rest command h = let e = h.1 in absurd (cc)
 command_is (Ok line) rest command h = let its = line_is (block_in line) line rest command h in (line, refl, its.0, its.1)
 
@@ -58,7 +59,8 @@ keys_left (Alone lone) taken short = short
 pub left_keys : (command : Command) (taken : ℕ) → HasShortKeys command → HasShortKeys (after_steps command taken)
 left_keys command taken short = subst (λ its. All IsShortStep (steps_by its)) (sym (after_steps-shape command taken)) (keys_left (shape command) taken short)
 
-left_command : (greatest taken : ℕ) (bytes : List ℕ) (unit : ProtocolUnit) (command : Command) (len : ℕ) → IsSpelled greatest (unit, len) bytes → Request command ≡ left_of unit taken → HasShortKeys command
+left_command : (greatest taken : ℕ) (bytes : List ℕ) (unit : ProtocolUnit) (command : Command) (len : ℕ) → IsSpelled greatest (unit, len) bytes
+    → Request command ≡ left_of unit taken → HasShortKeys command
 left_command greatest taken bytes (Request whole) command len is left =
     let same : after_steps whole taken ≡ command = cc in
     subst HasShortKeys same (left_keys whole taken (spelled_keys greatest whole len bytes is))
@@ -66,13 +68,15 @@ left_command greatest taken bytes (Fault fault) command len is left = absurd (cc
 left_command greatest taken bytes LongLine command len is left = absurd (cc)
 
 -- so the keys of what was found are short
-pub found_keys : (greatest passed : ℕ) (bytes : List ℕ) (found : Option (ProtocolUnit × ℕ)) → IfSome found (λ p. (passed ≡ 0) × IsSpelled greatest p bytes) → (command : Command) (len : ℕ) → found ≡ Some (Request command, len) → HasShortKeys command
+pub found_keys : (greatest passed : ℕ) (bytes : List ℕ) (found : Option (ProtocolUnit × ℕ)) → IfSome found (λ p. (passed ≡ 0) × IsSpelled greatest p bytes)
+    → (command : Command) (len : ℕ) → found ≡ Some (Request command, len) → HasShortKeys command
 found_keys greatest passed bytes found is command len e =
     let h : (passed ≡ 0) × IsSpelled greatest (Request command, len) bytes = subst (λ o. IfSome o (λ p. (passed ≡ 0) × IsSpelled greatest p bytes)) e is in
     spelled_keys greatest command len bytes h.1
 
 -- and so they are where it is what is left of a unit
-pub left_found_keys : (greatest taken passed : ℕ) (bytes : List ℕ) (found : Option (ProtocolUnit × ℕ)) → IfSome found (λ p. (passed ≡ 0) × IsLeft greatest taken p bytes) → (command : Command) (len : ℕ) → found ≡ Some (Request command, len) → HasShortKeys command
+pub left_found_keys : (greatest taken passed : ℕ) (bytes : List ℕ) (found : Option (ProtocolUnit × ℕ))
+    → IfSome found (λ p. (passed ≡ 0) × IsLeft greatest taken p bytes) → (command : Command) (len : ℕ) → found ≡ Some (Request command, len) → HasShortKeys command
 left_found_keys greatest taken passed bytes found is command len e =
     let h : (passed ≡ 0) × IsLeft greatest taken (Request command, len) bytes = subst (λ o. IfSome o (λ p. (passed ≡ 0) × IsLeft greatest taken p bytes)) e is in
     left_command greatest taken bytes h.1.unit command len h.1.spelled h.1.left

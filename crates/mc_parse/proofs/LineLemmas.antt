@@ -12,7 +12,8 @@ use Rattle.mc_command.specs.Words.{words, is_nonempty}
 use Rattle.mc_command.specs.Numbers.{number_up_to, is_numeral}
 use Rattle.mc_command.specs.Commands.{HasShortKeys, key_of}
 use Rattle.mc_command.specs.declared.step.KeyStep.{KeyStep}
-use Rattle.mc_command.specs.declared.step.KeyStep.TheVariants.{Store as StoreStep, Cas as CasStep, Read as ReadStep, ReadTouch as ReadTouchStep, Touch as TouchStep, Delete as DeleteStep, Count as CountStep, Flush as FlushStep}
+use Rattle.mc_command.specs.declared.step.KeyStep.TheVariants.{Store as StoreStep, Cas as CasStep, Read as ReadStep, ReadTouch as ReadTouchStep, Touch as TouchStep}
+use Rattle.mc_command.specs.declared.step.KeyStep.TheVariants.{Delete as DeleteStep, Count as CountStep, Flush as FlushStep}
 use Rattle.mc_command.specs.declared.lone.Lone.{Lone}
 use Rattle.mc_command.specs.declared.step.Verb.{Verb}
 use Rattle.mc_command.specs.Commands.{Command}
@@ -20,9 +21,11 @@ use Rattle.mc_command.specs.declared.command.CommandOf.TheVariants.{FlushAll}
 use Rattle.mc_command.specs.declared.fault.LineFault.{LineFault}
 use Rattle.mc_command.specs.declared.fault.LineFault.TheVariants.{Unknown, BadFormat, BadDelta, TooLarge}
 use Rattle.mc_parse.specs.declared.name.Name.{Name}
-use Rattle.mc_parse.specs.declared.name.Name.TheVariants.{Store as StoreName, Cas as CasName, Get as GetName, GetTouch as GetTouchName, Touch as TouchName, Delete as DeleteName, Count as CountName, FlushAll as FlushName, Lone as LoneName}
+use Rattle.mc_parse.specs.declared.name.Name.TheVariants.{Store as StoreName, Cas as CasName, Get as GetName, GetTouch as GetTouchName, Touch as TouchName, Delete as DeleteName}
+use Rattle.mc_parse.specs.declared.name.Name.TheVariants.{Count as CountName, FlushAll as FlushName, Lone as LoneName}
 use Rattle.mc_parse.specs.Exptimes.{exptime_of, delay_of}
-use Rattle.mc_parse.specs.Lines.{Line, ◌>>=◌, formed, is_key, key_formed, keys_formed, ending, delete_ending, delayed, fitting, name_of, store_line, cas_line, get_line, get_touch_line, touch_line, delete_line, count_line, flush_line, lone_line, named_line, meaning, IsWord, IsKey, IsKeyed, HasKeys}
+use Rattle.mc_parse.specs.Lines.{Line, ◌>>=◌, formed, is_key, key_formed, keys_formed, ending, delete_ending, delayed, fitting, name_of, store_line, cas_line, get_line}
+use Rattle.mc_parse.specs.Lines.{get_touch_line, touch_line, delete_line, count_line, flush_line, lone_line, named_line, meaning, IsWord, IsKey, IsKeyed, HasKeys}
 use Rattle.mc_parse.specs.Units.{with_block}
 use Rattle.mc_parse.proofs.LineWords.{words_are_words}
 

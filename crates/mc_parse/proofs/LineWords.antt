@@ -35,5 +35,6 @@ some_byte (b ∷ word) h = omega arith
 pub words_are_words : (text : List ℕ) → All (λ b. b ≢ 10) text → All IsWord (words text)
 words_are_words text held k d inside =
     let parts : AllByRecursion (AllByRecursion IsWordByte) (slice_split is_space text) = parts-hold IsWordByte text (bytes-hold text (recursion_from_All (λ b. b ≢ 10) text held)) in
-    let kept : All (AllByRecursion IsWordByte) (words text) = All-filter is_nonempty (AllByRecursion IsWordByte) (slice_split is_space text) (All-from_recursion (AllByRecursion IsWordByte) (slice_split is_space text) parts) in
+    let kept : All (AllByRecursion IsWordByte) (words text) =
+    All-filter is_nonempty (AllByRecursion IsWordByte) (slice_split is_space text) (All-from_recursion (AllByRecursion IsWordByte) (slice_split is_space text) parts) in
     (some_byte _ (filter_passes is_nonempty (slice_split is_space text) k d inside), All-from_recursion IsWordByte _ (kept k d inside))

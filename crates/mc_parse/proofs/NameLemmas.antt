@@ -6,10 +6,12 @@ use Rattle.std.specs.Str.{bytes_eq}
 use Rattle.mc_parse.specs.declared.name.Name.{Name}
 use Rattle.mc_parse.specs.Lines.{named}
 
-pub named_found : {R : Type 0} (bytes_of : R → List ℕ) (rows : List (R × Name)) (word : List ℕ) → option_map (λ row. row.1) (find (λ row. bytes_eq (bytes_of row.0) word) rows) ≡ named bytes_of rows word
+pub named_found : {R : Type 0} (bytes_of : R → List ℕ) (rows : List (R × Name)) (word : List ℕ)
+    → option_map (λ row. row.1) (find (λ row. bytes_eq (bytes_of row.0) word) rows) ≡ named bytes_of rows word
 named_found bytes_of [] word = refl
 named_found bytes_of (row ∷ rows) word =
-    elim (bytes_eq (bytes_of row.0) word) as (λ b. option_map (λ row. row.1) (if b then Some row else find (λ row. bytes_eq (bytes_of row.0) word) rows) ≡ (if b then Some row.1 else named bytes_of rows word)) [
+    elim (bytes_eq (bytes_of row.0) word) as
+    (λ b. option_map (λ row. row.1) (if b then Some row else find (λ row. bytes_eq (bytes_of row.0) word) rows) ≡ (if b then Some row.1 else named bytes_of rows word)) [
       | true ↦ refl
       | false ↦ named_found bytes_of rows word
     ]

@@ -1,5 +1,6 @@
 -- What is noted of a line is what it says.
-use Rattle.std.proofs.Common.{◌≡◌, ◌<◌, ◌≤◌, ◌+◌, ◌-◌, ℕ, ℤ, Bool, List, [], ◌∷◌, ◌++◌, length, take, drop, refl, sym, ap, ◌∙◌, subst, arith, Result, Ok, Err, Option, Some, None, IfSome, length-drop, length-append}
+use Rattle.std.proofs.Common.{◌≡◌, ◌<◌, ◌≤◌, ◌+◌, ◌-◌, ℕ, ℤ, Bool, List, [], ◌∷◌, ◌++◌, length, take, drop, refl, sym, ap, ◌∙◌, subst, arith, Result, Ok, Err, Option, Some, None}
+use Rattle.std.proofs.Common.{IfSome, length-drop, length-append}
 use Rattle.std.proofs.lemmas.List.{drop-drop, take-take, take-append-le, length-take, length-take-le, take-append-drop}
 use Rattle.std.specs.Result.{IfOk}
 use Rattle.std.specs.Str.Lines.{strip_carriage_return}
@@ -40,10 +41,12 @@ pub says_text : (greatest : ℕ) (note : Note) (bytes : List ℕ) → IsNoted gr
 says_text greatest note bytes is = ap (λ t. meaning greatest (words t)) (sym is.text) ∙ sym is.says
 
 -- a line that is read is noted
-pub noted : (greatest : ℕ) (bytes line text : List ℕ) (end : ℕ) (found : Result Noted LineFault) → end < length bytes → IsLine (take (end + 1) bytes) (take end bytes) → line ≡ take end bytes → text ≡ strip_carriage_return line
+pub noted : (greatest : ℕ) (bytes line text : List ℕ) (end : ℕ) (found : Result Noted LineFault) → end < length bytes
+    → IsLine (take (end + 1) bytes) (take end bytes) → line ≡ take end bytes → text ≡ strip_carriage_return line
     → said text found ≡ meaning greatest (words text) → IfOk found (λ noted. Fits noted text) → IsNoted greatest (record { to = length text; end = end; said = found }) bytes
 noted greatest bytes line text end found inside is_line line_is text_is says fits =
-    let short : length text ≤ end = omega (arith, ap length text_is, ap length (stripped_is line), length-take (length (strip_carriage_return line)) line, ap length line_is, length-take-le end bytes (omega arith)) in
+    let short : length text ≤ end =
+    omega (arith, ap length text_is, ap length (stripped_is line), length-take (length (strip_carriage_return line)) line, ap length line_is, length-take-le end bytes (omega arith)) in
     let front : take (length text) bytes ≡ text =
     sym (take-take (length text) end bytes short) ∙ ap (take (length text)) (sym line_is) ∙ ap (λ n. take n line) (ap length text_is) ∙ stripped_is line ∙ sym text_is in
     record {
@@ -86,13 +89,15 @@ abbrev pub SaysNoKeys : Result Noted LineFault → Type 0
 SaysNoKeys (Ok noted) = retrieval_in noted ≡ None
 SaysNoKeys (Err fault) = Unit {0}
 
-whole_said : (found : Result Noted LineFault) (text : List ℕ) (line : Line) (block : List ℕ) (taken : ℕ) → said text found ≡ Ok line → SaysNoKeys found → after_steps (with_block line block) taken ≡ with_block line block
+whole_said : (found : Result Noted LineFault) (text : List ℕ) (line : Line) (block : List ℕ) (taken : ℕ) → said text found ≡ Ok line → SaysNoKeys found
+    → after_steps (with_block line block) taken ≡ with_block line block
 whole_said (Err fault) text line block taken is none = absurd (cc)
 whole_said (Ok noted) text line block taken is none =
     let same : read text noted ≡ line = cc in
     subst (λ l. after_steps (with_block l block) taken ≡ with_block l block) same (whole_line noted text block taken none)
 
-pub noted_whole : (greatest : ℕ) (note : Note) (bytes : List ℕ) (unit : ProtocolUnit) (len taken : ℕ) → IsNoted greatest note bytes → SaysNoKeys note.said → IsSpelled greatest (unit, len) bytes → left_of unit taken ≡ unit
+pub noted_whole : (greatest : ℕ) (note : Note) (bytes : List ℕ) (unit : ProtocolUnit) (len taken : ℕ) → IsNoted greatest note bytes → SaysNoKeys note.said
+    → IsSpelled greatest (unit, len) bytes → left_of unit taken ≡ unit
 noted_whole greatest note bytes (Fault fault) len taken is none h = refl
 noted_whole greatest note bytes LongLine len taken is none h = refl
 noted_whole greatest note bytes (Request command) len taken is none h =
@@ -101,14 +106,16 @@ noted_whole greatest note bytes (Request command) len taken is none h =
     ap Request (subst (λ k. after_steps k taken ≡ k) (sym its.3) (whole_said note.said (take note.to bytes) its.0 its.2 taken its.1 none))
 
 -- a line without a block is all of its command
-pub spells_alone : (greatest : ℕ) (bytes : List ℕ) (end : ℕ) (line : Line) → end < length bytes → IsLine (take (end + 1) bytes) (take end bytes) → Says greatest bytes end (Ok line) → block_in line ≡ None → IsSpelled greatest (Request (with_block line []), end + 1) bytes
+pub spells_alone : (greatest : ℕ) (bytes : List ℕ) (end : ℕ) (line : Line) → end < length bytes → IsLine (take (end + 1) bytes) (take end bytes)
+    → Says greatest bytes end (Ok line) → block_in line ≡ None → IsSpelled greatest (Request (with_block line []), end + 1) bytes
 spells_alone greatest bytes end line inside is_line says none =
     let whole : CompletesBy (block_in line) line [] (Request (with_block line [])) = subst (λ n. CompletesBy n line [] (Request (with_block line []))) (sym none) (refl, refl) in
     record { within = omega arith; spelled = spells_bare greatest bytes end is_line (Request (with_block line [])) (subst (λ m. Completes m [] (Request (with_block line []))) (sym says) whole) }
 
 -- the cursor before the first turn of a retrieval
 first_at : (greatest : ℕ) (note : Note) (bytes : List ℕ) (exptime : Option ℤ) (keys : KeySpan) (with_unique : Bool) → IsNoted greatest note bytes → FitIn keys (take note.to bytes)
-    → IsSpelled greatest (Request (retrieval exptime (keys_at (take note.to bytes) keys) with_unique), note.end + 1) bytes → IsFirst greatest (first_cursor keys note.to (note.end + 1) with_unique exptime) bytes
+    → IsSpelled greatest (Request (retrieval exptime (keys_at (take note.to bytes) keys) with_unique), note.end + 1) bytes
+    → IsFirst greatest (first_cursor keys note.to (note.end + 1) with_unique exptime) bytes
 first_at greatest note bytes exptime keys with_unique is fits h = (
   record {
     within = record { ordered = omega (arith, fits.0, length-take note.to bytes); inside = omega (arith, is.inside, is.within); counted = fits.1 };
@@ -136,7 +143,8 @@ cursor_of greatest note bytes (GetTouch exptime keys with_unique) its is =
     (spells_alone greatest bytes note.end line is.inside is.line (says_text greatest note bytes is ∙ ap (said text) its) refl)
 cursor_of greatest note bytes noted its is = tt
 
-pub first_noted : (greatest : ℕ) (note : Note) (bytes : List ℕ) (noted : Noted) (asked : Option ℤ × KeySpan × Bool) → note.said ≡ Ok noted → retrieval_in noted ≡ Some asked → IsNoted greatest note bytes
+pub first_noted : (greatest : ℕ) (note : Note) (bytes : List ℕ) (noted : Noted) (asked : Option ℤ × KeySpan × Bool) → note.said ≡ Ok noted
+    → retrieval_in noted ≡ Some asked → IsNoted greatest note bytes
     → IsFirst greatest (first_cursor asked.1 note.to (note.end + 1) asked.2 asked.0) bytes
 first_noted greatest note bytes noted asked its is_asked is =
     subst (λ o. IfSome o (λ asked. IsFirst greatest (first_cursor asked.1 note.to (note.end + 1) asked.2 asked.0) bytes)) is_asked (cursor_of greatest note bytes noted its is)

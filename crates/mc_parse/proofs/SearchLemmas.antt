@@ -26,7 +26,8 @@ feed_free xs n le none =
     none k (omega arith) inside (eq-eqb _ _ (sym (get_or-take n xs k 0 inside) ∙ get_or_default (take n xs) k 0 d h ∙ is)))
 
 -- Of the first n bytes so many hold no line feed, and the rest of them is searched.
-module _ (bytes front rest : List ℕ) (n searched start : ℕ) (is_front : front ≡ take n bytes) (le : n ≤ length bytes) (is_rest : rest ≡ drop start front) (inside : start ≤ n) (known : start ≤ searched) (none : NoFeed (take searched bytes)) where
+module _ (bytes front rest : List ℕ) (n searched start : ℕ) (is_front : front ≡ take n bytes) (le : n ≤ length bytes) (is_rest : rest ≡ drop start front)
+    (inside : start ≤ n) (known : start ≤ searched) (none : NoFeed (take searched bytes)) where
   rest_len : length rest + start ≡ n
   rest_len = omega (arith, ap length is_rest, length-drop start front, ap length is_front, length-take-le n bytes le)
 

@@ -1,5 +1,6 @@
 -- No spelling begins another.
-use Rattle.std.proofs.Common.{◌≡◌, ◌≢◌, ◌<◌, ◌≤◌, ◌+◌, ℕ, List, [], ◌∷◌, ◌++◌, length, take, drop, refl, sym, ap, ◌∙◌, subst, arith, Result, Ok, Err, append_assoc, length-append, Option, Some, None, IfSome}
+use Rattle.std.proofs.Common.{◌≡◌, ◌≢◌, ◌<◌, ◌≤◌, ◌+◌, ℕ, List, [], ◌∷◌, ◌++◌, length, take, drop, refl, sym, ap, ◌∙◌, subst, arith, Result, Ok, Err, append_assoc, length-append}
+use Rattle.std.proofs.Common.{Option, Some, None, IfSome}
 use Rattle.std.proofs.lemmas.List.{append-nil, take-append-drop, length-drop, length-take-le}
 use Rattle.std.proofs.Math.Seq.{take-add}
 use Rattle.std.specs.List.{AllByRecursion}
@@ -130,9 +131,12 @@ module _ (greatest : ℕ) (bytes : List ℕ) (end : ℕ) (line : IsLine (take (e
   }
 
   -- with a block and two bytes more it spells a set or a fault
-  pub spells_block : (head : Line) (len : ℕ) (rest block ended : List ℕ) (unit : ProtocolUnit) → meant ≡ Ok head → block_in head ≡ Some len → rest ≡ drop (end + 1) bytes → len + 2 ≤ length rest → block ≡ take len rest → ended ≡ take 2 (drop len rest) → unit ≡ stored head block ended → SpellsLine greatest unit (take (end + 1 + (len + 2)) bytes)
+  pub spells_block : (head : Line) (len : ℕ) (rest block ended : List ℕ) (unit : ProtocolUnit) → meant ≡ Ok head → block_in head ≡ Some len
+      → rest ≡ drop (end + 1) bytes → len + 2 ≤ length rest → block ≡ take len rest → ended ≡ take 2 (drop len rest) → unit ≡ stored head block ended
+      → SpellsLine greatest unit (take (end + 1 + (len + 2)) bytes)
   spells_block head len rest block ended unit is its r enough b e u =
-      spells_line unit (len + 2) (subst (λ m. Completes m (take (len + 2) (drop (end + 1) bytes)) unit) (sym is) (subst (λ n. CompletesBy n head (take (len + 2) (drop (end + 1) bytes)) unit) (sym its) (
+      spells_line unit (len + 2)
+      (subst (λ m. Completes m (take (len + 2) (drop (end + 1) bytes)) unit) (sym is) (subst (λ n. CompletesBy n head (take (len + 2) (drop (end + 1) bytes)) unit) (sym its) (
         block,
         ended,
         ap (take (len + 2)) (sym r) ∙ take-add len 2 rest ∙ ap (λ k. k ++ take 2 (drop len rest)) (sym b) ∙ ap (λ k. block ++ k) (sym e),
@@ -141,7 +145,8 @@ module _ (greatest : ℕ) (bytes : List ℕ) (end : ℕ) (line : IsLine (take (e
         u,
       )))
 
-  none_of : (unit : ProtocolUnit) (front more : List ℕ) (head : Line) (len : ℕ) → meant ≡ Ok head → block_in head ≡ Some len → length (drop (end + 1) bytes) < len + 2 → bytes ≡ front ++ more → SpellsLine greatest unit front → ⊥
+  none_of : (unit : ProtocolUnit) (front more : List ℕ) (head : Line) (len : ℕ) → meant ≡ Ok head → block_in head ≡ Some len
+      → length (drop (end + 1) bytes) < len + 2 → bytes ≡ front ++ more → SpellsLine greatest unit front → ⊥
   none_of unit front more head len is its few e h =
       let both = sym at_feed ∙ e ∙ parted front h.line h.text h.rest more h.parts h.is_line.ended in
       let t = same_text (take end bytes) h.text (drop (end + 1) bytes) (h.rest ++ more) line.one_line h.is_line.one_line both in
@@ -157,7 +162,8 @@ module _ (greatest : ℕ) (bytes : List ℕ) (end : ℕ) (line : IsLine (take (e
       (h.rest, subst (λ s. Completes (meaning greatest (words (strip_carriage_return s))) h.rest unit) (sym t.0) h.completes)
 
   -- where a block is still to come, no front spells anything
-  none_at : (head : Line) (len : ℕ) → meant ≡ Ok head → block_in head ≡ Some len → length (drop (end + 1) bytes) < len + 2 → (unit : ProtocolUnit) (front more : List ℕ) → bytes ≡ front ++ more → Spells greatest unit front → ⊥
+  none_at : (head : Line) (len : ℕ) → meant ≡ Ok head → block_in head ≡ Some len → length (drop (end + 1) bytes) < len + 2
+      → (unit : ProtocolUnit) (front more : List ℕ) → bytes ≡ front ++ more → Spells greatest unit front → ⊥
   none_at head len is its few LongLine front more e h =
       long_text (take end bytes) front (drop (end + 1) bytes) more line.one_line h.1 (omega (arith, line.short, h.0)) (sym at_feed ∙ e)
   none_at head len is its few (Request c) front more e h = none_of (Request c) front more head len is its few e h
@@ -180,7 +186,8 @@ none_in greatest bytes none short (Request c) front more e h = no_line bytes h.t
 none_in greatest bytes none short (Fault f) front more e h = no_line bytes h.text (h.rest ++ more) none (e ∙ parted front h.line h.text h.rest more h.parts h.is_line.ended)
 
 -- whatever else a front spells is what was found
-pub found_only : (greatest : ℕ) (bytes : List ℕ) (found : Option (ProtocolUnit × ℕ)) → IfSome found (λ p. IsSpelled greatest p bytes) → (found ≡ None → BeginsWithNone greatest bytes) → (unit : ProtocolUnit) (len : ℕ) → IsSpelled greatest (unit, len) bytes → found ≡ Some (unit, len)
+pub found_only : (greatest : ℕ) (bytes : List ℕ) (found : Option (ProtocolUnit × ℕ)) → IfSome found (λ p. IsSpelled greatest p bytes)
+    → (found ≡ None → BeginsWithNone greatest bytes) → (unit : ProtocolUnit) (len : ℕ) → IsSpelled greatest (unit, len) bytes → found ≡ Some (unit, len)
 found_only greatest bytes None is none unit len h = absurd ((none refl).none unit (take len bytes) (drop len bytes) (sym (take-append-drop len bytes)) h.spelled)
 found_only greatest bytes (Some (u, n)) is none unit len h =
     let q = same_spelling greatest u unit (take n bytes) (take len bytes) (drop n bytes) (drop len bytes) is.spelled h.spelled (take-append-drop n bytes ∙ sym (take-append-drop len bytes)) in

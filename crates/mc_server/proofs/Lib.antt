@@ -1,2 +1,2 @@
-mod AskedLemmas
 pub mod RunLemmas
+pub mod Sent

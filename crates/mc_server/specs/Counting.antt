@@ -4,8 +4,8 @@ use Rattle.mc_command.specs.declared.step.KeyStep.{KeyStep}
 use Rattle.mc_command.specs.declared.step.KeyStep.TheVariants.{Store, Cas, Read, ReadTouch, Touch, Delete, Count, Flush as FlushStep}
 use Rattle.mc_workers.specs.declared.tally.Outcome.{Outcome}
 use Rattle.mc_workers.specs.declared.tally.Outcome.TheVariants as outcome
-use Rattle.mc_server.specs.declared.metrics.counts.Counted.{Counted}
-use Rattle.mc_server.specs.declared.metrics.counts.Counted.TheVariants.{GetHit, GetMiss, SetStored, SetNotStored, CasHit, CasMiss, CasBadval, DeleteHit, DeleteMiss, IncrHit, IncrMiss, DecrHit, DecrMiss, TouchHit, TouchMiss, Flush, Refused, Received, Sent}
+use Rattle.mc_metrics.specs.declared.counts.Counted.{Counted}
+use Rattle.mc_metrics.specs.declared.counts.Counted.TheVariants.{GetHit, GetMiss, SetStored, SetNotStored, CasHit, CasMiss, CasBadval, DeleteHit, DeleteMiss, IncrHit, IncrMiss, DecrHit, DecrMiss, TouchHit, TouchMiss, Flush, Refused}
 use Rattle.mc_server.specs.declared.connection.Parting.{Parting}
 use Rattle.mc_server.specs.declared.connection.Parting.TheVariants as parting
 
@@ -46,28 +46,6 @@ counted_by ways outcome.TooLarge = None
 -- as what a step counts that came out so
 abbrev pub counted_as : KeyStep → Outcome → Option Counted
 counted_as step out = counted_by (ways_of step) out
-
--- the place of what is counted, among all
-abbrev pub place_of : Counted → ℕ
-place_of GetHit = 0
-place_of GetMiss = 1
-place_of SetStored = 2
-place_of SetNotStored = 3
-place_of CasHit = 4
-place_of CasMiss = 5
-place_of CasBadval = 6
-place_of DeleteHit = 7
-place_of DeleteMiss = 8
-place_of IncrHit = 9
-place_of IncrMiss = 10
-place_of DecrHit = 11
-place_of DecrMiss = 12
-place_of TouchHit = 13
-place_of TouchMiss = 14
-place_of Flush = 15
-place_of Refused = 16
-place_of Received = 17
-place_of Sent = 18
 
 -- the place of a reason for which a connection is closed, among all
 abbrev pub parting_place : Parting → ℕ

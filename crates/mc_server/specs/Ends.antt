@@ -1,11 +1,11 @@
 -- What the shell is told of an end of the program, and what is said on standard error.
-use Rattle.std.specs.Prelude.{◌≡◌, ◌⊎◌, ℕ, List, Option, Some, None, Ok, Err, codes}
+use Rattle.std.specs.Prelude.{◌≡◌, ◌⊎◌, ℕ, Bool, true, List, Option, Some, None, Ok, Err, codes}
 use Rattle.std.specs.declared.net.ip_addr.IpAddr.{IpAddr}
 use Rattle.mc_session.specs.declared.serving.ServeFault.TheVariants as fault
 use Rattle.mc_server.specs.declared.end.Obstacle.{Obstacle}
 use Rattle.mc_server.specs.declared.end.Obstacle.TheVariants.{Taken, NotAllowed, NotHere, NoDescriptor, Other}
 use Rattle.mc_server.specs.declared.end.Refusal.{Refusal}
-use Rattle.mc_server.specs.declared.options.ScrapePlace.{ScrapePlace}
+use Rattle.mc_options.specs.declared.options.ScrapePlace.{ScrapePlace}
 use Rattle.mc_server.specs.declared.end.End.{End}
 use Rattle.mc_server.specs.declared.end.End.TheVariants as end
 
@@ -14,6 +14,7 @@ abbrev pub status_of : End → ℕ
 status_of (end.Served (Ok _)) = 0
 status_of (end.Served (Err _)) = 1
 status_of (end.CannotListen _) = 1
+status_of end.Stopped = 0
 status_of end.BadCommandLine = 2
 status_of end.BadShelves = 2
 status_of end.NotText = 2
@@ -29,6 +30,7 @@ text_of (end.Served (Err fault.Read)) = codes "mcserver: read fault"
 text_of (end.Served (Err fault.Write)) = codes "mcserver: write fault"
 text_of (end.Served (Err fault.NoMemory)) = codes "mcserver: out of memory"
 text_of (end.CannotListen _) = codes "mcserver: cannot listen"
+text_of end.Stopped = codes ""
 text_of end.BadCommandLine = codes ""
 text_of end.BadShelves = codes "mcserver: shelves must be a power of two"
 text_of end.NotText = codes "error: invalid UTF-8 was detected in one or more arguments"
@@ -65,10 +67,12 @@ EndsWithoutDoor scrapes (end.CannotListen it) = NamesScrapes scrapes it
 EndsWithoutDoor scrapes end.NoMemory = Unit {0}
 EndsWithoutDoor scrapes _ = ⊥
 
--- the ends of a program that was to listen there, and to answer scrapes there: it can't, and names the one
--- place or the other, memory ran out before the first connection, or the listener failed
-abbrev pub EndsListening : IpAddr → (port : ℕ) → Option ScrapePlace → End → Type 0
-EndsListening address port scrapes (end.CannotListen it) = Names address port it ⊎ NamesScrapes scrapes it
-EndsListening address port scrapes end.NoMemory = Unit {0}
-EndsListening address port scrapes (end.Served (Err fault.Read)) = Unit {0}
-EndsListening address port scrapes _ = ⊥
+-- the ends of a program that was to listen there, to answer scrapes there, and to end where it is asked to or
+-- not: it can't listen, and names the one place or the other, memory ran out before the first connection, the
+-- listener failed, or it may be asked to end, and was
+abbrev pub EndsListening : IpAddr → (port : ℕ) → Option ScrapePlace → (may_quit : Bool) → End → Type 0
+EndsListening address port scrapes may_quit (end.CannotListen it) = Names address port it ⊎ NamesScrapes scrapes it
+EndsListening address port scrapes may_quit end.NoMemory = Unit {0}
+EndsListening address port scrapes may_quit (end.Served (Err fault.Read)) = Unit {0}
+EndsListening address port scrapes may_quit end.Stopped = may_quit ≡ true
+EndsListening address port scrapes may_quit _ = ⊥

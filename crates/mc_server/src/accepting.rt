@@ -11,6 +11,9 @@ use std::{io, thread};
 /// How long it waits where the system has no room for a connection, in milliseconds.
 const PAUSE: u64 = 10;
 
+/// How often it looks, at such pauses, whether all connections are closed: for 5 seconds.
+const LOOKS: u64 = 500;
+
 /// The errors by which the system says that a descriptor is no listener: `EBADF`, `EINVAL`,
 /// `ENOTSOCK` and `EOPNOTSUPP` of accept(2). All others are of one connection, or of the moment.
 const LASTING: [i32; 4] = [9, 22, 88, 95];
@@ -18,14 +21,23 @@ const LASTING: [i32; 4] = [9, 22, 88, 95];
 /// The errors by which the system says that there is no descriptor: `ENFILE` and `EMFILE`.
 const NO_DESCRIPTOR: [i32; 2] = [23, 24];
 
+/// Why no more connections are accepted.
+#[derive(Clone, Copy, Debug, Drop)]
+enum Stop {
+    /// The listener has failed.
+    Failed,
+    /// The program was asked to end.
+    Asked,
+}
+
 /// What came of an accept.
 #[derive(Drop)]
 enum Came {
     Connection(Connection),
     /// One that was closed, or failed before it was accepted.
     Nothing,
-    /// The listener has failed.
-    Failed,
+    /// No more are to come.
+    Stop(Stop),
 }
 
 /// A listener, with a descriptor that is let go where there are none left: the connection that waits
@@ -40,8 +52,9 @@ struct Door {
     count: u64,
 }
 
-/// Accepts connections until the listener fails, and deals them to the workers turn about. One more than
-/// the crowd may have is told so, and closed.
+/// Accepts connections until the listener fails or the program is asked to end, and deals them to the workers
+/// turn about. One more than the crowd may have is told so, and closed. Where the
+/// program is asked to end, those that are open have 5 seconds at most to be closed.
 pub fn accept_all<R: Wait + Clock>(
     rt: &R,
     listener: TcpListener,
@@ -56,24 +69,35 @@ pub fn accept_all<R: Wait + Clock>(
         count: 0,
     };
     let mut turn = 0;
+    let mut stop = Stop::Failed;
     for _ in rt.forever() {
-        match door.accept(rt) {
+        match door.accept(rt, arrivals) {
             Came::Connection(connection) => {
                 turn = arrivals.deal(rt, connection, turn);
             }
             Came::Nothing => {}
-            Came::Failed => break,
+            Came::Stop(why) => {
+                stop = why;
+                break;
+            }
         }
+    }
+    if let Stop::Asked = stop {
+        door.close(rt);
     }
     arrivals.end();
 }
 
 impl Door {
-    /// Waits for the next connection.
-    fn accept<R: Clock>(&mut self, rt: &R) -> Came {
-        match self.listener.accept() {
+    /// Waits for the next connection. The one that comes where the program is asked to end is closed.
+    fn accept<R: Clock>(&mut self, rt: &R, arrivals: &Arrivals) -> Came {
+        let accepted = self.listener.accept();
+        if arrivals.begins_to_close() {
+            return Came::Stop(Stop::Asked);
+        }
+        match accepted {
             Ok((stream, peer)) => self.let_in(stream, peer),
-            Err(error) if is_one_of(&error, &LASTING) => Came::Failed,
+            Err(error) if is_one_of(&error, &LASTING) => Came::Stop(Stop::Failed),
             Err(error) if is_one_of(&error, &NO_DESCRIPTOR) && self.spare.is_some() => {
                 self.accept_by_spare()
             }
@@ -113,6 +137,24 @@ impl Door {
             return Came::Nothing;
         }
         Came::Connection(connection)
+    }
+
+    /// Listens no more, and waits until no connection is open, for 5 seconds at most.
+    fn close<R: Clock>(self, rt: &R) {
+        let Door {
+            listener,
+            spare,
+            crowd,
+            count: _,
+        } = self;
+        drop(listener);
+        drop(spare);
+        for _look in 0..LOOKS {
+            if crowd.open() == 0 {
+                return;
+            }
+            let _ = thread::sleep(rt, Duration::from_millis(PAUSE));
+        }
     }
 
     /// Counts a connection, of which no call waits.

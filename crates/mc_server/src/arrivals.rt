@@ -5,11 +5,14 @@ use crossbeam_queue::SegQueue;
 use mio::Waker;
 use std::alloc::{AllocError, Global};
 use std::sync::Wait;
-use std::sync::atomic::{AtomicBool, AtomicU64, Ordering};
+use std::sync::atomic::{AtomicBool, AtomicU32, AtomicU64, Ordering};
 use std::time::{Clock, Duration, Instant};
 
 /// How long a worker rests at most, in milliseconds: what is to be done once a second is done in time.
 const REST: u64 = 500;
+
+/// The same where the program is about to end.
+const SHORT_REST: u64 = 20;
 
 /// How long a connection waits for a worker that is busy until another takes it, in milliseconds.
 const PATIENCE: u64 = 10;
@@ -17,6 +20,18 @@ const PATIENCE: u64 = 10;
 /// The same where the worker was called and the system doesn't let it run: it will soon, and where others
 /// took its connections meanwhile, they would have more to do than it from then on.
 const LONG_PATIENCE: u64 = 250;
+
+/// What becomes of connections that come: they are accepted; they are, and the one who accepts is asked to
+/// stop; no more are accepted, and those that are open may end by themselves; all end.
+const OPEN: u32 = 0;
+
+const ASKED: u32 = 1;
+
+const CLOSING: u32 = 2;
+
+const OVER: u32 = 3;
+/// Likewise, as no more can be accepted.
+const FAILED: u32 = 4;
 
 /// The connections that were dealt to a worker and wait for it, and what calls it. There is no bound but
 /// that of the connections that may be open.
@@ -98,7 +113,7 @@ impl Inbox {
 #[derive(Drop)]
 pub struct Arrivals {
     inboxes: Vec<Inbox>,
-    is_over: AtomicBool,
+    phase: AtomicU32,
 }
 
 impl Arrivals {
@@ -106,7 +121,7 @@ impl Arrivals {
     pub fn new(inboxes: Vec<Inbox>) -> Arrivals {
         Arrivals {
             inboxes,
-            is_over: AtomicBool::new(false),
+            phase: AtomicU32::new(OPEN),
         }
     }
 
@@ -154,7 +169,7 @@ impl Arrivals {
     /// that was dealt to it, and shortly where others wait.
     pub fn begin_rest<R: Clock>(&self, rt: &R, share: &mut Share) -> Duration {
         let Some(own) = self.inboxes.get(share.worker) else {
-            return Duration::from_millis(REST);
+            return self.longest_rest();
         };
         own.rests.store(true, Ordering::SeqCst);
         if own.waits() {
@@ -163,7 +178,15 @@ impl Arrivals {
         if !self.is_still_there(share.seen) {
             share.seen = self.seen_waiting(rt);
         }
-        Duration::from_millis(if share.seen.is_some() { PATIENCE } else { REST })
+        if share.seen.is_some() {
+            return Duration::from_millis(PATIENCE);
+        }
+        self.longest_rest()
+    }
+
+    /// Gives how long one who has nothing to do rests at most, until it looks whether the program ends.
+    pub fn longest_rest(&self) -> Duration {
+        Duration::from_millis(if self.is_closing() { SHORT_REST } else { REST })
     }
 
     /// Tells that a worker rests no more.
@@ -202,17 +225,62 @@ impl Arrivals {
         None
     }
 
-    /// Tells that no more connections come, and calls all workers.
+    /// Asks the one who accepts to stop, who looks whether it is asked to behind each connection.
+    pub fn ask_to_close(&self) {
+        self.turn(OPEN, ASKED);
+    }
+
+    /// Takes that back, and returns whether it could: the one who accepts hadn't heard of it.
+    pub fn take_back(&self) -> bool {
+        self.turn(ASKED, OPEN)
+    }
+
+    /// Returns whether the one who accepts is asked to stop, and tells then that it does, and calls all
+    /// workers.
+    pub fn begins_to_close(&self) -> bool {
+        let begins = self.turn(ASKED, CLOSING);
+        if begins {
+            self.call_all();
+        }
+        begins
+    }
+
+    /// Tells that no more connections come and that all that are open end, and calls all workers.
     pub fn end(&self) {
-        self.is_over.store(true, Ordering::SeqCst);
+        if !self.turn(CLOSING, OVER) {
+            self.phase.store(FAILED, Ordering::SeqCst);
+        }
+        self.call_all();
+    }
+
+    /// Returns whether it is over since that was asked.
+    pub fn is_over_as_asked(&self) -> bool {
+        self.phase.load(Ordering::SeqCst) == OVER
+    }
+
+    /// Returns whether no more connections are accepted.
+    pub fn is_closing(&self) -> bool {
+        self.phase.load(Ordering::SeqCst) >= CLOSING
+    }
+
+    /// Returns whether no more connections come, and all that are open end.
+    pub fn is_over(&self) -> bool {
+        self.phase.load(Ordering::SeqCst) >= OVER
+    }
+
+    /// Goes from one phase to another, and returns whether it was in the one.
+    fn turn(&self, from: u32, to: u32) -> bool {
+        let turned = self
+            .phase
+            .compare_exchange(from, to, Ordering::SeqCst, Ordering::SeqCst);
+        turned.is_ok()
+    }
+
+    /// Calls all workers.
+    fn call_all(&self) {
         for inbox in &self.inboxes {
             let _ = inbox.waker.wake();
         }
-    }
-
-    /// Says whether no more connections come.
-    pub fn is_over(&self) -> bool {
-        self.is_over.load(Ordering::SeqCst)
     }
 }
 

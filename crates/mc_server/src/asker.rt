@@ -1,7 +1,7 @@
 //! A caller with its store.
 ghost use Rattle.std.specs.Prelude.{◌≡◌};
 
-use crate::links::SocketLinks;
+use crate::closing::ClosingLinks;
 use mc_hop::Fnv;
 use mc_shared::{Caller, Shared};
 use mc_slab::{Account, Class};
@@ -79,7 +79,7 @@ impl<'a> Asker<'a> {
         self,
         rt: &R,
         alloc: Global,
-        links: &mut SocketLinks<'_, R>,
+        links: &mut ClosingLinks<'_, R>,
         tally: &T,
         clock: &C,
         first: u32,

@@ -1,23 +1,14 @@
 //! A connection, and what the system last said of it.
-ghost use Rattle.std.specs.Io.{ReadsAtMost, WritesAtMost};
+ghost use Rattle.std.specs.Prelude.{◌≡◌, ◌≤◌, ◌+◌, length, IfOk};
+ghost use Rattle.std.specs.Io.{ReadsAtMost};
 
 use crate::connection::{Connection, Parting};
 use crate::metrics::{Counted, Counts};
-use std::alloc::Global;
+use mc_workers::{Got, Link, LinkFault, Took};
 use std::cell::Cell;
 use std::io::{self, ErrorKind, IoSlice, Read, Write};
 use std::rc::Rc;
 use std::sync::Arc;
-
-/// How many bytes are gathered at most before they are sent.
-const GATHERED: usize = 65536;
-
-/// From how many bytes on they aren't gathered, but sent at once from where they lie, with what was gathered before. To
-/// copy fewer costs less than a call of the system for each answer of a batch.
-const SENT_AT_ONCE: usize = 32768;
-
-/// How much memory is kept for them while nothing is gathered.
-const KEPT: usize = 16384;
 
 /// What the system said of a connection, since it was last asked.
 #[derive(Clone, Copy)]
@@ -51,8 +42,8 @@ impl Readiness {
     };
 }
 
-/// A connection of which no call waits. Its output is gathered, and sent before the next read or
-/// when there is much of it.
+/// A connection of which no call waits. Nobody can know which bytes reach a socket or leave it, so contracts
+/// see how often it failed, whether it is at its end, and whether it was last asked to give.
 ///
 /// A call says that it would block only after the system itself said so, by an error or by a count
 /// that was short, and then lowers the flag: from there on the system reports the next change, and the
@@ -61,53 +52,65 @@ impl Readiness {
 /// and an event that comes between a call and the next poll waits in the system, so none is lost.
 #[derive(Drop)]
 pub struct Channel {
+    wire: Wire,
+    faults: u64,
+    is_ended: bool,
+    was_read: bool,
+}
+
+/// A connection, with what is known and counted of it.
+#[derive(Drop)]
+struct Wire {
     connection: Connection,
     readiness: Rc<Cell<Readiness>>,
     /// How many bytes all channels of the worker moved.
     moved: Rc<Cell<usize>>,
     /// What the worker counts.
     counts: Arc<Counts>,
-    gathered: Vec<u8>,
 }
 
 impl Channel {
     /// Makes a channel of a connection that doesn't block, which adds what it moves to `moved`, and to
     /// what is counted. It takes no memory.
     pub fn new(
-        alloc: Global,
         connection: Connection,
         readiness: Rc<Cell<Readiness>>,
         moved: Rc<Cell<usize>>,
         counts: Arc<Counts>,
     ) -> Channel {
-        Channel {
+        let wire = Wire {
             connection,
             readiness,
             moved,
             counts,
-            gathered: Vec::new(alloc),
+        };
+        Channel {
+            wire,
+            faults: 0,
+            is_ended: false,
+            was_read: false,
         }
     }
 
-    /// Says whether there is nothing more to do: all output was sent, or the connection is to end.
-    pub fn is_done(&self) -> bool {
-        self.gathered.is_empty() || self.readiness.get().ends.is_some()
+    /// Says whether nothing more is to be sent: it failed, or is to end.
+    pub fn is_over(&self) -> bool {
+        self.faults > 0 || self.wire.readiness.get().ends.is_some()
     }
 
     /// Tells that the link is gone.
     pub fn leave(&self) {
-        self.readiness.set(Readiness {
+        self.wire.readiness.set(Readiness {
             leaves: true,
-            ..self.readiness.get()
+            ..self.wire.readiness.get()
         });
     }
+}
 
-    /// Reads into the piece, after all output was sent. `Ok(0)` is the end of the stream, and
-    /// `WouldBlock` that there is nothing now, or that the output isn't taken.
-    pub fn read(&mut self, piece: &mut [u8]) -> io::Result<usize>
+impl Wire {
+    /// Reads into the piece. `Ok(0)` is the end of the stream, and `WouldBlock` that there is nothing now.
+    fn read(&mut self, piece: &mut [u8]) -> io::Result<usize>
         ensures { ReadsAtMost result piece.new }
     {
-        self.flush()?;
         let known = self.readiness.get();
         if let Some(parting) = known.ends {
             self.connection.note(parting);
@@ -154,77 +157,52 @@ impl Channel {
         }
     }
 
-    /// Takes a front of the bytes. Fewer than 32768 are gathered where there is room; else they are sent,
-    /// with what was gathered before.
-    pub fn write(&mut self, bytes: &[u8]) -> io::Result<usize>
-        ensures { WritesAtMost result bytes.now }
+    /// Sends two texts, one behind the other, in one call, and says how many bytes were taken. `WouldBlock`
+    /// is that none is taken now.
+    fn write(&mut self, first: &[u8], second: &[u8]) -> io::Result<usize>
+        ensures { IfOk result (λ count. count ≤ length first.now + length second.now) }
     {
-        if bytes.len() < SENT_AT_ONCE
-            && self.gathered.len() <= GATHERED - bytes.len()
-            && self.gathered.extend_from_slice(bytes).is_ok()
-        {
-            return Ok(bytes.len());
+        if !self.readiness.get().writes {
+            return Err(self.later());
         }
-        match self.send(bytes)? {
-            0 => Err(self.later()),
-            count => Ok(count),
-        }
-    }
-
-    /// Sends what is gathered.
-    pub fn flush(&mut self) -> io::Result<()> {
-        if self.gathered.is_empty() {
-            return Ok(());
-        }
-        self.send(&[])?;
-        if self.gathered.is_empty() {
-            Ok(())
-        } else {
-            Err(self.later())
-        }
-    }
-
-    /// Sends what is gathered and then these bytes, in one call, and says how many of these were
-    /// taken.
-    fn send(&mut self, bytes: &[u8]) -> io::Result<usize>
-        ensures { WritesAtMost result bytes.now }
-    {
-        let known = self.readiness.get();
-        if !known.writes {
-            return Ok(0);
-        }
-        let before = self.gathered.len();
-        let sent = if bytes.is_empty() {
-            self.connection.stream.write(self.gathered.as_slice())
-        } else {
-            let parts = [IoSlice::new(self.gathered.as_slice()), IoSlice::new(bytes)];
-            self.connection.stream.write_vectored(&parts)
-        };
-        match sent {
+        match self.send(first, second) {
             Ok(count) => {
+                let all = first.len().saturating_add(second.len());
                 self.count(Counted::Sent, count);
-                if count < before.saturating_add(bytes.len()) {
-                    self.readiness.set(Readiness {
-                        writes: false,
-                        ..known
-                    });
+                if count < all {
+                    self.takes_no_more();
                 }
-                self.drop_sent(count);
-                Ok(count.saturating_sub(before).min(bytes.len()))
+                Ok(count.min(all))
             }
             Err(error) if error.kind() == ErrorKind::WouldBlock => {
-                self.readiness.set(Readiness {
-                    writes: false,
-                    ..known
-                });
-                Ok(0)
+                self.takes_no_more();
+                Err(self.later())
             }
             Err(error) => {
                 self.connection.note(Parting::WriteFault);
-                self.gathered.clear();
                 Err(error)
             }
         }
+    }
+
+    /// Asks the system to send two texts.
+    fn send(&mut self, first: &[u8], second: &[u8]) -> io::Result<usize> {
+        if first.is_empty() {
+            return self.connection.stream.write(second);
+        }
+        if second.is_empty() {
+            return self.connection.stream.write(first);
+        }
+        let parts = [IoSlice::new(first), IoSlice::new(second)];
+        self.connection.stream.write_vectored(&parts)
+    }
+
+    /// Notes that the system takes no more now.
+    fn takes_no_more(&self) {
+        self.readiness.set(Readiness {
+            writes: false,
+            ..self.readiness.get()
+        });
     }
 
     /// Counts bytes that were moved.
@@ -233,21 +211,9 @@ impl Channel {
         self.counts.add(counted, bytes as u64);
     }
 
-    /// Drops a front of what is gathered, which was sent.
-    fn drop_sent(&mut self, count: usize) {
-        if count < self.gathered.len() {
-            self.gathered.drain(..count);
-        } else {
-            self.gathered.clear();
-        }
-    }
-
     /// The error of a call that would block, after which the link is named at the next event. Where
     /// the connection is to end, there is no next.
     fn later(&mut self) -> io::Error {
-        if self.gathered.is_empty() && self.gathered.capacity() > KEPT {
-            self.gathered.shrink_to_fit();
-        }
         let known = self.readiness.get();
         if let Some(parting) = known.ends {
             self.connection.note(parting);
@@ -259,4 +225,63 @@ impl Channel {
         });
         io::Error::from(ErrorKind::WouldBlock)
     }
+}
+
+impl Link for Channel {
+    ghost use Rattle.std.specs.Prelude.{None};
+
+    ghost shown = { λ c. record {
+      given = None;
+      taken = None;
+      faults = c.faults;
+      is_ended = c.is_ended;
+      was_read = c.was_read;
+    } };
+
+    fn try_read(&mut self, piece: &mut [u8]) -> Result<Got, LinkFault> {
+        self.was_read = true;
+        if self.faults == u64::MAX || piece.is_empty() {
+            return Ok(Got::Later);
+        }
+        match self.wire.read(piece) {
+            Ok(0) => {
+                self.is_ended = true;
+                Ok(Got::End)
+            }
+            Ok(count) => Ok(Got::Bytes(count)),
+            Err(error) if is_later(&error) => Ok(Got::Later),
+            Err(_) => {
+                self.faults += 1;
+                Err(LinkFault)
+            }
+        }
+    }
+
+    fn try_write(&mut self, bytes: &[u8]) -> Result<Took, LinkFault> {
+        self.try_write_both(bytes, &[])
+    }
+
+    fn try_write_both(&mut self, first: &[u8], second: &[u8]) -> Result<Took, LinkFault> {
+        self.was_read = false;
+        if self.faults == u64::MAX {
+            return Ok(Took::Later);
+        }
+        match self.wire.write(first, second) {
+            Ok(count) => Ok(Took::Bytes(count)),
+            Err(error) if is_later(&error) => Ok(Took::Later),
+            Err(_) => {
+                self.faults += 1;
+                Err(LinkFault)
+            }
+        }
+    }
+
+    fn faults(&self) -> u64 {
+        self.faults
+    }
+}
+
+/// Says whether a call would have had to wait.
+fn is_later(error: &io::Error) -> bool {
+    error.kind() == ErrorKind::WouldBlock
 }

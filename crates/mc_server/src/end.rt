@@ -17,6 +17,8 @@ pub enum End {
     Served(Result<(), ServeFault>),
     /// It was to listen, and can't.
     CannotListen(Refusal),
+    /// It was asked to end, and did.
+    Stopped,
     /// The command line is bad, and `clap` has said why.
     BadCommandLine,
     /// The number of shelves that the command line asks for is no power of two.
@@ -66,7 +68,8 @@ impl Obstacle {
     /// Gives what stood in the way, by the system's error.
     pub fn of(error: &io::Error) -> Obstacle
         ensures taken { error_kind error.now ≡ io_kind.AddrInUse → result ≡ Obstacle.Taken }
-        ensures not_allowed { error_kind error.now ≡ io_kind.PermissionDenied → result ≡ Obstacle.NotAllowed }
+        ensures not_allowed { error_kind error.now ≡ io_kind.PermissionDenied
+            → result ≡ Obstacle.NotAllowed }
         ensures not_here { error_kind error.now ≡ io_kind.AddrNotAvailable → result ≡ Obstacle.NotHere }
         ensures others { error_kind error.now ≢ io_kind.AddrInUse
             → error_kind error.now ≢ io_kind.PermissionDenied
@@ -172,7 +175,7 @@ impl End {
     {
         match self {
             End::Served(answer) => ending(answer),
-            End::Shown => (0, ""),
+            End::Shown | End::Stopped => (0, ""),
             End::CannotListen(_) => (1, "mcserver: cannot listen"),
             End::BadCommandLine => (2, ""),
             End::BadShelves => (2, "mcserver: shelves must be a power of two"),

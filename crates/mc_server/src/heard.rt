@@ -1,7 +1,7 @@
 //! Who hears of the steps of a worker.
 
 use crate::full::Refusals;
-use crate::metrics::Counts;
+use crate::metrics::{Counts, counted_as};
 use mc_command::KeyStep;
 use mc_workers::{Outcome, Tally};
 
@@ -14,7 +14,9 @@ pub struct Heard<'a> {
 
 impl Tally for Heard<'_> {
     fn took(&self, step: &KeyStep<'_>, outcome: Outcome) {
-        self.counts.took(step, outcome);
+        if let Some(counted) = counted_as(step, outcome) {
+            self.counts.add(counted, 1);
+        }
         self.refusals.took(step, outcome);
     }
 }

@@ -201,8 +201,8 @@ impl<'a, R: Wait + Clock> SocketLinks<'a, R> {
         if registered.is_ok() {
             connection.note(Parting::SessionOver);
         }
-        let channel = Channel::new(self.alloc, connection, readiness, moved, counts);
-        let link = SocketLink::new(channel, at, yard);
+        let channel = Channel::new(connection, readiness, moved, counts);
+        let link = SocketLink::new(self.alloc, channel, at, yard);
         registered.ok()?;
         self.given = self.given.wrapping_add(1);
         Some(link)

@@ -6,6 +6,7 @@ use crate::accepting::accept_all;
 use crate::arrivals::{Arrivals, Inbox, Share};
 use crate::asker::Asker;
 use crate::clock::AskedClock;
+use crate::closing::ClosingLinks;
 use crate::connection::Crowd;
 use crate::descriptors::allowed;
 use crate::end::{End, Obstacle, Refusal};
@@ -13,9 +14,9 @@ use crate::full::Refusals;
 use crate::heard::Heard;
 use crate::links::{EVENTS, SocketLinks, WAKER};
 use crate::logger::{Log, Notice, write_lines};
-use crate::metrics::{Counts, Door, LONGEST, Observer, Teller, opened};
-use crate::options::Options;
+use crate::metrics::{Counts, Door, LONGEST, Observer, Quitter, Teller, opened};
 use mc_hop::Fnv;
+use mc_options::Options;
 use mc_session::ServeFault;
 use mc_shared::Shared;
 use mc_time::Clock;
@@ -94,37 +95,44 @@ impl From<AllocError> for Wanting {
 }
 
 /// Listens at the address and the port of the options, and serves the connections, so many at once, by so
-/// many workers over one store, by the clock that is asked for, until the listener fails; where scrapes are
-/// to be answered it does that, too. It ends at once where it can't listen at one of both, or memory runs
-/// out.
+/// many workers over one store, by the clock that is asked for, until the listener fails or, where that may
+/// be, it is asked to end; where scrapes are to be answered it does that, too. It ends at once where it can't
+/// listen at one of both, or memory runs out.
 pub fn listen<R, S>(rt: &R, stderr: Stderr, options: Options, clock: &AskedClock<S>) -> End
 where
     R: Net + Files + AllocGlobal + Wait + Threads + time::Clock + Sync,
     S: Clock + Sync,
     requires { clock.now.asked ≡ options.now }
-    ensures { EndsListening options.address options.port options.scrapes result }
+    ensures { EndsListening options.address options.port options.scrapes options.may_quit
+        result }
 {
-    let Options { address, port, .. } = options;
+    let Options {
+        address,
+        port,
+        may_quit,
+        ..
+    } = options;
     let door = match opened(rt, rt.alloc(), options.scrapes) {
         Ok(door) => door,
         Err(end) => return end,
     };
     match begin(rt, stderr, options, door, clock) {
-        Ok(()) => End::Served(Err(ServeFault::Read)),
+        Ok(true) if may_quit => End::Stopped,
+        Ok(_) => End::Served(Err(ServeFault::Read)),
         Err(Wanting::Listener(why)) => End::CannotListen(Refusal { address, port, why }),
         Err(Wanting::Memory) => End::NoMemory,
     }
 }
 
-/// Makes the listener, the store and the workers' posts, and serves until the listener fails; or says
-/// what was wanting.
+/// Makes the listener, the store and the workers' posts, serves until no more connections are accepted, and
+/// returns whether that was asked; or says what was wanting.
 fn begin<R, C>(
     rt: &R,
     stderr: Stderr,
     options: Options,
     door: Option<Door>,
     clock: &C,
-) -> Result<(), Wanting>
+) -> Result<bool, Wanting>
 where
     R: Net + Files + AllocGlobal + Wait + Threads + time::Clock + Sync,
     C: Clock + Sync,
@@ -150,7 +158,8 @@ where
         pages: options.settings.pages,
         since: Instant::now(rt).ok(),
     };
-    let teller = teller_of(alloc, door, observer)?;
+    let quitter = Quitter::new(&listener, options.may_quit)?;
+    let teller = teller_of(alloc, door, observer, quitter)?;
     let opening = Opening {
         listener,
         crowd,
@@ -163,7 +172,10 @@ where
         arrivals: &arrivals,
         log: &log,
     };
-    serve_by(rt, opening, teller, asker, clock)
+    match serve_by(rt, opening, teller, asker, clock) {
+        Ok(()) => Ok(arrivals.is_over_as_asked()),
+        Err(wanting) => Err(wanting),
+    }
 }
 
 /// Has no connections yet, of which the log is told where that is asked for. The one error is a refused
@@ -183,11 +195,13 @@ fn teller_of<'a>(
     alloc: Global,
     door: Option<Door>,
     observer: Observer<'a>,
+    quitter: Quitter,
 ) -> Result<Option<Teller<'a>>, AllocError> {
     match door {
         Some(door) => Ok(Some(Teller {
             door,
             observer,
+            quitter,
             buffer: vec![in alloc; 0u8; LONGEST]?,
         })),
         None => Ok(None),
@@ -272,8 +286,8 @@ fn watched<R: Net>(rt: &R) -> io::Result<(Poll, Waker)> {
     Ok((poll, waker))
 }
 
-/// Starts a worker at each post, who answers scrapes if somebody does, and who says that it listens, and
-/// accepts connections for them until the listener fails.
+/// Starts a worker at each post, who answers scrapes if somebody does, and who says that it listens, accepts
+/// connections for them until it is to stop.
 fn serve_by<R, C>(
     rt: &R,
     opening: Opening<'_>,
@@ -354,6 +368,7 @@ fn man<R: AllocGlobal + Wait + time::Clock, C: Clock>(
     arrivals.end_rest(&share);
     let mut links = SocketLinks::new(rt, alloc, arrivals, share, poll, events, moved);
     links.close_idle(idle_timeout);
+    let mut links = ClosingLinks::new(links, arrivals);
     let heard = Heard {
         counts: &counts,
         refusals: Refusals::new(log),

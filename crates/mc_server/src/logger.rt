@@ -4,9 +4,9 @@ use crate::asker::Asker;
 use crate::connection::Parting;
 use crate::full::{Asked, Full, Shortage, Stock};
 use crate::lines::{Line, Lines, Waiting};
-use crate::options::Options;
 use mc_command::KeyStep;
-use mc_slab::class_of;
+use mc_options::Options;
+use mc_slab::need_of;
 use std::alloc::{AllocError, Global};
 use std::io::{self, Stderr};
 use std::net::SocketAddr;
@@ -164,7 +164,7 @@ impl Logger<'_> {
     /// Gives what the class has that a chunk was asked of, where that is known.
     fn stock<R: Wait>(&mut self, rt: &R, asked: Asked) -> Option<Stock> {
         let class = match asked {
-            Asked::Size(size) => class_of(size)?,
+            Asked::Size(size) => need_of(size)?.class(),
             Asked::Growth => return None,
         };
         let account = self.asker.account(rt, class);

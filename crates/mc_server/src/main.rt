@@ -10,6 +10,7 @@ mod arrivals;
 mod asker;
 mod channel;
 mod clock;
+mod closing;
 mod connection;
 mod descriptors;
 mod end;
@@ -26,7 +27,6 @@ mod links;
 mod listening;
 mod logger;
 mod metrics;
-mod options;
 mod place;
 mod running;
 mod serving;
@@ -34,12 +34,11 @@ mod serving;
 mod tcp_tests;
 #[cfg(test)]
 mod tests;
-mod unserved;
 mod yard;
 
 use clap::error::ErrorKind;
 use end::End;
-use options::{Options, Unfit};
+use mc_options::{Options, Unfit};
 use running::run;
 use std::net::SocketAddr;
 use std::process::ExitCode;
@@ -56,7 +55,7 @@ fn main(rt: HostRuntime) -> ExitCode {
 /// What the command line asks for; or how the program ends without it.
 fn asked(rt: &HostRuntime) -> Result<Options, End> {
     let words = words(rt)?;
-    match options::parsed(rt.alloc(), words.as_slice()) {
+    match mc_options::parsed(rt.alloc(), words.as_slice()) {
         Ok(options) => Ok(options),
         Err(Unfit::Told(error)) => Err(End::of_options(&error, &printed(rt, &error))),
         Err(Unfit::Shelves) => Err(End::BadShelves),

@@ -1,16 +1,13 @@
 //! What is counted, and how whoever asks over HTTP is told of it.
 
-mod answer;
-mod counts;
+mod counting;
 mod door;
 mod families;
 mod observer;
-mod page;
-mod reading;
-mod request;
 mod scrape;
 
-pub use counts::{Counted, Counts};
+pub use counting::counted_as;
 pub use door::{Door, opened};
+pub use mc_metrics::{Counted, Counts, LONGEST};
 pub use observer::Observer;
-pub use scrape::{LONGEST, Teller};
+pub use scrape::{Quitter, Teller};

@@ -6,8 +6,8 @@ ghost use Rattle.mc_server.specs.Runs.{moments, IsSystemMoment, EndsServed};
 use crate::clock::AskedClock;
 use crate::end::End;
 use crate::listening::listen;
-use crate::options::Options;
 use crate::serving::serve;
+use mc_options::Options;
 use mc_time::SystemClock;
 use std::alloc::AllocGlobal;
 use std::fs::Files;
@@ -19,7 +19,7 @@ use std::time;
 
 /// Does what the command line asks for: with `--stdin` it serves one session over the reader and the
 /// writer, by the clock that is asked for; without, it listens at the address and the port by that clock,
-/// and answers scrapes where that is asked for, and neither reads nor writes here.
+/// answers scrapes where that is asked for, and ends where it may be asked to and is, and neither reads nor writes here.
 pub fn run<H, R, W>(rt: &H, stderr: Stderr, options: Options, reader: &mut R, writer: &mut W) -> End
 where
     H: Net + Files + AllocGlobal + Wait + Threads + time::Clock + Sync,
@@ -29,7 +29,8 @@ where
         → EndsServed options.settings (moments options.now IsSystemMoment)
         (R.remaining reader.old) (R.remaining reader.new)
         (W.contents writer.old) (W.contents writer.new) result }
-    ensures listens { options.stdin ≡ false → EndsListening options.address options.port options.scrapes result }
+    ensures listens { options.stdin ≡ false
+        → EndsListening options.address options.port options.scrapes options.may_quit result }
     ensures reads_nothing { options.stdin ≡ false → reader.new ≡ reader.old }
     ensures writes_nothing { options.stdin ≡ false → writer.new ≡ writer.old }
 {

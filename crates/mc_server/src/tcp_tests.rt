@@ -2,6 +2,7 @@
 
 use crate::arrivals::{Arrivals, Inbox, Share};
 use crate::asker::Asker;
+use crate::closing::ClosingLinks;
 use crate::connection::{Connection, Crowd};
 use crate::links::{EVENTS, SocketLinks, WAKER};
 use crate::listening::bound;
@@ -10,6 +11,7 @@ use mc_hop::Fnv;
 use mc_shared::Shared;
 use mc_shelf::Settings;
 use mc_time::{Fixed, Moment};
+use mc_workers::NoTally;
 use mio::net::TcpStream as Stream;
 use mio::{Events, Poll, Waker};
 use std::io::{Read, Write};
@@ -49,10 +51,10 @@ where
     let (shared, caller) = Shared::new(alloc, SETTINGS, Fnv)?;
     let events = Events::with_capacity(alloc, EVENTS)?;
     let counts = Arc::new(alloc, Counts::new())?;
-    let moved = counts.clone()?;
-    let mut links = SocketLinks::new(rt, alloc, &arrivals, Share::new(0), poll, events, moved);
+    let links = SocketLinks::new(rt, alloc, &arrivals, Share::new(0), poll, events, counts);
+    let mut links = ClosingLinks::new(links, &arrivals);
     let clock = Fixed(Moment::from_seconds_at_most(1000));
-    Asker::new(&shared, caller).work(rt, alloc, &mut links, &*counts, &clock, 0);
+    Asker::new(&shared, caller).work(rt, alloc, &mut links, &NoTally, &clock, 0);
     let mut answer = Vec::new(alloc);
     client.read_to_end(&mut answer)?;
     Ok(answer)

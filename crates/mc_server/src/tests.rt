@@ -2,8 +2,8 @@
 
 use crate::clock::AskedClock;
 use crate::end::{End, ending};
-use crate::options::{Asked, Options};
 use crate::serving::serve;
+use mc_options::{Asked, Options};
 use mc_session::ServeFault;
 use mc_shelf::Settings;
 use mc_testing::{Drip, Sip};
@@ -35,6 +35,7 @@ fn served(alloc: Global, now: Option<u64>, reader: &mut Drip<'_>, writer: &mut S
         stdin: true,
         now,
         pages: None,
+        greatest: None,
         shelves: None,
         address: None,
         address_port: None,
@@ -43,6 +44,7 @@ fn served(alloc: Global, now: Option<u64>, reader: &mut Drip<'_>, writer: &mut S
         connections: None,
         idle_timeout: None,
         scrapes: None,
+        may_quit: false,
         verbose: false,
     };
     let options = Options::new(asked, SETTINGS);

@@ -1,6 +1,7 @@
 //! What links leave behind.
 
 use crate::channel::Channel;
+use mc_workers::Gathering;
 use std::alloc::Global;
 use std::collections::BTreeMap;
 
@@ -9,7 +10,7 @@ use std::collections::BTreeMap;
 #[derive(Drop)]
 pub struct Yard {
     free: Vec<usize>,
-    leaving: BTreeMap<usize, Channel>,
+    leaving: BTreeMap<usize, Gathering<Channel>>,
 }
 
 impl Yard {
@@ -26,16 +27,16 @@ impl Yard {
         self.free.pop()
     }
 
-    /// Takes the channel of a link that is gone, and closes it where there is nothing more to do, or no
-    /// memory. Without memory the place may not be used again.
-    pub fn take_in(&mut self, place: usize, channel: Channel) {
-        if channel.is_done() {
-            drop(channel);
+    /// Takes what is gathered for the channel of a link that is gone, and closes it where there is nothing
+    /// more to do, or no memory. Without memory the place may not be used again.
+    pub fn take_in(&mut self, place: usize, gathering: Gathering<Channel>) {
+        if is_done(&gathering) {
+            drop(gathering);
             let _ = self.free.push(place);
             return;
         }
-        channel.leave();
-        if self.leaving.insert(place, channel).is_err() {
+        gathering.link().leave();
+        if self.leaving.insert(place, gathering).is_err() {
             let _ = self.free.push(place);
         }
     }
@@ -52,10 +53,15 @@ impl Yard {
     /// Sends what is left of one, and says whether that was all that there is to do. Where none is leaving
     /// there is nothing to do.
     fn is_done_sending(&mut self, place: usize) -> bool {
-        let Some(channel) = self.leaving.get_mut(&place) else {
+        let Some(gathering) = self.leaving.get_mut(&place) else {
             return false;
         };
-        let _ = channel.flush();
-        channel.is_done()
+        let _ = gathering.flush();
+        is_done(gathering)
     }
+}
+
+/// Says whether there is nothing more to do: all was sent, or the channel failed or is to end.
+fn is_done(gathering: &Gathering<Channel>) -> bool {
+    gathering.is_empty() || gathering.link().is_over()
 }

@@ -9,7 +9,8 @@ use Rattle.mc_session.proofs.RunLemmas.{run_more, turn_written, fed-fed, fed-wit
 
 module _ {S : Type 0} (relations : Relations S) (may_give : ℕ → Type 0) (greatest : ℕ) (before : S) where
   -- the run of the longer stream
-  longer : (store : S) (read written bytes : List ℕ) (taken : List (ProtocolUnit × ℕ)) (session : SessionState) → Run relations may_give (fed (opened greatest) read) before taken (with_written written session) store
+  longer : (store : S) (read written bytes : List ℕ) (taken : List (ProtocolUnit × ℕ)) (session : SessionState)
+      → Run relations may_give (fed (opened greatest) read) before taken (with_written written session) store
       → Run relations may_give (fed (opened greatest) (read ++ bytes)) before taken (with_written written (fed session bytes)) store
   longer store read written bytes taken session run =
       let lifted : Run relations may_give (fed (fed (opened greatest) read) bytes) before taken (fed (with_written written session) bytes) store =
@@ -22,19 +23,22 @@ module _ {S : Type 0} (relations : Relations S) (may_give : ℕ → Type 0) (gre
   split_out session written part rest parts =
       ap (λ out. with_out out session) (ap (λ out. written ++ out) parts ∙ sym (append_assoc written part rest))
 
-  pub course_runs : (calls : ℕ) (read written : List ℕ) (taken : List (ProtocolUnit × ℕ)) (last : SessionState) (after : S) → Course relations may_give greatest before calls read written taken last after
+  pub course_runs : (calls : ℕ) (read written : List ℕ) (taken : List (ProtocolUnit × ℕ)) (last : SessionState) (after : S)
+      → Course relations may_give greatest before calls read written taken last after
       → Run relations may_give (fed (opened greatest) read) before taken (with_written written last) after
   unfolding turn_written
   course_runs calls read written taken last after begins = nothing
   course_runs calls read written taken last after (takes_turn {calls = c} {taken = t} {session = s} {store = store} now course small gives takes) =
       turn now (course_runs c read written t s store course) gives (turn_written relations now s last store after written takes)
   course_runs calls read written taken last after (takes_none {calls = c} course small none) = course_runs c read written taken last after course
-  course_runs calls read written taken last after (piece_comes {read = r} {session = s} bytes course is_open none) = longer after r written bytes taken s (course_runs calls r written taken s after course)
+  course_runs calls read written taken last after (piece_comes {read = r} {session = s} bytes course is_open none) =
+      longer after r written bytes taken s (course_runs calls r written taken s after course)
   course_runs calls read written taken last after (part_goes {written = w} {session = s} part rest course parts) =
       subst (λ s. Run relations may_give (fed (opened greatest) read) before taken s after) (split_out s w part rest parts) (course_runs calls read w taken s after course)
 
   -- each turn is a call
-  pub course_counts : (calls : ℕ) (read written : List ℕ) (taken : List (ProtocolUnit × ℕ)) (last : SessionState) (after : S) → Course relations may_give greatest before calls read written taken last after → length taken ≤ calls
+  pub course_counts : (calls : ℕ) (read written : List ℕ) (taken : List (ProtocolUnit × ℕ)) (last : SessionState) (after : S)
+      → Course relations may_give greatest before calls read written taken last after → length taken ≤ calls
   course_counts calls read written taken last after begins = omega arith
   course_counts calls read written taken last after (takes_turn {calls = c} {taken = t} {session = s} {store = store} now course small gives takes) =
       omega (arith, course_counts c read written t s store course, length-append t ((takes.unit, s.taken) ∷ []))

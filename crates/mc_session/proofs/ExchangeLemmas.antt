@@ -23,9 +23,11 @@ module _ {E S : Type 0} {relations : Relations E S} where
   wrote_nothing endpoint store writer = record { written = []; writes = nothing; appends = Appends-nil writer }
 
   -- a front of the output more
-  pub goes_front : {first mid new last : E} {before between after end : S} {a b c : Option (List ℕ)} {out : List ℕ} (n : ℕ) → last ≡ new → end ≡ after → Goes relations first before mid between a b → relations.sends n mid between new after
+  pub goes_front : {first mid new last : E} {before between after end : S} {a b c : Option (List ℕ)} {out : List ℕ} (n : ℕ) → last ≡ new → end ≡ after
+      → Goes relations first before mid between a b → relations.sends n mid between new after
       → (relations.is_idle mid between → relations.is_idle new after) → out ≡ relations.waits mid between → Appends b c (take n out) → Goes relations first before last end a c
-  goes_front {first = first} {mid = mid} {new = new} {last = last} {before = before} {between = between} {after = after} {end = end} {a = a} {b = b} {c = c} {out = out} n same same_store (wrote, idle) sends idle_still is appends =
+  goes_front {first = first} {mid = mid} {new = new} {last = last} {before = before} {between = between} {after = after} {end = end} {a = a} {b = b} {c =
+      c} {out = out} n same same_store (wrote, idle) sends idle_still is appends =
       subst (λ e. Goes relations first before e end a c) (sym same)
       (subst (λ s. Goes relations first before new s a c) (sym same_store) (
         record {
@@ -37,10 +39,12 @@ module _ {E S : Type 0} {relations : Relations E S} where
       ))
 
   -- a write that failed
-  pub goes_kept : {first mid last : E} {before between end : S} {a b c : Option (List ℕ)} → last ≡ mid → end ≡ between → Goes relations first before mid between a b → Keeps b c → Goes relations first before last end a c
+  pub goes_kept : {first mid last : E} {before between end : S} {a b c : Option (List ℕ)} → last ≡ mid → end ≡ between
+      → Goes relations first before mid between a b → Keeps b c → Goes relations first before last end a c
   goes_kept {first = first} {mid = mid} {last = last} {before = before} {between = between} {end = end} {a = a} {b = b} {c = c} same same_store (wrote, idle) kept =
       subst (λ e. Goes relations first before e end a c) (sym same)
-      (subst (λ s. Goes relations first before mid s a c) (sym same_store) (record { written = wrote.written; writes = wrote.writes; appends = Appends-kept a b c wrote.written wrote.appends kept }, idle))
+      (subst (λ s. Goes relations first before mid s a c) (sym same_store)
+      (record { written = wrote.written; writes = wrote.writes; appends = Appends-kept a b c wrote.written wrote.appends kept }, idle))
 
 module _ {E S : Type 0} {relations : Relations E S} {may_give : ℕ → Type 0} where
   -- before the first round
@@ -59,7 +63,8 @@ module _ {E S : Type 0} {relations : Relations E S} {may_give : ℕ → Type 0} 
   }
 
   -- a write
-  pub then_wrote : {most : ℕ} {first : Scene E S} {old new : E} {before after : S} {reader a b : Option (List ℕ)} → Wrote relations old before new after a b → Exchanges relations may_give most first (scene old before reader a)
+  pub then_wrote : {most : ℕ} {first : Scene E S} {old new : E} {before after : S} {reader a b : Option (List ℕ)} → Wrote relations old before new after a b
+      → Exchanges relations may_give most first (scene old before reader a)
       → Exchanges relations may_give most first (scene new after reader b)
   then_wrote {first = first} {a = a} {b = b} wrote so_far = record {
     turns = so_far.turns;
@@ -72,7 +77,8 @@ module _ {E S : Type 0} {relations : Relations E S} {may_give : ℕ → Type 0} 
   }
 
   -- a turn
-  pub then_turned : {most : ℕ} {first : Scene E S} {old new : E} {before after : S} {reader writer : Option (List ℕ)} (now : ℕ) → may_give now → length (relations.waits old before) < WRITE_AT → relations.turns now old before new after
+  pub then_turned : {most : ℕ} {first : Scene E S} {old new : E} {before after : S} {reader writer : Option (List ℕ)} (now : ℕ) → may_give now
+      → length (relations.waits old before) < WRITE_AT → relations.turns now old before new after
       → Exchanges relations may_give most first (scene old before reader writer) → Exchanges relations may_give (most + 1) first (scene new after reader writer)
   then_turned now gives small turns so_far = record {
     turns = so_far.turns + 1;
@@ -85,7 +91,8 @@ module _ {E S : Type 0} {relations : Relations E S} {may_give : ℕ → Type 0} 
   }
 
   -- a read
-  pub then_read : {most : ℕ} {first : Scene E S} {old new : E} {before after : S} {a b writer : Option (List ℕ)} → relations.is_idle old before → Reads relations old before a b new after → Exchanges relations may_give most first (scene old before a writer)
+  pub then_read : {most : ℕ} {first : Scene E S} {old new : E} {before after : S} {a b writer : Option (List ℕ)} → relations.is_idle old before
+      → Reads relations old before a b new after → Exchanges relations may_give most first (scene old before a writer)
       → Exchanges relations may_give most first (scene new after b writer)
   then_read {first = first} {a = a} {b = b} idle (read_piece bytes consumes takes) so_far = record {
     turns = so_far.turns;
@@ -107,7 +114,8 @@ module _ {E S : Type 0} {relations : Relations E S} {may_give : ℕ → Type 0} 
   }
 
   -- a turn that memory ran out in
-  pub short_turn : {most : ℕ} {first : Scene E S} {old new : E} {before after : S} {reader writer : Option (List ℕ)} (now : ℕ) → may_give now → length (relations.waits old before) < WRITE_AT → relations.loses_turn now old before new after → most < 2 ^ 40
+  pub short_turn : {most : ℕ} {first : Scene E S} {old new : E} {before after : S} {reader writer : Option (List ℕ)} (now : ℕ) → may_give now
+      → length (relations.waits old before) < WRITE_AT → relations.loses_turn now old before new after → most < 2 ^ 40
       → Exchanges relations may_give most first (scene old before reader writer) → FallsShort relations may_give first (scene new after reader writer)
   short_turn {old = old} {before = before} {reader = reader} now gives small loses few so_far = record {
     last = old;
@@ -120,7 +128,8 @@ module _ {E S : Type 0} {relations : Relations E S} {may_give : ℕ → Type 0} 
   }
 
   -- a piece that was read and found no memory
-  pub short_read : {most : ℕ} {first : Scene E S} {old new : E} {before after : S} {a b writer : Option (List ℕ)} → relations.is_idle old before → LosesPiece relations old before a b new after → most ≤ 2 ^ 40
+  pub short_read : {most : ℕ} {first : Scene E S} {old new : E} {before after : S} {a b writer : Option (List ℕ)} → relations.is_idle old before
+      → LosesPiece relations old before a b new after → most ≤ 2 ^ 40
       → Exchanges relations may_give most first (scene old before a writer) → FallsShort relations may_give first (scene new after b writer)
   short_read {old = old} {before = before} {a = a} idle loses few so_far = record {
     last = old;

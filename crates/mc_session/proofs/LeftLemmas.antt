@@ -1,5 +1,6 @@
 -- The first turn of what is left of a unit is the next turn of the unit.
-use Rattle.std.proofs.Common.{◌≡◌, ◌<◌, ◌+◌, ◌-◌, ◌==◌, ℕ, zero, suc, max, Bool, ◌⊎◌, inl, inr, List, [], ◌∷◌, ◌++◌, length, drop, refl, sym, ap, ◌∙◌, subst, arith, Option, Some, None, MatchOption, slice_get, if◌then◌else◌, eq-eqb, ne_eqb, ⊎_elim, codes}
+use Rattle.std.proofs.Common.{◌≡◌, ◌<◌, ◌+◌, ◌-◌, ◌==◌, ℕ, zero, suc, max, Bool, ◌⊎◌, inl, inr, List, [], ◌∷◌, ◌++◌, length, drop, refl, sym, ap, ◌∙◌, subst, arith, Option, Some}
+use Rattle.std.proofs.Common.{None, MatchOption, slice_get, if◌then◌else◌, eq-eqb, ne_eqb, ⊎_elim, codes}
 use Rattle.std.proofs.lemmas.Bool.{cases_eq}
 use Rattle.std.proofs.lemmas.Option.{slice_get_past}
 use Rattle.std.proofs.lemmas.List.{drop-map, length-map, length-drop}
@@ -41,7 +42,8 @@ steps_left : (command : Command) (taken : ℕ) → taken < max 1 (length (steps 
 steps_left command taken due = ap steps_by (after_steps-shape command taken) ∙ steps_by_left (shape command) taken due
 
 -- the first of them is the next step
-pub step_left : (left command : Command) (taken : ℕ) → taken < turn_count (Request command) → Request left ≡ left_of (Request command) taken → slice_get (steps left) 0 ≡ slice_get (steps command) taken
+pub step_left : (left command : Command) (taken : ℕ) → taken < turn_count (Request command) → Request left ≡ left_of (Request command) taken
+    → slice_get (steps left) 0 ≡ slice_get (steps command) taken
 step_left left command taken due is =
     let same : left ≡ after_steps command taken = cc in
     ap (λ c. slice_get (steps c) 0) same ∙ ap (λ xs. slice_get xs 0) (steps_left command taken due) ∙ first_left (steps command) taken
@@ -52,7 +54,8 @@ end_left keys taken due =
     let test : (0 + 1 == length (drop taken keys)) ≡ (taken + 1 == length keys) = same_test _ _ _ _ (λ e. omega (arith, length-drop taken keys, e)) (λ e. omega (arith, length-drop taken keys, e)) in
     ap (λ b. if b then codes "END\r\n" else []) test
 
-retrieval_left : (keys : List (List ℕ)) (with_unique : Bool) (taken : ℕ) (reply : Reply) → taken < max 1 (length keys) → retrieval_text (drop taken keys) with_unique 0 reply ≡ retrieval_text keys with_unique taken reply
+retrieval_left : (keys : List (List ℕ)) (with_unique : Bool) (taken : ℕ) (reply : Reply) → taken < max 1 (length keys)
+    → retrieval_text (drop taken keys) with_unique 0 reply ≡ retrieval_text keys with_unique taken reply
 retrieval_left keys with_unique taken reply due =
     ap (λ key. asked_text key with_unique reply ++ end_text (length (drop taken keys)) 0) (first_left keys taken)
     ∙ ap (λ text. asked_text (slice_get keys taken) with_unique reply ++ text) (end_left keys taken due)
@@ -86,7 +89,8 @@ next_left LongLine taken len due = refl
 next_left (Fault fault) taken len due = let none : taken ≡ 0 = omega arith in rw none refl
 next_left (Request command) taken len due =
     let count : length (steps (after_steps command taken)) ≡ length (steps command) - taken = ap length (steps_left command taken due) ∙ length-drop taken (steps command) in
-    let test : (0 + 1 == max 1 (length (steps (after_steps command taken)))) ≡ (taken + 1 == max 1 (length (steps command))) = same_test _ _ _ _ (λ e. omega (arith, count, e)) (λ e. omega (arith, count, e)) in
+    let test : (0 + 1 == max 1 (length (steps (after_steps command taken)))) ≡ (taken + 1 == max 1 (length (steps command))) =
+    same_test _ _ _ _ (λ e. omega (arith, count, e)) (λ e. omega (arith, count, e)) in
     ap (λ b. if is_quit (after_steps command taken) then Close else if b then Read len 0 else Step) test
     ∙ ap (λ b. if b then Close else if taken + 1 == max 1 (length (steps command)) then Read len 0 else Step) (like_left command taken).quit
 

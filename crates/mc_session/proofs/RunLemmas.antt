@@ -51,14 +51,17 @@ fed-fed greatest read more = ap (λ u. record (opened greatest) { unread = u }) 
 -- more bytes and earlier output don't mix
 pub fed-with_written : (s : SessionState) (written more : List ℕ) → fed (with_written written s) more ≡ with_written written (fed s more)
 fed-with_written s written more =
-    elim s.is_open as (λ opens. (if opens then record (with_written written s) { unread = pushed s.unread more } else with_written written s) ≡ with_written written (if opens then record s { unread = pushed s.unread more } else s)) [
+    elim s.is_open as
+    (λ opens. (if opens then record (with_written written s) { unread = pushed s.unread more } else with_written written s) ≡ with_written written
+    (if opens then record s { unread = pushed s.unread more } else s)) [
       | true ↦ refl
       | false ↦ refl
     ]
 
 module _ {S : Type 0} (relations : Relations S) where
   -- a turn is the turn of the longer stream
-  turn_more : (now : ℕ) (old new : SessionState) (before after : S) (more : List ℕ) → TakesTurn relations now old new before after → TakesTurn relations now (grown old more) (fed new more) before after
+  turn_more : (now : ℕ) (old new : SessionState) (before after : S) (more : List ℕ) → TakesTurn relations now old new before after
+      → TakesTurn relations now (grown old more) (fed new more) before after
   turn_more now old new before after more taken_turn = record {
     unit = taken_turn.unit;
     front = taken_turn.front;
@@ -69,11 +72,13 @@ module _ {S : Type 0} (relations : Relations S) where
     spelled = taken_turn.spelled;
     due = taken_turn.due;
     answers = taken_turn.answers;
-    moves = ap (λ s. fed s more) taken_turn.moves ∙ moved_more old taken_turn.unit taken_turn.rest taken_turn.text more (is_last taken_turn.unit) (old.taken + 1 == turn_count taken_turn.unit) taken_turn.opens;
+    moves = ap (λ s. fed s more) taken_turn.moves
+        ∙ moved_more old taken_turn.unit taken_turn.rest taken_turn.text more (is_last taken_turn.unit) (old.taken + 1 == turn_count taken_turn.unit) taken_turn.opens;
   }
 
   -- and with earlier output in front
-  unfoldable pub turn_written : (now : ℕ) (old new : SessionState) (before after : S) (written : List ℕ) → TakesTurn relations now old new before after → TakesTurn relations now (with_written written old) (with_written written new) before after
+  unfoldable pub turn_written : (now : ℕ) (old new : SessionState) (before after : S) (written : List ℕ) → TakesTurn relations now old new before after
+      → TakesTurn relations now (with_written written old) (with_written written new) before after
   turn_written now old new before after written taken_turn = record {
     unit = taken_turn.unit;
     front = taken_turn.front;
@@ -84,7 +89,8 @@ module _ {S : Type 0} (relations : Relations S) where
     spelled = taken_turn.spelled;
     due = taken_turn.due;
     answers = taken_turn.answers;
-    moves = ap (with_written written) taken_turn.moves ∙ moved_written old taken_turn.unit taken_turn.rest taken_turn.text written (is_last taken_turn.unit) (old.taken + 1 == turn_count taken_turn.unit);
+    moves = ap (with_written written) taken_turn.moves
+        ∙ moved_written old taken_turn.unit taken_turn.rest taken_turn.text written (is_last taken_turn.unit) (old.taken + 1 == turn_count taken_turn.unit);
   }
 
   -- a run is a run of the longer stream

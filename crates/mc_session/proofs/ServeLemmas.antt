@@ -15,7 +15,8 @@ use Rattle.mc_session.proofs.ExchangeLemmas.{exchanges_nothing, then_wrote}
 
 module _ {S : Type 0} (relations : Relations S) (may_give : ℕ → Type 0) where
   -- what was written was the front of the output, and nothing else changed
-  was_front : {old : SessionState} {before : S} {part : List ℕ} {new : SessionState} {after : S} → Writes (in_session relations) old before part new after → (old.out ≡ part ++ new.out) × (new ≡ with_out new.out old) × (after ≡ before)
+  was_front : {old : SessionState} {before : S} {part : List ℕ} {new : SessionState} {after : S} → Writes (in_session relations) old before part new after
+      → (old.out ≡ part ++ new.out) × (new ≡ with_out new.out old) × (after ≡ before)
   was_front exchanges.nothing = (refl, refl, refl)
   was_front {old = old} {new = new} (exchanges.front {written = written} {mid = mid} n writes (sends, stays)) =
       let (parts, kept, stayed) = was_front writes in
@@ -30,9 +31,11 @@ module _ {S : Type 0} (relations : Relations S) (may_give : ℕ → Type 0) wher
   course_at : {greatest : ℕ} {before : S} {calls : ℕ} {read written : List ℕ} {taken : List (ProtocolUnit × ℕ)} {session same : SessionState} {store stays : S} → same ≡ session → stays ≡ store
       → Course relations may_give greatest before calls read written taken session store → Course relations may_give greatest before calls read written taken same stays
   course_at {greatest = greatest} {before = before} {calls = calls} {read = read} {written = written} {taken = taken} {session = session} {stays = stays} is is_store course =
-      subst (λ s. Course relations may_give greatest before calls read written taken s stays) (sym is) (subst (λ t. Course relations may_give greatest before calls read written taken session t) (sym is_store) course)
+      subst (λ s. Course relations may_give greatest before calls read written taken s stays) (sym is)
+      (subst (λ t. Course relations may_give greatest before calls read written taken session t) (sym is_store) course)
 
-  course_of : {greatest : ℕ} {before : S} {turns : ℕ} {read written : List ℕ} {last : SessionState} {after : S} → Exchange (in_session relations) may_give (opened greatest) before turns read written last after
+  course_of : {greatest : ℕ} {before : S} {turns : ℕ} {read written : List ℕ} {last : SessionState} {after : S}
+      → Exchange (in_session relations) may_give (opened greatest) before turns read written last after
       → (taken : List (ProtocolUnit × ℕ)) × Course relations may_give greatest before turns read written taken last after
   course_of exchanges.begins = ([], serving.begins)
   course_of (exchanges.turn {mid = mid} now exchange small gives (inl takes)) =
@@ -50,7 +53,8 @@ module _ {S : Type 0} (relations : Relations S) (may_give : ℕ → Type 0) wher
       (so_far.0, course_at kept stays (serving.part_goes bytes last.out so_far.1 parts))
 
   -- what memory was refused for
-  refused : {calls : ℕ} {old new : SessionState} {before after : S} {lost : List ℕ} → calls ≤ 2 ^ 40 → Refusal (in_session relations) may_give calls old before new after lost → Refused relations may_give calls old lost before after
+  refused : {calls : ℕ} {old new : SessionState} {before after : S} {lost : List ℕ} → calls ≤ 2 ^ 40
+      → Refusal (in_session relations) may_give calls old before new after lost → Refused relations may_give calls old lost before after
   refused few (exchanges.no_turn now one_more small gives (due, inl same)) = serving.no_turn one_more small due.0 due.1 same
   refused few (exchanges.no_turn now one_more small gives (due, inr decides)) = serving.no_text now one_more small gives decides
   refused {calls = calls} {old = old} {before = before} {lost = lost} few (exchanges.no_piece bytes some (is_open, none) stays) =
@@ -62,7 +66,8 @@ module _ {S : Type 0} (relations : Relations S) (may_give : ℕ → Type 0) wher
   at_end session store reader (inr ((is_open, none), end)) = inr (end, none)
 
 -- what was served until now
-pub has_served : {S : Type 0} {relations : Relations S} {may_give : ℕ → Type 0} {greatest most : ℕ} {first last : SessionState} {before after : S} {r0 r1 w0 w1 : Option (List ℕ)} → first ≡ opened greatest
+pub has_served : {S : Type 0} {relations : Relations S} {may_give : ℕ
+    → Type 0} {greatest most : ℕ} {first last : SessionState} {before after : S} {r0 r1 w0 w1 : Option (List ℕ)} → first ≡ opened greatest
     → (run : Exchanges (in_session relations) may_give most (scene first before r0 w0) (scene last after r1 w1)) → HasServed relations may_give greatest run.turns before after r0 r1 w0 w1 last
 has_served {relations = relations} {may_give = may_give} {last = last} {before = before} {after = after} is run =
     let course = course_of relations may_give (subst (λ s. Exchange (in_session relations) may_give s before run.turns run.read run.written last after) is run.exchange) in
@@ -70,11 +75,13 @@ has_served {relations = relations} {may_give = may_give} {last = last} {before =
 
 -- A run: the session before it, the store before and after it, and the reader's and the writer's bytes.
 module _ {S : Type 0} {relations : Relations S} {may_give : ℕ → Type 0} {greatest : ℕ} {first last : SessionState} {before after : S} {r0 r1 w0 w1 : Option (List ℕ)} where
-  abbrev pub serves : first ≡ opened greatest → Exchanges (in_session relations) may_give (2 ^ 40) (scene first before r0 w0) (scene last after r1 w1) → Serves relations may_give greatest before after r0 r1 w0 w1
+  abbrev pub serves : first ≡ opened greatest → Exchanges (in_session relations) may_give (2 ^ 40) (scene first before r0 w0) (scene last after r1 w1)
+      → Serves relations may_give greatest before after r0 r1 w0 w1
   serves is run = record { calls = run.turns; last = last; served = has_served is run; few = run.few }
 
   -- what is left at the end was written
-  pub serves_all : {mid : SessionState} {between : S} {w : Option (List ℕ)} → first ≡ opened greatest → Exchanges (in_session relations) may_give (2 ^ 40) (scene first before r0 w0) (scene mid between r1 w) → HasEnded (in_session relations) mid between r1
+  pub serves_all : {mid : SessionState} {between : S} {w : Option (List ℕ)} → first ≡ opened greatest
+      → Exchanges (in_session relations) may_give (2 ^ 40) (scene first before r0 w0) (scene mid between r1 w) → HasEnded (in_session relations) mid between r1
       → Wrote (in_session relations) mid between last after w w1 → last.out ≡ [] → ServesAll relations may_give greatest before after r0 r1 w0 w1
   serves_all {mid = mid} {between = between} is run ended wrote written =
       record {
@@ -84,7 +91,8 @@ module _ {S : Type 0} {relations : Relations S} {may_give : ℕ → Type 0} {gre
       }
 
   -- until memory ran out
-  pub serves_until : first ≡ opened greatest → FallsShort (in_session relations) may_give (scene first before r0 w0) (scene last after r1 w1) → ServesUntilRefused relations may_give greatest before after r0 r1 w0 w1
+  pub serves_until : first ≡ opened greatest → FallsShort (in_session relations) may_give (scene first before r0 w0) (scene last after r1 w1)
+      → ServesUntilRefused relations may_give greatest before after r0 r1 w0 w1
   serves_until is short = record {
     calls = short.exchanges.turns;
     last = short.last;
@@ -97,7 +105,8 @@ module _ {S : Type 0} {relations : Relations S} {may_give : ℕ → Type 0} {gre
   }
 
 -- the buffer found no memory
-pub serves_none : {S : Type 0} {relations : Relations S} {may_give : ℕ → Type 0} (greatest : ℕ) (store : S) (reader writer : Option (List ℕ)) → ServesUntilRefused relations may_give greatest store store reader reader writer writer
+pub serves_none : {S : Type 0} {relations : Relations S} {may_give : ℕ → Type 0} (greatest : ℕ) (store : S) (reader writer : Option (List ℕ))
+    → ServesUntilRefused relations may_give greatest store store reader reader writer writer
 serves_none {relations = relations} {may_give = may_give} greatest store reader writer = record {
   calls = 0;
   last = opened greatest;

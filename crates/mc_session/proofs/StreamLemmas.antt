@@ -1,5 +1,6 @@
 -- The turns of a run are the turns of its stream.
-use Rattle.std.proofs.Common.{◌≡◌, ◌⊎◌, ◌↔◌, inl, inr, ℕ, zero, suc, ◌+◌, ◌-◌, ◌<◌, ◌≤◌, ◌==◌, Bool, true, false, List, [], ◌∷◌, ◌++◌, length, drop, max, refl, sym, ap, ◌∙◌, subst, arith, append_assoc, append-nil, if◌then◌else◌, IsTrue, IsFalse}
+use Rattle.std.proofs.Common.{◌≡◌, ◌⊎◌, ◌↔◌, inl, inr, ℕ, zero, suc, ◌+◌, ◌-◌, ◌<◌, ◌≤◌, ◌==◌, Bool, true, false, List, [], ◌∷◌, ◌++◌, length, drop, max, refl, sym, ap, ◌∙◌, subst}
+use Rattle.std.proofs.Common.{arith, append_assoc, append-nil, if◌then◌else◌, IsTrue, IsFalse}
 use Rattle.std.specs.Bool.{MatchBool}
 use Rattle.std.proofs.Math.Seq.{drop-nil}
 use Rattle.std.proofs.Math.ListN.{drop_of_length-le}
@@ -150,23 +151,28 @@ module _ {S : Type 0} (relations : Relations S) (law : OneSpelling) where
         (subst (λ unit. MatchBool (is_last unit) (us ≡ []) (AreUnits old.unread.greatest (passed_after unit) are.1 us)) same.0 are.4))
 
   -- so does each turn of a run
-  after_run : (may_give : ℕ → Type 0) (first last : SessionState) (before after : S) (all taken : List (ProtocolUnit × ℕ)) → After all [] first → Run relations may_give first before taken last after → After all taken last
+  after_run : (may_give : ℕ → Type 0) (first last : SessionState) (before after : S) (all taken : List (ProtocolUnit × ℕ)) → After all [] first
+      → Run relations may_give first before taken last after → After all taken last
   after_run may_give first last before after all turns left nothing = left
   after_run may_give first last before after all turns left (turn {mid = mid} {between = between} {taken = taken} now run gives takes) =
-      let had : HasLeft all taken mid.unread mid.taken = subst (λ is_open. MatchBool is_open (HasLeft all taken mid.unread mid.taken) (all ≡ taken)) takes.opens (after_run may_give first mid before between all taken left run) in
+      let had : HasLeft all taken mid.unread mid.taken =
+      subst (λ is_open. MatchBool is_open (HasLeft all taken mid.unread mid.taken) (all ≡ taken)) takes.opens (after_run may_give first mid before between all taken left run) in
       after_turn now mid last between after takes all taken had.units had.are had.parts
 
 -- what was taken comes first
-first_taken : (all taken : List (ProtocolUnit × ℕ)) (unread : Unread) (at : ℕ) (is_open : Bool) → MatchBool is_open (HasLeft all taken unread at) (all ≡ taken) → (later : List (ProtocolUnit × ℕ)) × (all ≡ taken ++ later)
+first_taken : (all taken : List (ProtocolUnit × ℕ)) (unread : Unread) (at : ℕ) (is_open : Bool) → MatchBool is_open (HasLeft all taken unread at) (all ≡ taken)
+    → (later : List (ProtocolUnit × ℕ)) × (all ≡ taken ++ later)
 first_taken all taken unread at true left = (drop at (turns left.units), left.parts)
 first_taken all taken unread at false left = ([], left ∙ sym (append-nil taken))
 
 -- where nothing is due all was taken
-none_left : (all taken : List (ProtocolUnit × ℕ)) (unread : Unread) (at : ℕ) (units : List ProtocolUnit) → BeginsWithNone unread.greatest (drop unread.passed unread.bytes) → AreUnits unread.greatest unread.passed unread.bytes units → all ≡ taken ++ drop at (turns units) → all ≡ taken
+none_left : (all taken : List (ProtocolUnit × ℕ)) (unread : Unread) (at : ℕ) (units : List ProtocolUnit)
+    → BeginsWithNone unread.greatest (drop unread.passed unread.bytes) → AreUnits unread.greatest unread.passed unread.bytes units → all ≡ taken ++ drop at (turns units) → all ≡ taken
 none_left all taken unread at [] none are parts = parts ∙ ap (λ l. taken ++ l) (drop-nil at) ∙ append-nil taken
 none_left all taken unread at (unit ∷ units) none are parts = absurd (none.none unit are.0 are.1 are.2 are.3)
 
-all_taken : (all taken : List (ProtocolUnit × ℕ)) (unread : Unread) (at : ℕ) (is_open : Bool) → MatchBool is_open (HasLeft all taken unread at) (all ≡ taken) → (IsFalse is_open ⊎ BeginsWithNone unread.greatest (drop unread.passed unread.bytes)) → all ≡ taken
+all_taken : (all taken : List (ProtocolUnit × ℕ)) (unread : Unread) (at : ℕ) (is_open : Bool) → MatchBool is_open (HasLeft all taken unread at) (all ≡ taken)
+    → (IsFalse is_open ⊎ BeginsWithNone unread.greatest (drop unread.passed unread.bytes)) → all ≡ taken
 all_taken all taken unread at false left ended = left
 all_taken all taken unread at true left (inl closed) = absurd (cc)
 all_taken all taken unread at true left (inr none) = none_left all taken unread at left.units none left.are left.parts

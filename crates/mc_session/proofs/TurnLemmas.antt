@@ -1,5 +1,6 @@
 -- A turn of what was found is a turn of the session's stream.
-use Rattle.std.proofs.Common.{◌≡◌, ◌<◌, ◌≤◌, ◌+◌, ◌^◌, ◌==◌, ℕ, Bool, true, false, List, ◌++◌, length, take, drop, refl, sym, ap, ◌∙◌, subst, arith, Option, Some, None, if◌then◌else◌, IfSome, IsTrue, ◌↔◌, ⊎_elim, eq-or-lt_of_le}
+use Rattle.std.proofs.Common.{◌≡◌, ◌<◌, ◌≤◌, ◌+◌, ◌^◌, ◌==◌, ℕ, Bool, true, false, List, ◌++◌, length, take, drop, refl, sym, ap, ◌∙◌, subst, arith, Option, Some, None}
+use Rattle.std.proofs.Common.{if◌then◌else◌, IfSome, IsTrue, ◌↔◌, ⊎_elim, eq-or-lt_of_le}
 use Rattle.std.proofs.lemmas.Bool.{cases_lt, eqb-false}
 use Rattle.std.proofs.lemmas.List.{take-append-drop}
 use Rattle.mc_command.specs.declared.step.Steps.{Ghosts as Relations}
@@ -27,7 +28,8 @@ pub record IsDue (unit : ProtocolUnit) (taken : ℕ) : Type 0 where
 abbrev pub OneSpelling : Type 0
 OneSpelling = (greatest : ℕ) (u v : ProtocolUnit) (a b x y : List ℕ) → Spells greatest u a → Spells greatest v b → a ++ x ≡ b ++ y → (u ≡ v) × (a ≡ b)
 
-pub due_within : (law : OneSpelling) (u : Unread) (taken : ℕ) (unit : ProtocolUnit) (front rest : List ℕ) → IsWithin u taken → drop u.passed u.bytes ≡ front ++ rest → Spells u.greatest unit front → IsDue unit taken
+pub due_within : (law : OneSpelling) (u : Unread) (taken : ℕ) (unit : ProtocolUnit) (front rest : List ℕ) → IsWithin u taken
+    → drop u.passed u.bytes ≡ front ++ rest → Spells u.greatest unit front → IsDue unit taken
 due_within law u taken unit front rest at_start parts spelled = record { due = first_due unit; few = λ some. absurd (omega (arith, some)) }
 due_within law u taken unit front rest (inside other more behind is spells due few) parts spelled =
     let same = law u.greatest other unit more front behind rest spells spelled (sym is ∙ parts) in
@@ -70,7 +72,8 @@ FoundLeft u taken found = IfSome found (λ found. (u.passed ≡ 0) × IsLeft u.g
 whole_parts : (u : Unread) (len : ℕ) → u.passed ≡ 0 → drop u.passed u.bytes ≡ take len u.bytes ++ drop len u.bytes
 whole_parts u len none = rw none (sym (take-append-drop len u.bytes))
 
-pub next_found : (law : OneSpelling) (u : Unread) (taken : ℕ) (found : Option (ProtocolUnit × ℕ)) (unit : ProtocolUnit) (len : ℕ) → FoundLeft u taken found → IsWithin u taken → found ≡ Some (unit, len)
+pub next_found : (law : OneSpelling) (u : Unread) (taken : ℕ) (found : Option (ProtocolUnit × ℕ)) (unit : ProtocolUnit) (len : ℕ) → FoundLeft u taken found
+    → IsWithin u taken → found ≡ Some (unit, len)
     → (whole : ProtocolUnit) × IsNext u taken unit len whole
 next_found law u taken found unit len peeked within is =
     let here : (u.passed ≡ 0) × IsLeft u.greatest taken (unit, len) u.bytes = subst (FoundLeft u taken) is peeked in
@@ -102,7 +105,8 @@ module _ {S : Type 0} (relations : Relations S) (now : ℕ) (law : OneSpelling) 
     answers = answers_left relations now before after answered.text whole old.taken is.due (subst (λ unit. Answers relations unit 0 now before after answered.text) is.left answered.answers);
   }
 
-  decides_of : (decides : DecidesFound relations now found before after) (whole : ProtocolUnit) → IsNext old.unread old.taken (Request decides.command) decides.len whole → DecidesStep relations now old before after
+  decides_of : (decides : DecidesFound relations now found before after) (whole : ProtocolUnit)
+      → IsNext old.unread old.taken (Request decides.command) decides.len whole → DecidesStep relations now old before after
   decides_of decides (Request command) is = record {
     command = command;
     front = take decides.len old.unread.bytes;

@@ -46,7 +46,8 @@ known_taken_away others_stay began p step then write has wrote given shown =
     let parts = legal_parts began began.plain before (write ∷ rest) (subst (IsLegal began began.plain) stands.2 shown.legal) in
     let item = given m.next_unique in
     let left : get (next began m write.what).items key ≡ Some item.0 =
-    ap (λ (n : Plain). get n.items key) (sym (after_parts began began.plain before (write ∷ []))) ∙ given_is_left began shown.log before rest write step then item.0 shown.legal stands.2 wrote item.1 in
+    ap (λ (n : Plain). get n.items key) (sym (after_parts began began.plain before (write ∷ [])))
+    ∙ given_is_left began shown.log before rest write step then item.0 shown.legal stands.2 wrote item.1 in
     let none : get (after began (next began m write.what) rest).items key ≡ None =
     ap (λ (n : Plain). get n.items key) (sym (after_parts began began.plain before (write ∷ rest))) ∙ (ap (λ log. item_after began log key) (sym stands.2) ∙ shown.gone refl key refl) in
     let other = taken_away others_stay began key (next began m write.what) rest item.0 parts.1.1 left none in record {

@@ -7,6 +7,7 @@ use mathlib.Core.Logic.{dite}
 use native.Mathlib.Decide.{ℕ_discrete}
 use Rattle.mc_time.specs.declared.expiry.Expiry.{Expiry}
 use Rattle.mc_time.specs.Death.{expiry_of}
+use Rattle.mc_slab.specs.Needs.{NeedState}
 use Rattle.mc_command.specs.declared.step.KeyStep.{KeyStep}
 use Rattle.mc_command.specs.declared.step.KeyStep.TheVariants.{Cas, Flush}
 use Rattle.mc_command.specs.declared.row.Row.{Row}
@@ -15,11 +16,12 @@ use Rattle.mc_command.specs.declared.row.Refusal.TheVariants as refusal
 use Rattle.mc_command.specs.declared.reply.Reply.{Reply}
 use Rattle.mc_command.specs.declared.reply.Reply.TheVariants.{Stored, Number, Hit, TooLarge, NoChunk}
 use Rattle.mc_command.specs.Commands.{key_of}
-use Rattle.mc_command.specs.Plain.{Plain, opening, Outcome, Answered, Spent, plain, stepped, changed, row_of, cas_row, given, written, with_chunk, has_room, block_class, charge, count_of, chunks_of, without_dead, expiring, perhaps_expiring, keeps_chunk, write_reply, written_block, block_of, standing}
+use Rattle.mc_command.specs.Plain.{Plain, opening, Outcome, Answered, Spent, plain, stepped, changed, row_of, cas_row, given, written, with_chunk, has_room, block_need, charge}
+use Rattle.mc_command.specs.Plain.{without_dead, expiring, perhaps_expiring, keeps_chunk, write_reply, written_block, block_of, standing}
 use Rattle.mc_command.specs.Plain.{Entry as Item}
 use Rattle.mc_shared.specs.History.{Beginning, Operation, Stepped, Purged, HistoryEntry, left_by, next, IsRight, after, IsLegal}
 use Rattle.mc_shared.specs.Laws.{StandsIn, StandsBefore, HasItem, Wrote, HasDrawnNumbers}
-use Rattle.mc_shared.proofs.KeyLawLemmas.{none_some, get_put, some_is, alive_was, hit_shows, found_next, paged_next}
+use Rattle.mc_shared.proofs.KeyLawLemmas.{none_some, get_put, some_is, alive_was, hit_shows, found_next}
 use Rattle.mc_shared.proofs.ReadLawLemmas.{OthersStay, legal_parts, after_parts, decided_was}
 
 -- ---- the next unique number after a step
@@ -29,7 +31,8 @@ HasNumber m key n = (i : Item) → get m.items key ≡ Some i → i.unique ≡ n
 
 -- the next number falls never, and rises where the step wrote, and the write has the number that was next
 abbrev Rises : Plain → KeyStep → ℕ → Outcome → Type 0
-Rises old step now (Answered reply new) = (old.next_unique ≤ new.next_unique) × (Wrote (key_of step) (Stepped step now reply) → (old.next_unique < new.next_unique) × HasNumber new (key_of step) old.next_unique)
+Rises old step now (Answered reply new) = (old.next_unique ≤ new.next_unique)
+    × (Wrote (key_of step) (Stepped step now reply) → (old.next_unique < new.next_unique) × HasNumber new (key_of step) old.next_unique)
 Rises old step now Spent = Unit {0}
 
 expiring_next : (item : Option Item) (key : List ℕ) (expiry : Expiry) (m : Plain) → (expiring item key expiry m).next_unique ≡ m.next_unique
@@ -70,13 +73,12 @@ changed_rises Deletes step item old found now f = (same_le _ _ f, λ w. absurd w
 changed_rises (Writes draft) step item old found now f =
     let key : List ℕ = key_of step in
     let b : List ℕ = written_block draft.body (block_of step) item in
-    let class : ℕ = block_class key b in
-    let paged = paged_next 0 0 [] (eqb (count_of found.items class) (chunks_of found class)) _ found refl ∙ f in
-    write_rises (ltb found.greatest (charge key b)) (eqb found.next_unique 18446744073709551615) (keeps_chunk draft.body key item) (has_room found class) (write_reply draft.body) old found
-    (written found key draft.flags draft.expiry b now) (written (with_chunk found class) key draft.flags draft.expiry b now) step now f
-    (ap (λ n. n + 1) f) (ap (λ n. n + 1) paged)
+    let need : NeedState = block_need key b in
+    write_rises (ltb found.greatest (charge key b)) (eqb found.next_unique 18446744073709551615) (keeps_chunk draft.body key item) (has_room found need) (write_reply draft.body) old found
+    (written found key draft.flags draft.expiry b now) (written (with_chunk found need) key draft.flags draft.expiry b now) step now f
+    (ap (λ n. n + 1) f) (ap (λ n. n + 1) f)
     (written_number found key draft.flags draft.expiry b now old.next_unique f)
-    (written_number (with_chunk found class) key draft.flags draft.expiry b now old.next_unique paged)
+    (written_number (with_chunk found need) key draft.flags draft.expiry b now old.next_unique f)
 
 stepped_rises : (old : Plain) (step : KeyStep) (now : ℕ) → Rises old step now (stepped old step now)
 stepped_rises old step now =

@@ -1,5 +1,6 @@
 -- Counts add up.
-use Rattle.std.proofs.Common.{◌≡◌, ⊎_elim, ℕ, ◌+◌, ◌*◌, ◌%◌, ◌^◌, ◌≤◌, ◌<◌, Bool, true, false, cond, leb, ltb, eqb, ◌&&◌, List, [], ◌∷◌, ◌++◌, length, take, drop, Option, Some, None, sym, refl, ap, ◌∙◌, subst, arith}
+use Rattle.std.proofs.Common.{◌≡◌, ⊎_elim, ℕ, ◌+◌, ◌*◌, ◌%◌, ◌^◌, ◌≤◌, ◌<◌, Bool, true, false, cond, leb, ltb, eqb, ◌&&◌, List, [], ◌∷◌, ◌++◌, length, take, drop, Option, Some}
+use Rattle.std.proofs.Common.{None, sym, refl, ap, ◌∙◌, subst, arith}
 use Rattle.std.proofs.lemmas.Bool.{le-leb, leb-true}
 use Rattle.std.proofs.lemmas.Fmt.{digits_decimal, digits_value-decimal, decimal_nonempty, length-decimal-le}
 use Rattle.std.proofs.lemmas.Str.Parse.{IsNumeralModel, numerals_by_value, tells_all_ascii_digits}
@@ -13,12 +14,14 @@ use Rattle.std.specs.Str.Parse.{digits_value}
 use mathlib.Core.Logic.{dite}
 use native.Mathlib.Decide.{ℕ_discrete}
 use Rattle.mc_time.specs.declared.expiry.Expiry.{Expiry}
+use Rattle.mc_slab.specs.Needs.{NeedState}
 use Rattle.mc_command.specs.Words.{is_space, is_nonempty}
 use Rattle.mc_command.specs.Numbers.{number_up_to}
 use Rattle.mc_command.specs.declared.step.KeyStep.TheVariants.{Count}
 use Rattle.mc_command.specs.declared.row.Body.TheVariants.{Counted}
 use Rattle.mc_command.specs.declared.reply.Reply.TheVariants.{Number, TooLarge, NoChunk}
-use Rattle.mc_command.specs.Plain.{Plain, Outcome, Answered, Spent, plain, changed, count_row, number_row, number_of, written, with_chunk, has_room, block_class, charge, keeps_chunk, without_dead, standing}
+use Rattle.mc_command.specs.Plain.{Plain, Outcome, Answered, Spent, plain, changed, count_row, number_row, number_of, written, with_chunk, has_room, block_need, charge}
+use Rattle.mc_command.specs.Plain.{keeps_chunk, without_dead, standing}
 use Rattle.mc_command.specs.Plain.{Entry as Item}
 use Rattle.mc_shared.specs.Sums.{total}
 use Rattle.mc_shared.specs.History.{Beginning, Operation, Stepped, HistoryEntry, left_by, next, IsRight, after, IsLegal}
@@ -64,7 +67,8 @@ own : IsNumeralModel (λ ds. all_ascii_digits ds ≡ true) (digits_value 10)
 own = numerals_by_value _ tells_all_ascii_digits
 
 decimal_number : (n : ℕ) → n < 2 ^ 64 → number_of (decimal n) ≡ Some n
-decimal_number n small = digits_number (decimal n) n (decimal_nonempty n small) (length-decimal-le 20 n (omega arith) (omega (arith, small)) small) (digits_decimal own n small) (digits_value-decimal own n small) small
+decimal_number n small =
+    digits_number (decimal n) n (decimal_nonempty n small) (length-decimal-le 20 n (omega arith) (omega (arith, small)) small) (digits_decimal own n small) (digits_value-decimal own n small) small
 
 -- what a number is, is below 2 ^ 64
 up_to_small : (a b : Bool) (v limit n : ℕ) → cond a (cond (b && leb v limit) (Some v) None) None ≡ Some n → n ≤ limit
@@ -78,7 +82,8 @@ up_to_small true true v limit n is = elim (leb v limit) as (λ t. leb v limit �
 number_small : (block : List ℕ) (n : ℕ) → number_of block ≡ Some n → n < 2 ^ 64
 number_small block n is =
     let digits : List ℕ = take_while is_ascii_digit block in
-    let le = up_to_small (leb (length digits) 20 && list_all is_space (drop (length digits) block)) (is_nonempty digits && all_ascii_digits digits) (digits_value 10 digits) 18446744073709551615 n is in
+    let le =
+    up_to_small (leb (length digits) 20 && list_all is_space (drop (length digits) block)) (is_nonempty digits && all_ascii_digits digits) (digits_value 10 digits) 18446744073709551615 n is in
     omega (arith, le)
 
 -- ---- one count
@@ -110,10 +115,10 @@ module _ (key : List ℕ) (by now n : ℕ) where
   item_counts : (i : Item) (found : Plain) → CountsTo key sum (changed (number_row i true by (Some n)) (Count key true by) (Some i) found now)
   item_counts i found =
       let b : List ℕ = decimal sum in
-      let class : ℕ = block_class key b in
-      write_counts (ltb found.greatest (charge key b)) (eqb found.next_unique 18446744073709551615) (keeps_chunk (Counted sum) key (Some i)) (has_room found class) key sum sum found
-      (written found key i.flags i.expiry b now) (written (with_chunk found class) key i.flags i.expiry b now)
-      (written_number found key i.flags i.expiry now sum small_sum) (written_number (with_chunk found class) key i.flags i.expiry now sum small_sum)
+      let need : NeedState = block_need key b in
+      write_counts (ltb found.greatest (charge key b)) (eqb found.next_unique 18446744073709551615) (keeps_chunk (Counted sum) key (Some i)) (has_room found need) key sum sum found
+      (written found key i.flags i.expiry b now) (written (with_chunk found need) key i.flags i.expiry b now)
+      (written_number found key i.flags i.expiry now sum small_sum) (written_number (with_chunk found need) key i.flags i.expiry now sum small_sum)
 
   row_counts : (o : Option Item) (found : Plain) → ((i : Item) → o ≡ Some i → number_of i.block ≡ Some n) → CountsTo key sum (changed (count_row true by o) (Count key true by) o found now)
   row_counts None found is = tt

@@ -14,10 +14,14 @@ use Rattle.mc_command.specs.declared.row.Row.TheVariants.{Reads}
 use Rattle.mc_shelf.specs.Plans.{LookTakesMemory, answered, is_gone, next_by, next_of, row_at, writes}
 use Rattle.mc_shelf.specs.Parts.{IsShelfOf, IsDeskOf, GoesTo, GoesByStep, GoesWithoutDesk}
 use Rattle.mc_shared.specs.Bays.{Content, OfShelf, OfDesk}
-use Rattle.mc_shared.specs.History.{Beginning, Operation, Stepped, shelf_in, left_by, next, after, IsRight}
+use Rattle.mc_shared.specs.History.{Beginning, start_of, Operation, Stepped, shelf_in, left_by, next, after, IsRight}
 use Rattle.mc_shared.specs.Rule.{Fits, AllFit, KeepsLimits, holds_bay}
 use Rattle.mc_shared.specs.View.{SeatView}
-use Rattle.mc_shared.specs.Steps.{Decides, Fitted}
+use Rattle.mc_shared.specs.Steps.{Decides, Fitted, Mine}
+use Rattle.mc_shared.specs.Seats.{Sitter}
+use Rattle.mc_shared.specs.Shown.{SharedState}
+use Rattle.mc_shared.specs.Holds.{HoldsShelf, IsAsked}
+use Rattle.mc_shared.specs.declared.ask.Ask.{Ask}
 use Rattle.mc_command.specs.declared.step.StepFault.{StepFault}
 use Rattle.mc_command.specs.declared.step.StepFault.TheVariants.{NoMemory, NumbersSpent}
 use Rattle.mc_shared.specs.Past.{Past}
@@ -285,6 +289,15 @@ pub look_reads : (f : ShelfContent) (step : KeyStep) (now : ℕ) → is_read ste
     → (expiry : Option Expiry) × (row_at f step now ≡ Reads expiry)
 look_reads f step now is (inl reads) = reads
 look_reads f step now is (inr writes_new) = absurd (read_writes f step now is writes_new.1)
+
+-- a look at a shelf that is held is refused memory for a read
+pub look_fails : {K : Type 0} (hash_of : K → List ℕ → ℕ) (shared : SharedState K) (seat : Sitter) (at : ℕ)
+    (f : ShelfContent) (ask : Ask) → HoldsShelf hash_of shared seat at f → IsAsked hash_of shared ask → at ≡ ask.at
+    → is_read ask.step.now ≡ true → LookTakesMemory ask.step.now ask.moment f
+    → MayFailAfter (start_of hash_of shared.began) seat.me.0.past ask.step.now ask.moment
+look_fails hash_of shared seat at f ask holds asked same read memory =
+    reads_after (start_of hash_of shared.began) at f [] ask.step.now ask.moment (asked.own ∙ sym same) seat.me.0
+    (ap (λ (m : Mine). m.0.bays) holds.held) holds.fits read (look_reads f ask.step.now ask.moment read memory)
 
 -- what is told of a fault
 pub refuses : {A : Type 0} (start : Beginning) (p : Past) (step : KeyStep) (now : ℕ) (result : Result A StepFault)

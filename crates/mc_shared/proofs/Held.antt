@@ -36,7 +36,8 @@ pub one_held : (me : Mine) (p : Past) (at : ℕ) (x : Content) → me ≡ holds_
 one_held me p at x e = ((x, top_of me.0.bays (at, x) [] (ap (λ m. m.0.bays) e)), top_of me.1 (place at, None) [] (ap (λ m. m.1) e))
 
 -- a bay that was taken last is held
-pub taken_held : (me was : Mine) (b : ℕ) (x : Content) → me ≡ (holding was.0 b x, (place b, None) ∷ was.1) → ((y : Content) × (me.0.bays ≡ (b, y) ∷ rest me.0.bays)) × (me.1 ≡ (place b, None) ∷ rest me.1)
+pub taken_held : (me was : Mine) (b : ℕ) (x : Content) → me ≡ (holding was.0 b x, (place b, None) ∷ was.1)
+    → ((y : Content) × (me.0.bays ≡ (b, y) ∷ rest me.0.bays)) × (me.1 ≡ (place b, None) ∷ rest me.1)
 taken_held me was b x e = ((x, top_of me.0.bays (b, x) was.0.bays (ap (λ m. m.0.bays) e)), top_of me.1 (place b, None) was.1 (ap (λ m. m.1) e))
 
 -- a seat's caller lives on while its past stays
@@ -52,11 +53,13 @@ lives_on table began old new m alive same is past = record {
 pub new_rests : (me : Mine) (v : SeatView) → me ≡ (newcomer v, []) → (me.1 ≡ []) × (me.0.bays ≡ []) × Lives me.0.past × (me.0.surplus ≡ [])
 new_rests me v is = (ap (λ m. m.1) is, ap (λ m. m.0.bays) is, subst (λ (m : Mine). Lives m.0.past) (sym is) (lives_start (next_name v.past) v.past), ap (λ m. m.0.surplus) is)
 
-pub met_rests : (now me was : Mine) (o : SeatView) → now ≡ me → me ≡ (met was.0 o, was.1) → (was.1 ≡ []) × (was.0.bays ≡ []) × Lives was.0.past × (was.0.surplus ≡ []) → (now.1 ≡ []) × (now.0.bays ≡ []) × Lives now.0.past × (now.0.surplus ≡ [])
+pub met_rests : (now me was : Mine) (o : SeatView) → now ≡ me → me ≡ (met was.0 o, was.1) → (was.1 ≡ []) × (was.0.bays ≡ []) × Lives was.0.past
+    × (was.0.surplus ≡ []) → (now.1 ≡ []) × (now.0.bays ≡ []) × Lives now.0.past × (now.0.surplus ≡ [])
 met_rests now me was o same is rests = let e : now ≡ (met was.0 o, was.1) = same ∙ is in
     (ap (λ m. m.1) e ∙ rests.0, ap (λ m. m.0.bays) e ∙ rests.1, subst (λ (m : Mine). Lives m.0.past) (sym e) (lives_both was.0.past o.past rests.2), ap (λ m. m.0.surplus) e ∙ rests.3)
 
-pub two_held : (me : Mine) (p : Past) (b : ℕ) (y : Content) (at : ℕ) (x : Content) → me ≡ holds_two p b y at x → ((z : Content) × (me.0.bays ≡ (b, z) ∷ rest me.0.bays)) × (me.1 ≡ (place b, None) ∷ rest me.1)
+pub two_held : (me : Mine) (p : Past) (b : ℕ) (y : Content) (at : ℕ) (x : Content) → me ≡ holds_two p b y at x
+    → ((z : Content) × (me.0.bays ≡ (b, z) ∷ rest me.0.bays)) × (me.1 ≡ (place b, None) ∷ rest me.1)
 two_held me p b y at x e = ((y, top_of me.0.bays (b, y) ((at, x) ∷ []) (ap (λ m. m.0.bays) e)), top_of me.1 (place b, None) ((place at, None) ∷ []) (ap (λ m. m.1) e))
 
 -- what a seat took last stays so where words show too many

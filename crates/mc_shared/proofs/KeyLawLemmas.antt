@@ -5,6 +5,7 @@ use Rattle.std.specs.Cmp.Lexicographic.{slice_cmp, nat_list_cmp_total}
 use Rattle.std.specs.FinMap.{IsAntisymmetric, nat_cmp-IsAntisymmetric, slice_cmp-IsAntisymmetric, get, insert, remove, get-insert, get-remove}
 use Rattle.mc_time.specs.declared.expiry.Expiry.{Expiry}
 use Rattle.mc_time.specs.Death.{expiry_of, is_dead}
+use Rattle.mc_slab.specs.Needs.{NeedState}
 use Rattle.mc_command.specs.declared.step.Verb.TheVariants.{Set, Add, Replace}
 use Rattle.mc_command.specs.declared.step.KeyStep.{KeyStep}
 use Rattle.mc_command.specs.declared.step.KeyStep.TheVariants.{Store, Cas, Read, Delete, Flush}
@@ -16,7 +17,8 @@ use Rattle.mc_command.specs.declared.row.Body.TheVariants.{Given, Appended, Prep
 use Rattle.mc_command.specs.declared.reply.Reply.{Reply}
 use Rattle.mc_command.specs.declared.reply.Reply.TheVariants.{Stored, Hit, TooLarge, NoChunk}
 use Rattle.mc_command.specs.Commands.{key_of}
-use Rattle.mc_command.specs.Plain.{Plain, Items, Outcome, Answered, Spent, plain, stepped, changed, row_of, given, store_row, cas_row, read_row, delete_row, wrote, write_reply, written, with_chunk, has_room, block_class, charge, count_of, chunks_of, without_dead, expiring, keeps_chunk, written_block, block_of, standing, alive, hit_of}
+use Rattle.mc_command.specs.Plain.{Plain, Items, Outcome, Answered, Spent, plain, stepped, changed, row_of, given, store_row, cas_row, read_row, delete_row, wrote, write_reply}
+use Rattle.mc_command.specs.Plain.{written, with_chunk, has_room, block_need, charge, without_dead, expiring, keeps_chunk, written_block, block_of, standing, alive, hit_of}
 use Rattle.mc_command.specs.Plain.{Entry as Item}
 use Rattle.mc_shared.specs.History.{Stepped}
 use Rattle.mc_shared.specs.Laws.{HasItem, Wrote, item_given}
@@ -54,14 +56,16 @@ module _ (flags unique : ℕ) (block : List ℕ) where
 
   -- the content was there, or the step wrote it
   abbrev pub Traces : Plain → KeyStep → ℕ → Outcome → Type 0
-  Traces old step now (Answered reply new) = HasItem new (key_of step) flags unique block → HasItem old (key_of step) flags unique block ⊎ (Wrote (key_of step) (Stepped step now reply) × (unique ≡ old.next_unique))
+  Traces old step now (Answered reply new) = HasItem new (key_of step) flags unique block → HasItem old (key_of step) flags unique block
+      ⊎ (Wrote (key_of step) (Stepped step now reply) × (unique ≡ old.next_unique))
   Traces old step now Spent = Unit {0}
 
   found_traces : (item : Option Item) (key : List ℕ) (old : Plain) → HasItem (without_dead item key old) key flags unique block → HasItem old key flags unique block
   found_traces None key old h = absurd (none_some h.0 (sym (get_gone old.items key) ∙ h.1))
   found_traces (Some i) key old h = h
 
-  expiring_traces : (item : Option Item) (key : List ℕ) (expiry : Expiry) (old : Plain) → Stands item key old → HasItem (expiring item key expiry (without_dead item key old)) key flags unique block → HasItem old key flags unique block
+  expiring_traces : (item : Option Item) (key : List ℕ) (expiry : Expiry) (old : Plain) → Stands item key old
+      → HasItem (expiring item key expiry (without_dead item key old)) key flags unique block → HasItem old key flags unique block
   unfolding Stands
   expiring_traces None key expiry old stands h = found_traces None key old h
   expiring_traces (Some i) key expiry old stands h =
@@ -77,10 +81,6 @@ module _ (flags unique : ℕ) (block : List ℕ) where
   written_next m key f expiry b now h =
       let put : Item = record { flags = f; expiry = expiry; block = b; unique = m.next_unique; updated = now } in
       sym (ap (λ (x : Item). x.unique) (some_is put h.0 (sym (get_put m.items key put) ∙ h.1)) ∙ h.3)
-
-  pub paged_next : (b : Bool) (more old : Plain) → more.next_unique ≡ old.next_unique → (cond b more old).next_unique ≡ old.next_unique
-  paged_next true more old e = e
-  paged_next false more old e = refl
 
   write_traces : (too_large spent stays room : Bool) (reply : Reply) (old found new placed : Plain) (step : KeyStep) (now : ℕ)
       → (HasItem found (key_of step) flags unique block → HasItem old (key_of step) flags unique block)
@@ -100,7 +100,8 @@ module _ (flags unique : ℕ) (block : List ℕ) where
   writes Prepended step now = refl
   writes (Counted number) step now = refl
 
-  changed_traces : (row : Row) (step : KeyStep) (item : Option Item) (old : Plain) (now : ℕ) → Stands item (key_of step) old → Traces old step now (changed row step item (without_dead item (key_of step) old) now)
+  changed_traces : (row : Row) (step : KeyStep) (item : Option Item) (old : Plain) (now : ℕ) → Stands item (key_of step) old
+      → Traces old step now (changed row step item (without_dead item (key_of step) old) now)
   changed_traces (Refuses why) step item old now stands = λ h. inl (found_traces item (key_of step) old h)
   changed_traces (Reads None) step item old now stands = λ h. inl (found_traces item (key_of step) old h)
   changed_traces (Reads (Some expiry)) step item old now stands = λ h. inl (expiring_traces item (key_of step) expiry old stands h)
@@ -111,14 +112,13 @@ module _ (flags unique : ℕ) (block : List ℕ) where
       let key : List ℕ = key_of step in
       let found : Plain = without_dead item key old in
       let b : List ℕ = written_block draft.body (block_of step) item in
-      let class : ℕ = block_class key b in
+      let need : NeedState = block_need key b in
       let next = found_next item key old in
-      let paged = paged_next (eqb (count_of found.items class) (chunks_of found class)) in
-      write_traces (ltb found.greatest (charge key b)) (eqb found.next_unique 18446744073709551615) (keeps_chunk draft.body key item) (has_room found class) (write_reply draft.body) old found
-      (written found key draft.flags draft.expiry b now) (written (with_chunk found class) key draft.flags draft.expiry b now) step now
+      write_traces (ltb found.greatest (charge key b)) (eqb found.next_unique 18446744073709551615) (keeps_chunk draft.body key item) (has_room found need) (write_reply draft.body) old found
+      (written found key draft.flags draft.expiry b now) (written (with_chunk found need) key draft.flags draft.expiry b now) step now
       (found_traces item key old)
       (λ h. written_next found key draft.flags draft.expiry b now h ∙ next)
-      (λ h. written_next (with_chunk found class) key draft.flags draft.expiry b now h ∙ paged _ found refl ∙ next)
+      (λ h. written_next (with_chunk found need) key draft.flags draft.expiry b now h ∙ next)
       (writes draft.body step now)
 
   pub stepped_traces : (old : Plain) (step : KeyStep) (now : ℕ) → Traces old step now (stepped old step now)
@@ -134,11 +134,14 @@ module _ (flags unique : ℕ) (block : List ℕ) where
   Shows old key Spent = Unit {0}
 
   write_shows : (too_large spent stays room : Bool) (body : Body) (old found new placed : Plain) (key : List ℕ)
-      → Shows old key (cond too_large (Answered TooLarge found) (cond spent Spent (cond stays (Answered (write_reply body) new) (cond room (Answered (write_reply body) placed) (Answered NoChunk found)))))
+      → Shows old key
+      (cond too_large (Answered TooLarge found) (cond spent Spent (cond stays (Answered (write_reply body) new) (cond room (Answered (write_reply body) placed) (Answered NoChunk found)))))
   write_shows true spent stays room body old found new placed key = tt
   write_shows false true stays room body old found new placed key = tt
-  write_shows false false true room body old found new placed key = elim body as (λ (y : Body). Shows old key (Answered (write_reply y) new)) [ Given ↦ tt | Appended ↦ tt | Prepended ↦ tt | Counted n ↦ tt ]
-  write_shows false false false true body old found new placed key = elim body as (λ (y : Body). Shows old key (Answered (write_reply y) placed)) [ Given ↦ tt | Appended ↦ tt | Prepended ↦ tt | Counted n ↦ tt ]
+  write_shows false false true room body old found new placed key =
+      elim body as (λ (y : Body). Shows old key (Answered (write_reply y) new)) [ Given ↦ tt | Appended ↦ tt | Prepended ↦ tt | Counted n ↦ tt ]
+  write_shows false false false true body old found new placed key =
+      elim body as (λ (y : Body). Shows old key (Answered (write_reply y) placed)) [ Given ↦ tt | Appended ↦ tt | Prepended ↦ tt | Counted n ↦ tt ]
   write_shows false false false false body old found new placed key = tt
 
   changed_shows : (row : Row) (step : KeyStep) (item : Option Item) (old found : Plain) (now : ℕ) → Stands item (key_of step) old → Shows old (key_of step) (changed row step item found now)
@@ -155,8 +158,8 @@ module _ (flags unique : ℕ) (block : List ℕ) where
   changed_shows (Writes draft) step item old found now stands =
       let key : List ℕ = key_of step in
       let b : List ℕ = written_block draft.body (block_of step) item in
-      let class : ℕ = block_class key b in
-      write_shows (ltb found.greatest (charge key b)) (eqb found.next_unique 18446744073709551615) (keeps_chunk draft.body key item) (has_room found class) draft.body old found _ _ key
+      let need : NeedState = block_need key b in
+      write_shows (ltb found.greatest (charge key b)) (eqb found.next_unique 18446744073709551615) (keeps_chunk draft.body key item) (has_room found need) draft.body old found _ _ key
 
   stepped_shows : (old : Plain) (step : KeyStep) (now : ℕ) → Shows old (key_of step) (stepped old step now)
   unfolding Stands
@@ -229,13 +232,12 @@ module _ (key : List ℕ) (flags : ℕ) (expiry : Expiry) (block : List ℕ) (no
   unfolding item_of
   given_gives old o =
       let m : Plain = without_dead o key old in
-      let class : ℕ = block_class key block in
+      let need : NeedState = block_need key block in
       let next = found_next 0 0 [] o key old in
-      let paged = paged_next 0 0 [] (eqb (count_of m.items class) (chunks_of m class)) _ m refl in
-      write_gives (ltb m.greatest (charge key block)) (eqb m.next_unique 18446744073709551615) (has_room m class) (item_of old.next_unique) m
-      (written m key flags expiry block now) (written (with_chunk m class) key flags expiry block now)
+      write_gives (ltb m.greatest (charge key block)) (eqb m.next_unique 18446744073709551615) (has_room m need) (item_of old.next_unique) m
+      (written m key flags expiry block now) (written (with_chunk m need) key flags expiry block now)
       (get_put m.items key (item_of m.next_unique) ∙ ap (λ n. Some (item_of n)) next)
-      (get_put (with_chunk m class).items key (item_of (with_chunk m class).next_unique) ∙ ap (λ n. Some (item_of n)) (paged ∙ next))
+      (get_put (with_chunk m need).items key (item_of (with_chunk m need).next_unique) ∙ ap (λ n. Some (item_of n)) next)
 
 module _ (key : List ℕ) (flags : ℕ) (exptime : ℤ) (block : List ℕ) (now : ℕ) where
   stored : ℕ → Item
@@ -245,29 +247,38 @@ module _ (key : List ℕ) (flags : ℕ) (exptime : ℤ) (block : List ℕ) (now 
   unfolding item_of stored
   gives old o = given_gives key flags (expiry_of exptime now) block now old o
 
-  add_gives : (old : Plain) (o : Option Item) → Gives key (stored old.next_unique) (changed (store_row Add flags (expiry_of exptime now) o) (Store Add key flags exptime block) o (without_dead o key old) now)
+  add_gives : (old : Plain) (o : Option Item)
+      → Gives key (stored old.next_unique) (changed (store_row Add flags (expiry_of exptime now) o) (Store Add key flags exptime block) o (without_dead o key old) now)
   add_gives old None = gives old None
   add_gives old (Some i) = tt
 
-  replace_gives : (old : Plain) (o : Option Item) → Gives key (stored old.next_unique) (changed (store_row Replace flags (expiry_of exptime now) o) (Store Replace key flags exptime block) o (without_dead o key old) now)
+  replace_gives : (old : Plain) (o : Option Item)
+      → Gives key (stored old.next_unique) (changed (store_row Replace flags (expiry_of exptime now) o) (Store Replace key flags exptime block) o (without_dead o key old) now)
   replace_gives old None = tt
   replace_gives old (Some i) = gives old (Some i)
 
-  cas_test : (b : Bool) (known : ℕ) (old : Plain) (o : Option Item) → Gives key (stored old.next_unique) (changed (cond b (given flags (expiry_of exptime now)) (Refuses refusal.Exists)) (Cas key flags exptime block known) o (without_dead o key old) now)
+  cas_test : (b : Bool) (known : ℕ) (old : Plain) (o : Option Item)
+      → Gives key (stored old.next_unique) (changed (cond b (given flags (expiry_of exptime now)) (Refuses refusal.Exists)) (Cas key flags exptime block known) o (without_dead o key old) now)
   cas_test true known old o = gives old o
   cas_test false known old o = tt
 
-  cas_gives : (known : ℕ) (old : Plain) (o : Option Item) → Gives key (stored old.next_unique) (changed (cas_row flags (expiry_of exptime now) known o) (Cas key flags exptime block known) o (without_dead o key old) now)
+  cas_gives : (known : ℕ) (old : Plain) (o : Option Item)
+      → Gives key (stored old.next_unique) (changed (cas_row flags (expiry_of exptime now) known o) (Cas key flags exptime block known) o (without_dead o key old) now)
   cas_gives known old None = tt
   cas_gives known old (Some i) = cas_test (eqb i.unique known) known old (Some i)
 
 pub stored_gives : (step : KeyStep) (now : ℕ) (item : Item) (old : Plain) → item_given step now old.next_unique ≡ Some item → Gives (key_of step) item (plain old step now)
 unfolding stored
-stored_gives (Store Set key flags exptime block) now item old e = subst (λ (x : Item). Gives key x (plain old (Store Set key flags exptime block) now)) (some_is _ _ e) (gives key flags exptime block now old (standing old key now))
-stored_gives (Store Add key flags exptime block) now item old e = subst (λ (x : Item). Gives key x (plain old (Store Add key flags exptime block) now)) (some_is _ _ e) (add_gives key flags exptime block now old (standing old key now))
-stored_gives (Store Replace key flags exptime block) now item old e = subst (λ (x : Item). Gives key x (plain old (Store Replace key flags exptime block) now)) (some_is _ _ e) (replace_gives key flags exptime block now old (standing old key now))
-stored_gives (Cas key flags exptime block known) now item old e = subst (λ (x : Item). Gives key x (plain old (Cas key flags exptime block known) now)) (some_is _ _ e) (cas_gives key flags exptime block now known old (standing old key now))
+stored_gives (Store Set key flags exptime block) now item old e =
+    subst (λ (x : Item). Gives key x (plain old (Store Set key flags exptime block) now)) (some_is _ _ e) (gives key flags exptime block now old (standing old key now))
+stored_gives (Store Add key flags exptime block) now item old e =
+    subst (λ (x : Item). Gives key x (plain old (Store Add key flags exptime block) now)) (some_is _ _ e) (add_gives key flags exptime block now old (standing old key now))
+stored_gives (Store Replace key flags exptime block) now item old e =
+    subst (λ (x : Item). Gives key x (plain old (Store Replace key flags exptime block) now)) (some_is _ _ e) (replace_gives key flags exptime block now old (standing old key now))
+stored_gives (Cas key flags exptime block known) now item old e =
+    subst (λ (x : Item). Gives key x (plain old (Cas key flags exptime block known) now)) (some_is _ _ e) (cas_gives key flags exptime block now known old (standing old key now))
 stored_gives step now item old e = absurd (none_some item e)
 
-pub given_left : (step : KeyStep) (now : ℕ) (item : Item) (old new : Plain) → item_given step now old.next_unique ≡ Some item → plain old step now ≡ Answered Stored new → get new.items (key_of step) ≡ Some item
+pub given_left : (step : KeyStep) (now : ℕ) (item : Item) (old new : Plain) → item_given step now old.next_unique ≡ Some item
+    → plain old step now ≡ Answered Stored new → get new.items (key_of step) ≡ Some item
 given_left step now item old new e is = subst (Gives (key_of step) item) is (stored_gives step now item old e)

@@ -10,6 +10,7 @@ pub mod SpreadLemmas
 pub mod Showing
 pub mod StepsKept
 pub mod Decisions
+pub mod HitLemmas
 pub mod Held
 pub mod Opening
 pub mod Stacked
@@ -27,3 +28,4 @@ pub mod TogetherLawLemmas
 pub mod MixLawLemmas
 pub mod AbsentLawLemmas
 pub mod LawUses
+pub mod Sent

@@ -195,11 +195,13 @@ module _ (began : Beginning) where
       let mix = go_on more ds (tail_of e _ (picked by_other log) (entries_from more ds) is) in
       (d ∷ mix.0, inr (ds, refl, mix.1), next_answers m e q d mix.0 (head_of e _ (picked by_other log) (entries_from more ds) is) right mix.2)
 
-  mixed : (log : List HistoryEntry) (m : Plain) (p q : Past) (cs ds : List Call) → IsLegal began m log → picked by_first log ≡ entries_from p cs → picked by_other log ≡ entries_from q ds → Mixed m cs ds
+  mixed : (log : List HistoryEntry) (m : Plain) (p q : Past) (cs ds : List Call) → IsLegal began m log → picked by_first log ≡ entries_from p cs
+      → picked by_other log ≡ entries_from q ds → Mixed m cs ds
   unfolding picked by_first by_other Mixed
   mixed [] m p q cs ds legal firsts others = ([], (none_from p cs firsts, none_from q ds others), tt)
   mixed (e ∷ log) m p q cs ds legal firsts others =
-      elim (is_first e.by) as (λ b. cond b (e ∷ picked by_first log) (picked by_first log) ≡ entries_from p cs → cond (not b) (e ∷ picked by_other log) (picked by_other log) ≡ entries_from q ds → Mixed m cs ds) [
+      elim (is_first e.by) as
+      (λ b. cond b (e ∷ picked by_first log) (picked by_first log) ≡ entries_from p cs → cond (not b) (e ∷ picked by_other log) (picked by_other log) ≡ entries_from q ds → Mixed m cs ds) [
         | true ↦ λ here there. first_next log m e p cs ds legal.0 here (λ more rest is. mixed log (next began m e.what) more q rest ds legal.1 is there)
         | false ↦ λ here there. other_next log m e q cs ds legal.0 there (λ more rest is. mixed log (next began m e.what) p more cs rest legal.1 here is)
       ] firsts others

@@ -4,7 +4,8 @@ use lib.Dec.{T}
 use Rattle.std.specs.Ordering.{is_eq}
 use Rattle.std.specs.Cmp.{tied_itself}
 use Rattle.std.specs.Cmp.Lexicographic.{nat_list_cmp_total}
-use Rattle.std.specs.FinMap.{get, len, retain_keys, empty, insert, remove, entries, entries_sorted, entries-from_sorted, from_sorted, get-empty, get-entries, get-from_sorted, get-remove, is_sorted, len-empty, len-entries, len-insert, empty_of_len}
+use Rattle.std.specs.FinMap.{get, len, retain_keys, empty, insert, remove, entries, entries_sorted, entries-from_sorted, from_sorted, get-empty, get-entries, get-from_sorted}
+use Rattle.std.specs.FinMap.{get-remove, is_sorted, len-empty, len-entries, len-insert, empty_of_len}
 use Rattle.std.specs.FinMap.Entries.{where_key, is_sorted-where_key, find-where_key}
 use Rattle.mc_command.specs.Plain.{Items, Entry}
 use Rattle.mc_shelf.proofs.KeyLemmas.{order, same_key, same_maps, get_kept, get_gone}
@@ -50,7 +51,8 @@ len_without a key =
       | None ↦ λ none. (let same : len (remove a key) ≡ len a = ap (λ (m : Items). len m) (nothing_out a key none) in omega (arith, same))
       | Some item ↦ λ is.
           let back : len (insert (remove a key) key item) ≡ len a = ap (λ (m : Items). len m) (put_back a key item is) in
-          let more : len (insert (remove a key) key item) ≡ len (remove a key) + 1 = len-insert nat_list_cmp_total (remove a key) key item ∙ ap (λ o. cond (is_some o) (len (remove a key)) (len (remove a key) + 1)) (get_gone a key) in
+          let more : len (insert (remove a key) key item) ≡ len (remove a key) + 1 = len-insert nat_list_cmp_total (remove a key) key item
+          ∙ ap (λ o. cond (is_some o) (len (remove a key)) (len (remove a key) + 1)) (get_gone a key) in
           omega (arith, back, more)
     ] refl
 
@@ -91,7 +93,9 @@ module _ (keep : List ℕ → Bool) where
   -- none passes where nothing stands under any key that does
   pub count_none : (a : Items) → ((key : List ℕ) → keep key ≡ true → get a key ≡ None) → len (retain_keys a keep) ≡ 0
   count_none a none =
-      ap (λ (m : Items). len m) (same_maps (retain_keys a keep) empty (λ q. get_kept a keep q ∙ elim (keep q) as (λ k. keep q ≡ k → cond k (get a q) None ≡ None) [ true ↦ λ e. none q e | false ↦ λ e. refl ] refl ∙ sym (get-empty order q)))
+      ap (λ (m : Items). len m)
+      (same_maps (retain_keys a keep) empty
+      (λ q. get_kept a keep q ∙ elim (keep q) as (λ k. keep q ≡ k → cond k (get a q) None ≡ None) [ true ↦ λ e. none q e | false ↦ λ e. refl ] refl ∙ sym (get-empty order q)))
       ∙ len-empty order Entry
 
   pub none_counted : (a : Items) → len (retain_keys a keep) ≡ 0 → (key : List ℕ) → keep key ≡ true → get a key ≡ None

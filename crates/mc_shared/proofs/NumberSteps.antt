@@ -1,5 +1,6 @@
 -- By how much the keys of each number change in a decision.
-use Rattle.std.proofs.Common.{◌≡◌, ◌≢◌, ◌==◌, ℕ, zero, suc, ◌+◌, ◌-◌, ◌*◌, ◌/◌, ◌%◌, ◌^◌, ◌≤◌, ◌<◌, true, false, cond, eqb, Option, Some, None, is_some, List, [], ◌∷◌, replicate, refl, sym, ap, ◌∙◌, subst, arith, eq-eqb, ne_eqb, mod-lt, div-add-mod'}
+use Rattle.std.proofs.Common.{◌≡◌, ◌≢◌, ◌==◌, ℕ, zero, suc, ◌+◌, ◌-◌, ◌*◌, ◌/◌, ◌%◌, ◌^◌, ◌≤◌, ◌<◌, true, false, cond, eqb, Option, Some, None, is_some, List, [], ◌∷◌, replicate}
+use Rattle.std.proofs.Common.{refl, sym, ap, ◌∙◌, subst, arith, eq-eqb, ne_eqb, mod-lt, div-add-mod'}
 use mathlib.Core.Logic.{dite}
 use native.Mathlib.Decide.{ℕ_discrete}
 use Rattle.std.specs.FinMap.{get, len, retain_keys, empty, get-empty}
@@ -26,7 +27,8 @@ pub shelf_named : (hash shelves q : ℕ) → q * shelves ≡ 4096 → (hash % 40
 shelf_named hash shelves q divides =
     let n : ℕ = hash / 4096 in
     let parts : n * 4096 + hash % 4096 ≡ hash = div-add-mod' hash 4096 in
-    let sum : hash ≡ hash % 4096 + (n * q) * shelves = sym parts ∙ (λ i. n * sym divides i + hash % 4096) ∙ (ap (λ k. k + hash % 4096) (sym (native.Mathlib.Nat.mul_assoc n q shelves)) ∙ native.Mathlib.Nat.add_comm ((n * q) * shelves) (hash % 4096)) in
+    let sum : hash ≡ hash % 4096 + (n * q) * shelves = sym parts ∙ (λ i. n * sym divides i + hash % 4096)
+    ∙ (ap (λ k. k + hash % 4096) (sym (native.Mathlib.Nat.mul_assoc n q shelves)) ∙ native.Mathlib.Nat.add_comm ((n * q) * shelves) (hash % 4096)) in
     sym (ap (λ k. k % shelves) sum ∙ native.Mathlib.Nat.add-mul-mod_self_right (hash % 4096) (n * q) shelves)
 
 pub eqb_true : (a b : ℕ) → eqb a b ≡ true → a ≡ b
@@ -45,8 +47,10 @@ module _ (start : Beginning) (at : ℕ) (q : ℕ) (divides : q * start.shelves �
   is_part_of m other = record {
     greatest = refl;
     cut = refl;
-    items = λ key own. get_kept m.items (λ k. shelf_of start.hash_of start.shelves k == other) key ∙ ap (λ b. cond b (get m.items key) None) (eq-eqb (shelf_of start.hash_of start.shelves key) other own);
-    apart = λ key ne. get_kept m.items (λ k. shelf_of start.hash_of start.shelves k == other) key ∙ ap (λ b. cond b (get m.items key) None) (ne_eqb (shelf_of start.hash_of start.shelves key) other ne);
+    items = λ key own. get_kept m.items (λ k. shelf_of start.hash_of start.shelves k == other) key
+        ∙ ap (λ b. cond b (get m.items key) None) (eq-eqb (shelf_of start.hash_of start.shelves key) other own);
+    apart = λ key ne. get_kept m.items (λ k. shelf_of start.hash_of start.shelves k == other) key
+        ∙ ap (λ b. cond b (get m.items key) None) (ne_eqb (shelf_of start.hash_of start.shelves key) other ne);
     hashes = λ key stored is. absurd (cc (sym (get-empty order key) ∙ is));
   }
 
@@ -78,7 +82,8 @@ named_so word (suc k) = let rest = named_so word k in let one : ◌≡◌ {A = �
 
 pub named_not : (other word k : ℕ) → other ≢ word → total (λ x. cond (eqb other x) 1 0) (replicate k word) ≡ 0
 named_not other word zero ne = refl
-named_not other word (suc k) ne = let rest = named_not other word k ne in let none : ◌≡◌ {A = ℕ} (cond (eqb other word) 1 0) 0 = ap (λ t. cond t 1 0) (ne_eqb other word ne) in omega (arith, rest, none)
+named_not other word (suc k) ne = let rest = named_not other word k ne in let none : ◌≡◌ {A = ℕ} (cond (eqb other word) 1 0) 0 =
+    ap (λ t. cond t 1 0) (ne_eqb other word ne) in omega (arith, rest, none)
 
 module _ (start : Beginning) (at : ℕ) (divides : 4096 / start.shelves * start.shelves ≡ 4096) (key : List ℕ) (own : shelf_in start key ≡ at) where
   abbrev number : ℕ
@@ -120,8 +125,10 @@ module _ (start : Beginning) (at : ℕ) (divides : 4096 / start.shelves * start.
         → Counts start v what w
     counts_step v w what below_it had has holds goes = record {
       weighs = λ m fits n low. let g = goes m fits in let m' = next start m what in
-          let was : named (word_of start.shelves n) v ≡ total (λ x. cond (eqb (word_of start.shelves n) x) 1 0) (replicate before word) = ap (total (λ x. cond (eqb (word_of start.shelves n) x) 1 0)) had in
-          let is : named (word_of start.shelves n) w ≡ total (λ x. cond (eqb (word_of start.shelves n) x) 1 0) (replicate left word) = ap (total (λ x. cond (eqb (word_of start.shelves n) x) 1 0)) has in
+          let was : named (word_of start.shelves n) v ≡ total (λ x. cond (eqb (word_of start.shelves n) x) 1 0) (replicate before word) =
+          ap (total (λ x. cond (eqb (word_of start.shelves n) x) 1 0)) had in
+          let is : named (word_of start.shelves n) w ≡ total (λ x. cond (eqb (word_of start.shelves n) x) 1 0) (replicate left word) =
+          ap (total (λ x. cond (eqb (word_of start.shelves n) x) 1 0)) has in
           dite (ℕ_discrete n number)
           (λ e. subst (λ (k : ℕ). keys_with start.hash_of k m.items + named (word_of start.shelves k) v ≡ keys_with start.hash_of k m'.items + named (word_of start.shelves k) w) (sym e)
           (let was' : named word v ≡ before = ap (total (λ x. cond (eqb word x) 1 0)) had ∙ named_so word before in
@@ -142,7 +149,8 @@ module _ (start : Beginning) (at : ℕ) (divides : 4096 / start.shelves * start.
             below = below;
             is = e;
             held = (let one : holds_bay (number % start.shelves) (at, OfShelf f') ≡ 1 = ap (λ b. holds_bay b (at, OfShelf f')) own_number ∙ here at (OfShelf f') in
-                let all : times (number % start.shelves) w ≡ holds_bay (number % start.shelves) (at, OfShelf f') + total (holds_bay (number % start.shelves)) below_it = ap (total (holds_bay (number % start.shelves))) holds in omega (arith, one, all));
+                let all : times (number % start.shelves) w ≡ holds_bay (number % start.shelves) (at, OfShelf f') + total
+                (holds_bay (number % start.shelves)) below_it = ap (total (holds_bay (number % start.shelves))) holds in omega (arith, one, all));
           })
           (λ ne. absurd (let is : named x w ≡ 0 = ap (total (λ y. cond (eqb x y) 1 0)) has ∙ named_not x word left ne in omega (arith, is, some_named)));
     }
@@ -160,7 +168,8 @@ counts_settled start at divides key own f f' others stands v w what had has goes
   weighs = λ m fits n low. let g = goes m fits in let m' = next start m what in
       let was = no_surplus v (word_of start.shelves n) had in let is = no_surplus w (word_of start.shelves n) has in
       let same : keys_with start.hash_of n m'.items ≡ keys_with start.hash_of n m.items = dite (ℕ_discrete (n % start.shelves) at)
-      (λ here. own_after start at (4096 / start.shelves) divides m m' f f' g.1.0 g.0 g.1.1 n here ∙ (alike n ∙ sym (own_before start at (4096 / start.shelves) divides m m' f f' g.1.0 g.0 g.1.1 n here)))
+      (λ here. own_after start at (4096 / start.shelves) divides m m' f f' g.1.0 g.0 g.1.1 n here
+      ∙ (alike n ∙ sym (own_before start at (4096 / start.shelves) divides m m' f f' g.1.0 g.0 g.1.1 n here)))
       (λ off. others_stay start at (4096 / start.shelves) divides m m' f f' g.1.0 g.0 g.1.1 n off) in omega (arith, was, is, same);
   owned = λ x some_named. absurd (let z = no_surplus w x has in omega (arith, z, some_named));
 }
@@ -175,7 +184,8 @@ counts_settled start at divides key own f f' others stands v w what had has goes
 pub counts_same : (start : Beginning) (v w : SeatView) (what : Operation) → v.surplus ≡ [] → w.surplus ≡ [] → ((m : Plain) → AllFit start m v.bays → next start m what ≡ m) → Counts start v what w
 counts_same start v w what had has stays = record {
   weighs = λ m fits n low. let was = no_surplus v (word_of start.shelves n) had in let is = no_surplus w (word_of start.shelves n) has in
-      let same : keys_with start.hash_of n (next start m what).items ≡ keys_with start.hash_of n m.items = ap (λ (z : Plain). keys_with start.hash_of n z.items) (stays m fits) in omega (arith, was, is, same);
+      let same : keys_with start.hash_of n (next start m what).items ≡ keys_with start.hash_of n m.items =
+      ap (λ (z : Plain). keys_with start.hash_of n z.items) (stays m fits) in omega (arith, was, is, same);
   owned = λ x some_named. absurd (let z = no_surplus w x has in omega (arith, z, some_named));
 }
 
@@ -189,7 +199,8 @@ may_add start at divides hash key hashed own low f d v bays bare small =
       below = mod-lt hash (omega arith);
       inside = subst (λ k. k < start.shelves) (sym same) low;
       held = (let one : holds_bay (n % start.shelves) (at, OfShelf f) ≡ 1 = ap (λ b. holds_bay b (at, OfShelf f)) same ∙ here at (OfShelf f) in
-          let all : times (n % start.shelves) v ≡ holds_bay (n % start.shelves) (start.shelves, OfDesk d) + (holds_bay (n % start.shelves) (at, OfShelf f) + 0) = ap (total (holds_bay (n % start.shelves))) bays in omega (arith, one, all));
+          let all : times (n % start.shelves) v ≡ holds_bay (n % start.shelves) (start.shelves, OfDesk d) +
+          (holds_bay (n % start.shelves) (at, OfShelf f) + 0) = ap (total (holds_bay (n % start.shelves))) bays in omega (arith, one, all));
       bare = bare;
       few = λ m fits. (let h : AllFit start m ((start.shelves, OfDesk d) ∷ (at, OfShelf f) ∷ []) = subst (AllFit start m) bays fits in
           let one = own_at start at (4096 / start.shelves) divides m f h.1.0.1 n same in

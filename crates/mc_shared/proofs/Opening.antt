@@ -1,5 +1,6 @@
 -- The rule at the start.
-use Rattle.std.proofs.Common.{◌≡◌, ◌⊎◌, ℕ, zero, suc, ◌+◌, ◌*◌, ◌/◌, ◌≤◌, ◌<◌, set, length-set, get_or-set_other, get_or-set_same, Some, List, [], ◌∷◌, ◌++◌, length, map, replicate, get_or, slice_get, sym, refl, ap, ◌∙◌, subst, inl, inr, ⊎_elim, arith}
+use Rattle.std.proofs.Common.{◌≡◌, ◌⊎◌, ℕ, zero, suc, ◌+◌, ◌*◌, ◌/◌, ◌≤◌, ◌<◌, set, length-set, get_or-set_other, get_or-set_same, Some, List, [], ◌∷◌, ◌++◌, length, map}
+use Rattle.std.proofs.Common.{replicate, get_or, slice_get, sym, refl, ap, ◌∙◌, subst, inl, inr, ⊎_elim, arith}
 use mathlib.Core.Logic.{dite}
 use native.Mathlib.Decide.{ℕ_discrete}
 use mathlib.Core.Option.{some, some-injective, some-ne-none}
@@ -102,7 +103,8 @@ none_filled shelves counts = record {
   counts_set = λ n low _. absurd (omega (arith, low));
 }
 
-pub fills_one : (shelves : ℕ) (words counts : List ℕ) (number at c : ℕ) → 4096 / shelves * shelves ≡ 4096 → number < 4096 → AreFilled shelves words counts number → at ≡ word_of shelves number → c ≡ get_or counts number 0
+pub fills_one : (shelves : ℕ) (words counts : List ℕ) (number at c : ℕ) → 4096 / shelves * shelves ≡ 4096 → number < 4096
+    → AreFilled shelves words counts number → at ≡ word_of shelves number → c ≡ get_or counts number 0
     → AreFilled shelves (set words at c) counts (number + 1)
 fills_one shelves words counts number at c divides low filled place_is is = record {
   long = length-set words at c ∙ filled.long;
@@ -113,7 +115,8 @@ fills_one shelves words counts number at c divides low filled place_is is = reco
       (λ ne. get_or-set_other words at (word_of shelves n) c 0 (λ e. ne (words_apart shelves n number divides few low (e ∙ place_is))) ∙ filled.counts_set n (omega (arith, below, ne)) few);
 }
 
-pub are_first : (shelves : ℕ) (words counts : List ℕ) (xs : List ShelfState) → 4096 / shelves * shelves ≡ 4096 → (number : ℕ) → 4096 ≤ number → AreFilled shelves words counts number → AreCountsOfAll xs counts
+pub are_first : (shelves : ℕ) (words counts : List ℕ) (xs : List ShelfState) → 4096 / shelves * shelves ≡ 4096 → (number : ℕ) → 4096 ≤ number
+    → AreFilled shelves words counts number → AreCountsOfAll xs counts
     → (start : Beginning) → start.shelves ≡ shelves → AreAllOf start.hash_of start.plain xs → AreFirst start words
 are_first shelves words counts xs divides number all filled counted start is parts = record {
   divides = subst (λ (s : ℕ). 4096 / s * s ≡ 4096) (sym is) divides;
@@ -123,7 +126,8 @@ are_first shelves words counts xs divides number all filled counted start is par
 }
 
 -- the table that opens is one for the store
-pub table_of : {K : Type 0} (hash_of : K → List ℕ → ℕ) (table : TableId) (key store : StoreState K) (words : List ℕ) → table.words ≡ length words → key ≡ store → AreFirst (start_of hash_of store) words → IsTableOf table key
+pub table_of : {K : Type 0} (hash_of : K → List ℕ → ℕ) (table : TableId) (key store : StoreState K) (words : List ℕ) → table.words ≡ length words → key ≡ store
+    → AreFirst (start_of hash_of store) words → IsTableOf table key
 table_of hash_of table key store words len is first = subst (λ s. IsTableOf table s) (sym is) record {
   wide = len ∙ first.long;
   bays = (let room = bays_inside store.settings.shelves in let long = first.long in omega (arith, room, long, len));

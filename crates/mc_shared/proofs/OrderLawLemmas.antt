@@ -109,7 +109,8 @@ grows p (made q d) w = ⊎_elim (grows_same p (made q d)) (λ (v : WentOn p q). 
 grows p (both q o) w = ⊎_elim (grows_same p (both q o))
     (λ (v : WentOn p q). let g = grows p q v in record { name = g.name; calls = λ c. let m = g.calls c in omega (arith, m, sum_append (called_by c) (held q) (held o)) }) w
 
-pub numbers_grow : (p q : Past) (first second : Operation) → WentOn (call p (entry_of p first)) q → ((entry_of q second).by ≡ (entry_of p first).by) × ((entry_of p first).number < (entry_of q second).number)
+pub numbers_grow : (p q : Past) (first second : Operation) → WentOn (call p (entry_of p first)) q → ((entry_of q second).by ≡ (entry_of p first).by)
+    × ((entry_of p first).number < (entry_of q second).number)
 numbers_grow p q first second w =
     let g = grows (call p (entry_of p first)) q w in
     let more = g.calls (name_of p) in

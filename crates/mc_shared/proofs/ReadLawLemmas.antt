@@ -24,7 +24,8 @@ use Rattle.mc_shared.proofs.KeyLawLemmas.{exact_order, none_some, kept_was, Trac
 
 -- the law of mc_command on other keys
 abbrev pub OthersStay : Type 0
-OthersStay = (old new : Plain) (step : KeyStep) (now : ℕ) (reply : Reply) (other : List ℕ) → IsOnKey step → plain old step now ≡ Answered reply new → other ≢ key_of step → get new.items other ≡ get old.items other
+OthersStay = (old new : Plain) (step : KeyStep) (now : ℕ) (reply : Reply) (other : List ℕ) → IsOnKey step → plain old step now ≡ Answered reply new
+    → other ≢ key_of step → get new.items other ≡ get old.items other
 
 -- ---- keys
 pub same_keys : (c d : List ℕ) → same c d ≢ 0 → c ≡ d
@@ -90,7 +91,8 @@ around (x ∷ before) at behind e s = ⊎_elim
 
 module _ (others_stay : OthersStay) (began : Beginning) (key : List ℕ) where
   -- ---- what an entry does that may not change the key's item
-  apart_stays : (m : Plain) (step : KeyStep) (now : ℕ) (reply : Reply) → IsOnKey step → IsRight m (Stepped step now reply) → key ≢ key_of step → get (next began m (Stepped step now reply)).items key ≡ get m.items key
+  apart_stays : (m : Plain) (step : KeyStep) (now : ℕ) (reply : Reply) → IsOnKey step → IsRight m (Stepped step now reply) → key ≢ key_of step
+      → get (next began m (Stepped step now reply)).items key ≡ get m.items key
   apart_stays m step now reply on right ne =
       ap (λ o. get (left_by m o).items key) right.1 ∙ others_stay m right.0 step now reply key on right.1 ne
 
@@ -109,7 +111,8 @@ module _ (others_stay : OthersStay) (began : Beginning) (key : List ℕ) where
       (λ (ne : other ≢ key). apart_stays m (Read other) now (Hit flags unique block) tt right (λ e. ne (sym e)))
       (one_or_other other key)
   spares m (Stepped step now reply) right not_may = apart_stays m step now reply tt right (λ e. not_may (sym e))
-  spares m (Purged shelf now) right not_may = purged_is m shelf now ∙ ap (λ b. cond (not b || is_some (alive m.cut now (get m.items key))) (get m.items key) None) (ne_eqb (shelf_in began key) shelf not_may)
+  spares m (Purged shelf now) right not_may = purged_is m shelf now
+      ∙ ap (λ b. cond (not b || is_some (alive m.cut now (get m.items key))) (get m.items key) None) (ne_eqb (shelf_in began key) shelf not_may)
 
   -- none of the entries may change the key's item
   abbrev Spared : List HistoryEntry → Type 0
@@ -135,7 +138,8 @@ module _ (others_stay : OthersStay) (began : Beginning) (key : List ℕ) where
       (λ (l : Last es). inl (record { before = x ∷ l.before; last = l.last; between = l.between; is = ap (λ ys. x ∷ ys) l.is; changes = l.changes; spared = l.spared }))
       (λ (all : Spared es). ⊎_elim
       (λ (may : MayChange began key x.what). inl (record { before = []; last = x; between = es; is = refl; changes = may; spared = all }))
-      (λ (not_may : MayChange began key x.what → ⊥). inr (λ e s. ⊎_elim (λ (is : e ≡ x). subst (λ (y : HistoryEntry). MayChange began key y.what → ⊥) (sym is) not_may) (λ (t : StandsIn es e). all e t) (first_or_behind x e es s)))
+      (λ (not_may : MayChange began key x.what → ⊥). inr
+      (λ e s. ⊎_elim (λ (is : e ≡ x). subst (λ (y : HistoryEntry). MayChange began key y.what → ⊥) (sym is) not_may) (λ (t : StandsIn es e). all e t) (first_or_behind x e es s)))
       (may_or_not began key x.what))
       (last_or_none es)
 
@@ -203,7 +207,8 @@ module _ (began : Beginning) (before behind : List HistoryEntry) (e : HistoryEnt
   unfolding there
   left_at what key is = ap (λ (s : Plain). get s.items key) (after_parts began began.plain before (e ∷ [])) ∙ ap (λ w. get (next began (after began began.plain before) w).items key) is
 
-  given_at : (step : KeyStep) (then : ℕ) (item : Item) → e.what ≡ Stepped step then Stored → item_given step then (after began began.plain before).next_unique ≡ Some item → item_after began (before ++ e ∷ []) (key_of step) ≡ Some item
+  given_at : (step : KeyStep) (then : ℕ) (item : Item) → e.what ≡ Stepped step then Stored
+      → item_given step then (after began began.plain before).next_unique ≡ Some item → item_after began (before ++ e ∷ []) (key_of step) ≡ Some item
   unfolding there
   given_at step then item is gives =
       let right = decided_right (Stepped step then Stored) is in
@@ -240,8 +245,10 @@ write_read stay began log p now reply step then write legal kept has stored on =
     let may = subst (MayChange began key) (sym stored) (may_stored began step then on) in
     let r = read_latest stay began log p key now reply write legal kept has may in
     let places = r.is_told.places in
-    let gives : (w : StandsBefore log write read) (item : Item) → item_given step then (after began began.plain w.before).next_unique ≡ Some item → item_after began (w.before ++ write ∷ []) key ≡ Some item =
-    λ w item. given_at began w.before w.between write (legal_parts began began.plain (w.before ++ write ∷ w.between) (read ∷ w.rest) (subst (IsLegal began began.plain) w.is legal)).0 step then item stored in
+    let gives : (w : StandsBefore log write read) (item : Item) → item_given step then (after began began.plain w.before).next_unique ≡ Some item
+    → item_after began (w.before ++ write ∷ []) key ≡ Some item =
+    λ w item. given_at began w.before w.between write
+    (legal_parts began began.plain (w.before ++ write ∷ w.between) (read ∷ w.rest) (subst (IsLegal began began.plain) w.is legal)).0 step then item stored in
     ⊎_elim
     (λ (is : write ≡ r.last).
     let told = subst (λ (e : HistoryEntry). IsTold began log key now reply e read) (sym is) r.is_told in
@@ -262,15 +269,18 @@ module _ (others_stay : OthersStay) (began : Beginning) (key : List ℕ) (flags 
   abbrev pub Was : Plain → Operation → Type 0
   Was m what = HasItem m key flags unique block ⊎ (Wrote key what × (unique ≡ m.next_unique))
 
-  here_was : (m new : Plain) (step : KeyStep) (now : ℕ) (reply : Reply) → stepped m step now ≡ Answered reply new → key_of step ≡ key → HasItem new key flags unique block → Was m (Stepped step now reply)
+  here_was : (m new : Plain) (step : KeyStep) (now : ℕ) (reply : Reply) → stepped m step now ≡ Answered reply new → key_of step ≡ key
+      → HasItem new key flags unique block → Was m (Stepped step now reply)
   here_was m new step now reply is at h =
       subst (λ k. HasItem new k flags unique block → HasItem m k flags unique block ⊎ (Wrote k (Stepped step now reply) × (unique ≡ m.next_unique))) at
       (subst (λ o. Traces flags unique block m step now o) is (stepped_traces flags unique block m step now)) h
 
-  there_was : (m new : Plain) (step : KeyStep) (now : ℕ) (reply : Reply) → IsOnKey step → plain m step now ≡ Answered reply new → key ≢ key_of step → HasItem new key flags unique block → Was m (Stepped step now reply)
+  there_was : (m new : Plain) (step : KeyStep) (now : ℕ) (reply : Reply) → IsOnKey step → plain m step now ≡ Answered reply new → key ≢ key_of step
+      → HasItem new key flags unique block → Was m (Stepped step now reply)
   there_was m new step now reply on is ne h = inl (h.0, sym (others_stay m new step now reply key on is ne) ∙ h.1, h.2, h.3, h.4)
 
-  on_key_was : (m new : Plain) (step : KeyStep) (now : ℕ) (reply : Reply) → IsOnKey step → plain m step now ≡ Answered reply new → stepped m step now ≡ Answered reply new → HasItem new key flags unique block → Was m (Stepped step now reply)
+  on_key_was : (m new : Plain) (step : KeyStep) (now : ℕ) (reply : Reply) → IsOnKey step → plain m step now ≡ Answered reply new
+      → stepped m step now ≡ Answered reply new → HasItem new key flags unique block → Was m (Stepped step now reply)
   on_key_was m new step now reply on is same_is h = ⊎_elim
       (λ (at : key_of step ≡ key). here_was m new step now reply same_is at h)
       (λ (ne : key_of step ≢ key). there_was m new step now reply on is (λ e. ne (sym e)) h)
@@ -279,7 +289,8 @@ module _ (others_stay : OthersStay) (began : Beginning) (key : List ℕ) (flags 
   kept_item : (items : Items) (keep : List ℕ → Bool) (i : Item) → get (retain_keys items keep) key ≡ Some i → get items key ≡ Some i
   kept_item items keep i is = kept_was (keep key) (get items key) i (sym (get-retain_keys items keep key (λ x h. ap keep (sym (exact_order key x h)))) ∙ is)
 
-  flushed_was : (b : Bool) (m once later : Plain) (i : Item) → once.items ≡ empty → (get later.items key ≡ Some i → get m.items key ≡ Some i) → get (cond b once later).items key ≡ Some i → get m.items key ≡ Some i
+  flushed_was : (b : Bool) (m once later : Plain) (i : Item) → once.items ≡ empty → (get later.items key ≡ Some i → get m.items key ≡ Some i)
+      → get (cond b once later).items key ≡ Some i → get m.items key ≡ Some i
   flushed_was true m once later i none keeps is = absurd (none_some i (sym (ap (λ (x : Items). get x key) none ∙ get-empty (slice_cmp nat_cmp) key) ∙ is))
   flushed_was false m once later i none keeps is = keeps is
 
@@ -313,7 +324,8 @@ module _ (others_stay : OthersStay) (began : Beginning) (key : List ℕ) (flags 
       (λ (w : Writer new es). inr (record { before = e ∷ w.before; write = w.write; rest = w.rest; stands = ap (λ ys. e ∷ ys) w.stands; wrote = w.wrote; drew = w.drew; left = w.left }))
       (writer new es legal.1 h)
 
-  written_or_began : (front : List HistoryEntry) → IsLegal began began.plain front → HasItem (after began began.plain front) key flags unique block → HasItem began.plain key flags unique block ⊎ IsWrittenIn began front key flags unique block
+  written_or_began : (front : List HistoryEntry) → IsLegal began began.plain front → HasItem (after began began.plain front) key flags unique block
+      → HasItem began.plain key flags unique block ⊎ IsWrittenIn began front key flags unique block
   written_or_began front legal h = ⊎_elim inl
       (λ (w : Writer began.plain front). inr (record { before = w.before; write = w.write; rest = w.rest; stands = w.stands; wrote = w.wrote; drew = w.drew; left = w.left }))
       (writer began.plain front legal h)

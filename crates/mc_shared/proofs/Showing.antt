@@ -14,6 +14,8 @@ shown start v key word shows bare =
       log = shows.log;
       legal = shows.legal;
       keeps = shows.keeps;
-      gone = λ e other same. none_counted (λ k. number_of start.hash_of k == n) (after start start.plain shows.log).items (shows.gone (eqb_true word 0 e)) other (eq-eqb (number_of start.hash_of other) n same);
-      zero = λ whole none. eq-eqb word 0 (shows.zero whole bare (count_none (λ k. number_of start.hash_of k == n) (after start start.plain shows.log).items (λ k passes. none k (eqb_true (number_of start.hash_of k) n passes))));
+      gone = λ e other same. none_counted (λ k. number_of start.hash_of k == n) (after start start.plain shows.log).items (shows.gone (eqb_true word 0 e)) other
+          (eq-eqb (number_of start.hash_of other) n same);
+      zero = λ whole none. eq-eqb word 0
+          (shows.zero whole bare (count_none (λ k. number_of start.hash_of k == n) (after start start.plain shows.log).items (λ k passes. none k (eqb_true (number_of start.hash_of k) n passes))));
     }

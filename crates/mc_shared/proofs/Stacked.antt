@@ -25,7 +25,8 @@ use Rattle.mc_shared.proofs.StockedKept.{here, elsewhere}
 
 snoc_on : (n : ℕ) (xs : List ShelfState) (x : ShelfState) (below : List (ℕ × Content)) → stacked_on n (xs ++ x ∷ []) below ≡ (n + length xs, OfShelf x.content) ∷ stacked_on n xs below
 snoc_on n [] x below = let e : n ≡ n + 0 = omega arith in λ i. (e i, OfShelf x.content) ∷ below
-snoc_on n (y ∷ xs) x below = snoc_on (n + 1) xs x ((n, OfShelf y.content) ∷ below) ∙ (let e : (n + 1) + length xs ≡ n + suc (length xs) = omega arith in λ i. (e i, OfShelf x.content) ∷ stacked_on (n + 1) xs ((n, OfShelf y.content) ∷ below))
+snoc_on n (y ∷ xs) x below = snoc_on (n + 1) xs x ((n, OfShelf y.content) ∷ below)
+    ∙ (let e : (n + 1) + length xs ≡ n + suc (length xs) = omega arith in λ i. (e i, OfShelf x.content) ∷ stacked_on (n + 1) xs ((n, OfShelf y.content) ∷ below))
 
 -- one more shelf on top
 pub stacked_snoc : (xs : List ShelfState) (x : ShelfState) → stacked (xs ++ x ∷ []) ≡ (length xs, OfShelf x.content) ∷ stacked xs
@@ -38,22 +39,26 @@ below_stays n c (x ∷ xs) below = let rest = below_stays (n + 1) c xs ((n, OfSh
 pub has_on : (n c : ℕ) (xs : List ShelfState) (below : List (ℕ × Content)) → n ≤ c → c < n + length xs → 1 ≤ total (holds_bay c) (stacked_on n xs below)
 has_on n c [] below low high = absurd (omega (arith, low, high))
 has_on n c (x ∷ xs) below low high = mathlib.Core.Logic.dite (native.Mathlib.Decide.ℕ_discrete c n)
-    (λ e. let one : holds_bay c (n, OfShelf x.content) ≡ 1 = ap (λ k. holds_bay c (k, OfShelf x.content)) (sym e) ∙ here c (OfShelf x.content) in let stays = below_stays (n + 1) c xs ((n, OfShelf x.content) ∷ below) in omega (arith, one, stays))
+    (λ e. let one : holds_bay c (n, OfShelf x.content) ≡ 1 = ap (λ k. holds_bay c (k, OfShelf x.content)) (sym e) ∙ here c (OfShelf x.content) in let stays =
+    below_stays (n + 1) c xs ((n, OfShelf x.content) ∷ below) in omega (arith, one, stays))
     (λ ne. has_on (n + 1) c xs ((n, OfShelf x.content) ∷ below) (omega (arith, low, ne)) (omega (arith, high)))
 
 -- the same places, whatever lies there
-same_places : (n c : ℕ) (xs ys : List ShelfState) (b d : List (ℕ × Content)) → length xs ≡ length ys → total (holds_bay c) b ≡ total (holds_bay c) d → total (holds_bay c) (stacked_on n xs b) ≡ total (holds_bay c) (stacked_on n ys d)
+same_places : (n c : ℕ) (xs ys : List ShelfState) (b d : List (ℕ × Content)) → length xs ≡ length ys → total (holds_bay c) b ≡ total (holds_bay c) d
+    → total (holds_bay c) (stacked_on n xs b) ≡ total (holds_bay c) (stacked_on n ys d)
 same_places n c [] [] b d l e = e
 same_places n c [] (y ∷ ys) b d l e = absurd (omega (arith, l))
 same_places n c (x ∷ xs) [] b d l e = absurd (omega (arith, l))
-same_places n c (x ∷ xs) (y ∷ ys) b d l e = same_places (n + 1) c xs ys ((n, OfShelf x.content) ∷ b) ((n, OfShelf y.content) ∷ d) (omega (arith, l)) (ap (λ k. holds_bay c (n, OfShelf x.content) + k) e)
+same_places n c (x ∷ xs) (y ∷ ys) b d l e =
+    same_places (n + 1) c xs ys ((n, OfShelf x.content) ∷ b) ((n, OfShelf y.content) ∷ d) (omega (arith, l)) (ap (λ k. holds_bay c (n, OfShelf x.content) + k) e)
 
 -- shelves that all fit, one after another
 below_fit : (began : Beginning) (m : Plain) (n : ℕ) (xs : List ShelfState) (below : List (ℕ × Content)) → AllFit began m (stacked_on n xs below) → AllFit began m below
 below_fit began m n [] below h = h
 below_fit began m n (x ∷ xs) below h = (below_fit began m (n + 1) xs ((n, OfShelf x.content) ∷ below) h).1
 
-each_fits : (began : Beginning) (m : Plain) (n : ℕ) (xs : List ShelfState) (below : List (ℕ × Content)) → AllFit began m (stacked_on n xs below) → (at : ℕ) (x : ShelfState) → slice_get xs at ≡ Some x → IsShelfOf began.hash_of began.shelves m (n + at) x.content
+each_fits : (began : Beginning) (m : Plain) (n : ℕ) (xs : List ShelfState) (below : List (ℕ × Content)) → AllFit began m (stacked_on n xs below)
+    → (at : ℕ) (x : ShelfState) → slice_get xs at ≡ Some x → IsShelfOf began.hash_of began.shelves m (n + at) x.content
 each_fits began m n [] below h at x e = cc
 each_fits began m n (y ∷ xs) below h zero x e = let f = (below_fit began m (n + 1) xs ((n, OfShelf y.content) ∷ below) h).0 in
     let here_it : n ≡ n + 0 = omega arith in subst (λ (t : ℕ × ShelfState). IsShelfOf began.hash_of began.shelves m t.0 t.1.content) (λ i. (here_it i, same_some y x e i)) f.1
@@ -63,7 +68,8 @@ each_fits began m n (y ∷ xs) below h zero x e = let f = (below_fit began m (n 
 each_fits began m n (y ∷ xs) below h (suc at) x e = let next = each_fits began m (n + 1) xs ((n, OfShelf y.content) ∷ below) h at x e in
     let same : n + 1 + at ≡ n + suc at = omega arith in subst (λ k. IsShelfOf began.hash_of began.shelves m k x.content) same next
 
-all_fit : (began : Beginning) (m : Plain) (n : ℕ) (xs : List ShelfState) (below : List (ℕ × Content)) → n + length xs ≤ began.shelves → ((at : ℕ) (x : ShelfState) → slice_get xs at ≡ Some x → IsShelfOf began.hash_of began.shelves m (n + at) x.content) → AllFit began m below → AllFit began m (stacked_on n xs below)
+all_fit : (began : Beginning) (m : Plain) (n : ℕ) (xs : List ShelfState) (below : List (ℕ × Content)) → n + length xs ≤ began.shelves
+    → ((at : ℕ) (x : ShelfState) → slice_get xs at ≡ Some x → IsShelfOf began.hash_of began.shelves m (n + at) x.content) → AllFit began m below → AllFit began m (stacked_on n xs below)
 all_fit began m n [] below l fits h = h
 all_fit began m n (x ∷ xs) below l fits h =
     all_fit began m (n + 1) xs ((n, OfShelf x.content) ∷ below) (omega (arith, l))
@@ -71,12 +77,22 @@ all_fit began m n (x ∷ xs) below l fits h =
     ((omega (arith, l), (let same : n + 0 ≡ n = omega arith in subst (λ k. IsShelfOf began.hash_of began.shelves m k x.content) same (fits 0 x refl))), h)
 
 -- with all shelves held and the desk, what is held are the parts of the state
-pub parts_held : (began : Beginning) (m : Plain) (xs : List ShelfState) (d : DeskState) → length xs ≡ began.shelves → 0 < began.shelves → AllFit began m ((began.shelves, OfDesk d) ∷ stacked xs) → ArePartsOf began.hash_of m xs began.shelves d
-parts_held began m xs d all some h = record { number = all; some_shelf = some; each = λ at x e. (let f = each_fits began m 0 xs [] h.1 at x e in let same : 0 + at ≡ at = omega arith in subst (λ k. IsShelfOf began.hash_of began.shelves m k x.content) same f); account = h.0.1 }
+pub parts_held : (began : Beginning) (m : Plain) (xs : List ShelfState) (d : DeskState) → length xs ≡ began.shelves → 0 < began.shelves
+    → AllFit began m ((began.shelves, OfDesk d) ∷ stacked xs) → ArePartsOf began.hash_of m xs began.shelves d
+parts_held began m xs d all some h =
+    record {
+      number = all;
+      some_shelf = some;
+      each =
+          λ at x e. (let f = each_fits began m 0 xs [] h.1 at x e in let same : 0 + at ≡ at = omega arith in subst (λ k. IsShelfOf began.hash_of began.shelves m k x.content) same f);
+      account = h.0.1;
+    }
 
-none_else : (began : Beginning) (m : Plain) (xs : List ShelfState) (d : DeskState) (c : ℕ) (z : Content) → length xs ≡ began.shelves → total (holds_bay c) ((began.shelves, OfDesk d) ∷ stacked xs) ≡ 0 → Fits began m c z → ⊥
+none_else : (began : Beginning) (m : Plain) (xs : List ShelfState) (d : DeskState) (c : ℕ) (z : Content) → length xs ≡ began.shelves
+    → total (holds_bay c) ((began.shelves, OfDesk d) ∷ stacked xs) ≡ 0 → Fits began m c z → ⊥
 none_else began m xs d c (OfShelf f) all none fits = let l = fits.0 in let has = has_on 0 c xs [] (omega arith) (omega (arith, l, all)) in omega (arith, none, has)
-none_else began m xs d c (OfDesk k) all none fits = let one : holds_bay c (began.shelves, OfDesk d) ≡ 1 = ap (λ k. holds_bay k (began.shelves, OfDesk d)) fits.0 ∙ here began.shelves (OfDesk d) in omega (arith, none, one)
+none_else began m xs d c (OfDesk k) all none fits = let one : holds_bay c (began.shelves, OfDesk d) ≡ 1 = ap (λ k. holds_bay k (began.shelves, OfDesk d)) fits.0
+    ∙ here began.shelves (OfDesk d) in omega (arith, none, one)
 
 -- a flush leaves the greatest charge and the limit, at once or later
 flushed_limits : (began : Beginning) (m : Plain) (delay now : ℕ) → KeepsLimits began m → KeepsLimits began (flushed delay m now)
@@ -102,11 +118,14 @@ flushes began xs ys d d' delay now all some same parts = record {
   right = λ m h. (flushed delay m now, refl);
   limits = λ m h keeps. flushed_limits began m delay now keeps;
   given = λ m h. (refl, (parts m (parts_held began m xs d all some h)).account);
-  kept = λ m h. all_fit began (flushed delay m now) 0 ys [] (omega (arith, all, same)) (λ at y e. (let f = (parts m (parts_held began m xs d all some h)).each at y e in let place : at ≡ 0 + at = omega arith in subst (λ k. IsShelfOf began.hash_of began.shelves (flushed delay m now) k y.content) place f)) tt;
+  kept = λ m h. all_fit began (flushed delay m now) 0 ys [] (omega (arith, all, same))
+      (λ at y e. (let f = (parts m (parts_held began m xs d all some h)).each at y e in let place : at ≡ 0 + at = omega arith in
+      subst (λ k. IsShelfOf began.hash_of began.shelves (flushed delay m now) k y.content) place f)) tt;
   others = λ m h c z none fits. absurd (none_else began m xs d c z all none fits);
 }
 
-top : (p : Past) (xs : List ShelfState) (x : ShelfState) → holds_all p (xs ++ x ∷ []) ≡ (record { past = p; bays = (length xs, OfShelf x.content) ∷ stacked xs; surplus = [] }, (place (length xs), None) ∷ hollow (stacked xs))
+top : (p : Past) (xs : List ShelfState) (x : ShelfState)
+    → holds_all p (xs ++ x ∷ []) ≡ (record { past = p; bays = (length xs, OfShelf x.content) ∷ stacked xs; surplus = [] }, (place (length xs), None) ∷ hollow (stacked xs))
 top p xs x = λ i. (record { past = p; bays = stacked_snoc xs x i; surplus = [] }, hollow (stacked_snoc xs x i))
 
 pub held_top : (m : Mine) (p : Past) (xs : List ShelfState) (x : ShelfState) (n : ℕ) → m ≡ holds_all p (xs ++ x ∷ []) → n ≡ length xs → HoldsThis m n (OfShelf x.content)
@@ -120,7 +139,8 @@ pub without_top : (m : Mine) (p : Past) (xs : List ShelfState) (x : ShelfState) 
 without_top m p xs x is = ap without (is ∙ top p xs x)
 
 -- a shelf that was taken lies on top
-pub take_top : (m m' : Mine) (p : Past) (xs : List ShelfState) (x : ShelfState) (n : ℕ) → m ≡ holds_all p xs → n ≡ length xs → m' ≡ (holding m.0 n (OfShelf x.content), (place n, None) ∷ m.1) → m' ≡ holds_all p (xs ++ x ∷ [])
+pub take_top : (m m' : Mine) (p : Past) (xs : List ShelfState) (x : ShelfState) (n : ℕ) → m ≡ holds_all p xs → n ≡ length xs
+    → m' ≡ (holding m.0 n (OfShelf x.content), (place n, None) ∷ m.1) → m' ≡ holds_all p (xs ++ x ∷ [])
 take_top m m' p xs x n is len got = got ∙ (λ i. (holding (is i).0 (len i) (OfShelf x.content), (place (len i), None) ∷ (is i).1)) ∙ sym (top p xs x)
 
 -- shelves that are written back as a whole
@@ -131,7 +151,8 @@ written_back {hash_of} {state} {new} {count} {len} {desk} old all parts =
     (sym (ap (λ n. take n (new ++ drop (length new) old)) (all ∙ sym parts.number) ∙ take-append_seam new (drop (length new) old))) parts
 
 -- all shelves and the desk are the parts of some state
-pub held_parts : (began : Beginning) (xs : List ShelfState) (d : DeskState) (v : SeatView) → v.bays ≡ (began.shelves, OfDesk d) ∷ stacked xs → length xs ≡ began.shelves → 0 < began.shelves → Fitted began v
+pub held_parts : (began : Beginning) (xs : List ShelfState) (d : DeskState) (v : SeatView) → v.bays ≡ (began.shelves, OfDesk d) ∷ stacked xs
+    → length xs ≡ began.shelves → 0 < began.shelves → Fitted began v
     → (m : Plain) × ArePartsOf began.hash_of m xs began.shelves d
 held_parts began xs d v is all some fitted =
     let m : Plain = after began began.plain fitted.log in
@@ -144,7 +165,8 @@ hollow_same n (x ∷ xs) [] b d l e = absurd (omega (arith, l))
 hollow_same n (x ∷ xs) (y ∷ ys) b d l e = hollow_same (n + 1) xs ys ((n, OfShelf x.content) ∷ b) ((n, OfShelf y.content) ∷ d) (omega (arith, l)) (ap (λ (hs : List (ℕ × Slot)). (place n, None) ∷ hs) e)
 
 -- after the desk has decided, the held shelves have their new content, and words may show too many
-pub decided_all : (m m' : Mine) (p : Past) (xs ys : List ShelfState) (x : Content) (n : ℕ) (what : Operation) (surplus : List ℕ) → m ≡ (holding (holds_all p xs).0 n x, (place n, None) ∷ hollow (stacked xs))
+pub decided_all : (m m' : Mine) (p : Past) (xs ys : List ShelfState) (x : Content) (n : ℕ) (what : Operation) (surplus : List ℕ)
+    → m ≡ (holding (holds_all p xs).0 n x, (place n, None) ∷ hollow (stacked xs))
     → m' ≡ decided_by m what (stacked ys) surplus → length xs ≡ length ys → m' ≡ loaded (holds_all m'.0.past ys) surplus
 decided_all m m' p xs ys x n what surplus is did same = let eb : m'.0.bays ≡ stacked ys = ap (λ (z : Mine). z.0.bays) did in
     let es : m'.1 ≡ hollow (stacked ys) = ap (λ (z : Mine). z.1) did ∙ (ap (λ (z : Mine). rest z.1) is ∙ hollow_same 0 xs ys [] [] same refl) in
@@ -159,12 +181,15 @@ lowered_all m m' ys surplus is lowered =
 -- a place above the shelves that are held is not held
 none_above : (n c : ℕ) (xs : List ShelfState) (below : List (ℕ × Content)) → n + length xs ≤ c → total (holds_bay c) (stacked_on n xs below) ≡ total (holds_bay c) below
 none_above n c [] below l = refl
-none_above n c (x ∷ xs) below l = none_above (n + 1) c xs ((n, OfShelf x.content) ∷ below) (omega (arith, l)) ∙ (let no : holds_bay c (n, OfShelf x.content) ≡ 0 = elsewhere n c (OfShelf x.content) (λ e. omega (arith, l, e)) in let both : holds_bay c (n, OfShelf x.content) + total (holds_bay c) below ≡ total (holds_bay c) below = omega (arith, no) in both)
+none_above n c (x ∷ xs) below l = none_above (n + 1) c xs ((n, OfShelf x.content) ∷ below) (omega (arith, l))
+    ∙ (let no : holds_bay c (n, OfShelf x.content) ≡ 0 = elsewhere n c (OfShelf x.content) (λ e. omega (arith, l, e)) in
+    let both : holds_bay c (n, OfShelf x.content) + total (holds_bay c) below ≡ total (holds_bay c) below = omega (arith, no) in both)
 
 pub not_held : (m : Mine) (p : Past) (xs : List ShelfState) (c : ℕ) → m ≡ holds_all p xs → length xs ≤ c → 1 ≤ total (holds_bay c) m.0.bays → ⊥
 not_held m p xs c is l has = let none : total (holds_bay c) m.0.bays ≡ 0 = ap (λ (z : Mine). total (holds_bay c) z.0.bays) is ∙ none_above 0 c xs [] (omega (arith, l)) in omega (arith, none, has)
 
-pub gathered : (began : Beginning) (p : Past) (xs : List ShelfState) (d : DeskState) (v : SeatView) → v.bays ≡ (began.shelves, OfDesk d) ∷ stacked xs → v.past ≡ p → length xs ≡ began.shelves → 0 < began.shelves → Fitted began v → Gathered began p xs d
+pub gathered : (began : Beginning) (p : Past) (xs : List ShelfState) (d : DeskState) (v : SeatView) → v.bays ≡ (began.shelves, OfDesk d) ∷ stacked xs
+    → v.past ≡ p → length xs ≡ began.shelves → 0 < began.shelves → Fitted began v → Gathered began p xs d
 gathered began p xs d v is same all some fitted = record {
   log = fitted.log;
   legal = fitted.legal;

@@ -1,5 +1,6 @@
 -- Each atomic step keeps the rule.
-use Rattle.std.proofs.Common.{◌≡◌, ◌≢◌, ◌==◌, ℕ, zero, suc, ◌+◌, ◌-◌, ◌%◌, ◌^◌, ◌≤◌, ◌<◌, true, cond, eq-eqb, ◌∙◌, None, Some, List, [], ◌∷◌, ◌++◌, length, get_or, set, eqb, sym, refl, ap, subst, inl, inr, ⊎_elim, arith}
+use Rattle.std.proofs.Common.{◌≡◌, ◌≢◌, ◌==◌, ℕ, zero, suc, ◌+◌, ◌-◌, ◌%◌, ◌^◌, ◌≤◌, ◌<◌, true, cond, eq-eqb, ◌∙◌, None, Some, List, [], ◌∷◌, ◌++◌, length, get_or, set, eqb, sym}
+use Rattle.std.proofs.Common.{refl, ap, subst, inl, inr, ⊎_elim, arith}
 use mathlib.Core.Logic.{dite}
 use native.Mathlib.Decide.{ℕ_discrete}
 use mathlib.Core.Option.{none, some, some-ne-none}
@@ -22,7 +23,8 @@ use Rattle.mc_shared.specs.History.{Beginning, HistoryEntry, Operation, Stepped,
 use Rattle.mc_shared.specs.Past.{name_of, Lives, Whole}
 use Rattle.mc_shared.specs.View.{SeatView}
 use Rattle.mc_shared.specs.Rule.{Fits, AllFit, holds_bay, times, named, Story, Named, Stocked, Present, Kept}
-use Rattle.mc_shared.specs.Steps.{Slot, Mine, IsAt, holding, entry_of, without, decided_by, called, tail, Agrees, took, gave, decided, reloaded, added, lowered, sought, Shows, MayAdd, Decides, Counts, next_name, maker, newcomer, met, gone}
+use Rattle.mc_shared.specs.Steps.{Slot, Mine, IsAt, holding, entry_of, without, decided_by, called, tail, Agrees, took, gave, decided, reloaded, added, lowered, sought, Shows}
+use Rattle.mc_shared.specs.Steps.{MayAdd, Decides, Counts, next_name, maker, newcomer, met, gone}
 use Rattle.mc_shelf.specs.Numbers.{number_of, keys_with}
 use Rattle.mc_shared.specs.Presence.{word_of}
 use Rattle.mc_shared.proofs.StoryKept.{after_snoc, story_same, story_call, story_made, story_both}
@@ -45,15 +47,19 @@ get_below (x ∷ xs) zero v e = omega arith
 get_below (x ∷ xs) (suc id) v e = let l = get_below xs id v e in omega (arith, l)
 
 -- where the past is whole, a bay that is taken is held by this seat
-pub whole_holds : (began : Beginning) (s : State Slot SeatView) (k : Kept began s) (id : ℕ) (v : SeatView) → get_elem? s.views id ≡ some v → Whole v.past → (b : ℕ) → b < began.shelves + 1 → get_or s.words (place b) 0 ≢ 0 → 1 ≤ times b v
+pub whole_holds : (began : Beginning) (s : State Slot SeatView) (k : Kept began s) (id : ℕ) (v : SeatView) → get_elem? s.views id ≡ some v → Whole v.past
+    → (b : ℕ) → b < began.shelves + 1 → get_or s.words (place b) 0 ≢ 0 → 1 ≤ times b v
 whole_holds began s k id v at whole b l busy = let t = k.stocked.taken b l in
     let mine : total (times b) s.views ≡ times b v = total_one (times b) s.views id v at (λ j u ne a. ⊎_elim
-    (λ (lives : Lives u.past). absurd (alone began k.log s.views k.story k.named id v at whole (name_of u.past) j u ne a lives)) (λ (none : u.bays ≡ []). ap (total (holds_bay b)) none) (k.named.idle j u a)) in omega (arith, t, mine, busy)
+    (λ (lives : Lives u.past). absurd (alone began k.log s.views k.story k.named id v at whole (name_of u.past) j u ne a lives))
+    (λ (none : u.bays ≡ []). ap (total (holds_bay b)) none) (k.named.idle j u a)) in omega (arith, t, mine, busy)
 
 -- A bay is taken
-pub takes_bay : (began : Beginning) (slots id b : ℕ) (me : Mine) → b < began.shelves + 1 → Lives me.0.past → Allows (Kept began) slots id me (place b) (λ n. either (eqb n 0) 1 n) (took began b (step slots (place b) 0 1 none) me)
+pub takes_bay : (began : Beginning) (slots id b : ℕ) (me : Mine) → b < began.shelves + 1 → Lives me.0.past
+    → Allows (Kept began) slots id me (place b) (λ n. either (eqb n 0) 1 n) (took began b (step slots (place b) 0 1 none) me)
 takes_bay began slots id b me l lives s k deep at small = let n : ℕ = get_or s.words (place b) 0 in let v : SeatView = me.0 in
-    let F : ℕ → Type 0 = λ y. (w : SeatView) × (a : Act Slot) × Valid s.homes me.1 a × Kept began (stepped s (place b) y id me.1 w a) × took began b (step slots (place b) 0 1 none) me n (w, carried_after me.1 a) in
+    let F : ℕ → Type 0 = λ y. (w : SeatView) × (a : Act Slot) × Valid s.homes me.1 a × Kept began (stepped s (place b) y id me.1 w a)
+    × took began b (step slots (place b) 0 1 none) me n (w, carried_after me.1 a) in
     exchanged n 0 1 F
     (λ free. let was = k.stocked.home b l free in let x : Bay = was.0 in let w : SeatView = holding v b (content_of x) in (
       w,
@@ -66,7 +72,22 @@ takes_bay began slots id b me l lives s k deep at small = let n : ℕ = get_or s
         stocked = stocked_take began (after began began.plain k.log) s.words s.homes s.views id b v w (content_of x) k.stocked at l free refl was.2;
         present = present_take began (after began began.plain k.log) s.words s.views id b 1 v w k.present at l refl (λ c. omega arith);
       },
-      ((λ _. (x, at_home began (after began began.plain k.log) b x was.2, refl, record { log = k.log; legal = k.story.legal; keeps = kept_by began k.log s.views k.story k.named id v at; limits = k.stocked.limits; fits = (was.2, k.stocked.out id v at) })), (λ ne. absurd (ne free))),
+      (
+        (λ _. (
+          x,
+          at_home began (after began began.plain k.log) b x was.2,
+          refl,
+          record {
+            log = k.log;
+            legal = k.story.legal;
+            keeps = kept_by began k.log s.views k.story k.named id v at;
+            limits = k.stocked.limits;
+            fits =
+                (was.2, k.stocked.out id v at);
+          },
+        )),
+        (λ ne. absurd (ne free)),
+      ),
     ))
     (λ busy. let low = k.stocked.low b l in (
       v,
@@ -92,21 +113,27 @@ gives_bay began slots id b x me is out bare s k deep at small = let v : SeatView
         story = story_same began k.log s.views id v w k.story at refl;
         named = named_same k.log s.views id v w k.named at refl (⊎_elim (λ (h : Lives v.past). inl h) (λ (none : v.bays ≡ []). inr (ap rest none)) (k.named.idle id v at));
         stocked = stocked_give began m m s.words s.homes s.views id b v w (content_of x) x (rest v.bays) k.stocked at is (λ c. refl) fits.0 fits.1 (λ c y _ f. f) k.stocked.limits;
-        present = present_give began m m s.words s.views id b 0 v w k.present at (inside began m b (content_of x) fits.0) (λ n low. refl) (λ word has. absurd (let z = bare_names w word bare in omega (arith, z, has)));
+        present =
+            present_give began m m s.words s.views id b 0 v w k.present at (inside began m b (content_of x) fits.0) (λ n low. refl)
+            (λ word has. absurd (let z = bare_names w word bare in omega (arith, z, has)));
       },
       (refl, record { log = k.log; legal = k.story.legal; keeps = kept_by began k.log s.views k.story k.named id v at; limits = k.stocked.limits; fits = k.stocked.out id v at }),
     )
 
 -- A bay is given back, and a step is decided
-pub decides_bay : (began : Beginning) (slots id b : ℕ) (x : Content) (y : Bay) (d : Operation) (still : List (ℕ × Content)) (surplus : List ℕ) (me : Mine) → me.0.bays ≡ (b, x) ∷ rest me.0.bays → me.1 ≡ (place b, Some y) ∷ rest me.1 → Decides began me.0.bays b (content_of y) d still → Counts began me.0 d (decided_by me d still surplus).0 → Lives me.0.past
+pub decides_bay : (began : Beginning) (slots id b : ℕ) (x : Content) (y : Bay) (d : Operation) (still : List (ℕ × Content)) (surplus : List ℕ) (me : Mine)
+    → me.0.bays ≡ (b, x) ∷ rest me.0.bays → me.1 ≡ (place b, Some y) ∷ rest me.1 → Decides began me.0.bays b (content_of y) d still
+    → Counts began me.0 d (decided_by me d still surplus).0 → Lives me.0.past
     → Allows (Kept began) slots id me (place b) (λ n. either (eqb n 1) 0 n) (decided began d still surplus (step slots (place b) 1 0 none) me)
-decides_bay began slots id b x y d still surplus me is out right counts lives s k deep at small = let v : SeatView = me.0 in let m : Plain = after began began.plain k.log in let m' : Plain = next began m d in
+decides_bay began slots id b x y d still surplus me is out right counts lives s k deep at small = let v : SeatView = me.0 in let m : Plain =
+    after began began.plain k.log in let m' : Plain = next began m d in
     let w : SeatView = (decided_by me d still surplus).0 in let e : HistoryEntry = entry_of v.past d in let n : ℕ = get_or s.words (place b) 0 in
     let fits : AllFit began m v.bays = k.stocked.out id v at in
     let one : n ≡ 1 = held_word began m s.words s.homes s.views id b v x (rest v.bays) k.stocked at is in
     let story : Story began (k.log ++ e ∷ []) (set s.views id w) = story_call began k.log s.views id v w e k.story at refl (right.right m fits) in
     let named : Named (k.log ++ e ∷ []) (set s.views id w) = named_call began k.log s.views id v w d k.story k.named at refl lives in
-    let F : ℕ → Type 0 = λ z. (w : SeatView) × (a : Act Slot) × Valid s.homes me.1 a × Kept began (stepped s (place b) z id me.1 w a) × decided began d still surplus (step slots (place b) 1 0 none) me n (w, carried_after me.1 a) in
+    let F : ℕ → Type 0 = λ z. (w : SeatView) × (a : Act Slot) × Valid s.homes me.1 a × Kept began (stepped s (place b) z id me.1 w a)
+    × decided began d still surplus (step slots (place b) 1 0 none) me n (w, carried_after me.1 a) in
     exchanged n 1 0 F
     (λ _. (
       w,
@@ -117,7 +144,8 @@ decides_bay began slots id b x y d still surplus me is out right counts lives s 
         story = story;
         named = named;
         stocked = subst (λ (z : Plain). Stocked began z (set s.words (place b) 0) (set s.homes (place b) (some (Some y))) (set s.views id w)) (sym (after_snoc began began.plain k.log e))
-            (stocked_give began m m' s.words s.homes s.views id b v w x y (rest v.bays) k.stocked at is right.places (right.given m fits) (right.kept m fits) (right.others m fits) (right.limits m fits k.stocked.limits));
+            (stocked_give began m m' s.words s.homes s.views id b v w x y (rest v.bays) k.stocked at is right.places (right.given m fits) (right.kept m fits)
+            (right.others m fits) (right.limits m fits k.stocked.limits));
         present = subst (λ (z : Plain). Present began z (set s.words (place b) 0) (set s.views id w)) (sym (after_snoc began began.plain k.log e))
             (present_give began m m' s.words s.views id b 0 v w k.present at (inside began m' b (content_of y) (right.given m fits)) (counts.weighs m fits) counts.owned);
       },
@@ -131,19 +159,26 @@ splits_seat began id v lives s k at = let w : SeatView = maker v in let u : Seat
   log = k.log;
   story = story_made began k.log s.views id v w u (next_name v.past) k.story at refl refl;
   named = named_made began k.log s.views id v w u k.story k.named at refl refl lives refl;
-  stocked = stocked_snoc began (after began began.plain k.log) s.words s.homes (set s.views id w) u (stocked_same began (after began began.plain k.log) s.words s.homes s.views id v w k.stocked at refl) refl;
+  stocked =
+      stocked_snoc began (after began began.plain k.log) s.words s.homes (set s.views id w) u
+      (stocked_same began (after began began.plain k.log) s.words s.homes s.views id v w k.stocked at refl) refl;
   present = present_snoc began (after began began.plain k.log) s.words (set s.views id w) u (present_same began (after began began.plain k.log) s.words s.views id v w k.present at refl refl) refl;
 }
 
 -- Two seats meet, and the second holds no bay
 pub joins_seats : (began : Beginning) (id other : ℕ) (v o : SeatView) → o.bays ≡ [] → Joins (Kept began) id v other o (met v o) gone
 joins_seats began id other v o bare s k at ne far = let w : SeatView = met v o in let u : SeatView = gone in
-    let far' : get_elem? s.views other ≡ some o = ⊎_elim (λ (t : (other ≡ id) × (w ≡ o)). absurd (ne t.0)) (λ (t : (other ≢ id) × (get_elem? s.views other ≡ some o)). t.1) (at_set s.views id other w o far) in record {
+    let far' : get_elem? s.views other ≡ some o =
+    ⊎_elim (λ (t : (other ≡ id) × (w ≡ o)). absurd (ne t.0)) (λ (t : (other ≢ id) × (get_elem? s.views other ≡ some o)). t.1) (at_set s.views id other w o far) in record {
       log = k.log;
       story = story_both began k.log s.views id other v w o u k.story at far far' refl refl;
       named = named_both k.log s.views id other v w o u k.named at far far' refl refl refl refl;
-      stocked = stocked_same began (after began began.plain k.log) s.words s.homes (set s.views id w) other o u (stocked_same began (after began began.plain k.log) s.words s.homes s.views id v w k.stocked at refl) far (sym bare);
-      present = present_gone began (after began began.plain k.log) s.words (set s.views id w) other o u (present_same began (after began began.plain k.log) s.words s.views id v w k.present at refl refl) far bare refl;
+      stocked =
+          stocked_same began (after began began.plain k.log) s.words s.homes (set s.views id w) other o u
+          (stocked_same began (after began began.plain k.log) s.words s.homes s.views id v w k.stocked at refl) far (sym bare);
+      present =
+          present_gone began (after began began.plain k.log) s.words (set s.views id w) other o u
+          (present_same began (after began began.plain k.log) s.words s.views id v w k.present at refl refl) far bare refl;
     }
 
 -- a load that changes nothing, and tells that a history keeps the past
@@ -168,8 +203,10 @@ passes : (hash_of : List ℕ → ℕ) (key : List ℕ) (number : ℕ) → number
 passes hash_of key number is = eq-eqb (number_of hash_of key) number is
 
 -- one is added to a word
-pub adds_one : (began : Beginning) (slots id n : ℕ) (me : Mine) → MayAdd began me.0 n → Allows (Kept began) slots id me (word_of began.shelves n) (λ k. (k + 1) % 2 ^ 64) (added (step slots (word_of began.shelves n) 1 0 none) me)
-adds_one began slots id n me may s k deep at small = let v : SeatView = me.0 in let m : Plain = after began began.plain k.log in let word : ℕ = word_of began.shelves n in let c : ℕ = get_or s.words word 0 in
+pub adds_one : (began : Beginning) (slots id n : ℕ) (me : Mine) → MayAdd began me.0 n
+    → Allows (Kept began) slots id me (word_of began.shelves n) (λ k. (k + 1) % 2 ^ 64) (added (step slots (word_of began.shelves n) 1 0 none) me)
+adds_one began slots id n me may s k deep at small = let v : SeatView = me.0 in let m : Plain = after began began.plain k.log in let word : ℕ =
+    word_of began.shelves n in let c : ℕ = get_or s.words word 0 in
     let w : SeatView = record v { surplus = word ∷ v.surplus } in
     let counts = k.present.counts n may.below in
     let few = may.few m (k.stocked.out id v at) in
@@ -184,20 +221,29 @@ adds_one began slots id n me may s k deep at small = let v : SeatView = me.0 in 
         story = story_same began k.log s.views id v w k.story at refl;
         named = named_same k.log s.views id v w k.named at refl (k.named.idle id v at);
         stocked = stocked_word began m (set s.views id w) s.homes s.words word (c + 1) (word_behind began.shelves n) (stocked_same began m s.words s.homes s.views id v w k.stocked at refl);
-        present = present_raised began m s.words s.views id n v w k.present at (let wide = k.stocked.wide in let low = word_inside began.shelves n k.present.divides may.below in omega (arith, wide, low)) may.below may.held refl refl;
+        present =
+            present_raised began m s.words s.views id n v w k.present at (let wide = k.stocked.wide in
+            let low = word_inside began.shelves n k.present.divides may.below in omega (arith, wide, low)) may.below may.held refl refl;
       },
       refl,
     )
 
 -- one is taken from the word that is named first
-pub takes_one : (began : Beginning) (slots id word : ℕ) (more : List ℕ) (me : Mine) → me.0.surplus ≡ word ∷ more → Allows (Kept began) slots id me word (λ k. (k + (2 ^ 64 - 1)) % 2 ^ 64) (lowered (step slots word 1 0 none) me)
+pub takes_one : (began : Beginning) (slots id word : ℕ) (more : List ℕ) (me : Mine) → me.0.surplus ≡ word ∷ more
+    → Allows (Kept began) slots id me word (λ k. (k + (2 ^ 64 - 1)) % 2 ^ 64) (lowered (step slots word 1 0 none) me)
 takes_one began slots id word more me is s k deep at small = let v : SeatView = me.0 in let m : Plain = after began began.plain k.log in let c : ℕ = get_or s.words word 0 in
     let w : SeatView = record v { surplus = tail v.surplus } in
-    let own = k.present.owned id v word at (subst (λ (xs : List ℕ). 1 ≤ total (λ x. cond (eqb word x) 1 0) xs) (sym is) (let o : ◌≡◌ {A = ℕ} (cond (eqb word word) 1 0) 1 = ap (λ t. cond t 1 0) (eq-eqb word word refl) in omega (arith, o))) in
+    let own =
+    k.present.owned id v word at
+    (subst (λ (xs : List ℕ). 1 ≤ total (λ x. cond (eqb word x) 1 0) xs) (sym is)
+    (let o : ◌≡◌ {A = ℕ} (cond (eqb word word) 1 0) 1 = ap (λ t. cond t 1 0) (eq-eqb word word refl) in omega (arith, o))) in
     let n : ℕ = own.number in let is_word : word ≡ word_of began.shelves n = own.is in
     let less : v.surplus ≡ word_of began.shelves n ∷ tail v.surplus = is ∙ (λ i. is_word i ∷ tail (sym is i)) in
     let counts : get_or s.words (word_of began.shelves n) 0 ≡ keys_with began.hash_of n m.items + total (named (word_of began.shelves n)) s.views = k.present.counts n own.below in
-    let one : 1 ≤ named (word_of began.shelves n) v = subst (λ (x : ℕ). 1 ≤ named x v) is_word (subst (λ (xs : List ℕ). 1 ≤ total (λ x. cond (eqb word x) 1 0) xs) (sym is) (let o : ◌≡◌ {A = ℕ} (cond (eqb word word) 1 0) 1 = ap (λ t. cond t 1 0) (eq-eqb word word refl) in omega (arith, o))) in
+    let one : 1 ≤ named (word_of began.shelves n) v =
+    subst (λ (x : ℕ). 1 ≤ named x v) is_word
+    (subst (λ (xs : List ℕ). 1 ≤ total (λ x. cond (eqb word x) 1 0) xs) (sym is)
+    (let o : ◌≡◌ {A = ℕ} (cond (eqb word word) 1 0) 1 = ap (λ t. cond t 1 0) (eq-eqb word word refl) in omega (arith, o))) in
     let mine = sum_one (named (word_of began.shelves n)) s.views id v at in
     let same : get_or s.words (word_of began.shelves n) 0 ≡ c = ap (λ (x : ℕ). get_or s.words x 0) (sym is_word) in
     let fits : c < 18446744073709551616 = small in
@@ -210,16 +256,21 @@ takes_one began slots id word more me is s k deep at small = let v : SeatView = 
         log = k.log;
         story = story_same began k.log s.views id v w k.story at refl;
         named = named_same k.log s.views id v w k.named at refl (k.named.idle id v at);
-        stocked = stocked_word began m (set s.views id w) s.homes s.words word (c - 1) (let behind = word_behind began.shelves n in omega (arith, is_word, behind)) (stocked_same began m s.words s.homes s.views id v w k.stocked at refl);
+        stocked =
+            stocked_word began m (set s.views id w) s.homes s.words word (c - 1) (let behind = word_behind began.shelves n in omega (arith, is_word, behind))
+            (stocked_same began m s.words s.homes s.views id v w k.stocked at refl);
         present = subst (λ (x : ℕ). Present began m (set s.words x (c - 1)) (set s.views id w)) (sym is_word)
-            (present_lowered began m s.words s.views id n (c - 1) v w k.present at own.below (let wide = k.stocked.wide in let low = word_inside began.shelves n k.present.divides own.below in omega (arith, wide, low)) refl less (omega (arith, same, some_there)));
+            (present_lowered began m s.words s.views id n (c - 1) v w k.present at own.below (let wide = k.stocked.wide in
+            let low = word_inside began.shelves n k.present.divides own.below in omega (arith, wide, low)) refl less (omega (arith, same, some_there)));
       },
       refl,
     )
 
 -- a key is sought by its number's word
-pub seeks : (began : Beginning) (slots id : ℕ) (key : List ℕ) (now n : ℕ) (me : Mine) → n < 4096 → number_of began.hash_of key ≡ n → Lives me.0.past → Allows (Kept began) slots id me (word_of began.shelves n) (λ k. k) (sought began key now n (step slots (word_of began.shelves n) 0 0 none) me)
-seeks began slots id key now n me low is lives s k deep at small = let v : SeatView = me.0 in let m : Plain = after began began.plain k.log in let word : ℕ = word_of began.shelves n in let c : ℕ = get_or s.words word 0 in
+pub seeks : (began : Beginning) (slots id : ℕ) (key : List ℕ) (now n : ℕ) (me : Mine) → n < 4096 → number_of began.hash_of key ≡ n → Lives me.0.past
+    → Allows (Kept began) slots id me (word_of began.shelves n) (λ k. k) (sought began key now n (step slots (word_of began.shelves n) 0 0 none) me)
+seeks began slots id key now n me low is lives s k deep at small = let v : SeatView = me.0 in let m : Plain = after began began.plain k.log in let word : ℕ =
+    word_of began.shelves n in let c : ℕ = get_or s.words word 0 in
     let counts : c ≡ keys_with began.hash_of n m.items + total (named word) s.views = k.present.counts n low in
     let shows : Shows began v n c = record {
       log = k.log;

@@ -1,5 +1,6 @@
 -- What keeps the bays in step with the items.
-use Rattle.std.proofs.Common.{◌≡◌, ◌≢◌, ℕ, ◌+◌, ◌≤◌, ◌<◌, Option, Some, List, [], ◌∷◌, ◌++◌, length, get_or, set, cond, sym, refl, ap, ◌∙◌, subst, ⊎_elim, arith, length-set, get_or-set_other, get_or-set_same, eq-eqb, ne_eqb}
+use Rattle.std.proofs.Common.{◌≡◌, ◌≢◌, ℕ, ◌+◌, ◌≤◌, ◌<◌, Option, Some, List, [], ◌∷◌, ◌++◌, length, get_or, set, cond, sym, refl, ap, ◌∙◌, subst, ⊎_elim, arith, length-set}
+use Rattle.std.proofs.Common.{get_or-set_other, get_or-set_same, eq-eqb, ne_eqb}
 use mathlib.Core.Logic.{dite}
 use mathlib.Core.Option.{none, some}
 use mathlib.Core.Option as maybe
@@ -31,7 +32,8 @@ pub places_apart : (c b : ℕ) → c ≢ b → place c ≢ place b
 places_apart c b ne e = ne (omega (arith, e))
 
 -- what fits still fits, where each bay in the list may be told so
-pub all_still : (began : Beginning) (m m' : Plain) (xs : List (ℕ × Content)) → ((b : ℕ) (x : Content) → 1 ≤ total (holds_bay b) xs → Fits began m b x → Fits began m' b x) → AllFit began m xs → AllFit began m' xs
+pub all_still : (began : Beginning) (m m' : Plain) (xs : List (ℕ × Content))
+    → ((b : ℕ) (x : Content) → 1 ≤ total (holds_bay b) xs → Fits began m b x → Fits began m' b x) → AllFit began m xs → AllFit began m' xs
 all_still began m m' [] keep h = tt
 all_still began m m' (x ∷ xs) keep h = (
   keep x.0 x.1 (let one = here x.0 x.1 in omega (arith, one)) h.0,
@@ -44,33 +46,45 @@ pub apart : (began : Beginning) (m : Plain) (words : List ℕ) (homes : List (ma
 apart began m words homes views id j v u b s ne at other l has = let two = sum_two (times b) views id j v u ne at other in let t = s.taken b l in let low = s.low b l in omega (arith, two, t, low, has)
 
 -- a free bay is taken: its word was 0
-pub stocked_take : (began : Beginning) (m : Plain) (words : List ℕ) (homes : List (maybe.Option (Option Bay))) (views : List SeatView) (id b : ℕ) (v w : SeatView) (x : Content) → Stocked began m words homes views
-    → get_elem? views id ≡ some v → b < began.shelves + 1 → get_or words (place b) 0 ≡ 0 → w.bays ≡ (b, x) ∷ v.bays → Fits began m b x → Stocked began m (set words (place b) 1) (set homes (place b) none) (set views id w)
+pub stocked_take : (began : Beginning) (m : Plain) (words : List ℕ) (homes : List (maybe.Option (Option Bay))) (views : List SeatView) (id b : ℕ)
+    (v w : SeatView) (x : Content) → Stocked began m words homes views
+    → get_elem? views id ≡ some v → b < began.shelves + 1 → get_or words (place b) 0 ≡ 0 → w.bays ≡ (b, x) ∷ v.bays → Fits began m b x
+    → Stocked began m (set words (place b) 1) (set homes (place b) none) (set views id w)
 stocked_take began m words homes views id b v w x s at l zero_here is fits = record {
   wide = length-set words (place b) 1 ∙ s.wide;
   deep = length-set homes (place b) none ∙ s.deep;
-  low = λ c lc. dite (ℕ_discrete c b) (λ e. subst (λ k. get_or (set words (place b) 1) (place k) 0 ≤ 1) (sym e) (let lw : place b < length words = let e2 = s.wide in let room = bays_inside began.shelves in omega arith in rw get_or-set_same (omega arith)))
+  low = λ c lc. dite (ℕ_discrete c b)
+      (λ e. subst (λ k. get_or (set words (place b) 1) (place k) 0 ≤ 1) (sym e) (let lw : place b < length words = let e2 = s.wide in
+      let room = bays_inside began.shelves in omega arith in rw get_or-set_same (omega arith)))
       (λ ne. let ne' : b ≢ c = (λ h. ne (sym h)) in rw (get_or-set_other words (place b) (place c) 1 0 (places_apart c b ne)) (s.low c lc));
   taken = λ c lc. let t = s.taken c lc in let moved = sum_set (times c) views id v w at in let grows : times c w ≡ holds_bay c (b, x) + times c v = ap (total (holds_bay c)) is in
       dite (ℕ_discrete c b)
-      (λ e. let lw : place c < length words = let e2 = s.wide in let room = bays_inside began.shelves in omega arith in let one : holds_bay c (b, x) ≡ 1 = ap (λ k. holds_bay c (k, x)) (sym e) ∙ here c x in
+      (λ e. let lw : place c < length words = let e2 = s.wide in let room = bays_inside began.shelves in omega arith in let one : holds_bay c (b, x) ≡ 1 =
+      ap (λ k. holds_bay c (k, x)) (sym e) ∙ here c x in
       let was : get_or words (place c) 0 ≡ 0 = ap (λ k. get_or words (place k) 0) e ∙ zero_here in
-      let now : get_or (set words (place b) 1) (place c) 0 ≡ 1 = ap (λ k. get_or (set words (place k) 1) (place c) 0) (sym e) ∙ get_or-set_same words (place c) 1 0 lw in omega (arith, t, moved, grows, one, was, now))
+      let now : get_or (set words (place b) 1) (place c) 0 ≡ 1 = ap (λ k. get_or (set words (place k) 1) (place c) 0) (sym e)
+      ∙ get_or-set_same words (place c) 1 0 lw in omega (arith, t, moved, grows, one, was, now))
       (λ ne. let none_here = elsewhere b c x ne in let now = get_or-set_other words (place b) (place c) 1 0 (places_apart c b ne) in omega (arith, t, moved, grows, none_here, now));
   home = λ c lc free. dite (ℕ_discrete c b)
       (λ e. let lw : place c < length words = let e2 = s.wide in let room = bays_inside began.shelves in omega arith in
-      let now : get_or (set words (place b) 1) (place c) 0 ≡ 1 = ap (λ k. get_or (set words (place k) 1) (place c) 0) (sym e) ∙ get_or-set_same words (place c) 1 0 lw in absurd (omega (arith, now, free)))
-      (λ ne. let was = s.home c lc (sym (get_or-set_other words (place b) (place c) 1 0 (places_apart c b ne)) ∙ free) in (was.0, set_else homes (place b) (place c) none (places_apart c b ne) ∙ was.1, was.2));
+      let now : get_or (set words (place b) 1) (place c) 0 ≡ 1 = ap (λ k. get_or (set words (place k) 1) (place c) 0) (sym e)
+      ∙ get_or-set_same words (place c) 1 0 lw in absurd (omega (arith, now, free)))
+      (λ ne. let was = s.home c lc (sym (get_or-set_other words (place b) (place c) 1 0 (places_apart c b ne)) ∙ free) in
+      (was.0, set_else homes (place b) (place c) none (places_apart c b ne) ∙ was.1, was.2));
   limits = s.limits;
   out = λ j u e. ⊎_elim (λ (t : (j ≡ id) × (w ≡ u)). subst (λ (z : SeatView). AllFit began m z.bays) t.1 (subst (AllFit began m) (sym is) (fits, s.out id v at)))
       (λ (t : (j ≢ id) × (get_elem? views j ≡ some u)). s.out j u t.1) (at_set views id j w u e);
 }
 
 -- a bay is given back, perhaps with a decision: the items are m' from then on
-pub stocked_give : (began : Beginning) (m m' : Plain) (words : List ℕ) (homes : List (maybe.Option (Option Bay))) (views : List SeatView) (id b : ℕ) (v w : SeatView) (x : Content) (x' : Bay) (xs : List (ℕ × Content)) → Stocked began m words homes views
+pub stocked_give : (began : Beginning) (m m' : Plain) (words : List ℕ) (homes : List (maybe.Option (Option Bay))) (views : List SeatView) (id b : ℕ)
+    (v w : SeatView) (x : Content) (x' : Bay) (xs : List (ℕ × Content)) → Stocked began m words homes views
     → get_elem? views id ≡ some v → v.bays ≡ (b, x) ∷ xs → ((c : ℕ) → times c w ≡ total (holds_bay c) xs) → Fits began m' b (content_of x') → AllFit began m' w.bays
-    → ((c : ℕ) (y : Content) → times c v ≡ 0 → Fits began m c y → Fits began m' c y) → KeepsLimits began m' → Stocked began m' (set words (place b) 0) (set homes (place b) (some (Some x'))) (set views id w)
-stocked_give began m m' words homes views id b v w x x' xs s at is rests fits kept others limits = let l : b < began.shelves + 1 = inside began m' b (content_of x') fits in let lw : place b < length words = let e2 = s.wide in let room = bays_inside began.shelves in omega arith in let lh : place b < length homes = let e2 = s.deep in omega arith in
+    → ((c : ℕ) (y : Content) → times c v ≡ 0 → Fits began m c y → Fits began m' c y) → KeepsLimits began m'
+    → Stocked began m' (set words (place b) 0) (set homes (place b) (some (Some x'))) (set views id w)
+stocked_give began m m' words homes views id b v w x x' xs s at is rests fits kept others limits = let l : b < began.shelves + 1 =
+    inside began m' b (content_of x') fits in let lw : place b < length words = let e2 = s.wide in let room = bays_inside began.shelves in omega arith in
+    let lh : place b < length homes = let e2 = s.deep in omega arith in
     let gone : get_or (set words (place b) 0) (place b) 0 ≡ 0 = get_or-set_same words (place b) 0 0 lw in
     let falls = λ (c : ℕ) (lc : c < began.shelves + 1). (let t = s.taken c lc in let moved = sum_set (times c) views id v w at in
     let shrinks : times c v ≡ holds_bay c (b, x) + times c w = ap (total (holds_bay c)) is ∙ ap (λ k. holds_bay c (b, x) + k) (sym (rests c)) in
@@ -90,13 +104,16 @@ stocked_give began m m' words homes views id b v w x x' xs s at is rests fits ke
           (was.0, set_else homes (place b) (place c) (some (Some x')) (places_apart c b ne) ∙ was.1, others c (content_of was.0) not_mine was.2));
       limits = limits;
       out = λ j u e. ⊎_elim (λ (t : (j ≡ id) × (w ≡ u)). subst (λ (z : SeatView). AllFit began m' z.bays) t.1 kept)
-          (λ (t : (j ≢ id) × (get_elem? views j ≡ some u)). all_still began m m' u.bays (λ c y has fc. others c y (apart began m words homes views id j v u c s (λ h. t.0 (sym h)) at t.1 (inside began m c y fc) has) fc) (s.out j u t.1)) (at_set views id j w u e);
+          (λ (t : (j ≢ id) × (get_elem? views j ≡ some u)). all_still began m m' u.bays
+          (λ c y has fc. others c y (apart began m words homes views id j v u c s (λ h. t.0 (sym h)) at t.1 (inside began m c y fc) has) fc) (s.out j u t.1)) (at_set views id j w u e);
     }
 
 -- the word of a bay that is held is 1
-pub held_word : (began : Beginning) (m : Plain) (words : List ℕ) (homes : List (maybe.Option (Option Bay))) (views : List SeatView) (id b : ℕ) (v : SeatView) (x : Content) (xs : List (ℕ × Content)) → Stocked began m words homes views
+pub held_word : (began : Beginning) (m : Plain) (words : List ℕ) (homes : List (maybe.Option (Option Bay))) (views : List SeatView) (id b : ℕ) (v : SeatView)
+    (x : Content) (xs : List (ℕ × Content)) → Stocked began m words homes views
     → get_elem? views id ≡ some v → v.bays ≡ (b, x) ∷ xs → get_or words (place b) 0 ≡ 1
-held_word began m words homes views id b v x xs s at is = let fit : Fits began m b x = (subst (AllFit began m) is (s.out id v at)).0 in let l = inside began m b x fit in let t = s.taken b l in let low = s.low b l in let o = sum_one (times b) views id v at in
+held_word began m words homes views id b v x xs s at is = let fit : Fits began m b x = (subst (AllFit began m) is (s.out id v at)).0 in let l =
+    inside began m b x fit in let t = s.taken b l in let low = s.low b l in let o = sum_one (times b) views id v at in
     let has : times b v ≡ holds_bay b (b, x) + total (holds_bay b) xs = ap (total (holds_bay b)) is in let one = here b x in omega (arith, t, low, o, has, one)
 
 -- a seat goes on with the same bays, and another may begin with none
@@ -113,7 +130,8 @@ stocked_same began m words homes views id v w s at same = record {
       (λ (t : (j ≢ id) × (get_elem? views j ≡ some u)). s.out j u t.1) (at_set views id j w u e);
 }
 
-pub stocked_snoc : (began : Beginning) (m : Plain) (words : List ℕ) (homes : List (maybe.Option (Option Bay))) (views : List SeatView) (u : SeatView) → Stocked began m words homes views → u.bays ≡ [] → Stocked began m words homes (views ++ u ∷ [])
+pub stocked_snoc : (began : Beginning) (m : Plain) (words : List ℕ) (homes : List (maybe.Option (Option Bay))) (views : List SeatView) (u : SeatView)
+    → Stocked began m words homes views → u.bays ≡ [] → Stocked began m words homes (views ++ u ∷ [])
 stocked_snoc began m words homes views u s bare = record {
   wide = s.wide;
   deep = s.deep;
@@ -125,9 +143,11 @@ stocked_snoc began m words homes views u s bare = record {
 }
 
 -- a word that is no bay's may change
-pub stocked_word : (began : Beginning) (m : Plain) (views : List SeatView) (homes : List (maybe.Option (Option Bay))) (words : List ℕ) (i n : ℕ) → place (began.shelves + 1) ≤ i → Stocked began m words homes views → Stocked began m (set words i n) homes views
+pub stocked_word : (began : Beginning) (m : Plain) (views : List SeatView) (homes : List (maybe.Option (Option Bay))) (words : List ℕ) (i n : ℕ)
+    → place (began.shelves + 1) ≤ i → Stocked began m words homes views → Stocked began m (set words i n) homes views
 stocked_word began m views homes words i n behind s =
-    let still : (b : ℕ) → b < began.shelves + 1 → get_or (set words i n) (place b) 0 ≡ get_or words (place b) 0 = λ b l. get_or-set_other words i (place b) n 0 (λ e. omega (arith, behind, l, e)) in record {
+    let still : (b : ℕ) → b < began.shelves + 1 → get_or (set words i n) (place b) 0 ≡ get_or words (place b) 0 =
+    λ b l. get_or-set_other words i (place b) n 0 (λ e. omega (arith, behind, l, e)) in record {
       wide = length-set words i n ∙ s.wide;
       deep = s.deep;
       low = λ b l. rw (still b l) (s.low b l);

@@ -59,7 +59,7 @@ pub record IsPlanned (plan : Plan) (shelf : ShelfState) (step : KeyStep) (hash n
     pub is_plan : IsPlan plan shelf.content step now
     pub hashed : plan.hash ≡ hash
     pub room : HasRoom plan shelf step
-    pub most : shelf.content.greatest ≤ 1048576
+    pub most : shelf.content.greatest ≤ 8388608
 
 -- Why a step was tried and not taken. A bay is busy only where its word was 1, which it is not
 -- where the past is whole, and is the key's shelf or the desk.

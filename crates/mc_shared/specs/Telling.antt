@@ -17,7 +17,7 @@ use Rattle.mc_shared.specs.Shown.{CallerState}
 use Rattle.mc_command.specs.declared.answer.Unanswered.{Unanswered}
 use Rattle.mc_command.specs.declared.answer.Unanswered.TheVariants.{NoMemory, NumbersSpent, Untold}
 use Rattle.mc_shared.specs.declared.telling.Sought.{Sought}
-use Rattle.mc_shared.specs.declared.telling.Sought.TheVariants.{Told, Nothing, Dead}
+use Rattle.mc_shared.specs.declared.telling.Sought.TheVariants.{Told, Nothing, Deferred}
 
 -- an item stands in a shelf under a step's key
 abbrev pub Stands : ShelfContent → KeyStep → (now : ℕ) → Type 0
@@ -32,7 +32,7 @@ IsSought told shelf step now before (Told place) after =
     Stands shelf step now × told before (hit_of (stood shelf step now)) after
 IsSought told shelf step now before Nothing after =
     (get shelf.items (key_of step) ≡ None) × (after ≡ before)
-IsSought told shelf step now before Dead after = after ≡ before
+IsSought told shelf step now before Deferred after = after ≡ before
 
 -- What came of a read, by what was sought: it was taken with the hit that was told; it was taken as
 -- a miss, and nothing was told; or it wasn't taken.
@@ -43,7 +43,7 @@ CameOfRead told start old step now before (Told place) new after =
     (reply : Reply) × HasCalled start old step now reply new × told before reply after
 CameOfRead told start old step now before Nothing new after =
     HasCalled start old step now Miss new × (after ≡ before)
-CameOfRead told start old step now before Dead new after = (new ≡ old) × (after ≡ before)
+CameOfRead told start old step now before Deferred new after = (new ≡ old) × (after ≡ before)
 
 -- How a step that was to be told came out for a caller. Told, its past has it as one call more, with
 -- the reply that was told; where the telling alone was refused, with some reply. Else the past

@@ -6,9 +6,8 @@ ghost use Rattle.mc_command.specs.Laws.{IsOnKey};
 ghost use Rattle.mc_command.specs.declared.step.KeyStep.{KeyStep as Step};
 ghost use Rattle.mc_command.specs.declared.reply.Reply.{Reply as Told};
 ghost use Rattle.mc_shelf.specs.States.{IsHash, CanStand};
-ghost use Rattle.mc_shelf.specs.Plans.{CanFinish, IsPlan, IsSpent, IsTaken, MayWantMemory, NeedsPage, finished, told_next, wants_desk};
+ghost use Rattle.mc_shelf.specs.Plans.{CanFinish, IsPlan, IsSpent, IsTaken, MayWantMemory, finished, told_next, wants_desk};
 ghost use Rattle.mc_shelf.specs.Hits.{is_read};
-ghost use Rattle.mc_slab.specs.Classes.{class_holding};
 ghost use Rattle.mc_shared.specs.History.{start_of};
 ghost use Rattle.mc_shared.specs.Steps.{Agrees};
 ghost use Rattle.mc_shared.specs.Store.{HasCalled, IsPlanned, MayFailAfter, Refuses, May};
@@ -27,8 +26,8 @@ use crate::store::{Caller, Shared};
 use core::mem::replace_with;
 use mc_command::{KeyStep, Reply, StepFault};
 use mc_hop::KeyHash;
-use mc_shelf::{Begun, Desk, Plan, Shelf, refusals_are_plain, steps_change_one_shelf};
-use mc_slab::{Class, Page};
+use mc_shelf::{Begun, Desk, Plan, Shelf, Wanted, refusals_are_plain, steps_change_one_shelf};
+use mc_slab::Pages;
 use mc_time::Moment;
 use std::alloc::{AllocError, Global};
 use std::marker::PhantomData;
@@ -88,16 +87,17 @@ impl<'a, K: KeyHash + Drop> AtShelf<'a, K> {
         (Caller { seat, grows }, reply)
     }
 
-    /// Takes the desk for a step, with a page where the step wants one. The page is made while nobody
-    /// waits for the desk: it goes back, and is taken again with the page in hand. Where memory for the
-    /// page is refused, or the desk is tried but once, there is none: the step finds out at the desk.
+    /// Takes the desk for a step, with pages where the step wants some. They are made, up to 8 MiB that
+    /// are written, while nobody waits for the desk: it goes back, and is taken again with the pages in
+    /// hand. Where memory for them is refused, or the desk is tried but once, there are none: the step
+    /// finds out at the desk. Others may have changed what is wanted by then, so they are a hint alone.
     fn take_desk_for<B: Drop, P: Patience<B>>(
         self,
         patience: &P,
         alloc: Global,
         looked: &Looked<'_>,
         ask: &Ask<'_>,
-    ) -> Result<(AtBoth<'a, K>, Option<Page>), (AtShelf<'a, K>, B)>
+    ) -> Result<(AtBoth<'a, K>, Option<Pages>), (AtShelf<'a, K>, B)>
         requires { IsLooked looked.now self.shelf ask.now }
         ensures ok { IfOk result (λ r. without_desk r.0 ≡ self.entry) }
         ensures err { IfErr result (λ e. (e.0 ≡ self.entry)
@@ -110,22 +110,23 @@ impl<'a, K: KeyHash + Drop> AtShelf<'a, K> {
         if !patience.comes_again() {
             return Ok((both, None));
         }
-        let Some(class) = both.page_wanted(looked, ask) else {
+        let Some(wanted) = both.pages_wanted(looked, ask) else {
             return Ok((both, None));
         };
         let hold = both.give_desk();
-        let page = Page::new(alloc, class).ok();
+        let pages = Pages::new(alloc, wanted.class, wanted.pages).ok();
         match hold.take_desk(patience) {
-            Ok(both) => Ok((both, page)),
+            Ok(both) => Ok((both, pages)),
             Err(met) => Err(met),
         }
     }
 }
 
 impl<'a, K: KeyHash + Drop> AtBoth<'a, K> {
-    /// Names the class of the page that a step wants, if it wants one.
-    fn page_wanted(&self, looked: &Looked<'_>, ask: &Ask<'_>) -> Option<Class>
+    /// Names the pages that a step wants, if it wants any.
+    fn pages_wanted(&self, looked: &Looked<'_>, ask: &Ask<'_>) -> Option<Wanted>
         requires { IsLooked looked.now self.now.shelf ask.now }
+        ensures { IfSome result (λ wanted. (1 ≤ wanted.pages) × (wanted.pages ≤ 8)) }
     {
         match looked {
             Looked::Planned(plan) => self.shelf.page_wanted(plan, &*self.desk),
@@ -133,14 +134,14 @@ impl<'a, K: KeyHash + Drop> AtBoth<'a, K> {
         }
     }
 
-    /// Takes a step that the desk decides, with a page if one was made for it. The desk goes back with
+    /// Takes a step that the desk decides, with pages if some were made for it. The desk goes back with
     /// the decision, and the shelf when the step's block is copied; both as they were where it isn't
     /// taken.
     fn take_step(
         self,
         alloc: Global,
         looked: Looked<'_>,
-        page: Option<Page>,
+        pages: Option<Pages>,
         ask: &Ask<'_>,
     ) -> (Caller, Result<Reply, StepFault>)
         requires asked { IsAsked K.hash_of self.shared ask.now }
@@ -162,7 +163,7 @@ impl<'a, K: KeyHash + Drop> AtBoth<'a, K> {
         let bay = shared.settings.shelves as usize;
         let before = shelf.len();
         let comes = may_come(&looked, &*shelf, ask);
-        match begin_step(alloc, &mut *shelf, &mut *desk, looked, page, ask) {
+        match begin_step(alloc, &mut *shelf, &mut *desk, looked, pages, ask) {
             Ok((mut plan, begun)) => {
                 let (word, came) = raise_for(&shared.board, &mut seat, bay, ask.hash, comes);
                 let had = before + came;
@@ -208,13 +209,13 @@ fn may_come(looked: &Looked<'_>, shelf: &Shelf, ask: &Ask<'_>) -> bool
 }
 
 /// Begins a step at a shelf and the desk, by its plan. With none it is looked up again, and memory is
-/// asked for only where a number and a chunk are to be had.
+/// asked for only where a number and the chunks that are needed are to be had.
 fn begin_step<'k>(
     alloc: Global,
     shelf: &mut Shelf,
     desk: &mut Desk,
     looked: Looked<'k>,
-    page: Option<Page>,
+    pages: Option<Pages>,
     ask: &Ask<'_>,
 ) -> Result<(Plan<'k>, Begun), StepFault>
     requires looked { IsLooked looked shelf.old ask.now }
@@ -237,7 +238,7 @@ fn begin_step<'k>(
     refusals_are_plain();
     let _number = desk.next_unique();
     match looked {
-        Looked::Planned(plan) => match shelf.begin(alloc, &plan, ask.step, desk, page) {
+        Looked::Planned(plan) => match shelf.begin(alloc, &plan, ask.step, desk, pages) {
             Ok(begun) => Ok((plan, begun)),
             Err(fault) => Err(fault),
         },
@@ -285,7 +286,7 @@ fn step_for<B: Drop, P: Patience<B>, K: KeyHash + Drop>(
         Err(_) => return (hold.give_back(), Err(Untaken::Refused(StepFault::NoMemory))),
     };
     match hold.take_desk_for(patience, alloc, &looked, ask) {
-        Ok((both, page)) => match both.take_step(alloc, looked, page, ask) {
+        Ok((both, pages)) => match both.take_step(alloc, looked, pages, ask) {
             (caller, Ok(reply)) => (caller, Ok(reply)),
             (caller, Err(fault)) => (caller, Err(Untaken::Refused(fault))),
         },

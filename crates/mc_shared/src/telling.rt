@@ -40,11 +40,13 @@ pub(crate) enum Sought {
     Told(Place),
     /// The key has none.
     Nothing,
-    /// It is dead.
-    Dead,
+    /// It is dead, or its block lies in several parts. Nothing was told of it, and the read isn't taken
+    /// there.
+    Deferred,
 }
 
-/// Seeks the item of a read in its shelf, and tells a hit of it where it stands.
+/// Seeks the item of a read in its shelf, and tells a hit of it where it stands, unless its block lies
+/// in several parts.
 fn tell_hit<A: Answer>(shelf: &Shelf, ask: &Ask<'_>, answer: &mut A) -> Result<Sought, AllocError>
     requires { IsHash shelf.now.content (key_of ask.now.step.now) ask.now.hash }
     ensures sought { IfOk result (λ sought. IsSought A.told shelf.now.content ask.now.step.now
@@ -54,8 +56,9 @@ fn tell_hit<A: Answer>(shelf: &Shelf, ask: &Ask<'_>, answer: &mut A) -> Result<S
 {
     match shelf.find(ask.step.key(), ask.hash, ask.moment) {
         Found::Nothing => Ok(Sought::Nothing),
-        Found::Dead => Ok(Sought::Dead),
-        Found::Standing(hit) => match answer.hit(hit.flags(), hit.unique(), hit.block()) {
+        Found::Dead => Ok(Sought::Deferred),
+        Found::Standing(hit) if hit.parts() != 1 => Ok(Sought::Deferred),
+        Found::Standing(hit) => match answer.hit(hit.flags(), hit.unique(), hit.part(0)) {
             Ok(()) => Ok(Sought::Told(hit.place())),
             Err(refused) => Err(refused),
         },
@@ -135,8 +138,8 @@ impl<K: KeyHash + Drop> Shared<K> {
     }
 
     /// Takes a read at its shelf: a hit is told there, before it is decided, and of a miss nothing is told.
-    /// Where the item is dead the read isn't taken, nor where the telling is refused. The gate is called
-    /// once while the shelf is held.
+    /// Where the item is dead or lies in several parts the read isn't taken, nor where the telling is
+    /// refused. The gate is called once while the shelf is held.
     fn read_telling<R: Wait, G: Gate, A: Answer>(
         &self,
         patience: &Waiting<'_, R, G>,
@@ -170,9 +173,9 @@ impl<K: KeyHash + Drop> Shared<K> {
                 self.give_read(seat, shelf, ask, None);
                 Ok(Sought::Nothing)
             }
-            Ok(Sought::Dead) => {
+            Ok(Sought::Deferred) => {
                 self.give_shelf(seat, shelf, ask.at);
-                Ok(Sought::Dead)
+                Ok(Sought::Deferred)
             }
             Err(refused) => {
                 self.give_shelf(seat, shelf, ask.at);
@@ -230,7 +233,10 @@ impl<K: KeyHash + Drop> Shared<K> {
         match self.read_telling(patience, caller, &ask, answer) {
             Ok(Sought::Told(_)) => Ok(()),
             Ok(Sought::Nothing) => tell(Ok(Reply::Miss), answer),
-            Ok(Sought::Dead) => tell(self.step_waiting(patience.rt, alloc, caller, &ask), answer),
+            Ok(Sought::Deferred) => tell(
+                self.step_waiting(patience.rt, alloc, caller, &ask),
+                answer,
+            ),
             Err(_) => Err(Unanswered::NoMemory),
         }
     }

@@ -20,7 +20,8 @@ pub sooner_none : (soonest : Soonest) (items : Items) → items ≡ empty → Di
 sooner_none soonest items is key item found = absurd (none-some item (sym (ap (λ (m : Items). get m key) is ∙ get-empty order key) ∙ found))
 
 -- an item comes under a key, or is changed
-pub sooner_insert : (a b : Soonest) (old new : Items) (key : List ℕ) (item : Entry) → new ≡ insert old key item → DieNoSooner a old → ((other : Entry) → DiesNoSooner a other → DiesNoSooner b other) → DiesNoSooner b item → DieNoSooner b new
+pub sooner_insert : (a b : Soonest) (old new : Items) (key : List ℕ) (item : Entry) → new ≡ insert old key item → DieNoSooner a old
+    → ((other : Entry) → DiesNoSooner a other → DiesNoSooner b other) → DiesNoSooner b item → DieNoSooner b new
 sooner_insert a b old new key item is held others one at found there =
     elim (order at key) as (λ r. cond (is_eq r) (Some item) (get old at) ≡ Some found → DiesNoSooner b found) [
       | Less ↦ λ e. others found (held at found e)

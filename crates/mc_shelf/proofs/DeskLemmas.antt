@@ -1,9 +1,13 @@
 -- Which plans need the desk: those of a step that drops an item, writes one, finds no chunk, or finds the numbers spent.
-use Rattle.std.proofs.Common.{◌≡◌, ◌≢◌, ◌↔◌, ℕ, ◌+◌, ◌-◌, ◌≤◌, ◌^◌, Bool, true, false, true≢false, ◌&&◌, List, Option, Some, None, is_some, is_none, eqb, ltb, le-ltb, inl, inr, if◌then◌else◌, refl, sym, ap, subst, ◌∙◌, arith}
+use Rattle.std.proofs.Common.{◌≡◌, ◌≢◌, ◌↔◌, ◌⊎◌, Result, Err, IfErr, ℕ, ◌+◌, ◌-◌, ◌≤◌, ◌^◌, Bool, true, false, true≢false, ◌&&◌, List, Option, Some, None, is_some, is_none, eqb}
+use Rattle.std.proofs.Common.{ltb, le-ltb, inl, inr, if◌then◌else◌, refl, sym, ap, subst, ◌∙◌, arith}
 use Rattle.std.proofs.lemmas.Option.{none-some}
 use Rattle.std.specs.FinMap.{get}
 use Rattle.mc_time.specs.declared.expiry.Expiry.{Expiry}
-use Rattle.mc_slab.specs.Classes.{class_holding}
+use Rattle.mc_slab.specs.Needs.{NeedState}
+use Rattle.mc_slab.specs.Slabs.{SlabState, TellsFull, WantsPages, full_fault, has_room_with, out_of, pages_of}
+use Rattle.mc_slab.specs.declared.slab.TakeFault.{TakeFault}
+use Rattle.mc_slab.specs.declared.slab.TakeFault.TheVariants.{NoMemory}
 use Rattle.mc_command.specs.declared.step.KeyStep.{KeyStep}
 use Rattle.mc_command.specs.declared.reply.Reply.{Reply}
 use Rattle.mc_command.specs.declared.reply.Reply.TheVariants.{NoChunk, TooLarge}
@@ -13,14 +17,14 @@ use Rattle.mc_command.specs.declared.row.Refusal.{Refusal}
 use Rattle.mc_command.specs.declared.row.Refusal.TheVariants as refusal
 use Rattle.mc_command.specs.declared.row.Draft.{Draft}
 use Rattle.mc_command.specs.Commands.{key_of}
-use Rattle.mc_command.specs.Plain.{Plain, Entry, Outcome, Answered, Spent, plain, charge, has_room, hit_of, keeps_chunk, refusal_reply, with_chunk, write_reply, written}
+use Rattle.mc_command.specs.Plain.{Plain, Entry, Outcome, Answered, Spent, plain, block_need, charge, has_room as plain_has_room, hit_of, keeps_chunk, refusal_reply, with_chunk, write_reply, written}
 use Rattle.mc_command.specs.Laws.{IsOnKey}
 use Rattle.mc_shelf.specs.declared.plan.Next.{Next}
 use Rattle.mc_shelf.specs.declared.plan.Next.TheVariants.{Answer, Expire, Discard, Write}
 use Rattle.mc_shelf.specs.States.{ShelfContent, DeskState, CanStand, IsAt}
 use Rattle.mc_shelf.specs.Plans.{NeedsDesk, WantsDesk, answered, charge_of, is_gone, next_by, next_of, row_at, stood, wants_desk}
 use Rattle.mc_shelf.proofs.KeyLemmas.{get_gone, get_put}
-use Rattle.mc_shelf.proofs.StandLemmas.{base, step_is, with_chunk-plain}
+use Rattle.mc_shelf.proofs.StandLemmas.{base, step_is}
 use Rattle.mc_shelf.proofs.PlanLemmas.{Does, block_at, found_in, next_does}
 
 -- ---- no step without the desk is told that no chunk is left
@@ -54,7 +58,8 @@ next_tells dead greatest step item (Reads (Some expiry)) = hit_apart item
 next_tells dead greatest step item (Touches expiry) = λ e. cc
 next_tells dead greatest step item Deletes = tt
 next_tells dead greatest step item (Writes draft) =
-    elim (ltb greatest (charge_of step item draft)) as (λ b. Tells (if b then answered dead TooLarge else Write (charge_of step item draft) draft)) [ true ↦ answered_tells dead TooLarge (λ e. cc) | false ↦ tt ]
+    elim (ltb greatest (charge_of step item draft)) as
+    (λ b. Tells (if b then answered dead TooLarge else Write (charge_of step item draft) draft)) [ true ↦ answered_tells dead TooLarge (λ e. cc) | false ↦ tt ]
 
 -- ---- a write
 
@@ -88,19 +93,19 @@ module _ (shelf : ShelfContent) (desk : DeskState) (step : KeyStep) (now : ℕ) 
       let d = does (Write size draft) is in
       let block = block_at shelf step now draft in
       let under = found_in shelf step now s in
-      let class = class_holding (charge its_key block) in
+      let need = block_need its_key block in
       let fits : ltb s.greatest (charge its_key block) ≡ false = le-ltb s.greatest (charge its_key block) (rw at.greatest (subst (λ (n : ℕ). n ≤ shelf.greatest) d.1.size_is d.1.fits)) in
-      let after : (with_chunk under class).next_unique ≡ s.next_unique = ap (λ (t : Plain). t.next_unique) (with_chunk-plain under class) in
       subst (NeedsDesk its_key s)
       (sym (d.0 ∙ ap (λ (b : Bool). if b then Answered TooLarge under else small draft block under) fits))
-      (wrote_needs its_key s (eqb s.next_unique (2 ^ 64 - 1)) (keeps_chunk draft.body its_key (stood shelf step now)) (has_room under class) (write_reply draft.body) under
-      (written under its_key draft.flags draft.expiry block now) (written (with_chunk under class) its_key draft.flags draft.expiry block now) (one_more s.next_unique) (λ e. one_more s.next_unique (ap (λ (n : ℕ). n + 1) (sym after) ∙ e)))
+      (wrote_needs its_key s (eqb s.next_unique (2 ^ 64 - 1)) (keeps_chunk draft.body its_key (stood shelf step now)) (plain_has_room under need) (write_reply draft.body) under
+      (written under its_key draft.flags draft.expiry block now) (written (with_chunk under need) its_key draft.flags draft.expiry block now) (one_more s.next_unique) (one_more s.next_unique))
     where
       small : Draft → List ℕ → Plain → Outcome
       small draft block under =
           if eqb s.next_unique (2 ^ 64 - 1) then Spent
           else if keeps_chunk draft.body its_key (stood shelf step now) then Answered (write_reply draft.body) (written under its_key draft.flags draft.expiry block now)
-          else if has_room under (class_holding (charge its_key block)) then Answered (write_reply draft.body) (written (with_chunk under (class_holding (charge its_key block))) its_key draft.flags draft.expiry block now)
+          else if plain_has_room under (block_need its_key block) then Answered (write_reply draft.body)
+          (written (with_chunk under (block_need its_key block)) its_key draft.flags draft.expiry block now)
           else Answered NoChunk under
 
   -- where it is wanted, it is needed
@@ -142,6 +147,19 @@ module _ (shelf : ShelfContent) (desk : DeskState) (step : KeyStep) (now : ℕ) 
   needs_wanted (Write size draft) is needs = refl
 
 -- the desk is wanted exactly where each plain state needs it
-pub wanted_exactly : (shelf : ShelfContent) (desk : DeskState) (step : KeyStep) (now : ℕ) → IsOnKey step → CanStand (key_of step) shelf desk → (next : Next) → next ≡ next_of shelf step now → (wants_desk next ≡ true) ↔ WantsDesk step now shelf desk
+pub wanted_exactly : (shelf : ShelfContent) (desk : DeskState) (step : KeyStep) (now : ℕ) → IsOnKey step → CanStand (key_of step) shelf desk → (next : Next)
+    → next ≡ next_of shelf step now → (wants_desk next ≡ true) ↔ WantsDesk step now shelf desk
 wanted_exactly shelf desk step now on can next is =
     ((λ wants s at. wanted_needs shelf desk step now on s at next is wants), (λ needs. needs_wanted shelf desk step now on can.plain can.stands next is (needs can.plain can.stands)))
+
+-- ---- want of pages
+
+-- where the chunks of a need can be had, they are refused for want of memory alone, and that where pages are wanted
+pub fault_wants : {A : Type 0} (slab : SlabState) (need : NeedState) (back : ℕ) (result : Result A TakeFault) {fault : TakeFault} → result ≡ Err fault
+    → IfErr result (λ fault. (fault ≡ NoMemory) ⊎ (fault ≡ full_fault slab need)) → (result ≡ Err NoMemory → WantsPages slab need back)
+    → (result ≡ Err (full_fault slab need) → TellsFull slab need back need.class (pages_of slab need.class) (out_of slab need.class)) → has_room_with slab need back ≡ true → WantsPages slab need back
+fault_wants slab need back result {fault} is faults no_memory full room =
+    elim (subst (λ r. IfErr r (λ fault. (fault ≡ NoMemory) ⊎ (fault ≡ full_fault slab need))) is faults) [
+      | inl none ↦ no_memory (is ∙ ap Err none)
+      | inr told ↦ absurd (true≢false (sym room ∙ (full (is ∙ ap Err told)).0))
+    ]

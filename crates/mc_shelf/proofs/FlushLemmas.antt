@@ -1,5 +1,7 @@
 -- What a purge of one shelf, and a flush of all, make of the state that they are parts of.
-use Rattle.std.proofs.Common.{◌≡◌, ◌≢◌, ℕ, ◌+◌, ◌<◌, ◌≤◌, Bool, true, false, cond, not, ◌||◌, eqb, eqb-true, eq-eqb, ne_eqb, ltb, lt-ltb, le-ltb, ltb-true, ltb-false, true≢false, List, ◌++◌, length, length-set, take, drop, Option, Some, None, is_some, slice_get, slice_set, refl, sym, ap, subst, ◌∙◌, arith, ◌⊎◌, inl, inr, ⊎_elim}
+use Rattle.std.proofs.Common.{◌≡◌, ◌≢◌, ℕ, ◌+◌, ◌<◌, ◌≤◌, Bool, true, false, cond, not, ◌||◌, eqb, eqb-true, eq-eqb, ne_eqb, ltb, lt-ltb, le-ltb, ltb-true, ltb-false, true≢false}
+use Rattle.std.proofs.Common.{List, ◌++◌, length, length-set, take, drop, Option, Some, None, is_some, slice_get, slice_set, refl, sym, ap, subst, ◌∙◌, arith, ◌⊎◌, inl, inr}
+use Rattle.std.proofs.Common.{⊎_elim}
 use Rattle.std.proofs.lemmas.Option.{slice_get_within}
 use Rattle.std.specs.FinMap as maps
 use Rattle.std.specs.FinMap.{get, get-empty, retain_keys}
@@ -18,10 +20,12 @@ use Rattle.mc_shelf.proofs.KeyLemmas.{order, same_maps, get_kept}
 use Rattle.mc_shelf.proofs.PartLemmas.{PartsLaw, parted, own_items, shelf_kept, put_cases}
 
 -- where none of its items is dead, purging a shelf's part changes nothing
-pub nothing_purged : {hash_of : List ℕ → ℕ} {count at : ℕ} {state : Plain} {shelf : ShelfContent} (now : ℕ) → IsShelfOf hash_of count state at shelf → NoneIsDead now shelf.cut shelf.items → purged (λ key. eqb (shelf_of hash_of count key) at) now state ≡ state
+pub nothing_purged : {hash_of : List ℕ → ℕ} {count at : ℕ} {state : Plain} {shelf : ShelfContent} (now : ℕ) → IsShelfOf hash_of count state at shelf
+    → NoneIsDead now shelf.cut shelf.items → purged (λ key. eqb (shelf_of hash_of count key) at) now state ≡ state
 nothing_purged {hash_of} {count} {at} {state} {shelf} now fits lives =
     let mine : List ℕ → Bool = λ q. eqb (shelf_of hash_of count q) at in
-    let stays : (q : List ℕ) → mine q ≡ true → (o : Option Entry) → get state.items q ≡ o → cond (is_some (alive state.cut now o)) o None ≡ o = λ q is o. elim o as (λ o. get state.items q ≡ o → cond (is_some (alive state.cut now o)) o None ≡ o) [
+    let stays : (q : List ℕ) → mine q ≡ true → (o : Option Entry) → get state.items q ≡ o → cond (is_some (alive state.cut now o)) o None ≡ o =
+    λ q is o. elim o as (λ o. get state.items q ≡ o → cond (is_some (alive state.cut now o)) o None ≡ o) [
       | None ↦ λ e. refl
       | Some item ↦ λ e.
           let stands = lives q item (fits.items q (eqb-true (shelf_of hash_of count q) at is) ∙ e) in
@@ -39,7 +43,8 @@ hash_kept : (kept : Bool) (o : Option ℕ) (stored : ℕ) → cond kept o None �
 hash_kept true o stored found = found
 hash_kept false o stored found = cc
 
-module _ {hash_of : List ℕ → ℕ} {count at : ℕ} {state : Plain} {shelf : ShelfContent} {desk : DeskState} (law : PartsLaw) (fits : IsShelfOf hash_of count state at shelf) (account : IsDeskOf state desk) where
+module _ {hash_of : List ℕ → ℕ} {count at : ℕ} {state : Plain} {shelf : ShelfContent} {desk : DeskState} (law : PartsLaw)
+    (fits : IsShelfOf hash_of count state at shelf) (account : IsDeskOf state desk) where
   abbrev mine : List ℕ → Bool
   mine q = eqb (shelf_of hash_of count q) at
 
@@ -114,7 +119,10 @@ kept_alive cut now (Some item) =
 -- what stands after it under a key
 get_flushed : (delay now : ℕ) (state : Plain) (q : List ℕ) → get (flushed delay state now).items q ≡ left_of_flush delay now state.cut (get state.items q)
 get_flushed delay now state q =
-    elim (eqb delay 0) as (λ b. get (cond b (record state { items = maps.empty; cut = None }) (record state { items = living state.items state.cut now; cut = Some (moment_named delay now) })).items q ≡ cond b None (alive state.cut now (get state.items q))) [
+    elim (eqb delay 0) as
+    (λ b. get
+    (cond b (record state { items = maps.empty; cut = None })
+    (record state { items = living state.items state.cut now; cut = Some (moment_named delay now) })).items q ≡ cond b None (alive state.cut now (get state.items q))) [
       | true ↦ get-empty order q
       | false ↦ get_kept state.items (λ q. is_some (alive state.cut now (get state.items q))) q ∙ kept_alive state.cut now (get state.items q)
     ]
@@ -200,7 +208,9 @@ pub record AreFlushedTo (hash_of : List ℕ → ℕ) (count delay now : ℕ) (st
   pub next_unique : desk.next_unique ≡ state.next_unique
   pub limit : desk.slab.limit ≡ state.limit
   pub pages : desk.slab.pages ≡ state.pages
-  pub out : (class : ℕ) → IsClass class → out_of desk.slab class + count_of (below (shelf_of hash_of count) at state.items) class ≡ count_of state.items class + count_of (below (shelf_of hash_of count) at (flushed delay state now).items) class
+  pub out : (class : ℕ) → IsClass class
+      → out_of desk.slab class + count_of (below (shelf_of hash_of count) at state.items) class ≡ count_of state.items class + count_of
+      (below (shelf_of hash_of count) at (flushed delay state now).items) class
 
 module _ (hash_of : List ℕ → ℕ) (count delay now : ℕ) (state : Plain) where
   abbrev place : List ℕ → ℕ
@@ -210,10 +220,12 @@ module _ (hash_of : List ℕ → ℕ) (count delay now : ℕ) (state : Plain) wh
   after = flushed delay state now
 
   none_below : (items : Items) → below place 0 items ≡ maps.empty
-  none_below items = same_maps (below place 0 items) maps.empty (λ q. get_kept items (λ q. ltb (place q) 0) q ∙ ap (λ b. cond b (get items q) None) (le-ltb (place q) 0 (omega arith)) ∙ sym (get-empty order q))
+  none_below items =
+      same_maps (below place 0 items) maps.empty (λ q. get_kept items (λ q. ltb (place q) 0) q ∙ ap (λ b. cond b (get items q) None) (le-ltb (place q) 0 (omega arith)) ∙ sym (get-empty order q))
 
   all_below : (at : ℕ) → 0 < count → count ≤ at → (items : Items) → below place at items ≡ items
-  all_below at some past items = same_maps (below place at items) items (λ q. get_kept items (λ q. ltb (place q) at) q ∙ ap (λ b. cond b (get items q) None) (lt-ltb (place q) at (omega (arith, some, past))))
+  all_below at some past items =
+      same_maps (below place at items) items (λ q. get_kept items (λ q. ltb (place q) at) q ∙ ap (λ b. cond b (get items q) None) (lt-ltb (place q) at (omega (arith, some, past))))
 
   pub flushed_none : {list : List ShelfState} {desk : DeskState} → ArePartsOf hash_of state list count desk → AreFlushedTo hash_of count delay now state 0 list desk
   flushed_none parts = record {
@@ -228,11 +240,13 @@ module _ (hash_of : List ℕ → ℕ) (count delay now : ℕ) (state : Plain) wh
   }
 
   -- one shelf more is flushed
-  module _ {at : ℕ} {list : List ShelfState} {desk : DeskState} {shelf : ShelfState} (law : PartsLaw) (swept : AreFlushedTo hash_of count delay now state at list desk) (here : slice_get list at ≡ Some shelf) where
+  module _ {at : ℕ} {list : List ShelfState} {desk : DeskState} {shelf : ShelfState} (law : PartsLaw)
+      (swept : AreFlushedTo hash_of count delay now state at list desk) (here : slice_get list at ≡ Some shelf) where
     fits : IsShelfOf hash_of count state at shelf.content
     fits = subst (λ b. IsShelfOf hash_of count (cond b after state) at shelf.content) (le-ltb at at (omega arith)) (swept.each at shelf here)
 
-    more_below : {s : Plain} {part : ShelfContent} → IsShelfOf hash_of count s at part → (class : ℕ) → count_of (below place (at + 1) s.items) class ≡ count_of part.items class + count_of (below place at s.items) class
+    more_below : {s : Plain} {part : ShelfContent} → IsShelfOf hash_of count s at part → (class : ℕ)
+        → count_of (below place (at + 1) s.items) class ≡ count_of part.items class + count_of (below place at s.items) class
     more_below {s} {part} is =
         parted law (below place (at + 1) s.items) part.items (below place at s.items) (λ q. eqb (place q) at)
         (λ q.
@@ -263,7 +277,8 @@ module _ (hash_of : List ℕ → ℕ) (count delay now : ℕ) (state : Plain) wh
         some_shelf = swept.some_shelf;
         each = λ k s there.
             ⊎_elim
-            (λ h. subst (λ (p : ℕ × ShelfState). IsShelfOf hash_of count (cond (ltb p.0 (at + 1)) after state) p.0 p.1.content) (λ i. (sym h.0 i, sym h.1 i)) (subst (λ b. IsShelfOf hash_of count (cond b after state) at shelf'.content) (sym (lt-ltb at (at + 1) (omega arith))) fits_after))
+            (λ h. subst (λ (p : ℕ × ShelfState). IsShelfOf hash_of count (cond (ltb p.0 (at + 1)) after state) p.0 p.1.content) (λ i. (sym h.0 i, sym h.1 i))
+            (subst (λ b. IsShelfOf hash_of count (cond b after state) at shelf'.content) (sym (lt-ltb at (at + 1) (omega arith))) fits_after))
             (λ h. subst (λ b. IsShelfOf hash_of count (cond b after state) k s.content) (sym (below_next k at ∙ ap (λ b. ltb k at || b) (ne_eqb k at h.0) ∙ or_false (ltb k at))) (swept.each k s h.1))
             (put_cases list at shelf' k s there);
         next_unique = gives.next_unique ∙ swept.next_unique;
@@ -276,7 +291,8 @@ module _ (hash_of : List ℕ → ℕ) (count delay now : ℕ) (state : Plain) wh
   flushed_all {at} {list} past swept = record {
     number = swept.number;
     some_shelf = swept.some_shelf;
-    each = λ k shelf there. subst (λ b. IsShelfOf hash_of count (cond b after state) k shelf.content) (lt-ltb k at (omega (arith, past, swept.number, slice_get_within list k shelf there))) (swept.each k shelf there);
+    each = λ k shelf there. subst (λ b. IsShelfOf hash_of count (cond b after state) k shelf.content)
+        (lt-ltb k at (omega (arith, past, swept.number, slice_get_within list k shelf there))) (swept.each k shelf there);
     account = record {
       next_unique = swept.next_unique ∙ ap (λ (s : Plain). s.next_unique) (sym (is_after delay now state));
       limit = swept.limit ∙ ap (λ (s : Plain). s.limit) (sym (is_after delay now state));
@@ -289,7 +305,8 @@ module _ (hash_of : List ℕ → ℕ) (count delay now : ℕ) (state : Plain) wh
   }
 
 -- the shelves of a flush are written back, where they stood
-pub flushed_back : {hash_of : List ℕ → ℕ} {state : Plain} {new : List ShelfState} {count len : ℕ} {desk : DeskState} (old : List ShelfState) → len ≡ count → ArePartsOf hash_of state new count desk → ArePartsOf hash_of state (take len (new ++ drop (length new) old)) count desk
+pub flushed_back : {hash_of : List ℕ → ℕ} {state : Plain} {new : List ShelfState} {count len : ℕ} {desk : DeskState} (old : List ShelfState) → len ≡ count
+    → ArePartsOf hash_of state new count desk → ArePartsOf hash_of state (take len (new ++ drop (length new) old)) count desk
 flushed_back {hash_of} {state} {new} {count} {len} {desk} old all parts =
     subst (λ (l : List ShelfState). ArePartsOf hash_of state l count desk)
     (sym (ap (λ n. take n (new ++ drop (length new) old)) (all ∙ sym parts.number) ∙ take-append_seam new (drop (length new) old))) parts

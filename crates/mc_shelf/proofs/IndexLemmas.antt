@@ -12,7 +12,8 @@ use Rattle.mc_shelf.specs.KeyMaps.{IsHashOf, IsKeyed, StandsIn, hash_in, hashes_
 use Rattle.mc_shelf.specs.Places.{IsChanged, IsKeyAt, IsKeyFound, KeyGoes, KeyComes, entries_of, hashes_of, items_of}
 use Rattle.mc_shelf.proofs.KeyLemmas.{order, get_gone}
 use Rattle.mc_shelf.proofs.LabelLemmas.{own, same, same_itself}
-use Rattle.mc_shelf.proofs.KeyMapLemmas.{hash_absent, hash_there, hashes-insert, hashes-remove, hashes-replace, found_hash, item_there, items-insert, items-remove, keyed-insert, keyed-remove, labelled-content, not_found}
+use Rattle.mc_shelf.proofs.KeyMapLemmas.{hash_absent, hash_there, hashes-insert, hashes-remove, hashes-replace, found_hash, item_there, items-insert, items-remove, keyed-insert}
+use Rattle.mc_shelf.proofs.KeyMapLemmas.{keyed-remove, labelled-content, not_found}
 
 -- ---- buckets
 
@@ -35,13 +36,22 @@ first (Some x ∷ buckets) zero e is = record {
   entry = x;
   low = omega arith;
   there = refl;
-  found = ap (λ b. cond b (Some x) (find order (e.hash ∷ e.key) (rows hash_in key_in buckets))) (ap (λ (d : EntryState). same (e.hash ∷ e.key) (d.hash ∷ d.key)) (same_Some x e is) ∙ same_itself (e.hash ∷ e.key));
+  found = ap (λ b. cond b (Some x) (find order (e.hash ∷ e.key) (rows hash_in key_in buckets)))
+      (ap (λ (d : EntryState). same (e.hash ∷ e.key) (d.hash ∷ d.key)) (same_Some x e is) ∙ same_itself (e.hash ∷ e.key));
 }
 first (Some x ∷ buckets) (suc number) e is =
     let later = first buckets number e is in
     elim (same (e.hash ∷ e.key) (x.hash ∷ x.key)) as (λ b. same (e.hash ∷ e.key) (x.hash ∷ x.key) ≡ b → IsFirst (Some x ∷ buckets) (suc number) (e.hash ∷ e.key)) [
       | true ↦ λ t. record { at = zero; entry = x; low = omega arith; there = refl; found = ap (λ b. cond b (Some x) (find order (e.hash ∷ e.key) (rows hash_in key_in buckets))) t }
-      | false ↦ λ f. record { at = suc later.at; entry = later.entry; low = omega (arith, later.low); there = later.there; found = ap (λ b. cond b (Some x) (find order (e.hash ∷ e.key) (rows hash_in key_in buckets))) f ∙ later.found }
+      | false ↦
+          λ f. record {
+            at = suc later.at;
+            entry = later.entry;
+            low = omega (arith, later.low);
+            there = later.there;
+            found =
+                ap (λ b. cond b (Some x) (find order (e.hash ∷ e.key) (rows hash_in key_in buckets))) f ∙ later.found;
+          }
     ] refl
 
 -- what is found stands in a bucket
@@ -113,7 +123,8 @@ module _ (old new : IndexState EntryState) (keyed : IsKeyed (entries_of old)) wh
     came = record { items = ap items_in is ∙ items-insert _ keyed e right; hashes = ap hashes_in is ∙ hashes-insert _ keyed e right }
 
   -- an entry is changed to one of its hash and key
-  module _ (e given : EntryState) (held : StandsIn (entries_of old) e) (same_hash : given.hash ≡ e.hash) (same_key : given.key ≡ e.key) (is : entries_of new ≡ insert (entries_of old) (e.hash ∷ e.key) given) where
+  module _ (e given : EntryState) (held : StandsIn (entries_of old) e) (same_hash : given.hash ≡ e.hash) (same_key : given.key ≡ e.key)
+      (is : entries_of new ≡ insert (entries_of old) (e.hash ∷ e.key) given) where
     label : given.hash ∷ given.key ≡ e.hash ∷ e.key
     label i = same_hash i ∷ same_key i
 
@@ -158,7 +169,9 @@ module _ (old new : IndexState EntryState) (keyed : IsKeyed (entries_of old)) wh
           | inl less ↦
               let still = first (cells new) one.at one.entry (keeps.lower one.at less ∙ one.there) in
               let label = labelled-content hash_in key_in (cells old) (e.hash ∷ e.key) one.entry found in
-              absurd (none-some still.entry (sym (ap (λ m. get m (e.hash ∷ e.key)) is ∙ get_gone (entries_of old) (e.hash ∷ e.key)) ∙ ap (get (entries_of new)) label ∙ found_in new (one.entry.hash ∷ one.entry.key) ∙ still.found))
+              absurd (none-some still.entry
+              (sym (ap (λ m. get m (e.hash ∷ e.key)) is ∙ get_gone (entries_of old) (e.hash ∷ e.key)) ∙ ap (get (entries_of new)) label
+              ∙ found_in new (one.entry.hash ∷ one.entry.key) ∙ still.found))
           | inr behind ↦
               let here : one.at ≡ place.number = omega (arith, one.low, behind) in
               found ∙ sym one.there ∙ ap (λ n. get_or (cells old) n None) here ∙ there

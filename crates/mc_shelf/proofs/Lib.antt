@@ -1,4 +1,6 @@
 pub mod EntryLemmas
+pub mod NeedLemmas
+pub mod PartsLemmas
 pub mod IndexLemmas
 pub mod PlaceLemmas
 pub mod KeyLemmas

@@ -1,5 +1,6 @@
 -- Parts of a state: what they are together, and what a change of one of them makes of the state.
-use Rattle.std.proofs.Common.{◌≡◌, ◌≢◌, ℕ, zero, suc, ◌+◌, ◌-◌, ◌<◌, Bool, true, false, cond, not, eqb, eqb-true, eq-eqb, true≢false, List, [], ◌∷◌, ◌++◌, length, length-set, map, Option, Some, None, slice_get, slice_set, refl, sym, ap, subst, ◌∙◌, arith, ◌⊎◌, inl, inr, ⊎_elim}
+use Rattle.std.proofs.Common.{◌≡◌, ◌≢◌, ℕ, zero, suc, ◌+◌, ◌-◌, ◌<◌, Bool, true, false, cond, not, eqb, eqb-true, eq-eqb, true≢false, List, [], ◌∷◌, ◌++◌, length, length-set, map}
+use Rattle.std.proofs.Common.{Option, Some, None, slice_get, slice_set, refl, sym, ap, subst, ◌∙◌, arith, ◌⊎◌, inl, inr, ⊎_elim}
 use Rattle.std.proofs.lemmas.Option.{same_Some}
 use Rattle.std.proofs.lemmas.List.FromFn.{get_or-map-range_with_len}
 use Rattle.std.specs.List.{range_with_len}
@@ -23,7 +24,8 @@ use Rattle.mc_shelf.proofs.KeyLemmas.{order, same_key, same_maps, get_kept}
 
 -- the plain machine's step on a key leaves the other keys, as `other_keys_stay` says, and the limit of pages, as `pages_stay`
 abbrev pub OthersLaw : Type 0
-OthersLaw = (old new : Plain) (step : KeyStep) (now : ℕ) (reply : Reply) (other : List ℕ) → IsOnKey step → plain old step now ≡ Answered reply new → other ≢ key_of step → get new.items other ≡ get old.items other
+OthersLaw = (old new : Plain) (step : KeyStep) (now : ℕ) (reply : Reply) (other : List ℕ) → IsOnKey step → plain old step now ≡ Answered reply new
+    → other ≢ key_of step → get new.items other ≡ get old.items other
 
 abbrev pub LimitLaw : Type 0
 LimitLaw = (old new : Plain) (step : KeyStep) (now : ℕ) (reply : Reply) → plain old step now ≡ Answered reply new → new.limit ≡ old.limit
@@ -120,7 +122,8 @@ module _ {hash_of : List ℕ → ℕ} {state : Plain} {list : List ShelfState} {
 
 -- ---- a change of one shelf and the desk
 
-pub put_cases : (shelves : List ShelfState) (at : ℕ) (new : ShelfState) (k : ℕ) (s : ShelfState) → slice_get (slice_set shelves at new) k ≡ Some s → ((k ≡ at) × (s ≡ new)) ⊎ ((k ≢ at) × (slice_get shelves k ≡ Some s))
+pub put_cases : (shelves : List ShelfState) (at : ℕ) (new : ShelfState) (k : ℕ) (s : ShelfState) → slice_get (slice_set shelves at new) k ≡ Some s
+    → ((k ≡ at) × (s ≡ new)) ⊎ ((k ≢ at) × (slice_get shelves k ≡ Some s))
 put_cases [] at new k s there = cc
 put_cases (first ∷ shelves) zero new zero s there = inl (refl, sym (same_Some new s there))
 put_cases (first ∷ shelves) zero new (suc k) s there = inr ((λ e. omega arith), there)
@@ -142,7 +145,8 @@ parts_go {hash_of} {count} {at} {old} {new} {list} shelf parts goes = record {
 }
 
 -- a step on one of the shelf's keys
-module _ {hash_of : List ℕ → ℕ} {count at : ℕ} {state : Plain} {shelf : ShelfContent} {desk : DeskState} (step : KeyStep) (mine : shelf_of hash_of count (key_of step) ≡ at) (fits : IsShelfOf hash_of count state at shelf) (account : IsDeskOf state desk) where
+module _ {hash_of : List ℕ → ℕ} {count at : ℕ} {state : Plain} {shelf : ShelfContent} {desk : DeskState} (step : KeyStep)
+    (mine : shelf_of hash_of count (key_of step) ≡ at) (fits : IsShelfOf hash_of count state at shelf) (account : IsDeskOf state desk) where
   pub is_at : IsAt (key_of step) shelf desk state
   is_at = record {
     greatest = sym fits.greatest;
@@ -154,7 +158,8 @@ module _ {hash_of : List ℕ → ℕ} {count at : ℕ} {state : Plain} {shelf : 
     out = account.out;
   }
 
-  module _ {now : ℕ} {reply : Reply} {shelf' : ShelfContent} {desk' : DeskState} (on : IsOnKey step) (others : OthersLaw) (limit : LimitLaw) (taken : IsTaken step now (hash_of (key_of step)) shelf desk reply shelf' desk') where
+  module _ {now : ℕ} {reply : Reply} {shelf' : ShelfContent} {desk' : DeskState} (on : IsOnKey step) (others : OthersLaw) (limit : LimitLaw)
+      (taken : IsTaken step now (hash_of (key_of step)) shelf desk reply shelf' desk') where
     abbrev new : Plain
     new = (taken.takes state is_at).0
 
@@ -230,7 +235,8 @@ a_desk state =
 same_answer : (reply : Reply) (a b : Plain) → Answered reply a ≡ Answered reply b → a ≡ b
 same_answer reply a b same = cc
 
-pub goes_without_desk : {hash_of : List ℕ → ℕ} {shelves at now : ℕ} {state : Plain} {reply : Reply} {old new : ShelfContent} (step : KeyStep) → IsOnKey step → shelf_of hash_of shelves (key_of step) ≡ at → OthersLaw → LimitLaw
+pub goes_without_desk : {hash_of : List ℕ → ℕ} {shelves at now : ℕ} {state : Plain} {reply : Reply} {old new : ShelfContent} (step : KeyStep) → IsOnKey step
+    → shelf_of hash_of shelves (key_of step) ≡ at → OthersLaw → LimitLaw
     → IsShelfOf hash_of shelves state at old → IsSettled step now (hash_of (key_of step)) old reply new → GoesWithoutDesk hash_of shelves at step now state reply new
 goes_without_desk {hash_of} {shelves} {at} {now} {state} {reply} {old} {new} step on mine others limit fits settled =
     let by = λ (desk : DeskState) (account : IsDeskOf state desk).
@@ -248,7 +254,8 @@ goes_without_desk {hash_of} {shelves} {at} {now} {state} {reply} {old} {new} ste
 -- ---- items that are dropped
 
 -- two maps part a third by a test on keys
-pub parted : PartsLaw → (whole part rest : Items) (meant : List ℕ → Bool) → ((q : List ℕ) → get part q ≡ cond (meant q) (get whole q) None) → ((q : List ℕ) → get rest q ≡ cond (not (meant q)) (get whole q) None) → (class : ℕ) → count_of whole class ≡ count_of part class + count_of rest class
+pub parted : PartsLaw → (whole part rest : Items) (meant : List ℕ → Bool) → ((q : List ℕ) → get part q ≡ cond (meant q) (get whole q) None)
+    → ((q : List ℕ) → get rest q ≡ cond (not (meant q)) (get whole q) None) → (class : ℕ) → count_of whole class ≡ count_of part class + count_of rest class
 parted law whole part rest meant own others class =
     let part_is = same_maps (retain_keys whole meant) part (λ q. get_kept whole meant q ∙ sym (own q)) in
     let rest_is = same_maps (retain_keys whole (λ q. not (meant q))) rest (λ q. get_kept whole (λ q. not (meant q)) q ∙ sym (others q)) in

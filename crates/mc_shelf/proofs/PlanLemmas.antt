@@ -1,5 +1,6 @@
 -- What the plan of a step says of the plain machine at the key.
-use Rattle.std.proofs.Common.{◌≡◌, ℕ, ◌≤◌, Bool, true, false, ◌&&◌, List, append-nil, Option, Some, None, is_some, is_none, eqb, ltb, if◌then◌else◌, refl, sym, ap, subst, ◌∙◌, ltb-true, ltb-false, true≢false}
+use Rattle.std.proofs.Common.{◌≡◌, ℕ, ◌≤◌, Bool, true, false, ◌&&◌, List, append-nil, Option, Some, None, is_some, is_none, eqb, ltb, if◌then◌else◌, refl, sym, ap, subst, ◌∙◌}
+use Rattle.std.proofs.Common.{ltb-true, ltb-false, true≢false}
 use Rattle.std.specs.FinMap.{get, insert, remove}
 use Rattle.mc_time.specs.declared.expiry.Expiry.{Expiry}
 use Rattle.mc_time.specs.Death.{is_dead}
@@ -16,7 +17,8 @@ use Rattle.mc_command.specs.declared.row.Body.{Body}
 use Rattle.mc_command.specs.declared.row.Body.TheVariants.{Given, Appended, Prepended, Counted}
 use Rattle.mc_command.specs.declared.row.Draft.{Draft}
 use Rattle.mc_command.specs.Commands.{key_of}
-use Rattle.mc_command.specs.Plain.{Plain, Entry, Outcome, Answered, alive, block_of, cas_row, changed, charge, count_row, expiring, given, hit_of, keeps_chunk, number_of, number_row, refusal_reply, row_of, store_row, write_reply, written_block, wrote}
+use Rattle.mc_command.specs.Plain.{Plain, Entry, Outcome, Answered, alive, block_of, cas_row, changed, charge, count_row, expiring, given, hit_of, keeps_chunk, number_of}
+use Rattle.mc_command.specs.Plain.{number_row, refusal_reply, row_of, store_row, write_reply, written_block, wrote}
 use Rattle.mc_command.specs.Laws.{IsOnKey}
 use Rattle.mc_shelf.specs.declared.plan.Next.{Next}
 use Rattle.mc_shelf.specs.declared.plan.Next.TheVariants.{Answer, Expire, Discard, Write}
@@ -82,7 +84,8 @@ made_is Prepended block (Some old) = refl
 made_is (Counted number) block item = refl
 
 -- what a write makes beside the block of the item that was found is what the row asks, though that item is dead
-pub made_beside : (cut : Option ℕ) (now : ℕ) (found : Option Entry) (body : Body) (block : List ℕ) → (alive cut now found ≡ None → body ≡ Given) → made_block body block (block_in found) ≡ written_block body block (alive cut now found)
+pub made_beside : (cut : Option ℕ) (now : ℕ) (found : Option Entry) (body : Body) (block : List ℕ) → (alive cut now found ≡ None → body ≡ Given)
+    → made_block body block (block_in found) ≡ written_block body block (alive cut now found)
 made_beside cut now found body block own =
     elim (alive cut now found) as (λ stands. alive cut now found ≡ stands → made_block body block (block_in found) ≡ written_block body block stands) [
       | None ↦ λ e. ap (λ (b : Body). made_block b block (block_in found)) (own e) ∙ ap (λ (b : Body). written_block b block None) (sym (own e))
@@ -138,24 +141,30 @@ module _ (shelf : ShelfContent) (step : KeyStep) (now : ℕ) where
         | false ↦ λ dead. (is, dead)
       ] refl
 
-  expires_does : (s : Plain) (expiry : Expiry) (reply : Reply) → ((item : Entry) × (stands ≡ Some item)) → Does s (Answered reply (expiring stands key expiry (found_in shelf step now s))) (Expire expiry reply)
+  expires_does : (s : Plain) (expiry : Expiry) (reply : Reply) → ((item : Entry) × (stands ≡ Some item))
+      → Does s (Answered reply (expiring stands key expiry (found_in shelf step now s))) (Expire expiry reply)
   expires_does s expiry reply there = (there.0, there.1, ap (λ (o : Option Entry). Answered reply (expiring o key expiry (record s { items = base o key s.items }))) there.1)
 
-  writes_does : (s : Plain) → s.greatest ≡ shelf.greatest → (draft : Draft) → (stands ≡ None → draft.body ≡ Given) → Does s (wrote_at shelf step now draft s) (next_by (is_gone shelf.cut now found) shelf.greatest step stands (Writes draft))
+  writes_does : (s : Plain) → s.greatest ≡ shelf.greatest → (draft : Draft) → (stands ≡ None → draft.body ≡ Given)
+      → Does s (wrote_at shelf step now draft s) (next_by (is_gone shelf.cut now found) shelf.greatest step stands (Writes draft))
   writes_does s same draft given =
       let size = charge_of step stands draft in
-      elim (ltb shelf.greatest size) as (λ b. ltb shelf.greatest size ≡ b → Does s (wrote_at shelf step now draft s) (if b then answered (is_gone shelf.cut now found) TooLarge else Write size draft)) [
+      elim (ltb shelf.greatest size) as
+      (λ b. ltb shelf.greatest size ≡ b → Does s (wrote_at shelf step now draft s) (if b then answered (is_gone shelf.cut now found) TooLarge else Write size draft)) [
         | true ↦ λ large. answered_does s (wrote_at shelf step now draft s) TooLarge
-            (wrote_too_large (write_reply draft.body) key draft.flags draft.expiry (block_at shelf step now draft) (found_in shelf step now s) now (keeps_chunk draft.body key stands) (rw same (ltb-true shelf.greatest size large)))
+            (wrote_too_large (write_reply draft.body) key draft.flags draft.expiry (block_at shelf step now draft) (found_in shelf step now s) now
+            (keeps_chunk draft.body key stands) (rw same (ltb-true shelf.greatest size large)))
         | false ↦ λ fits. (refl, record { size_is = refl; fits = ltb-false shelf.greatest size fits; given = given })
       ] refl
 
-  pub row_does : (s : Plain) → s.greatest ≡ shelf.greatest → (row : Row) → SpeaksOf stands row → Does s (changed row step stands (found_in shelf step now s) now) (next_by (is_gone shelf.cut now found) shelf.greatest step stands row)
+  pub row_does : (s : Plain) → s.greatest ≡ shelf.greatest → (row : Row) → SpeaksOf stands row
+      → Does s (changed row step stands (found_in shelf step now s) now) (next_by (is_gone shelf.cut now found) shelf.greatest step stands row)
   row_does s same (Refuses why) speaks = answered_does s (changed (Refuses why) step stands (found_in shelf step now s) now) (refusal_reply why) refl
   row_does s same (Reads None) speaks = answered_does s (changed (Reads None) step stands (found_in shelf step now s) now) (hit_of stands) refl
   row_does s same (Reads (Some expiry)) speaks = expires_does s expiry (hit_of stands) speaks
   row_does s same (Touches expiry) speaks = expires_does s expiry Touched speaks
-  row_does s same Deletes speaks = (speaks.0, alive_found shelf.cut now found speaks.0 speaks.1, ap (λ (o : Option Entry). Answered Deleted (record s { items = remove (base o key s.items) key })) speaks.1)
+  row_does s same Deletes speaks =
+      (speaks.0, alive_found shelf.cut now found speaks.0 speaks.1, ap (λ (o : Option Entry). Answered Deleted (record s { items = remove (base o key s.items) key })) speaks.1)
   row_does s same (Writes draft) speaks = writes_does s same draft speaks
 
   -- what the plain machine does, by what comes next
@@ -163,4 +172,5 @@ module _ (shelf : ShelfContent) (step : KeyStep) (now : ℕ) where
       → (next : Next) → next ≡ next_of shelf step now → Does s outcome next
   next_does desk s on at outcome outcome_is next next_is =
       subst (λ (o : Outcome). Does s o next) (sym outcome_is)
-      (subst (λ (n : Next). Does s (changed (row_at shelf step now) step stands (found_in shelf step now s) now) n) (sym next_is) (row_does s at.greatest (row_at shelf step now) (row_speaks step now stands)))
+      (subst (λ (n : Next). Does s (changed (row_at shelf step now) step stands (found_in shelf step now s) now) n) (sym next_is)
+      (row_does s at.greatest (row_at shelf step now) (row_speaks step now stands)))

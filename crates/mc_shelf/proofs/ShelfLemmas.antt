@@ -1,12 +1,14 @@
 -- What an edit of its index makes of a shelf's content.
-use Rattle.std.proofs.Common.{◌≡◌, ◌≢◌, ℕ, List, Option, Some, None, refl, sym, ap, ◌∙◌}
+use Rattle.std.proofs.Common.{◌≡◌, ◌≢◌, ℕ, List, Option, Some, None, is_some, true≢false, refl, sym, ap, ◌∙◌}
 use Rattle.std.proofs.lemmas.Option.{same_Some, none-some}
 use Rattle.std.specs.FinMap.{get, insert, remove}
+use Rattle.mc_slab.specs.Chunks.{ChunksState}
 use Rattle.mc_command.specs.Plain.{Entry, Items}
 use Rattle.mc_grow.specs.Indexes.{IndexState}
+use Rattle.mc_grow.specs.declared.index.Place.{Place}
 use Rattle.mc_shelf.specs.States.{EntryState, ShelfContent, Hashes, IsHash}
 use Rattle.mc_shelf.specs.Places.{items_of, hashes_of, IsChanged, KeyComes, KeyGoes}
-use Rattle.mc_shelf.specs.Plans.{IsDropped, IsPut, OthersStay, with_item}
+use Rattle.mc_shelf.specs.Plans.{IsDropped, IsKnown, IsPut, IsSought, OthersStay, with_item}
 use Rattle.mc_shelf.proofs.KeyLemmas.{get_gone, get_gone_other, get_put, get_put_other}
 
 -- the content of a shelf over an index
@@ -41,8 +43,8 @@ module _ (key : List ℕ) (own : ℕ) (old : ShelfContent) where
   }
 
   -- an item that comes under the key with its hash
-  pub put_new : (chunk : List ℕ) (item : Entry) → IsPut key own old (with_item (Some chunk) key own item old) item
-  put_new chunk item = record {
+  pub put_new : (chunks : ChunksState) (item : Entry) → IsPut key own old (with_item (Some chunks) key own item old) item
+  put_new chunks item = record {
     item = get_put old.items key item;
     others = record {
       greatest = refl;
@@ -69,11 +71,12 @@ module _ (greatest : ℕ) (cut : Option ℕ) (old : ShelfContent) (was : IndexSt
       (λ i. record { greatest = greatest; items = is.items i; hashes = is.hashes i; cut = cut })
       ∙ ap (with_item None key own item) old_is
 
-  pub came_is : (chunk : List ℕ) (item : Entry) (entry : EntryState) → entry ≡ record { hash = own; key = key; item = item } → KeyComes was new entry → content_of greatest cut new ≡ with_item (Some chunk) key own item old
-  came_is chunk item entry entry_is is =
+  pub came_is : (chunks : ChunksState) (item : Entry) (entry : EntryState) → entry ≡ record { hash = own; key = key; item = item } → KeyComes was new entry
+      → content_of greatest cut new ≡ with_item (Some chunks) key own item old
+  came_is chunks item entry entry_is is =
       (λ i. record { greatest = greatest; items = is.items i; hashes = is.hashes i; cut = cut })
-      ∙ ap (λ (e : EntryState). with_item (Some chunk) e.key e.hash e.item (content_of greatest cut was)) entry_is
-      ∙ ap (with_item (Some chunk) key own item) old_is
+      ∙ ap (λ (e : EntryState). with_item (Some chunks) e.key e.hash e.item (content_of greatest cut was)) entry_is
+      ∙ ap (with_item (Some chunks) key own item) old_is
 
   -- the key's item was changed
   pub changed_put : (item : Entry) → IsHash old key own → IsChanged was new key item → IsPut key own old (content_of greatest cut new) item
@@ -110,3 +113,13 @@ module _ (greatest : ℕ) (cut : Option ℕ) (old : ShelfContent) (was : IndexSt
             (λ other apart. ap (λ (m : Hashes). get m other) hashes ∙ get_gone_other (hashes_of was) key other apart);
         hash = λ stored there. absurd (none-some stored (sym (get_gone (hashes_of was) key) ∙ sym (ap (λ (m : Hashes). get m key) hashes) ∙ there));
       }
+
+-- a key that is known, with the place where it was found, is sought there
+pub known_sought : (shelf : ShelfContent) (key : List ℕ) (own : ℕ) (found : Option Place) → IsKnown shelf key own found → IsSought shelf key own found
+known_sought shelf key own found known = record { hash = known.hash; none = by found (get shelf.items key) known.place }
+  where
+    by : (f : Option Place) (o : Option Entry) → is_some f ≡ is_some o → f ≡ None → o ≡ None
+    by None None e n = refl
+    by None (Some item) e n = absurd (true≢false (sym e))
+    by (Some place) None e n = refl
+    by (Some place) (Some item) e n = absurd (true≢false (ap is_some n))

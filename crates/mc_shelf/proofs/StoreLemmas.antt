@@ -1,5 +1,6 @@
 -- A store: what a change of one of its shelves, or of all, makes of the state that its parts keep.
-use Rattle.std.proofs.Common.{◌≡◌, ℕ, zero, suc, ◌-◌, ◌^◌, ◌<◌, Bool, true, false, cond, eqb, ltb, List, length, map, replicate, Option, Some, None, slice_get, slice_index, slice_index_or, slice_set, refl, sym, ap, subst, ◌∙◌, arith, Result, Ok, Err, IfOk, OnErr}
+use Rattle.std.proofs.Common.{◌≡◌, ℕ, zero, suc, ◌-◌, ◌^◌, ◌<◌, Bool, true, false, cond, eqb, ltb, List, length, map, replicate, Option, Some, None, slice_get, slice_index}
+use Rattle.std.proofs.Common.{slice_index_or, slice_set, refl, sym, ap, subst, ◌∙◌, arith, Result, Ok, Err, IfOk, OnErr}
 use Rattle.std.specs.Option.{option_map}
 use Rattle.std.proofs.lemmas.List.{get_or-replicate, length-map, length-replicate, map-set}
 use Rattle.std.proofs.lemmas.Option.{get_or_from_slice_get, slice_get-map, slice_get_read, same_Some}
@@ -13,8 +14,8 @@ use Rattle.mc_command.specs.declared.step.StepFault.{StepFault}
 use Rattle.mc_command.specs.declared.reply.Reply.{Reply}
 use Rattle.mc_command.specs.Commands.{key_of}
 use Rattle.mc_command.specs.Laws.{IsOnKey}
-use Rattle.mc_slab.specs.Classes.{class_holding}
-use Rattle.mc_command.specs.Plain.{Answered, Spent, Entry, Outcome, Plain, alive, block_of, changed, charge, count_of, has_room, keeps_chunk, plain, row_of, starting, stepped, without_dead, written_block}
+use Rattle.mc_slab.specs.Needs.{need_for}
+use Rattle.mc_command.specs.Plain.{Answered, Spent, Entry, Outcome, Plain, alive, block_of, changed, charge, count_of, has_room, keeps_chunk, plain, row_of, starting, without_dead, written_block}
 use Rattle.mc_shelf.specs.States.{ShelfContent, ShelfState, DeskState, IsAt, nothing_held}
 use Rattle.mc_shelf.specs.Plans.{IsTaken, IsSpent}
 use Rattle.mc_shelf.specs.Parts.{shelf_of, IsShelfOf, IsDeskOf, ArePartsOf, GoesTo, GoesByStep}
@@ -31,13 +32,15 @@ of_replicate (suc n) zero x y there = sym (same_Some x y there)
 of_replicate (suc n) (suc k) x y there = of_replicate n k x y there
 
 pub new_parts : {hash_of : List ℕ → ℕ} {count pages greatest next : ℕ} {list : List ShelfState} {desk : DeskState} → 0 < count → ((class : ℕ) → count_of empty class ≡ 0)
-    → map (λ shelf. shelf.content) list ≡ replicate count (nothing_held greatest) → desk ≡ record { slab = untouched pages; next_unique = next } → ArePartsOf hash_of (starting pages greatest next) list count desk
+    → map (λ shelf. shelf.content) list ≡ replicate count (nothing_held greatest) → desk ≡ record { slab = untouched pages; next_unique = next }
+    → ArePartsOf hash_of (starting pages greatest next) list count desk
 new_parts {hash_of} {count} {pages} {greatest} {next} {list} some none contents new_desk = record {
   number = sym (length-map list (λ (s : ShelfState). s.content)) ∙ ap length contents ∙ length-replicate count (nothing_held greatest);
   some_shelf = some;
   each = λ at shelf here.
       let content_is : shelf.content ≡ nothing_held greatest =
-      of_replicate count at (nothing_held greatest) shelf.content (sym (ap (λ (l : List ShelfContent). slice_get l at) contents) ∙ slice_get-map (λ (s : ShelfState). s.content) list at ∙ ap (option_map (λ (s : ShelfState). s.content)) here) in
+      of_replicate count at (nothing_held greatest) shelf.content
+      (sym (ap (λ (l : List ShelfContent). slice_get l at) contents) ∙ slice_get-map (λ (s : ShelfState). s.content) list at ∙ ap (option_map (λ (s : ShelfState). s.content)) here) in
       subst (IsShelfOf hash_of count (starting pages greatest next) at) (sym content_is) (record {
         greatest = refl;
         cut = refl;
@@ -58,7 +61,8 @@ new_parts {hash_of} {count} {pages} {greatest} {next} {list} some none contents 
 -- ---- the numbers are spent, of any state that has the key's item, the cut, the greatest charge and the next number
 
 -- a write is out of numbers where it is not too large and none is left, and there alone
-write_spent : (large spent stays room : Bool) (p q r t : Reply) (w x y z : Plain) → cond large (Answered p w) (cond spent Spent (cond stays (Answered q x) (cond room (Answered r y) (Answered t z)))) ≡ Spent → (large ≡ false) × (spent ≡ true)
+write_spent : (large spent stays room : Bool) (p q r t : Reply) (w x y z : Plain)
+    → cond large (Answered p w) (cond spent Spent (cond stays (Answered q x) (cond room (Answered r y) (Answered t z)))) ≡ Spent → (large ≡ false) × (spent ≡ true)
 write_spent true spent stays room p q r t w x y z is = cc
 write_spent false true stays room p q r t w x y z is = (refl, refl)
 write_spent false false true room p q r t w x y z is = cc
@@ -70,14 +74,15 @@ not_written true spent x y fits none = cc
 not_written false true x y fits none = refl
 not_written false false x y fits none = cc
 
-changed_spent : (row : Row) (step : KeyStep) (item : Option Entry) (a b : Plain) (now : ℕ) → a.greatest ≡ b.greatest → a.next_unique ≡ b.next_unique → changed row step item a now ≡ Spent → changed row step item b now ≡ Spent
+changed_spent : (row : Row) (step : KeyStep) (item : Option Entry) (a b : Plain) (now : ℕ) → a.greatest ≡ b.greatest → a.next_unique ≡ b.next_unique
+    → changed row step item a now ≡ Spent → changed row step item b now ≡ Spent
 changed_spent (Refuses refusal) step item a b now greatest number is = cc
 changed_spent (Reads expiry) step item a b now greatest number is = cc
 changed_spent (Touches expiry) step item a b now greatest number is = cc
 changed_spent Deletes step item a b now greatest number is = cc
 changed_spent (Writes draft) step item a b now greatest number is =
     let size = charge (key_of step) (written_block draft.body (block_of step) item) in
-    let so = write_spent (ltb a.greatest size) (eqb a.next_unique (2 ^ 64 - 1)) (keeps_chunk draft.body (key_of step) item) (has_room a (class_holding size)) _ _ _ _ _ _ _ _ is in
+    let so = write_spent (ltb a.greatest size) (eqb a.next_unique (2 ^ 64 - 1)) (keeps_chunk draft.body (key_of step) item) (has_room a (need_for size)) _ _ _ _ _ _ _ _ is in
     let fits : ltb b.greatest size ≡ false = ap (λ n. ltb n size) (sym greatest) ∙ so.0 in
     let none : eqb b.next_unique (2 ^ 64 - 1) ≡ true = ap (λ n. eqb n (2 ^ 64 - 1)) (sym number) ∙ so.1 in
     not_written (ltb b.greatest size) (eqb b.next_unique (2 ^ 64 - 1)) _ _ fits none
@@ -87,7 +92,8 @@ left_numbers : (item : Option Entry) (key : List ℕ) (s : Plain) → ((without_
 left_numbers None key s = (refl, refl)
 left_numbers (Some item) key s = (refl, refl)
 
-pub spent_there : (step : KeyStep) (now : ℕ) {shelf : ShelfContent} {desk : DeskState} {a : Plain} → IsOnKey step → IsAt (key_of step) shelf desk a → plain a step now ≡ Spent → IsSpent step now shelf desk
+pub spent_there : (step : KeyStep) (now : ℕ) {shelf : ShelfContent} {desk : DeskState} {a : Plain} → IsOnKey step → IsAt (key_of step) shelf desk a
+    → plain a step now ≡ Spent → IsSpent step now shelf desk
 spent_there step now {shelf} {desk} {a} on at_a is b at_b =
     let key = key_of step in
     let item = alive a.cut now (get a.items key) in
@@ -102,7 +108,8 @@ spent_there step now {shelf} {desk} {a} on at_a is b at_b =
 -- ---- a store's parts after a change
 
 -- a shelf has fewer entries left to move
-pub left_after : (list : List ShelfState) (at : ℕ) {shelf : ShelfState} (shelf' : ShelfState) (moved : ℕ) → slice_get list at ≡ Some shelf → shelf'.left ≡ shelf.left - moved → lefts (slice_set list at shelf') ≡ slice_set (lefts list) at (slice_index (lefts list) at - moved)
+pub left_after : (list : List ShelfState) (at : ℕ) {shelf : ShelfState} (shelf' : ShelfState) (moved : ℕ) → slice_get list at ≡ Some shelf
+    → shelf'.left ≡ shelf.left - moved → lefts (slice_set list at shelf') ≡ slice_set (lefts list) at (slice_index (lefts list) at - moved)
 left_after list at {shelf} shelf' moved here less =
     let left_of = λ (s : ShelfState). s.left in
     let was : slice_index (lefts list) at ≡ shelf.left = get_or_from_slice_get (lefts list) at shelf.left 0 (slice_get-map left_of list at ∙ ap (option_map left_of) here) in
@@ -150,7 +157,8 @@ module _ {hash_of : List ℕ → ℕ} {list : List ShelfState} {desk : DeskState
     }
 
     -- a step was taken on one of the shelf's keys, or not
-    module _ {hash : ℕ} (step : KeyStep) (now : ℕ) (shelf' : ShelfState) (desk' : DeskState) (mine : shelf_of hash_of settings.shelves (key_of step) ≡ at) (hashed : hash ≡ hash_of (key_of step)) (on : IsOnKey step) (law : StepLaw) where
+    module _ {hash : ℕ} (step : KeyStep) (now : ℕ) (shelf' : ShelfState) (desk' : DeskState) (mine : shelf_of hash_of settings.shelves (key_of step) ≡ at)
+        (hashed : hash ≡ hash_of (key_of step)) (on : IsOnKey step) (law : StepLaw) where
       abbrev IsTakenHere : Reply → Type 0
       IsTakenHere reply = IsTaken step now hash shelf.content desk reply shelf'.content desk'
 
@@ -162,7 +170,8 @@ module _ {hash_of : List ℕ → ℕ} {list : List ShelfState} {desk : DeskState
           law hash_of settings.shelves at state step now reply shelf.content shelf'.content desk desk' on mine (parts.each at shelf here) parts.account
           (subst (λ (h : ℕ). IsTaken step now h shelf.content desk reply shelf'.content desk') hashed took)
 
-      pub parts_stepped : (result : Result Reply StepFault) → IfOk result IsTakenHere → OnErr result IsAsBefore → ArePartsOf hash_of (plain_of settings (slice_set list at shelf') desk') (slice_set list at shelf') settings.shelves desk'
+      pub parts_stepped : (result : Result Reply StepFault) → IfOk result IsTakenHere → OnErr result IsAsBefore
+          → ArePartsOf hash_of (plain_of settings (slice_set list at shelf') desk') (slice_set list at shelf') settings.shelves desk'
       parts_stepped (Ok reply) took same = kept_after shelf' (goes reply took).goes
       parts_stepped (Err fault) took same = kept_after shelf' (goes_nowhere same.0 same.1)
 

@@ -1,5 +1,6 @@
 -- What a sweep over an index drops of a shelf, and gives back to a desk.
-use Rattle.std.proofs.Common.{◌≡◌, ◌≢◌, ℕ, ◌+◌, ◌-◌, ◌<◌, ◌≤◌, true, false, cond, List, ◌∷◌, get_or, Option, Some, None, is_some, is_none, refl, sym, ap, subst, ◌∙◌, arith, eq-eqb, if◌then◌else◌, inl, inr, Less, Equal, Greater}
+use Rattle.std.proofs.Common.{◌≡◌, ◌≢◌, ℕ, ◌+◌, ◌-◌, ◌<◌, ◌≤◌, true, false, cond, List, ◌∷◌, get_or, Option, Some, None, is_some, is_none, refl, sym, ap, subst, ◌∙◌, arith}
+use Rattle.std.proofs.Common.{if◌then◌else◌, inl, inr, Less, Equal, Greater}
 use Rattle.std.proofs.lemmas.Bool.{cases_lt}
 use Rattle.std.proofs.lemmas.Option.{same_Some, none-some}
 use Rattle.std.specs.Borrow.{Bor}
@@ -9,9 +10,10 @@ use Rattle.std.specs.FinMap.{empty, get, get-empty, get-remove, remove}
 use Rattle.std.specs.Cmp.Lexicographic.{nat_list_cmp_total}
 use Rattle.mc_time.specs.Death.{is_dead}
 use Rattle.mc_slab.specs.Classes.{IsClass}
-use Rattle.mc_slab.specs.Chunks.{IsChunkOf, chunk_class}
+use Rattle.mc_slab.specs.Needs.{NeedState, IsNeed}
+use Rattle.mc_slab.specs.Chunks.{ChunksState, need_in}
 use Rattle.mc_slab.specs.Slabs.{IsSlab, out_of, given}
-use Rattle.mc_command.specs.Plain.{Items, Entry, alive, count_of, item_class, living}
+use Rattle.mc_command.specs.Plain.{Items, Entry, alive, count_of, item_need, living}
 use Rattle.mc_command.specs.Laws.{of_class}
 use Rattle.mc_grow.specs.Indexes.{IndexState, IsFirstFrom, IsNext, KeepsLower, cells, count_from, entry_at}
 use Rattle.mc_grow.specs.declared.index.Place.{Place}
@@ -26,7 +28,7 @@ use Rattle.mc_shelf.proofs.KeyLemmas.{order, same_key, same_maps, get_kept, get_
 use Rattle.mc_shelf.proofs.KeyMapLemmas.{hash_absent, item_held}
 use Rattle.mc_shelf.proofs.IndexLemmas.{numbered}
 use Rattle.mc_shelf.proofs.ShelfLemmas.{content_of}
-use Rattle.mc_shelf.proofs.StandLemmas.{RemoveCounts, bump, out-given}
+use Rattle.mc_shelf.proofs.StandLemmas.{RemoveCounts, out-given, weight, weight_here}
 
 -- ---- the desk
 
@@ -44,33 +46,39 @@ gives_both a b c d e f one two = record {
   next_unique = two.next_unique ∙ one.next_unique;
 }
 
-module _ (remove_counts : RemoveCounts) (items : Items) (desk : DeskState) (key : List ℕ) (item : Entry) (found : get items key ≡ Some item) (are : (class : ℕ) → IsClass class → count_of items class ≤ out_of desk.slab class) where
-  -- a chunk of an item that stands is out
-  pub out_held : IsClass (item_class key item) → 0 < out_of desk.slab (item_class key item)
+module _ (remove_counts : RemoveCounts) (items : Items) (desk : DeskState) (key : List ℕ) (item : Entry) (found : get items key ≡ Some item)
+    (are : (class : ℕ) → IsClass class → count_of items class ≤ out_of desk.slab class) where
+  -- the chunks of an item that stands are out
+  pub out_held : IsClass (item_need key item).class → (item_need key item).count ≤ out_of desk.slab (item_need key item).class
   out_held is_class =
-      let class = item_class key item in
-      let gone : count_of (remove items key) class + of_class key (get items key) class ≡ count_of items class = remove_counts items key class in
-      let one : of_class key (get items key) class ≡ bump class class = ap (λ (o : Option Entry). of_class key o class) found in
-      let here : bump class class ≡ 1 = ap (λ b. if b then 1 else 0) (eq-eqb class class refl) in
-      let out = are class is_class in
+      let need = item_need key item in
+      let gone : count_of (remove items key) need.class + of_class key (get items key) need.class ≡ count_of items need.class = remove_counts items key need.class in
+      let one : of_class key (get items key) need.class ≡ weight need.class need.count need.class = ap (λ (o : Option Entry). of_class key o need.class) found in
+      let here : weight need.class need.count need.class ≡ need.count = weight_here need.class need.count in
+      let out = are need.class is_class in
       omega arith
 
-  -- its chunk goes back as it is dropped
-  pub gives_one : (new : Items) (desk' : DeskState) → new ≡ remove items key → desk' ≡ record desk { slab = given desk.slab (item_class key item) } → IsSlab desk.slab → IsClass (item_class key item) → GivesFor items new desk desk'
-  gives_one new desk' new_is desk_is is is_class = subst (λ (m : Items). GivesFor items m desk desk') (sym new_is) (subst (λ (d : DeskState). GivesFor items (remove items key) desk d) (sym desk_is) (record {
-    out = λ class is_other.
-        let gone : count_of (remove items key) class + of_class key (get items key) class ≡ count_of items class = remove_counts items key class in
-        let one : of_class key (get items key) class ≡ bump (item_class key item) class = ap (λ (o : Option Entry). of_class key o class) found in
-        let less : out_of (given desk.slab (item_class key item)) class ≡ out_of desk.slab class - bump (item_class key item) class = out-given desk.slab (item_class key item) is_class is class is_other in
-        let out = are class is_other in
-        omega arith;
-    pages = refl;
-    limit = refl;
-    next_unique = refl;
-  }))
+  -- its chunks go back as it is dropped
+  pub gives_one : (new : Items) (desk' : DeskState) → new ≡ remove items key
+      → desk' ≡ record desk { slab = given desk.slab (item_need key item).class (item_need key item).count } → IsSlab desk.slab → IsClass (item_need key item).class → GivesFor items new desk desk'
+  gives_one new desk' new_is desk_is is is_class =
+      subst (λ (m : Items). GivesFor items m desk desk') (sym new_is) (subst (λ (d : DeskState). GivesFor items (remove items key) desk d) (sym desk_is) (record {
+        out = λ class is_other.
+            let need = item_need key item in
+            let gone : count_of (remove items key) class + of_class key (get items key) class ≡ count_of items class = remove_counts items key class in
+            let one : of_class key (get items key) class ≡ weight need.class need.count class = ap (λ (o : Option Entry). of_class key o class) found in
+            let less : out_of (given desk.slab need.class need.count) class ≡ out_of desk.slab class - weight need.class need.count class =
+            out-given desk.slab need.class is_class is.out need.count class is_other in
+            let out = are class is_other in
+            omega arith;
+        pages = refl;
+        limit = refl;
+        next_unique = refl;
+      }))
 
 -- chunks that are out stay so
-pub out_after : (a b : Items) (d e : DeskState) → GivesFor a b d e → ((class : ℕ) → IsClass class → count_of a class ≤ out_of d.slab class) → (class : ℕ) → IsClass class → count_of b class ≤ out_of e.slab class
+pub out_after : (a b : Items) (d e : DeskState) → GivesFor a b d e → ((class : ℕ) → IsClass class → count_of a class ≤ out_of d.slab class) → (class : ℕ)
+    → IsClass class → count_of b class ≤ out_of e.slab class
 out_after a b d e gives are class is =
     let out = gives.out class is in
     let had = are class is in
@@ -108,7 +116,8 @@ all_living items cut now are =
     ∙ elim (get items q) as (λ o. get items q ≡ o → alive cut now o ≡ o) [ None ↦ λ e. refl | Some item ↦ λ e. ap (λ b. if b then None else Some item) (are q item e) ] refl)
 
 gone_none : (cut : Option ℕ) (now : ℕ) (item : Entry) → is_gone cut now (Some item) ≡ true → alive cut now (Some item) ≡ None
-gone_none cut now item = elim (is_dead item.expiry item.updated cut now) as (λ b. is_none (if b then None else Some item) ≡ true → (if b then None else Some item) ≡ None) [ true ↦ λ e. refl | false ↦ λ e. cc ]
+gone_none cut now item =
+    elim (is_dead item.expiry item.updated cut now) as (λ b. is_none (if b then None else Some item) ≡ true → (if b then None else Some item) ≡ None) [ true ↦ λ e. refl | false ↦ λ e. cc ]
 
 gone_stays : (cut : Option ℕ) (now : ℕ) (item : Entry) → is_gone cut now (Some item) ≡ false → is_dead item.expiry item.updated cut now ≡ false
 gone_stays cut now item = elim (is_dead item.expiry item.updated cut now) as (λ b. is_none (if b then None else Some item) ≡ false → b ≡ false) [ true ↦ λ e. e | false ↦ λ e. refl ]
@@ -148,7 +157,8 @@ module _ (P : EntryState → Type 0) (index : IndexState EntryState) (at number 
       omega (arith, first.ahead, count)
 
 -- where no number is left, each item is of such an entry
-pub items_all : (P : EntryState → Type 0) (index : IndexState EntryState) → IsKeyed (entries_of index) → (at : ℕ) → Below index at P → IsNext index at None → (key : List ℕ) (item : Entry) → get (items_of index) key ≡ Some item → (e : EntryState) × (P e) × (e.item ≡ item)
+pub items_all : (P : EntryState → Type 0) (index : IndexState EntryState) → IsKeyed (entries_of index) → (at : ℕ) → Below index at P → IsNext index at None
+    → (key : List ℕ) (item : Entry) → get (items_of index) key ≡ Some item → (e : EntryState) × (P e) × (e.item ≡ item)
 items_all P index keyed at below none key item found =
     let held = item_held _ keyed key item found in
     let one = numbered index (held.entry.hash ∷ key) held.entry held.there in
@@ -168,26 +178,31 @@ pub swept_none : (now : ℕ) (shelf : ShelfContent) (desk : DeskState) → Swept
 swept_none now shelf desk = record { greatest = refl; cut = refl; living_same = refl; gives = gives_none shelf.items desk; kept = λ key item there. (there, refl) }
 
 -- what a removal keeps
-kept_by : (was new : IndexState EntryState) (key : List ℕ) → KeyGoes was new key → (other : List ℕ) (item : Entry) → get (items_of new) other ≡ Some item → (get (items_of was) other ≡ Some item) × (get (hashes_of new) other ≡ get (hashes_of was) other)
+kept_by : (was new : IndexState EntryState) (key : List ℕ) → KeyGoes was new key → (other : List ℕ) (item : Entry) → get (items_of new) other ≡ Some item
+    → (get (items_of was) other ≡ Some item) × (get (hashes_of new) other ≡ get (hashes_of was) other)
 kept_by was new key removed other item there =
     let apart : other ≢ key = λ same. none-some item (sym (ap (λ (k : List ℕ). get (items_of new) k) same ∙ ap (λ (m : Items). get m key) removed.items ∙ get_gone (items_of was) key) ∙ there) in (
       sym (ap (λ (m : Items). get m other) removed.items ∙ get_gone_other (items_of was) key other apart) ∙ there,
       ap (λ (m : Hashes). get m other) removed.hashes ∙ get_gone_other (hashes_of was) key other apart,
     )
 
-module _ (remove_counts : RemoveCounts) (greatest : ℕ) (cut : Option ℕ) (was new : IndexState EntryState) (entry : EntryState) (found : get (items_of was) entry.key ≡ Some entry.item) (removed : KeyGoes was new entry.key)
-    (desk desk' : DeskState) (chunk : List ℕ) (is_chunk : IsChunkOf (item_class entry.key entry.item) chunk) (is_class : IsClass (item_class entry.key entry.item))
+module _ (remove_counts : RemoveCounts) (greatest : ℕ) (cut : Option ℕ) (was new : IndexState EntryState) (entry : EntryState)
+    (found : get (items_of was) entry.key ≡ Some entry.item) (removed : KeyGoes was new entry.key)
+    (desk desk' : DeskState) (chunks : ChunksState) (need_is : need_in chunks ≡ item_need entry.key entry.item) (is_need : IsNeed (item_need entry.key entry.item))
     (are : (class : ℕ) → IsClass class → count_of (items_of was) class ≤ out_of desk.slab class) where
-  -- its chunk is out
-  pub entry_out : 0 < out_of desk.slab (chunk_class chunk)
-  entry_out = subst (λ (n : ℕ). 0 < out_of desk.slab n) (sym is_chunk.class_is) (out_held remove_counts (items_of was) desk entry.key entry.item found are is_class)
+  -- its chunks are out
+  pub entry_out : chunks.count ≤ out_of desk.slab chunks.class
+  entry_out = subst (λ (n : NeedState). n.count ≤ out_of desk.slab n.class) (sym need_is) (out_held remove_counts (items_of was) desk entry.key entry.item found are is_need.is_class)
 
   -- and goes back
-  pub entry_gives : desk' ≡ record desk { slab = given desk.slab (chunk_class chunk) } → IsSlab desk.slab → GivesFor (items_of was) (items_of new) desk desk'
-  entry_gives back is = gives_one remove_counts (items_of was) desk entry.key entry.item found are (items_of new) desk' removed.items (back ∙ ap (λ (n : ℕ). record desk { slab = given desk.slab n }) is_chunk.class_is) is is_class
+  pub entry_gives : desk' ≡ record desk { slab = given desk.slab chunks.class chunks.count } → IsSlab desk.slab → GivesFor (items_of was) (items_of new) desk desk'
+  entry_gives back is =
+      gives_one remove_counts (items_of was) desk entry.key entry.item found are (items_of new) desk' removed.items
+      (back ∙ ap (λ (n : NeedState). record desk { slab = given desk.slab n.class n.count }) need_is) is is_need.is_class
 
   -- a dead item is swept
-  pub swept_one : (now : ℕ) → is_gone cut now (Some entry.item) ≡ true → desk' ≡ record desk { slab = given desk.slab (chunk_class chunk) } → IsSlab desk.slab → Swept now (content_of greatest cut was) (content_of greatest cut new) desk desk'
+  pub swept_one : (now : ℕ) → is_gone cut now (Some entry.item) ≡ true → desk' ≡ record desk { slab = given desk.slab chunks.class chunks.count }
+      → IsSlab desk.slab → Swept now (content_of greatest cut was) (content_of greatest cut new) desk desk'
   swept_one now gone back is = record {
     greatest = refl;
     cut = refl;
@@ -212,28 +227,33 @@ swept_both now a b c d e f one two = record {
 abbrev pub Stays : (cut : Option ℕ) → (now : ℕ) → Soonest → EntryState → Type 0
 Stays cut now soonest e = (is_dead e.item.expiry e.item.updated cut now ≡ false) × DiesNoSooner soonest e.item
 
-pub stays_here : (cut : Option ℕ) (now : ℕ) (soonest : Soonest) (index : IndexState EntryState) (place : Place) (found again : Option (Bor EntryState)) → option_copied found ≡ entry_at index place → option_copied again ≡ entry_at index place → is_gone cut now (item_in found) ≡ false
+pub stays_here : (cut : Option ℕ) (now : ℕ) (soonest : Soonest) (index : IndexState EntryState) (place : Place) (found again : Option (Bor EntryState))
+    → option_copied found ≡ entry_at index place → option_copied again ≡ entry_at index place → is_gone cut now (item_in found) ≡ false
     → ((item : Entry) → item_in again ≡ Some item → DiesNoSooner soonest item) → (e : EntryState) → entry_at index place ≡ Some e → Stays cut now soonest e
 stays_here cut now soonest index place found again copied same stays one e there = (
   gone_stays cut now e.item (ap (is_gone cut now) (sym (item_copied found e (copied ∙ there))) ∙ stays),
   one e.item (item_copied again e (same ∙ there)),
 )
 
-pub below_sooner : (cut : Option ℕ) (now : ℕ) (index : IndexState EntryState) (at : ℕ) (a b : Soonest) → ((item : Entry) → DiesNoSooner a item → DiesNoSooner b item) → Below index at (Stays cut now a) → Below index at (Stays cut now b)
+pub below_sooner : (cut : Option ℕ) (now : ℕ) (index : IndexState EntryState) (at : ℕ) (a b : Soonest)
+    → ((item : Entry) → DiesNoSooner a item → DiesNoSooner b item) → Below index at (Stays cut now a) → Below index at (Stays cut now b)
 below_sooner cut now index at a b others below k e lt there = ((below k e lt there).0, others e.item (below k e lt there).1)
 
-pub gone_here : (cut : Option ℕ) (now : ℕ) (index : IndexState EntryState) (place : Place) (found : Option (Bor EntryState)) → option_copied found ≡ entry_at index place → is_gone cut now (item_in found) ≡ true → (e : EntryState) → entry_at index place ≡ Some e → is_gone cut now (Some e.item) ≡ true
+pub gone_here : (cut : Option ℕ) (now : ℕ) (index : IndexState EntryState) (place : Place) (found : Option (Bor EntryState))
+    → option_copied found ≡ entry_at index place → is_gone cut now (item_in found) ≡ true → (e : EntryState) → entry_at index place ≡ Some e → is_gone cut now (Some e.item) ≡ true
 gone_here cut now index place found copied gone e there = ap (is_gone cut now) (sym (item_copied found e (copied ∙ there))) ∙ gone
 
 -- at the end of a purge
-pub all_stay : (cut : Option ℕ) (now : ℕ) (soonest : Soonest) (index : IndexState EntryState) → IsKeyed (entries_of index) → (at : ℕ) → Below index at (Stays cut now soonest) → IsNext index at None → NoneIsDead now cut (items_of index) × DieNoSooner soonest (items_of index)
+pub all_stay : (cut : Option ℕ) (now : ℕ) (soonest : Soonest) (index : IndexState EntryState) → IsKeyed (entries_of index) → (at : ℕ)
+    → Below index at (Stays cut now soonest) → IsNext index at None → NoneIsDead now cut (items_of index) × DieNoSooner soonest (items_of index)
 all_stay cut now soonest index keyed at below none =
     let all = items_all (Stays cut now soonest) index keyed at below none in (
       (λ key item there. let one = all key item there in subst (λ (i : Entry). is_dead i.expiry i.updated cut now ≡ false) one.2 one.1.0),
       (λ key item there. let one = all key item there in subst (DiesNoSooner soonest) one.2 one.1.1),
     )
 
-pub purged : (now : ℕ) (old : ShelfContent) (greatest : ℕ) (cut : Option ℕ) (index : IndexState EntryState) → IsKeyed (entries_of index) → (desk desk' : DeskState) → Swept now old (content_of greatest cut index) desk desk' → NoneIsDead now cut (items_of index) → IsPurged now old (content_of greatest cut index)
+pub purged : (now : ℕ) (old : ShelfContent) (greatest : ℕ) (cut : Option ℕ) (index : IndexState EntryState) → IsKeyed (entries_of index)
+    → (desk desk' : DeskState) → Swept now old (content_of greatest cut index) desk desk' → NoneIsDead now cut (items_of index) → IsPurged now old (content_of greatest cut index)
 purged now old greatest cut index keyed desk desk' swept none =
     let items = items_of index in
     record {
@@ -252,5 +272,7 @@ IsNone e = ⊥
 
 pub cleared : (index : IndexState EntryState) → IsKeyed (entries_of index) → (at : ℕ) → Below index at IsNone → IsNext index at None → (items_of index ≡ empty) × (hashes_of index ≡ empty)
 cleared index keyed at below none =
-    let gone : (key : List ℕ) → get (items_of index) key ≡ None = λ key. elim (get (items_of index) key) as (λ o. get (items_of index) key ≡ o → o ≡ None) [ None ↦ λ e. refl | Some item ↦ λ e. absurd (items_all IsNone index keyed at below none key item e).1 ] refl in
+    let gone : (key : List ℕ) → get (items_of index) key ≡ None =
+    λ key. elim (get (items_of index) key) as
+    (λ o. get (items_of index) key ≡ o → o ≡ None) [ None ↦ λ e. refl | Some item ↦ λ e. absurd (items_all IsNone index keyed at below none key item e).1 ] refl in
     (same_maps _ _ (λ q. gone q ∙ sym (get-empty order q)), same_maps _ _ (λ q. hash_absent _ keyed q (gone q) ∙ sym (get-empty order q)))

@@ -1,11 +1,13 @@
 -- What a shelf and a desk make of a plan is what the plain machine makes of the step.
-use Rattle.std.proofs.Common.{◌≡◌, ◌≢◌, ℕ, ◌+◌, ◌-◌, ◌<◌, ◌≤◌, ◌^◌, Bool, true, false, ◌&&◌, ◌||◌, List, [], decimal, Option, Some, None, is_some, is_none, eqb, eqb-true, if◌then◌else◌, refl, sym, ap, subst, ◌∙◌, arith, eq-eqb, true≢false}
+use Rattle.std.proofs.Common.{◌≡◌, ◌≢◌, ℕ, ◌+◌, ◌-◌, ◌<◌, ◌≤◌, ◌^◌, Bool, true, false, ◌&&◌, ◌||◌, List, [], decimal, Option, Some, None, IfSome, Result, Ok, Err, IfOk, OnOk}
+use Rattle.std.proofs.Common.{OnErr, is_some, is_none, ◌*◌, ◌==◌, eqb, eqb-true, if◌then◌else◌, refl, sym, ap, subst, ◌∙◌, arith, le-leb, lt-ltb, not, true≢false}
 use Rattle.std.proofs.lemmas.Option.{same_Some}
 use Rattle.std.specs.FinMap.{empty, get, insert, remove}
 use Rattle.mc_time.specs.declared.expiry.Expiry.{Expiry}
-use Rattle.mc_slab.specs.Classes.{IsClass, class_holding}
+use Rattle.mc_slab.specs.Classes.{IsClass, chunks_a_page}
+use Rattle.mc_slab.specs.Needs.{NeedState, IsNeed, need_for, same_need}
 use Rattle.mc_slab.specs.Slabs as slabs
-use Rattle.mc_slab.specs.Slabs.{SlabState, IsSlab, IsFull, given, out_of, taken}
+use Rattle.mc_slab.specs.Slabs.{SlabState, IsSlab, given, made_ready, out_of, taken}
 use Rattle.mc_command.specs.declared.step.KeyStep.{KeyStep}
 use Rattle.mc_command.specs.declared.reply.Reply.{Reply}
 use Rattle.mc_command.specs.declared.reply.Reply.TheVariants.{NoChunk}
@@ -13,14 +15,19 @@ use Rattle.mc_command.specs.declared.row.Body.{Body}
 use Rattle.mc_command.specs.declared.row.Body.TheVariants.{Given, Appended, Prepended, Counted}
 use Rattle.mc_command.specs.declared.row.Draft.{Draft}
 use Rattle.mc_command.specs.Commands.{key_of}
-use Rattle.mc_command.specs.Plain.{Plain, Entry, Answered, Spent, plain, alive, block_of, changed, charge, count_of, has_room, item_class, keeps_chunk, write_reply, written, written_block, wrote}
+use Rattle.mc_command.specs.Plain.{Plain, Entry, Answered, Spent, plain, alive, block_need, block_of, changed, charge, chunks_in, count_of, has_room, item_need, keeps_chunk}
+use Rattle.mc_command.specs.Plain.{with_chunk, write_reply, written, written_block, wrote}
 use Rattle.mc_command.specs.Plain as machine
 use Rattle.mc_command.specs.Laws.{IsOnKey, of_class}
 use Rattle.mc_shelf.specs.declared.plan.Next.{Next}
 use Rattle.mc_shelf.specs.declared.plan.Next.TheVariants.{Answer, Expire, Discard, Write}
 use Rattle.mc_shelf.specs.States.{ShelfContent, DeskState, CanStand, IsAt, IsHash}
-use Rattle.mc_shelf.specs.Plans.{GivesBack, GivesOne, IsDropped, IsOut, IsPut, IsSpent, OthersStay, Takes, block_beside, counts, drafted, has_class, is_gone, next_of, own_block, reuses, row_at, stood}
-use Rattle.mc_shelf.proofs.StandLemmas.{InsertCounts, RemoveCounts, base, step_is, at_none, at_dropped, at_put_again, at_wrote, bump, full_of, limit-taken, out-given, out-taken, out_some, pages_after, pages-taken, room_free, given_taken, room_by_free, taken_is_slab, room_none, room_not_full, room_some, wrote_full, wrote_kept, wrote_spent}
+use Rattle.mc_shelf.specs.Plans.{GivesBack, GivesChunks, gives_way, IsDropped, IsOut, IsPut, IsSpent, OthersStay, Takes, back_at, block_beside, counts, dead_chunks, drafted}
+use Rattle.mc_shelf.specs.Plans.{has_need, is_gone, next_of, own_block, reuses, row_at, stood, way_given}
+use Rattle.mc_shelf.proofs.StandLemmas.{InsertCounts, RemoveCounts, base, step_is, at_none, at_dropped, at_put_again, at_wrote, given_taken, out-given, out-taken, out-way}
+use Rattle.mc_shelf.proofs.StandLemmas.{out_found, out_some, pages-way, pages_after, pages_are, pages_stay, room_by_free, room_is, taken_is_slab, weight, weight_here}
+use Rattle.mc_shelf.proofs.NeedLemmas.{needs_same}
+use Rattle.mc_shelf.proofs.StandLemmas.{wrote_full, wrote_kept, wrote_spent}
 use Rattle.mc_shelf.proofs.PlanLemmas.{Does, IsDrafted, alive_found, block_at, dead_found, found_in, made_beside, next_does, row_does, row_speaks, wrote_at}
 
 pub others_same : (key : List ℕ) (shelf : ShelfContent) → OthersStay key shelf shelf
@@ -45,15 +52,16 @@ module _ (shelf : ShelfContent) (step : KeyStep) (now : ℕ) where
   pub discarded_is : (reply : Reply) → Discard reply ≡ next_of shelf step now → (item : Entry) × (get shelf.items (key_of step) ≡ Some item)
   discarded_is reply is = let d = does_yet (Discard reply) is in (d.0, d.1)
 
--- a chunk of the key's item is out
+-- the chunks of the key's item are out
 pub is_out : InsertCounts → RemoveCounts → (key : List ℕ) (shelf : ShelfContent) (desk : DeskState) → CanStand key shelf desk → IsOut key shelf desk
 is_out insert_counts remove_counts key shelf desk can item found is_class = out_some insert_counts remove_counts key shelf desk can.plain can.stands item found is_class
 
-pub is_out_taken : InsertCounts → RemoveCounts → (key : List ℕ) (shelf : ShelfContent) (desk : DeskState) (class : ℕ) → CanStand key shelf desk → IsSlab desk.slab → IsClass class → (n : ℕ) → IsOut key shelf (record { slab = taken desk.slab class; next_unique = n })
-is_out_taken insert_counts remove_counts key shelf desk class can is is_class n item found is_item =
+pub is_out_taken : InsertCounts → RemoveCounts → (key : List ℕ) (shelf : ShelfContent) (desk : DeskState) (need : NeedState) → CanStand key shelf desk
+    → IsSlab desk.slab → IsClass need.class → (n : ℕ) → IsOut key shelf (record { slab = taken desk.slab need; next_unique = n })
+is_out_taken insert_counts remove_counts key shelf desk need can is is_class n item found is_item =
     let before = is_out insert_counts remove_counts key shelf desk can item found is_item in
-    let after = out-taken desk.slab class is_class is.out (item_class key item) is_item in
-    omega arith
+    let after = out-taken desk.slab need is_class is.out (item_need key item).class is_item in
+    omega (arith, before, after)
 
 -- ---- a step that writes nothing
 
@@ -82,7 +90,8 @@ module _ (insert_counts : InsertCounts) (remove_counts : RemoveCounts) (step : K
   pub takes_answer : (reply : Reply) → Answer reply ≡ next_of shelf step now → Takes step now shelf desk reply shelf desk
   takes_answer reply is s at = let d = does_at (Answer reply) is s at in (found_in shelf step now s, d.0, at_under s at d.1)
 
-  pub takes_expire : (expiry : Expiry) (reply : Reply) (own : ℕ) (new : ShelfContent) → ((item : Entry) → found ≡ Some item → IsPut key own shelf new (record item { expiry = expiry })) → Expire expiry reply ≡ next_of shelf step now → Takes step now shelf desk reply new desk
+  pub takes_expire : (expiry : Expiry) (reply : Reply) (own : ℕ) (new : ShelfContent)
+      → ((item : Entry) → found ≡ Some item → IsPut key own shelf new (record item { expiry = expiry })) → Expire expiry reply ≡ next_of shelf step now → Takes step now shelf desk reply new desk
   takes_expire expiry reply own new puts is s at =
       let d = does_at (Expire expiry reply) is s at in
       let item = d.0 in
@@ -93,29 +102,35 @@ module _ (insert_counts : InsertCounts) (remove_counts : RemoveCounts) (step : K
         at_put_again insert_counts remove_counts key shelf desk s at new own item (record item { expiry = expiry }) (puts item there) there refl desk.next_unique,
       )
 
-  dropped_at : (s : Plain) → IsAt key shelf desk s → (old : Entry) (own : ℕ) (new : ShelfContent) (desk' : DeskState) → found ≡ Some old → IsDropped key own shelf new → GivesBack key found desk desk' → IsAt key new desk' (record s { items = remove s.items key })
+  dropped_at : (s : Plain) → IsAt key shelf desk s → (old : Entry) (own : ℕ) (new : ShelfContent) (desk' : DeskState) → found ≡ Some old
+      → IsDropped key own shelf new → GivesBack key found desk desk' → IsAt key new desk' (record s { items = remove s.items key })
   dropped_at s at old own new desk' there dropped back =
-      let one : GivesOne (item_class key old) desk desk' = subst (λ (o : Option Entry). GivesBack key o desk desk') there back in
-      subst (λ (d : DeskState). IsAt key new d (record s { items = remove s.items key })) (sym one.given_is) (at_dropped insert_counts remove_counts key shelf desk s at new own old dropped there one.is_slab one.is_class)
+      let one : GivesChunks (item_need key old) desk desk' = subst (λ (o : Option Entry). GivesBack key o desk desk') there back in
+      subst (λ (d : DeskState). IsAt key new d (record s { items = remove s.items key })) (sym one.given_is)
+      (at_dropped insert_counts remove_counts key shelf desk s at new own old dropped there one.is_slab one.is_need.is_class)
 
-  pub takes_discard : (reply : Reply) (own : ℕ) (new : ShelfContent) (desk' : DeskState) → ((item : Entry) → found ≡ Some item → IsDropped key own shelf new) → GivesBack key found desk desk' → Discard reply ≡ next_of shelf step now → Takes step now shelf desk reply new desk'
+  pub takes_discard : (reply : Reply) (own : ℕ) (new : ShelfContent) (desk' : DeskState) → ((item : Entry) → found ≡ Some item → IsDropped key own shelf new)
+      → GivesBack key found desk desk' → Discard reply ≡ next_of shelf step now → Takes step now shelf desk reply new desk'
   takes_discard reply own new desk' dropped back is s at =
       let d = does_at (Discard reply) is s at in
       (record s { items = remove s.items key }, d.2, dropped_at s at d.0 own new desk' d.1 (dropped d.0 d.1) back)
 
--- ---- which chunk a write goes to
-
-class_of_found : (k : List ℕ) (f : Option Entry) (class : ℕ) → has_class k f class ≡ true → (old : Entry) × (f ≡ Some old) × (item_class k old ≡ class)
-class_of_found k None class e = absurd (true≢false (sym e))
-class_of_found k (Some old) class e = (old, refl, eqb-true (item_class k old) class e)
-
-no_class : (k : List ℕ) (f : Option Entry) (class : ℕ) → has_class k f class ≡ false → of_class k f class ≡ 0
-no_class k None class e = refl
-no_class k (Some old) class e = ap (λ (b : Bool). if b then 1 else 0) e
+-- ---- which chunks a write goes to
 
 both_true : (a b : Bool) → a && b ≡ true → (a ≡ true) × (b ≡ true)
 both_true true b e = (refl, e)
 both_true false b e = absurd (true≢false (sym e))
+
+same_needs : (a b : NeedState) → same_need a b ≡ true → a ≡ b
+same_needs a b e =
+    let both = both_true (a.class == b.class) (a.count == b.count) e in
+    let class : a.class ≡ b.class = eqb-true a.class b.class both.0 in
+    let count : a.count ≡ b.count = eqb-true a.count b.count both.1 in
+    λ i. record { class = class i; count = count i }
+
+need_of_found : (k : List ℕ) (f : Option Entry) (need : NeedState) → has_need k f need ≡ true → (old : Entry) × (f ≡ Some old) × (item_need k old ≡ need)
+need_of_found k None need e = absurd (true≢false (sym e))
+need_of_found k (Some old) need e = (old, refl, same_needs (item_need k old) need e)
 
 and_left : (a b : Bool) → a && b ≡ false → b ≡ true → a ≡ false
 and_left true b e t = absurd (true≢false (sym t ∙ e))
@@ -129,7 +144,70 @@ or_left : (a b : Bool) → b ≡ false → a || b ≡ true → a ≡ true
 or_left true b e t = refl
 or_left false b e t = absurd (true≢false (sym t ∙ e))
 
-module _ (insert_counts : InsertCounts) (remove_counts : RemoveCounts) (step : KeyStep) (now : ℕ) (shelf : ShelfContent) (desk : DeskState) (on : IsOnKey step) (size : ℕ) (draft : Draft) (next : Write size draft ≡ next_of shelf step now) where
+-- what comes back of the item that is found
+pub dead_none : (cut : Option ℕ) (now : ℕ) (k : List ℕ) (f : Option Entry) (class : ℕ) → alive cut now f ≡ None → dead_chunks cut now k f class ≡ of_class k f class
+dead_none cut now k None class e = refl
+dead_none cut now k (Some old) class e = ap (λ (o : Option Entry). if is_none o then of_class k (Some old) class else 0) e
+
+pub dead_alive : (cut : Option ℕ) (now : ℕ) (k : List ℕ) (f : Option Entry) (class : ℕ) → is_gone cut now f ≡ false → dead_chunks cut now k f class ≡ 0
+dead_alive cut now k f class e = ap (λ (b : Bool). if b then of_class k f class else 0) e
+
+-- where chunks come back, the item is dead, and has so many of the class
+pub way_item : (cut : Option ℕ) (now : ℕ) (k : List ℕ) (f : Option Entry) (class : ℕ) → 0 < dead_chunks cut now k f class → (old : Entry) × (f ≡ Some old)
+    × (is_gone cut now f ≡ true) × ((item_need k old).class ≡ class) × ((item_need k old).count ≡ dead_chunks cut now k f class)
+way_item cut now k None class some = absurd (omega (arith, some))
+way_item cut now k (Some old) class some =
+    elim (is_gone cut now (Some old)) as
+    (λ b. is_gone cut now (Some old) ≡ b → 0 < (if b then of_class k (Some old) class else 0) → (o : Entry) × (Some old ≡ Some o) × (b ≡ true)
+    × ((item_need k o).class ≡ class) × ((item_need k o).count ≡ (if b then of_class k (Some old) class else 0))) [
+      | true ↦
+          λ gone more. elim (eqb (item_need k old).class class) as
+          (λ b. eqb (item_need k old).class class ≡ b → 0 < (if b then (item_need k old).count else 0) → (o : Entry) × (Some old ≡ Some o) × (true ≡ true)
+          × ((item_need k o).class ≡ class) × ((item_need k o).count ≡ (if b then (item_need k old).count else 0))) [
+            | true ↦ λ same more. (old, refl, refl, eqb-true (item_need k old).class class same, refl)
+            | false ↦ λ other none. absurd (omega (arith, none))
+          ] refl more
+      | false ↦ λ lives none. absurd (omega (arith, none))
+    ] refl some
+
+-- the item that stands is not dead
+pub stands_not_gone : (cut : Option ℕ) (now : ℕ) (f : Option Entry) (old : Entry) → alive cut now f ≡ Some old → is_gone cut now f ≡ false
+stands_not_gone cut now f old e = ap (λ (o : Option Entry). is_some f && is_none o) e ∙ and_off (is_some f)
+  where
+    and_off : (b : Bool) → b && false ≡ false
+    and_off true = refl
+    and_off false = refl
+
+-- what the slab has out of a class, by what a step finds
+module _ (remove_counts : RemoveCounts) (step : KeyStep) (now : ℕ) (shelf : ShelfContent) (desk : DeskState) (is : IsSlab desk.slab) (s : Plain) (at : IsAt (key_of step) shelf desk s) where
+  pub count_base : (class : ℕ) → IsClass class
+      → count_of (found_in shelf step now s).items class + dead_chunks shelf.cut now (key_of step) (get shelf.items (key_of step)) class ≡ out_of desk.slab class
+  count_base class is_class = by (stood shelf step now) refl
+    where
+      key : List ℕ
+      key = key_of step
+
+      by : (st : Option Entry) → stood shelf step now ≡ st → count_of (base st key s.items) class + dead_chunks shelf.cut now key (get shelf.items key) class ≡ out_of desk.slab class
+      by (Some item) stood =
+          let none = dead_alive shelf.cut now key (get shelf.items key) class (stands_not_gone shelf.cut now (get shelf.items key) item stood) in
+          let out = at.out class is_class in
+          omega (arith, none, out)
+      by None none =
+          let dead = dead_none shelf.cut now key (get shelf.items key) class none in
+          let gone : count_of (remove s.items key) class + of_class key (get s.items key) class ≡ count_of s.items class = remove_counts s.items key class in
+          let same : of_class key (get s.items key) class ≡ of_class key (get shelf.items key) class = ap (λ (o : Option Entry). of_class key o class) at.item in
+          let out = at.out class is_class in
+          omega (arith, dead, gone, same, out)
+
+  pub room_found : (need : NeedState) → IsClass need.class → has_room (found_in shelf step now s) need ≡ slabs.has_room_with desk.slab need (back_at shelf (key_of step) now need)
+  room_found need is_class = room_is (found_in shelf step now s) desk.slab need (back_at shelf (key_of step) now need) is is_class at.pages at.limit (count_base need.class is_class)
+
+  pub pages_found : (need : NeedState) → IsClass need.class
+      → (with_chunk (found_in shelf step now s) need).pages ≡ pages_after need.class need.count (slabs.unused desk.slab need.class + back_at shelf (key_of step) now need) desk.slab.pages
+  pages_found need is_class = pages_are (found_in shelf step now s) desk.slab need (back_at shelf (key_of step) now need) is is_class at.pages (count_base need.class is_class)
+
+module _ (insert_counts : InsertCounts) (remove_counts : RemoveCounts) (step : KeyStep) (now : ℕ) (shelf : ShelfContent) (desk : DeskState) (on : IsOnKey step)
+    (size : ℕ) (draft : Draft) (next : Write size draft ≡ next_of shelf step now) where
   abbrev its_key : List ℕ
   its_key = key_of step
 
@@ -161,16 +239,21 @@ module _ (insert_counts : InsertCounts) (remove_counts : RemoveCounts) (step : K
   -- the numbers are spent
   pub is_spent : desk.next_unique ≡ 2 ^ 64 - 1 → IsSpent step now shelf desk
   is_spent spent s at =
-      wrote_is s at ∙ wrote_spent (write_reply draft.body) its_key draft.flags draft.expiry block (found_in shelf step now s) now (keeps_chunk draft.body its_key its_stands) (fits_plain s at) (at.next_unique ∙ spent)
+      wrote_is s at
+      ∙ wrote_spent (write_reply draft.body) its_key draft.flags draft.expiry block (found_in shelf step now s) now
+      (keeps_chunk draft.body its_key its_stands) (fits_plain s at) (at.next_unique ∙ spent)
 
-  module _ (class : ℕ) (class_is : class ≡ class_holding size) where
+  module _ (need : NeedState) (need_is : need ≡ need_for size) where
     abbrev Reuses : Bool → Type 0
-    Reuses b = reuses shelf.cut now its_key its_found class draft.body ≡ b
+    Reuses b = reuses shelf.cut now its_key its_found need draft.body ≡ b
 
-    class_charge : class ≡ class_holding (charge its_key block)
-    class_charge = class_is ∙ ap class_holding drafted_is.size_is
+    abbrev back : ℕ
+    back = back_at shelf its_key now need
 
-    -- a write that goes into no chunk of the its_key's keeps none
+    pub need_charge : need ≡ block_need its_key block
+    need_charge = need_is ∙ ap need_for drafted_is.size_is
+
+    -- a write that goes into no chunks of the key's keeps none
     keeps_none : Reuses false → keeps_chunk draft.body its_key its_stands ≡ false
     keeps_none e = by draft.body its_stands refl refl
       where
@@ -180,26 +263,16 @@ module _ (insert_counts : InsertCounts) (remove_counts : RemoveCounts) (step : K
         by Prepended st is stood = refl
         by (Counted number) None is stood = refl
         by (Counted number) (Some old) is stood =
-            let other = and_left (has_class its_key its_found class) (counts draft.body || is_gone shelf.cut now its_found) e (ap (λ (b : Body). counts b || is_gone shelf.cut now its_found) is) in
+            let other = and_left (has_need its_key its_found need) (counts draft.body || is_gone shelf.cut now its_found) e (ap (λ (b : Body). counts b || is_gone shelf.cut now its_found) is) in
             let there = alive_found shelf.cut now its_found old stood in
-            let same : class ≡ class_holding (charge its_key (decimal number)) = class_charge ∙ ap (λ (b : Body). class_holding (charge its_key (written_block b (block_of step) its_stands))) is in
-            ap (eqb (item_class its_key old)) (sym same) ∙ ap (λ (o : Option Entry). has_class its_key o class) (sym there) ∙ other
+            let same : need ≡ block_need its_key (decimal number) = need_charge ∙ ap (λ (b : Body). block_need its_key (written_block b (block_of step) its_stands)) is in
+            ap (same_need (item_need its_key old)) (sym same) ∙ ap (λ (o : Option Entry). has_need its_key o need) (sym there) ∙ other
 
-    -- and a dead item there is of another class
-    apart : Reuses false → its_stands ≡ None → of_class its_key its_found class ≡ 0
-    apart e none = by its_found refl
-      where
-        by : (f : Option Entry) → its_found ≡ f → of_class its_key f class ≡ 0
-        by None is = refl
-        by (Some old) is =
-            let gone : is_gone shelf.cut now its_found ≡ true = ap (λ (o : Option Entry). is_some its_found && is_none o) none ∙ ap (λ (o : Option Entry). is_some o && true) is in
-            no_class its_key (Some old) class (ap (λ (o : Option Entry). has_class its_key o class) (sym is) ∙ and_left (has_class its_key its_found class) (counts draft.body || is_gone shelf.cut now its_found) e (or_true (counts draft.body) (is_gone shelf.cut now its_found) gone))
-
-    -- one that goes into the chunk of the key's item: it is of the class, and dead or counted
-    pub reused_is : Reuses true → (old : Entry) × (its_found ≡ Some old) × (item_class its_key old ≡ class) × (counts draft.body || is_gone shelf.cut now its_found ≡ true)
+    -- one that goes into the chunks of the key's item: they are those that it needs, and it is dead or counted
+    pub reused_is : Reuses true → (old : Entry) × (its_found ≡ Some old) × (item_need its_key old ≡ need) × (counts draft.body || is_gone shelf.cut now its_found ≡ true)
     reused_is e =
-        let both = both_true (has_class its_key its_found class) (counts draft.body || is_gone shelf.cut now its_found) e in
-        let there = class_of_found its_key its_found class both.0 in
+        let both = both_true (has_need its_key its_found need) (counts draft.body || is_gone shelf.cut now its_found) e in
+        let there = need_of_found its_key its_found need both.0 in
         (there.0, there.1, there.2, both.1)
 
     own_counted : (body : Body) → counts body ≡ true → own_block body (block_of step) ≡ written_block body (block_of step) its_stands
@@ -211,34 +284,45 @@ module _ (insert_counts : InsertCounts) (remove_counts : RemoveCounts) (step : K
     own_given : (body : Body) → body ≡ Given → own_block body (block_of step) ≡ written_block body (block_of step) its_stands
     own_given body e = ap (λ (b : Body). own_block b (block_of step)) e ∙ ap (λ (b : Body). written_block b (block_of step) its_stands) (sym e)
 
-    -- the item that stands is not dead
-    not_gone : (old : Entry) → its_stands ≡ Some old → is_gone shelf.cut now its_found ≡ false
-    not_gone old e = ap (λ (o : Option Entry). is_some its_found && is_none o) e ∙ and_off (is_some its_found)
-      where
-        and_off : (b : Bool) → b && false ≡ false
-        and_off true = refl
-        and_off false = refl
-
     -- its block is the step's own, or a number
     pub own_is : Reuses true → own_block draft.body (block_of step) ≡ block
     own_is e = by its_stands refl
       where
         by : (st : Option Entry) → its_stands ≡ st → own_block draft.body (block_of step) ≡ block
         by None is = own_given draft.body (drafted_is.given is)
-        by (Some old) is = own_counted draft.body (or_left (counts draft.body) (is_gone shelf.cut now its_found) (not_gone old is) (reused_is e).3)
+        by (Some old) is = own_counted draft.body (or_left (counts draft.body) (is_gone shelf.cut now its_found) (stands_not_gone shelf.cut now its_found old is) (reused_is e).3)
 
-    pub class_own : Reuses true → (item : Entry) → its_found ≡ Some item → item_class its_key item ≡ class_holding (charge its_key (own_block draft.body (block_of step)))
-    class_own e item there =
+    pub need_own : Reuses true → (item : Entry) → its_found ≡ Some item → item_need its_key item ≡ block_need its_key (own_block draft.body (block_of step))
+    need_own e item there =
         let r = reused_is e in
-        ap (item_class its_key) (same_Some item r.0 (sym there ∙ r.1)) ∙ r.2 ∙ class_charge ∙ ap (λ (l : List ℕ). class_holding (charge its_key l)) (sym (own_is e))
+        ap (item_need its_key) (same_Some item r.0 (sym there ∙ r.1)) ∙ r.2 ∙ need_charge ∙ ap (block_need its_key) (sym (own_is e))
 
     not_last : (s : Plain) → IsAt its_key shelf desk s → desk.next_unique ≢ 2 ^ 64 - 1 → s.next_unique ≢ 2 ^ 64 - 1
     not_last s at more e = more (sym at.next_unique ∙ e)
 
-    -- the item goes into the chunk of the key's item
-    pub takes_again : Reuses true → IsClass class → IsSlab desk.slab → desk.next_unique ≢ 2 ^ 64 - 1 → (own : ℕ) (new : ShelfContent) → IsPut its_key own shelf new (drafted draft block desk.next_unique now)
+    -- the item goes into other chunks: what the slab's account is then
+    takes_other : keeps_chunk draft.body its_key its_stands ≡ false → IsClass need.class → IsSlab desk.slab → slabs.has_room_with desk.slab need back ≡ true
+        → desk.next_unique ≢ 2 ^ 64 - 1 → (own : ℕ) (new : ShelfContent) (slab : SlabState)
+        → IsPut its_key own shelf new (drafted draft block desk.next_unique now) → slab.limit ≡ desk.slab.limit
+        → slab.pages ≡ pages_after need.class need.count (slabs.unused desk.slab need.class + back) desk.slab.pages
+        → ((other : ℕ) → IsClass other → out_of slab other + of_class its_key its_found other ≡ out_of desk.slab other + chunks_in need other)
+        → Takes step now shelf desk (write_reply draft.body) new (record { slab = slab; next_unique = desk.next_unique + 1 })
+    takes_other keeps is_class is room more own new slab puts limit pages moved s at =
+        let under = found_in shelf step now s in
+        let has : has_room under need ≡ true = room_found remove_counts step now shelf desk is s at need is_class ∙ room in
+        let wrote =
+        at_wrote insert_counts remove_counts its_key shelf desk s at (write_reply draft.body) draft.flags draft.expiry block now its_stands
+        (subst (λ (n : ℕ). n ≤ shelf.greatest) drafted_is.size_is drafted_is.fits) more new own puts slab
+        (subst (λ (n : NeedState). has_room under n ≡ true) need_charge has) limit
+        (subst (λ (n : NeedState). (with_chunk under n).pages ≡ slab.pages) need_charge (pages_found remove_counts step now shelf desk is s at need is_class ∙ sym pages))
+        (subst (λ (n : NeedState). (other : ℕ) → IsClass other → out_of slab other + of_class its_key its_found other ≡ out_of desk.slab other + chunks_in n other) need_charge moved) in
+        (wrote.0, wrote_is s at ∙ ap (λ (b : Bool). machine.wrote b (write_reply draft.body) its_key draft.flags draft.expiry block under now) keeps ∙ wrote.1, wrote.2)
+
+    -- the item goes into the chunks of the key's item
+    pub takes_again : Reuses true → IsNeed need → IsSlab desk.slab → desk.next_unique ≢ 2 ^ 64 - 1 → (own : ℕ) (new : ShelfContent)
+        → IsPut its_key own shelf new (drafted draft block desk.next_unique now)
         → Takes step now shelf desk (write_reply draft.body) new (record desk { next_unique = desk.next_unique + 1 })
-    takes_again e is_class is more own new puts s at = by its_stands refl
+    takes_again e is_need is more own new puts s at = by its_stands refl
       where
         old : Entry
         old = (reused_is e).0
@@ -249,136 +333,150 @@ module _ (insert_counts : InsertCounts) (remove_counts : RemoveCounts) (step : K
         put_item : Entry
         put_item = drafted draft block desk.next_unique now
 
-        by : (st : Option Entry) → its_stands ≡ st → (after : Plain) × (plain s step now ≡ Answered (write_reply draft.body) after) × IsAt its_key new (record desk { next_unique = desk.next_unique + 1 }) after
+        by : (st : Option Entry) → its_stands ≡ st → (after : Plain) × (plain s step now ≡ Answered (write_reply draft.body) after)
+            × IsAt its_key new (record desk { next_unique = desk.next_unique + 1 }) after
         by None none =
             let given : draft.body ≡ Given = drafted_is.given none in
             let keeps : keeps_chunk draft.body its_key its_stands ≡ false = ap (λ (b : Body). keeps_chunk b its_key its_stands) given in
-            let under = found_in shelf step now s in
-            let c : class_holding (charge its_key block) ≡ class = sym class_charge in
-            let gone : count_of (remove s.items its_key) class + of_class its_key (get s.items its_key) class ≡ count_of s.items class = remove_counts s.items its_key class in
-            let one : of_class its_key (get s.items its_key) class ≡ bump (item_class its_key old) class = ap (λ (o : Option Entry). of_class its_key o class) (at.item ∙ there) in
-            let here : bump (item_class its_key old) class ≡ 1 = ap (λ b. if b then 1 else 0) (eq-eqb (item_class its_key old) class (reused_is e).2) in
-            let under_count : count_of under.items class ≡ count_of (remove s.items its_key) class = ap (λ (o : Option Entry). count_of (base o its_key s.items) class) none in
-            let out = at.out class is_class in
-            let within = is.within class is_class in
-            let free = room_free under desk.slab class at.pages (omega arith) in
-            let moved : (other : ℕ) → IsClass other → out_of desk.slab other + of_class its_key its_found other ≡ out_of desk.slab other + bump class other = λ other is_other.
-            ap (λ (n : ℕ). out_of desk.slab other + n) (ap (λ (o : Option Entry). of_class its_key o other) there ∙ ap (λ (n : ℕ). bump n other) (reused_is e).2) in
-            let wrote = at_wrote insert_counts remove_counts its_key shelf desk s at (write_reply draft.body) draft.flags draft.expiry block now its_stands (subst (λ (n : ℕ). n ≤ shelf.greatest) drafted_is.size_is drafted_is.fits) more new own puts desk.slab
-            (subst (λ (n : ℕ). has_room under n ≡ true) (sym c) free.0) refl
-            (subst (λ (n : ℕ). pages_after n (count_of under.items n) s.pages ≡ desk.slab.pages) (sym c) free.1)
-            (λ other is_other. subst (λ (n : ℕ). out_of desk.slab other + of_class its_key its_found other ≡ out_of desk.slab other + bump n other) (sym c) (moved other is_other)) in
-            (wrote.0, wrote_is s at ∙ ap (λ (b : Bool). machine.wrote b (write_reply draft.body) its_key draft.flags draft.expiry block under now) keeps ∙ wrote.1, wrote.2)
+            let of : (other : ℕ) → of_class its_key its_found other ≡ chunks_in need other = λ other. ap (λ (o : Option Entry). of_class its_key o other) there
+            ∙ ap (λ (n : NeedState). chunks_in n other) (reused_is e).2 in
+            let comes : back ≡ need.count = dead_none shelf.cut now its_key its_found need.class none ∙ of need.class ∙ weight_here need.class need.count in
+            let enough : need.count ≤ slabs.unused desk.slab need.class + back = omega (arith, comes) in
+            let room : slabs.has_room_with desk.slab need back ≡ true =
+            le-leb need.count (slabs.unused desk.slab need.class + back + slabs.pages_left desk.slab * chunks_a_page need.class) (omega (arith, enough)) in
+            takes_other keeps is_need.is_class is room more own new desk.slab puts refl (sym (pages_stay need.class need.count (slabs.unused desk.slab need.class + back) desk.slab.pages enough))
+            (λ other is_other. ap (λ (n : ℕ). out_of desk.slab other + n) (of other)) s at
         by (Some item) stood =
             let same : item ≡ old = same_Some item old (sym (alive_found shelf.cut now its_found item stood) ∙ there) in
-            let counted : counts draft.body ≡ true = or_left (counts draft.body) (is_gone shelf.cut now its_found) (not_gone item stood) (reused_is e).3 in
-            let keeps : keeps_chunk draft.body its_key its_stands ≡ true = ap (keeps_chunk draft.body its_key) stood ∙ keeps_counted draft.body item counted refl ∙ eq-eqb (item_class its_key item) (class_holding (charge its_key block)) (ap (item_class its_key) same ∙ (reused_is e).2 ∙ class_charge) in
+            let counted : counts draft.body ≡ true = or_left (counts draft.body) (is_gone shelf.cut now its_found) (stands_not_gone shelf.cut now its_found item stood) (reused_is e).3 in
+            let keeps : keeps_chunk draft.body its_key its_stands ≡ true = ap (keeps_chunk draft.body its_key) stood ∙ keeps_counted draft.body item counted refl
+            ∙ needs_same (item_need its_key item) (block_need its_key block) (ap (item_need its_key) same ∙ (reused_is e).2 ∙ need_charge) in
             let under = found_in shelf step now s in
             let after : Plain = record s { items = insert s.items its_key put_item; next_unique = desk.next_unique + 1 } in
-            let eq : written under its_key draft.flags draft.expiry block now ≡ after = λ i. record s { items = insert (base (stood i) its_key s.items) its_key (drafted draft block (at.next_unique i) now); next_unique = at.next_unique i + 1 } in (
+            let eq : written under its_key draft.flags draft.expiry block now ≡ after =
+            λ i. record s { items = insert (base (stood i) its_key s.items) its_key (drafted draft block (at.next_unique i) now); next_unique = at.next_unique i + 1 } in (
               after,
               wrote_is s at ∙ ap (λ (b : Bool). machine.wrote b (write_reply draft.body) its_key draft.flags draft.expiry block under now) keeps
                   ∙ wrote_kept (write_reply draft.body) its_key draft.flags draft.expiry block under now (fits_plain s at) (not_last s at more)
                   ∙ ap (λ (t : Plain). Answered (write_reply draft.body) t) eq,
-              at_put_again insert_counts remove_counts its_key shelf desk s at new own old put_item puts there (sym class_charge ∙ sym (reused_is e).2) (desk.next_unique + 1),
+              at_put_again insert_counts remove_counts its_key shelf desk s at new own old put_item puts there (sym need_charge ∙ sym (reused_is e).2) (desk.next_unique + 1),
             )
           where
-            keeps_counted : (body : Body) (item : Entry) → counts body ≡ true → body ≡ draft.body → keeps_chunk body its_key (Some item) ≡ eqb (item_class its_key item) (class_holding (charge its_key block))
+            keeps_counted : (body : Body) (item : Entry) → counts body ≡ true → body ≡ draft.body → keeps_chunk body its_key (Some item) ≡ same_need (item_need its_key item) (block_need its_key block)
             keeps_counted Given item c is = absurd (true≢false (sym c))
             keeps_counted Appended item c is = absurd (true≢false (sym c))
             keeps_counted Prepended item c is = absurd (true≢false (sym c))
-            keeps_counted (Counted number) item c is = ap (λ (b : Body). eqb (item_class its_key item) (class_holding (charge its_key (written_block b (block_of step) its_stands)))) is
+            keeps_counted (Counted number) item c is = ap (λ (b : Body). same_need (item_need its_key item) (block_need its_key (written_block b (block_of step) its_stands))) is
 
-    -- the count of the class, as the step finds it, is what the slab has out
-    count_base : IsClass class → Reuses false → (s : Plain) → IsAt its_key shelf desk s → count_of (base its_stands its_key s.items) class ≡ out_of desk.slab class
-    count_base is e s at = by its_stands refl
-      where
-        by : (st : Option Entry) → its_stands ≡ st → count_of (base st its_key s.items) class ≡ out_of desk.slab class
-        by (Some item) stood = sym (at.out class is)
-        by None none =
-            let gone : count_of (remove s.items its_key) class + of_class its_key (get s.items its_key) class ≡ count_of s.items class = remove_counts s.items its_key class in
-            let same : of_class its_key (get s.items its_key) class ≡ of_class its_key its_found class = ap (λ (o : Option Entry). of_class its_key o class) at.item in
-            let zero = apart e none in
-            let out = at.out class is in
-            omega arith
-
-    -- what is out after a chunk was taken, and the old item's given back
-    outs_after : IsSlab desk.slab → IsClass class → (f : Option Entry) (n : ℕ) (desk' : DeskState) → GivesBack its_key f (record { slab = taken desk.slab class; next_unique = n }) desk'
-        → (desk'.next_unique ≡ n) × (desk'.slab.limit ≡ desk.slab.limit) × (desk'.slab.pages ≡ (taken desk.slab class).pages) × ((other : ℕ) → IsClass other → out_of desk'.slab other ≡ out_of (taken desk.slab class) other - of_class its_key f other)
+    -- what is out after the chunks were taken, and the old item's given back
+    outs_after : IsSlab desk.slab → IsClass need.class → (f : Option Entry) (n : ℕ) (desk' : DeskState) → GivesBack its_key f (record { slab = taken desk.slab need; next_unique = n }) desk'
+        → (desk'.next_unique ≡ n) × (desk'.slab.limit ≡ desk.slab.limit) × (desk'.slab.pages ≡ (taken desk.slab need).pages)
+        × ((other : ℕ) → IsClass other → out_of desk'.slab other ≡ out_of (taken desk.slab need) other - of_class its_key f other)
     outs_after is is_class None n desk' back = (
       ap (λ (d : DeskState). d.next_unique) back,
-      ap (λ (d : DeskState). d.slab.limit) back ∙ limit-taken desk.slab class is_class,
+      ap (λ (d : DeskState). d.slab.limit) back,
       ap (λ (d : DeskState). d.slab.pages) back,
-      λ other is_other. ap (λ (d : DeskState). out_of d.slab other) back ∙ sym (less (out_of (taken desk.slab class) other)),
+      λ other is_other. ap (λ (d : DeskState). out_of d.slab other) back ∙ sym (less (out_of (taken desk.slab need) other)),
     )
       where
         less : (m : ℕ) → m - 0 ≡ m
         less m = omega arith
     outs_after is is_class (Some item) n desk' back = (
       ap (λ (d : DeskState). d.next_unique) back.given_is,
-      ap (λ (d : DeskState). d.slab.limit) back.given_is ∙ limit-taken desk.slab class is_class,
+      ap (λ (d : DeskState). d.slab.limit) back.given_is,
       ap (λ (d : DeskState). d.slab.pages) back.given_is,
-      λ other is_other. ap (λ (d : DeskState). out_of d.slab other) back.given_is ∙ out-given (taken desk.slab class) (item_class its_key item) back.is_class back.is_slab other is_other,
+      λ other is_other. ap (λ (d : DeskState). out_of d.slab other) back.given_is
+          ∙ out-given (taken desk.slab need) (item_need its_key item).class back.is_need.is_class back.is_slab.out (item_need its_key item).count other is_other,
     )
 
-    -- the item goes into a chunk more
-    pub takes_anew : Reuses false → IsClass class → IsSlab desk.slab → slabs.has_room desk.slab class ≡ true → desk.next_unique ≢ 2 ^ 64 - 1 → (own : ℕ) (new : ShelfContent) (desk' : DeskState)
-        → IsPut its_key own shelf new (drafted draft block desk.next_unique now) → GivesBack its_key its_found (record { slab = taken desk.slab class; next_unique = desk.next_unique + 1 }) desk' → Takes step now shelf desk (write_reply draft.body) new desk'
-    takes_anew e is_class is room more own new desk' puts back s at =
-        let under = found_in shelf step now s in
-        let c : class_holding (charge its_key block) ≡ class = sym class_charge in
-        let count = count_base is_class e s at in
-        let has : has_room under class ≡ true = room_some under desk.slab class is is_class at.pages at.limit (omega (arith, count)) (room_not_full desk.slab class room) in
-        let after = outs_after is is_class its_found (desk.next_unique + 1) desk' back in
-        let pages : pages_after class (count_of under.items class) s.pages ≡ desk'.slab.pages = (λ i. pages_after class (count i) (at.pages i)) ∙ sym (pages-taken desk.slab class is_class) ∙ sym after.2 in
-        let moved : (other : ℕ) → IsClass other → out_of desk'.slab other + of_class its_key its_found other ≡ out_of desk.slab other + bump class other = λ other is_other.
-        let took : out_of (taken desk.slab class) other ≡ out_of desk.slab other + bump class other = out-taken desk.slab class is_class is.out other is_other in
-        let less : out_of desk'.slab other ≡ out_of (taken desk.slab class) other - of_class its_key its_found other = after.3 other is_other in
-        let gone : count_of (remove s.items its_key) other + of_class its_key (get s.items its_key) other ≡ count_of s.items other = remove_counts s.items its_key other in
-        let same : of_class its_key (get s.items its_key) other ≡ of_class its_key its_found other = ap (λ (o : Option Entry). of_class its_key o other) at.item in
-        let out = at.out other is_other in
-        omega arith in
-        let wrote = at_wrote insert_counts remove_counts its_key shelf desk s at (write_reply draft.body) draft.flags draft.expiry block now its_stands (subst (λ (n : ℕ). n ≤ shelf.greatest) drafted_is.size_is drafted_is.fits) more new own puts desk'.slab
-        (subst (λ (n : ℕ). has_room under n ≡ true) (sym c) has) after.1
-        (subst (λ (n : ℕ). pages_after n (count_of under.items n) s.pages ≡ desk'.slab.pages) (sym c) pages)
-        (λ other is_other. subst (λ (n : ℕ). out_of desk'.slab other + of_class its_key its_found other ≡ out_of desk.slab other + bump n other) (sym c) (moved other is_other)) in (
-          wrote.0,
-          wrote_is s at ∙ ap (λ (b : Bool). machine.wrote b (write_reply draft.body) its_key draft.flags draft.expiry block under now) (keeps_none e) ∙ wrote.1,
-          subst (λ (n : ℕ). IsAt its_key new (record { slab = desk'.slab; next_unique = n }) wrote.0) (sym after.0) wrote.2,
-        )
+    -- the item goes into others, while the old one, if there is one, has its own, which go back then
+    pub takes_anew : Reuses false → IsNeed need → IsSlab desk.slab → back ≡ 0 → slabs.has_room_with desk.slab need 0 ≡ true → desk.next_unique ≢ 2 ^ 64 - 1
+        → (own : ℕ) (new : ShelfContent) (desk' : DeskState)
+        → IsPut its_key own shelf new (drafted draft block desk.next_unique now)
+        → GivesBack its_key its_found (record { slab = taken desk.slab need; next_unique = desk.next_unique + 1 }) desk' → Takes step now shelf desk (write_reply draft.body) new desk'
+    takes_anew e is_need is none room more own new desk' puts gives s at =
+        let after = outs_after is is_need.is_class its_found (desk.next_unique + 1) desk' gives in
+        let moved : (other : ℕ) → IsClass other → out_of desk'.slab other + of_class its_key its_found other ≡ out_of desk.slab other + chunks_in need other = λ other is_other.
+        let took : out_of (taken desk.slab need) other ≡ out_of desk.slab other + chunks_in need other = out-taken desk.slab need is_need.is_class is.out other is_other in
+        let less : out_of desk'.slab other ≡ out_of (taken desk.slab need) other - of_class its_key its_found other = after.3 other is_other in
+        let least = out_found insert_counts remove_counts its_key shelf desk s at other is_other in
+        omega (arith, took, less, least) in
+        let took = takes_other (keeps_none e) is_need.is_class is (subst (λ (n : ℕ). slabs.has_room_with desk.slab need n ≡ true) (sym none) room) more own new desk'.slab puts after.1
+        (after.2 ∙ ap (λ (n : ℕ). pages_after need.class need.count (slabs.unused desk.slab need.class + n) desk.slab.pages) (sym none)) moved s at in
+        (took.0, took.1, subst (λ (n : ℕ). IsAt its_key new (record { slab = desk'.slab; next_unique = n }) took.0) (sym after.0) took.2)
 
-    -- the item goes into the chunk of the key's item, where another of the class is free
-    pub item_given : has_class its_key its_found class ≡ true → draft.body ≡ Given → (old : Entry) × (its_found ≡ Some old) × (item_class its_key old ≡ class_holding (charge its_key (own_block draft.body (block_of step))))
+    -- a dead item gives way to it
+    pub takes_way : Reuses false → IsNeed need → IsSlab desk.slab → (old : Entry) → its_found ≡ Some old → (item_need its_key old).class ≡ need.class
+        → (item_need its_key old).count ≡ back → slabs.has_room_with desk.slab need back ≡ true
+        → desk.next_unique ≢ 2 ^ 64 - 1 → (own : ℕ) (new : ShelfContent) → IsPut its_key own shelf new (drafted draft block desk.next_unique now)
+        → Takes step now shelf desk (write_reply draft.body) new (way_given need back desk)
+    takes_way e is_need is old there class count room more own new puts s at =
+        let is_class = is_need.is_class in
+        let of : (other : ℕ) → of_class its_key its_found other ≡ weight need.class back other =
+        λ other. ap (λ (o : Option Entry). of_class its_key o other) there ∙ (λ i. weight (class i) (count i) other) in
+        let least : back ≤ out_of desk.slab need.class = let out = out_found insert_counts remove_counts its_key shelf desk s at need.class is_class in
+        let here = weight_here need.class back in omega (arith, out, of need.class, here) in
+        takes_other (keeps_none e) is_class is room more own new (way_given need back desk).slab puts refl (pages-way desk.slab need is_class is back least)
+        (λ other is_other.
+        let out = out-way desk.slab need is_class is back other is_other in
+        let had = out_found insert_counts remove_counts its_key shelf desk s at other is_other in
+        omega (arith, out, had, of other)) s at
+
+    -- the item that gives way, and the block that takes its place
+    pub way_is : Reuses false → 0 < back → (old : Entry) × (its_found ≡ Some old) × ((item_need its_key old).class ≡ need.class)
+        × ((item_need its_key old).count ≡ back) × (draft.body ≡ Given) × (gives_way shelf.cut now its_key its_found (need_for size) ≡ true)
+    way_is e some =
+        let way = way_item shelf.cut now its_key its_found need.class some in
+        let none = (dead_found shelf step now its_found its_stands way.2).1 in
+        let other : has_need its_key its_found need ≡ false =
+        and_left (has_need its_key its_found need) (counts draft.body || is_gone shelf.cut now its_found) e (or_true (counts draft.body) (is_gone shelf.cut now its_found) way.2) in
+        (way.0, way.1, way.3, way.4, drafted_is.given none, subst (λ (n : NeedState). gives_way shelf.cut now its_key its_found n ≡ true) need_is (λ i. not (other i) && lt-ltb 0 back some i))
+
+    -- the item goes into the chunks of the key's item, where as many others are unused
+    pub item_given : has_need its_key its_found need ≡ true → draft.body ≡ Given → (old : Entry) × (its_found ≡ Some old)
+        × (item_need its_key old ≡ block_need its_key (own_block draft.body (block_of step)))
     item_given has given =
-        let there = class_of_found its_key its_found class has in
-        (there.0, there.1, there.2 ∙ class_charge ∙ ap (λ (l : List ℕ). class_holding (charge its_key l)) (sym (own_given draft.body given)))
+        let there = need_of_found its_key its_found need has in
+        (there.0, there.1, there.2 ∙ need_charge ∙ ap (block_need its_key) (sym (own_given draft.body given)))
 
     pub block_given : draft.body ≡ Given → own_block draft.body (block_of step) ≡ block
     block_given given = own_given draft.body given
 
-    pub takes_in_place : Reuses false → has_class its_key its_found class ≡ true → IsClass class → IsSlab desk.slab → out_of desk.slab class < slabs.chunks_of desk.slab class → desk.next_unique ≢ 2 ^ 64 - 1 → (own : ℕ) (new : ShelfContent)
-        → IsPut its_key own shelf new (drafted draft block desk.next_unique now) → Takes step now shelf desk (write_reply draft.body) new (record desk { next_unique = desk.next_unique + 1 })
-    takes_in_place e has is_class is free more own new puts =
-        let there = class_of_found its_key its_found class has in
-        let room : slabs.has_room desk.slab class ≡ true = room_by_free desk.slab class is_class free in
-        let back : GivesOne class (record { slab = taken desk.slab class; next_unique = desk.next_unique + 1 }) (record desk { next_unique = desk.next_unique + 1 }) = record {
-          given_is = λ i. record { slab = sym (given_taken desk.slab class is_class is.out free) i; next_unique = desk.next_unique + 1 };
-          is_class = is_class;
-          is_slab = taken_is_slab desk.slab class is_class is free;
-        } in
-        takes_anew e is_class is room more own new (record desk { next_unique = desk.next_unique + 1 }) puts
-        (subst (λ (o : Option Entry). GivesBack its_key o (record { slab = taken desk.slab class; next_unique = desk.next_unique + 1 }) (record desk { next_unique = desk.next_unique + 1 })) (sym there.1)
-        (subst (λ (k : ℕ). GivesOne k (record { slab = taken desk.slab class; next_unique = desk.next_unique + 1 }) (record desk { next_unique = desk.next_unique + 1 })) (sym there.2) back))
+    -- it isn't dead then
+    lives_on : Reuses false → has_need its_key its_found need ≡ true → is_gone shelf.cut now its_found ≡ false
+    lives_on e has = elim (is_gone shelf.cut now its_found) as (λ b. has_need its_key its_found need && (counts draft.body || b) ≡ false → b ≡ false) [
+      | true ↦ λ all. absurd (true≢false (sym (λ i. has i && or_true (counts draft.body) true refl i) ∙ all))
+      | false ↦ λ all. refl
+    ] e
 
-    -- no chunk is left
-    pub takes_full : Reuses false → IsClass class → IsSlab desk.slab → slabs.has_room desk.slab class ≡ false → desk.next_unique ≢ 2 ^ 64 - 1 → (own : ℕ) (new : ShelfContent) (desk' : DeskState)
+    pub takes_in_place : Reuses false → has_need its_key its_found need ≡ true → IsNeed need → IsSlab desk.slab → need.count ≤ slabs.unused desk.slab need.class
+        → desk.next_unique ≢ 2 ^ 64 - 1 → (own : ℕ) (new : ShelfContent)
+        → IsPut its_key own shelf new (drafted draft block desk.next_unique now) → Takes step now shelf desk (write_reply draft.body) new (record desk { next_unique = desk.next_unique + 1 })
+    takes_in_place e has is_need is free more own new puts =
+        let there = need_of_found its_key its_found need has in
+        let is_class = is_need.is_class in
+        let gives : GivesChunks need (record { slab = taken desk.slab need; next_unique = desk.next_unique + 1 }) (record desk { next_unique = desk.next_unique + 1 }) = record {
+          given_is = λ i. record { slab = sym (given_taken desk.slab need is_class is.out free) i; next_unique = desk.next_unique + 1 };
+          is_need = is_need;
+          is_slab = taken_is_slab desk.slab need is_class is free;
+        } in
+        takes_anew e is_need is (dead_alive shelf.cut now its_key its_found need.class (lives_on e has)) (room_by_free desk.slab need free) more own new
+        (record desk { next_unique = desk.next_unique + 1 }) puts
+        (subst (λ (o : Option Entry). GivesBack its_key o (record { slab = taken desk.slab need; next_unique = desk.next_unique + 1 })
+        (record desk { next_unique = desk.next_unique + 1 })) (sym there.1)
+        (subst (λ (k : NeedState). GivesChunks k (record { slab = taken desk.slab need; next_unique = desk.next_unique + 1 })
+        (record desk { next_unique = desk.next_unique + 1 })) (sym there.2) gives))
+
+    -- the chunks can't be had
+    pub takes_full : Reuses false → IsNeed need → IsSlab desk.slab → slabs.has_room_with desk.slab need back ≡ false → desk.next_unique ≢ 2 ^ 64 - 1
+        → (own : ℕ) (new : ShelfContent) (desk' : DeskState)
         → (is_gone shelf.cut now its_found ≡ true → IsDropped its_key own shelf new × GivesBack its_key its_found desk desk')
         → (is_gone shelf.cut now its_found ≡ false → (new ≡ shelf) × (desk' ≡ desk)) → Takes step now shelf desk NoChunk new desk'
-    takes_full e is_class is room more own new desk' dead alive s at = (
+    takes_full e is_need is room more own new desk' dead alive s at = (
       found_in shelf step now s,
       wrote_is s at ∙ ap (λ (b : Bool). machine.wrote b (write_reply draft.body) its_key draft.flags draft.expiry block (found_in shelf step now s) now) (keeps_none e)
           ∙ wrote_full (write_reply draft.body) its_key draft.flags draft.expiry block (found_in shelf step now s) now (fits_plain s at) (not_last s at more)
-          (subst (λ (n : ℕ). has_room (found_in shelf step now s) n ≡ false) class_charge (room_none (found_in shelf step now s) desk.slab class at.pages at.limit (count_base is_class e s at) (full_of desk.slab class is is_class room))),
+          (subst (λ (n : NeedState). has_room (found_in shelf step now s) n ≡ false) need_charge (room_found remove_counts step now shelf desk is s at need is_need.is_class ∙ room)),
       elim (is_gone shelf.cut now its_found) as (λ b. is_gone shelf.cut now its_found ≡ b → IsAt its_key new desk' (found_in shelf step now s)) [
         | true ↦ λ gone.
             let there = dead_found shelf step now its_found its_stands gone in
@@ -387,7 +485,8 @@ module _ (insert_counts : InsertCounts) (remove_counts : RemoveCounts) (step : K
             (dropped_at insert_counts remove_counts step now shelf desk on s at there.0.0 own new desk' there.0.1 both.0 both.1)
         | false ↦ λ gone.
             let both = alive gone in
-            subst (λ (d : DeskState). IsAt its_key new d (found_in shelf step now s)) (sym both.1) (subst (λ (t : ShelfContent). IsAt its_key t desk (found_in shelf step now s)) (sym both.0) (at_under insert_counts remove_counts step now shelf desk on s at gone))
+            subst (λ (d : DeskState). IsAt its_key new d (found_in shelf step now s)) (sym both.1)
+            (subst (λ (t : ShelfContent). IsAt its_key t desk (found_in shelf step now s)) (sym both.0) (at_under insert_counts remove_counts step now shelf desk on s at gone))
       ] refl,
     )
 
@@ -399,3 +498,39 @@ module _ (insert_counts : InsertCounts) (remove_counts : RemoveCounts) (step : K
           | true ↦ λ gone. let both = dead gone in (both.0.others, both.0.hash)
           | false ↦ λ gone. subst (λ (t : ShelfContent). OthersStay its_key shelf t × IsHash t its_key own) (sym (alive gone).0) (others_same its_key shelf, has)
         ] refl
+
+-- ---- a dead item that gives way
+
+-- what the desk is when it was made ready and the dead item's chunks went back
+pub way_desk : (key : List ℕ) (found : Option Entry) (item : Entry) (desk ready gave : DeskState) (need : NeedState) (back : ℕ) → found ≡ Some item
+    → (item_need key item).class ≡ need.class → (item_need key item).count ≡ back
+    → ready ≡ record desk { slab = made_ready desk.slab need back } → GivesBack key found ready gave → gave ≡ record desk { slab = given (made_ready desk.slab need back) need.class back }
+way_desk key found item desk ready gave need back there class count ready_is gives =
+    let one : GivesChunks (item_need key item) ready gave = subst (λ (o : Option Entry). GivesBack key o ready gave) there gives in
+    one.given_is ∙ ap (λ (d : DeskState). record d { slab = given d.slab (item_need key item).class (item_need key item).count }) ready_is
+    ∙ (λ i. record desk { slab = given (made_ready desk.slab need back) (class i) (count i) })
+
+-- what is put after the key's item was dropped
+pub put_after_drop : (key : List ℕ) (own : ℕ) (old mid new : ShelfContent) (one : Entry) → IsDropped key own old mid → IsPut key own mid new one → IsPut key own old new one
+put_after_drop key own old mid new one dropped puts = record {
+  item = puts.item;
+  others = record {
+    greatest = puts.others.greatest ∙ dropped.others.greatest;
+    cut = puts.others.cut ∙ dropped.others.cut;
+    items = λ other apart. puts.others.items other apart ∙ dropped.others.items other apart;
+    hashes = λ other apart. puts.others.hashes other apart ∙ dropped.others.hashes other apart;
+  };
+  hash = puts.hash;
+}
+
+-- what a result brings, of what it brings besides
+pub ok_both : {A E : Type 0} {X : Type 0} (P Q R : A → Type 0) (r : Result A E) → IfOk r P → IfOk r Q → OnOk r X → ((a : A) → P a → Q a → X → R a) → IfOk r R
+ok_both P Q R (Ok a) p q x f = f a p q x
+ok_both P Q R (Err e) p q x f = tt
+
+pub some_more : {A : Type 0} (P Q : A → Type 0) (o : Option A) → IfSome o P → ((a : A) → P a → Q a) → IfSome o Q
+some_more P Q None p f = tt
+some_more P Q (Some a) p f = f a p
+
+pub err_brings : {A E : Type 0} {X : Type 0} (r : Result A E) (e : E) → r ≡ Err e → OnErr r X → X
+err_brings {A} {E} {X} r e is brings = subst (λ (q : Result A E). OnErr q X) is brings

@@ -1,5 +1,5 @@
 -- What a read finds under its key, and what it does there.
-use Rattle.std.specs.Prelude.{ℕ, Bool, true, false, Option, Some, None, if◌then◌else◌}
+use Rattle.std.specs.Prelude.{ℕ, List, Bool, true, false, Option, Some, None, if◌then◌else◌}
 use Rattle.mc_time.specs.declared.expiry.Expiry.{Expiry}
 use Rattle.mc_time.specs.Death.{expiry_of, is_dead}
 use Rattle.mc_command.specs.declared.step.KeyStep.{KeyStep}
@@ -20,7 +20,8 @@ read_expiry (ReadTouch key exptime) now = Some (expiry_of exptime now)
 read_expiry step now = None
 
 -- what a search finds, by the item that is under the key
-abbrev pub found_of : (cut : Option ℕ) → (now : ℕ) → Option Entry → Found
-found_of cut now None = Nothing
-found_of cut now (Some item) =
-    if is_dead item.expiry item.updated cut now then Dead else Standing item
+abbrev pub found_of : (cut : Option ℕ) → (now : ℕ) → (key : List ℕ) → Option Entry → Found
+found_of cut now key None = Nothing
+found_of cut now key (Some item) =
+    if is_dead item.expiry item.updated cut now then Dead
+    else Standing (record { key = key; item = item })

@@ -9,4 +9,5 @@ pub mod Ranges
 pub mod Unions
 pub mod Stores
 pub mod Numbers
+pub mod Lent
 pub mod Hits

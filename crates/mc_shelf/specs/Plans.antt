@@ -1,5 +1,5 @@
 -- What a step asks of a shelf.
-use Rattle.std.specs.Prelude.{◌≡◌, ◌≢◌, ◌⊎◌, ℕ, ◌-◌, ◌^◌, ◌<◌, ◌≤◌, ◌==◌, ◌&&◌, ◌||◌, Bool, true, false, List, [], ◌++◌, decimal, length, Option, Some, None, is_some, is_none, IfSome, nat_lt, if◌then◌else◌}
+use Rattle.std.specs.Prelude.{◌≡◌, ◌≢◌, ◌⊎◌, ℕ, ◌+◌, ◌-◌, ◌^◌, ◌<◌, ◌≤◌, ◌&&◌, ◌||◌, not, Bool, true, false, List, [], ◌++◌, decimal, length, Option, Some, None, is_some, is_none, IfSome, nat_lt, if◌then◌else◌}
 use Rattle.std.specs.FinMap.{get, insert}
 use Rattle.std.specs.Borrow.{Bor}
 use Rattle.mc_time.specs.declared.expiry.Expiry.{Expiry}
@@ -12,12 +12,14 @@ use Rattle.mc_command.specs.declared.row.Draft.{Draft}
 use Rattle.mc_command.specs.declared.row.Body.{Body}
 use Rattle.mc_command.specs.declared.row.Body.TheVariants.{Given, Appended, Prepended, Counted}
 use Rattle.mc_command.specs.Rows.{standing_in}
-use Rattle.mc_slab.specs.Classes.{IsClass, class_holding}
-use Rattle.mc_slab.specs.Chunks.{chunk_class}
-use Rattle.mc_slab.specs.Slabs.{IsSlab, SlabState, out_of, chunks_of, pages_left, has_room, given}
+use Rattle.mc_slab.specs.Classes.{IsClass}
+use Rattle.mc_slab.specs.Needs.{NeedState, IsNeed, need_for, same_need, size_in}
+use Rattle.mc_slab.specs.Chunks.{ChunksState, need_in}
+use Rattle.mc_slab.specs.Slabs as slabs
+use Rattle.mc_slab.specs.Slabs.{IsSlab, WantsPages, out_of, has_room_with, made_ready, taken}
 use Rattle.mc_command.specs.Commands.{key_of}
-use Rattle.mc_command.specs.Plain.{Plain, Entry, Outcome, Answered, Spent, MayFail, plain, charge, item_class, alive, hit_of, refusal_reply, block_of, written_block, write_reply, row_of}
-use Rattle.mc_command.specs.Laws.{IsOnKey}
+use Rattle.mc_command.specs.Plain.{Plain, Entry, Outcome, Answered, Spent, MayFail, plain, charge, item_need, alive, hit_of, refusal_reply, block_of, written_block, write_reply, row_of}
+use Rattle.mc_command.specs.Laws.{IsOnKey, of_class}
 use Rattle.mc_shelf.specs.States.{EntryState, ShelfContent, ShelfState, DeskState, IsAt, IsHash}
 use Rattle.mc_grow.specs.declared.index.Place.{Place}
 use Rattle.mc_shelf.specs.declared.plan.Next.{Next}
@@ -126,18 +128,51 @@ pub record CanLook (step : KeyStep) (own : ℕ) (shelf : ShelfContent) : Type 0 
   pub key : length (key_of step) ≤ 250
   pub hash : IsHash shelf (key_of step) own
 
--- a write can be taken: a number is left, and a chunk of its class can be had
-pub record CanWrite (next : Next) (desk : DeskState) : Type 0 where
+-- the item that is found has the chunks that a need asks for
+abbrev pub has_need : (key : List ℕ) → Option Entry → NeedState → Bool
+has_need key None need = false
+has_need key (Some item) need = same_need (item_need key item) need
+
+-- how many chunks of a class come back where the item that is found is dropped for being dead
+abbrev pub dead_chunks : (cut : Option ℕ) → (now : ℕ) → (key : List ℕ) → Option Entry → (class : ℕ) → ℕ
+dead_chunks cut now key found class = if is_gone cut now found then of_class key found class else 0
+
+-- the item that is found gives way to a write: it is dead, and has chunks of the write's class, though not as many
+abbrev pub gives_way : (cut : Option ℕ) → (now : ℕ) → (key : List ℕ) → Option Entry → NeedState → Bool
+gives_way cut now key found need =
+    not (has_need key found need) && nat_lt 0 (dead_chunks cut now key found need.class)
+
+-- how many chunks of a need's class come back where a key's item is dropped for being dead
+abbrev pub back_at : ShelfContent → (key : List ℕ) → (now : ℕ) → NeedState → ℕ
+back_at shelf key now need = dead_chunks shelf.cut now key (get shelf.items key) need.class
+
+-- a key's item gives way to what comes next
+abbrev pub gives_way_to : Next → ShelfContent → (key : List ℕ) → (now : ℕ) → Bool
+gives_way_to (Answer reply) shelf key now = false
+gives_way_to (Expire expiry reply) shelf key now = false
+gives_way_to (Discard reply) shelf key now = false
+gives_way_to (Write size draft) shelf key now =
+    gives_way shelf.cut now key (get shelf.items key) (need_for size)
+
+-- what comes next puts in an entry, if it writes: the key has no item, or one that gives way
+abbrev pub PutsEntry : Next → ShelfContent → (key : List ℕ) → (now : ℕ) → Type 0
+PutsEntry next shelf key now =
+    (get shelf.items key ≡ None) ⊎ (gives_way_to next shelf key now ≡ true)
+
+-- a write can be taken: a number is left, and the chunks that it needs can be had, once those of a dead item came back
+pub record CanWrite (next : Next) (shelf : ShelfContent) (key : List ℕ) (now : ℕ) (desk : DeskState)
+    : Type 0 where
   pub size : ℕ
   pub draft : Draft
   pub writes_it : next ≡ Write size draft
   pub number : desk.next_unique ≢ 2 ^ 64 - 1
-  pub chunk : has_room desk.slab (class_holding size) ≡ true
+  pub chunks : has_room_with desk.slab (need_for size) (back_at shelf key now (need_for size)) ≡ true
 
--- a write of a new key has room for its entry
+-- a write that puts in an entry has room for it
 abbrev pub HasRoom : Plan → ShelfState → KeyStep → Type 0
 HasRoom plan shelf step =
-    writes plan.next ≡ true → get shelf.content.items (key_of step) ≡ None → 1 ≤ shelf.room
+    writes plan.next ≡ true → PutsEntry plan.next shelf.content (key_of step) plan.moment
+    → 1 ≤ shelf.room
 
 -- a step with that answer is what the plain machine does at the key: of each plain state that stands for the shelf and the
 -- desk before, it makes one that stands for them after
@@ -187,16 +222,11 @@ abbrev pub MayWantMemory : KeyStep → ℕ → ShelfContent → DeskState → Ty
 MayWantMemory step now shelf desk =
     (s : Plain) → IsAt (key_of step) shelf desk s → MayFail (plain s step now)
 
--- a look takes memory: it copies the block of a hit, or makes room for the entry of a new key
+-- a look takes memory: it copies the block of a hit, or makes room for an entry that a write puts in
 abbrev pub LookTakesMemory : KeyStep → ℕ → ShelfContent → Type 0
 LookTakesMemory step now shelf =
     ((expiry : Option Expiry) × (row_at shelf step now ≡ Reads expiry))
-    ⊎ ((get shelf.items (key_of step) ≡ None) × (writes (next_of shelf step now) ≡ true))
-
--- the item that is found has a chunk of the class
-abbrev pub has_class : (key : List ℕ) → Option Entry → (class : ℕ) → Bool
-has_class key None class = false
-has_class key (Some item) class = item_class key item == class
+    ⊎ (PutsEntry (next_of shelf step now) shelf (key_of step) now × (writes (next_of shelf step now) ≡ true))
 
 -- the block is a number's digits
 abbrev pub counts : Body → Bool
@@ -205,9 +235,9 @@ counts Appended = false
 counts Prepended = false
 counts (Counted number) = true
 
--- a write goes into the chunk of the item that is found: it has the class, and it is counted or dead
-abbrev pub reuses : (cut : Option ℕ) → (now : ℕ) → (key : List ℕ) → Option Entry → (class : ℕ) → Body → Bool
-reuses cut now key found class body = has_class key found class && (counts body || is_gone cut now found)
+-- a write goes into the chunks of the item that is found: they are those that it needs, and the item is counted or dead
+abbrev pub reuses : (cut : Option ℕ) → (now : ℕ) → (key : List ℕ) → Option Entry → NeedState → Body → Bool
+reuses cut now key found need body = has_need key found need && (counts body || is_gone cut now found)
 
 -- a write that comes next in a step, of a key that is known
 pub record IsWriteOf (write : Writing) (shelf : ShelfContent) (step : KeyStep) : Type 0 where
@@ -235,10 +265,10 @@ block_beside shelf step draft =
 abbrev pub own_item : Writing → Unwritten → KeyStep → Entry
 own_item write rest step = drafted write.draft (block_of step) rest.unique write.moment
 
--- a shelf after this item came under a key: with a hash where a chunk waits for the item, and else into the chunk of the key's item
-abbrev pub with_item : Option (List ℕ) → (key : List ℕ) → (own : ℕ) → Entry → ShelfContent → ShelfContent
+-- a shelf after this item came under a key: with a hash where chunks wait for the item, and else into those of the key's item
+abbrev pub with_item : Option ChunksState → (key : List ℕ) → (own : ℕ) → Entry → ShelfContent → ShelfContent
 with_item None key own item shelf = record shelf { items = insert shelf.items key item }
-with_item (Some chunk) key own item shelf = record shelf {
+with_item (Some chunks) key own item shelf = record shelf {
   items = insert shelf.items key item;
   hashes = insert shelf.hashes key own;
 }
@@ -247,7 +277,7 @@ with_item (Some chunk) key own item shelf = record shelf {
 abbrev pub written : Writing → Option Unwritten → KeyStep → ShelfContent → ShelfContent
 written write None step shelf = shelf
 written write (Some rest) step shelf =
-    with_item rest.chunk (key_of step) write.hash (own_item write rest step) shelf
+    with_item rest.chunks (key_of step) write.hash (own_item write rest step) shelf
 
 -- the write of a plan
 abbrev pub write_of : Plan → (charge : ℕ) → Draft → Writing
@@ -290,35 +320,41 @@ told_next (Expire expiry reply) begun = reply
 told_next (Discard reply) begun = reply
 told_next (Write charge draft) begun = write_told draft.body begun
 
--- a chunk is of the class that a key and a block ask for
-pub record Suits (chunk : List ℕ) (key block : List ℕ) : Type 0 where
-  pub class : chunk_class chunk ≡ class_holding (charge key block)
-  pub fits : charge key block ≤ length chunk
+-- chunks are those that a key and a block need
+pub record Suits (chunks : ChunksState) (key block : List ℕ) : Type 0 where
+  pub need : need_in chunks ≡ need_for (charge key block)
+  pub fits : charge key block ≤ length chunks.bytes
 
--- a chunk that waits is ready for a key's item with this block: no item is under the key, there is
--- room for the key's entry, and the chunk suits
-pub record IsChunkFor (chunk : List ℕ) (key block : List ℕ) (shelf : ShelfState) : Type 0 where
+-- chunks that wait are ready for a key's item with this block: no item is under the key, there is
+-- room for the key's entry, and the chunks suit
+pub record AreChunksFor (chunks : ChunksState) (key block : List ℕ) (shelf : ShelfState) : Type 0 where
   pub absent : get shelf.content.items key ≡ None
   pub room : 1 ≤ shelf.room
-  pub suits : Suits chunk key block
+  pub suits : Suits chunks key block
 
--- the key has an item, whose chunk is of the class that the key and this block ask for
-pub record LiesInClass (key block : List ℕ) (shelf : ShelfState) : Type 0 where
+-- the key has an item, whose chunks are those that the key and this block need
+pub record LiesInNeed (key block : List ℕ) (shelf : ShelfState) : Type 0 where
   pub item : Entry
   pub there : get shelf.content.items key ≡ Some item
-  pub class : item_class key item ≡ class_holding (charge key block)
+  pub need : item_need key item ≡ need_for (charge key block)
 
--- a chunk is ready for a key's item with this block: one that waits, or else the key's item's own
-abbrev pub IsReady : Option (List ℕ) → (key block : List ℕ) → ShelfState → Type 0
-IsReady None key block shelf = LiesInClass key block shelf
-IsReady (Some chunk) key block shelf = IsChunkFor chunk key block shelf
+-- chunks are ready for a key's item with this block: those that wait, or else the key's item's own
+abbrev pub IsReady : Option ChunksState → (key block : List ℕ) → ShelfState → Type 0
+IsReady None key block shelf = LiesInNeed key block shelf
+IsReady (Some chunks) key block shelf = AreChunksFor chunks key block shelf
 
--- what is left of a write can be done: the key is known, and a chunk is ready for its block
+-- what is known of a key that may have lost its item since it was looked up: its hash, where the shelf has the key, and by a
+-- place where it may be
+pub record IsSought (shelf : ShelfContent) (key : List ℕ) (own : ℕ) (found : Option Place) : Type 0 where
+  pub hash : IsHash shelf key own
+  pub none : found ≡ None → get shelf.items key ≡ None
+
+-- what is left of a write can be done: the key is known, and chunks are ready for its block
 pub record CanWriteBlock (write : Writing) (rest : Unwritten) (step : KeyStep) (shelf : ShelfState) : Type 0
   where
     pub short : length (key_of step) ≤ 250
-    pub known : IsKnown shelf.content (key_of step) write.hash write.place
-    pub ready : IsReady rest.chunk (key_of step) (block_of step) shelf
+    pub sought : IsSought shelf.content (key_of step) write.hash write.place
+    pub ready : IsReady rest.chunks (key_of step) (block_of step) shelf
 
 -- what is left of a step that comes next so can be done; nothing is asked unless it writes
 abbrev pub CanWriteNext : Plan → Next → Unwritten → KeyStep → ShelfState → Type 0
@@ -333,14 +369,15 @@ abbrev pub CanFinish : Plan → Begun → KeyStep → ShelfState → Type 0
 CanFinish plan begun step shelf =
     IfSome (left_of begun) (λ rest. CanWriteNext plan plan.next rest step shelf)
 
--- a chunk of the key's item is out
+-- the chunks of the key's item are out
 abbrev pub IsOut : List ℕ → ShelfContent → DeskState → Type 0
 IsOut key shelf desk =
     (item : Entry) → get shelf.items key ≡ Some item
-    → IsClass (item_class key item) → 0 < out_of desk.slab (item_class key item)
+    → IsClass (item_need key item).class
+    → (item_need key item).count ≤ out_of desk.slab (item_need key item).class
 
--- the item of a write can be put under its key: the key is known, there is room for a new key's entry, and a chunk of the key's
--- item is out
+-- the item of a write can be put under its key: the key is known, there is room for a new key's entry, and the chunks of the
+-- key's item are out
 pub record CanPut (write : Writing) (step : KeyStep) (shelf : ShelfState) (desk : DeskState) : Type 0
   where
     pub short : length (key_of step) ≤ 250
@@ -348,33 +385,55 @@ pub record CanPut (write : Writing) (step : KeyStep) (shelf : ShelfState) (desk 
     pub room : get shelf.content.items (key_of step) ≡ None → 1 ≤ shelf.room
     pub out : IsOut (key_of step) shelf.content desk
 
--- the chunk of an item goes back to a desk's slab
-pub record GivesOne (class : ℕ) (old new : DeskState) : Type 0 where
-  pub given_is : new ≡ record old { slab = given old.slab class }
-  pub is_class : IsClass class
+-- the chunks of an item go back to a desk's slab
+pub record GivesChunks (need : NeedState) (old new : DeskState) : Type 0 where
+  pub given_is : new ≡ record old { slab = slabs.given old.slab need.class need.count }
+  pub is_need : IsNeed need
   pub is_slab : IsSlab old.slab
 
--- the chunk of the item that was found goes back
+-- the chunks of the item that was found go back
 abbrev pub GivesBack : (key : List ℕ) → Option Entry → DeskState → DeskState → Type 0
 GivesBack key None old new = new ≡ old
-GivesBack key (Some item) old new = GivesOne (item_class key item) old new
+GivesBack key (Some item) old new = GivesChunks (item_need key item) old new
+
+-- the item of a write whose block is the step's own can be put in the place of a key's dead item, whose chunks go back, of the
+-- same class: so many of that class come back, those that the write needs can be had then, a number is left, and there is room
+-- for an entry
+pub record CanGiveWay (write : Writing) (need : NeedState) (back : ℕ) (step : KeyStep)
+    (shelf : ShelfState) (desk : DeskState) : Type 0 where
+  pub short : length (key_of step) ≤ 250
+  pub item : Entry
+  pub there : get shelf.content.items (key_of step) ≡ Some item
+  pub class : (item_need (key_of step) item).class ≡ need.class
+  pub count : (item_need (key_of step) item).count ≡ back
+  pub out : back ≤ out_of desk.slab need.class
+  pub given : write.draft.body ≡ Given
+  pub need_is : need ≡ need_for (charge (key_of step) (block_of step))
+  pub fits : charge (key_of step) (block_of step) ≤ size_in need
+  pub room : 1 ≤ shelf.room
+  pub number : desk.next_unique < 2 ^ 64 - 1
+  pub chunks : has_room_with desk.slab need back ≡ true
+
+-- a desk after so many chunks of a need's class came back, the need's were taken, and a number was drawn
+abbrev pub way_given : NeedState → (back : ℕ) → DeskState → DeskState
+way_given need back desk = record {
+  slab = taken (slabs.given (made_ready desk.slab need back) need.class back) need;
+  next_unique = desk.next_unique + 1;
+}
 
 -- the numbers that writes draw are spent
 abbrev pub has_no_number : DeskState → Type 0
 has_no_number desk = desk.next_unique ≡ 2 ^ 64 - 1
 
--- a chunk of the class asks for a page: all its chunks are out, and a page is left
-pub record WantsPage (slab : SlabState) (class : ℕ) : Type 0 where
-  pub all_out : out_of slab class ≡ chunks_of slab class
-  pub left : 0 < pages_left slab
-
--- a write asks for a page: a number is left, and a chunk of its class asks for one
-pub record NeedsPage (next : Next) (desk : DeskState) : Type 0 where
+-- a write asks for pages: a number is left, and its class wants pages for the chunks that it needs, once those of a dead item
+-- came back
+pub record NeedsPages (next : Next) (shelf : ShelfContent) (key : List ℕ) (now : ℕ) (desk : DeskState)
+    : Type 0 where
   pub size : ℕ
   pub draft : Draft
   pub writes_it : next ≡ Write size draft
   pub number : has_no_number desk → ⊥
-  pub page : WantsPage desk.slab (class_holding size)
+  pub pages : WantsPages desk.slab (need_for size) (back_at shelf key now (need_for size))
 
 -- a plan that needs no desk
 pub record CanSettle (plan : Plan) (shelf : ShelfContent) : Type 0 where

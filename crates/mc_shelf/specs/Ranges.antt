@@ -1,13 +1,13 @@
 -- The numbers that a store may be set up by.
-use Rattle.std.specs.Prelude.{◌≡◌, ◌≤◌, ℕ, Bool, ◌==◌, ◌||◌, IsTrue}
+use Rattle.std.specs.Prelude.{◌≤◌, ℕ, Bool, ◌==◌, ◌||◌, IsTrue}
 
 -- a number of pages: 1 to 65536
 abbrev pub IsPageCount : ℕ → Type 0
 IsPageCount n = 1 ≤ n × n ≤ 65536
 
--- a greatest charge of an item, in bytes: that of a page
+-- a greatest charge of an item, in bytes: that of one page to that of eight
 abbrev pub IsGreatestCharge : ℕ → Type 0
-IsGreatestCharge n = n ≡ 1048576
+IsGreatestCharge n = 1048576 ≤ n × n ≤ 8388608
 
 -- whether a number is a power of two, 1 to 256
 abbrev pub is_shelf_count : ℕ → Bool

@@ -6,9 +6,11 @@ use Rattle.std.specs.Cmp.Lexicographic.{slice_cmp}
 use Rattle.std.specs.FinMap.{FinMap, get, empty, code}
 use Rattle.mc_slab.specs.Slabs.{SlabState, coded_slab, out_of}
 use Rattle.mc_slab.specs.Classes.{IsClass}
-use Rattle.mc_command.specs.Plain.{Items, Entry, coded_entry, Plain, charge, count_of}
+use Rattle.mc_command.specs.Plain.{Items, Entry, coded_entry, Plain, charge, count_of, item_need}
+use Rattle.mc_item.specs.Items as items
 use Rattle.mc_item.specs.Items.{ItemState}
 use Rattle.mc_item.specs.declared.item.Parts.{Parts}
+use Rattle.mc_item.specs.declared.item.Head.{Head}
 
 -- an entry: a hash that came with the key, the key, and the item under it
 pub record EntryState : Type 0 where
@@ -26,6 +28,24 @@ coded_entry_state =
 abbrev pub entry_of : ItemState → Entry
 entry_of item = record { flags = item.flags; expiry = item.expiry; block = item.block; unique = item.unique; updated = item.updated }
 
+-- an item as it lies in the chunks that it needs
+abbrev pub stored : (key : List ℕ) → Entry → ItemState
+stored key item = record {
+  hash = 0;
+  key = key;
+  flags = item.flags;
+  expiry = item.expiry;
+  block = item.block;
+  unique = item.unique;
+  updated = item.updated;
+  class = (item_need key item).class;
+  count = (item_need key item).count;
+}
+
+-- its block, cut where its chunks end
+abbrev pub parts_of : (key : List ℕ) → Entry → List (List ℕ)
+parts_of key item = items.parts_of (stored key item)
+
 -- the block of parts, and their charge
 abbrev pub block_in : Parts → List ℕ
 block_in parts = parts.first.now ++ parts.second.now
@@ -33,23 +53,33 @@ block_in parts = parts.first.now ++ parts.second.now
 abbrev pub charge_in : Parts → ℕ
 charge_in parts = charge parts.key.now (block_in parts)
 
--- the entry of parts with this block
-abbrev pub entry_with : (hash : ℕ) → Parts → (block : List ℕ) → EntryState
-entry_with hash parts block = record {
+-- the entry of parts
+abbrev pub entry_in : (hash : ℕ) → Parts → EntryState
+entry_in hash parts = record {
   hash = hash;
   key = parts.key.now;
   item = record {
     flags = parts.flags;
     expiry = parts.expiry;
-    block = block;
+    block = block_in parts;
     unique = parts.unique;
     updated = parts.updated;
   };
 }
 
--- the entry of parts
-abbrev pub entry_in : (hash : ℕ) → Parts → EntryState
-entry_in hash parts = entry_with hash parts (block_in parts)
+-- the entry of a head and this block
+abbrev pub entry_with : Head → (block : List ℕ) → EntryState
+entry_with head block = record {
+  hash = head.hash;
+  key = head.key.now;
+  item = record {
+    flags = head.flags;
+    expiry = head.expiry;
+    block = block;
+    unique = head.unique;
+    updated = head.updated;
+  };
+}
 
 -- an entry as a finite map has it
 abbrev pub row : EntryState → List ℕ × Entry

@@ -14,17 +14,17 @@ use crate::plan::{Next, Plan};
 use crate::shelf::Shelf;
 use crate::write::Write;
 use mc_command::{Draft, KeyStep, Reply};
-use mc_slab::Chunk;
+use mc_slab::Chunks;
 use std::mem;
 
 /// What is left of a write whose block is the step's own: a large block of a new key, or a block of any size that goes into the
-/// chunk of the key's item.
+/// chunks of the key's item.
 #[derive(Drop)]
 pub struct Unwritten {
     /// The number that it drew.
     pub(crate) unique: u64,
-    /// The chunk of a new key's item; with none the item goes into the chunk of the key's item.
-    pub(crate) chunk: Option<Chunk>,
+    /// The chunks of a new key's item; with none the item goes into those of the key's item.
+    pub(crate) chunks: Option<Chunks>,
 }
 
 /// How far the desk has brought a plan's step. A shelf that is given no other step before `finish` then holds what the step makes.
@@ -32,7 +32,7 @@ pub struct Unwritten {
 pub enum Begun {
     /// The shelf holds what the step makes already.
     Done,
-    /// No chunk is left for the item that the step writes. The shelf holds none that is dead under its key.
+    /// There is no room for the item that the step writes. The shelf holds none that is dead under its key.
     Full,
     /// The item that the step writes is still to be written, with the step's block.
     Left(Unwritten),
@@ -86,10 +86,10 @@ impl Shelf {
         ensures { self.new.content
             ≡ written write.now (Some rest.entry) step.now self.old.content }
     {
-        let Unwritten { unique, chunk } = rest;
-        match chunk {
-            Some(chunk) => {
-                let entry = write.entry_of(chunk, unique, step.key(), &[], step.block());
+        let Unwritten { unique, chunks } = rest;
+        match chunks {
+            Some(chunks) => {
+                let entry = write.entry_of(chunks, unique, step.key(), step.block());
                 self.index.insert_reserved(entry);
             }
             None => self.overwrite(write, unique, step.key(), step.block()),

@@ -1,12 +1,24 @@
 //! What the shelves of a store share.
 
-ghost use Rattle.std.specs.Prelude.{◌≡◌, ◌+◌, ◌-◌, ◌^◌, ◌<◌, ◌≤◌, ◌↔◌, true, false, IfOk, IfErr, OnOk, OnErr};
-ghost use Rattle.mc_slab.specs.Chunks.{IsChunkOf, chunk_class};
-ghost use Rattle.mc_slab.specs.Slabs.{IsSlab, untouched, pages_of, chunks_of, out_of, has_room, taken, given};
-ghost use Rattle.mc_shelf.specs.Plans.{WantsPage};
+ghost use Rattle.std.specs.Prelude.{◌≡◌, ◌+◌, ◌-◌, ◌^◌, ◌<◌, ◌≤◌, true, false, None, IfOk, IfErr, IfSome, OnOk, OnErr};
+ghost use Rattle.mc_slab.specs.Needs.{IsNeed};
+ghost use Rattle.mc_slab.specs.Chunks.{AreChunksOf};
+ghost use Rattle.mc_slab.specs.Slabs.{
+  IsSlab,
+  WantsPages,
+  given,
+  has_room_with,
+  made_ready,
+  out_of,
+  pages_of,
+  pages_wanted,
+  taken,
+  untouched,
+  unused,
+};
 
 use mc_command::StepFault;
-use mc_slab::{Account, Chunk, Class, Page, Slab};
+use mc_slab::{Account, Chunks, Class, Need, Pages, Slab};
 use std::alloc::{AllocError, Global};
 use std::marker::Model;
 
@@ -29,6 +41,15 @@ impl Model for Desk {
     ghost view = { λ d. record { slab = d.slab; next_unique = d.next_unique } };
 
     ghost invariant = { λ d. IsSlab d.slab };
+}
+
+/// The pages that a write asks for.
+#[derive(Clone, Copy, Debug, PartialEq, Eq)]
+pub struct Wanted {
+    /// The class that they go to.
+    pub class: Class,
+    /// How many they are, 1 to 8.
+    pub pages: u32,
 }
 
 impl Desk {
@@ -86,64 +107,144 @@ impl Desk {
         number
     }
 
-    /// Answers whether a chunk of the class can be had: one is free, or a page is left.
-    pub(crate) fn has_room(&self, class: Class) -> bool
-        ensures value { result ≡ has_room self.now.slab class }
+    /// Returns whether the chunks of a need can be had, once so many of its class came back: so many are unused, or can be cut
+    /// of the pages that are left.
+    pub(crate) fn has_room(&self, need: Need, back: u64) -> bool
+        requires { back ≤ 8 }
+        ensures value { result ≡ has_room_with self.now.slab need back }
+        ensures slab { IsSlab self.now.slab }
+    {
+        let class = need.class();
+        let count = u64::from(need.count());
+        let at_hand = self.unused(class) + back;
+        if count <= at_hand {
+            return true;
+        }
+        let pages = u64::from(self.slab.pages_left());
+        count <= at_hand + pages * u64::from(class.chunks_a_page())
+    }
+
+    /// Counts the chunks of the class's pages that aren't out.
+    fn unused(&self, class: Class) -> u64
+        ensures value { result ≡ unused self.now.slab class }
+        ensures most { result < 2 ^ 46 }
         ensures slab { IsSlab self.now.slab }
     {
         let Account { pages, out } = self.slab.account(class);
         let chunks = u64::from(pages) * u64::from(class.chunks_a_page());
-        u64::from(out) < chunks || 0 < self.slab.pages_left()
+        chunks - u64::from(out)
     }
 
-    /// Answers whether a chunk of the class is free.
-    pub(crate) fn has_free(&self, class: Class) -> bool
-        ensures { result ≡ true → out_of self.now.slab class < chunks_of self.now.slab class }
+    /// Returns whether the chunks of a need are there, so that it wants no page.
+    pub(crate) fn has_unused(&self, need: Need) -> bool
+        ensures { result ≡ true → need.count ≤ unused self.now.slab need.class }
     {
-        let Account { pages, out } = self.slab.account(class);
-        u64::from(out) < u64::from(pages) * u64::from(class.chunks_a_page())
+        u64::from(need.count()) <= self.unused(need.class())
     }
 
-    /// Answers whether a chunk of the class asks for a page: all its chunks are out, and a page is left.
-    pub(crate) fn wants_page(&self, class: Class) -> bool
-        ensures { (result ≡ true) ↔ WantsPage self.now.slab class }
+    /// Counts the pages that a need's class wants for it, once so many of its chunks came back: 0 to 8.
+    fn pages_wanted(&self, need: Need, back: u64) -> u32
+        requires { back ≤ 8 }
+        ensures value { result ≡ pages_wanted self.now.slab need back }
+        ensures most { result ≤ 8 }
     {
-        let Account { pages, out } = self.slab.account(class);
-        let chunks = u64::from(pages) * u64::from(class.chunks_a_page());
-        u64::from(out) == chunks && 0 < self.slab.pages_left()
+        let at_hand = self.unused(need.class()) + back;
+        u64::from(need.count()).saturating_sub(at_hand) as u32
     }
 
-    /// Takes a chunk of the class, of any content, where one can be had. A page that goes to the class, where all its chunks
-    /// are out, is all that takes memory; it is the one that is brought, where one of the class is. Refused, the desk is as it
-    /// was.
+    /// Tells which pages a need asks for, once so many chunks of its class came back; none where it asks for none, or can't
+    /// be had.
+    pub(crate) fn wanted(&self, need: Need, back: u64) -> Option<Wanted>
+        requires { back ≤ 8 }
+        ensures wanted { IfSome result (λ wanted. WantsPages self.now.slab need back
+            × (wanted ≡ record {
+              class = need.class;
+              pages = pages_wanted self.now.slab need back;
+            })) }
+        ensures range { IfSome result (λ wanted. (1 ≤ wanted.pages) × (wanted.pages ≤ 8)) }
+        ensures none { result ≡ None → WantsPages self.now.slab need back → ⊥ }
+    {
+        let pages = self.pages_wanted(need, back);
+        if pages == 0 || !self.has_room(need, back) {
+            return None;
+        }
+        Some(Wanted {
+            class: need.class(),
+            pages,
+        })
+    }
+
+    /// Takes the chunks of a need, of any content, where they can be had. Pages that its class wants for them are all that takes
+    /// memory; they are those that are brought, where so many of its class are. Refused, the desk is as it was.
     pub(crate) fn take(
         &mut self,
         alloc: Global,
-        class: Class,
-        page: Option<Page>,
-    ) -> Result<Chunk, StepFault>
-        requires { has_room self.old.slab class ≡ true }
-        ensures chunk { IfOk result (IsChunkOf class) }
+        need: Need,
+        pages: Option<Pages>,
+    ) -> Result<Chunks, StepFault>
+        requires { has_room_with self.old.slab need 0 ≡ true }
+        ensures chunks { IfOk result (AreChunksOf need) }
         ensures taken { OnOk result
-            (self.new ≡ record self.old { slab = taken self.old.slab class }) }
+            (self.new ≡ record self.old { slab = taken self.old.slab need }) }
         ensures fault { IfErr result (λ fault. fault ≡ StepFault.NoMemory) }
-        ensures page { OnErr result (WantsPage self.old.slab class) }
+        ensures pages { OnErr result (WantsPages self.old.slab need 0) }
         ensures err { OnErr result (self.new ≡ self.old) }
         ensures slab { IsSlab self.old.slab }
     {
-        match self.slab.take_with(alloc, class, page) {
-            Ok(chunk) => Ok(chunk),
+        match self.slab.take_all_with(alloc, need, pages) {
+            Ok(chunks) => Ok(chunks),
             Err(_) => Err(StepFault::NoMemory),
         }
     }
 
-    /// Takes a chunk back, of whose class one is out. It takes no memory.
-    pub(crate) fn give(&mut self, chunk: Chunk)
-        requires { 0 < out_of self.old.slab (chunk_class chunk) }
-        ensures given { self.new
-            ≡ record self.old { slab = given self.old.slab (chunk_class chunk.entry) } }
+    /// Gives a need's class the pages that it wants for it once so many of its chunks, which are out, come back, where the need
+    /// can be had then. They are those that are brought, where so many of its class are. Refused, the desk is as it was.
+    pub(crate) fn ready(
+        &mut self,
+        alloc: Global,
+        need: Need,
+        back: u64,
+        pages: Option<Pages>,
+    ) -> Result<(), StepFault>
+        requires back { back ≤ out_of self.old.slab need.class }
+        requires room { has_room_with self.old.slab need back ≡ true }
+        ensures ready { OnOk result
+            (self.new ≡ record self.old { slab = made_ready self.old.slab need back }) }
+        ensures fault { IfErr result (λ fault. fault ≡ StepFault.NoMemory) }
+        ensures pages { OnErr result (WantsPages self.old.slab need back) }
+        ensures err { OnErr result (self.new ≡ self.old) }
+        ensures is_need { IsNeed need }
         ensures slab { IsSlab self.old.slab }
     {
-        self.slab.give(chunk);
+        let _account = self.slab.account(need.class());
+        match self.slab.ready_with(alloc, need, back, pages) {
+            Ok(()) => Ok(()),
+            Err(_) => Err(StepFault::NoMemory),
+        }
+    }
+
+    /// Takes the chunks of a need, of any content, where so many of its class are unused. It takes no memory.
+    pub(crate) fn take_unused(&mut self, alloc: Global, need: Need) -> Chunks
+        requires { need.count ≤ unused self.old.slab need.class }
+        ensures chunks { AreChunksOf need result }
+        ensures taken { self.new ≡ record self.old { slab = taken self.old.slab need } }
+        ensures slab { IsSlab self.old.slab }
+    {
+        match self.slab.take_all(alloc, need) {
+            Ok(chunks) => chunks,
+            // No page is wanted, so nothing is refused.
+            Err(_) => unreachable!(),
+        }
+    }
+
+    /// Takes chunks back, of whose class so many are out. It takes no memory.
+    pub(crate) fn give(&mut self, chunks: Chunks)
+        requires { chunks.count ≤ out_of self.old.slab chunks.class }
+        ensures given { self.new ≡ record self.old {
+          slab = given self.old.slab chunks.entry.class chunks.entry.count;
+        } }
+        ensures slab { IsSlab self.old.slab }
+    {
+        self.slab.give_all(chunks);
     }
 }

@@ -1,19 +1,22 @@
 //! An item as an index has it.
 
-ghost use Rattle.std.specs.Prelude.{◌≡◌, ◌≤◌, length};
-ghost use Rattle.mc_slab.specs.Classes.{IsClass, class_holding};
-ghost use Rattle.mc_slab.specs.Chunks.{IsChunkOf, chunk_class};
-ghost use Rattle.mc_command.specs.Plain.{item_class};
-ghost use Rattle.mc_shelf.specs.States.{block_in, charge_in, entry_in, entry_with};
+ghost use Rattle.std.specs.Prelude.{◌≡◌, ◌+◌, ◌<◌, ◌≤◌, ◌++◌, length, drop, slice_get, Some, OnOk, OnErr};
+ghost use Rattle.std.specs.List.{concat, list_all};
+ghost use Rattle.mc_slab.specs.Needs.{IsNeed, need_for};
+ghost use Rattle.mc_slab.specs.Chunks.{need_in, with_part};
+ghost use Rattle.mc_command.specs.Words.{is_space};
+ghost use Rattle.mc_command.specs.Plain.{charge, item_need, number_of};
+ghost use Rattle.mc_shelf.specs.States.{charge_in, entry_in, entry_with, parts_of};
 
-use mc_command::Standing;
+use mc_command::{Standing, a_front_tells_the_number, number_of};
 use mc_hop::Keyed;
-use mc_item::{Item, Parts};
-use mc_slab::{Chunk, Class};
+use mc_item::{Head, Item, Parts};
+use mc_slab::{Chunks, Need};
 use mc_time::{Expiry, Moment};
+use std::alloc::AllocError;
 use std::marker::Model;
 
-/// An item, whose header has the hash of its key. It lies in a chunk of the class that its charge asks for.
+/// An item, whose header has the hash of its key. It lies in the chunks that its charge needs.
 #[derive(Drop)]
 pub struct Entry {
     item: Item,
@@ -21,8 +24,8 @@ pub struct Entry {
 
 impl Model for Entry {
     ghost use Rattle.std.specs.Prelude.{◌≡◌};
-    ghost use Rattle.mc_slab.specs.Classes.{class_holding};
-    ghost use Rattle.mc_item.specs.Items.{charge_of};
+    ghost use Rattle.mc_slab.specs.Needs.{need_for};
+    ghost use Rattle.mc_item.specs.Items.{charge_of, item_need};
     ghost use Rattle.mc_shelf.specs.States.{EntryState, coded_entry_state, entry_of};
 
     ghost Value = { EntryState };
@@ -31,20 +34,20 @@ impl Model for Entry {
 
     ghost view = { λ e. record { hash = e.item.hash; key = e.item.key; item = entry_of e.item } };
 
-    ghost invariant = { λ e. e.item.class ≡ class_holding (charge_of e.item) };
+    ghost invariant = { λ e. item_need e.item ≡ need_for (charge_of e.item) };
 }
 
 impl Entry {
-    /// Writes the item of those parts into that chunk. It copies the key, of at most 250 bytes, and the block.
-    pub(crate) fn write(chunk: Chunk, parts: Parts<'_>) -> Entry
+    /// Writes the item of those parts into those chunks. It copies the key, of at most 250 bytes, and the block.
+    pub(crate) fn write(chunks: Chunks, parts: Parts<'_>) -> Entry
         requires key { length parts.key.now ≤ 250 }
-        requires class { chunk_class chunk ≡ class_holding (charge_in parts) }
-        requires room { charge_in parts ≤ length chunk }
+        requires need { need_in chunks ≡ need_for (charge_in parts) }
+        requires room { charge_in parts ≤ length chunks.bytes }
         ensures { result ≡ entry_in parts.entry.hash parts.entry }
     {
         Entry {
             item: Item::write(
-                chunk,
+                chunks,
                 Parts {
                     hash: parts.hash,
                     key: parts.key,
@@ -59,41 +62,62 @@ impl Entry {
         }
     }
 
-    /// Writes the item of those parts into that chunk, but for the bytes of its block, which are as many as the parts have, of
-    /// any content. It copies the key, of at most 250 bytes.
-    pub(crate) fn begin(chunk: Chunk, parts: Parts<'_>) -> Entry
-        requires key { length parts.key.now ≤ 250 }
-        requires class { chunk_class chunk ≡ class_holding (charge_in parts) }
-        requires room { charge_in parts ≤ length chunk }
-        ensures value { result
-            ≡ entry_with parts.entry.hash parts.entry result.item.block }
-        ensures length { length result.item.block ≡ length (block_in parts.entry) }
+    /// Writes the item of that head into those chunks, with a block of so many bytes, of any content. It copies the key, of at
+    /// most 250 bytes.
+    pub(crate) fn begin(chunks: Chunks, head: Head<'_>, block_len: usize) -> Entry
+        requires key { length head.key.now ≤ 250 }
+        requires need { need_in chunks ≡ need_for (48 + length head.key.now + block_len) }
+        requires room { 48 + length head.key.now + block_len ≤ length chunks.bytes }
+        ensures value { result ≡ entry_with head.entry result.item.block }
+        ensures length { length result.item.block ≡ block_len }
     {
         Entry {
             item: Item::begin(
-                chunk,
-                Parts {
-                    hash: parts.hash,
-                    key: parts.key,
-                    first: parts.first,
-                    second: parts.second,
-                    flags: parts.flags,
-                    expiry: parts.expiry,
-                    unique: parts.unique,
-                    updated: parts.updated,
+                chunks,
+                Head {
+                    hash: head.hash,
+                    key: head.key,
+                    flags: head.flags,
+                    expiry: head.expiry,
+                    unique: head.unique,
+                    updated: head.updated,
                 },
+                block_len,
             ),
         }
     }
 
-    /// Writes the item of other parts into its chunk, whose class the charge asks for. The key is its own, and its hash stays.
+    /// Copies bytes to a place of its block, counted from 0. All else stays.
+    pub(crate) fn fill(&mut self, at: usize, bytes: &[u8])
+        requires { at + length bytes.now ≤ length self.old.item.block }
+        ensures { self.new ≡ record self.old {
+          item = record self.old.item { block = with_part self.old.item.block at bytes.now };
+        } }
+    {
+        self.item.fill(at, bytes);
+    }
+
+    /// Copies the block of another entry's item to a place of its own, counted from 0. All else stays.
+    pub(crate) fn fill_from(&mut self, at: usize, other: &Entry)
+        requires { at + length other.now.item.block ≤ length self.old.item.block }
+        ensures { self.new ≡ record self.old {
+          item = record self.old.item {
+            block = with_part self.old.item.block at other.now.item.block;
+          };
+        } }
+    {
+        self.item.fill_from(at, &other.item);
+    }
+
+    /// Writes the item of other parts into its chunks, which are those that the charge needs. The key is its own, and its hash
+    /// stays.
     pub(crate) fn rewrite(&mut self, parts: Parts<'_>)
         requires key { parts.key.now ≡ self.old.key }
         requires short { length parts.key.now ≤ 250 }
-        requires class { class_holding (charge_in parts) ≡ item_class self.old.key self.old.item }
+        requires need { need_for (charge_in parts) ≡ item_need self.old.key self.old.item }
         ensures { self.new ≡ record self.old { item = (entry_in 0 parts.entry).item } }
     {
-        self.lies_in_class();
+        self.lies_in_need();
         self.item.rewrite(Parts {
             hash: self.item.hash(),
             key: parts.key,
@@ -113,12 +137,61 @@ impl Entry {
         self.item.updated()
     }
 
-    /// Finds the class of its chunk.
-    pub fn class(&self) -> Class
-        ensures value { result ≡ item_class self.now.key self.now.item }
-        ensures is_class { IsClass result }
+    /// Finds what its chunks serve.
+    pub fn need(&self) -> Need
+        ensures value { result ≡ item_need self.now.key self.now.item }
+        ensures is_need { IsNeed result }
     {
-        self.item.class()
+        self.item.need()
+    }
+
+    /// Counts the bytes of its block, at most 8388560.
+    pub(crate) fn block_len(&self) -> usize
+        ensures value { result ≡ length self.now.item.block }
+        ensures most { result ≤ 8388560 }
+    {
+        self.item.block_len()
+    }
+
+    /// Counts the parts of its block, each of which lies in a chunk of its own: 1 to 8.
+    pub(crate) fn parts(&self) -> usize
+        ensures value { result ≡ (item_need self.now.key self.now.item).count }
+        ensures joined { concat (parts_of self.now.key self.now.item) ≡ self.now.item.block }
+        ensures is_need { IsNeed (item_need self.now.key self.now.item) }
+        ensures key { length self.now.key ≤ 250 }
+    {
+        self.item.parts()
+    }
+
+    /// Lends a part of its block, the first at 0. The one part of an item of one chunk is its whole block.
+    pub(crate) fn part(&self, at: usize) -> &[u8]
+        requires { at < (item_need self.now.key self.now.item).count }
+        ensures value { slice_get (parts_of self.now.key self.now.item) at ≡ Some result.now }
+        ensures lone { (item_need self.now.key self.now.item).count ≡ 1
+            → result.now ≡ self.now.item.block }
+    {
+        self.item.part(at)
+    }
+
+    /// Appends its block. The one error is a refused allocation, after which nothing was appended.
+    pub(crate) fn append_to(&self, out: &mut Vec<u8>) -> Result<(), AllocError>
+        ensures ok { OnOk result (out.new.items ≡ out.old.items ++ self.now.item.block) }
+        ensures err { OnErr result (out.new.items ≡ out.old.items) }
+    {
+        self.item.append_to(out)
+    }
+
+    /// Returns whether what lies of its block behind the first part is nothing but spaces.
+    fn ends_blank(&self) -> bool
+        ensures { result ≡ list_all (λ part. list_all is_space part)
+            (drop 1 (parts_of self.now.key self.now.item)) }
+    {
+        for at in 1..self.parts() {
+            if !is_blank(self.part(at)) {
+                return false;
+            }
+        }
+        true
     }
 
     /// Sets when it expires. All else stays.
@@ -128,20 +201,28 @@ impl Entry {
         self.item.set_expiry(expiry);
     }
 
-    /// Says for a proof that its chunk is of a class. It reads that class, and changes nothing.
-    fn lies_in_class(&self)
-        ensures { IsClass (item_class self.now.key self.now.item) }
+    /// Says for a proof that its chunks serve a need. It reads that need, and changes nothing.
+    fn lies_in_need(&self)
+        ensures { IsNeed (item_need self.now.key self.now.item) }
     {
-        let _class = self.class();
+        let _need = self.need();
     }
 
-    /// Gives its chunk back.
-    pub(crate) fn into_chunk(self) -> Chunk
-        ensures chunk { IsChunkOf (item_class self.entry.key self.entry.item) result }
-        ensures is_class { IsClass (item_class self.entry.key self.entry.item) }
+    /// Gives its chunks back.
+    pub(crate) fn into_chunks(self) -> Chunks
+        ensures need { need_in result ≡ item_need self.entry.key self.entry.item }
+        ensures is_need { IsNeed (item_need self.entry.key self.entry.item) }
     {
-        self.item.into_chunk()
+        self.lies_in_need();
+        self.item.into_chunks()
     }
+}
+
+/// Returns whether a text has nothing but spaces.
+fn is_blank(text: &[u8]) -> bool
+    ensures { result ≡ list_all is_space text.now }
+{
+    text.iter().all(|byte| *byte == b' ')
 }
 
 impl Keyed for Entry {
@@ -178,11 +259,16 @@ impl Standing for Entry {
         self.item.unique()
     }
 
-    /// Lends its block, at most 1048576 bytes.
-    fn block(&self) -> &[u8]
-        ensures value { result.now ≡ self.now.item.block }
-        ensures size { length self.now.item.block ≤ 1048576 }
+    /// Reads the number that its block is, where it is one.
+    fn number(&self) -> Option<u64>
+        ensures value { result ≡ number_of self.now.item.block }
     {
-        self.item.block()
+        a_front_tells_the_number();
+        let parts = self.parts();
+        let front = number_of(self.part(0));
+        if parts == 1 || self.ends_blank() {
+            return front;
+        }
+        None
     }
 }

@@ -1,10 +1,11 @@
 //! A read that finds its item has it lent where it lies, and no block is copied.
 
-ghost use Rattle.std.specs.Prelude.{◌≡◌, ◌≤◌, length, true, false};
+ghost use Rattle.std.specs.Prelude.{◌≡◌, ◌<◌, ◌≤◌, length, slice_get, Some, true, false};
+ghost use Rattle.std.specs.List.{concat};
 ghost use Rattle.std.specs.FinMap.{get};
 ghost use Rattle.mc_command.specs.Commands.{key_of};
-ghost use Rattle.mc_command.specs.Plain.{hit_of};
-ghost use Rattle.mc_shelf.specs.States.{IsHash};
+ghost use Rattle.mc_command.specs.Plain.{hit_of, item_need};
+ghost use Rattle.mc_shelf.specs.States.{IsHash, parts_of};
 ghost use Rattle.mc_shelf.specs.Plans.{IsKnown, IsSettled, is_gone, stood};
 ghost use Rattle.mc_shelf.specs.Hits.{found_of, is_read, read_expiry};
 
@@ -15,7 +16,7 @@ use mc_command::{KeyStep, Standing, counts_follow};
 use mc_time::{Expiry, Moment, expiry_of, is_dead};
 use std::marker::Model;
 
-/// An item that stands under a key, lent where it lies. Contracts see the item.
+/// An item that stands under a key, lent where it lies. Contracts see the key and the item.
 #[derive(Drop)]
 pub struct Hit<'a> {
     entry: &'a Entry,
@@ -23,36 +24,56 @@ pub struct Hit<'a> {
 }
 
 impl<'a> Model for Hit<'a> {
-    ghost use Rattle.mc_command.specs.Plain.{Entry as Item, coded_entry};
+    ghost use Rattle.mc_shelf.specs.Lent.{HitState, coded_hit};
 
-    ghost Value = { Item };
+    ghost Value = { HitState };
 
-    ghost coded = { coded_entry };
+    ghost coded = { coded_hit };
 
-    ghost view = { λ h. h.entry.now.item };
+    ghost view = { λ h. record { key = h.entry.now.key; item = h.entry.now.item } };
 }
 
 impl<'a> Hit<'a> {
     /// Reads the flags that were stored with the item.
     pub fn flags(&self) -> u32
-        ensures { result ≡ self.now.flags }
+        ensures { result ≡ self.now.item.flags }
     {
         self.entry.flags()
     }
 
     /// Reads the item's unique number, which no other write has.
     pub fn unique(&self) -> u64
-        ensures { result ≡ self.now.unique }
+        ensures { result ≡ self.now.item.unique }
     {
         self.entry.unique()
     }
 
-    /// Lends the item's block, at most 1048576 bytes.
-    pub fn block(&self) -> &[u8]
-        ensures value { result.now ≡ self.now.block }
-        ensures size { length result.now ≤ 1048576 }
+    /// Counts the bytes of the item's block, at most 8388560.
+    pub fn block_len(&self) -> usize
+        ensures value { result ≡ length self.now.item.block }
+        ensures most { result ≤ 8388560 }
     {
-        self.entry.block()
+        self.entry.block_len()
+    }
+
+    /// Counts the parts in which the item's block lies, 1 to 8: more than one only where the block, the key and 48 bytes are
+    /// more than 1048576.
+    pub fn parts(&self) -> usize
+        ensures value { result ≡ (item_need self.now.key self.now.item).count }
+        ensures joined { concat (parts_of self.now.key self.now.item) ≡ self.now.item.block }
+        ensures range { (1 ≤ result) × (result ≤ 8) }
+    {
+        self.entry.parts()
+    }
+
+    /// Lends a part of the item's block, the first at 0. The one part of an item that has no other is its whole block.
+    pub fn part(&self, at: usize) -> &[u8]
+        requires { at < (item_need self.now.key self.now.item).count }
+        ensures value { slice_get (parts_of self.now.key self.now.item) at ≡ Some result.now }
+        ensures lone { (item_need self.now.key self.now.item).count ≡ 1
+            → result.now ≡ self.now.item.block }
+    {
+        self.entry.part(at)
     }
 
     /// Tells where the item lies, for `Shelf::settle_read`.
@@ -78,7 +99,7 @@ impl Shelf {
     pub fn find(&self, key: &[u8], hash: u64, now: Moment) -> Found<'_>
         requires { IsHash self.now.content key.now hash }
         ensures { result
-            ≡ found_of self.now.content.cut now (get self.now.content.items key.now) }
+            ≡ found_of self.now.content.cut now key.now (get self.now.content.items key.now) }
     {
         let Some(place) = self.index.find(hash, key) else {
             return Found::Nothing;

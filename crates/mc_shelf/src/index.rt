@@ -3,8 +3,8 @@
 ghost use Rattle.std.specs.Prelude.{◌≡◌, ℕ, ◌+◌, ◌-◌, ◌^◌, ◌<◌, ◌≤◌, List, length, min};
 ghost use Rattle.std.specs.Prelude.{Some, None, IfOk, IfSome, OnOk, option_copied, true, false};
 ghost use Rattle.std.specs.FinMap.{empty, get, len};
-ghost use Rattle.mc_slab.specs.Classes.{class_holding};
-ghost use Rattle.mc_command.specs.Plain.{charge, item_class};
+ghost use Rattle.mc_slab.specs.Needs.{need_for};
+ghost use Rattle.mc_command.specs.Plain.{charge, item_need};
 ghost use Rattle.mc_shelf.specs.Plans.{drafted};
 ghost use Rattle.mc_grow.specs.Indexes.{IsFilled, IsNext, KeepsLower, count, entry_at, left};
 ghost use Rattle.mc_shelf.specs.Deaths.{DieNoSooner, NoneIsDead};
@@ -170,8 +170,8 @@ impl Index {
         self.entries.update(place, |before| (entry, before))
     }
 
-    /// Writes another block, with what a write brings beside it, into the chunk of the item at a place, whose class the charge
-    /// asks for. It takes no memory.
+    /// Writes another block, with what a write brings beside it, into the chunks of the item at a place, which are those that
+    /// the charge needs. It takes no memory.
     pub(crate) fn rewrite<'a>(
         &mut self,
         place: Place,
@@ -182,8 +182,8 @@ impl Index {
     )
         requires key { IsKeyAt self.old key.now place }
         requires short { length key.now ≤ 250 }
-        requires class { (at : IsKeyAt self.old key.now place) →
-            item_class key.now at.entry.item ≡ class_holding (charge key.now block.now) }
+        requires need { (at : IsKeyAt self.old key.now place) →
+            item_need key.now at.entry.item ≡ need_for (charge key.now block.now) }
         ensures { IsChanged self.old self.new key.now
             (drafted write.now.draft block.now unique write.now.moment) }
     {

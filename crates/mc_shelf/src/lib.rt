@@ -17,7 +17,7 @@ mod store;
 mod write;
 
 pub use begun::{Begun, Unwritten};
-pub use desk::Desk;
+pub use desk::{Desk, Wanted};
 pub use entry::Entry;
 pub use hit::{Found, Hit};
 pub use mc_grow::Place;

@@ -14,7 +14,7 @@ ghost use Rattle.mc_shelf.specs.Plans.{
   IsSettled,
   IsSpent,
   MayWantMemory,
-  NeedsPage,
+  NeedsPages,
   has_no_number,
   next_of,
   writes,
@@ -61,14 +61,15 @@ pub fn steps_change_one_shelf()
 
 /// States where a step that writes is refused at the desk. With the unique numbers spent, the plain
 /// machine is out of numbers too, in each state that stands for the shelf and the desk; and where
-/// the write needs a page, its answer is one that memory may be refused for.
+/// the write needs pages, its answer is one that memory may be refused for.
 pub fn refusals_are_plain()
     ensures spent { (step : KeyStep) (now : ℕ) (shelf : ShelfContent) (desk : DeskState) →
         IsOnKey step → writes (next_of shelf step now) ≡ true → has_no_number desk →
         IsSpent step now shelf desk }
-    ensures page { (step : KeyStep) (now : ℕ) (shelf : ShelfContent) (desk : DeskState) →
-        IsOnKey step → IsSlab desk.slab → shelf.greatest ≤ 1048576 →
-        NeedsPage (next_of shelf step now) desk → MayWantMemory step now shelf desk }
+    ensures pages { (step : KeyStep) (now : ℕ) (shelf : ShelfContent) (desk : DeskState) →
+        IsOnKey step → IsSlab desk.slab → shelf.greatest ≤ 8388608 →
+        NeedsPages (next_of shelf step now) shelf (key_of step) now desk →
+        MayWantMemory step now shelf desk }
 {
     counts_follow();
 }
@@ -145,7 +146,7 @@ pub(crate) fn empty_shelves(
     count: u32,
     greatest: u64,
 ) -> Result<Vec<Shelf>, AllocError>
-    requires { greatest ≤ 1048576 }
+    requires { greatest ≤ 8388608 }
     ensures content { IfOk result (λ list.
         map (λ shelf. shelf.content) list.items ≡ replicate count (nothing_held greatest)) }
     ensures left { IfOk result (λ list. lefts list.items ≡ replicate count 0) }

@@ -1,6 +1,6 @@
 //! What a step does, by the protocol's table and the item that stands under its key.
 
-ghost use Rattle.std.specs.Prelude.{◌≡◌, ◌↔◌, ℕ, ◌≤◌, length, true, is_none, Option, IfOk, OnErr};
+ghost use Rattle.std.specs.Prelude.{◌≡◌, ◌↔◌, ℕ, List, ◌≤◌, length, true, is_none, Option, IfOk, OnErr};
 ghost use Rattle.std.specs.FinMap.{get};
 ghost use Rattle.mc_time.specs.declared.expiry.Expiry.{Expiry as Expires};
 ghost use Rattle.mc_command.specs.declared.step.KeyStep.{KeyStep as Step};
@@ -32,7 +32,7 @@ use mc_command::{Block, Body, Bytes, Draft, KeyStep, Reply, Row, Standing};
 use mc_time::{Expiry, Moment, is_dead};
 use std::alloc::{AllocError, Global};
 
-/// How many bytes a chunk holds beside an item's key and its block.
+/// How many bytes an item's chunks hold beside its key and its block.
 const CHUNK_HEAD: u64 = 48;
 
 /// What a step does.
@@ -44,7 +44,7 @@ pub(crate) enum Next {
     Expire(Expiry, Reply),
     /// The key's item is dropped: it is dead, or deleted.
     Discard(Reply),
-    /// An item of that charge is written, if there is a unique number and a chunk.
+    /// An item of that charge is written, if there is a unique number and room for it.
     Write(u64, Draft),
 }
 
@@ -98,7 +98,7 @@ impl<'a> Plan<'a> {
         self.place.is_none()
     }
 
-    /// Returns whether the step writes an item, if there is a unique number and a chunk.
+    /// Returns whether the step writes an item, if there is a unique number and room for it.
     pub(crate) fn writes(&self) -> bool
         ensures { result ≡ writes self.now.next }
     {
@@ -163,9 +163,18 @@ fn hit(alloc: Global, item: Option<&Entry>) -> Result<Reply, AllocError>
         Some(old) => Ok(Reply::Hit {
             flags: old.flags(),
             unique: old.unique(),
-            block: Block::of(Vec::from_slice(alloc, old.block())?),
+            block: copied(alloc, old)?,
         }),
     }
+}
+
+/// Copies the block of an item.
+fn copied(alloc: Global, item: &Entry) -> Result<Block, AllocError>
+    ensures { IfOk result (λ block. block ≡ item.now.item.block) }
+{
+    let mut block = Vec::with_capacity(alloc, item.block_len())?;
+    item.append_to(&mut block)?;
+    Ok(Block::of(block))
 }
 
 /// Lends the item that stands: the one that is found, unless it is dead.
@@ -191,30 +200,31 @@ fn charge_of(step: &KeyStep<'_>, item: Option<&Entry>, draft: Draft) -> u64
     requires { length (key_of step.now) ≤ 250 }
     ensures { result ≡ charge_of step.now (item_in item.entry) draft }
 {
-    charge(step.key(), step.block(), block_in(item), draft.body)
+    charge(step.key(), step.block(), block_len(item), draft.body)
 }
 
-/// Lends the block of an item, and no bytes where there is none.
-pub(crate) fn block_in<'a>(item: Option<&'a Entry>) -> &'a [u8]
-    ensures value { result.now ≡ block_in (item_in item.entry) }
-    ensures size { length result.now ≤ 1048576 }
+/// Counts the bytes of an item's block, and none where there is no item.
+pub(crate) fn block_len(item: Option<&Entry>) -> usize
+    ensures value { result ≡ length (block_in (item_in item.entry)) }
+    ensures most { result ≤ 8388560 }
 {
     match item {
-        Some(old) => old.block(),
-        None => &[],
+        Some(old) => old.block_len(),
+        None => 0,
     }
 }
 
-/// Gives the charge of a block that a body makes of a step's and of an old one.
-fn charge(key: &[u8], block: &[u8], old: &[u8], body: Body) -> u64
+/// Gives the charge of a block that a body makes of a step's and of an old one of so many bytes.
+fn charge(key: &[u8], block: &[u8], old_len: usize, body: Body) -> u64
     requires key { length key.now ≤ 250 }
-    requires old { length old.now ≤ 1048576 }
-    ensures { result ≡ machine.charge key.now (made_block body block.now old.now) }
+    requires old { old_len ≤ 8388560 }
+    ensures { (old : List ℕ) → length old ≡ old_len →
+        result ≡ machine.charge key.now (made_block body block.now old) }
 {
     let head = CHUNK_HEAD + key.len() as u64;
     match body {
         Body::Given => head + block.len() as u64,
-        Body::Appended | Body::Prepended => head + old.len() as u64 + block.len() as u64,
+        Body::Appended | Body::Prepended => head + old_len as u64 + block.len() as u64,
         Body::Counted(number) => {
             let mut buffer = Buffer::new();
             head + buffer.format(number).len() as u64

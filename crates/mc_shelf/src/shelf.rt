@@ -4,8 +4,8 @@ ghost use Rattle.std.specs.Prelude.{◌≡◌, ◌≢◌, ◌↔◌, ℕ, ◌+�
 ghost use Rattle.std.specs.Prelude.{Option, Some, None, Err, IfOk, IfSome, OnErr, OnOk, true, false};
 ghost use Rattle.std.specs.FinMap.{empty, get, len};
 ghost use Rattle.mc_time.specs.declared.expiry.Expiry.{Expiry as Expires};
-ghost use Rattle.mc_slab.specs.Classes.{IsClass, class_holding, size_of};
-ghost use Rattle.mc_slab.specs.Slabs.{IsSlab};
+ghost use Rattle.mc_slab.specs.Needs.{IsNeed, need_for, size_in};
+ghost use Rattle.mc_slab.specs.Slabs.{IsSlab, pages_wanted};
 ghost use Rattle.mc_command.specs.declared.step.KeyStep.{KeyStep as Step};
 ghost use Rattle.mc_command.specs.declared.row.Row.TheVariants.{Reads};
 ghost use Rattle.mc_command.specs.Commands.{key_of};
@@ -29,8 +29,11 @@ ghost use Rattle.mc_shelf.specs.Plans.{
   IsTaken,
   LookTakesMemory,
   MayWantMemory,
-  NeedsPage,
+  NeedsPages,
+  PutsEntry,
+  back_at,
   finished,
+  gives_way_to,
   has_no_number,
   is_gone,
   item_in,
@@ -42,17 +45,20 @@ ghost use Rattle.mc_shelf.specs.Plans.{
 ghost use Rattle.mc_shelf.specs.Sweeps.{AreOut, GivesFor, IsPurged};
 
 use crate::begun::Begun;
-use crate::desk::Desk;
+use crate::desk::{Desk, Wanted};
 use crate::entry::Entry;
 use crate::index::{Index, Place};
 use crate::plan::{Next, Plan, is_gone, next_of};
 use crate::soonest::Soonest;
-use crate::write::Write;
+use crate::write::{Write, dead_chunks, gives_way};
 use mc_command::{Bytes, KeyStep, Reply, StepFault, counts_follow};
-use mc_slab::{Class, Page, class_of};
+use mc_slab::{Need, Pages, need_of};
 use mc_time::{Expiry, Moment};
 use std::alloc::{AllocError, Global};
 use std::marker::Model;
+
+/// The greatest charge whose class isn't the last: an item of it has one chunk, and so has each other of its class.
+const SMALL: u64 = 493_552;
 
 /// The items of some keys, and the flush that is waiting or has come. Their chunks are counted in the slab of a desk.
 ///
@@ -60,7 +66,7 @@ use std::marker::Model;
 /// what moves: for how many more entries there is room, and how many of an old table's entries are left to move.
 #[derive(Drop)]
 pub struct Shelf {
-    /// The greatest charge of an item, in bytes, 0 to 1048576.
+    /// The greatest charge of an item, in bytes, 0 to 8388608.
     pub(crate) greatest: u64,
     /// The items, by their keys.
     pub(crate) index: Index,
@@ -89,14 +95,14 @@ impl Model for Shelf {
       left = left s.index;
     } };
 
-    ghost invariant = { λ s. s.greatest ≤ 1048576 };
+    ghost invariant = { λ s. s.greatest ≤ 8388608 };
 }
 
 impl Shelf {
-    /// Makes a shelf that holds nothing, whose items have at most that charge in bytes, 0 to 1048576. The one error is a
+    /// Makes a shelf that holds nothing, whose items have at most that charge in bytes, 0 to 8388608. The one error is a
     /// refused allocation.
     pub fn new(alloc: Global, greatest: u64) -> Result<Shelf, AllocError>
-        requires { greatest ≤ 1048576 }
+        requires { greatest ≤ 8388608 }
         ensures content { IfOk result (λ shelf. shelf.content ≡ nothing_held greatest) }
         ensures left { IfOk result (λ shelf. shelf.left ≡ 0) }
     {
@@ -163,9 +169,9 @@ impl Shelf {
         self.apply(alloc, plan, step, desk)
     }
 
-    /// Finds out what a step at a moment does. Copies the block of a hit, and makes room for the entry of a new key that is
-    /// to be written; nothing else takes memory. The shelf holds what it held, though a growth of its table may begin,
-    /// and one that lags moves 8 entries.
+    /// Finds out what a step at a moment does. Copies the block of a hit, and makes room for an entry that a write puts in: of a
+    /// new key, or where a dead item gives way to it; nothing else takes memory. The shelf holds what it held, though a growth of
+    /// its table may begin, and one that lags moves 8 entries.
     pub fn look<'a>(
         &mut self,
         alloc: Global,
@@ -179,10 +185,10 @@ impl Shelf {
         ensures room { IfOk result (λ plan. HasRoom plan self.new step.now) }
         ensures content { self.new.content ≡ self.old.content }
         ensures asked { OnErr result (LookTakesMemory step.now now self.old.content) }
-        ensures most { self.old.content.greatest ≤ 1048576 }
+        ensures most { self.old.content.greatest ≤ 8388608 }
     {
         let plan = self.plan(alloc, step, hash, now)?;
-        if plan.writes() && plan.place.is_none() {
+        if plan.writes() && (plan.place.is_none() || self.gives_way(&plan)) {
             self.index.reserve(alloc)?;
         }
         Ok(plan)
@@ -213,8 +219,8 @@ impl Shelf {
         }
     }
 
-    /// Takes the step of a plan, and answers it: begins it, and finishes it. A page that the slab gives to a class is all that
-    /// takes memory. Refused, or with the unique numbers spent, the shelf holds what it held, and the desk is as it was.
+    /// Takes the step of a plan, and answers it: begins it, and finishes it. Pages that the slab gives to a class are all that
+    /// take memory. Refused, or with the unique numbers spent, the shelf holds what it held, and the desk is as it was.
     pub fn apply(
         &mut self,
         alloc: Global,
@@ -223,7 +229,8 @@ impl Shelf {
         desk: &mut Desk,
     ) -> Result<Reply, StepFault>
         requires plan { IsPlan plan self.old.content step.now plan.moment }
-        requires room { CanWrite plan.next desk.old → HasRoom plan self.old step.now }
+        requires room { CanWrite plan.next self.old.content (key_of step.now) plan.moment desk.old →
+            HasRoom plan self.old step.now }
         requires key { length (key_of step.now) ≤ 250 }
         requires stands { CanStand (key_of step.now) self.old.content desk.old }
         ensures took { IfOk result (λ reply. IsTaken step.now plan.entry.moment plan.entry.hash
@@ -231,7 +238,8 @@ impl Shelf {
         ensures spent { result ≡ Err StepFault.NumbersSpent
             ↔ ((writes plan.entry.next ≡ true) × has_no_number desk.old) }
         ensures refused { result ≡ Err StepFault.NoMemory
-            → NeedsPage plan.entry.next desk.old }
+            → NeedsPages plan.entry.next self.old.content (key_of step.now) plan.entry.moment
+            desk.old }
         ensures err { OnErr result
             ((self.new.content ≡ self.old.content) × (desk.new ≡ desk.old)) }
     {
@@ -245,13 +253,19 @@ impl Shelf {
         }
     }
 
-    /// Tells of which class a page is asked for where the step of a plan is taken at the desk, and none where none is. A page
-    /// that is made before the desk is held may be brought to `begin` then.
-    pub fn page_wanted(&self, plan: &Plan<'_>, desk: &Desk) -> Option<Class>
+    /// Tells which pages are asked for where the step of a plan is taken at the desk, and none where none are. Pages that are
+    /// made before the desk is held may be brought to `begin` then.
+    pub fn page_wanted(&self, plan: &Plan<'_>, desk: &Desk) -> Option<Wanted>
         requires { (step : Step) × (now : ℕ) × IsPlan plan.now self.now.content step now }
-        ensures wanted { IfSome result (λ class.
-            (needs : NeedsPage plan.now.next desk.now) × (class ≡ class_holding needs.size)) }
-        ensures none { result ≡ None → NeedsPage plan.now.next desk.now → ⊥ }
+        ensures wanted { IfSome result (λ wanted. (needs : NeedsPages plan.now.next
+            self.now.content plan.now.key plan.now.moment desk.now) × (wanted ≡ record {
+              class = (need_for needs.size).class;
+              pages = pages_wanted desk.now.slab (need_for needs.size)
+                  (back_at self.now.content plan.now.key plan.now.moment (need_for needs.size));
+            })) }
+        ensures range { IfSome result (λ wanted. (1 ≤ wanted.pages) × (wanted.pages ≤ 8)) }
+        ensures none { result ≡ None → NeedsPages plan.now.next self.now.content plan.now.key
+            plan.now.moment desk.now → ⊥ }
     {
         if desk.is_spent() {
             return None;
@@ -259,34 +273,32 @@ impl Shelf {
         let Next::Write(charge, _) = plan.next else {
             return None;
         };
-        let class = self.class_for(charge);
-        if desk.wants_page(class) {
-            Some(class)
-        } else {
-            None
-        }
+        let need = self.need_for(charge);
+        desk.wanted(need, self.back(plan, need))
     }
 
     /// Does what a plan's step needs the desk for; `finish` does the rest over the same plan, before the shelf is asked for
     /// anything else.
     ///
-    /// A write goes into the chunk of the key's old item if that is of its class, and the item is dead, or a number that incr and
-    /// decr count, or another chunk of the class is free and the block is the step's own. Any other write takes a chunk while the
-    /// old item still has its own. A block that the step brings is left to `finish` if it goes into the old item's chunk, or is
-    /// large, so that the cost doesn't grow with it.
+    /// A write goes into the chunks of the key's old item if they are those that it needs, and the item is dead, or a number that
+    /// incr and decr count, or as many chunks are unused and the block is the step's own. A dead item that has other chunks of
+    /// the write's class gives them back first. Any other write takes its chunks while the old item still has its own. A block
+    /// that the step brings is left to `finish` if it goes into the old item's chunks, or is large, so that the cost doesn't grow
+    /// with it.
     ///
-    /// A page that the slab gives to a class is all that takes memory; it is the one that is brought, where one of that class is.
-    /// Refused, or with the unique numbers spent, the shelf holds what it held, and the desk is as it was.
+    /// Pages that the slab gives to a class are all that take memory; they are those that are brought, where so many of that
+    /// class are. Refused, or with the unique numbers spent, the shelf holds what it held, and the desk is as it was.
     pub fn begin(
         &mut self,
         alloc: Global,
         plan: &Plan<'_>,
         step: &KeyStep<'_>,
         desk: &mut Desk,
-        page: Option<Page>,
+        pages: Option<Pages>,
     ) -> Result<Begun, StepFault>
         requires plan { IsPlan plan.now self.old.content step.now plan.now.moment }
-        requires room { CanWrite plan.now.next desk.old → HasRoom plan.now self.old step.now }
+        requires room { CanWrite plan.now.next self.old.content (key_of step.now) plan.now.moment
+            desk.old → HasRoom plan.now self.old step.now }
         requires key { length (key_of step.now) ≤ 250 }
         requires stands { CanStand (key_of step.now) self.old.content desk.old }
         ensures took { IfOk result (λ begun. IsTaken step.now plan.now.moment plan.now.hash
@@ -295,7 +307,8 @@ impl Shelf {
         ensures left { IfOk result (λ begun. CanFinish plan.now begun step.now self.new) }
         ensures spent { result ≡ Err StepFault.NumbersSpent
             ↔ ((writes plan.now.next ≡ true) × has_no_number desk.old) }
-        ensures refused { result ≡ Err StepFault.NoMemory → NeedsPage plan.now.next desk.old }
+        ensures refused { result ≡ Err StepFault.NoMemory → NeedsPages plan.now.next
+            self.old.content (key_of step.now) plan.now.moment desk.old }
         ensures err { OnErr result
             ((self.new.content ≡ self.old.content) × (desk.new ≡ desk.old)) }
     {
@@ -318,7 +331,7 @@ impl Shelf {
                     charge,
                     draft,
                 };
-                self.write(alloc, &write, step, desk, page)
+                self.write(alloc, &write, step, desk, pages)
             }
         }
     }
@@ -339,7 +352,7 @@ impl Shelf {
         while let Some((number, place)) = self.index.filled_from(at) {
             if is_gone(self.index.get(place), self.cut, now) {
                 let entry = self.index.remove(place);
-                desk.give(entry.into_chunk());
+                desk.give(entry.into_chunks());
                 at = number;
             } else {
                 soonest = soonest.with_found(self.index.get(place));
@@ -364,7 +377,7 @@ impl Shelf {
         let mut at = 0;
         while let Some((number, place)) = self.index.filled_from(at) {
             let entry = self.index.remove(place);
-            desk.give(entry.into_chunk());
+            desk.give(entry.into_chunks());
             at = number;
         }
         self.index.keep_soonest(Soonest::empty());
@@ -408,7 +421,7 @@ impl Shelf {
         ensures hash { IfOk result (λ plan. plan.hash ≡ hash) }
         ensures asked { OnErr result ((expiry : Option Expires)
             × (row_at self.now.content step.now now ≡ Reads expiry)) }
-        ensures most { self.now.content.greatest ≤ 1048576 }
+        ensures most { self.now.content.greatest ≤ 8388608 }
     {
         let place = self.index.find(hash, step.key());
         let found = self.index.found(place);
@@ -432,13 +445,49 @@ impl Shelf {
         self.index.found(found)
     }
 
-    /// Makes room for the entry of a new key, where a plan can be taken that writes it.
+    /// Lends the entry of a plan's key, where it has the key.
+    fn planned(&self, plan: &Plan<'_>) -> Option<&Entry>
+        requires { (step : Step) × (now : ℕ) × IsPlan plan.now self.now.content step now }
+        ensures item { item_in result ≡ get self.now.content.items plan.now.key }
+        ensures key { IfSome result (λ entry. entry.now.key ≡ plan.now.key) }
+    {
+        self.entry(plan.place, plan.hash, plan.key.as_slice())
+    }
+
+    /// Returns whether the key's item gives way to what comes next in a plan.
+    fn gives_way(&self, plan: &Plan<'_>) -> bool
+        requires { (step : Step) × (now : ℕ) × IsPlan plan.now self.now.content step now }
+        ensures { result
+            ≡ gives_way_to plan.now.next self.now.content plan.now.key plan.now.moment }
+    {
+        let Next::Write(charge, _) = plan.next else {
+            return false;
+        };
+        if charge <= SMALL {
+            return false;
+        }
+        let need = self.need_for(charge);
+        gives_way(self.planned(plan), need, self.cut, plan.moment)
+    }
+
+    /// Counts the chunks of a need's class that come back where the key's item is dropped for being dead.
+    fn back(&self, plan: &Plan<'_>, need: Need) -> u64
+        requires { (step : Step) × (now : ℕ) × IsPlan plan.now self.now.content step now }
+        ensures value { result ≡ back_at self.now.content plan.now.key plan.now.moment need }
+        ensures most { result ≤ 8 }
+    {
+        dead_chunks(self.planned(plan), need, self.cut, plan.moment)
+    }
+
+    /// Makes room for an entry, where a plan can be taken that puts it in.
     fn make_room(&mut self, alloc: Global, plan: &Plan<'_>, desk: &Desk) -> Result<(), AllocError>
         requires { (step : Step) × (now : ℕ) × IsPlan plan.now self.old.content step now }
         ensures content { self.new.content ≡ self.old.content }
-        ensures room { OnOk result (CanWrite plan.now.next desk.now →
-            get self.old.content.items plan.now.key ≡ None → 1 ≤ self.new.room) }
-        ensures refused { OnErr result (CanWrite plan.now.next desk.now) }
+        ensures room { OnOk result (CanWrite plan.now.next self.old.content plan.now.key
+            plan.now.moment desk.now → PutsEntry plan.now.next self.old.content plan.now.key
+            plan.now.moment → 1 ≤ self.new.room) }
+        ensures refused { OnErr result (CanWrite plan.now.next self.old.content plan.now.key
+            plan.now.moment desk.now) }
         ensures slab { IsSlab desk.now.slab }
     {
         if self.wants_room(plan, desk) {
@@ -447,13 +496,14 @@ impl Shelf {
         Ok(())
     }
 
-    /// Answers whether a plan can be taken, and then puts in the entry of a new key.
+    /// Returns whether a plan can be taken, and then puts in an entry.
     fn wants_room(&self, plan: &Plan<'_>, desk: &Desk) -> bool
         requires { (step : Step) × (now : ℕ) × IsPlan plan.now self.now.content step now }
-        ensures wants { result ≡ true → (CanWrite plan.now.next desk.now
-            × (get self.now.content.items plan.now.key ≡ None)) }
-        ensures enough { result ≡ false → CanWrite plan.now.next desk.now →
-            get self.now.content.items plan.now.key ≢ None }
+        ensures wants { result ≡ true → CanWrite plan.now.next self.now.content plan.now.key
+            plan.now.moment desk.now }
+        ensures enough { result ≡ false → CanWrite plan.now.next self.now.content plan.now.key
+            plan.now.moment desk.now → PutsEntry plan.now.next self.now.content plan.now.key
+            plan.now.moment → ⊥ }
         ensures slab { IsSlab desk.now.slab }
     {
         if desk.is_spent() {
@@ -462,21 +512,22 @@ impl Shelf {
         let Next::Write(charge, _) = plan.next else {
             return false;
         };
-        if plan.place.is_some() {
+        if plan.place.is_some() && !self.gives_way(plan) {
             return false;
         }
-        desk.has_room(self.class_for(charge))
+        let need = self.need_for(charge);
+        desk.has_room(need, self.back(plan, need))
     }
 
-    /// Gives the class that holds a charge of at most the greatest.
-    pub(crate) fn class_for(&self, charge: u64) -> Class
+    /// Gives what a charge of at most the greatest needs.
+    pub(crate) fn need_for(&self, charge: u64) -> Need
         requires { charge ≤ self.now.content.greatest }
-        ensures value { result ≡ class_holding charge }
-        ensures is_class { IsClass result }
-        ensures holds { charge ≤ size_of result }
+        ensures value { result ≡ need_for charge }
+        ensures is_need { IsNeed result }
+        ensures holds { charge ≤ size_in result }
     {
-        // A page takes every charge of at most the greatest, so one of the classes holds it.
-        class_of(charge.min(self.greatest)).unwrap()
+        // Eight pages hold every charge of at most the greatest, so there is a need.
+        need_of(charge.min(self.greatest)).unwrap()
     }
 
     /// Sets the expiry of a key's item.
@@ -491,17 +542,18 @@ impl Shelf {
         }
     }
 
-    /// Drops a key's item, and gives its chunk back.
+    /// Drops a key's item, and gives its chunks back.
     pub(crate) fn discard(&mut self, place: Option<Place>, hash: u64, key: &[u8], desk: &mut Desk)
         requires known { IsKnown self.old.content key.now hash place }
         requires out { IsOut key.now self.old.content desk.old }
         ensures dropped { (item : Item) → get self.old.content.items key.now ≡ Some item →
             IsDropped key.now hash self.old.content self.new.content }
         ensures given { GivesBack key.now (get self.old.content.items key.now) desk.old desk.new }
+        ensures room { self.old.room ≤ self.new.room }
     {
         if let Some(place) = self.index.find_again(place, hash, key) {
             let entry = self.index.remove(place);
-            desk.give(entry.into_chunk());
+            desk.give(entry.into_chunks());
         }
     }
 }

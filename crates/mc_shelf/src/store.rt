@@ -8,6 +8,8 @@ mod number_tests;
 #[cfg(test)]
 mod overwrite_tests;
 #[cfg(test)]
+mod paged_tests;
+#[cfg(test)]
 mod tests;
 
 ghost use Rattle.std.specs.Prelude.{◌≡◌, ◌↔◌, ◌-◌, ◌≤◌, min, length, replicate, slice_index, slice_set, IfOk, OnErr, Err, refl};

@@ -1,16 +1,17 @@
-//! Writing the item of a step: in the chunk of the key's item, or in one more.
+//! Writing the item of a step: in the chunks of the key's item, or in others.
 
-ghost use Rattle.std.specs.Prelude.{◌≡◌, ◌↔◌, ◌++◌, ℕ, ◌≤◌, ◌<◌, ◌-◌, ◌^◌, List, length};
-ghost use Rattle.std.specs.Prelude.{Option, Some, None, Err, IfOk, IfSome, OnErr, true, false};
+ghost use Rattle.std.specs.Prelude.{◌≡◌, ◌↔◌, ◌++◌, ℕ, ◌+◌, ◌≤◌, ◌<◌, ◌-◌, ◌^◌, List, length};
+ghost use Rattle.std.specs.Prelude.{Option, Some, None, Err, IfOk, IfErr, IfSome, OnOk, OnErr, true, false};
 ghost use Rattle.std.specs.FinMap.{get};
-ghost use Rattle.mc_slab.specs.Classes.{IsClass, class_holding};
-ghost use Rattle.mc_slab.specs.Slabs.{chunks_of, out_of};
-ghost use Rattle.mc_slab.specs.Chunks.{chunk_class};
+ghost use Rattle.mc_slab.specs.Needs.{need_for, same_need};
+ghost use Rattle.mc_slab.specs.Slabs.{WantsPages, unused};
+ghost use Rattle.mc_slab.specs.Chunks.{need_in};
 ghost use Rattle.mc_command.specs.Commands.{key_of};
 ghost use Rattle.mc_command.specs.Plain.{block_of, charge, write_reply};
 ghost use Rattle.mc_shelf.specs.States.{CanStand};
 ghost use Rattle.mc_shelf.specs.Plans as plans;
 ghost use Rattle.mc_shelf.specs.Plans.{
+  CanGiveWay,
   CanPut,
   CanWrite,
   CanWriteBlock,
@@ -21,10 +22,14 @@ ghost use Rattle.mc_shelf.specs.Plans.{
   IsPut,
   IsTaken,
   IsWriteOf,
-  LiesInClass,
-  NeedsPage,
+  IsSought,
+  LiesInNeed,
+  NeedsPages,
+  PutsEntry,
   Suits,
+  back_at,
   block_beside,
+  block_in,
   drafted,
   has_no_number,
   is_gone,
@@ -35,6 +40,7 @@ ghost use Rattle.mc_shelf.specs.Plans.{
   reuses,
   with_item,
   write_told,
+  way_given,
   written,
 };
 
@@ -42,16 +48,16 @@ use crate::begun::{Begun, Unwritten};
 use crate::desk::Desk;
 use crate::entry::Entry;
 use crate::index::Place;
-use crate::plan::{Next, block_in, is_gone};
+use crate::plan::{Next, is_gone};
 use crate::shelf::Shelf;
 use itoa::Buffer;
 use mc_command::{Body, Draft, KeyStep, StepFault, counts_follow};
-use mc_item::Parts;
-use mc_slab::{Chunk, Class, Page};
+use mc_item::{Head, Parts};
+use mc_slab::{Chunks, Need, Pages};
 use mc_time::Moment;
 use std::alloc::Global;
 
-/// From how many bytes on the block of an item that takes another chunk is copied when the desk has been given back.
+/// From how many bytes on the block of an item that takes other chunks is copied when the desk has been given back.
 const LARGE: usize = 4096;
 
 /// A write that comes next.
@@ -80,15 +86,15 @@ impl Write {
         }
     }
 
-    /// Returns whether the item may go into the chunk of the key's item all the same: that is one of the class, of which
-    /// another is free, and the block is the step's own.
-    fn goes_over(&self, same: bool, class: Class, desk: &Desk) -> bool
-        ensures class { result ≡ true → same ≡ true }
+    /// Returns whether the item may go into the chunks of the key's item all the same: they are those that it needs, as many
+    /// others are unused, and the block is the step's own.
+    fn goes_over(&self, same: bool, need: Need, desk: &Desk) -> bool
+        ensures same { result ≡ true → same ≡ true }
         ensures given { result ≡ true → self.now.draft.body ≡ Body.Given }
-        ensures free { result ≡ true → out_of desk.now.slab class < chunks_of desk.now.slab class }
+        ensures unused { result ≡ true → need.count ≤ unused desk.now.slab need.class }
     {
         match self.draft.body {
-            Body::Given => same && desk.has_free(class),
+            Body::Given => same && desk.has_unused(need),
             Body::Appended | Body::Prepended | Body::Counted(_) => false,
         }
     }
@@ -103,47 +109,137 @@ impl Write {
         }
     }
 
-    /// Makes the entry of the write in a chunk, beside the block of an old item.
-    fn entry_in(&self, chunk: Chunk, unique: u64, step: &KeyStep<'_>, old: &[u8]) -> Entry
+    /// Makes the entry of the write in chunks, beside an old item.
+    fn entry_in(
+        &self,
+        chunks: Chunks,
+        unique: u64,
+        step: &KeyStep<'_>,
+        old: Option<&Entry>,
+    ) -> Entry
         requires key { length (key_of step.now) ≤ 250 }
-        requires class { chunk_class chunk ≡ class_holding
-            (charge (key_of step.now) (made_block self.now.draft.body (block_of step.now) old.now)) }
+        requires need { need_in chunks ≡ need_for (charge (key_of step.now)
+            (made_block self.now.draft.body (block_of step.now) (block_in (item_in old)))) }
         requires room { charge (key_of step.now)
-            (made_block self.now.draft.body (block_of step.now) old.now) ≤ length chunk }
+            (made_block self.now.draft.body (block_of step.now) (block_in (item_in old)))
+            ≤ length chunks.bytes }
         ensures { result ≡ record {
           hash = self.now.hash;
           key = key_of step.now;
-          item = drafted self.now.draft (made_block self.now.draft.body (block_of step.now) old.now)
-              unique self.now.moment;
+          item = drafted self.now.draft (made_block self.now.draft.body (block_of step.now)
+              (block_in (item_in old.entry))) unique self.now.moment;
         } }
     {
         let block = step.block();
-        match self.draft.body {
-            Body::Given => self.entry_of(chunk, unique, step.key(), &[], block),
-            Body::Appended => self.entry_of(chunk, unique, step.key(), old, block),
-            Body::Prepended => self.entry_of(chunk, unique, step.key(), block, old),
-            Body::Counted(number) => {
+        match (self.draft.body, old) {
+            (Body::Appended, Some(old)) => self.appended(chunks, unique, step.key(), old, block),
+            (Body::Prepended, Some(old)) => self.prepended(chunks, unique, step.key(), block, old),
+            (Body::Counted(number), _) => {
                 let mut buffer = Buffer::new();
                 let digits = buffer.format(number).as_bytes();
-                self.entry_of(chunk, unique, step.key(), &[], digits)
+                self.entry_of(chunks, unique, step.key(), digits)
             }
+            _ => self.entry_of(chunks, unique, step.key(), block),
         }
     }
 
-    /// Makes the entry of a block, but for the block's bytes, which are of any content.
-    fn head_of<'a>(&self, chunk: Chunk, unique: u64, key: &'a [u8], block: &'a [u8]) -> Entry
+    /// Makes the entry whose block is an old item's, followed by `block`.
+    fn appended<'a>(
+        &self,
+        chunks: Chunks,
+        unique: u64,
+        key: &'a [u8],
+        old: &Entry,
+        block: &'a [u8],
+    ) -> Entry
         requires key { length key.now ≤ 250 }
-        requires class { chunk_class chunk ≡ class_holding (charge key.now block.now) }
-        requires room { charge key.now block.now ≤ length chunk }
+        requires need { need_in chunks
+            ≡ need_for (charge key.now (old.now.item.block ++ block.now)) }
+        requires room { charge key.now (old.now.item.block ++ block.now) ≤ length chunks.bytes }
+        ensures { result ≡ record {
+          hash = self.now.hash;
+          key = key.now;
+          item = drafted self.now.draft (old.now.item.block ++ block.now) unique self.now.moment;
+        } }
+    {
+        let front = old.block_len();
+        let mut entry = self.head_of(chunks, unique, key, front + block.len());
+        entry.fill_from(0, old);
+        entry.fill(front, block);
+        entry
+    }
+
+    /// Makes the entry whose block is `block`, followed by an old item's.
+    fn prepended<'a>(
+        &self,
+        chunks: Chunks,
+        unique: u64,
+        key: &'a [u8],
+        block: &'a [u8],
+        old: &Entry,
+    ) -> Entry
+        requires key { length key.now ≤ 250 }
+        requires need { need_in chunks
+            ≡ need_for (charge key.now (block.now ++ old.now.item.block)) }
+        requires room { charge key.now (block.now ++ old.now.item.block) ≤ length chunks.bytes }
+        ensures { result ≡ record {
+          hash = self.now.hash;
+          key = key.now;
+          item = drafted self.now.draft (block.now ++ old.now.item.block) unique self.now.moment;
+        } }
+    {
+        let front = block.len();
+        let mut entry = self.head_of(chunks, unique, key, front + old.block_len());
+        entry.fill(0, block);
+        entry.fill_from(front, old);
+        entry
+    }
+
+    /// Makes the entry of a block of so many bytes, which are of any content.
+    fn head_of(&self, chunks: Chunks, unique: u64, key: &[u8], block_len: usize) -> Entry
+        requires key { length key.now ≤ 250 }
+        requires need { need_in chunks ≡ need_for (48 + length key.now + block_len) }
+        requires room { 48 + length key.now + block_len ≤ length chunks.bytes }
         ensures value { result ≡ record {
           hash = self.now.hash;
           key = key.now;
           item = drafted self.now.draft result.item.block unique self.now.moment;
         } }
-        ensures length { length result.item.block ≡ length block.now }
+        ensures length { length result.item.block ≡ block_len }
     {
         Entry::begin(
-            chunk,
+            chunks,
+            Head {
+                hash: self.hash,
+                key,
+                flags: self.draft.flags,
+                expiry: self.draft.expiry,
+                unique,
+                updated: self.moment,
+            },
+            block_len,
+        )
+    }
+
+    /// Makes the entry of a block.
+    pub(crate) fn entry_of<'a>(
+        &self,
+        chunks: Chunks,
+        unique: u64,
+        key: &'a [u8],
+        block: &'a [u8],
+    ) -> Entry
+        requires key { length key.now ≤ 250 }
+        requires need { need_in chunks ≡ need_for (charge key.now block.now) }
+        requires room { charge key.now block.now ≤ length chunks.bytes }
+        ensures { result ≡ record {
+          hash = self.now.hash;
+          key = key.now;
+          item = drafted self.now.draft block.now unique self.now.moment;
+        } }
+    {
+        Entry::write(
+            chunks,
             Parts {
                 hash: self.hash,
                 key,
@@ -156,74 +252,79 @@ impl Write {
             },
         )
     }
-
-    /// Makes the entry whose block is `first` followed by `second`.
-    pub(crate) fn entry_of<'a>(
-        &self,
-        chunk: Chunk,
-        unique: u64,
-        key: &'a [u8],
-        first: &'a [u8],
-        second: &'a [u8],
-    ) -> Entry
-        requires key { length key.now ≤ 250 }
-        requires class { chunk_class chunk
-            ≡ class_holding (charge key.now (first.now ++ second.now)) }
-        requires room { charge key.now (first.now ++ second.now) ≤ length chunk }
-        ensures { result ≡ record {
-          hash = self.now.hash;
-          key = key.now;
-          item = drafted self.now.draft (first.now ++ second.now) unique self.now.moment;
-        } }
-    {
-        Entry::write(
-            chunk,
-            Parts {
-                hash: self.hash,
-                key,
-                first,
-                second,
-                flags: self.draft.flags,
-                expiry: self.draft.expiry,
-                unique,
-                updated: self.moment,
-            },
-        )
-    }
 }
 
-/// How the chunk of a key's item suits a write.
+/// How the chunks of a key's item suit a write.
 struct Fit {
-    /// It is of the class that the write asks for.
+    /// They are those that the write needs.
     same: bool,
     /// And the write goes there in any case, since the item is dead, or a number that is counted.
     reused: bool,
+    /// Where it doesn't, how many of them a dead item gives back that are of the write's class.
+    back: u64,
 }
 
-/// Returns whether the item that is found has a chunk of the class.
-fn has_class(found: Option<&Entry>, class: Class) -> bool
+/// Returns whether the item that is found has the chunks that a need asks for.
+fn has_need(found: Option<&Entry>, need: Need) -> bool
     ensures { (key : List ℕ) → IfSome found.entry (λ entry. entry.now.key ≡ key) →
-        result ≡ plans.has_class key (item_in found.entry) class }
+        result ≡ plans.has_need key (item_in found.entry) need }
 {
     match found {
-        Some(entry) => entry.class().number() == class.number(),
+        Some(entry) => is_same(entry.need(), need),
         None => false,
     }
 }
 
+/// Returns whether two needs ask for the same.
+fn is_same(one: Need, other: Need) -> bool
+    ensures { result ≡ same_need one other }
+{
+    one.class().number() == other.class().number() && one.count() == other.count()
+}
+
+/// Returns whether the item that is found gives way to a write of a need: it is dead, and has chunks of the need's class,
+/// though not as many.
+pub(crate) fn gives_way(found: Option<&Entry>, need: Need, cut: Option<u64>, now: Moment) -> bool
+    ensures { (key : List ℕ) → IfSome found.entry (λ entry. entry.now.key ≡ key) →
+        result ≡ plans.gives_way cut now key (item_in found.entry) need }
+{
+    !has_need(found, need) && 0 < dead_chunks(found, need, cut, now)
+}
+
+/// Counts the chunks of a need's class that come back where the item that is found is dropped for being dead.
+pub(crate) fn dead_chunks(found: Option<&Entry>, need: Need, cut: Option<u64>, now: Moment) -> u64
+    ensures value { (key : List ℕ) → IfSome found.entry (λ entry. entry.now.key ≡ key) →
+        result ≡ plans.dead_chunks cut now key (item_in found.entry) need.class }
+    ensures most { result ≤ 8 }
+{
+    match found {
+        Some(entry) => {
+            let own = entry.need();
+            if own.class().number() == need.class().number() && is_gone(found, cut, now) {
+                u64::from(own.count())
+            } else {
+                0
+            }
+        }
+        None => 0,
+    }
+}
+
 impl Shelf {
-    /// Begins to write the item of a step, in the chunk of the key's item or in one more.
+    /// Begins to write the item of a step, in the chunks of the key's item or in others.
     pub(crate) fn write(
         &mut self,
         alloc: Global,
         write: &Write,
         step: &KeyStep<'_>,
         desk: &mut Desk,
-        page: Option<Page>,
+        pages: Option<Pages>,
     ) -> Result<Begun, StepFault>
         requires write { IsWriteOf write.now self.old.content step.now }
-        requires room { CanWrite (Next.Write write.now.charge write.now.draft) desk.old →
-            get self.old.content.items (key_of step.now) ≡ None → 1 ≤ self.old.room }
+        requires room { CanWrite (Next.Write write.now.charge write.now.draft) self.old.content
+            (key_of step.now) write.now.moment desk.old →
+            PutsEntry (Next.Write write.now.charge write.now.draft) self.old.content
+            (key_of step.now) write.now.moment → 1 ≤ self.old.room }
         requires stands { CanStand (key_of step.now) self.old.content desk.old }
         ensures took { IfOk result (λ begun. IsTaken step.now write.now.moment write.now.hash
             self.old.content desk.old (write_told write.now.draft.body begun)
@@ -232,7 +333,8 @@ impl Shelf {
             IfSome (left_of begun) (λ rest. CanWriteBlock write.now rest step.now self.new)) }
         ensures spent { result ≡ Err StepFault.NumbersSpent ↔ has_no_number desk.old }
         ensures refused { result ≡ Err StepFault.NoMemory
-            → NeedsPage (Next.Write write.now.charge write.now.draft) desk.old }
+            → NeedsPages (Next.Write write.now.charge write.now.draft) self.old.content
+            (key_of step.now) write.now.moment desk.old }
         ensures err { OnErr result
             ((self.new.content ≡ self.old.content) × (desk.new ≡ desk.old)) }
     {
@@ -240,48 +342,109 @@ impl Shelf {
         if desk.is_spent() {
             return Err(StepFault::NumbersSpent);
         }
-        let class = self.class_for(write.charge);
-        let Fit { same, reused } = self.fit(write, class, step.key());
+        let need = self.need_for(write.charge);
+        let Fit { same, reused, back } = self.fit(write, need, step.key());
         if reused {
             let unique = desk.draw();
             return Ok(self.rewrite(write, unique, step));
         }
-        if write.goes_over(same, class, desk) {
-            // To take the chunk of the class that is free, and give the item's back, would leave the slab as it is.
+        if write.goes_over(same, need, desk) {
+            // To take as many chunks that are unused, and give the item's back, would leave the slab as it is.
             let unique = desk.draw();
             return Ok(Begun::Left(Unwritten {
                 unique,
-                chunk: None,
+                chunks: None,
             }));
         }
-        if !desk.has_room(class) {
+        if !desk.has_room(need, back) {
             self.drop_dead(write, step.key(), desk);
             return Ok(Begun::Full);
         }
-        let chunk = desk.take(alloc, class, page)?;
+        if 0 < back {
+            return self.give_way(alloc, write, need, back, step, desk, pages);
+        }
+        let chunks = desk.take(alloc, need, pages)?;
         let unique = desk.draw();
-        Ok(self.put(write, unique, chunk, step, desk))
+        Ok(self.put(write, unique, chunks, step, desk))
     }
 
-    /// Finds out how the chunk of the key's item suits a write. The item is looked for where it was found before.
-    fn fit(&self, write: &Write, class: Class, key: &[u8]) -> Fit
+    /// Finds out how the chunks of the key's item suit a write. The item is looked for where it was found before.
+    fn fit(&self, write: &Write, need: Need, key: &[u8]) -> Fit
         requires { IsKnown self.now.content key.now write.now.hash write.now.place }
         ensures same { result.same
-            ≡ plans.has_class key.now (get self.now.content.items key.now) class }
+            ≡ plans.has_need key.now (get self.now.content.items key.now) need }
         ensures reused { result.reused ≡ reuses self.now.content.cut write.now.moment key.now
-            (get self.now.content.items key.now) class write.now.draft.body }
+            (get self.now.content.items key.now) need write.now.draft.body }
+        ensures back { result.reused ≡ false →
+            result.back ≡ back_at self.now.content key.now write.now.moment need }
+        ensures most { result.back ≤ 8 }
     {
         let found = self.entry(write.place, write.hash, key);
-        let same = has_class(found, class);
+        let same = has_need(found, need);
         let reused = same && (write.counts() || is_gone(found, self.cut, write.moment));
-        Fit { same, reused }
+        let back = if same {
+            0
+        } else {
+            dead_chunks(found, need, self.cut, write.moment)
+        };
+        Fit { same, reused, back }
     }
 
-    /// Writes a number in the chunk of the key's item. The step's own block is left to be written there.
+    /// Puts the item of a write in the place of a dead one of its key, which gives way to it: that one's chunks go back, and
+    /// some of them or all serve the write. Pages that the class wants then are all that takes memory. Refused, the shelf and the
+    /// desk are as they were.
+    fn give_way(
+        &mut self,
+        alloc: Global,
+        write: &Write,
+        need: Need,
+        back: u64,
+        step: &KeyStep<'_>,
+        desk: &mut Desk,
+        pages: Option<Pages>,
+    ) -> Result<Begun, StepFault>
+        requires known { IsKnown self.old.content (key_of step.now) write.now.hash write.now.place }
+        requires gives { CanGiveWay write.now need back step.now self.old desk.old }
+        ensures told { IfOk result (λ begun.
+            write_told write.now.draft.body begun ≡ write_reply write.now.draft.body) }
+        ensures put { IfOk result (λ begun. IsPut (key_of step.now) write.now.hash self.old.content
+            (written write.now (left_of begun) step.now self.new.content)
+            (drafted write.now.draft (block_of step.now) desk.old.next_unique write.now.moment)) }
+        ensures given { OnOk result (desk.new ≡ way_given need back desk.old) }
+        ensures left { IfOk result (λ begun.
+            IfSome (left_of begun) (λ rest. CanWriteBlock write.now rest step.now self.new)) }
+        ensures fault { IfErr result (λ fault. fault ≡ StepFault.NoMemory) }
+        ensures pages { OnErr result (WantsPages desk.old.slab need back) }
+        ensures err { OnErr result
+            ((self.new.content ≡ self.old.content) × (desk.new ≡ desk.old)) }
+    {
+        desk.ready(alloc, need, back, pages)?;
+        self.discard(write.place, write.hash, step.key(), desk);
+        let unique = desk.draw();
+        let chunks = desk.take_unused(alloc, need);
+        // The key has no item now, so that the write's is a new one.
+        let Write {
+            hash,
+            moment,
+            charge,
+            draft,
+            ..
+        } = *write;
+        let write = Write {
+            hash,
+            place: None,
+            moment,
+            charge,
+            draft,
+        };
+        Ok(self.put(&write, unique, chunks, step, desk))
+    }
+
+    /// Writes a number in the chunks of the key's item. The step's own block is left to be written there.
     fn rewrite(&mut self, write: &Write, unique: u64, step: &KeyStep<'_>) -> Begun
         requires key { length (key_of step.now) ≤ 250 }
         requires known { IsKnown self.old.content (key_of step.now) write.now.hash write.now.place }
-        requires there { LiesInClass (key_of step.now)
+        requires there { LiesInNeed (key_of step.now)
             (own_block write.now.draft.body (block_of step.now)) self.old }
         ensures told { write_told write.now.draft.body result ≡ write_reply write.now.draft.body }
         ensures put { IsPut (key_of step.now) write.now.hash self.old.content
@@ -294,7 +457,7 @@ impl Shelf {
         match write.draft.body {
             Body::Given | Body::Appended | Body::Prepended => Begun::Left(Unwritten {
                 unique,
-                chunk: None,
+                chunks: None,
             }),
             Body::Counted(number) => {
                 let mut buffer = Buffer::new();
@@ -305,7 +468,7 @@ impl Shelf {
         }
     }
 
-    /// Writes a block in the chunk of a key's item.
+    /// Writes a block in the chunks of a key's item.
     pub(crate) fn overwrite<'a>(
         &mut self,
         write: &Write,
@@ -314,8 +477,8 @@ impl Shelf {
         block: &'a [u8],
     )
         requires key { length key.now ≤ 250 }
-        requires known { IsKnown self.old.content key.now write.now.hash write.now.place }
-        requires there { LiesInClass key.now block.now self.old }
+        requires sought { IsSought self.old.content key.now write.now.hash write.now.place }
+        requires there { LiesInNeed key.now block.now self.old }
         ensures { self.new.content ≡ with_item None key.now write.now.hash
             (drafted write.now.draft block.now unique write.now.moment) self.old.content }
     {
@@ -324,18 +487,18 @@ impl Shelf {
         }
     }
 
-    /// Puts the item of a write into a chunk and under its key. The chunk of the item that stood there goes back. A large block
-    /// that is the step's own is left to be written.
+    /// Puts the item of a write into chunks and under its key. Those of the item that stood there go back. A large block that is
+    /// the step's own is left to be written.
     fn put(
         &mut self,
         write: &Write,
         unique: u64,
-        chunk: Chunk,
+        chunks: Chunks,
         step: &KeyStep<'_>,
         desk: &mut Desk,
     ) -> Begun
         requires can { CanPut write.now step.now self.old desk.old }
-        requires chunk { Suits chunk (key_of step.now)
+        requires chunks { Suits chunks (key_of step.now)
             (block_beside self.old.content step.now write.now.draft) }
         ensures told { write_told write.now.draft.body result ≡ write_reply write.now.draft.body }
         ensures put { IsPut (key_of step.now) write.now.hash self.old.content
@@ -348,24 +511,24 @@ impl Shelf {
             CanWriteBlock write.now rest step.now self.new) }
     {
         if write.leaves_block(step) {
-            return Begun::Left(self.begin_put(write, unique, chunk, step, desk));
+            return Begun::Left(self.begin_put(write, unique, chunks, step, desk));
         }
-        self.put_whole(write, unique, chunk, step, desk);
+        self.put_whole(write, unique, chunks, step, desk);
         Begun::Done
     }
 
-    /// Puts the item of a write into a chunk and under its key, but for the bytes of its block. The chunk of the item that
-    /// stood there goes back. A new key's chunk waits for the whole.
+    /// Puts the item of a write into chunks and under its key, but for the bytes of its block. Those of the item that stood there
+    /// go back. A new key's chunks wait for the whole.
     fn begin_put(
         &mut self,
         write: &Write,
         unique: u64,
-        chunk: Chunk,
+        chunks: Chunks,
         step: &KeyStep<'_>,
         desk: &mut Desk,
     ) -> Unwritten
         requires can { CanPut write.now step.now self.old desk.old }
-        requires chunk { Suits chunk (key_of step.now) (block_of step.now) }
+        requires chunks { Suits chunks (key_of step.now) (block_of step.now) }
         ensures put { IsPut (key_of step.now) write.now.hash self.old.content
             (written write.now (Some result) step.now self.new.content)
             (drafted write.now.draft (block_of step.now) unique write.now.moment) }
@@ -376,32 +539,32 @@ impl Shelf {
         let place = self.index.find_again(write.place, write.hash, step.key());
         match place {
             Some(place) => {
-                let entry = write.head_of(chunk, unique, step.key(), step.block());
+                let entry = write.head_of(chunks, unique, step.key(), step.block().len());
                 let old = self.index.replace(place, entry);
-                desk.give(old.into_chunk());
+                desk.give(old.into_chunks());
                 Unwritten {
                     unique,
-                    chunk: None,
+                    chunks: None,
                 }
             }
             None => Unwritten {
                 unique,
-                chunk: Some(chunk),
+                chunks: Some(chunks),
             },
         }
     }
 
-    /// Puts the item of a write into a chunk and under its key, block and all. The chunk of the item that stood there goes back.
+    /// Puts the item of a write into chunks and under its key, block and all. Those of the item that stood there go back.
     fn put_whole(
         &mut self,
         write: &Write,
         unique: u64,
-        chunk: Chunk,
+        chunks: Chunks,
         step: &KeyStep<'_>,
         desk: &mut Desk,
     )
         requires can { CanPut write.now step.now self.old desk.old }
-        requires chunk { Suits chunk (key_of step.now)
+        requires chunks { Suits chunks (key_of step.now)
             (block_beside self.old.content step.now write.now.draft) }
         ensures put { IsPut (key_of step.now) write.now.hash self.old.content self.new.content
             (drafted write.now.draft (block_beside self.old.content step.now write.now.draft)
@@ -410,12 +573,12 @@ impl Shelf {
             desk.old desk.new }
     {
         let place = self.index.find_again(write.place, write.hash, step.key());
-        let old = block_in(self.index.found(place));
-        let entry = write.entry_in(chunk, unique, step, old);
+        let old = self.index.found(place);
+        let entry = write.entry_in(chunks, unique, step, old);
         match place {
             Some(place) => {
                 let old = self.index.replace(place, entry);
-                desk.give(old.into_chunk());
+                desk.give(old.into_chunks());
             }
             None => {
                 self.index.insert_reserved(entry);

@@ -6,10 +6,11 @@ use Rattle.std.proofs.lemmas.List.Folds.{list_all_at}
 use Rattle.std.proofs.lemmas.List.FromFn.{get_or-range_with_len}
 use Rattle.std.proofs.lemmas.List.Sums.{position_or_len_is}
 use Rattle.std.proofs.lemmas.List.Sorted.{IsNonDecreasingBy-from_all_adjacent, IsPartitionedBy-ltb}
+use Rattle.std.specs.Prelude.{max}
 use Rattle.std.specs.List.{list_all, range_with_len}
 use Rattle.std.specs.List.Sorted.{IsNonDecreasingBy, IsPartitionPoint, IsPartitionedBy}
-use Rattle.mc_slab.specs.Chunks.{chunk_class, IsChunk, IsChunkOf}
 use Rattle.mc_slab.specs.Classes.{IsClass, chunk_sizes, size_of, chunks_a_page, class_holding, class_of, PartsAt}
+use Rattle.mc_slab.specs.Runs.{chunks_a_run}
 
 -- the table that the code keeps
 abbrev pub table : List ℕ
@@ -98,7 +99,8 @@ pub sizes_part : (charge : ℕ) → IsPartitionedBy (λ size. ltb size charge) c
 sizes_part charge = IsPartitionedBy-ltb (λ size. size) chunk_sizes charge sizes_sorted
 
 -- where the binary search stops
-pub PartsAt-from : (charge smaller : ℕ) → smaller ≤ length chunk_sizes → IsPartitionPoint (λ size. ltb size charge ≡ true) (λ size. ltb size charge ≡ false) chunk_sizes smaller → PartsAt charge smaller
+pub PartsAt-from : (charge smaller : ℕ) → smaller ≤ length chunk_sizes
+    → IsPartitionPoint (λ size. ltb size charge ≡ true) (λ size. ltb size charge ≡ false) chunk_sizes smaller → PartsAt charge smaller
 PartsAt-from charge smaller within parts = record {
   within = rw length-chunk_sizes at within;
   before = λ k below. ltb-true _ _ (parts.0 k 0 (omega arith) below);
@@ -148,25 +150,6 @@ class_holding-size_of class is =
     let place : get_or (range_with_len 0 40) (class - 1) 0 ≡ class - 1 = get_or-range_with_len 0 40 (class - 1) 0 (omega arith) ∙ omega arith in
     eqb-true _ _ (subst (λ (k : ℕ). test k ≡ true) place passes) ∙ omega arith
 
--- bytes of a class's length are a chunk of it
-pub IsChunkOf-length : (class : ℕ) (bytes : List ℕ) → IsClass class → length bytes ≡ size_of class → IsChunkOf class bytes
-IsChunkOf-length class bytes is size = record {
-  size = size;
-  class_is = ap class_holding size ∙ class_holding-size_of class is;
-}
-
--- and a chunk
-pub IsChunk-IsChunkOf : (class : ℕ) (bytes : List ℕ) → IsClass class → IsChunkOf class bytes → IsChunk bytes
-IsChunk-IsChunkOf class bytes is chunk = record {
-  is_class = subst IsClass (sym chunk.class_is) is;
-  size = chunk.size ∙ ap (λ (k : ℕ). size_of k) (sym chunk.class_is);
-}
-
--- what is as long as a chunk is one
-pub IsChunk-length : (bytes others : List ℕ) → length others ≡ length bytes → IsChunk bytes → IsChunk others
-IsChunk-length bytes others same chunk =
-    let class : chunk_class bytes ≡ chunk_class others = ap class_holding (sym same) in
-    record {
-      is_class = subst IsClass class chunk.is_class;
-      size = same ∙ chunk.size ∙ ap (λ (k : ℕ). size_of k) class;
-    }
+-- a run of the last class has one chunk
+pub run_of-last : chunks_a_run 40 ≡ 1
+run_of-last = ap (λ (n : ℕ). max (32768 / n) 1) size_of-last

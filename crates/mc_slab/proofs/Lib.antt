@@ -1,2 +1,10 @@
+pub mod ChunkLemmas
 pub mod ClassLemmas
+pub mod CutLemmas
+pub mod HeldLemmas
+pub mod NeedLemmas
+pub mod ReadyLemmas
+pub mod RoomLemmas
+pub mod SheetLemmas
+pub mod Sent
 pub mod SlabLemmas

@@ -9,8 +9,7 @@ use Rattle.std.proofs.lemmas.List.Sums.{sum_by-set}
 use Rattle.std.specs.List.{range_with_len}
 use Rattle.mc_slab.specs.Classes.{IsClass, chunks_a_page}
 use Rattle.mc_slab.specs.Stocks.{StockState, all_chunks}
-use Rattle.mc_slab.specs.Slabs.{IsSlab, AreStocks, empty_stock, state_of, pages_of, out_of, chunks_of, with_page, with_chunk, with_out}
-use Rattle.mc_slab.proofs.ClassLemmas.{chunks_a_page-least}
+use Rattle.mc_slab.specs.Slabs.{IsSlab, AreStocks, empty_stock, state_of, pages_of, out_of, chunks_of, pages_left, pages_wanted, with_pages, with_out}
 
 -- the stock of a class stands at the index
 pub record StockAt (left : ℕ) (stocks : List StockState) (class index : ℕ) (stock : StockState) : Type 0 where
@@ -52,7 +51,8 @@ pages_in left stocks class d are is = get_or-map (λ (s : StockState). s.pages) 
 out_in : (left : ℕ) (stocks : List StockState) (class : ℕ) (d : StockState) → AreStocks left stocks → IsClass class → out_of (state_of left stocks) class ≡ (get_or stocks (class - 1) d).out
 out_in left stocks class d are is = get_or-map (λ (s : StockState). s.out) stocks (class - 1) d 0 (below left stocks class are is)
 
-chunks_in : (left : ℕ) (stocks : List StockState) (class : ℕ) (d : StockState) → AreStocks left stocks → IsClass class → chunks_of (state_of left stocks) class ≡ all_chunks (get_or stocks (class - 1) d)
+chunks_in : (left : ℕ) (stocks : List StockState) (class : ℕ) (d : StockState) → AreStocks left stocks → IsClass class
+    → chunks_of (state_of left stocks) class ≡ all_chunks (get_or stocks (class - 1) d)
 chunks_in left stocks class d are is =
     let pages = pages_in left stocks class d are is in
     let same = class_in left stocks class d are is in
@@ -110,9 +110,9 @@ module _ (left : ℕ) (stocks : List StockState) (class index : ℕ) (stock : St
       let more : sum (set pages index new.pages) + get_or pages index 0 ≡ sum pages + new.pages = sum_by-set (λ (n : ℕ). n) pages index new.pages 0 long in
       rw (map-set, ← there) more
 
-  -- while a page is left, the class has fewer than all
-  pub few_at : 0 < left → stock.pages < 65536
-  few_at some =
+  -- while so many pages are left, the class may have as many more
+  pub few_at : (n : ℕ) → n ≤ left → stock.pages + n ≤ 65536
+  few_at n some =
       let sums = pages-set (record stock { pages = 0 }) in
       let most : left + sum (map (λ (s : StockState). s.pages) stocks) ≤ 65536 = at.stocks_are.most in
       omega arith
@@ -141,37 +141,22 @@ module _ (left : ℕ) (stocks : List StockState) (class index : ℕ) (stock : St
       map-set (λ (s : StockState). s.out) stocks index (record stock { out = out }) ∙ ap (λ (i : ℕ). set (map (λ (s : StockState). s.out) stocks) i out) at.place in
       cc
 
-  -- a page more, of those that were left
-  pub state_of-page : 0 < left → state_of (left - 1) (set stocks index (record stock { pages = stock.pages + 1 })) ≡ with_page (state_of left stocks) class
-  state_of-page some =
-      let new : StockState = record stock { pages = stock.pages + 1 } in
-      let sums : sum (map (λ (s : StockState). s.pages) (set stocks index new)) + stock.pages ≡ sum (map (λ (s : StockState). s.pages) stocks) + (stock.pages + 1) = pages-set new in
-      let limit : left - 1 + sum (map (λ (s : StockState). s.pages) (set stocks index new)) ≡ left + sum (map (λ (s : StockState). s.pages) stocks) = omega arith in
-      let pages : map (λ (s : StockState). s.pages) (set stocks index new) ≡ set (map (λ (s : StockState). s.pages) stocks) (class - 1) (pages_of (state_of left stocks) class + 1) =
-      map-set (λ (s : StockState). s.pages) stocks index new ∙ ap (λ (i : ℕ). set (map (λ (s : StockState). s.pages) stocks) i (stock.pages + 1)) at.place ∙ ap (λ (n : ℕ). set (map (λ (s : StockState). s.pages) stocks) (class - 1) (n + 1)) (sym pages_at) in
+  -- so many pages more, of those that were left
+  pub state_of-pages : (n : ℕ) → n ≤ left → state_of (left - n) (set stocks index (record stock { pages = stock.pages + n })) ≡ with_pages (state_of left stocks) class n
+  state_of-pages n some =
+      let new : StockState = record stock { pages = stock.pages + n } in
+      let sums : sum (map (λ (s : StockState). s.pages) (set stocks index new)) + stock.pages ≡ sum (map (λ (s : StockState). s.pages) stocks) + (stock.pages + n) = pages-set new in
+      let limit : left - n + sum (map (λ (s : StockState). s.pages) (set stocks index new)) ≡ left + sum (map (λ (s : StockState). s.pages) stocks) = omega arith in
+      let pages : map (λ (s : StockState). s.pages) (set stocks index new) ≡ set (map (λ (s : StockState). s.pages) stocks) (class - 1) (pages_of (state_of left stocks) class + n) =
+      map-set (λ (s : StockState). s.pages) stocks index new ∙ ap (λ (i : ℕ). set (map (λ (s : StockState). s.pages) stocks) i (stock.pages + n)) at.place
+      ∙ ap (λ (m : ℕ). set (map (λ (s : StockState). s.pages) stocks) (class - 1) (m + n)) (sym pages_at) in
       let outs : map (λ (s : StockState). s.out) (set stocks index new) ≡ map (λ (s : StockState). s.out) stocks =
       map-set_same (λ (s : StockState). s.out) stocks index new stock (ap (λ (s : StockState). s.out) at.there) in
       cc
 
-  -- no page goes to a class that has a chunk free, and one to a class that has none
-  pub with_chunk-free : stock.out < all_chunks stock → with_chunk (state_of left stocks) class ≡ state_of left stocks
-  with_chunk-free free =
-      let test : eqb (out_of (state_of left stocks) class) (chunks_of (state_of left stocks) class) ≡ false = rw (out_at, chunks_at) (ne_eqb _ _ (omega arith)) in
-      rw test refl
+  -- what the class's stock says of the pages that a need wants
+  pub wanted_at : (count back : ℕ) → pages_wanted (state_of left stocks) (record { class = class; count = count }) back ≡ count - (all_chunks stock - stock.out + back)
+  wanted_at count back = rw (chunks_at, out_at) refl
 
-  pub with_chunk-none : stock.out ≡ all_chunks stock → with_chunk (state_of left stocks) class ≡ with_page (state_of left stocks) class
-  with_chunk-none none =
-      let test : eqb (out_of (state_of left stocks) class) (chunks_of (state_of left stocks) class) ≡ true = rw (out_at, chunks_at) (eq-eqb _ _ none) in
-      rw test refl
-
-  -- after a page a chunk is free
-  pub free-with_page : out_of (with_page (state_of left stocks) class) class < chunks_of (with_page (state_of left stocks) class) class
-  free-with_page =
-      let pages : List ℕ = map (λ (s : StockState). s.pages) stocks in
-      let long : class - 1 < length pages = rw length-map (below left stocks class at.stocks_are at.is_class) in
-      let more : pages_of (with_page (state_of left stocks) class) class ≡ stock.pages + 1 = get_or-set_same pages (class - 1) _ 0 long ∙ ap (λ (n : ℕ). n + 1) pages_at in
-      let some : 1 ≤ chunks_a_page class = chunks_a_page-least class at.is_class in
-      let within : stock.out ≤ stock.pages * chunks_a_page class = subst (λ (k : ℕ). stock.out ≤ stock.pages * chunks_a_page k) class_at within_at in
-      let out : out_of (state_of left stocks) class ≡ stock.out = out_at in
-      let room : stock.out < (stock.pages + 1) * chunks_a_page class = omega arith in
-      rw (more, out) room
+  pub left_at : pages_left (state_of left stocks) ≡ left
+  left_at = omega arith

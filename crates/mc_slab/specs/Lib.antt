@@ -1,5 +1,8 @@
 pub mod Classes
+pub mod Needs
+pub mod Sheets
 pub mod Chunks
+pub mod Helds
 pub mod Runs
 pub mod Stocks
 pub mod Slabs

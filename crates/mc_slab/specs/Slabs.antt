@@ -1,9 +1,10 @@
 -- What contracts see of a slab, and what taking and giving a chunk change in it.
-use Rattle.std.specs.Prelude.{◌≡◌, ◌↔◌, ◌⊎◌, Result, Err, IfOk, IfErr, OnOk, OnErr, ℕ, ◌+◌, ◌-◌, ◌*◌, ◌≤◌, ◌<◌, ◌==◌, Bool, ◌||◌, nat_lt, List, map, length, replicate, sum, slice_index, slice_set, refl, if◌then◌else◌}
+use Rattle.std.specs.Prelude.{◌≡◌, ◌↔◌, ◌⊎◌, Result, Err, IfOk, IfErr, OnOk, OnErr, ℕ, ◌+◌, ◌-◌, ◌*◌, ◌≤◌, ◌<◌, ◌==◌, Bool, true, false, nat_le, List, map, length, replicate, sum, slice_index, slice_set, refl, if◌then◌else◌}
 use Rattle.std.specs.Coded.{Coded, code_by, coded×, coded_ℕ, coded_list}
 use Rattle.std.specs.List.{All, range_with_len}
 use Rattle.mc_slab.specs.Classes.{IsClass, chunks_a_page}
-use Rattle.mc_slab.specs.Chunks.{IsChunkOf}
+use Rattle.mc_slab.specs.Needs.{NeedState, IsNeed}
+use Rattle.mc_slab.specs.Chunks.{ChunksState, AreChunksOf}
 use Rattle.mc_slab.specs.Stocks.{StockState, all_chunks}
 use Rattle.mc_slab.specs.declared.slab.TakeFault.{TakeFault}
 use Rattle.mc_slab.specs.declared.slab.TakeFault.TheVariants.{Full, NoMemory}
@@ -43,31 +44,45 @@ chunks_of slab class = pages_of slab class * chunks_a_page class
 abbrev pub pages_left : SlabState → ℕ
 pages_left slab = slab.limit - sum slab.pages
 
--- a chunk of the class can be had: one is free, or a page is left
-abbrev pub has_room : SlabState → ℕ → Bool
-has_room slab class = nat_lt (out_of slab class) (chunks_of slab class) || nat_lt 0 (pages_left slab)
+-- how many of its pages' chunks aren't out
+abbrev pub unused : SlabState → ℕ → ℕ
+unused slab class = chunks_of slab class - out_of slab class
 
--- one page more for the class
-abbrev pub with_page : SlabState → ℕ → SlabState
-with_page slab class = record slab { pages = slice_set slab.pages (class - 1) (pages_of slab class + 1) }
+-- the chunks of a need can be had once so many of its class came back: so many are unused, or can be cut of the pages left
+abbrev pub has_room_with : SlabState → NeedState → ℕ → Bool
+has_room_with slab need back =
+    nat_le need.count (unused slab need.class + back + pages_left slab * chunks_a_page need.class)
 
--- a page goes to the class where all its chunks are out
-abbrev pub with_chunk : SlabState → ℕ → SlabState
-with_chunk slab class = if out_of slab class == chunks_of slab class then with_page slab class else slab
+-- the chunks of a need can be had
+abbrev pub has_room : SlabState → NeedState → Bool
+has_room slab need = has_room_with slab need 0
+
+-- how many pages its class wants for a need, once so many chunks came back; a page gives one chunk where several are needed
+abbrev pub pages_wanted : SlabState → NeedState → ℕ → ℕ
+pages_wanted slab need back = need.count - (unused slab need.class + back)
+
+-- so many pages more for the class
+abbrev pub with_pages : SlabState → ℕ → ℕ → SlabState
+with_pages slab class count =
+    record slab { pages = slice_set slab.pages (class - 1) (pages_of slab class + count) }
+
+-- the pages that a need wants went to its class
+abbrev pub made_ready : SlabState → NeedState → ℕ → SlabState
+made_ready slab need back = with_pages slab need.class (pages_wanted slab need back)
 
 -- the class has so many chunks out
 abbrev pub with_out : SlabState → ℕ → ℕ → SlabState
 with_out slab class out = record slab { out = slice_set slab.out (class - 1) out }
 
--- after a chunk of the class was taken
-abbrev pub taken : SlabState → ℕ → SlabState
-taken slab class =
-    let ready = with_chunk slab class in
-    with_out ready class (out_of ready class + 1)
+-- after the chunks of a need were taken
+abbrev pub taken : SlabState → NeedState → SlabState
+taken slab need =
+    let ready = made_ready slab need 0 in
+    with_out ready need.class (out_of ready need.class + need.count)
 
--- after a chunk of the class was given back
-abbrev pub given : SlabState → ℕ → SlabState
-given slab class = with_out slab class (out_of slab class - 1)
+-- after so many chunks of the class were given back
+abbrev pub given : SlabState → ℕ → ℕ → SlabState
+given slab class count = with_out slab class (out_of slab class - count)
 
 -- What is true of every slab: it has an account of each class, no class has more chunks out than its pages have, and the
 -- pages are at most the limit.
@@ -78,33 +93,48 @@ pub record IsSlab (slab : SlabState) : Type 0 where
   pub limit : sum slab.pages ≤ slab.limit
   pub most : slab.limit ≤ 65536
 
--- no chunk of the class can be had: all of its pages' chunks are out, and no page is left
-pub record IsFull (slab : SlabState) (class : ℕ) : Type 0 where
-  pub all_out : out_of slab class ≡ chunks_of slab class
-  pub no_page : pages_left slab ≡ 0
+-- the chunks of a need can't be had, once so many of its class came back
+abbrev pub IsFull : SlabState → NeedState → ℕ → Type 0
+IsFull slab need back = has_room_with slab need back ≡ false
 
--- all chunks of the class are out, and a page is left for it
-abbrev pub WantsPage : SlabState → ℕ → Type 0
-WantsPage slab class = (out_of slab class ≡ chunks_of slab class) × (0 < pages_left slab)
+-- they can be had, and its class wants pages for them
+abbrev pub WantsPages : SlabState → NeedState → ℕ → Type 0
+WantsPages slab need back =
+    (has_room_with slab need back ≡ true) × (0 < pages_wanted slab need back)
 
--- what a full class is told with: its pages, and its chunks, which are all out
-abbrev pub TellsFull : SlabState → (class pages out : ℕ) → Type 0
-TellsFull slab class pages out =
-    IsFull slab class × (pages ≡ pages_of slab class) × (out ≡ out_of slab class)
+-- what a want of chunks is told with: the class's pages, and its chunks that are out
+abbrev pub TellsFull : SlabState → NeedState → (back class pages out : ℕ) → Type 0
+TellsFull slab need back class pages out =
+    IsFull slab need back × (class ≡ need.class) × (pages ≡ pages_of slab need.class)
+    × (out ≡ out_of slab need.class)
 
 -- the fault that tells so
-abbrev pub full_fault : SlabState → ℕ → TakeFault
-full_fault slab class = Full class (pages_of slab class) (out_of slab class)
+abbrev pub full_fault : SlabState → NeedState → TakeFault
+full_fault slab need = Full need.class (pages_of slab need.class) (out_of slab need.class)
 
--- How a chunk of the class is asked for. It comes of the class, and is out; or it is told that the class is full, exactly where it
--- is, or that memory was refused, which is asked for nothing but a page. Not taken, the slab is as it was.
-pub record Takes (class : ℕ) (old : SlabState) (result : Result (List ℕ) TakeFault)
+-- How the chunks of a need are asked for. They come all, and are out; or it is told that there is no room for them, exactly
+-- where there is none, or that memory was refused, which is asked for nothing but pages. Not taken, the slab is as it was.
+pub record Takes (need : NeedState) (old : SlabState) (result : Result ChunksState TakeFault)
     (new : SlabState) : Type 0 where
-  pub chunk : IfOk result (IsChunkOf class)
-  pub taken : OnOk result (new ≡ taken old class)
-  pub full : (pages out : ℕ) → (result ≡ Err (Full class pages out)) ↔ TellsFull old class pages out
-  pub no_memory : result ≡ Err NoMemory → WantsPage old class
-  pub faults : IfErr result (λ fault. (fault ≡ NoMemory) ⊎ (fault ≡ full_fault old class))
+  pub chunks : IfOk result (AreChunksOf need)
+  pub taken : OnOk result (new ≡ taken old need)
+  pub full : (class pages out : ℕ) → (result ≡ Err (Full class pages out))
+      ↔ TellsFull old need 0 class pages out
+  pub no_memory : result ≡ Err NoMemory → WantsPages old need 0
+  pub faults : IfErr result (λ fault. (fault ≡ NoMemory) ⊎ (fault ≡ full_fault old need))
+  pub err : OnErr result (new ≡ old)
+  pub is_slab : OnOk result (IsSlab new)
+
+-- How a class is made ready for a need, once so many of its chunks came back: it gets the pages that are wanting then, all or
+-- none, and is told of no room and of no memory as when the chunks are taken.
+pub record Readies (need : NeedState) (back : ℕ) (old : SlabState) (result : Result Unit TakeFault)
+    (new : SlabState) : Type 0 where
+  pub ready : OnOk result (new ≡ made_ready old need back)
+  pub room : OnOk result (has_room_with old need back ≡ true)
+  pub full : (class pages out : ℕ) → (result ≡ Err (Full class pages out))
+      ↔ TellsFull old need back class pages out
+  pub no_memory : result ≡ Err NoMemory → WantsPages old need back
+  pub faults : IfErr result (λ fault. (fault ≡ NoMemory) ⊎ (fault ≡ full_fault old need))
   pub err : OnErr result (new ≡ old)
   pub is_slab : OnOk result (IsSlab new)
 

@@ -3,7 +3,7 @@ use Rattle.std.specs.Prelude.{◌≡◌, ℕ, ◌+◌, ◌*◌, ◌^◌, ◌<◌
 use Rattle.std.specs.List.{All}
 use Rattle.std.specs.Coded.{Coded, code_by, coded×, coded_ℕ}
 use Rattle.mc_slab.specs.Classes.{IsClass, chunks_a_page}
-use Rattle.mc_slab.specs.Chunks.{IsChunkOf}
+use Rattle.mc_slab.specs.Chunks.{ChunksState, AreChunksOf}
 use Rattle.mc_slab.specs.Runs.{UncutState}
 
 -- what contracts see of a stock: its class, its pages, and its chunks that are out
@@ -23,10 +23,14 @@ coded_stock =
 abbrev pub all_chunks : StockState → ℕ
 all_chunks stock = stock.pages * chunks_a_page stock.class
 
+-- one chunk of the class
+abbrev pub IsChunkOf : ℕ → ChunksState → Type 0
+IsChunkOf class chunk = AreChunksOf (record { class = class; count = 1 }) chunk
+
 -- A stock with these free chunks, in a list that has room for so many, and with memory of which chunks are to be cut: what is
 -- out, what is free and what is to be cut add up to the chunks of its pages, all is of the class, and there is room for all
 -- of them among the free ones.
-pub record IsStock (stock : StockState) (free : List (List ℕ)) (room : ℕ) (uncut : UncutState) : Type 0 where
+pub record IsStock (stock : StockState) (free : List ChunksState) (room : ℕ) (uncut : UncutState) : Type 0 where
   pub is_class : IsClass stock.class
   pub pages : stock.pages ≤ 65536
   pub account : stock.out + length free + uncut.count ≡ all_chunks stock

@@ -120,13 +120,3 @@ pub fn class_of(charge: u64) -> Option<Class>
         None
     }
 }
-
-/// The class whose chunks have that many bytes.
-pub(crate) fn class_of_size(size: usize) -> Class
-    requires { IsClass (class_holding size) }
-    ensures { result ≡ class_holding size }
-{
-    Class {
-        number: smaller_sizes(size as u64) as u8 + 1,
-    }
-}

@@ -1,7 +1,22 @@
 //! What the rule of the classes comes to, each the contract of a function that does nothing.
 
-ghost use Rattle.std.specs.Prelude.{◌≡◌, ◌/◌, List, [], ◌∷◌, map, Some, None};
-ghost use Rattle.mc_slab.specs.Classes.{chunk_sizes, class_of};
+ghost use Rattle.std.specs.Prelude.{◌≡◌, ℕ, ◌+◌, ◌*◌, ◌/◌, ◌<◌, ◌≤◌, List, [], ◌∷◌, map, Some, None, true};
+ghost use Rattle.mc_slab.specs.Classes.{chunk_sizes, chunks_a_page, class_of};
+ghost use Rattle.mc_slab.specs.Needs.{NeedState, IsNeed};
+ghost use Rattle.mc_slab.specs.Slabs.{
+  SlabState,
+  IsSlab,
+  TellsFull,
+  WantsPages,
+  given,
+  has_room,
+  has_room_with,
+  made_ready,
+  out_of,
+  pages_left,
+  pages_wanted,
+  unused,
+};
 
 /// States that the table of classes is this one: the chunk sizes, how many chunks a page gives, and
 /// the edges of the first class and of the last. It does nothing.
@@ -18,4 +33,34 @@ pub fn table_of_classes()
     ensures first { (class_of 0 ≡ Some 1) × (class_of 96 ≡ Some 1) × (class_of 97 ≡ Some 2) }
     ensures last { (class_of 493552 ≡ Some 39) × (class_of 493553 ≡ Some 40)
         × (class_of 1048576 ≡ Some 40) × (class_of 1048577 ≡ None) }
+{}
+
+/// States that the pages that a class is given for a need are the fewest that serve it, and that so
+/// many are left where there is room. It does nothing.
+pub fn wanted_pages_are_least()
+    ensures enough { (slab : SlabState) (need : NeedState) (back : ℕ) → IsNeed need
+        → need.count ≤ unused slab need.class + back
+        + pages_wanted slab need back * chunks_a_page need.class }
+    ensures least { (slab : SlabState) (need : NeedState) (back fewer : ℕ) → IsNeed need
+        → fewer < pages_wanted slab need back
+        → unused slab need.class + back + fewer * chunks_a_page need.class < need.count }
+    ensures left { (slab : SlabState) (need : NeedState) (back : ℕ) → IsNeed need
+        → has_room_with slab need back ≡ true → pages_wanted slab need back ≤ pages_left slab }
+{}
+
+/// States that once a class was made ready for a need, and the chunks that were to come back came,
+/// the need can be taken with no page more. It does nothing.
+pub fn ready_is_enough()
+    ensures room { (slab : SlabState) (need : NeedState) (back : ℕ) → IsSlab slab → IsNeed need
+        → back ≤ out_of slab need.class
+        → has_room (given (made_ready slab need back) need.class back) need ≡ true }
+    ensures no_pages { (slab : SlabState) (need : NeedState) (back : ℕ) → IsSlab slab → IsNeed need
+        → back ≤ out_of slab need.class
+        → pages_wanted (given (made_ready slab need back) need.class back) need 0 ≡ 0 }
+    ensures not_full { (slab : SlabState) (need : NeedState) (back : ℕ) → IsSlab slab → IsNeed need
+        → back ≤ out_of slab need.class → (class pages out : ℕ)
+        → TellsFull (given (made_ready slab need back) need.class back) need 0 class pages out → ⊥ }
+    ensures no_memory { (slab : SlabState) (need : NeedState) (back : ℕ) → IsSlab slab → IsNeed need
+        → back ≤ out_of slab need.class
+        → WantsPages (given (made_ready slab need back) need.class back) need 0 → ⊥ }
 {}

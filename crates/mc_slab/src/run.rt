@@ -1,31 +1,37 @@
 //! Memory of which no chunk is cut yet, in runs.
 
-ghost use Rattle.std.specs.Prelude.{◌≡◌, ◌+◌, ◌*◌, ◌<◌, ◌≤◌, ◌↔◌, [], IsTrue, IfOk, IfSome, OnOk, OnErr, vec_len, vec_capacity};
+ghost use Rattle.std.specs.Prelude.{◌≡◌, ◌+◌, ◌*◌, ◌^◌, ◌<◌, ◌≤◌, [], IfOk, OnOk, OnErr, vec_len, vec_capacity};
 ghost use Rattle.std.specs.List.{All};
-ghost use Rattle.mc_slab.specs.Classes.{IsClass, chunks_a_page};
-ghost use Rattle.mc_slab.specs.Chunks.{IsChunkOf};
-ghost use Rattle.mc_slab.specs.Runs.{AreRunsOf, chunks_a_run, uncut};
+ghost use Rattle.mc_slab.specs.Classes.{IsClass, size_of, chunks_a_page};
+ghost use Rattle.mc_slab.specs.Runs.{AreRunsOf, IsMemoryOf, chunks_a_run, uncut};
+ghost use Rattle.mc_slab.specs.Stocks.{IsChunkOf};
 
-use crate::chunk::Chunk;
-use crate::class::Class;
+use crate::chunks::Chunks;
+use crate::class::{CLASSES, Class};
 use std::alloc::{AllocError, Global};
 use std::marker::Model;
 
 /// How many bytes a run has at most, where its chunks aren't larger.
 const RUN: u32 = 1 << 15;
 
-/// One allocation, from which chunks of a class are to be cut. Nothing is written in it before that.
+/// Memory that chunks are to be cut of. In that of a class below the last nothing is written before.
+#[derive(Drop)]
+enum Memory {
+    Bytes(Vec<u8>),
+    Page(Chunks),
+}
+
+/// Memory from which chunks of a class are to be cut, had at once.
 #[derive(Drop)]
 struct Run {
     class: Class,
     count: u32,
-    memory: Vec<u8>,
+    memory: Memory,
 }
 
 impl Model for Run {
-    ghost use Rattle.std.specs.Prelude.{◌≤◌, ◌*◌, vec_capacity};
-    ghost use Rattle.mc_slab.specs.Classes.{IsClass, size_of};
-    ghost use Rattle.mc_slab.specs.Runs.{UncutState, coded_uncut};
+    ghost use Rattle.mc_slab.specs.Classes.{IsClass};
+    ghost use Rattle.mc_slab.specs.Runs.{UncutState, coded_uncut, IsMemoryOf};
 
     ghost Value = { UncutState };
 
@@ -33,62 +39,113 @@ impl Model for Run {
 
     ghost view = { λ r. record { class = r.class; count = r.count } };
 
-    ghost invariant = { λ r.
-        IsClass r.class × (r.count * size_of r.class ≤ vec_capacity r.memory) };
+    ghost invariant = { λ r. IsClass r.class × IsMemoryOf r.class r.count r.memory };
 }
 
 impl Run {
     /// Asks for the memory of so many chunks.
     fn new(alloc: Global, class: Class, count: u32) -> Result<Run, AllocError>
-        requires { count ≤ chunks_a_page class }
+        requires some { 1 ≤ count }
+        requires few { count ≤ chunks_a_run class }
         ensures { IfOk result (λ run. run ≡ record { class = class; count = count }) }
     {
-        let size = class.size() as usize;
         Ok(Run {
             class,
             count,
-            memory: Vec::with_capacity(alloc, count as usize * size)?,
+            memory: memory_of(alloc, class, count)?,
         })
+    }
+
+    /// The count of its chunks.
+    fn count(&self) -> u32
+        ensures { result ≡ self.now.count }
+    {
+        self.count
     }
 
     /// Writes its memory, of zeros.
     fn written(self) -> Run
-        ensures { result ≡ self }
+        ensures { result ≡ self.entry }
     {
         let Run {
             class,
             count,
-            mut memory,
+            memory,
         } = self;
-        write_zeros(&mut memory, count as usize * class.size() as usize);
         Run {
             class,
             count,
-            memory,
+            memory: written(memory, class, count),
         }
     }
 
-    /// Cuts its chunks, of zeros, for which there is room. They stay with the process.
-    fn cut_into(self, chunks: &mut Vec<Chunk>)
+    /// Cuts its chunks, of zeros, for which there is room. Those of a class below the last stay with
+    /// the process.
+    fn cut_into(self, chunks: &mut Vec<Chunks>)
         requires none { chunks.old.items ≡ [] }
         requires room { self.count ≤ vec_capacity chunks.old }
-        ensures count { vec_len chunks.new ≡ self.count }
-        ensures chunks { All (IsChunkOf self.class) chunks.new.items }
+        ensures count { vec_len chunks.new ≡ self.entry.count }
+        ensures chunks { All (IsChunkOf self.entry.class) chunks.new.items }
         ensures capacity { vec_capacity chunks.new ≡ vec_capacity chunks.old }
     {
         let Run {
             class,
             count,
-            mut memory,
+            memory,
         } = self;
-        let size = class.size() as usize;
-        write_zeros(&mut memory, count as usize * size);
-        let mut rest = memory.leak();
-        for _ in 0..count {
-            let (first, others) = rest.split_at_mut(size);
-            chunks.push_reserved(Chunk::of(first));
-            rest = others;
+        match memory {
+            Memory::Page(chunk) => chunks.push_reserved(chunk),
+            Memory::Bytes(bytes) => cut_bytes(bytes, class, count, chunks),
         }
+    }
+}
+
+/// Asks for the memory of so many chunks of the class.
+fn memory_of(alloc: Global, class: Class, count: u32) -> Result<Memory, AllocError>
+    requires some { 1 ≤ count }
+    requires few { count ≤ chunks_a_run class }
+    ensures memory { IfOk result (IsMemoryOf class count) }
+    ensures class { IsClass class }
+{
+    if class.number() == CLASSES {
+        Ok(Memory::Page(Chunks::page(alloc)?))
+    } else {
+        let bytes = count as usize * class.size() as usize;
+        Ok(Memory::Bytes(Vec::with_capacity(alloc, bytes)?))
+    }
+}
+
+/// Writes memory, of zeros.
+fn written(memory: Memory, class: Class, count: u32) -> Memory
+    requires class { IsClass class }
+    requires memory { IsMemoryOf class count memory }
+    ensures { IsMemoryOf class count result }
+{
+    match memory {
+        Memory::Page(chunk) => Memory::Page(chunk),
+        Memory::Bytes(mut bytes) => {
+            write_zeros(&mut bytes, count as usize * class.size() as usize);
+            Memory::Bytes(bytes)
+        }
+    }
+}
+
+/// Cuts chunks of a class below the last of memory.
+fn cut_bytes(mut bytes: Vec<u8>, class: Class, count: u32, chunks: &mut Vec<Chunks>)
+    requires class { IsClass class × (class < 40) }
+    requires bytes { count * size_of class ≤ vec_capacity bytes }
+    requires none { chunks.old.items ≡ [] }
+    requires room { count ≤ vec_capacity chunks.old }
+    ensures count { vec_len chunks.new ≡ count }
+    ensures chunks { All (IsChunkOf class) chunks.new.items }
+    ensures capacity { vec_capacity chunks.new ≡ vec_capacity chunks.old }
+{
+    write_zeros(&mut bytes, count as usize * class.size() as usize);
+    let mut rest: &'static mut [u8] = bytes.leak();
+    for _ in 0..count {
+        let (chunk, others) = Chunks::cut(class, rest);
+        chunks.push_reserved(chunk);
+        rest = others;
     }
 }
 
@@ -105,19 +162,21 @@ fn write_zeros(memory: &mut Vec<u8>, length: usize)
 #[derive(Drop)]
 pub(crate) struct Runs {
     class: Class,
+    count: u32,
     runs: Vec<Run>,
 }
 
 impl Model for Runs {
+    ghost use Rattle.std.specs.Prelude.{◌≡◌};
     ghost use Rattle.mc_slab.specs.Runs.{UncutState, coded_uncut, AreRunsOf, uncut};
 
     ghost Value = { UncutState };
 
     ghost coded = { coded_uncut };
 
-    ghost view = { λ r. record { class = r.class; count = uncut r.runs.items } };
+    ghost view = { λ r. record { class = r.class; count = r.count } };
 
-    ghost invariant = { λ r. AreRunsOf r.class r.runs.items };
+    ghost invariant = { λ r. (uncut r.runs.items ≡ r.count) × AreRunsOf r.class r.runs.items };
 }
 
 impl Runs {
@@ -127,62 +186,84 @@ impl Runs {
     {
         Runs {
             class,
+            count: 0,
             runs: Vec::new(alloc),
         }
     }
 
-    /// The class.
-    fn class(&self) -> Class
-        ensures { result ≡ self.now.class }
+    /// Counts the chunks that are to be cut.
+    pub(crate) fn count(&self) -> u32
+        ensures { result ≡ self.now.count }
     {
-        self.class
+        self.count
     }
 
-    /// Whether no chunk is to be cut.
-    pub(crate) fn is_empty(&self) -> bool
-        ensures { IsTrue result ↔ (self.now.count ≡ 0) }
+    /// Asks for the memory of so many chunks of the class, but for those of the pages that are
+    /// brought, where they are of the class. What isn't wanted of them is let go. Refused, all is
+    /// let go.
+    pub(crate) fn provided(
+        alloc: Global,
+        class: Class,
+        count: u32,
+        pages: Option<Pages>,
+    ) -> Result<Runs, AllocError>
+        ensures { IfOk result (λ runs. runs ≡ record { class = class; count = count }) }
     {
-        self.runs.is_empty()
+        brought(alloc, class, pages)
+            .kept(count)
+            .filled(alloc, count)
     }
 
-    /// Takes the memory of a page that is brought, and asks for it where none is. Refused, what was had of it is given back.
-    pub(crate) fn add_page(&mut self, alloc: Global, page: Option<Page>) -> Result<(), AllocError>
-        requires none { self.old.count ≡ 0 }
-        requires page { IfSome page (λ page. page.class ≡ self.old.class) }
+    /// Lets runs go until at most so many chunks are to be cut.
+    fn kept(self, most: u32) -> Runs
+        ensures class { result.class ≡ self.class }
+        ensures most { result.count ≤ most }
+    {
+        let Runs {
+            class,
+            mut count,
+            mut runs,
+        } = self;
+        while count > most {
+            count -= runs.pop().unwrap().count();
+        }
+        Runs { class, count, runs }
+    }
+
+    /// Asks for the memory that is wanting to so many chunks.
+    fn filled(self, alloc: Global, count: u32) -> Result<Runs, AllocError>
+        requires { self.count ≤ count }
+        ensures { IfOk result (λ runs. runs ≡ record { class = self.class; count = count }) }
+    {
+        let Runs {
+            class,
+            count: had,
+            mut runs,
+        } = self;
+        make_runs(&mut runs, alloc, class, count - had)?;
+        Ok(Runs { class, count, runs })
+    }
+
+    /// Takes other runs of the class. Refused, nothing is changed.
+    pub(crate) fn join(&mut self, others: Runs) -> Result<(), AllocError>
+        requires class { others.class ≡ self.old.class }
+        requires few { self.old.count + others.count < 2 ^ 32 }
         ensures ok { OnOk result
-            (self.new ≡ record self.old { count = chunks_a_page self.old.class }) }
+            (self.new ≡ record self.old { count = self.old.count + others.count }) }
         ensures err { OnErr result (self.new ≡ self.old) }
     {
-        match page {
-            Some(page) => {
-                self.bring(page);
-                Ok(())
-            }
-            None => self.ask_for_page(alloc),
+        if self.count == 0 {
+            *self = others;
+            return Ok(());
         }
-    }
-
-    /// Takes the memory of a page.
-    fn bring(&mut self, page: Page)
-        requires page { page.class ≡ self.old.class }
-        ensures { self.new ≡ record self.old { count = chunks_a_page self.old.class } }
-    {
-        let Page { runs } = page;
-        *self = runs;
-    }
-
-    /// Asks for the memory of a page. Refused, what was had of it is given back.
-    fn ask_for_page(&mut self, alloc: Global) -> Result<(), AllocError>
-        requires { self.old.count ≡ 0 }
-        ensures ok { OnOk result
-            (self.new ≡ record self.old { count = chunks_a_page self.old.class }) }
-        ensures err { OnErr result (self.new ≡ self.old) }
-    {
-        let made = make_runs(&mut self.runs, alloc, self.class);
-        if made.is_err() {
-            self.runs.clear();
-        }
-        made
+        let Runs {
+            count,
+            mut runs,
+            ..
+        } = others;
+        self.runs.append(&mut runs)?;
+        self.count += count;
+        Ok(())
     }
 
     /// Writes the run whose chunks are cut first.
@@ -195,7 +276,7 @@ impl Runs {
     }
 
     /// Cuts the chunks of one run, for which there is room.
-    pub(crate) fn cut_into(&mut self, chunks: &mut Vec<Chunk>)
+    pub(crate) fn cut_into(&mut self, chunks: &mut Vec<Chunks>)
         requires some { 0 < self.old.count }
         requires none { chunks.old.items ≡ [] }
         requires room { self.old.count ≤ vec_capacity chunks.old }
@@ -206,7 +287,18 @@ impl Runs {
         ensures capacity { vec_capacity chunks.new ≡ vec_capacity chunks.old }
     {
         let run = self.runs.pop().unwrap();
+        self.count -= run.count();
         run.cut_into(chunks);
+    }
+}
+
+/// The runs of the pages that are brought, where they are of the class.
+fn brought(alloc: Global, class: Class, pages: Option<Pages>) -> Runs
+    ensures { result.class ≡ class }
+{
+    match pages {
+        Some(pages) if pages.class().number() == class.number() => pages.into_runs(),
+        _ => Runs::new(alloc, class),
     }
 }
 
@@ -218,14 +310,14 @@ fn chunks_a_run(class: Class) -> u32
     (RUN / class.size()).max(1)
 }
 
-/// Makes the runs of a page of the class.
-fn make_runs(runs: &mut Vec<Run>, alloc: Global, class: Class) -> Result<(), AllocError>
-    requires { runs.old.items ≡ [] }
-    ensures ok { OnOk result (uncut runs.new.items ≡ chunks_a_page class) }
+/// Makes runs of so many chunks of the class more.
+fn make_runs(runs: &mut Vec<Run>, alloc: Global, class: Class, count: u32) -> Result<(), AllocError>
+    requires { AreRunsOf class runs.old.items }
+    ensures ok { OnOk result (uncut runs.new.items ≡ uncut runs.old.items + count) }
     ensures runs { AreRunsOf class runs.new.items }
 {
     let most = chunks_a_run(class);
-    let mut left = class.chunks_a_page();
+    let mut left = count;
     while left > 0 {
         let count = left.min(most);
         runs.push(Run::new(alloc, class, count)?)?;
@@ -234,43 +326,49 @@ fn make_runs(runs: &mut Vec<Run>, alloc: Global, class: Class) -> Result<(), All
     Ok(())
 }
 
-/// The memory of a page for a class, had before a slab is asked for a chunk. The run whose chunks are cut first is written.
-/// Contracts see the class. One that is let go gives its memory back.
+/// The memory of pages for a class, had before a slab is asked for chunks. Of a class below the last the run whose chunks are
+/// cut first is written, and the last's are written whole. Contracts see the class and how many pages there are. What is let go
+/// gives its memory back.
 #[derive(Drop)]
-pub struct Page {
+pub struct Pages {
+    count: u32,
     runs: Runs,
 }
 
-impl Model for Page {
-    ghost use Rattle.std.specs.Prelude.{◌≡◌};
-    ghost use Rattle.mc_slab.specs.Classes.{chunks_a_page};
-    ghost use Rattle.mc_slab.specs.Runs.{UncutState, coded_uncut};
+impl Model for Pages {
+    ghost use Rattle.mc_slab.specs.Runs.{PagesState, coded_pages};
 
-    ghost Value = { UncutState };
+    ghost Value = { PagesState };
 
-    ghost coded = { coded_uncut };
+    ghost coded = { coded_pages };
 
-    ghost view = { λ p. p.runs };
-
-    ghost invariant = { λ p. p.runs.count ≡ chunks_a_page p.runs.class };
+    ghost view = { λ p. record { class = p.runs.class; count = p.count } };
 }
 
-impl Page {
-    /// Asks for the memory of a page of the class, and writes what a slab cuts of it first: 32768 bytes, or one larger chunk.
-    /// The one error is a refused allocation; what was had is then given back.
-    pub fn new(alloc: Global, class: Class) -> Result<Page, AllocError>
-        ensures class { IfOk result (λ page. page.class ≡ class) }
+impl Pages {
+    /// Asks for the memory of 1 to 8 pages of the class, and writes what a slab cuts of it first: 32768 bytes, or one larger chunk;
+    /// pages of 1048576 bytes each are written all. The one error is a refused allocation; what was had is then given back.
+    pub fn new(alloc: Global, class: Class, count: u32) -> Result<Pages, AllocError>
+        requires { (1 ≤ count) × (count ≤ 8) }
+        ensures { IfOk result (λ pages. pages ≡ record { class = class; count = count }) }
     {
-        let mut runs = Runs::new(alloc, class);
-        runs.add_page(alloc, None)?;
+        let chunks = class.chunks_a_page() * count;
+        let mut runs = Runs::provided(alloc, class, chunks, None)?;
         runs.write_next();
-        Ok(Page { runs })
+        Ok(Pages { count, runs })
     }
 
-    /// The class that it is for.
-    pub(crate) fn class(&self) -> Class
+    /// The class that they are for.
+    fn class(&self) -> Class
         ensures { result ≡ self.now.class }
     {
-        self.runs.class()
+        self.runs.class
+    }
+
+    /// Their runs.
+    fn into_runs(self) -> Runs
+        ensures { result.class ≡ self.class }
+    {
+        self.runs
     }
 }

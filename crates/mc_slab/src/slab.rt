@@ -1,29 +1,24 @@
 //! The slab: pages that go to classes, and the chunks that are taken of them.
 
-ghost use Rattle.std.specs.Prelude.{◌≡◌, ℕ, ◌<◌, ◌≤◌, ◌↔◌, ◌⊎◌, map, IfOk, IfErr, IfSome, OnOk, OnErr, Err};
+ghost use Rattle.std.specs.Prelude.{◌≡◌, ◌≤◌, map, IfOk};
 ghost use Rattle.std.specs.List.{range_with_len};
-ghost use Rattle.mc_slab.specs.Chunks.{chunk_class};
 ghost use Rattle.mc_slab.specs.Slabs.{
   IsSlab,
   Takes,
-  WantsPage,
-  TellsFull,
-  full_fault,
+  Readies,
   untouched,
   empty_stock,
   pages_of,
   out_of,
-  chunks_of,
   pages_left,
-  with_chunk,
-  taken,
   given,
 };
 ghost use Rattle.mc_slab.specs.declared.slab.TakeFault.TheVariants.{NoMemory};
 
-use crate::chunk::Chunk;
+use crate::chunks::Chunks;
 use crate::class::{CLASSES, Class};
-use crate::run::Page;
+use crate::need::Need;
+use crate::run::Pages;
 use crate::stock::{Account, Stock};
 use std::alloc::{AllocError, Global};
 use std::marker::Model;
@@ -32,17 +27,17 @@ use thiserror::Error;
 /// Why a chunk could not be had. The slab is as it was.
 #[derive(Debug, Drop, Error)]
 pub enum TakeFault {
-    /// Every chunk of the class's pages is out, and no page is left.
-    #[error("all {out} chunks of the class's {pages} pages are out, and no page is left")]
+    /// Too few chunks of the class's pages are free, and too few pages are left.
+    #[error("{out} chunks of the class's {pages} pages are out, and too few pages are left")]
     Full {
         /// The class that was asked for.
         class: Class,
         /// How many pages it has.
         pages: u32,
-        /// How many of their chunks are out: all.
+        /// How many of their chunks are out: all, where one was asked for.
         out: u32,
     },
-    /// The class needs a page, and memory for one was refused.
+    /// The class needs pages, and memory for one was refused.
     #[error("out of memory")]
     NoMemory,
 }
@@ -92,70 +87,85 @@ impl Slab {
         })
     }
 
-    /// Takes a chunk of the class, of any content. A page goes to the class only where all its
-    /// chunks are out, and only that takes memory. Refused, the slab is as it was, and what was had
-    /// of a page is free again.
-    pub fn take(&mut self, alloc: Global, class: Class) -> Result<Chunk, TakeFault>
-        ensures { Takes class self.old result self.new }
+    /// Takes the chunks of a need, of any content, all or none. They are free ones that came back,
+    /// then those to be cut of the class's pages, and where too few are, just the pages that are
+    /// wanting go to the class first. Only that takes memory. Where too few pages are left for them,
+    /// or memory for one is refused, the slab is as it was, and what was had of it is free again.
+    pub fn take_all(&mut self, alloc: Global, need: Need) -> Result<Chunks, TakeFault>
+        ensures { Takes need self.old result self.new }
     {
-        self.take_with(alloc, class, None)
+        self.take_all_with(alloc, need, None)
     }
 
-    /// Takes a chunk of the class, as `take` does. A page that goes to the class is the one that is
-    /// brought, where one of the class is: then memory is asked for nothing but the list of its
-    /// chunks. One that isn't wanted is let go.
-    pub fn take_with(
+    /// Takes the chunks of a need, as `take_all` does. Pages that go to the class are those that are
+    /// brought, as far as they are wanted and of the class; what isn't wanted of them is let go.
+    pub fn take_all_with(
         &mut self,
         alloc: Global,
-        class: Class,
-        page: Option<Page>,
-    ) -> Result<Chunk, TakeFault>
-        ensures { Takes class self.old result self.new }
+        need: Need,
+        pages: Option<Pages>,
+    ) -> Result<Chunks, TakeFault>
+        ensures { Takes need self.old result self.new }
     {
-        self.make_ready(alloc, class, of_class(page, class))?;
-        let stock = &mut self.stocks[class.index()];
-        Ok(stock.take())
+        self.is_slab();
+        self.ready_with(alloc, need, 0, pages)?;
+        let stock = &mut self.stocks[need.class().index()];
+        Ok(stock.take(need.count()))
     }
 
-    /// Gives a page to the class where all its chunks are out.
-    fn make_ready(
+    /// Gives the class of a need just the pages that it will want once `back` of its chunks that are
+    /// out came back, all or none, so that the need is then taken without a page. Where too few
+    /// pages are left, or memory for one is refused, the slab is as it was.
+    pub fn ready(&mut self, alloc: Global, need: Need, back: u64) -> Result<(), TakeFault>
+        requires { back ≤ out_of self.old need.class }
+        ensures { Readies need back self.old result self.new }
+    {
+        self.ready_with(alloc, need, back, None)
+    }
+
+    /// Gives the class of a need the pages that it will want, as `ready` does, of those that are
+    /// brought, as far as they are wanted and of the class; what isn't wanted of them is let go.
+    pub fn ready_with(
         &mut self,
         alloc: Global,
-        class: Class,
-        page: Option<Page>,
+        need: Need,
+        back: u64,
+        pages: Option<Pages>,
     ) -> Result<(), TakeFault>
-        requires page { IfSome page (λ page. page.class ≡ class) }
-        ensures ready { OnOk result (self.new ≡ with_chunk self.old class) }
-        ensures free { OnOk result (out_of self.new class < chunks_of self.new class) }
-        ensures full { (pages out : ℕ) → (result ≡ Err (TakeFault.Full class pages out))
-            ↔ TellsFull self.old class pages out }
-        ensures no_memory { result ≡ Err TakeFault.NoMemory → WantsPage self.old class }
-        ensures faults { IfErr result (λ fault.
-            (fault ≡ TakeFault.NoMemory) ⊎ (fault ≡ full_fault self.old class)) }
-        ensures err { OnErr result (self.new ≡ self.old) }
+        requires { back ≤ out_of self.old need.class }
+        ensures { Readies need back self.old result self.new }
     {
+        let class = need.class();
         let stock = &mut self.stocks[class.index()];
-        if !stock.is_all_out() {
+        let wanted = stock.pages_wanted(need.count(), back);
+        if wanted == 0 {
             return Ok(());
         }
-        if self.pages_left == 0 {
+        if wanted > self.pages_left {
             let Account { pages, out } = stock.account();
             return Err(TakeFault::Full { class, pages, out });
         }
-        stock.add_page(alloc, page)?;
-        self.pages_left -= 1;
+        stock.add_pages(alloc, wanted, pages)?;
+        self.pages_left -= wanted;
         Ok(())
     }
 
-    /// Takes a chunk back, of whose class one is out. It takes no memory.
-    pub fn give(&mut self, chunk: Chunk)
-        requires { 0 < out_of self.old (chunk_class chunk) }
-        ensures given { self.new ≡ given self.old (chunk_class chunk.entry) }
+    /// Takes chunks back, of whose class so many are out. It takes no memory.
+    pub fn give_all(&mut self, chunks: Chunks)
+        requires { chunks.count ≤ out_of self.old chunks.class }
+        ensures given { self.new ≡ given self.old chunks.entry.class chunks.entry.count }
         ensures is_slab { IsSlab self.new }
     {
-        let class = chunk.class();
-        let stock = &mut self.stocks[class.index()];
-        stock.give(chunk);
+        let need = chunks.need();
+        let stock = &mut self.stocks[need.class().index()];
+        stock.give(chunks, need.count());
+    }
+
+    /// Says that it is one. It does nothing.
+    fn is_slab(&self)
+        ensures { IsSlab self.now }
+    {
+        let _ = &self.stocks;
     }
 
     /// Counts the class's pages, and its chunks that are out.
@@ -186,14 +196,4 @@ fn empty_stocks(alloc: Global) -> Result<Vec<Stock>, AllocError>
         stocks.push_reserved(Stock::new(alloc, Class::of(index + 1)));
     }
     Ok(stocks)
-}
-
-/// The page, if it is one of the class.
-fn of_class(page: Option<Page>, class: Class) -> Option<Page>
-    ensures { IfSome result (λ page. page.class ≡ class) }
-{
-    match page {
-        Some(page) if page.class().number() == class.number() => Some(page),
-        _ => None,
-    }
 }

@@ -1,14 +1,15 @@
 //! What one class has: its pages, its chunks that are out, and its free ones.
 
-ghost use Rattle.std.specs.Prelude.{◌≡◌, ◌+◌, ◌-◌, ◌*◌, ◌<◌, ◌≤◌, ◌↔◌, IsTrue, IfSome, OnOk, OnErr, vec_len, vec_capacity};
+ghost use Rattle.std.specs.Prelude.{◌≡◌, ◌+◌, ◌-◌, ◌*◌, ◌<◌, ◌≤◌, OnOk, OnErr, vec_len, vec_capacity};
 ghost use Rattle.std.specs.List.{All};
+ghost use Rattle.mc_slab.specs.Chunks.{AreChunks, AreChunksOf};
 ghost use Rattle.mc_slab.specs.Classes.{IsClass, chunks_a_page};
-ghost use Rattle.mc_slab.specs.Chunks.{IsChunkOf};
-ghost use Rattle.mc_slab.specs.Stocks.{all_chunks};
+ghost use Rattle.mc_slab.specs.Needs.{IsNeed};
+ghost use Rattle.mc_slab.specs.Stocks.{IsChunkOf, all_chunks};
 
-use crate::chunk::Chunk;
+use crate::chunks::Chunks;
 use crate::class::Class;
-use crate::run::{Page, Runs};
+use crate::run::{Pages, Runs};
 use std::alloc::{AllocError, Global};
 use std::marker::Model;
 
@@ -27,7 +28,7 @@ pub(crate) struct Stock {
     class: Class,
     pages: u32,
     out: u32,
-    free: Vec<Chunk>,
+    free: Vec<Chunks>,
     uncut: Runs,
 }
 
@@ -72,56 +73,107 @@ impl Stock {
         }
     }
 
-    /// Whether every chunk of its pages is out.
-    pub(crate) fn is_all_out(&self) -> bool
-        ensures value { IsTrue result ↔ (self.now.out ≡ all_chunks self.now) }
+    /// How many pages are wanting to so many chunks, once so many more came back, where a page gives
+    /// one chunk, or one chunk is wanted.
+    pub(crate) fn pages_wanted(&self, count: u32, back: u64) -> u32
+        requires { back ≤ self.now.out }
+        ensures value { result ≡ count - (all_chunks self.now - self.now.out + back) }
         ensures within { self.now.out ≤ all_chunks self.now }
     {
-        self.free.is_empty() && self.uncut.is_empty()
+        let unused = self.free.len() as u64 + u64::from(self.uncut.count());
+        u64::from(count).saturating_sub(unused + back) as u32
     }
 
-    /// One page more: the one that is brought, where one is. Refused, the stock is as it was: the memory of a page is had whole, with room for its chunks among the
-    /// free ones, or not at all.
-    pub(crate) fn add_page(&mut self, alloc: Global, page: Option<Page>) -> Result<(), AllocError>
-        requires all_out { self.old.out ≡ all_chunks self.old }
-        requires few { self.old.pages < 65536 }
-        requires page { IfSome page (λ page. page.class ≡ self.old.class) }
-        ensures ok { OnOk result (self.new ≡ record self.old { pages = self.old.pages + 1 }) }
+    /// So many pages more: those that are brought, as far as they are wanted and of the class.
+    /// Refused, the stock is as it was: the memory of all is had whole, with room for their chunks
+    /// among the free ones, or none.
+    pub(crate) fn add_pages(
+        &mut self,
+        alloc: Global,
+        count: u32,
+        pages: Option<Pages>,
+    ) -> Result<(), AllocError>
+        requires few { self.old.pages + count ≤ 65536 }
+        ensures ok { OnOk result (self.new ≡ record self.old { pages = self.old.pages + count }) }
         ensures err { OnErr result (self.new ≡ self.old) }
     {
-        let chunks = self.class.chunks_a_page();
-        // None is free here, so there is room for all: those that are out, and those of the new page.
-        self.free
-            .reserve_exact(self.out as usize + chunks as usize)?;
-        self.uncut.add_page(alloc, page)?;
-        self.pages += 1;
+        let chunks = count * self.class.chunks_a_page();
+        let runs = Runs::provided(alloc, self.class, chunks, pages)?;
+        // There is room for all: those that are out, free or to be cut, and those of the new pages.
+        let more = self.out + self.uncut.count() + chunks;
+        self.free.reserve_exact(more as usize)?;
+        self.uncut.join(runs)?;
+        self.pages += count;
         Ok(())
     }
 
-    /// Takes a free chunk.
-    pub(crate) fn take(&mut self) -> Chunk
-        requires { self.old.out < all_chunks self.old }
-        ensures chunk { IsChunkOf self.old.class result }
-        ensures out { self.new ≡ record self.old { out = self.old.out + 1 } }
+    /// Takes so many chunks. It takes no memory.
+    pub(crate) fn take(&mut self, count: u32) -> Chunks
+        requires need { IsNeed (record { class = self.old.class; count = count }) }
+        requires enough { self.old.out + count ≤ all_chunks self.old }
+        ensures chunks { AreChunksOf (record { class = self.old.class; count = count }) result }
+        ensures out { self.new ≡ record self.old { out = self.old.out + count } }
     {
-        let chunk = take_free(&mut self.free, &mut self.uncut);
-        self.out += 1;
-        chunk
+        let chunks = take_linked(&mut self.free, &mut self.uncut, count);
+        self.out += count;
+        chunks
     }
 
-    /// Takes a chunk back.
-    pub(crate) fn give(&mut self, chunk: Chunk)
-        requires out { 0 < self.old.out }
-        requires class { IsChunkOf self.old.class chunk }
-        ensures { self.new ≡ record self.old { out = self.old.out - 1 } }
+    /// Takes so many chunks back. It takes no memory.
+    pub(crate) fn give(&mut self, chunks: Chunks, count: u32)
+        requires out { count ≤ self.old.out }
+        requires class { AreChunksOf (record { class = self.old.class; count = count }) chunks }
+        ensures { self.new ≡ record self.old { out = self.old.out - count } }
     {
-        self.free.push_reserved(chunk);
-        self.out -= 1;
+        give_apart(&mut self.free, chunks, count);
+        self.out -= count;
     }
 }
 
+/// Takes so many of the free chunks, linked, and cuts others where too few are.
+fn take_linked(free: &mut Vec<Chunks>, uncut: &mut Runs, count: u32) -> Chunks
+    requires need { IsNeed (record { class = uncut.old.class; count = count }) }
+    requires chunks { All (IsChunkOf uncut.old.class) free.old.items }
+    requires some { count ≤ vec_len free.old + uncut.old.count }
+    requires room { vec_len free.old + uncut.old.count ≤ vec_capacity free.old }
+    ensures chunk { AreChunksOf (record { class = uncut.old.class; count = count }) result }
+    ensures chunks { All (IsChunkOf uncut.old.class) free.new.items }
+    ensures count { vec_len free.new + uncut.new.count + count
+        ≡ vec_len free.old + uncut.old.count }
+    ensures class { uncut.new.class ≡ uncut.old.class }
+    ensures capacity { vec_capacity free.new ≡ vec_capacity free.old }
+{
+    if count == 1 {
+        take_free(free, uncut)
+    } else {
+        take_pages(free, uncut, count)
+    }
+}
+
+/// Takes so many chunks of the last class, linked.
+fn take_pages(free: &mut Vec<Chunks>, uncut: &mut Runs, count: u32) -> Chunks
+    requires class { uncut.old.class ≡ 40 }
+    requires few { (1 ≤ count) × (count ≤ 8) }
+    requires chunks { All (IsChunkOf uncut.old.class) free.old.items }
+    requires some { count ≤ vec_len free.old + uncut.old.count }
+    requires room { vec_len free.old + uncut.old.count ≤ vec_capacity free.old }
+    ensures chunk { AreChunksOf (record { class = uncut.old.class; count = count }) result }
+    ensures chunks { All (IsChunkOf uncut.old.class) free.new.items }
+    ensures count { vec_len free.new + uncut.new.count + count
+        ≡ vec_len free.old + uncut.old.count }
+    ensures class { uncut.new.class ≡ uncut.old.class }
+    ensures capacity { vec_capacity free.new ≡ vec_capacity free.old }
+{
+    let one = take_free(free, uncut);
+    if count == 1 {
+        return one;
+    }
+    let others = take_pages(free, uncut, count - 1);
+    Chunks::in_front(one, others)
+}
+
 /// Takes one of the free chunks. Where none is, those of a run are cut first, for which there is room.
-fn take_free(free: &mut Vec<Chunk>, uncut: &mut Runs) -> Chunk
+fn take_free(free: &mut Vec<Chunks>, uncut: &mut Runs) -> Chunks
     requires chunks { All (IsChunkOf uncut.old.class) free.old.items }
     requires some { 0 < vec_len free.old + uncut.old.count }
     requires room { vec_len free.old + uncut.old.count ≤ vec_capacity free.old }
@@ -135,4 +187,23 @@ fn take_free(free: &mut Vec<Chunk>, uncut: &mut Runs) -> Chunk
         uncut.cut_into(free);
     }
     free.pop().unwrap()
+}
+
+/// Puts so many chunks among the free ones, one by one, for which there is room.
+fn give_apart(free: &mut Vec<Chunks>, chunks: Chunks, count: u32)
+    requires some { 1 ≤ count }
+    requires room { vec_len free.old + count ≤ vec_capacity free.old }
+    requires free { All (IsChunkOf chunks.class) free.old.items }
+    requires chunks { AreChunksOf (record { class = chunks.class; count = count }) chunks }
+    ensures free { All (IsChunkOf chunks.entry.class) free.new.items }
+    ensures count { vec_len free.new ≡ vec_len free.old + count }
+    ensures capacity { vec_capacity free.new ≡ vec_capacity free.old }
+{
+    let mut rest = chunks;
+    for _ in 1..count {
+        let (one, behind) = rest.taken_off();
+        free.push_reserved(one);
+        rest = behind;
+    }
+    free.push_reserved(rest);
 }

@@ -7,7 +7,7 @@ ghost use Rattle.std.specs.Prelude.{◌≤◌};
 use crate::steps::{Ask, Row, Want, asked, filled, first_unlike, set, step_of, told_of};
 use mc_command::{PlainStore, Steps, Verb};
 use mc_time::Moment;
-use std::alloc::Global;
+use std::alloc::{AllocError, Global};
 use std::process::Abort;
 use std::test::Fail;
 
@@ -20,7 +20,7 @@ fn answers(
     rows: &[Row<'_>],
 ) -> Result<(), Fail>
     requires pages { (1 ≤ pages) × (pages ≤ 65536) }
-    requires greatest { greatest ≤ 1048576 }
+    requires greatest { greatest ≤ 8388608 }
 {
     let mut store = PlainStore::new(alloc, pages, greatest)?;
     assert_eq!(rt; first_unlike(&mut store, alloc, rows)?, None);
@@ -199,6 +199,77 @@ fn a_number_asks_room_where_its_class_changes(rt: HostRuntime) -> Result<(), Fai
         (1000, key, Ask::Get, Want::Hit(2, b"0")),
     ];
     answers(&rt, rt.alloc(), 1, 1048576, &rows)
+}
+
+// Above 1048576 bytes an item takes as many whole pages as hold it, up to 8388608.
+
+#[test]
+fn large_items_take_whole_pages(rt: HostRuntime) -> Result<(), Fail> {
+    let three = filled(rt.alloc(), 3000000)?;
+    let two = filled(rt.alloc(), 2000000)?;
+    // 48 bytes, a key of 1 and this block are a page.
+    let one = filled(rt.alloc(), 1048527)?;
+    let rows: [Row<'_>; 7] = [
+        set(1000, b"b", 0, three.as_slice(), "stored"),
+        set(1000, b"s", 0, b"x", "no chunk"),
+        set(1000, b"b", 0, three.as_slice(), "no chunk"),
+        (1000, b"b", Ask::Delete, Want::Told("deleted")),
+        set(1000, b"c", 0, two.as_slice(), "stored"),
+        set(1000, b"d", 0, one.as_slice(), "stored"),
+        set(1000, b"e", 0, one.as_slice(), "no chunk"),
+    ];
+    answers(&rt, rt.alloc(), 3, 8388608, &rows)
+}
+
+#[test]
+fn the_largest_item_takes_eight_pages(rt: HostRuntime) -> Result<(), Fail> {
+    let most = filled(rt.alloc(), 8388559)?;
+    let more = filled(rt.alloc(), 8388560)?;
+    let rows: [Row<'_>; 3] = [
+        set(1000, b"k", 0, most.as_slice(), "stored"),
+        set(1000, b"k", 0, more.as_slice(), "too large"),
+        set(1000, b"s", 0, b"x", "no chunk"),
+    ];
+    answers(&rt, rt.alloc(), 8, 8388608, &rows)
+}
+
+/// Makes a number of so many bytes: a 7, and spaces behind it. It is asked for again where memory
+/// is refused.
+fn spaced(alloc: Global, len: usize) -> Result<Vec<u8>, AllocError> {
+    let mut bytes = match vec![in alloc; b' '; len] {
+        Err(_) => vec![in alloc; b' '; len]?,
+        Ok(bytes) => bytes,
+    };
+    if let Some(first) = bytes.first_mut() {
+        *first = b'7';
+    }
+    Ok(bytes)
+}
+
+#[test]
+fn a_long_number_gives_its_pages_back_where_it_is_counted(rt: HostRuntime) -> Result<(), Fail> {
+    let number = spaced(rt.alloc(), 2000000)?;
+    let large = filled(rt.alloc(), 600000)?;
+    let rows: [Row<'_>; 6] = [
+        set(1000, b"n", 0, number.as_slice(), "stored"),
+        (1000, b"n", Ask::Incr(1), Want::Number(8)),
+        (1000, b"n", Ask::Get, Want::Hit(2, b"8")),
+        set(1000, b"a", 0, large.as_slice(), "stored"),
+        set(1000, b"b", 0, large.as_slice(), "stored"),
+        set(1000, b"c", 0, large.as_slice(), "no chunk"),
+    ];
+    answers(&rt, rt.alloc(), 3, 8388608, &rows)
+}
+
+#[test]
+fn a_long_number_asks_room_where_it_is_counted(rt: HostRuntime) -> Result<(), Fail> {
+    let number = spaced(rt.alloc(), 2000000)?;
+    let rows: [Row<'_>; 3] = [
+        set(1000, b"n", 0, number.as_slice(), "stored"),
+        (1000, b"n", Ask::Incr(1), Want::Told("no chunk")),
+        (1000, b"n", Ask::Get, Want::Hit(1, number.as_slice())),
+    ];
+    answers(&rt, rt.alloc(), 2, 8388608, &rows)
 }
 
 #[test]

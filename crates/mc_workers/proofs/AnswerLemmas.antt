@@ -18,7 +18,8 @@ use Rattle.mc_workers.specs.Telling.{TakenTurn, Visits, nothing, visit, texts, t
 use Rattle.mc_workers.specs.Telling.{piece_of, part_of, bytes_given, bytes_taken, AnswerFirst, AnswerAll}
 use Rattle.mc_workers.specs.declared.guest.Visit.{Visit}
 use Rattle.mc_workers.specs.declared.guest.Visit.TheVariants.{Wrote, Turned, Read, Later, Served, Broken, Refused}
-use Rattle.mc_workers.proofs.TellingLemmas.{grown_nothing, grown_twice, moved_out, fed_out, texts_append, served_written}
+use Rattle.mc_workers.proofs.LinkLemmas.{grown_nothing, grown_twice}
+use Rattle.mc_workers.proofs.TellingLemmas.{moved_out, fed_out, texts_append, served_written}
 
 -- steps of any store
 abbrev any_store : Relations (Unit {0})

@@ -1,6 +1,6 @@
 -- Visits tell the texts of their turns.
 use Rattle.std.specs.Prelude.{slice_get}
-use Rattle.std.proofs.Common.{◌≡◌, ◌⊎◌, inl, inr, ℕ, zero, suc, ◌+◌, ◌==◌, Bool, true, false, List, [], ◌∷◌, ◌++◌, length, Option, Some, None, refl, sym, ap, ◌∙◌, subst, arith, append_assoc, append-nil, if◌then◌else◌}
+use Rattle.std.proofs.Common.{◌≡◌, ◌⊎◌, inl, inr, ℕ, zero, suc, ◌+◌, ◌==◌, Bool, true, false, List, [], ◌∷◌, ◌++◌, length, Option, Some, refl, sym, ap, ◌∙◌, subst, arith, append_assoc, append-nil, if◌then◌else◌}
 use Rattle.std.proofs.lemmas.List.{length-append}
 use Rattle.std.proofs.lemmas.Option.{slice_get_within}
 use Rattle.mc_command.specs.declared.step.Steps.{Ghosts as Relations}
@@ -9,18 +9,11 @@ use Rattle.mc_parse.specs.Streams.{is_last}
 use Rattle.mc_session.specs.Turns.{SessionState, TakesTurn, moved, fed, turn_count}
 use Rattle.mc_workers.specs.Links.{LinkState, grown}
 use Rattle.mc_workers.specs.Guests.{GuestState, welcomed, told}
+use Rattle.mc_workers.proofs.LinkLemmas.{grown_nothing, grown_twice}
 use Rattle.mc_workers.specs.Visits.{Does, Visited, GoesRound, nobody, next, WritesFront}
 use Rattle.mc_workers.specs.Telling.{TakenTurn, Visits, nothing, visit, texts, turns_of}
 use Rattle.mc_workers.specs.declared.guest.Visit.{Visit}
 use Rattle.mc_workers.specs.declared.guest.Visit.TheVariants.{Wrote, Turned, Read, Later, Served, Broken, Refused}
-
-pub grown_nothing : (known : Option (List ℕ)) → grown known [] ≡ known
-grown_nothing None = refl
-grown_nothing (Some bytes) = ap (λ (l : List ℕ). Some l) (append-nil bytes)
-
-pub grown_twice : (known : Option (List ℕ)) (a b : List ℕ) → grown (grown known a) b ≡ grown known (a ++ b)
-grown_twice None a b = refl
-grown_twice (Some bytes) a b = ap (λ (l : List ℕ). Some l) (append_assoc bytes a b)
 
 -- where the link took nothing and the output is the same, the same is told
 told_same : (old new : GuestState) → new.link.taken ≡ old.link.taken → new.session.out ≡ old.session.out

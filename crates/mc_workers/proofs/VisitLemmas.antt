@@ -6,13 +6,13 @@ use Rattle.std.proofs.lemmas.Grind.{drop_more_same}
 use Rattle.mc_command.specs.declared.step.Steps.{Ghosts as Relations}
 use Rattle.std.proofs.lemmas.List.{take-append-drop, length-take-le, append-nil}
 use Rattle.mc_session.specs.Turns.{SessionState, DecidesStep, TurnIsDue, FedPiece, sent, closed}
-use Rattle.mc_workers.specs.Links.{LinkState, grown, gave, took, failed, ended}
+use Rattle.mc_workers.specs.Links.{LinkState, asked, grown, gave, took, failed, ended}
 use Rattle.mc_workers.specs.Guests.{GuestState, IsWaiting}
 use Rattle.mc_workers.specs.Visits.{WritesFront, ReadsPiece, WaitsForLink, EndsServed, EndsBroken, RefusesPiece, RefusesTurn, Reads, Does, Visited, GoesRound, next}
 use Rattle.mc_workers.specs.declared.guest.Visit.{Visit}
 use Rattle.mc_workers.specs.declared.guest.Visit.TheVariants.{Wrote, Turned, Read, Later, Served, Broken, Refused}
 
-pub writes_front : (old new : GuestState) (n : ℕ) (bytes : List ℕ) → bytes ≡ old.session.out → 0 < n → n ≤ length bytes → new.session ≡ sent old.session n → new.link ≡ took old.link (take n bytes) → WritesFront old new
+pub writes_front : (old new : GuestState) (n : ℕ) (bytes : List ℕ) → bytes ≡ old.session.out → 0 < n → n ≤ length bytes → new.session ≡ sent old.session n → new.link ≡ took (asked false old.link) (take n bytes) → WritesFront old new
 writes_front old new n bytes is some low s l = record {
   part = take n bytes;
   some = let e = length-take-le n bytes low in subst (λ k. 0 < k) (sym e) some;
@@ -63,22 +63,22 @@ module _ (session between : SessionState) (link later : LinkState) (last : Optio
   waits_here : IsWaiting session
   waits_here = subst (λ (g : GuestState). IsWaiting g.session) (sym is) waits
 
-  pub reads_piece : later ≡ gave link piece → ReadsPiece old (guest_of between later last)
+  pub reads_piece : later ≡ gave (asked true link) piece → ReadsPiece old (guest_of between later last)
   reads_piece given = subst (λ (g : GuestState). ReadsPiece g (guest_of between later last)) is (record { piece = piece; waits = waits_here; session = came.0; link = given })
 
-  pub reads_later : piece ≡ [] → later ≡ link → WaitsForLink old (guest_of between later last)
+  pub reads_later : piece ≡ [] → later ≡ asked true link → WaitsForLink old (guest_of between later last)
   reads_later none same = subst (λ (g : GuestState). WaitsForLink g (guest_of between later last)) is (record { awaits = inr waits_here; session = came.1 none; link = same })
 
-  pub reads_nothing : 0 ≡ length piece → later ≡ gave link piece → WaitsForLink old (guest_of between later last)
+  pub reads_nothing : 0 ≡ length piece → later ≡ gave (asked true link) piece → WaitsForLink old (guest_of between later last)
   reads_nothing zero given =
       let none : piece ≡ [] = no_items piece zero in
-      reads_later none (given ∙ ap (gave link) none ∙ gave_none link link.given refl)
+      reads_later none (given ∙ ap (gave (asked true link)) none ∙ gave_none (asked true link) link.given refl)
 
-  pub reads_end : (new : SessionState) → new ≡ closed between → piece ≡ [] → later ≡ ended link → EndsServed old (guest_of new later last)
+  pub reads_end : (new : SessionState) → new ≡ closed between → piece ≡ [] → later ≡ ended (asked true link) → EndsServed old (guest_of new later last)
   reads_end new shut none over = subst (λ (g : GuestState). EndsServed g (guest_of new later last)) is
       (record { written = waits_here.written; session = shut ∙ ap closed (came.1 none); over = inr (waits_here, over) })
 
-  pub reads_fault : (new : SessionState) → new ≡ closed between → piece ≡ [] → later ≡ failed link → EndsBroken old (guest_of new later last)
+  pub reads_fault : (new : SessionState) → new ≡ closed between → piece ≡ [] → later ≡ failed (asked true link) → EndsBroken old (guest_of new later last)
   reads_fault new shut none fails = subst (λ (g : GuestState). EndsBroken g (guest_of new later last)) is
       (record { awaits = inr waits_here; session = shut ∙ ap closed (came.1 none); link = fails })
 

@@ -1,4 +1,5 @@
 -- What contracts see of a guest.
+use mathlib.Core.Logic.{inl, inr}
 use Rattle.std.specs.Prelude.{◌≡◌, ◌⊎◌, ℕ, Bool, true, false, List, [], Option, Some, None, IsTrue}
 use Rattle.mc_session.specs.Turns.{SessionState, NoTurnDue, TurnIsDue, opened}
 use Rattle.mc_workers.specs.Links.{LinkState, grown}
@@ -44,6 +45,11 @@ pub record IsWaiting (session : SessionState) : Type 0 where
 -- there is output to write, or no turn is due until more bytes come
 abbrev pub AwaitsLink : SessionState → Type 0
 AwaitsLink session = (session.out ≡ [] → ⊥) ⊎ IsWaiting session
+
+-- whether its link is to give, and not to take
+abbrev pub wants : {session : SessionState} → AwaitsLink session → Bool
+wants (inl has_output) = false
+wants (inr is_waiting) = true
 
 -- the bytes that its link took, and those that wait for it
 abbrev pub told : GuestState → Option (List ℕ)

@@ -1,4 +1,5 @@
 pub mod Links
+pub mod Gathered
 pub mod Guests
 pub mod Visits
 pub mod Telling

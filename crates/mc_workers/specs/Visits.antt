@@ -1,9 +1,9 @@
 -- What a visit does.
-use Rattle.std.specs.Prelude.{◌≡◌, ◌⊎◌, ◌<◌, ℕ, List, [], ◌∷◌, ◌++◌, length, Some, IsTrue, IsFalse}
+use Rattle.std.specs.Prelude.{◌≡◌, ◌⊎◌, ◌<◌, ℕ, true, false, List, [], ◌∷◌, ◌++◌, length, Some, IsTrue, IsFalse}
 use Rattle.mc_command.specs.declared.step.Steps.{Ghosts as Relations}
 use Rattle.mc_session.specs.Turns.{TakesTurn, DecidesStep, closed, fed}
-use Rattle.mc_workers.specs.Links.{gave, took, failed, ended}
-use Rattle.mc_workers.specs.Guests.{GuestState, ends, has_ended, IsTurnDue, IsWaiting, AwaitsLink}
+use Rattle.mc_workers.specs.Links.{asked, gave, took, failed, ended}
+use Rattle.mc_workers.specs.Guests.{GuestState, ends, has_ended, IsTurnDue, IsWaiting, AwaitsLink, wants}
 use Rattle.mc_workers.specs.declared.guest.Visit.{Visit}
 use Rattle.mc_workers.specs.declared.guest.Visit.TheVariants.{Wrote, Turned, Read, Later, Served, Broken, Refused}
 
@@ -13,33 +13,33 @@ pub record WritesFront (old new : GuestState) : Type 0 where
   pub some : 0 < length part
   pub parts : old.session.out ≡ part ++ new.session.out
   pub session : new.session ≡ record old.session { out = new.session.out }
-  pub link : new.link ≡ took old.link part
+  pub link : new.link ≡ took (asked false old.link) part
 
 -- the link gave a piece, which was fed
 pub record ReadsPiece (old new : GuestState) : Type 0 where
   pub piece : List ℕ
   pub waits : IsWaiting old.session
   pub session : new.session ≡ fed old.session piece
-  pub link : new.link ≡ gave old.link piece
+  pub link : new.link ≡ gave (asked true old.link) piece
 
--- nothing can be done now
+-- nothing can be done now, as the link said when it was asked
 pub record WaitsForLink (old new : GuestState) : Type 0 where
   pub awaits : AwaitsLink old.session
   pub session : new.session ≡ old.session
-  pub link : new.link ≡ old.link
+  pub link : new.link ≡ asked (wants awaits) old.link
 
 -- all was written, and the session was closed or its stream is at its end
 pub record EndsServed (old new : GuestState) : Type 0 where
   pub written : old.session.out ≡ []
   pub session : new.session ≡ closed old.session
   pub over : (IsFalse old.session.is_open × (new.link ≡ old.link))
-      ⊎ (IsWaiting old.session × (new.link ≡ ended old.link))
+      ⊎ (IsWaiting old.session × (new.link ≡ ended (asked true old.link)))
 
 -- the link failed
 pub record EndsBroken (old new : GuestState) : Type 0 where
   pub awaits : AwaitsLink old.session
   pub session : new.session ≡ closed old.session
-  pub link : new.link ≡ failed old.link
+  pub link : new.link ≡ failed (asked (wants awaits) old.link)
 
 -- there was no memory for a piece, and the link wasn't asked
 pub record RefusesPiece (old new : GuestState) : Type 0 where

@@ -1,5 +1,6 @@
 //! Links in memory, for tests.
 
+use crate::calls::{Call, Calls};
 use crate::link::{Got, Link, LinkFault, Took};
 use crate::worker::{Links, Next};
 use std::alloc::Global;
@@ -38,64 +39,6 @@ impl Seen {
     }
 }
 
-/// How a call of a link goes.
-#[derive(Clone, Copy, Debug, PartialEq, Eq)]
-enum Call {
-    Fails,
-    /// The faults can't be counted any more.
-    GivesNone,
-    /// No bytes come or go.
-    IsEmpty,
-    /// One byte comes or goes, where there is one.
-    GoesOn,
-}
-
-/// The calls of a link, each other one of which is empty. Contracts see how many failed.
-#[derive(Drop)]
-struct Calls {
-    /// In how many calls from now one fails; none does at 0.
-    until_fault: u64,
-    faults: u64,
-    was_empty: bool,
-}
-
-impl Model for Calls {
-    ghost use Rattle.std.specs.Prelude.{ℕ};
-
-    ghost Value = { ℕ };
-
-    ghost view = { λ c. c.faults };
-}
-
-impl Calls {
-    ghost use Rattle.std.specs.Prelude.{◌≡◌, ◌+◌, ◌-◌, ◌^◌};
-
-    /// Says how the next call goes.
-    fn next(&mut self) -> Call
-        ensures full { self.old ≡ 2 ^ 64 - 1 → result ≡ Call.GivesNone }
-        ensures fails { result ≡ Call.Fails → self.new ≡ self.old + 1 }
-        ensures none { result ≡ Call.GivesNone → self.new ≡ self.old }
-        ensures empty { result ≡ Call.IsEmpty → self.new ≡ self.old }
-        ensures goes { result ≡ Call.GoesOn → self.new ≡ self.old }
-    {
-        if self.faults == u64::MAX {
-            return Call::GivesNone;
-        }
-        if self.until_fault == 1 {
-            self.until_fault = 0;
-            self.faults += 1;
-            return Call::Fails;
-        }
-        self.until_fault = self.until_fault.saturating_sub(1);
-        self.was_empty = !self.was_empty;
-        if self.was_empty {
-            Call::GoesOn
-        } else {
-            Call::IsEmpty
-        }
-    }
-}
-
 /// A link in memory, which gives its input and takes output one byte at a time, with an empty call
 /// after each, and may fail at one of its calls.
 #[derive(Drop)]
@@ -110,6 +53,7 @@ pub struct HeldLink<'a> {
     /// It gives nothing while this is 0.
     gives: Option<&'a AtomicU64>,
     is_ended: bool,
+    was_read: bool,
 }
 
 impl<'a> Model for HeldLink<'a> {
@@ -123,6 +67,7 @@ impl<'a> Model for HeldLink<'a> {
       taken = Some s.output.items;
       faults = s.calls;
       is_ended = s.is_ended;
+      was_read = s.was_read;
     } };
 }
 
@@ -138,19 +83,16 @@ impl<'a> HeldLink<'a> {
             output: Vec::new(alloc),
             expected,
             seen,
-            calls: Calls {
-                until_fault: 0,
-                faults: 0,
-                was_empty: false,
-            },
+            calls: Calls::failing_at(0),
             gives: None,
             is_ended: false,
+            was_read: false,
         }
     }
 
     /// Lets a call from now fail: the first at 1.
     pub fn failing_at(mut self, call: u64) -> HeldLink<'a> {
-        self.calls.until_fault = call;
+        self.calls = Calls::failing_at(call);
         self
     }
 
@@ -172,6 +114,7 @@ impl<'a> HeldLink<'a> {
     fn give(&mut self, piece: &mut [u8]) -> Result<Got, LinkFault>
         ensures { Gives self.old piece.new result self.new }
     {
+        self.was_read = true;
         if self.at >= self.input.len() {
             self.is_ended = true;
             return Ok(Got::End);
@@ -188,6 +131,7 @@ impl<'a> HeldLink<'a> {
     fn take(&mut self, bytes: &[u8]) -> Result<Took, LinkFault>
         ensures { Takes self.old bytes.now result self.new }
     {
+        self.was_read = false;
         if bytes.is_empty() {
             return Ok(Took::Later);
         }
@@ -207,6 +151,7 @@ impl<'a> Link for HeldLink<'a> {
     ghost shown = { λ s. s };
 
     fn try_read(&mut self, piece: &mut [u8]) -> Result<Got, LinkFault> {
+        self.was_read = true;
         match self.calls.next() {
             Call::Fails => Err(LinkFault),
             Call::GivesNone => Ok(Got::Later),
@@ -216,6 +161,7 @@ impl<'a> Link for HeldLink<'a> {
     }
 
     fn try_write(&mut self, bytes: &[u8]) -> Result<Took, LinkFault> {
+        self.was_read = false;
         match self.calls.next() {
             Call::Fails => Err(LinkFault),
             Call::GivesNone => Ok(Took::Later),
@@ -225,7 +171,7 @@ impl<'a> Link for HeldLink<'a> {
     }
 
     fn faults(&self) -> u64 {
-        self.calls.faults
+        self.calls.faults()
     }
 }
 

@@ -1,11 +1,16 @@
 //! Worker loops over links.
 #![tactic(auto)]
 
+#[cfg(test)]
+mod calls;
 mod counting;
 #[cfg(test)]
 mod counting_tests;
 #[cfg(test)]
 mod gate_tests;
+mod gathering;
+#[cfg(test)]
+mod gathering_tests;
 mod guest;
 mod guests;
 #[cfg(test)]
@@ -25,6 +30,7 @@ mod tests;
 mod visit_tests;
 mod worker;
 
+pub use gathering::Gathering;
 pub use guest::{Guest, Visit};
 pub use guests::WorkEnd;
 pub use laws::{links_are_answered_what_they_gave, links_take_texts_of_turns, rounds_are_visits};

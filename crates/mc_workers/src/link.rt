@@ -27,10 +27,11 @@ pub struct LinkFault;
 /// A stream in both directions, of which no call waits. A fault leaves the bytes that were given and
 /// taken as they were, and counts; where no more faults can be counted, both calls answer `Later`.
 pub trait Link {
-    ghost use Rattle.std.specs.Prelude.{◌≡◌, ◌-◌, ◌^◌, Ok};
+    ghost use Rattle.std.specs.Prelude.{◌≡◌, ◌-◌, ◌^◌, ◌++◌, Ok};
     ghost use Rattle.mc_workers.specs.Links.{LinkState, Gives, Takes};
 
-    /// What it gave and took until now, how often it failed, and whether it is at its end.
+    /// What it gave and took until now, how often it failed, whether it is at its end, and whether it was
+    /// last asked to give and not to take.
     ghost shown: { Self → LinkState };
 
     /// Gives bytes where there are any, at most as many as the piece is long.
@@ -42,6 +43,18 @@ pub trait Link {
     fn try_write(&mut self, bytes: &[u8]) -> Result<Took, LinkFault>
         ensures takes { Takes (shown self.old) bytes.now result (shown self.new) }
         ensures full { (shown self.old).faults ≡ 2 ^ 64 - 1 → result ≡ Ok Took.Later };
+
+    /// Takes a front of two texts, one behind the other, where it has room.
+    fn try_write_both(&mut self, first: &[u8], second: &[u8]) -> Result<Took, LinkFault>
+        ensures takes { Takes (shown self.old) (first.now ++ second.now) result (shown self.new) }
+        ensures full { (shown self.old).faults ≡ 2 ^ 64 - 1 → result ≡ Ok Took.Later }
+    {
+        if first.is_empty() {
+            self.try_write(second)
+        } else {
+            self.try_write(first)
+        }
+    }
 
     /// Counts how often it failed.
     fn faults(&self) -> u64

@@ -173,19 +173,22 @@ fn visits_do_what_is_due(rt: HostRuntime) -> Result<(), Fail> {
 #[derive(Drop)]
 struct Flood<'a> {
     piece: &'a AtomicU64,
+    was_read: bool,
 }
 
 impl<'a> Link for Flood<'a> {
     ghost use Rattle.std.specs.Prelude.{None, false};
 
-    ghost shown = { λ s. record { given = None; taken = None; faults = 0; is_ended = false } };
+    ghost shown = { λ s. record { given = None; taken = None; faults = 0; is_ended = false; was_read = s.was_read } };
 
     fn try_read(&mut self, piece: &mut [u8]) -> Result<Got, LinkFault> {
+        self.was_read = true;
         self.piece.store(piece.len() as u64, Ordering::SeqCst);
         Ok(Got::Bytes(piece.len()))
     }
 
     fn try_write(&mut self, _bytes: &[u8]) -> Result<Took, LinkFault> {
+        self.was_read = false;
         Ok(Took::Later)
     }
 
@@ -199,7 +202,14 @@ fn a_read_that_fills_its_piece_makes_the_next_longer(rt: HostRuntime) -> Result<
     let now = Moment::from_seconds_at_most(1000);
     let mut store = new_store(rt.alloc(), false)?;
     let length = AtomicU64::new(0);
-    let mut guest = Guest::new(rt.alloc(), Flood { piece: &length }, 1048576)?;
+    let mut guest = Guest::new(
+        rt.alloc(),
+        Flood {
+            piece: &length,
+            was_read: false,
+        },
+        1048576,
+    )?;
     let lengths: [u64; 3] = [2048, 16384, 16384];
     for wanted in lengths {
         let answer = guest.visit(rt.alloc(), &mut store, now);

@@ -43,7 +43,8 @@ tells_request command at (Some step) some others some' others' text text' e g h 
     let same : g.0 ≡ h.0 = cc in
     (g.2 ∙ ap (answer_text command at) same ∙ sym h.2, cc)
 
-tells_one : (unit : ProtocolUnit) (at : ℕ) (some others some' others' : List Answer) (text text' : List ℕ) → some ++ others ≡ some' ++ others' → Tells unit at some text → Tells unit at some' text' → (text ≡ text') × (others ≡ others')
+tells_one : (unit : ProtocolUnit) (at : ℕ) (some others some' others' : List Answer) (text text' : List ℕ) → some ++ others ≡ some' ++ others'
+    → Tells unit at some text → Tells unit at some' text' → (text ≡ text') × (others ≡ others')
 tells_one (Request command) at some others some' others' text text' e g h = tells_request command at (slice_get (steps command) at) some others some' others' text text' e g h
 tells_one (Fault fault) at some others some' others' text text' e g h = (g.1 ∙ sym h.1, ap (λ l. l ++ others) (sym g.0) ∙ e ∙ ap (λ l. l ++ others') h.0)
 tells_one LongLine at some others some' others' text text' e g h = (g.1 ∙ sym h.1, ap (λ l. l ++ others) (sym g.0) ∙ e ∙ ap (λ l. l ++ others') h.0)
@@ -89,7 +90,8 @@ turn_one grammar c d d' some others some' others' is (inr (u, at, text, next, te
       same.1,
     )
 
-own_one : (grammar : Grammar) (c d d' : Connection) (event : Event) (some others some' others' : List Answer) → some ++ others ≡ some' ++ others' → Own c event some d → Own c event some' d' → Same d d' others others'
+own_one : (grammar : Grammar) (c d d' : Connection) (event : Event) (some others some' others' : List Answer) → some ++ others ≡ some' ++ others'
+    → Own c event some d → Own c event some' d' → Same d d' others others'
 own_one grammar c d d' Open some others some' others' is g h = absurd g
 own_one grammar c d d' (Piece k piece) some others some' others' is g h = none_both c d d' (where_open (with_piece piece) c) some others some' others' is g h
 own_one grammar c d d' (Turn k) some others some' others' is g h =
@@ -150,7 +152,8 @@ tells_request_in : (old : PlainWorld) (command : Command) (at : ℕ) (after : Pl
 tells_request_in old command at after text None h = (refl, h.0)
 tells_request_in old command at after text (Some step) h = tells_step command at old.now step old.state after text h
 
-tells_in : (old : PlainWorld) (unit : ProtocolUnit) (at : ℕ) (after : Plain) (text : List ℕ) → Answers in_plain unit at old.now old.state after text → Tells unit at (answers_in old (step_of unit at)) text
+tells_in : (old : PlainWorld) (unit : ProtocolUnit) (at : ℕ) (after : Plain) (text : List ℕ) → Answers in_plain unit at old.now old.state after text
+    → Tells unit at (answers_in old (step_of unit at)) text
 tells_in old (Request command) at after text h = tells_request_in old command at after text (slice_get (steps command) at) h
 tells_in old (Fault fault) at after text h = (refl, h.0)
 tells_in old LongLine at after text h = (refl, h.0)
@@ -167,14 +170,17 @@ module _ (grammar : Grammar) (old new : PlainWorld) (n : ℕ) (c : Connection) (
   turn_owned answers (inr (state, turn, is)) (inr (unit, at, next, told)) =
       let both = one_next grammar c unit turn.unit at turn.at next turn.next in
       let tells : Tells turn.unit turn.at answers turn.text =
-      subst (λ (l : List Answer). Tells turn.unit turn.at l turn.text) (sym (told ∙ ap (λ (p : ProtocolUnit × ℕ). answers_in old (step_of p.0 p.1)) both)) (tells_in old turn.unit turn.at state turn.text turn.answers) in
+      subst (λ (l : List Answer). Tells turn.unit turn.at l turn.text) (sym (told ∙ ap (λ (p : ProtocolUnit × ℕ). answers_in old (step_of p.0 p.1)) both))
+      (tells_in old turn.unit turn.at state turn.text turn.answers) in
       let d : Connection = after_turn turn.unit turn.text c in
       (d, ap (at_number n) is ∙ put_at old.connections n c d here, inr (turn.unit, turn.at, turn.text, turn.next, tells, refl))
 
-  turn_of : (answers : List Answer) → MatchOption (open_connection n old.connections) (new ≡ old) (λ c. Turns old n c new) → MatchOption (open_connection n old.connections) (answers ≡ []) (λ c. AnswersNext old c answers)
+  turn_of : (answers : List Answer) → MatchOption (open_connection n old.connections) (new ≡ old) (λ c. Turns old n c new)
+      → MatchOption (open_connection n old.connections) (answers ≡ []) (λ c. AnswersNext old c answers)
       → (d : Connection) × (at_number n new ≡ Some d) × MatchBool c.is_open (OwnTurn c answers d) ((answers ≡ []) × (d ≡ c))
   turn_of answers h a =
-      let by_open : (b : Bool) → MatchOption (if b then Some c else None) (new ≡ old) (λ c. Turns old n c new) → MatchOption (if b then Some c else None) (answers ≡ []) (λ c. AnswersNext old c answers)
+      let by_open : (b : Bool) → MatchOption (if b then Some c else None) (new ≡ old) (λ c. Turns old n c new)
+      → MatchOption (if b then Some c else None) (answers ≡ []) (λ c. AnswersNext old c answers)
       → (d : Connection) × (at_number n new ≡ Some d) × MatchBool b (OwnTurn c answers d) ((answers ≡ []) × (d ≡ c)) =
       λ b. elim b as (λ b. MatchOption (if b then Some c else None) (new ≡ old) (λ c. Turns old n c new) → MatchOption (if b then Some c else None) (answers ≡ []) (λ c. AnswersNext old c answers)
       → (d : Connection) × (at_number n new ≡ Some d) × MatchBool b (OwnTurn c answers d) ((answers ≡ []) × (d ≡ c))) [
@@ -218,7 +224,8 @@ module _ (grammar : Grammar) (old new : PlainWorld) (n : ℕ) (c : Connection) (
     owned (Close k) answers mine h a = (where_open ended c, changed_owned k ended (eqb-true k n mine) h, (a, refl))
 
     -- and one that isn't
-    foreign : (event : Event) (answers : List Answer) → is_number n (named event) ≡ false → Happens hash shelves old event new → AnswersOf n old event answers → (at_number n new ≡ Some c) × (answers ≡ [])
+    foreign : (event : Event) (answers : List Answer) → is_number n (named event) ≡ false → Happens hash shelves old event new → AnswersOf n old event answers
+        → (at_number n new ≡ Some c) × (answers ≡ [])
     foreign Open answers other h a = (open_else (nat_lt (length old.connections) 65535) h, a)
     foreign (Piece k piece) answers other h a = (changed_by k (with_piece piece) (eqb-false k n other) h, a)
     foreign (Turn k) answers other h a = (
@@ -236,7 +243,8 @@ module _ (grammar : Grammar) (old new : PlainWorld) (n : ℕ) (c : Connection) (
     next_answered (Some x) (inl h) = ([], inl (h.0, refl))
     next_answered (Some x) (inr (state, turn, is)) = (answers_in old (step_of turn.unit turn.at), inr (turn.unit, turn.at, turn.next, refl))
 
-    turn_answered : (k : ℕ) (b : Bool) → (k == n) ≡ b → Happens hash shelves old (Turn k) new → (answers : List Answer) × MatchBool b (MatchOption (open_connection n old.connections) (answers ≡ []) (λ c. AnswersNext old c answers)) (answers ≡ [])
+    turn_answered : (k : ℕ) (b : Bool) → (k == n) ≡ b → Happens hash shelves old (Turn k) new → (answers : List Answer)
+        × MatchBool b (MatchOption (open_connection n old.connections) (answers ≡ []) (λ c. AnswersNext old c answers)) (answers ≡ [])
     turn_answered k true mine h =
         let goes : Happens hash shelves old (Turn n) new = subst (λ (j : ℕ). Happens hash shelves old (Turn j) new) (eqb-true k n mine) h in
         next_answered (open_connection n old.connections) goes
@@ -268,7 +276,8 @@ module _ (grammar : Grammar) (hash : List ℕ → ℕ) (shelves n : ℕ) where
   Lives c events answers new = (d : Connection) × (at_number n new ≡ Some d) × OwnAll c (events_of n events) answers d
 
   -- what an event makes of the connection, and then the others
-  lives_more : (c : Connection) (old mid new : PlainWorld) (event : Event) (events : List Event) (some others : List Answer) (here : at_number n old ≡ Some c) → Kept grammar old mid n c here hash shelves (is_number n (named event)) event some
+  lives_more : (c : Connection) (old mid new : PlainWorld) (event : Event) (events : List Event) (some others : List Answer) (here : at_number n old ≡ Some c)
+      → Kept grammar old mid n c here hash shelves (is_number n (named event)) event some
       → ((x : Connection) → at_number n mid ≡ Some x → Lives x events others new) → Lives c (event ∷ events) (some ++ others) new
   lives_more c old mid new event events some others here was goes =
       elim (is_number n (named event)) as (λ b. Kept grammar old mid n c here hash shelves b event some
@@ -277,7 +286,8 @@ module _ (grammar : Grammar) (hash : List ℕ → ℕ) (shelves n : ℕ) where
         | false ↦ λ (there, none). let rest = goes c there in (rest.0, rest.1, subst (λ (l : List Answer). OwnAll c (events_of n events) (l ++ others) rest.0) (sym none) rest.2)
       ] was
 
-  lives : (c : Connection) (old new : PlainWorld) (events : List Event) (answers : List Answer) → at_number n old ≡ Some c → RunsAnswering hash shelves n old events answers new → Lives c events answers new
+  lives : (c : Connection) (old new : PlainWorld) (events : List Event) (answers : List Answer) → at_number n old ≡ Some c
+      → RunsAnswering hash shelves n old events answers new → Lives c events answers new
   lives c old new [] answers here (same, none) = (c, ap (at_number n) same ∙ here, (none, refl))
   lives c old new (event ∷ events) answers here (mid, some, others, happens, told, runs, parts) =
       subst (λ (l : List Answer). Lives c (event ∷ events) l new) (sym parts)
@@ -286,7 +296,8 @@ module _ (grammar : Grammar) (hash : List ℕ → ℕ) (shelves n : ℕ) where
   abbrev RunsSo : PlainWorld → List Event → PlainWorld → Type 0
   RunsSo old events new = (answers : List Answer) × (last : Connection) × RunsAnswering hash shelves n old events answers new × (at_number n new ≡ Some last)
 
-  kept_at : (c : Connection) (old mid : PlainWorld) (event : Event) (some : List Answer) (here : at_number n old ≡ Some c) (b : Bool) → Kept grammar old mid n c here hash shelves b event some → (x : Connection) × (at_number n mid ≡ Some x)
+  kept_at : (c : Connection) (old mid : PlainWorld) (event : Event) (some : List Answer) (here : at_number n old ≡ Some c) (b : Bool)
+      → Kept grammar old mid n c here hash shelves b event some → (x : Connection) × (at_number n mid ≡ Some x)
   kept_at c old mid event some here true was = (was.0, was.1)
   kept_at c old mid event some here false was = (c, was.0)
 
@@ -306,6 +317,7 @@ leaves_own grammar n first own answers last l =
     let same : found.0 ≡ last = cc in
     subst (λ (es : List Event). OwnAll first es answers last) l.has (subst (OwnAll first (events_of n l.events) answers) same found.2)
 
-pub leaves_one : (grammar : Grammar) (n : ℕ) (first : Connection) (own : List Event) (answers : List Answer) (last other : Connection) → Leaves n first own answers last → Leaves n first own answers other → other ≡ last
+pub leaves_one : (grammar : Grammar) (n : ℕ) (first : Connection) (own : List Event) (answers : List Answer) (last other : Connection)
+    → Leaves n first own answers last → Leaves n first own answers other → other ≡ last
 leaves_one grammar n first own answers last other one two =
     own_all_one grammar first last other own answers answers refl (leaves_own grammar n first own answers last one) (leaves_own grammar n first own answers other two)

@@ -1,5 +1,6 @@
 -- What is left of a connection, over a piece, a turn and an end.
-use Rattle.std.proofs.Common.{◌≡◌, ◌⊎◌, inl, inr, ℕ, zero, suc, ◌+◌, ◌<◌, ◌==◌, ◌↔◌, Bool, true, false, not, List, [], ◌∷◌, ◌++◌, length, drop, Option, Some, None, refl, sym, ap, ◌∙◌, subst, arith, length-append, length-drop, append_assoc, if◌then◌else◌}
+use Rattle.std.proofs.Common.{◌≡◌, ◌⊎◌, inl, inr, ℕ, zero, suc, ◌+◌, ◌<◌, ◌==◌, ◌↔◌, Bool, true, false, not, List, [], ◌∷◌, ◌++◌, length, drop, Option, Some, None, refl, sym, ap}
+use Rattle.std.proofs.Common.{◌∙◌, subst, arith, length-append, length-drop, append_assoc, if◌then◌else◌}
 use Rattle.std.specs.List.{slice_get}
 use Rattle.std.specs.Bool.{MatchBool}
 use Rattle.std.proofs.lemmas.Bool.{eqb-true, eqb-false}
@@ -67,11 +68,18 @@ turn_behind read us unit t taken is less =
     ∙ ap (λ (k : ℕ). Some (unit, k)) e
 
 -- the units of a stream are those that were read and then those of what comes after them
-are_joined : (g : Grammar) (greatest passed : ℕ) (bytes : List ℕ) (read us : List ProtocolUnit) (rest : Unread) → Follows greatest passed bytes read rest → AreUnits rest.greatest rest.passed rest.bytes us → AreUnits greatest passed bytes (read ++ us)
+are_joined : (g : Grammar) (greatest passed : ℕ) (bytes : List ℕ) (read us : List ProtocolUnit) (rest : Unread) → Follows greatest passed bytes read rest
+    → AreUnits rest.greatest rest.passed rest.bytes us → AreUnits greatest passed bytes (read ++ us)
 are_joined g greatest passed bytes [] us rest f h =
     (g.early_units (unread greatest passed bytes) us).0 (subst (λ (r : Unread). HasUnits r us) f h)
-are_joined g greatest passed bytes (u ∷ read) us rest f h =
-    (f.0, f.1, f.2, f.3, subst (λ (b : Bool). MatchBool b ((read ++ us) ≡ []) (AreUnits greatest (passed_after u) f.1 (read ++ us))) (sym f.4) (are_joined g greatest (passed_after u) f.1 read us rest f.5 h))
+are_joined g greatest passed bytes (u ∷ read) us rest f h = (
+  f.0,
+  f.1,
+  f.2,
+  f.3,
+  subst (λ (b : Bool). MatchBool b ((read ++ us) ≡ []) (AreUnits greatest (passed_after u) f.1 (read ++ us))) (sym f.4)
+      (are_joined g greatest (passed_after u) f.1 read us rest f.5 h),
+)
 
 -- what is left has the same greatest charge
 same_greatest : (greatest passed : ℕ) (bytes : List ℕ) (read : List ProtocolUnit) (rest : Unread) → Follows greatest passed bytes read rest → rest.greatest ≡ greatest
@@ -79,7 +87,8 @@ same_greatest greatest passed bytes [] rest f = ap (λ (r : Unread). r.greatest)
 same_greatest greatest passed bytes (u ∷ read) rest f = same_greatest greatest (passed_after u) f.1 read rest f.5
 
 -- a piece that comes behind a front that spells a unit leaves it there
-behind_front : (g : Grammar) (greatest passed : ℕ) (bytes piece front more : List ℕ) (unit : ProtocolUnit) → drop passed bytes ≡ front ++ more → Spells greatest unit front → drop passed (bytes ++ piece) ≡ front ++ (more ++ piece)
+behind_front : (g : Grammar) (greatest passed : ℕ) (bytes piece front more : List ℕ) (unit : ProtocolUnit) → drop passed bytes ≡ front ++ more
+    → Spells greatest unit front → drop passed (bytes ++ piece) ≡ front ++ (more ++ piece)
 behind_front g greatest passed bytes piece front more unit e spelled =
     let some = g.byte greatest unit front spelled in
     drop-append-le passed bytes piece (omega (arith, length-drop passed bytes, ap length e, length-append front more))
@@ -90,7 +99,8 @@ pushed_settled : (g : Grammar) (u : Unread) (piece : List ℕ) → pushed (settl
 pushed_settled g u piece = ap (λ b. pushed (settled (unread u.greatest u.passed b)) piece) (sym (append-nil u.bytes)) ∙ g.cut u [] piece
 
 -- a piece comes to what is left
-follows_piece : (g : Grammar) (greatest passed : ℕ) (bytes piece : List ℕ) (read : List ProtocolUnit) (rest : Unread) → Follows greatest passed bytes read rest → Follows greatest passed (bytes ++ piece) read (pushed rest piece)
+follows_piece : (g : Grammar) (greatest passed : ℕ) (bytes piece : List ℕ) (read : List ProtocolUnit) (rest : Unread) → Follows greatest passed bytes read rest
+    → Follows greatest passed (bytes ++ piece) read (pushed rest piece)
 follows_piece g greatest passed bytes piece [] rest f = ap (λ r. pushed r piece) f ∙ pushed_settled g (unread greatest passed bytes) piece
 follows_piece g greatest passed bytes piece (u ∷ read) rest f =
     (f.0, f.1 ++ piece, behind_front g greatest passed bytes piece f.0 f.1 u f.2 f.3, f.3, f.4, follows_piece g greatest (passed_after u) f.1 piece read rest f.5)
@@ -102,7 +112,8 @@ among_piece g {u = u} piece (inside unit front rest e spelled less) =
     inside unit front (rest ++ piece) (g.early (record u { bytes = u.bytes ++ piece }) ∙ behind_front g u.greatest u.passed u.bytes piece front rest unit e spelled) spelled less
 
 -- one unit more is read
-follows_more : (g : Grammar) (greatest passed : ℕ) (bytes : List ℕ) (read : List ProtocolUnit) (rest : Unread) (unit : ProtocolUnit) (front more : List ℕ) → Follows greatest passed bytes read rest → drop rest.passed rest.bytes ≡ front ++ more → Spells rest.greatest unit front → is_last unit ≡ false
+follows_more : (g : Grammar) (greatest passed : ℕ) (bytes : List ℕ) (read : List ProtocolUnit) (rest : Unread) (unit : ProtocolUnit) (front more : List ℕ)
+    → Follows greatest passed bytes read rest → drop rest.passed rest.bytes ≡ front ++ more → Spells rest.greatest unit front → is_last unit ≡ false
     → Follows greatest passed bytes (read ++ unit ∷ []) (settled (unread rest.greatest (passed_after unit) more))
 follows_more g greatest passed bytes [] rest unit front more f e spelled last =
     let same : rest.greatest ≡ greatest = ap (λ (r : Unread). r.greatest) f in
@@ -112,10 +123,14 @@ follows_more g greatest passed bytes (u ∷ read) rest unit front more f e spell
     (f.0, f.1, f.2, f.3, f.4, follows_more g greatest (passed_after u) f.1 read rest unit front more f.5 e spelled last)
 
 -- a first unit has others behind it
-first_units : (g : Grammar) (greatest passed : ℕ) (bytes : List ℕ) (unit : ProtocolUnit) (front rest : List ℕ) → drop passed bytes ≡ front ++ rest → Spells greatest unit front → (us : List ProtocolUnit) × AreUnits greatest passed bytes (unit ∷ us)
+first_units : (g : Grammar) (greatest passed : ℕ) (bytes : List ℕ) (unit : ProtocolUnit) (front rest : List ℕ) → drop passed bytes ≡ front ++ rest
+    → Spells greatest unit front → (us : List ProtocolUnit) × AreUnits greatest passed bytes (unit ∷ us)
 first_units g greatest passed bytes unit front rest e spelled =
     let others = g.some greatest (passed_after unit) rest in
-    elim (is_last unit) as (λ last. ((us : List ProtocolUnit) → MatchBool last (us ≡ []) (AreUnits greatest (passed_after unit) rest us) → AreUnits greatest passed bytes (unit ∷ us)) → (us : List ProtocolUnit) × AreUnits greatest passed bytes (unit ∷ us)) [
+    elim (is_last unit) as
+    (λ last.
+    ((us : List ProtocolUnit) → MatchBool last (us ≡ []) (AreUnits greatest (passed_after unit) rest us) → AreUnits greatest passed bytes (unit ∷ us))
+    → (us : List ProtocolUnit) × AreUnits greatest passed bytes (unit ∷ us)) [
       | true ↦ λ first. ([], first [] refl)
       | false ↦ λ first. (others.0, first others.0 others.1)
     ] (λ us m. (front, rest, e, spelled, m))
@@ -152,7 +167,8 @@ rest_idle g c s rest none = record {
 }
 
 -- the unit that stands first in what is left of a connection has its next turn, where one of its turns is left
-pub next_of : (g : Grammar) (c : Connection) (s : SessionState) → IsRest c s → (unit : ProtocolUnit) (front more : List ℕ) → drop s.unread.passed s.unread.bytes ≡ front ++ more → Spells s.unread.greatest unit front → s.taken < turn_count unit → IsNext c unit s.taken
+pub next_of : (g : Grammar) (c : Connection) (s : SessionState) → IsRest c s → (unit : ProtocolUnit) (front more : List ℕ)
+    → drop s.unread.passed s.unread.bytes ≡ front ++ more → Spells s.unread.greatest unit front → s.taken < turn_count unit → IsNext c unit s.taken
 next_of g c s rest unit front more parts spelled less =
     let us = first_units g s.unread.greatest s.unread.passed s.unread.bytes unit front more parts spelled in
     record {
@@ -191,7 +207,8 @@ pub rest_due : (g : Grammar) (c : Connection) (s : SessionState) → IsRest c s 
 rest_due g c s rest due = due_of c s (due_or_not g c s rest) due
 
 -- a connection has one next turn
-pub one_next : (g : Grammar) (c : Connection) (u v : ProtocolUnit) (at to : ℕ) → IsNext c u at → IsNext c v to → let one : ProtocolUnit × ℕ = (u, at) in let other : ProtocolUnit × ℕ = (v, to) in one ≡ other
+pub one_next : (g : Grammar) (c : Connection) (u v : ProtocolUnit) (at to : ℕ) → IsNext c u at → IsNext c v to → let one : ProtocolUnit × ℕ = (u, at) in
+    let other : ProtocolUnit × ℕ = (v, to) in one ≡ other
 one_next g c u v at to x y =
     let same = g.same c.greatest c.passed c.stream x.units y.units x.are y.are in
     let one : Option (ProtocolUnit × ℕ) = Some (u, at) in
@@ -266,13 +283,15 @@ module _ {S : Type 0} (relations : Relations S) (now : ℕ) (c : Connection) (s 
   )
 
   pub stands_after : (g : Grammar) → s.is_open ≡ true → Stands (after_turn takes.unit takes.text c) new
-  stands_after g opens = subst (λ (x : SessionState). Stands (after_turn takes.unit takes.text c) x) (sym takes.moves) (stands_by g (is_last takes.unit) (s.taken + 1 == turn_count takes.unit) opens refl refl)
+  stands_after g opens =
+      subst (λ (x : SessionState). Stands (after_turn takes.unit takes.text c) x) (sym takes.moves) (stands_by g (is_last takes.unit) (s.taken + 1 == turn_count takes.unit) opens refl refl)
 
 -- What is left of a connection is one thing.
 turns_first : (v : ProtocolUnit) (vs : List ProtocolUnit) → length (turns (v ∷ vs)) ≡ turn_count v + length (turns vs)
 turns_first v vs = length-append (turns_from v 0 (turn_count v)) (turns vs) ∙ ap (λ n. n + length (turns vs)) (turns_length v 0 (turn_count v))
 
-few_turns : (g : Grammar) (greatest passed : ℕ) (bytes : List ℕ) (v : ProtocolUnit) (front more : List ℕ) (a : Unread) (t : ℕ) → a ≡ settled (unread greatest passed bytes) → drop passed bytes ≡ front ++ more → Spells greatest v front → IsAmong a t → t < turn_count v
+few_turns : (g : Grammar) (greatest passed : ℕ) (bytes : List ℕ) (v : ProtocolUnit) (front more : List ℕ) (a : Unread) (t : ℕ)
+    → a ≡ settled (unread greatest passed bytes) → drop passed bytes ≡ front ++ more → Spells greatest v front → IsAmong a t → t < turn_count v
 few_turns g greatest passed bytes v front more a t f e h at_start = some_turns v
 few_turns g greatest passed bytes v front more a t f e h (inside unit front' rest' parts spelled less) =
     let same : a.greatest ≡ greatest = ap (λ (r : Unread). r.greatest) f in
@@ -280,7 +299,8 @@ few_turns g greatest passed bytes v front more a t f e h (inside unit front' res
     let one = g.apart greatest unit v front' front rest' more (subst (λ (m : ℕ). Spells m unit front') same spelled) h (sym parts ∙ sym here ∙ e) in
     subst (λ (u : ProtocolUnit). t < turn_count u) one.0 less
 
-follow_one : (g : Grammar) (greatest passed : ℕ) (bytes : List ℕ) (us vs : List ProtocolUnit) (a b : Unread) (t k : ℕ) → Follows greatest passed bytes us a → Follows greatest passed bytes vs b → IsAmong a t → IsAmong b k → length (turns us) + t ≡ length (turns vs) + k → (a ≡ b) × (t ≡ k)
+follow_one : (g : Grammar) (greatest passed : ℕ) (bytes : List ℕ) (us vs : List ProtocolUnit) (a b : Unread) (t k : ℕ) → Follows greatest passed bytes us a
+    → Follows greatest passed bytes vs b → IsAmong a t → IsAmong b k → length (turns us) + t ≡ length (turns vs) + k → (a ≡ b) × (t ≡ k)
 follow_one g greatest passed bytes [] [] a b t k f h x y e = (f ∙ sym h, omega (arith, e))
 follow_one g greatest passed bytes [] (v ∷ vs) a b t k f h x y e =
     absurd (let l = few_turns g greatest passed bytes v h.0 h.1 a t f h.2 h.3 x in let n = turns_first v vs in omega (arith, l, n, e))
@@ -289,7 +309,8 @@ follow_one g greatest passed bytes (u ∷ us) [] a b t k f h x y e =
 follow_one g greatest passed bytes (u ∷ us) (v ∷ vs) a b t k f h x y e =
     let one = g.apart greatest u v f.0 h.0 f.1 h.1 f.3 h.3 (sym f.2 ∙ h.2) in
     let more : f.1 ≡ h.1 = append_cancel_left h.0 f.1 h.1 (ap (λ l. l ++ f.1) (sym one.1) ∙ sym f.2 ∙ h.2) in
-    let h5 : Follows greatest (passed_after u) f.1 vs b = subst (λ (w : ProtocolUnit). Follows greatest (passed_after w) f.1 vs b) (sym one.0) (subst (λ (l : List ℕ). Follows greatest (passed_after v) l vs b) (sym more) h.5) in
+    let h5 : Follows greatest (passed_after u) f.1 vs b =
+    subst (λ (w : ProtocolUnit). Follows greatest (passed_after w) f.1 vs b) (sym one.0) (subst (λ (l : List ℕ). Follows greatest (passed_after v) l vs b) (sym more) h.5) in
     let c : turn_count u ≡ turn_count v = ap turn_count one.0 in
     let n = turns_first u us in let m = turns_first v vs in
     follow_one g greatest (passed_after u) f.1 us vs a b t k f.5 h5 x y (omega (arith, n, m, c, e))
@@ -302,7 +323,8 @@ rest_one g c s r so ro x y =
     ∙ ap (λ (l : List ℕ). record { unread = r.unread; taken = r.taken; out = l; is_open = s.is_open }) (x.out ∙ sym y.out)
     ∙ ap (λ (b : Bool). record { unread = r.unread; taken = r.taken; out = r.out; is_open = b }) (so ∙ sym ro)
 
-stand_one_at : (g : Grammar) (c : Connection) (s r : SessionState) (b : Bool) → MatchBool b ((s.is_open ≡ true) × IsRest c s) (s ≡ shut c) → MatchBool b ((r.is_open ≡ true) × IsRest c r) (r ≡ shut c) → s ≡ r
+stand_one_at : (g : Grammar) (c : Connection) (s r : SessionState) (b : Bool) → MatchBool b ((s.is_open ≡ true) × IsRest c s) (s ≡ shut c)
+    → MatchBool b ((r.is_open ≡ true) × IsRest c r) (r ≡ shut c) → s ≡ r
 stand_one_at g c s r true x y = rest_one g c s r x.0 y.0 x.1 y.1
 stand_one_at g c s r false x y = x ∙ sym y
 

@@ -1,5 +1,6 @@
 -- Bytes in front of a connection's output stay there, and nothing else depends on them.
-use Rattle.std.proofs.Common.{◌≡◌, inl, inr, ℕ, zero, suc, ◌≤◌, Bool, true, false, List, [], ◌∷◌, ◌++◌, length, Option, Some, None, nat_lt, refl, sym, ap, ◌∙◌, subst, arith, append_assoc, length-append, if◌then◌else◌}
+use Rattle.std.proofs.Common.{◌≡◌, inl, inr, ℕ, zero, suc, ◌≤◌, Bool, true, false, List, [], ◌∷◌, ◌++◌, length, Option, Some, None, nat_lt, refl, sym, ap, ◌∙◌, subst, arith}
+use Rattle.std.proofs.Common.{append_assoc, length-append, if◌then◌else◌}
 use Rattle.std.specs.List.{slice_get}
 use Rattle.std.specs.Option.{MatchOption}
 use Rattle.mc_command.specs.Plain.{Plain}
@@ -18,7 +19,8 @@ opens c = c.is_open
 abbrev Leaves : (Connection → Connection) → Type 0
 Leaves f = (bytes : List ℕ) (c : Connection) → if_opened opens f (in_front bytes c) ≡ in_front bytes (if_opened opens f c)
 
-by_open : (bytes : List ℕ) (c : Connection) (f : Connection → Connection) (b : Bool) → f (in_front bytes c) ≡ in_front bytes (f c) → (if b then f (in_front bytes c) else in_front bytes c) ≡ in_front bytes (if b then f c else c)
+by_open : (bytes : List ℕ) (c : Connection) (f : Connection → Connection) (b : Bool) → f (in_front bytes c) ≡ in_front bytes (f c)
+    → (if b then f (in_front bytes c) else in_front bytes c) ≡ in_front bytes (if b then f c else c)
 by_open bytes c f true same = same
 by_open bytes c f false same = refl
 
@@ -108,14 +110,16 @@ step_alike n bytes w c d out state same turn = record {
 }
 
 -- the connections after a turn
-turned_fronted : (n k : ℕ) (bytes : List ℕ) (cs : List Connection) (c d : Connection) (unit : ProtocolUnit) (text : List ℕ) → open_connection k cs ≡ Some c → open_connection k (fronted n bytes cs) ≡ Some d
+turned_fronted : (n k : ℕ) (bytes : List ℕ) (cs : List Connection) (c d : Connection) (unit : ProtocolUnit) (text : List ℕ) → open_connection k cs ≡ Some c
+    → open_connection k (fronted n bytes cs) ≡ Some d
     → fronted n bytes (put k cs (after_turn unit text c)) ≡ put k (fronted n bytes cs) (after_turn unit text d)
 turned_fronted n k bytes cs c d unit text here there =
     ap (λ (o : Option Connection). fronted n bytes (changed k cs (after_turn unit text) o)) (sym here)
     ∙ sym (front_swap n k bytes cs (after_turn unit text) (turn_leaves unit text))
     ∙ ap (changed k (fronted n bytes cs) (after_turn unit text)) there
 
-turns_fronted : (n k : ℕ) (bytes : List ℕ) (old new : PlainWorld) (o p : Option Connection) → Alike o p → open_connection k old.connections ≡ o → open_connection k (fronted n bytes old.connections) ≡ p
+turns_fronted : (n k : ℕ) (bytes : List ℕ) (old new : PlainWorld) (o p : Option Connection) → Alike o p → open_connection k old.connections ≡ o
+    → open_connection k (fronted n bytes old.connections) ≡ p
     → MatchOption o (new ≡ old) (λ connection. Turns old k connection new)
     → MatchOption p (with_front n bytes new ≡ with_front n bytes old) (λ connection. Turns (with_front n bytes old) k connection (with_front n bytes new))
 unfolding turn_alike
@@ -126,7 +130,8 @@ turns_fronted n k bytes old new (Some c) (Some d) (out, same) here there (inl h)
 turns_fronted n k bytes old new (Some c) (Some d) (out, same) here there (inr (state, turn, is)) = inr (
   state,
   turn_alike n bytes old c d out state same turn,
-  ap (with_front n bytes) is ∙ ap (λ (cs : List Connection). let w : PlainWorld = record old { state = state; connections = cs } in w) (turned_fronted n k bytes old.connections c d turn.unit turn.text here there),
+  ap (with_front n bytes) is
+      ∙ ap (λ (cs : List Connection). let w : PlainWorld = record old { state = state; connections = cs } in w) (turned_fronted n k bytes old.connections c d turn.unit turn.text here there),
 )
 
 -- the connection of that number was opened
@@ -185,7 +190,9 @@ module _ (hash : List ℕ → ℕ) (shelves n : ℕ) (bytes : List ℕ) where
 
   pub happens_grow : (old new : PlainWorld) (event : Event) → Happens hash shelves old event new → length old.connections ≤ length new.connections
   happens_grow old new Open h =
-      let same : length new.connections ≡ length (if nat_lt (length old.connections) 65535 then record old { connections = old.connections ++ fresh old.greatest ∷ [] } else old).connections = ap (λ (w : PlainWorld). length w.connections) h in
+      let same : length new.connections ≡ length
+      (if nat_lt (length old.connections) 65535 then record old { connections = old.connections ++ fresh old.greatest ∷ [] } else old).connections =
+      ap (λ (w : PlainWorld). length w.connections) h in
       subst (λ (k : ℕ). length old.connections ≤ k) (sym same) (opened_grows old (nat_lt (length old.connections) 65535))
   happens_grow old new (Piece k piece) h = as_many old new (ap count h ∙ changed_length k old.connections (with_piece piece) (open_connection k old.connections))
   happens_grow old new (Turn k) h = as_many old new (turns_grow old new k (open_connection k old.connections) h)
@@ -220,7 +227,8 @@ module _ (hash : List ℕ → ℕ) (shelves n : ℕ) (bytes : List ℕ) where
   alike_some (Some b) None like c is = absurd like
   alike_some (Some b) (Some d) (out, same) c is = let it : b ≡ c = cc in (d, refl, out, same ∙ ap (λ (x : Connection). record x { out = out }) it)
 
-  decides_fronted : (w : PlainWorld) (k : ℕ) (state : Plain) (o p : Option Connection) → Alike o p → (connection : Connection) × (o ≡ Some connection) × NextStep w connection state → (connection : Connection) × (p ≡ Some connection) × NextStep (Fronted w) connection state
+  decides_fronted : (w : PlainWorld) (k : ℕ) (state : Plain) (o p : Option Connection) → Alike o p → (connection : Connection) × (o ≡ Some connection)
+      × NextStep w connection state → (connection : Connection) × (p ≡ Some connection) × NextStep (Fronted w) connection state
   decides_fronted w k state o p like (c, is, turn) =
       let there = alike_some o p like c is in
       (there.0, there.1, step_alike n bytes w c there.0 there.2 state there.3 turn)

@@ -1,5 +1,6 @@
 -- Events that may be added, taken out or cut, or change places.
-use Rattle.std.proofs.Common.{◌≡◌, inl, inr, ℕ, zero, suc, ◌%◌, ◌==◌, Bool, true, false, List, [], ◌∷◌, ◌++◌, Option, Some, None, IfSome, slice_set, nat_lt, refl, sym, ap, ◌∙◌, subst, arith, append_assoc, if◌then◌else◌, ◌↔◌}
+use Rattle.std.proofs.Common.{◌≡◌, inl, inr, ℕ, zero, suc, ◌%◌, ◌==◌, Bool, true, false, List, [], ◌∷◌, ◌++◌, Option, Some, None, IfSome, slice_set, nat_lt, refl, sym, ap, ◌∙◌}
+use Rattle.std.proofs.Common.{subst, arith, append_assoc, if◌then◌else◌, ◌↔◌}
 use Rattle.std.specs.List.{slice_get}
 use Rattle.std.specs.Option.{MatchOption}
 use Rattle.mc_command.specs.Plain.{Plain}
@@ -20,12 +21,14 @@ module _ (hash : List ℕ → ℕ) (shelves : ℕ) where
   RunsOn = Runs hash shelves
 
   -- what runs as one list does runs as another behind the same events
-  behind : (some others : List Event) → ((old new : PlainWorld) → RunsOn old some new → RunsOn old others new) → (front : List Event) (old new : PlainWorld) → RunsOn old (front ++ some) new → RunsOn old (front ++ others) new
+  behind : (some others : List Event) → ((old new : PlainWorld) → RunsOn old some new → RunsOn old others new) → (front : List Event) (old new : PlainWorld)
+      → RunsOn old (front ++ some) new → RunsOn old (front ++ others) new
   behind some others same [] old new runs = same old new runs
   behind some others same (e ∷ front) old new runs = (runs.0, runs.1, behind some others same front runs.0 new runs.2)
 
   -- where that is known of the worlds that the front leads to
-  pub behind_here : (some others front : List Event) (old new : PlainWorld) → ((mid : PlainWorld) → RunsOn old front mid → RunsOn mid some new → RunsOn mid others new) → RunsOn old (front ++ some) new → RunsOn old (front ++ others) new
+  pub behind_here : (some others front : List Event) (old new : PlainWorld)
+      → ((mid : PlainWorld) → RunsOn old front mid → RunsOn mid some new → RunsOn mid others new) → RunsOn old (front ++ some) new → RunsOn old (front ++ others) new
   behind_here some others [] old new same runs = same old refl runs
   behind_here some others (e ∷ front) old new same runs = (runs.0, runs.1, behind_here some others front runs.0 new (λ mid on. same mid (runs.0, runs.1, on)) runs.2)
 
@@ -47,7 +50,8 @@ opens c = c.is_open
 
 -- two pieces one after another
 twice_by : (piece more : List ℕ) (c : Connection) (b : Bool) → c.is_open ≡ b → if_opened opens (with_piece more) (if b then with_piece piece c else c) ≡ (if b then with_piece (piece ++ more) c else c)
-twice_by piece more c true is = ap (λ (b : Bool). if b then with_piece more (with_piece piece c) else with_piece piece c) is ∙ ap (λ (s : List ℕ). let e : Connection = record c { stream = s } in e) (append_assoc c.stream piece more)
+twice_by piece more c true is = ap (λ (b : Bool). if b then with_piece more (with_piece piece c) else with_piece piece c) is
+    ∙ ap (λ (s : List ℕ). let e : Connection = record c { stream = s } in e) (append_assoc c.stream piece more)
 twice_by piece more c false is = ap (λ (b : Bool). if b then with_piece more c else c) is
 
 joined_at : (old : PlainWorld) (n : ℕ) (piece more : List ℕ) → at_connection (at_connection old n (with_piece piece)) n (with_piece more) ≡ at_connection old n (with_piece (piece ++ more))
@@ -64,7 +68,8 @@ module _ (hash : List ℕ → ℕ) (shelves n : ℕ) (piece more : List ℕ) (re
   cuts old new (last, is, runs) =
       (at_connection old n (with_piece piece), refl, (last, is ∙ sym (joined_at old n piece more), runs))
 
-  pub piece_cut : (old new : PlainWorld) (front : List Event) → Runs hash shelves old (front ++ Piece n piece ∷ Piece n more ∷ rest) new ↔ Runs hash shelves old (front ++ Piece n (piece ++ more) ∷ rest) new
+  pub piece_cut : (old new : PlainWorld) (front : List Event)
+      → Runs hash shelves old (front ++ Piece n piece ∷ Piece n more ∷ rest) new ↔ Runs hash shelves old (front ++ Piece n (piece ++ more) ∷ rest) new
   piece_cut old new front = (
     behind hash shelves (Piece n piece ∷ Piece n more ∷ rest) (Piece n (piece ++ more) ∷ rest) joins front old new,
     behind hash shelves (Piece n (piece ++ more) ∷ rest) (Piece n piece ∷ Piece n more ∷ rest) cuts front old new,
@@ -133,7 +138,8 @@ StillBy n o old new =
     (f : Connection → Connection) × (new ≡ with_at old n o f)
     × ((w : PlainWorld) → open_connection n w.connections ≡ o → MatchOption o (with_at w n o f ≡ w) (λ c. Turns w n c (with_at w n o f)))
 
-still_unit : (unit : ProtocolUnit) (at now m : ℕ) (before after other : Plain) (text : List ℕ) → step_of unit at ≡ None → Answers in_plain unit at now before after text → (after ≡ before) × Answers in_plain unit at m other other text
+still_unit : (unit : ProtocolUnit) (at now m : ℕ) (before after other : Plain) (text : List ℕ) → step_of unit at ≡ None
+    → Answers in_plain unit at now before after text → (after ≡ before) × Answers in_plain unit at m other other text
 still_unit (Request command) at now m before after other text none h =
     let told : MatchOption (let no : Option KeyStep = None in no) ((text ≡ plain_text command) × (after ≡ before)) (λ step. AnswersStep in_plain command at step now before after text) =
     subst (λ (o : Option KeyStep). MatchOption o ((text ≡ plain_text command) × (after ≡ before)) (λ step. AnswersStep in_plain command at step now before after text)) none h in (
@@ -143,7 +149,8 @@ still_unit (Request command) at now m before after other text none h =
 still_unit (Fault fault) at now m before after other text none h = (h.1, (h.0, refl))
 still_unit LongLine at now m before after other text none h = (h.1, (h.0, refl))
 
-still_turn : (old new : PlainWorld) (n : ℕ) (o : Option Connection) → open_connection n old.connections ≡ o → IfSome o NextHasNoStep → MatchOption o (new ≡ old) (λ c. Turns old n c new) → StillBy n o old new
+still_turn : (old new : PlainWorld) (n : ℕ) (o : Option Connection) → open_connection n old.connections ≡ o → IfSome o NextHasNoStep
+    → MatchOption o (new ≡ old) (λ c. Turns old n c new) → StillBy n o old new
 still_turn old new n None here still h = (λ c. c, h, λ w there. refl)
 still_turn old new n (Some c) here still (inl h) = (
   λ c. c,
@@ -231,7 +238,8 @@ module _ (old : PlainWorld) (k n : ℕ) (f : Connection → Connection) (apart :
       ∙ either_order with_state k n (λ c. next) f apart
       ∙ ap (λ (o : Option Connection). with_at (at_connection with_state n f) k o (λ c. next)) (one_open ∙ here)
 
-  along_turn : (new : PlainWorld) (o : Option Connection) → open_connection k old.connections ≡ o → MatchOption o (new ≡ old) (λ c. Turns old k c new) → MatchOption o (at_connection new n f ≡ changed_one) (λ c. Turns changed_one k c (at_connection new n f))
+  along_turn : (new : PlainWorld) (o : Option Connection) → open_connection k old.connections ≡ o → MatchOption o (new ≡ old) (λ c. Turns old k c new)
+      → MatchOption o (at_connection new n f ≡ changed_one) (λ c. Turns changed_one k c (at_connection new n f))
   along_turn new None here h = ap (λ w. at_connection w n f) h
   along_turn new (Some c) here (inl h) = inl (h.0, ap (λ w. at_connection w n f) h.1)
   along_turn new (Some c) here (inr (state, turn, is)) = inr (
@@ -240,7 +248,8 @@ module _ (old : PlainWorld) (k n : ℕ) (f : Connection → Connection) (apart :
     ap (λ w. at_connection w n f) is ∙ turned_either state c (after_turn turn.unit turn.text c) here,
   )
 
-  back_turn : (last : PlainWorld) (o : Option Connection) → open_connection k old.connections ≡ o → MatchOption o (last ≡ changed_one) (λ c. Turns changed_one k c last) → (between : PlainWorld) × MatchOption o (between ≡ old) (λ c. Turns old k c between) × (last ≡ at_connection between n f)
+  back_turn : (last : PlainWorld) (o : Option Connection) → open_connection k old.connections ≡ o
+      → MatchOption o (last ≡ changed_one) (λ c. Turns changed_one k c last) → (between : PlainWorld) × MatchOption o (between ≡ old) (λ c. Turns old k c between) × (last ≡ at_connection between n f)
   back_turn last None here h = (old, refl, h)
   back_turn last (Some c) here (inl h) = (old, inl (h.0, refl), h.1)
   back_turn last (Some c) here (inr (state, turn, is)) =
@@ -250,7 +259,8 @@ module _ (old : PlainWorld) (k n : ℕ) (f : Connection → Connection) (apart :
         is ∙ sym (turned_either state c next here),
       )
 
-  open_turn : (new : PlainWorld) (o : Option Connection) → open_connection k old.connections ≡ o → MatchOption o (new ≡ old) (λ c. Turns old k c new) → open_connection n new.connections ≡ open_connection n old.connections
+  open_turn : (new : PlainWorld) (o : Option Connection) → open_connection k old.connections ≡ o → MatchOption o (new ≡ old) (λ c. Turns old k c new)
+      → open_connection n new.connections ≡ open_connection n old.connections
   open_turn new None here h = ap (λ (w : PlainWorld). open_connection n w.connections) h
   open_turn new (Some c) here (inl h) = ap (λ (w : PlainWorld). open_connection n w.connections) h.1
   open_turn new (Some c) here (inr (state, turn, is)) =
@@ -269,7 +279,8 @@ module _ (hash : List ℕ → ℕ) (shelves : ℕ) (n : ℕ) where
   passes f old new (Piece k piece) apart h = ap (λ w. at_connection w n f) h ∙ either_order old k n (with_piece piece) f (not_it k apart.1)
   passes f old new (Turn k) apart h =
       let goes = along_turn old k n f (not_it k apart.1) new (open_connection k old.connections) refl h in
-      subst (λ (o : Option Connection). MatchOption o (at_connection new n f ≡ at_connection old n f) (λ c. Turns (at_connection old n f) k c (at_connection new n f))) (sym (one_open old k n f (not_it k apart.1))) goes
+      subst (λ (o : Option Connection). MatchOption o (at_connection new n f ≡ at_connection old n f)
+      (λ c. Turns (at_connection old n f) k c (at_connection new n f))) (sym (one_open old k n f (not_it k apart.1))) goes
   passes f old new (Clock now) apart h = ap (λ w. at_connection w n f) h
   passes f old new (Grow shelf) apart h = ap (λ w. at_connection w n f) h
   passes f old new (Purge shelf) apart h = ap (λ w. at_connection w n f) h
@@ -310,7 +321,8 @@ module _ (hash : List ℕ → ℕ) (shelves : ℕ) (n : ℕ) where
       let goes : HappensSo found.0 still (at_connection found.0 n by.0) = by.2 found.0 (leaves old found.0 other apart found.1) in
       (found.0, found.1, (last, subst (HappensSo found.0 still) (sym found.2) goes, runs))
 
-  sooner : (old new : PlainWorld) (still other : Event) (rest : List Event) → DecidesNoStep old still n → IsApart other n → RunsSo old (other ∷ still ∷ rest) new → RunsSo old (still ∷ other ∷ rest) new
+  sooner : (old new : PlainWorld) (still other : Event) (rest : List Event) → DecidesNoStep old still n → IsApart other n
+      → RunsSo old (other ∷ still ∷ rest) new → RunsSo old (still ∷ other ∷ rest) new
   sooner old new still other rest decides apart (between, first, (last, second, runs)) =
       let same = leaves old between other apart first in
       let by = still_event hash shelves between last still n (still_there hash shelves old between still n same decides) second in

@@ -11,7 +11,8 @@ use Rattle.mc_world.proofs.ConnectionLemmas.{stands_one}
 
 module _ {K : Type 0} (hash_of : K → List ℕ → ℕ) where
   -- it is the one that is refused
-  from_only : (old new : WorldState K) (first : PlainWorld) (at : ℕ) (decided : Bool) (e event : Event) → slice_get (e ∷ []) at ≡ Some event → RunsUntil hash_of old first (take at (e ∷ [])) decided event new → Refuses hash_of first decided e new
+  from_only : (old new : WorldState K) (first : PlainWorld) (at : ℕ) (decided : Bool) (e event : Event) → slice_get (e ∷ []) at ≡ Some event
+      → RunsUntil hash_of old first (take at (e ∷ [])) decided event new → Refuses hash_of first decided e new
   from_only old new first zero decided e event here (mid, runs, refuses) =
       let it : event ≡ e = cc in
       subst (λ (w : PlainWorld). Refuses hash_of w decided e new) runs (subst (λ (x : Event). Refuses hash_of mid decided x new) it refuses)
@@ -47,6 +48,7 @@ module _ {K : Type 0} (hash_of : K → List ℕ → ℕ) where
         (only.0, (only.0, close_given refused.decided n first only.0 only.1, refl), only.2);
   }
 
-  pub closes : (n : ℕ) (r : Result (Unit {0}) Refused) (old new : WorldState K) → OnOk r (Told hash_of old (Close n ∷ []) new) → IfErr r (λ refused. ToldUntil hash_of refused old (Close n ∷ []) new) → Told hash_of old (Close n ∷ []) new
+  pub closes : (n : ℕ) (r : Result (Unit {0}) Refused) (old new : WorldState K) → OnOk r (Told hash_of old (Close n ∷ []) new)
+      → IfErr r (λ refused. ToldUntil hash_of refused old (Close n ∷ []) new) → Told hash_of old (Close n ∷ []) new
   closes n (Ok x) old new told until = told
   closes n (Err refused) old new told until = close_refused n refused old new until

@@ -60,12 +60,14 @@ Ended n last reader = IsClosed (numbered n last.sessions) ⊎ (IsIdle (numbered 
 
 module _ {K : Type 0} {hash_of : K → List ℕ → ℕ} {may_give : ℕ → Type 0} {n : ℕ} where
   -- a refused event is one of the session
-  refusal_names : {old : WorldState K} {events : List Event} {written : List ℕ} {before : List Event} {event : Event} {brings : List ℕ} {calls : ℕ} → IsRefusal hash_of may_give n old events written before event brings calls → named event ≡ Some n
+  refusal_names : {old : WorldState K} {events : List Event} {written : List ℕ} {before : List Event} {event : Event} {brings : List ℕ} {calls : ℕ}
+      → IsRefusal hash_of may_give n old events written before event brings calls → named event ≡ Some n
   refusal_names (refused_turn now gives room) = refl
   refusal_names (refused_piece bytes some idle) = refl
 
   -- what was served, and then some events and one that is refused
-  until_behind : {first : WorldState K} {turns : ℕ} {read written : List ℕ} {now : WorldState K} (served : HasServed hash_of may_give n first turns read written now) (before : List Event) (decided : Bool) (event : Event) (new : WorldState K)
+  until_behind : {first : WorldState K} {turns : ℕ} {read written : List ℕ} {now : WorldState K}
+      (served : HasServed hash_of may_give n first turns read written now) (before : List Event) (decided : Bool) (event : Event) (new : WorldState K)
       → ((plain : PlainWorld) → StandsAs plain now → RunsUntil hash_of now plain before decided event new)
       → (plain : PlainWorld) → StandsAs plain first → RunsUntil hash_of first plain (served.events ++ before) decided event (with_written n written new)
   until_behind {first = first} {written = written} {now = now} served before decided event new each plain stands =
@@ -77,9 +79,12 @@ module _ {K : Type 0} {hash_of : K → List ℕ → ℕ} {may_give : ℕ → Typ
       )
 
   -- memory ran out behind what was served
-  short_of : {first : WorldState K} {turns : ℕ} {read written lost : List ℕ} {s : Seat} {old : WorldState K} {last : Seat} {new : WorldState K} {r0 r2 w0 w1 : Option (List ℕ)} (r1 : Option (List ℕ)) → turns ≤ most_turns → s ≡ seat n turns → HasServed hash_of may_give n first turns read written old
-      → Consumes r0 r1 read → Consumes r1 r2 lost → Appends w0 w1 written → Refusal (in_world hash_of) may_give turns s old last new lost → UntilRefused hash_of may_give n first r0 w0 (scene new r2 w1)
-  short_of {first = first} {turns = turns} {read = read} {written = written} {s = s} {old = old} {new = new} {r0 = r0} {r2 = r2} r1 few is served consumes loses appends (no_turn now fewer small gives (refused, told)) =
+  short_of : {first : WorldState K} {turns : ℕ} {read written lost : List ℕ} {s : Seat} {old : WorldState K} {last : Seat} {new : WorldState K} {r0 r2 w0 w1 : Option (List ℕ)} (r1 : Option (List ℕ))
+      → turns ≤ most_turns → s ≡ seat n turns → HasServed hash_of may_give n first turns read written old
+      → Consumes r0 r1 read → Consumes r1 r2 lost → Appends w0 w1 written → Refusal (in_world hash_of) may_give turns s old last new lost
+      → UntilRefused hash_of may_give n first r0 w0 (scene new r2 w1)
+  short_of {first = first} {turns = turns} {read = read} {written = written} {s = s} {old = old} {new = new} {r0 = r0} {r2 =
+      r2} r1 few is served consumes loses appends (no_turn now fewer small gives (refused, told)) =
       let at : s.number ≡ n = ap (λ (t : Seat). t.number) is in
       record {
         events = served.events;
@@ -102,7 +107,8 @@ module _ {K : Type 0} {hash_of : K → List ℕ → ℕ} {may_give : ℕ → Typ
             let only = until_only hash_of refused (record old { moment = now }) new (Turn n) (subst (λ (k : ℕ). ToldUntil hash_of refused (record old { moment = now }) (Turn k ∷ []) new) at told) in
             (moved, (moved, refl, refl), only.told moved (record { greatest = stands.greatest; state = stands.state; now = refl; sessions = stands.sessions })));
       }
-  short_of {first = first} {turns = turns} {read = read} {written = written} {s = s} {old = old} {new = new} {r0 = r0} {r2 = r2} r1 few is served consumes loses appends (no_piece bytes some idle (refused, told)) =
+  short_of {first = first} {turns = turns} {read = read} {written = written} {s = s} {old = old} {new = new} {r0 = r0} {r2 =
+      r2} r1 few is served consumes loses appends (no_piece bytes some idle (refused, told)) =
       let at : s.number ≡ n = ap (λ (t : Seat). t.number) is in
       record {
         events = served.events;
@@ -126,7 +132,8 @@ module _ {K : Type 0} {hash_of : K → List ℕ → ℕ} {may_give : ℕ → Typ
       }
 
   -- the close of a session that is closed does nothing
-  until_closed : {first old : WorldState K} {r0 r1 w0 w1 : Option (List ℕ)} (new : WorldState K) → UntilRefused hash_of may_give n first r0 w0 (scene old r1 w1) → Told hash_of old (Close n ∷ []) new → UntilRefused hash_of may_give n first r0 w0 (scene new r1 w1)
+  until_closed : {first old : WorldState K} {r0 r1 w0 w1 : Option (List ℕ)} (new : WorldState K) → UntilRefused hash_of may_give n first r0 w0 (scene old r1 w1)
+      → Told hash_of old (Close n ∷ []) new → UntilRefused hash_of may_give n first r0 w0 (scene new r1 w1)
   until_closed {old = old} new until told = record {
     events = until.events;
     read = until.read;
@@ -147,18 +154,21 @@ module _ {K : Type 0} {hash_of : K → List ℕ → ℕ} {may_give : ℕ → Typ
         let behind : Fronts n until.written refuses.0 old = fronts n until.written refuses.0 old refuses.2 in
         let next = told.told behind.plain behind.stands in
         let same : with_front n until.written next.0 ≡ refuses.0 =
-        ap (λ (v : PlainWorld). with_front n until.written v) (next.1.2 ∙ next.1.1) ∙ change_fronted n n until.written behind.plain ended end_leaves ∙ ap (λ (v : PlainWorld). at_connection v n ended) behind.is
+        ap (λ (v : PlainWorld). with_front n until.written v) (next.1.2 ∙ next.1.1) ∙ change_fronted n n until.written behind.plain ended end_leaves
+        ∙ ap (λ (v : PlainWorld). at_connection v n ended) behind.is
         ∙ given_ends until.decided n mid refuses.0 until.event (refusal_names until.refusal) refuses.1 in
         (mid, runs, (refuses.0, refuses.1, subst (λ (v : PlainWorld). StandsAs v (with_written n until.written new)) same (put_on n until.written next.0 new next.2), refuses.3));
   }
 
   -- a session that isn't open at the end of what was served is closed
-  ended_closed : {first : WorldState K} {turns : ℕ} {read written : List ℕ} {now : WorldState K} (served : HasServed hash_of may_give n first turns read written now) → open_session n now.sessions ≡ None → IsClosed (numbered n (with_written n written now).sessions)
+  ended_closed : {first : WorldState K} {turns : ℕ} {read written : List ℕ} {now : WorldState K}
+      (served : HasServed hash_of may_give n first turns read written now) → open_session n now.sessions ≡ None → IsClosed (numbered n (with_written n written now).sessions)
   ended_closed {first = first} {written = written} {now = now} served none =
       let here : IsAt hash_of n first served.stands.plain served.events written now = is_at served served.stands.plain served.stands.stands in
       closed_written n written now here.opened.0 (omega (arith, here.opened.1, stand_length here.plain.connections now.sessions here.stands.sessions)) none
 
-  served_ended : {first : WorldState K} {turns : ℕ} {read written : List ℕ} {now : WorldState K} (reader : Option (List ℕ)) (served : HasServed hash_of may_give n first turns read written now) → HasEnded (in_world hash_of) (seat n turns) now reader → Ended n (with_written n written now) reader
+  served_ended : {first : WorldState K} {turns : ℕ} {read written : List ℕ} {now : WorldState K} (reader : Option (List ℕ))
+      (served : HasServed hash_of may_give n first turns read written now) → HasEnded (in_world hash_of) (seat n turns) now reader → Ended n (with_written n written now) reader
   served_ended reader served (inl none) = inl (ended_closed served none)
   served_ended {written = written} {now = now} reader served (inr (idle, end)) = inr (idle_written n written now idle, end)
 
@@ -175,25 +185,38 @@ pub record Ran {K : Type 0} (hash_of : K → List ℕ → ℕ) (may_give : ℕ �
   pub appends : Appends o0 o1 written
 
 module _ {K : Type 0} {hash_of : K → List ℕ → ℕ} {may_give : ℕ → Type 0} {w0 w2 w3 : WorldState K} {s : Seat} {r0 r1 o0 o1 : Option (List ℕ)} where
-  pub ran_of : {n : ℕ} {w1 : WorldState K} → Begins hash_of n w0 w1 → Told hash_of w2 (Close n ∷ []) w3 → Exchanges (in_world hash_of) may_give (2 ^ 40) (exchanges.scene (seat n 0) w1 r0 o0) (exchanges.scene s w2 r1 o1) → Ran hash_of may_give w0 w2 w3 s r0 r1 o0 o1
+  pub ran_of : {n : ℕ} {w1 : WorldState K} → Begins hash_of n w0 w1 → Told hash_of w2 (Close n ∷ []) w3
+      → Exchanges (in_world hash_of) may_give (2 ^ 40) (exchanges.scene (seat n 0) w1 r0 o0) (exchanges.scene s w2 r1 o1) → Ran hash_of may_give w0 w2 w3 s r0 r1 o0 o1
   ran_of {w1 = w1} begins closes run =
       let (begun, closed, ran) =
-      subst (λ (n : ℕ). Begins hash_of n w0 w1 × Told hash_of w2 (Close n ∷ []) w3 × Exchanges (in_world hash_of) may_give (2 ^ 40) (exchanges.scene (seat n 0) w1 r0 o0) (exchanges.scene s w2 r1 o1)) begins.number (begins, closes, run) in
+      subst (λ (n : ℕ). Begins hash_of n w0 w1 × Told hash_of w2 (Close n ∷ []) w3
+      × Exchanges (in_world hash_of) may_give (2 ^ 40) (exchanges.scene (seat n 0) w1 r0 o0) (exchanges.scene s w2 r1 o1)) begins.number (begins, closes, run) in
       let (is, served) = served_by ran.exchange ran.few (served_nothing begun) in
       record { turns = ran.turns; read = ran.read; written = ran.written; few = ran.few; at = is; served = served; closes = closed; consumes = ran.consumes; appends = ran.appends }
 
-  pub ran_short : {n : ℕ} {w1 : WorldState K} → Begins hash_of n w0 w1 → Told hash_of w2 (Close n ∷ []) w3 → FallsShort (in_world hash_of) may_give (exchanges.scene (seat n 0) w1 r0 o0) (exchanges.scene s w2 r1 o1)
+  pub ran_short : {n : ℕ} {w1 : WorldState K} → Begins hash_of n w0 w1 → Told hash_of w2 (Close n ∷ []) w3
+      → FallsShort (in_world hash_of) may_give (exchanges.scene (seat n 0) w1 r0 o0) (exchanges.scene s w2 r1 o1)
       → UntilRefused hash_of may_give (next_session w0) w0 r0 o0 (scene w3 r1 o1)
   ran_short {w1 = w1} begins closes run =
       let (begun, closed, short) =
-      subst (λ (n : ℕ). Begins hash_of n w0 w1 × Told hash_of w2 (Close n ∷ []) w3 × FallsShort (in_world hash_of) may_give (exchanges.scene (seat n 0) w1 r0 o0) (exchanges.scene s w2 r1 o1)) begins.number (begins, closes, run) in
+      subst (λ (n : ℕ). Begins hash_of n w0 w1 × Told hash_of w2 (Close n ∷ []) w3
+      × FallsShort (in_world hash_of) may_give (exchanges.scene (seat n 0) w1 r0 o0) (exchanges.scene s w2 r1 o1)) begins.number (begins, closes, run) in
       let ran = short.exchanges in
       let (is, served) = served_by ran.exchange ran.few (served_nothing begun) in
       until_closed w3 (short_of short.reader ran.few is served ran.consumes short.consumes ran.appends short.refusal) closed
 
   abbrev pub ran_served : Ran hash_of may_give w0 w2 w3 s r0 r1 o0 o1 → Served hash_of may_give (scene w0 r0 o0) (scene w3 r1 o1)
   ran_served ran = record {
-    came = record { events = ran.served.events; read = ran.read; written = ran.written; turns = ran.turns; service = ran.served.service; few = ran.few; consumes = ran.consumes; appends = ran.appends };
+    came = record {
+      events = ran.served.events;
+      read = ran.read;
+      written = ran.written;
+      turns = ran.turns;
+      service = ran.served.service;
+      few = ran.few;
+      consumes = ran.consumes;
+      appends = ran.appends;
+    };
     told = told_behind ran.served (Close (next_session w0) ∷ []) w3 ran.closes;
   }
 

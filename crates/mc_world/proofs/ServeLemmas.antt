@@ -18,7 +18,9 @@ use Rattle.mc_world.proofs.FrontLemmas.{IsOpened, runs_grow, runs_fronted}
 use Rattle.mc_world.proofs.WrittenLemmas.{Fronts, fronts, put_on, written_nothing, written_twice, was_written}
 
 -- a service begins with an opening
-pub service_opens : {K : Type 0} {hash_of : K → List ℕ → ℕ} {may_give : ℕ → Type 0} {n : ℕ} {old : WorldState K} {events : List Event} {read written : List ℕ} {turns : ℕ} → IsService hash_of may_give n old events read written turns → (rest : List Event) × (events ≡ Open ∷ rest)
+pub service_opens : {K : Type 0} {hash_of : K → List ℕ → ℕ} {may_give : ℕ
+    → Type 0} {n : ℕ} {old : WorldState K} {events : List Event} {read written : List ℕ} {turns : ℕ}
+    → IsService hash_of may_give n old events read written turns → (rest : List Event) × (events ≡ Open ∷ rest)
 service_opens starts = ([], refl)
 service_opens {n = n} {old = old} (turn {turns = turns} now gives room service) =
     let so_far = service_opens service in
@@ -29,12 +31,14 @@ service_opens {n = n} (piece bytes idle service) =
 service_opens (write bytes service) = service_opens service
 
 module _ (hash : List ℕ → ℕ) (shelves : ℕ) where
-  opened_by : (first : PlainWorld) (b : Bool) → b ≡ true → length (if b then record first { connections = first.connections ++ fresh first.greatest ∷ [] } else first).connections ≡ length first.connections + 1
+  opened_by : (first : PlainWorld) (b : Bool) → b ≡ true
+      → length (if b then record first { connections = first.connections ++ fresh first.greatest ∷ [] } else first).connections ≡ length first.connections + 1
   opened_by first b is =
       ap (λ (k : Bool). length (if k then record first { connections = first.connections ++ fresh first.greatest ∷ [] } else first).connections) is
       ∙ length-append first.connections (fresh first.greatest ∷ [])
 
-  opening_opens : {K : Type 0} (first mid : PlainWorld) (old : WorldState K) → StandsAs first old → length old.sessions < 65535 → Happens hash shelves first Open mid → length mid.connections ≡ next_session old
+  opening_opens : {K : Type 0} (first mid : PlainWorld) (old : WorldState K) → StandsAs first old → length old.sessions < 65535
+      → Happens hash shelves first Open mid → length mid.connections ≡ next_session old
   opening_opens first mid old stands room happens =
       let as_many : length old.sessions ≡ length first.connections = stand_length first.connections old.sessions stands.sessions in
       let few : length first.connections < 65535 = omega (arith, as_many, room) in
@@ -43,7 +47,8 @@ module _ (hash : List ℕ → ℕ) (shelves : ℕ) where
       omega (arith, as_many, grown)
 
   -- the session that was opened first is opened
-  opened_behind : {K : Type 0} (n : ℕ) (events rest : List Event) (first last : PlainWorld) (old : WorldState K) → StandsAs first old → n ≡ next_session old → length old.sessions < 65535 → events ≡ Open ∷ rest → Runs hash shelves first events last → IsOpened n last.connections
+  opened_behind : {K : Type 0} (n : ℕ) (events rest : List Event) (first last : PlainWorld) (old : WorldState K) → StandsAs first old → n ≡ next_session old
+      → length old.sessions < 65535 → events ≡ Open ∷ rest → Runs hash shelves first events last → IsOpened n last.connections
   opened_behind n events rest first last old stands number room is runs =
       let opening : Runs hash shelves first (Open ∷ rest) last = subst (λ (es : List Event). Runs hash shelves first es last) is runs in
       let many : length opening.0.connections ≡ next_session old = opening_opens first opening.0 old stands room opening.1 in
@@ -59,12 +64,14 @@ pub record IsAt {K : Type 0} (hash_of : K → List ℕ → ℕ) (n : ℕ) (old :
 
 module _ {K : Type 0} {hash_of : K → List ℕ → ℕ} {may_give : ℕ → Type 0} {n : ℕ} {first : WorldState K} where
   -- so it is
-  pub is_at : {turns : ℕ} {read written : List ℕ} {now : WorldState K} (served : HasServed hash_of may_give n first turns read written now) (plain : PlainWorld) → StandsAs plain first → IsAt hash_of n first plain served.events written now
+  pub is_at : {turns : ℕ} {read written : List ℕ} {now : WorldState K} (served : HasServed hash_of may_give n first turns read written now) (plain : PlainWorld)
+      → StandsAs plain first → IsAt hash_of n first plain served.events written now
   is_at {written = written} {now = now} served plain stands =
       let so_far = served.told.told plain stands in
       let behind : Fronts n written so_far.0 now = fronts n written so_far.0 now so_far.2 in
       let opens = service_opens served.service in
-      let opened : IsOpened n so_far.0.connections = opened_behind (hash_of first.hasher) first.settings.shelves n served.events opens.0 plain so_far.0 first stands served.number served.opens opens.1 so_far.1 in
+      let opened : IsOpened n so_far.0.connections =
+      opened_behind (hash_of first.hasher) first.settings.shelves n served.events opens.0 plain so_far.0 first stands served.number served.opens opens.1 so_far.1 in
       record {
         plain = behind.plain;
         runs = subst (λ (p : PlainWorld). RunsIn hash_of first plain served.events p) (sym behind.is) so_far.1;
@@ -73,7 +80,8 @@ module _ {K : Type 0} {hash_of : K → List ℕ → ℕ} {may_give : ℕ → Typ
       }
 
   -- more events from there, with the bytes in front
-  pub runs_behind : {turns : ℕ} {read written : List ℕ} {now : WorldState K} (served : HasServed hash_of may_give n first turns read written now) (plain : PlainWorld) (here : IsAt hash_of n first plain served.events written now) (more : List Event) (last : PlainWorld)
+  pub runs_behind : {turns : ℕ} {read written : List ℕ} {now : WorldState K} (served : HasServed hash_of may_give n first turns read written now)
+      (plain : PlainWorld) (here : IsAt hash_of n first plain served.events written now) (more : List Event) (last : PlainWorld)
       → RunsIn hash_of now here.plain more last → RunsIn hash_of first plain (served.events ++ more) (with_front n written last)
   runs_behind {written = written} {now = now} served plain here more last runs =
       let hash = hash_of first.hasher in
@@ -81,7 +89,8 @@ module _ {K : Type 0} {hash_of : K → List ℕ → ℕ} {may_give : ℕ → Typ
       runs_join hash_of hash shelves served.events more plain (with_front n written here.plain) (with_front n written last) here.runs
       (runs_fronted hash shelves n written more here.plain last here.opened (runs_still hash_of first now served.told.settings served.told.hasher here.plain more last runs))
 
-  pub told_behind : {turns : ℕ} {read written : List ℕ} {now : WorldState K} (served : HasServed hash_of may_give n first turns read written now) (more : List Event) (new : WorldState K) → Told hash_of now more new → Told hash_of first (served.events ++ more) (with_written n written new)
+  pub told_behind : {turns : ℕ} {read written : List ℕ} {now : WorldState K} (served : HasServed hash_of may_give n first turns read written now)
+      (more : List Event) (new : WorldState K) → Told hash_of now more new → Told hash_of first (served.events ++ more) (with_written n written new)
   told_behind {written = written} {now = now} served more new told = record {
     settings = told.settings ∙ served.told.settings;
     hasher = told.hasher ∙ served.told.hasher;
@@ -103,15 +112,18 @@ module _ {K : Type 0} {hash_of : K → List ℕ → ℕ} {may_give : ℕ → Typ
   }
 
   -- a turn may be taken where little waits
-  pub has_room : {turns : ℕ} {read written : List ℕ} {now : WorldState K} (served : HasServed hash_of may_give n first turns read written now) → waiting n now < most_waiting → HasRoom hash_of may_give n first served.events written
+  pub has_room : {turns : ℕ} {read written : List ℕ} {now : WorldState K} (served : HasServed hash_of may_give n first turns read written now)
+      → waiting n now < most_waiting → HasRoom hash_of may_give n first served.events written
   has_room {now = now} served room = record { world = now; told = served.told; room = room }
 
   -- a piece may come where no turn is due
-  pub finds_idle : {turns : ℕ} {read written : List ℕ} {now : WorldState K} (served : HasServed hash_of may_give n first turns read written now) → IsIdle (numbered n now.sessions) → FindsIdle hash_of may_give n first served.events written
+  pub finds_idle : {turns : ℕ} {read written : List ℕ} {now : WorldState K} (served : HasServed hash_of may_give n first turns read written now)
+      → IsIdle (numbered n now.sessions) → FindsIdle hash_of may_give n first served.events written
   finds_idle {now = now} served idle = record { world = now; told = served.told; idle = idle }
 
   -- a turn
-  then_turned : {turns : ℕ} {read written : List ℕ} {old new : WorldState K} (now : ℕ) → may_give now → waiting n old < most_waiting → Told hash_of old (turn_events n (shelf_of turns old.settings.shelves) now) new → HasServed hash_of may_give n first turns read written old
+  then_turned : {turns : ℕ} {read written : List ℕ} {old new : WorldState K} (now : ℕ) → may_give now → waiting n old < most_waiting
+      → Told hash_of old (turn_events n (shelf_of turns old.settings.shelves) now) new → HasServed hash_of may_give n first turns read written old
       → HasServed hash_of may_give n first (turns + 1) read written new
   then_turned {turns = turns} {written = written} {old = old} {new = new} now gives room told served =
       let events : ℕ → List Event = λ shelves. turn_events n (shelf_of turns shelves) now in
@@ -121,11 +133,13 @@ module _ {K : Type 0} {hash_of : K → List ℕ → ℕ} {may_give : ℕ → Typ
         opens = served.opens;
         events = served.events ++ events first.settings.shelves;
         service = turn now gives (has_room served room) served.service;
-        told = subst (λ (s : Settings). Told hash_of first (served.events ++ events s.shelves) (with_written n written new)) served.told.settings (told_behind served (events old.settings.shelves) new told);
+        told = subst (λ (s : Settings). Told hash_of first (served.events ++ events s.shelves) (with_written n written new)) served.told.settings
+            (told_behind served (events old.settings.shelves) new told);
       }
 
   -- a write
-  then_wrote : {turns : ℕ} {read written : List ℕ} {old new : WorldState K} (part : List ℕ) → old ≡ with_written n part new → HasServed hash_of may_give n first turns read written old → HasServed hash_of may_give n first turns read (written ++ part) new
+  then_wrote : {turns : ℕ} {read written : List ℕ} {old new : WorldState K} (part : List ℕ) → old ≡ with_written n part new
+      → HasServed hash_of may_give n first turns read written old → HasServed hash_of may_give n first turns read (written ++ part) new
   then_wrote {written = written} {new = new} part parts served = record {
     number = served.number;
     stands = served.stands;
@@ -136,7 +150,8 @@ module _ {K : Type 0} {hash_of : K → List ℕ → ℕ} {may_give : ℕ → Typ
   }
 
   -- a read
-  then_read : {turns : ℕ} {read written : List ℕ} {old new : WorldState K} (bytes : List ℕ) → IsIdle (numbered n old.sessions) → Told hash_of old (Piece n bytes ∷ []) new → HasServed hash_of may_give n first turns read written old → HasServed hash_of may_give n first turns (read ++ bytes) written new
+  then_read : {turns : ℕ} {read written : List ℕ} {old new : WorldState K} (bytes : List ℕ) → IsIdle (numbered n old.sessions)
+      → Told hash_of old (Piece n bytes ∷ []) new → HasServed hash_of may_give n first turns read written old → HasServed hash_of may_give n first turns (read ++ bytes) written new
   then_read {new = new} bytes idle told served = record {
     number = served.number;
     stands = served.stands;
@@ -147,7 +162,8 @@ module _ {K : Type 0} {hash_of : K → List ℕ → ℕ} {may_give : ℕ → Typ
   }
 
   -- what was done with the session as an endpoint of its world
-  pub served_by : {start : WorldState K} {turns : ℕ} {read written : List ℕ} {last : Seat} {after : WorldState K} → Exchange (in_world hash_of) may_give (seat n 0) start turns read written last after → turns ≤ most_turns → HasServed hash_of may_give n first 0 [] [] start
+  pub served_by : {start : WorldState K} {turns : ℕ} {read written : List ℕ} {last : Seat} {after : WorldState K}
+      → Exchange (in_world hash_of) may_give (seat n 0) start turns read written last after → turns ≤ most_turns → HasServed hash_of may_give n first 0 [] [] start
       → (last ≡ seat n turns) × HasServed hash_of may_give n first turns read written after
   served_by exchanges.begins few begun = (refl, begun)
   served_by {after = after} (exchanges.turn {turns = turns} {between = between} now exchange small gives (same, told)) few begun =
@@ -157,15 +173,19 @@ module _ {K : Type 0} {hash_of : K → List ℕ → ℕ} {may_give : ℕ → Typ
             (subst (λ (s : Seat). Told hash_of between (turn_events s.number (shelf_of s.turns between.settings.shelves) now) after) is told) served,
       )
   served_by {after = after} (exchanges.piece {between = between} bytes exchange idle (same, told)) few begun =
-      let (is, served) = served_by exchange few begun in
-      (same ∙ is, then_read bytes (subst (λ (s : Seat). IsIdle (numbered s.number between.sessions)) is idle) (subst (λ (s : Seat). Told hash_of between (Piece s.number bytes ∷ []) after) is told) served)
+      let (is, served) = served_by exchange few begun in (
+        same ∙ is,
+        then_read bytes (subst (λ (s : Seat). IsIdle (numbered s.number between.sessions)) is idle)
+            (subst (λ (s : Seat). Told hash_of between (Piece s.number bytes ∷ []) after) is told) served,
+      )
   served_by {after = after} (exchanges.write {between = between} bytes exchange writes) few begun =
       let (is, served) = served_by exchange few begun in
       let wrote = was_written writes in
       (wrote.0 ∙ is, then_wrote bytes (subst (λ (s : Seat). between ≡ with_written s.number bytes after) is wrote.1) served)
 
 -- the three events of a turn
-pub turn_told : {K : Type 0} (hash_of : K → List ℕ → ℕ) (n shelf now : ℕ) (old mid new last : WorldState K) → mid ≡ record old { moment = now } → Told hash_of mid (Turn n ∷ []) new → last ≡ new → Told hash_of old (turn_events n shelf now) last
+pub turn_told : {K : Type 0} (hash_of : K → List ℕ → ℕ) (n shelf now : ℕ) (old mid new last : WorldState K) → mid ≡ record old { moment = now }
+    → Told hash_of mid (Turn n ∷ []) new → last ≡ new → Told hash_of old (turn_events n shelf now) last
 turn_told {K = K} hash_of n shelf now old mid new last is told same =
     let begun : WorldState K = record old { moment = now } in
     let then_told : Told hash_of begun (Turn n ∷ []) new = subst (λ (w : WorldState K). Told hash_of w (Turn n ∷ []) new) is told in

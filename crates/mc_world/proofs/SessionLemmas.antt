@@ -1,5 +1,6 @@
 -- The turn of one session among others.
-use Rattle.std.proofs.Common.{◌≡◌, ◌⊎◌, inl, inr, ℕ, ◌-◌, Bool, true, false, List, get_or, Option, Some, None, Result, Ok, Err, IfErr, OnOk, OnErr, IsTrue, IsFalse, slice_set, refl, sym, ap, ◌∙◌, subst, arith, add-one, if◌then◌else◌}
+use Rattle.std.proofs.Common.{◌≡◌, ◌⊎◌, inl, inr, ℕ, ◌-◌, Bool, true, false, List, get_or, Option, Some, None, Result, Ok, Err, IfErr, OnOk, OnErr, IsTrue, IsFalse, slice_set}
+use Rattle.std.proofs.Common.{refl, sym, ap, ◌∙◌, subst, arith, add-one, if◌then◌else◌}
 use Rattle.std.specs.Option.{MatchOption}
 use Rattle.std.proofs.lemmas.List.{set-get_or}
 use Rattle.std.proofs.lemmas.Option.{get_or_from_slice_get}
@@ -36,7 +37,8 @@ module _ {S : Type 0} (relations : Relations S) (n now : ℕ) (old items list : 
   decided_of : DecidesStep relations now x before after → DecidedOf relations n now old before after
   decided_of decides = (x, found, decides)
 
-  of_some : (new : List SessionState) → (NoTurnDue x × (new ≡ old) × (after ≡ before)) ⊎ ((next : SessionState) × TakesTurn relations now x next before after × (new ≡ put n old next)) → TurnOf relations n now old new before after
+  of_some : (new : List SessionState) → (NoTurnDue x × (new ≡ old) × (after ≡ before))
+      ⊎ ((next : SessionState) × TakesTurn relations now x next before after × (new ≡ put n old next)) → TurnOf relations n now old new before after
   of_some new h = subst (λ (o : Option SessionState). MatchOption o ((new ≡ old) × (after ≡ before)) (λ session.
       (NoTurnDue session × (new ≡ old) × (after ≡ before))
       ⊎ ((next : SessionState) × TakesTurn relations now session next before after × (new ≡ put n old next)))) (sym found) h
@@ -52,7 +54,8 @@ module _ {S : Type 0} (relations : Relations S) (n now : ℕ) (old items list : 
   stays same = ap (λ (s : SessionState). slice_set old at s) (same ∙ here) ∙ set-get_or old at x
 
   -- what the session's turn answered
-  turn_of : (t : Turn) → (t ≡ Did → TakesTurn relations now x y before after) → (t ≡ Idle → NoTurnDue x × IsTrue x.is_open × (y ≡ x) × (after ≡ before)) → (t ≡ Closed → IsFalse x.is_open × (y ≡ x) × (after ≡ before))
+  turn_of : (t : Turn) → (t ≡ Did → TakesTurn relations now x y before after) → (t ≡ Idle → NoTurnDue x × IsTrue x.is_open × (y ≡ x) × (after ≡ before))
+      → (t ≡ Closed → IsFalse x.is_open × (y ≡ x) × (after ≡ before))
       → TurnOf relations n now old (slice_set old at y) before after
   turn_of Did did idle shut = of_some (slice_set old at y) (inr (y, did refl, put_is))
   turn_of Idle did idle shut =
@@ -63,7 +66,8 @@ module _ {S : Type 0} (relations : Relations S) (n now : ℕ) (old items list : 
   view_set : slice_set items at y ≡ slice_set old at y
   view_set = ap (λ (l : List SessionState). slice_set l at y) view
 
-  pub result_ok : (r : Result Turn TurnFault) → (r ≡ Ok Did → TakesTurn relations now x y before after) → (r ≡ Ok Idle → NoTurnDue x × IsTrue x.is_open × (y ≡ x) × (after ≡ before)) → (r ≡ Ok Closed → IsFalse x.is_open × (y ≡ x) × (after ≡ before))
+  pub result_ok : (r : Result Turn TurnFault) → (r ≡ Ok Did → TakesTurn relations now x y before after)
+      → (r ≡ Ok Idle → NoTurnDue x × IsTrue x.is_open × (y ≡ x) × (after ≡ before)) → (r ≡ Ok Closed → IsFalse x.is_open × (y ≡ x) × (after ≡ before))
       → OnOk r (TurnOf relations n now old (slice_set items at y) before after)
   result_ok (Ok t) did idle shut =
       subst (λ l. TurnOf relations n now old l before after) (sym view_set) (turn_of t (λ e. did (ap (λ k. Ok k) e)) (λ e. idle (ap (λ k. Ok k) e)) (λ e. shut (ap (λ k. Ok k) e)))
@@ -73,7 +77,8 @@ module _ {S : Type 0} (relations : Relations S) (n now : ℕ) (old items list : 
   result_err (Ok t) h = tt
   result_err (Err fault) h = view_set ∙ put_is ∙ ap (put n old) h ∙ ap (changed n old closed) (sym found)
 
-  pub result_decided : (r : Result Turn TurnFault) → IfErr r (λ fault. IsTrue fault.decided → DecidesStep relations now x before after) → IfErr r (λ fault. IsTrue fault.decided → DecidedOf relations n now old before after)
+  pub result_decided : (r : Result Turn TurnFault) → IfErr r (λ fault. IsTrue fault.decided → DecidesStep relations now x before after)
+      → IfErr r (λ fault. IsTrue fault.decided → DecidedOf relations n now old before after)
   result_decided (Ok t) h = tt
   result_decided (Err fault) h = λ is. decided_of (h is)
 
@@ -88,7 +93,8 @@ module _ {S : Type 0} (relations : Relations S) (n now : ℕ) (old items list : 
   there : numbered n old ≡ Some x
   there = ap (λ (k : ℕ). numbered k old) (here_is.number ∙ add-one at) ∙ here_is.here ∙ ap (λ (s : SessionState). Some s) is_it
 
-  pub result_idle : (r : Result Turn TurnFault) → (r ≡ Ok Idle → NoTurnDue x × IsTrue x.is_open × (y ≡ x) × (after ≡ before)) → r ≡ Ok Idle → IsIdle (numbered n old) × (slice_set items at y ≡ old) × (after ≡ before)
+  pub result_idle : (r : Result Turn TurnFault) → (r ≡ Ok Idle → NoTurnDue x × IsTrue x.is_open × (y ≡ x) × (after ≡ before)) → r ≡ Ok Idle
+      → IsIdle (numbered n old) × (slice_set items at y ≡ old) × (after ≡ before)
   result_idle r idle is =
       let h = idle is in
       (subst IsIdle (sym there) (h.1, h.0), view_set ∙ stays h.2, h.3)

@@ -42,7 +42,8 @@ stand_numbered cs ss zero all = tt
 stand_numbered cs ss (suc n) all = stand_get cs ss n all
 
 -- what stands is open with its connection, or isn't
-open_one : (c : Connection) (s : SessionState) (b : Bool) → c.is_open ≡ b → Stands c s → MatchBool b ((s.is_open ≡ true) × IsRest c s) (s ≡ shut c) → Opens (if b then Some c else None) (if s.is_open then Some s else None)
+open_one : (c : Connection) (s : SessionState) (b : Bool) → c.is_open ≡ b → Stands c s → MatchBool b ((s.is_open ≡ true) × IsRest c s) (s ≡ shut c)
+    → Opens (if b then Some c else None) (if s.is_open then Some s else None)
 open_one c s true is stands (opens, rest) = subst (λ (k : Bool). Opens (Some c) (if k then Some s else None)) (sym opens) (is, opens, rest, stands)
 open_one c s false is stands same = let none : s.is_open ≡ false = ap (λ (x : SessionState). x.is_open) same in subst (λ (k : Bool). Opens None (if k then Some s else None)) (sym none) tt
 
@@ -75,7 +76,8 @@ stand_more (x ∷ cs) [] c s all one = absurd all
 stand_more (x ∷ cs) (y ∷ ss) c s all one = (all.0, stand_more cs ss c s all.1 one)
 
 -- the one of a number is changed in both
-pub stand_changed : (P : Connection → SessionState → Type 0) (cs : List Connection) (ss : List SessionState) (n : ℕ) (f : Connection → Connection) (g : SessionState → SessionState) (c : Option Connection) (s : Option SessionState) → BothBy P c s
+pub stand_changed : (P : Connection → SessionState → Type 0) (cs : List Connection) (ss : List SessionState) (n : ℕ) (f : Connection → Connection)
+    (g : SessionState → SessionState) (c : Option Connection) (s : Option SessionState) → BothBy P c s
     → ((x : Connection) (y : SessionState) → P x y → Stands (f x) (g y)) → StandAll cs ss → StandAll (changed n cs f c) (changed n ss g s)
 stand_changed P cs ss n f g None None both each all = all
 stand_changed P cs ss n f g None (Some s) both each all = absurd both
@@ -90,7 +92,9 @@ out_by f c s false same = ap (λ (x : SessionState). let t : SessionState = reco
 
 pub stand_out : (f : List ℕ → List ℕ) (cs : List Connection) (ss : List SessionState) (n : ℕ) → StandAll cs ss
     → StandAll (changed n cs (λ c. record c { out = f c.out }) (numbered n cs)) (changed n ss (λ s. record s { out = f s.out }) (numbered n ss))
-stand_out f cs ss n all = stand_changed Stands cs ss n (λ c. record c { out = f c.out }) (λ s. record s { out = f s.out }) (numbered n cs) (numbered n ss) (stand_numbered cs ss n all) (λ c s stands. out_by f c s c.is_open stands) all
+stand_out f cs ss n all =
+    stand_changed Stands cs ss n (λ c. record c { out = f c.out }) (λ s. record s { out = f s.out }) (numbered n cs) (numbered n ss)
+    (stand_numbered cs ss n all) (λ c s stands. out_by f c s c.is_open stands) all
 
 -- so many bytes of the output were sent
 abbrev pub less : ℕ → Connection → Connection

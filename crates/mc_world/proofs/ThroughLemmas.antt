@@ -15,14 +15,16 @@ refusals_more (was_refused decided ∷ outcomes) outcome = omega (arith, refusal
 
 module _ (hash : List ℕ → ℕ) (shelves : ℕ) where
   -- one event more
-  through_more : (events : List Event) (outcomes : List EventOutcome) (event : Event) (outcome : EventOutcome) (first mid last : PlainWorld) → RunsThrough hash shelves first events outcomes mid → Goes hash shelves mid event outcome last → RunsThrough hash shelves first (events ++ event ∷ []) (outcomes ++ outcome ∷ []) last
+  through_more : (events : List Event) (outcomes : List EventOutcome) (event : Event) (outcome : EventOutcome) (first mid last : PlainWorld)
+      → RunsThrough hash shelves first events outcomes mid → Goes hash shelves mid event outcome last → RunsThrough hash shelves first (events ++ event ∷ []) (outcomes ++ outcome ∷ []) last
   through_more [] [] event outcome first mid last runs goes = (last, subst (λ (w : PlainWorld). Goes hash shelves w event outcome last) runs goes, refl)
   through_more [] (c ∷ outcomes) event outcome first mid last runs goes = absurd runs
   through_more (e ∷ events) [] event outcome first mid last runs goes = absurd runs
   through_more (e ∷ events) (c ∷ outcomes) event outcome first mid last runs goes = (runs.0, runs.1, through_more events outcomes event outcome runs.0 mid last runs.2 goes)
 
   -- a run without refusals
-  through_done : (events : List Event) (outcomes : List EventOutcome) → refusals outcomes ≡ 0 → (first last : PlainWorld) → RunsThrough hash shelves first events outcomes last → Runs hash shelves first events last
+  through_done : (events : List Event) (outcomes : List EventOutcome) → refusals outcomes ≡ 0 → (first last : PlainWorld)
+      → RunsThrough hash shelves first events outcomes last → Runs hash shelves first events last
   through_done [] [] none first last runs = runs
   through_done [] (c ∷ outcomes) none first last runs = absurd runs
   through_done (e ∷ events) [] none first last runs = absurd runs
@@ -38,7 +40,8 @@ module _ {K : Type 0} (hash_of : K → List ℕ → ℕ) where
   abbrev GoesOn : WorldState K → WorldState K → Event → EventOutcome → WorldState K → Type 0
   GoesOn old mid event outcome new = (first : PlainWorld) → StandsAs first mid → (last : PlainWorld) × Goes (hash_of old.hasher) old.settings.shelves first event outcome last × StandsAs last new
 
-  through_on : (count : ℕ) (old mid new : WorldState K) (events : List Event) (at : ℕ) (event : Event) (outcome : EventOutcome) → event ≡ get_or events at event → at < length events → ToldThrough hash_of count old (take at events) mid → new.settings ≡ mid.settings → new.hasher ≡ mid.hasher → GoesOn old mid event outcome new
+  through_on : (count : ℕ) (old mid new : WorldState K) (events : List Event) (at : ℕ) (event : Event) (outcome : EventOutcome) → event ≡ get_or events at event
+      → at < length events → ToldThrough hash_of count old (take at events) mid → new.settings ≡ mid.settings → new.hasher ≡ mid.hasher → GoesOn old mid event outcome new
       → ToldThrough hash_of (count + refusals (outcome ∷ [])) old (take (at + 1) events) new
   through_on count old mid new events at event outcome here inside told settings hasher goes =
       let more : take at events ++ event ∷ [] ≡ take (at + 1) events = ap (λ (e : Event). take at events ++ e ∷ []) here ∙ sym (take_more events at event inside) in
@@ -58,7 +61,8 @@ module _ {K : Type 0} (hash_of : K → List ℕ → ℕ) where
       })
 
   -- one event more that was done
-  pub through_one : (count : ℕ) (old mid new : WorldState K) (events : List Event) (at : ℕ) (event : Event) → event ≡ get_or events at event → at < length events → ToldThrough hash_of count old (take at events) mid → Told hash_of mid (event ∷ []) new
+  pub through_one : (count : ℕ) (old mid new : WorldState K) (events : List Event) (at : ℕ) (event : Event) → event ≡ get_or events at event
+      → at < length events → ToldThrough hash_of count old (take at events) mid → Told hash_of mid (event ∷ []) new
       → ToldThrough hash_of count old (take (at + 1) events) new
   through_one count old mid new events at event here inside told after =
       let same : count + 0 ≡ count = omega arith in
@@ -74,7 +78,8 @@ module _ {K : Type 0} (hash_of : K → List ℕ → ℕ) where
       )))
 
   -- one event more that was refused
-  pub through_refused : (count : ℕ) (old mid new : WorldState K) (events : List Event) (at : ℕ) (event : Event) (decided : Bool) → event ≡ get_or events at event → at < length events → ToldThrough hash_of count old (take at events) mid → ToldRefused hash_of decided mid event new
+  pub through_refused : (count : ℕ) (old mid new : WorldState K) (events : List Event) (at : ℕ) (event : Event) (decided : Bool)
+      → event ≡ get_or events at event → at < length events → ToldThrough hash_of count old (take at events) mid → ToldRefused hash_of decided mid event new
       → ToldThrough hash_of (count + 1) old (take (at + 1) events) new
   through_refused count old mid new events at event decided here inside told after =
       through_on count old mid new events at event (was_refused decided) here inside told after.settings after.hasher
@@ -91,12 +96,14 @@ module _ {K : Type 0} (hash_of : K → List ℕ → ℕ) where
   }
 
   -- one event more, as its result tells
-  pub through_ok : {T : Type 0} (count : ℕ) (old mid new : WorldState K) (events : List Event) (at : ℕ) (event : Event) (r : Result T TurnFault) → event ≡ get_or events at event → at < length events → is_err r ≡ false → ToldThrough hash_of count old (take at events) mid → OnOk r (Told hash_of mid (event ∷ []) new)
+  pub through_ok : {T : Type 0} (count : ℕ) (old mid new : WorldState K) (events : List Event) (at : ℕ) (event : Event) (r : Result T TurnFault)
+      → event ≡ get_or events at event → at < length events → is_err r ≡ false → ToldThrough hash_of count old (take at events) mid → OnOk r (Told hash_of mid (event ∷ []) new)
       → ToldThrough hash_of count old (take (at + 1) events) new
   through_ok count old mid new events at event (Ok x) here inside ok told after = through_one count old mid new events at event here inside told after
   through_ok count old mid new events at event (Err fault) here inside ok told after = cc
 
-  pub through_err : {T : Type 0} (count : ℕ) (old mid new : WorldState K) (events : List Event) (at : ℕ) (event : Event) (r : Result T TurnFault) → event ≡ get_or events at event → at < length events → is_err r ≡ true → ToldThrough hash_of count old (take at events) mid
+  pub through_err : {T : Type 0} (count : ℕ) (old mid new : WorldState K) (events : List Event) (at : ℕ) (event : Event) (r : Result T TurnFault)
+      → event ≡ get_or events at event → at < length events → is_err r ≡ true → ToldThrough hash_of count old (take at events) mid
       → IfErr r (λ fault. ToldRefused hash_of fault.decided mid event new) → ToldThrough hash_of (count + 1) old (take (at + 1) events) new
   through_err count old mid new events at event (Ok x) here inside err told after = cc
   through_err count old mid new events at event (Err fault) here inside err told after = through_refused count old mid new events at event fault.decided here inside told after

@@ -20,13 +20,16 @@ use Rattle.mc_world.specs.Sessions.{TurnOf, DecidedOf, IsDue, Done, Undone, at_s
 use Rattle.mc_world.specs.declared.event.Event.TheVariants.{Turn as TurnEvent}
 
 module _ {S T : Type 0} (relations : Relations S) (relations' : Relations T) (f : S → T)
-    (takes : (b : S) (step : KeyStep) (now : ℕ) (reply : Reply) (a : S) → relations.took b step now reply a → relations'.took (f b) step now reply (f a)) (spends : (b : S) (step : KeyStep) (now : ℕ) → relations.spent b step now → relations'.spent (f b) step now)
+    (takes : (b : S) (step : KeyStep) (now : ℕ) (reply : Reply) (a : S) → relations.took b step now reply a → relations'.took (f b) step now reply (f a))
+    (spends : (b : S) (step : KeyStep) (now : ℕ) → relations.spent b step now → relations'.spent (f b) step now)
     (sames : (b a : S) → relations.same b a → relations'.same (f b) (f a)) where
-  step_seen : (command : Command) (at : ℕ) (step : KeyStep) (now : ℕ) (b a : S) (text : List ℕ) → AnswersStep relations command at step now b a text → AnswersStep relations' command at step now (f b) (f a) text
+  step_seen : (command : Command) (at : ℕ) (step : KeyStep) (now : ℕ) (b a : S) (text : List ℕ) → AnswersStep relations command at step now b a text
+      → AnswersStep relations' command at step now (f b) (f a) text
   step_seen command at step now b a text (inl (reply, t, e)) = inl (reply, takes b step now reply a t, e)
   step_seen command at step now b a text (inr (s, e, t)) = inr (spends b step now s, sames b a e, t)
 
-  request_seen : (command : Command) (at now : ℕ) (b a : S) (text : List ℕ) (o : Option KeyStep) → MatchOption o ((text ≡ plain_text command) × (a ≡ b)) (λ step. AnswersStep relations command at step now b a text)
+  request_seen : (command : Command) (at now : ℕ) (b a : S) (text : List ℕ) (o : Option KeyStep)
+      → MatchOption o ((text ≡ plain_text command) × (a ≡ b)) (λ step. AnswersStep relations command at step now b a text)
       → MatchOption o ((text ≡ plain_text command) × (f a ≡ f b)) (λ step. AnswersStep relations' command at step now (f b) (f a) text)
   request_seen command at now b a text None h = (h.0, ap f h.1)
   request_seen command at now b a text (Some step) h = step_seen command at step now b a text h
@@ -52,7 +55,8 @@ module _ {S T : Type 0} (relations : Relations S) (relations' : Relations T) (f 
 
   of_seen : (n now : ℕ) (old new : List SessionState) (b a : S) (o : Option SessionState)
       → MatchOption o ((new ≡ old) × (a ≡ b)) (λ session. (NoTurnDue session × (new ≡ old) × (a ≡ b)) ⊎ ((next : SessionState) × TakesTurn relations now session next b a × (new ≡ put n old next)))
-      → MatchOption o ((new ≡ old) × (f a ≡ f b)) (λ session. (NoTurnDue session × (new ≡ old) × (f a ≡ f b)) ⊎ ((next : SessionState) × TakesTurn relations' now session next (f b) (f a) × (new ≡ put n old next)))
+      → MatchOption o ((new ≡ old) × (f a ≡ f b))
+      (λ session. (NoTurnDue session × (new ≡ old) × (f a ≡ f b)) ⊎ ((next : SessionState) × TakesTurn relations' now session next (f b) (f a) × (new ≡ put n old next)))
   of_seen n now old new b a None h = (h.0, ap f h.1)
   of_seen n now old new b a (Some session) (inl h) = inl (h.0, h.1, ap f h.2)
   of_seen n now old new b a (Some session) (inr h) = inr (h.0, takes_seen now session h.0 b a h.1, h.2)
@@ -78,12 +82,15 @@ module _ {S T : Type 0} (relations : Relations S) (relations' : Relations T) (f 
   decided_seen n now old b a h = (h.0, h.1, decides_seen now h.0 b a h.2)
 
 -- What each step keeps, and what nothing changes where there is no step, a turn keeps.
-module _ {S : Type 0} (relations : Relations S) (Keeps : S → S → Type 0) (each : (b : S) (step : KeyStep) (now : ℕ) (reply : Reply) (a : S) → relations.took b step now reply a → Keeps b a) (sames : (b a : S) → relations.same b a → Keeps b a) (none : (b a : S) → a ≡ b → Keeps b a) where
+module _ {S : Type 0} (relations : Relations S) (Keeps : S → S → Type 0)
+    (each : (b : S) (step : KeyStep) (now : ℕ) (reply : Reply) (a : S) → relations.took b step now reply a → Keeps b a)
+    (sames : (b a : S) → relations.same b a → Keeps b a) (none : (b a : S) → a ≡ b → Keeps b a) where
   step_keeps : (command : Command) (at : ℕ) (step : KeyStep) (now : ℕ) (b a : S) (text : List ℕ) → AnswersStep relations command at step now b a text → Keeps b a
   step_keeps command at step now b a text (inl (reply, t, e)) = each b step now reply a t
   step_keeps command at step now b a text (inr (s, e, t)) = sames b a e
 
-  request_keeps : (command : Command) (at now : ℕ) (b a : S) (text : List ℕ) (o : Option KeyStep) → MatchOption o ((text ≡ plain_text command) × (a ≡ b)) (λ step. AnswersStep relations command at step now b a text) → Keeps b a
+  request_keeps : (command : Command) (at now : ℕ) (b a : S) (text : List ℕ) (o : Option KeyStep)
+      → MatchOption o ((text ≡ plain_text command) × (a ≡ b)) (λ step. AnswersStep relations command at step now b a text) → Keeps b a
   request_keeps command at now b a text None h = none b a h.1
   request_keeps command at now b a text (Some step) h = step_keeps command at step now b a text h
 
@@ -93,7 +100,8 @@ module _ {S : Type 0} (relations : Relations S) (Keeps : S → S → Type 0) (ea
   answers_keep LongLine at now b a text h = none b a h.1
 
   of_keeps : (n now : ℕ) (old new : List SessionState) (b a : S) (o : Option SessionState)
-      → MatchOption o ((new ≡ old) × (a ≡ b)) (λ session. (NoTurnDue session × (new ≡ old) × (a ≡ b)) ⊎ ((next : SessionState) × TakesTurn relations now session next b a × (new ≡ put n old next))) → Keeps b a
+      → MatchOption o ((new ≡ old) × (a ≡ b))
+      (λ session. (NoTurnDue session × (new ≡ old) × (a ≡ b)) ⊎ ((next : SessionState) × TakesTurn relations now session next b a × (new ≡ put n old next))) → Keeps b a
   of_keeps n now old new b a None h = none b a h.1
   of_keeps n now old new b a (Some session) (inl h) = none b a h.2
   of_keeps n now old new b a (Some session) (inr h) = answers_keep h.1.unit session.taken now b a h.1.text h.1.answers
@@ -124,7 +132,9 @@ module _ {K : Type 0} (n now : ℕ) (old new : List SessionState) (b a : Store K
 
   pub result_done : (hash_of : K → List ℕ → ℕ) (r : Result Turn TurnFault) → OnOk r (TurnOf in_store n now old new b a) → OnOk r (Done hash_of (with_store old b) (TurnEvent n) (with_store new a))
   result_done hash_of (Ok t) h =
-      let kept : Kept b a = turn_keeps in_store Kept (λ b step now reply a took. took.1) (λ b a same. (same.settings, same.hasher)) (λ b a e. (ap (λ (s : Store K). s.settings) e, ap (λ (s : Store K). s.hasher) e)) n now old new b a h in
+      let kept : Kept b a =
+      turn_keeps in_store Kept (λ b step now reply a took. took.1) (λ b a same. (same.settings, same.hasher))
+      (λ b a e. (ap (λ (s : Store K). s.settings) e, ap (λ (s : Store K). s.hasher) e)) n now old new b a h in
       (kept.0, kept.1, refl, turn_seen in_store in_plain (λ (s : Store K). s.plain) (λ b step now reply a took. took.0) (λ b step now spent. spent) (λ b a same. same.plain) n now old new b a h)
   result_done hash_of (Err fault) h = tt
 
@@ -132,7 +142,8 @@ module _ {K : Type 0} (n now : ℕ) (old new : List SessionState) (b a : Store K
   decided_kept true undecided decides = (decides refl).2.took_it.1
   decided_kept false undecided decides = let same = undecided refl in (same.settings, same.hasher)
 
-  pub result_undone : (r : Result Turn TurnFault) → OnErr r (new ≡ at_session old n closed) → OnErr r (IsDue n old) → IfErr r (λ fault. IsFalse fault.decided → store_same b a) → IfErr r (λ fault. IsTrue fault.decided → DecidedOf in_store n now old b a)
+  pub result_undone : (r : Result Turn TurnFault) → OnErr r (new ≡ at_session old n closed) → OnErr r (IsDue n old)
+      → IfErr r (λ fault. IsFalse fault.decided → store_same b a) → IfErr r (λ fault. IsTrue fault.decided → DecidedOf in_store n now old b a)
       → IfErr r (λ fault. Undone fault.decided (with_store old b) (TurnEvent n) (with_store new a))
   result_undone (Ok t) shut due undecided decides = tt
   result_undone (Err fault) shut due undecided decides =

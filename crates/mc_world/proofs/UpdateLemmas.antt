@@ -82,7 +82,8 @@ number_twice xs zero f g h same = refl
 number_twice xs (suc m) f g h same = update_twice xs m f g h same
 
 -- the same of what was found under the number
-pub changed_twice : {A : Type 0} (n : ℕ) (xs : List A) (f g h : A → A) → ((x : A) → f (g x) ≡ h x) → changed n (changed n xs g (numbered n xs)) f (numbered n (changed n xs g (numbered n xs))) ≡ changed n xs h (numbered n xs)
+pub changed_twice : {A : Type 0} (n : ℕ) (xs : List A) (f g h : A → A) → ((x : A) → f (g x) ≡ h x)
+    → changed n (changed n xs g (numbered n xs)) f (numbered n (changed n xs g (numbered n xs))) ≡ changed n xs h (numbered n xs)
 changed_twice n xs f g h same =
     changed_is n (changed n xs g (numbered n xs)) f ∙ ap (λ l. at_number l n f) (changed_is n xs g) ∙ number_twice xs n f g h same ∙ sym (changed_is n xs h)
 
@@ -99,7 +100,8 @@ opened_twice is_open n xs f g h same =
     ∙ sym (changed_opened is_open n xs h)
 
 -- changes of two that are apart may change places
-pub opened_apart : {A : Type 0} (is_open : A → Bool) (m n : ℕ) (xs : List A) (f g : A → A) → (m ≡ n → ⊥) → change_open is_open n (change_open is_open m xs f) g ≡ change_open is_open m (change_open is_open n xs g) f
+pub opened_apart : {A : Type 0} (is_open : A → Bool) (m n : ℕ) (xs : List A) (f g : A → A) → (m ≡ n → ⊥)
+    → change_open is_open n (change_open is_open m xs f) g ≡ change_open is_open m (change_open is_open n xs g) f
 opened_apart is_open m n xs f g apart =
     changed_opened is_open n (change_open is_open m xs f) g
     ∙ ap (λ l. at_number l n (if_opened is_open g)) (changed_opened is_open m xs f)

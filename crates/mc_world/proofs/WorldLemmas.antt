@@ -1,5 +1,6 @@
 -- What one event makes of the sessions is what it makes of the connections.
-use Rattle.std.proofs.Common.{◌≡◌, ◌⊎◌, inl, inr, ℕ, ◌+◌, ◌%◌, ◌==◌, ◌<◌, Bool, true, false, List, [], ◌∷◌, ◌++◌, length, take, drop, get_or, Option, Some, None, Result, Ok, Err, OnOk, IfErr, nat_lt, refl, sym, ap, ◌∙◌, subst, arith, if◌then◌else◌}
+use Rattle.std.proofs.Common.{◌≡◌, ◌⊎◌, inl, inr, ℕ, ◌+◌, ◌%◌, ◌==◌, ◌<◌, Bool, true, false, List, [], ◌∷◌, ◌++◌, length, take, drop, get_or, Option, Some, None, Result, Ok, Err}
+use Rattle.std.proofs.Common.{OnOk, IfErr, nat_lt, refl, sym, ap, ◌∙◌, subst, arith, if◌then◌else◌}
 use Rattle.std.specs.List.{slice_get}
 use Rattle.std.specs.Option.{MatchOption}
 use Rattle.std.proofs.lemmas.List.{take_more}
@@ -12,7 +13,8 @@ use Rattle.mc_shelf.specs.declared.settings.Settings.{Settings}
 use Rattle.mc_session.specs.Turns.{SessionState, Answers, TakesTurn, DecidesStep, NoTurnDue, opened, fed, closed, sent}
 use Rattle.mc_command.specs.Purge.{purged}
 use Rattle.mc_world.specs.Connections.{Connection, IsNext, IsRest, Stands, at_start, fresh, with_piece, after_turn, ended}
-use Rattle.mc_world.specs.Worlds.{PlainWorld, WorldState, replies, in_plain, put, changed, numbered, CanStand, open_connection, open_session, at_connection, NextTurn, NextStep, Turns, Happens, Runs, StandAll, StandsAs, RunsIn, Told, named, with_end, Decides, TakesMemory, GivesUp, ToldRefused, ToldUntil}
+use Rattle.mc_world.specs.Worlds.{PlainWorld, WorldState, replies, in_plain, put, changed, numbered, CanStand, open_connection, open_session, at_connection, NextTurn, NextStep}
+use Rattle.mc_world.specs.Worlds.{Turns, Happens, Runs, StandAll, StandsAs, RunsIn, Told, named, with_end, Decides, TakesMemory, GivesUp, ToldRefused, ToldUntil}
 use Rattle.mc_world.specs.Laws.{Grammar}
 use Rattle.mc_world.specs.Sessions.{at_session, Done, sessions_ended, DecidedIn, Takes, Undone}
 use Rattle.mc_world.specs.declared.event.Event.{Event}
@@ -26,15 +28,18 @@ fresh_stands : (greatest : ℕ) → Stands (fresh greatest) (opened greatest)
 fresh_stands greatest = (refl, record { read = []; follows = refl; taken = refl; among = at_start; out = refl })
 
 -- a piece comes to what stands
-piece_stands : (g : Grammar) (cs : List Connection) (ss : List SessionState) (n : ℕ) (piece : List ℕ) → StandAll cs ss → StandAll (changed n cs (with_piece piece) (open_connection n cs)) (at_session ss n (λ s. fed s piece))
-piece_stands g cs ss n piece all = stand_changed AreOpen cs ss n (with_piece piece) (λ s. fed s piece) (open_connection n cs) (open_session n ss) (stand_open cs ss n all) (λ c s h. rest_fed g c s piece h.1 h.2 h.3 h.0) all
+piece_stands : (g : Grammar) (cs : List Connection) (ss : List SessionState) (n : ℕ) (piece : List ℕ) → StandAll cs ss
+    → StandAll (changed n cs (with_piece piece) (open_connection n cs)) (at_session ss n (λ s. fed s piece))
+piece_stands g cs ss n piece all =
+    stand_changed AreOpen cs ss n (with_piece piece) (λ s. fed s piece) (open_connection n cs) (open_session n ss) (stand_open cs ss n all) (λ c s h. rest_fed g c s piece h.1 h.2 h.3 h.0) all
 
 -- one that stands closes
 end_stands : (cs : List Connection) (ss : List SessionState) (n : ℕ) → StandAll cs ss → StandAll (changed n cs ended (open_connection n cs)) (at_session ss n closed)
 end_stands cs ss n all = stand_changed AreOpen cs ss n ended closed (open_connection n cs) (open_session n ss) (stand_open cs ss n all) (λ c s h. rest_closed c s h.2) all
 
 -- the turn of a session is that of its connection's stream
-next_turn : (g : Grammar) (first : PlainWorld) (now : ℕ) (c : Connection) (s new : SessionState) (before after : Plain) → IsRest c s → now ≡ first.now → before ≡ first.state → (takes : TakesTurn in_plain now s new before after) → NextTurn first c after
+next_turn : (g : Grammar) (first : PlainWorld) (now : ℕ) (c : Connection) (s new : SessionState) (before after : Plain) → IsRest c s → now ≡ first.now
+    → before ≡ first.state → (takes : TakesTurn in_plain now s new before after) → NextTurn first c after
 next_turn g first now c s new before after rest same_now same_state takes =
     let at_now : Answers in_plain takes.unit s.taken first.now before after takes.text = subst (λ (m : ℕ). Answers in_plain takes.unit s.taken m before after takes.text) same_now takes.answers in
     record {
@@ -46,7 +51,8 @@ next_turn g first now c s new before after rest same_now same_state takes =
     }
 
 -- and so is its step
-next_step : (g : Grammar) (first : PlainWorld) (now : ℕ) (c : Connection) (s : SessionState) (before after : Plain) → IsRest c s → now ≡ first.now → before ≡ first.state → DecidesStep in_plain now s before after → NextStep first c after
+next_step : (g : Grammar) (first : PlainWorld) (now : ℕ) (c : Connection) (s : SessionState) (before after : Plain) → IsRest c s → now ≡ first.now
+    → before ≡ first.state → DecidesStep in_plain now s before after → NextStep first c after
 next_step g first now c s before after rest same_now same_state decides =
     let at_now : replies before decides.step first.now decides.reply after = subst (λ (m : ℕ). replies before decides.step m decides.reply after) same_now decides.took_it in
     record {
@@ -64,7 +70,8 @@ next_step g first now c s before after rest same_now same_state decides =
 same_set_up : {K : Type 0} (old new told : WorldState K) → new ≡ told → (told.settings ≡ old.settings) → told.hasher ≡ old.hasher → (new.settings ≡ old.settings) × (new.hasher ≡ old.hasher)
 same_set_up {K = K} old new told is settings hasher = (ap (λ (w : WorldState K). w.settings) is ∙ settings, ap (λ (w : WorldState K). w.hasher) is ∙ hasher)
 
-opened_set_up : {K : Type 0} (old new : WorldState K) (b : Bool) → new ≡ (if b then record old { sessions = old.sessions ++ opened old.settings.greatest ∷ [] } else old) → (new.settings ≡ old.settings) × (new.hasher ≡ old.hasher)
+opened_set_up : {K : Type 0} (old new : WorldState K) (b : Bool)
+    → new ≡ (if b then record old { sessions = old.sessions ++ opened old.settings.greatest ∷ [] } else old) → (new.settings ≡ old.settings) × (new.hasher ≡ old.hasher)
 opened_set_up old new true is = same_set_up old new _ is refl refl
 opened_set_up old new false is = same_set_up old new _ is refl refl
 
@@ -74,7 +81,8 @@ module _ {K : Type 0} (g : Grammar) (hash_of : K → List ℕ → ℕ) where
 
   -- by whether the session can still be opened
   open_goes : (first : PlainWorld) (old : WorldState K) (b : Bool) → StandsAs first old
-      → StandsAs (if b then record first { connections = first.connections ++ fresh first.greatest ∷ [] } else first) (if b then record old { sessions = old.sessions ++ opened old.settings.greatest ∷ [] } else old)
+      → StandsAs (if b then record first { connections = first.connections ++ fresh first.greatest ∷ [] } else first)
+      (if b then record old { sessions = old.sessions ++ opened old.settings.greatest ∷ [] } else old)
   open_goes first old true stands = record {
     greatest = stands.greatest;
     state = stands.state;
@@ -85,16 +93,37 @@ module _ {K : Type 0} (g : Grammar) (hash_of : K → List ℕ → ℕ) where
   open_goes first old false stands = stands
 
   -- a turn, by the connection and the session
-  turn_goes : (first : PlainWorld) (old new : WorldState K) (n : ℕ) (c : Option Connection) (s : Option SessionState) → StandsAs first old → new.settings ≡ old.settings → new.moment ≡ old.moment → Opens c s
-      → MatchOption s ((new.sessions ≡ old.sessions) × (new.state ≡ old.state)) (λ session. (NoTurnDue session × (new.sessions ≡ old.sessions) × (new.state ≡ old.state)) ⊎ ((next : SessionState) × TakesTurn in_plain old.moment session next old.state new.state × (new.sessions ≡ put n old.sessions next)))
+  turn_goes : (first : PlainWorld) (old new : WorldState K) (n : ℕ) (c : Option Connection) (s : Option SessionState) → StandsAs first old
+      → new.settings ≡ old.settings → new.moment ≡ old.moment → Opens c s
+      → MatchOption s ((new.sessions ≡ old.sessions) × (new.state ≡ old.state))
+      (λ session. (NoTurnDue session × (new.sessions ≡ old.sessions) × (new.state ≡ old.state))
+      ⊎ ((next : SessionState) × TakesTurn in_plain old.moment session next old.state new.state × (new.sessions ≡ put n old.sessions next)))
       → (last : PlainWorld) × MatchOption c (last ≡ first) (λ connection. Turns first n connection last) × StandsAs last new
   unfolding next_turn
-  turn_goes first old new n None None stands settings now both h =
-      (first, refl, record { greatest = ap (λ (s : Settings). s.greatest) settings ∙ stands.greatest; state = h.1 ∙ stands.state; now = now ∙ stands.now; sessions = subst (StandAll first.connections) (sym h.0) stands.sessions })
+  turn_goes first old new n None None stands settings now both h = (
+    first,
+    refl,
+    record {
+      greatest = ap (λ (s : Settings). s.greatest) settings ∙ stands.greatest;
+      state = h.1 ∙ stands.state;
+      now = now ∙ stands.now;
+      sessions =
+          subst (StandAll first.connections) (sym h.0) stands.sessions;
+    },
+  )
   turn_goes first old new n None (Some s) stands settings now both h = absurd both
   turn_goes first old new n (Some c) None stands settings now both h = absurd both
-  turn_goes first old new n (Some c) (Some s) stands settings now both (inl h) =
-      (first, inl (rest_idle g c s both.2 h.0, refl), record { greatest = ap (λ (s : Settings). s.greatest) settings ∙ stands.greatest; state = h.2 ∙ stands.state; now = now ∙ stands.now; sessions = subst (StandAll first.connections) (sym h.1) stands.sessions })
+  turn_goes first old new n (Some c) (Some s) stands settings now both (inl h) = (
+    first,
+    inl (rest_idle g c s both.2 h.0, refl),
+    record {
+      greatest = ap (λ (s : Settings). s.greatest) settings ∙ stands.greatest;
+      state = h.2 ∙ stands.state;
+      now = now ∙ stands.now;
+      sessions =
+          subst (StandAll first.connections) (sym h.1) stands.sessions;
+    },
+  )
   turn_goes first old new n (Some c) (Some s) stands settings now both (inr (next, takes, is)) =
       let turn : NextTurn first c new.state = next_turn g first old.moment c s next old.state new.state both.2 stands.now stands.state takes in
       let after : Connection = after_turn takes.unit takes.text c in (
@@ -121,11 +150,16 @@ module _ {K : Type 0} (g : Grammar) (hash_of : K → List ℕ → ℕ) where
         refl,
         along _ new _ (done ∙ ap (λ (k : Bool). if k then record old { sessions = old.sessions ++ opened old.settings.greatest ∷ [] } else old) same) (open_goes first old b stands),
       )
-  goes first old new (Piece n piece) stands done =
-      (at_connection first n (with_piece piece), refl, along _ new _ done (record { greatest = stands.greatest; state = stands.state; now = stands.now; sessions = piece_stands g first.connections old.sessions n piece stands.sessions }))
+  goes first old new (Piece n piece) stands done = (
+    at_connection first n (with_piece piece),
+    refl,
+    along _ new _ done
+        (record { greatest = stands.greatest; state = stands.state; now = stands.now; sessions = piece_stands g first.connections old.sessions n piece stands.sessions }),
+  )
   goes first old new (Turn n) stands done =
       turn_goes first old new n (open_connection n first.connections) (open_session n old.sessions) stands done.0 done.2 (stand_open first.connections old.sessions n stands.sessions) done.3
-  goes first old new (Clock now) stands done = (record first { now = now }, refl, along _ new _ done (record { greatest = stands.greatest; state = stands.state; now = refl; sessions = stands.sessions }))
+  goes first old new (Clock now) stands done =
+      (record first { now = now }, refl, along _ new _ done (record { greatest = stands.greatest; state = stands.state; now = refl; sessions = stands.sessions }))
   goes first old new (Grow shelf) stands done = (first, refl, along _ new _ done stands)
   goes first old new (Purge shelf) stands done =
       let after : ℕ → Plain → Plain =
@@ -139,8 +173,12 @@ module _ {K : Type 0} (g : Grammar) (hash_of : K → List ℕ → ℕ) where
           sessions = stands.sessions;
         }),
       )
-  goes first old new (Close n) stands done =
-      (at_connection first n ended, refl, along _ new _ done (record { greatest = stands.greatest; state = stands.state; now = stands.now; sessions = end_stands first.connections old.sessions n stands.sessions }))
+  goes first old new (Close n) stands done = (
+    at_connection first n ended,
+    refl,
+    along _ new _ done
+        (record { greatest = stands.greatest; state = stands.state; now = stands.now; sessions = end_stands first.connections old.sessions n stands.sessions }),
+  )
 
   done_set_up : (old new : WorldState K) (event : Event) → Done hash_of old event new → (new.settings ≡ old.settings) × (new.hasher ≡ old.hasher)
   done_set_up old new Open done = opened_set_up old new (nat_lt (length old.sessions) 65535) done
@@ -158,16 +196,21 @@ module _ {K : Type 0} (g : Grammar) (hash_of : K → List ℕ → ℕ) where
       record { settings = set_up.0; hasher = set_up.1; told = λ first stands. let next = goes first old new event stands done in (next.0, (next.0, next.1, refl), next.2) }
 
   -- a refused event leaves what stands so, with its session closed
-  refused_by : (w : PlainWorld) (new : WorldState K) (sessions : List SessionState) (n : Option ℕ) → new.settings.greatest ≡ w.greatest → new.state ≡ w.state → new.moment ≡ w.now → new.sessions ≡ sessions_ended n sessions → StandAll w.connections sessions → StandsAs (with_end n w) new
+  refused_by : (w : PlainWorld) (new : WorldState K) (sessions : List SessionState) (n : Option ℕ) → new.settings.greatest ≡ w.greatest → new.state ≡ w.state
+      → new.moment ≡ w.now → new.sessions ≡ sessions_ended n sessions → StandAll w.connections sessions → StandsAs (with_end n w) new
   refused_by w new sessions None greatest state now is all = record { greatest = greatest; state = state; now = now; sessions = subst (StandAll w.connections) (sym is) all }
-  refused_by w new sessions (Some n) greatest state now is all = record { greatest = greatest; state = state; now = now; sessions = subst (StandAll (at_connection w n ended).connections) (sym is) (end_stands w.connections sessions n all) }
+  refused_by w new sessions (Some n) greatest state now is all =
+      record { greatest = greatest; state = state; now = now; sessions = subst (StandAll (at_connection w n ended).connections) (sym is) (end_stands w.connections sessions n all) }
 
-  refused_stands : (first : PlainWorld) (old new : WorldState K) (event : Event) (decided : Bool) → StandsAs first old → Undone decided old event new → StandsAs (with_end (named event) (record first { state = new.state })) new
+  refused_stands : (first : PlainWorld) (old new : WorldState K) (event : Event) (decided : Bool) → StandsAs first old → Undone decided old event new
+      → StandsAs (with_end (named event) (record first { state = new.state })) new
   refused_stands first old new event decided stands undone =
-      refused_by (record first { state = new.state }) new old.sessions (named event) (ap (λ (s : Settings). s.greatest) undone.settings ∙ stands.greatest) refl (undone.moment ∙ stands.now) undone.sessions stands.sessions
+      refused_by (record first { state = new.state }) new old.sessions (named event) (ap (λ (s : Settings). s.greatest) undone.settings ∙ stands.greatest) refl
+      (undone.moment ∙ stands.now) undone.sessions stands.sessions
 
   -- the connection whose step was decided
-  decides_turn : (first : PlainWorld) (old : WorldState K) (state : Plain) (c : Option Connection) (s : SessionState) → StandsAs first old → Opens c (Some s) → DecidesStep in_plain old.moment s old.state state
+  decides_turn : (first : PlainWorld) (old : WorldState K) (state : Plain) (c : Option Connection) (s : SessionState) → StandsAs first old → Opens c (Some s)
+      → DecidesStep in_plain old.moment s old.state state
       → (connection : Connection) × (c ≡ Some connection) × NextStep first connection state
   decides_turn first old state None s stands both decides = absurd both
   decides_turn first old state (Some c) s stands both decides = (c, refl, next_step g first old.moment c s old.state state both.2 stands.now stands.state decides)
@@ -191,7 +234,8 @@ module _ {K : Type 0} (g : Grammar) (hash_of : K → List ℕ → ℕ) where
   opens_some None s both = absurd both
   opens_some (Some c) s both = (c, refl)
 
-  due_some : (c : Option Connection) (s : SessionState) → Opens c (Some s) → (NoTurnDue s → ⊥) → (connection : Connection) × (c ≡ Some connection) × (unit : ProtocolUnit) × (at : ℕ) × IsNext connection unit at
+  due_some : (c : Option Connection) (s : SessionState) → Opens c (Some s) → (NoTurnDue s → ⊥) → (connection : Connection) × (c ≡ Some connection)
+      × (unit : ProtocolUnit) × (at : ℕ) × IsNext connection unit at
   due_some None s both due = absurd both
   due_some (Some c) s both due = let next = rest_due g c s both.2 due in (c, refl, next.0, next.1, next.2)
 
@@ -204,9 +248,13 @@ module _ {K : Type 0} (g : Grammar) (hash_of : K → List ℕ → ℕ) where
   takes_memory first old (Purge shelf) stands h = h
   takes_memory first old (Close n) stands h = h
 
-  gives_up : (first : PlainWorld) (old new : WorldState K) (event : Event) (decided : Bool) → StandsAs first old → Undone decided old event new → (last : PlainWorld) × GivesUp decided first event last × StandsAs last new
-  gives_up first old new event true stands undone =
-      (with_end (named event) (record first { state = new.state }), (new.state, decides_in first old new.state event stands (undone.decides refl), refl), refused_stands first old new event true stands undone)
+  gives_up : (first : PlainWorld) (old new : WorldState K) (event : Event) (decided : Bool) → StandsAs first old → Undone decided old event new
+      → (last : PlainWorld) × GivesUp decided first event last × StandsAs last new
+  gives_up first old new event true stands undone = (
+    with_end (named event) (record first { state = new.state }),
+    (new.state, decides_in first old new.state event stands (undone.decides refl), refl),
+    refused_stands first old new event true stands undone,
+  )
   gives_up first old new event false stands undone =
       let same : new.state ≡ first.state = undone.undecided refl ∙ stands.state in
       (with_end (named event) first, refl, subst (λ (p : Plain). StandsAs (with_end (named event) (record first { state = p })) new) same (refused_stands first old new event false stands undone))
@@ -225,7 +273,8 @@ module _ {K : Type 0} (g : Grammar) (hash_of : K → List ℕ → ℕ) where
   pub undone_stands : (decided : Bool) (old new : WorldState K) (event : Event) → CanStand old → Undone decided old event new → CanStand new
   undone_stands decided old new event can undone = let last = gives_up can.plain old new event decided can.stands undone in record { plain = last.0; stands = last.2 }
 
-  pub result_stands : {T : Type 0} (old new : WorldState K) (event : Event) (r : Result T TurnFault) → CanStand old → OnOk r (Done hash_of old event new) → IfErr r (λ fault. Undone fault.decided old event new) → CanStand new
+  pub result_stands : {T : Type 0} (old new : WorldState K) (event : Event) (r : Result T TurnFault) → CanStand old → OnOk r (Done hash_of old event new)
+      → IfErr r (λ fault. Undone fault.decided old event new) → CanStand new
   result_stands old new event (Ok x) can done undone = done_stands old new event can done
   result_stands old new event (Err fault) can done undone = undone_stands fault.decided old new event can undone
 
@@ -233,7 +282,8 @@ module _ {K : Type 0} (g : Grammar) (hash_of : K → List ℕ → ℕ) where
   result_told old new event (Ok x) done = told_one old new event done
   result_told old new event (Err fault) done = tt
 
-  pub result_refused : {T : Type 0} (old new : WorldState K) (event : Event) (r : Result T TurnFault) → IfErr r (λ fault. Undone fault.decided old event new) → IfErr r (λ fault. ToldRefused hash_of fault.decided old event new)
+  pub result_refused : {T : Type 0} (old new : WorldState K) (event : Event) (r : Result T TurnFault) → IfErr r (λ fault. Undone fault.decided old event new)
+      → IfErr r (λ fault. ToldRefused hash_of fault.decided old event new)
   result_refused old new event (Ok x) undone = tt
   result_refused old new event (Err fault) undone = refused_one fault.decided old new event undone
 
@@ -260,12 +310,14 @@ new_stands world none = record {
 
 -- What is told of some events and then of others, and of one that is refused behind some.
 module _ {K : Type 0} (hash_of : K → List ℕ → ℕ) where
-  pub runs_join : (hash : List ℕ → ℕ) (shelves : ℕ) (events more : List Event) (first mid last : PlainWorld) → Runs hash shelves first events mid → Runs hash shelves mid more last → Runs hash shelves first (events ++ more) last
+  pub runs_join : (hash : List ℕ → ℕ) (shelves : ℕ) (events more : List Event) (first mid last : PlainWorld) → Runs hash shelves first events mid
+      → Runs hash shelves mid more last → Runs hash shelves first (events ++ more) last
   runs_join hash shelves [] more first mid last runs after = subst (λ (w : PlainWorld). Runs hash shelves w more last) runs after
   runs_join hash shelves (e ∷ events) more first mid last runs after = (runs.0, runs.1, runs_join hash shelves events more runs.0 mid last runs.2 after)
 
   -- with the hasher and settings that a world still has
-  pub runs_still : (old mid : WorldState K) → mid.settings ≡ old.settings → mid.hasher ≡ old.hasher → (first : PlainWorld) (events : List Event) (last : PlainWorld) → RunsIn hash_of mid first events last → RunsIn hash_of old first events last
+  pub runs_still : (old mid : WorldState K) → mid.settings ≡ old.settings → mid.hasher ≡ old.hasher
+      → (first : PlainWorld) (events : List Event) (last : PlainWorld) → RunsIn hash_of mid first events last → RunsIn hash_of old first events last
   runs_still old mid settings hasher first events last runs =
       subst (λ (s : Settings). Runs (hash_of old.hasher) s.shelves first events last) settings
       (subst (λ (h : K). Runs (hash_of h) mid.settings.shelves first events last) hasher runs)
@@ -288,13 +340,15 @@ module _ {K : Type 0} (hash_of : K → List ℕ → ℕ) where
   }
 
   -- one event more of a list
-  pub told_on : (old mid new : WorldState K) (events : List Event) (at : ℕ) (event : Event) → event ≡ get_or events at event → at < length events → Told hash_of old (take at events) mid → Told hash_of mid (event ∷ []) new → Told hash_of old (take (at + 1) events) new
+  pub told_on : (old mid new : WorldState K) (events : List Event) (at : ℕ) (event : Event) → event ≡ get_or events at event → at < length events
+      → Told hash_of old (take at events) mid → Told hash_of mid (event ∷ []) new → Told hash_of old (take (at + 1) events) new
   told_on old mid new events at event here inside told after =
       let more : take at events ++ event ∷ [] ≡ take (at + 1) events = ap (λ (e : Event). take at events ++ e ∷ []) here ∙ sym (take_more events at event inside) in
       subst (λ (es : List Event). Told hash_of old es new) more (told_join old mid new (take at events) (event ∷ []) told after)
 
   -- what is told of the events before a refused one, and of it
-  pub told_until : (old mid new : WorldState K) (events : List Event) (event : Event) (refused : Refused) → Told hash_of old (take refused.at events) mid → slice_get events refused.at ≡ Some event → refused.session ≡ named event
+  pub told_until : (old mid new : WorldState K) (events : List Event) (event : Event) (refused : Refused) → Told hash_of old (take refused.at events) mid
+      → slice_get events refused.at ≡ Some event → refused.session ≡ named event
       → ToldRefused hash_of refused.decided mid event new → ToldUntil hash_of refused old events new
   told_until old mid new events event refused told here session after = record {
     settings = after.settings ∙ told.settings;
@@ -306,6 +360,7 @@ module _ {K : Type 0} (hash_of : K → List ℕ → ℕ) where
   }
 
   -- the one event is refused
-  pub told_refused : (old new : WorldState K) (event : Event) (refused : Refused) → refused.at ≡ 0 → refused.session ≡ named event → ToldRefused hash_of refused.decided old event new → ToldUntil hash_of refused old (event ∷ []) new
+  pub told_refused : (old new : WorldState K) (event : Event) (refused : Refused) → refused.at ≡ 0 → refused.session ≡ named event
+      → ToldRefused hash_of refused.decided old event new → ToldUntil hash_of refused old (event ∷ []) new
   told_refused old new event refused first session after =
       told_until old old new (event ∷ []) event refused (subst (λ (k : ℕ). Told hash_of old (take k (event ∷ [])) old) (sym first) (told_none old)) (ap (slice_get (event ∷ [])) first) session after

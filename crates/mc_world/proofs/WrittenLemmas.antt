@@ -1,5 +1,6 @@
 -- What was written of a session, in front of its output and of its connection's.
-use Rattle.std.proofs.Common.{◌≡◌, ℕ, zero, suc, ◌<◌, ◌≤◌, Bool, true, false, List, [], ◌∷◌, ◌++◌, length, take, drop, Option, Some, None, refl, sym, ap, ◌∙◌, subst, arith, append_assoc, if◌then◌else◌}
+use Rattle.std.proofs.Common.{◌≡◌, ℕ, zero, suc, ◌<◌, ◌≤◌, Bool, true, false, List, [], ◌∷◌, ◌++◌, length, take, drop, Option, Some, None, refl, sym, ap, ◌∙◌, subst, arith}
+use Rattle.std.proofs.Common.{append_assoc, if◌then◌else◌}
 use Rattle.std.specs.Bool.{MatchBool}
 use Rattle.std.specs.List.{slice_get}
 use Rattle.std.proofs.Math.Seq.{drop-append_seam}
@@ -27,7 +28,8 @@ pub put_on : {K : Type 0} (n : ℕ) (bytes : List ℕ) (p : PlainWorld) (w : Wor
 put_on n bytes p w stands = record { greatest = stands.greatest; state = stands.state; now = stands.now; sessions = stand_out (λ o. bytes ++ o) p.connections w.sessions n stands.sessions }
 
 -- the same bytes taken off
-taken_off : (n : ℕ) (bytes : List ℕ) (ss : List SessionState) → changed n (changed n ss (before bytes) (numbered n ss)) (λ s. sent s (length bytes)) (numbered n (changed n ss (before bytes) (numbered n ss))) ≡ ss
+taken_off : (n : ℕ) (bytes : List ℕ) (ss : List SessionState)
+    → changed n (changed n ss (before bytes) (numbered n ss)) (λ s. sent s (length bytes)) (numbered n (changed n ss (before bytes) (numbered n ss))) ≡ ss
 taken_off n bytes ss =
     changed_twice n ss (λ s. sent s (length bytes)) (before bytes) (λ s. s) (λ s. ap (λ (o : List ℕ). let t : SessionState = record s { out = o } in t) (drop-append_seam bytes s.out))
     ∙ changed_is n ss (λ s. s) ∙ number_nothing ss n (λ s. s) (λ s. refl)
@@ -60,7 +62,8 @@ restored_at bytes (c ∷ cs) [] m all = absurd all
 restored_at bytes (c ∷ cs) (s ∷ ss) zero all = ap (λ (x : Connection). x ∷ cs) (put_back bytes c s all.0)
 restored_at bytes (c ∷ cs) (s ∷ ss) (suc m) all = ap (λ (l : List Connection). c ∷ l) (restored_at bytes cs ss m all.1)
 
-restored_number : (bytes : List ℕ) (cs : List Connection) (ss : List SessionState) (n : ℕ) → StandAll cs (at_number ss n (before bytes)) → at_number (at_number cs n (less (length bytes))) n (in_front bytes) ≡ cs
+restored_number : (bytes : List ℕ) (cs : List Connection) (ss : List SessionState) (n : ℕ) → StandAll cs (at_number ss n (before bytes))
+    → at_number (at_number cs n (less (length bytes))) n (in_front bytes) ≡ cs
 restored_number bytes cs ss zero all = refl
 restored_number bytes cs ss (suc m) all = restored_at bytes cs ss m all
 
@@ -116,7 +119,8 @@ written_sent n k w =
     ∙ sym (changed_is n rest (before part)))
 
 -- what was written was the front of the session's output
-pub was_written : {K : Type 0} {hash_of : K → List ℕ → ℕ} {s : Seat} {old : WorldState K} {part : List ℕ} {last : Seat} {new : WorldState K} → Writes (in_world hash_of) s old part last new → (last ≡ s) × (old ≡ with_written s.number part new)
+pub was_written : {K : Type 0} {hash_of : K → List ℕ → ℕ} {s : Seat} {old : WorldState K} {part : List ℕ} {last : Seat} {new : WorldState K}
+    → Writes (in_world hash_of) s old part last new → (last ≡ s) × (old ≡ with_written s.number part new)
 was_written {s = s} {old = old} nothing = (refl, sym (written_nothing s.number old))
 was_written {s = s} {new = new} (front {written = written} {mid = mid} {between = between} k writes (same, is)) =
     let so_far = was_written writes in
@@ -156,5 +160,6 @@ shut_number : (ss : List SessionState) (n : ℕ) → 1 ≤ n → n ≤ length ss
 shut_number ss zero some inside h = absurd (omega arith)
 shut_number ss (suc m) some inside h = shut_at ss m (omega arith) h
 
-pub closed_written : {K : Type 0} (n : ℕ) (bytes : List ℕ) (w : WorldState K) → 1 ≤ n → n ≤ length w.sessions → open_session n w.sessions ≡ None → IsClosed (numbered n (with_written n bytes w).sessions)
+pub closed_written : {K : Type 0} (n : ℕ) (bytes : List ℕ) (w : WorldState K) → 1 ≤ n → n ≤ length w.sessions → open_session n w.sessions ≡ None
+    → IsClosed (numbered n (with_written n bytes w).sessions)
 closed_written n bytes w some inside h = subst IsClosed (sym (numbered_written n bytes w)) (closed_before bytes (numbered n w.sessions) (shut_number w.sessions n some inside h))

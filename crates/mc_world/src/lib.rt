@@ -5,6 +5,8 @@
 mod event;
 #[cfg(test)]
 mod hostile_tests;
+#[cfg(test)]
+mod large_tests;
 mod laws;
 mod parts;
 #[cfg(test)]

@@ -27,7 +27,7 @@ const SHELF_OF_B: u32 = 37;
 const SHELF_OF_B_OF_MANY: u32 = 165;
 
 /// What a step is answered that finds no chunk.
-const NO_CHUNK: &str = "SERVER_ERROR out of memory storing object\r\n";
+pub(crate) const NO_CHUNK: &str = "SERVER_ERROR out of memory storing object\r\n";
 
 /// What `version` is answered.
 const VERSION: &str = "VERSION 1.6.0\r\n";
@@ -86,7 +86,7 @@ pub(crate) fn opened<K: KeyHash + Drop>(alloc: Global, hasher: K) -> Result<Worl
 }
 
 /// The same, whose store is set up so.
-fn opened_with<K: KeyHash + Drop>(
+pub(crate) fn opened_with<K: KeyHash + Drop>(
     alloc: Global,
     hasher: K,
     settings: Settings,
@@ -128,7 +128,7 @@ pub(crate) fn take_turns<K: KeyHash + Drop>(
 }
 
 /// Brings a piece to session 1 at a second, and takes as many turns as any piece here has.
-fn ask<K: KeyHash + Drop>(
+pub(crate) fn ask<K: KeyHash + Drop>(
     alloc: Global,
     world: &mut World<K>,
     seconds: u64,
@@ -150,7 +150,7 @@ pub(crate) fn is_told<K: KeyHash + Drop>(
 }
 
 /// Session 1 is idle and is told this, which is then written.
-fn tells<K: KeyHash + Drop>(rt: &impl Abort, world: &mut World<K>, output: &str) {
+pub(crate) fn tells<K: KeyHash + Drop>(rt: &impl Abort, world: &mut World<K>, output: &str) {
     assert!(rt; world.is_idle(1));
     is_told(rt, world, 1, output.as_bytes());
     let written = world.out(1).len();

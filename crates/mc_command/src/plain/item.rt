@@ -1,19 +1,24 @@
-ghost use Rattle.std.specs.Prelude.{◌≡◌, ◌==◌, ◌+◌, ◌-◌, ◌^◌, ◌++◌, ℕ, List, min, length, IfSome, IfOk};
+ghost use Rattle.std.specs.Prelude.{◌≡◌, ◌+◌, ◌-◌, ◌/◌, ◌^◌, ◌<◌, ◌≤◌, ◌++◌, ℕ, List, min, length, IfSome, IfOk};
 ghost use Rattle.mc_time.specs.Death as death;
-ghost use Rattle.mc_slab.specs.Classes.{IsClass, class_of};
-ghost use Rattle.mc_command.specs.Plain.{charge, chunk_head, item_class};
+ghost use Rattle.mc_slab.specs.Classes.{IsClass};
+ghost use Rattle.mc_slab.specs.Needs.{IsNeed, need_of, need_for};
+ghost use Rattle.mc_command.specs.Plain.{charge, chunk_head, chunks_in, item_need};
 ghost use Rattle.mc_command.specs.Steps.{made};
 
 use crate::block::Block;
+use crate::number::number_of;
 use crate::reply::Reply;
 use crate::row::{Body, Draft, Standing};
-use mc_slab::Class;
+use mc_slab::{Class, Need};
 use mc_time::{Expiry, Moment};
 use std::alloc::{AllocError, Global};
 use std::marker::Model;
 
-/// What an item's chunk holds beside its key and its block, in bytes.
+/// What an item's chunks hold beside its key and its block, in bytes.
 const CHUNK_HEAD: u64 = 48;
+
+/// How many bytes a page has.
+const PAGE: u64 = 1 << 20;
 
 /// What the plain store keeps under a key.
 #[derive(Drop)]
@@ -86,12 +91,12 @@ impl<'a> LentWrite<'a> {
         charge_of(key, self.len())
     }
 
-    /// Finds the class of its chunk under that key; none where no class holds it.
-    pub(crate) fn class(&self, key: &[u8]) -> Option<Class>
-        ensures value { result ≡ class_of (charge key.now self.now.block) }
-        ensures is_class { IfSome result IsClass }
+    /// Finds what it needs under that key; none where eight pages don't hold it.
+    pub(crate) fn need(&self, key: &[u8]) -> Option<Need>
+        ensures value { result ≡ need_of (charge key.now self.now.block) }
+        ensures is_need { IfSome result IsNeed }
     {
-        mc_slab::class_of(self.charge(key))
+        mc_slab::need_of(self.charge(key))
     }
 
     /// Makes its block.
@@ -171,20 +176,21 @@ impl Item {
         mc_time::is_dead(self.expiry, self.updated, cut, now)
     }
 
-    /// Finds the class of its chunk under that key; none where no class holds it.
-    pub(crate) fn class(&self, key: &[u8]) -> Option<Class>
-        ensures value { result ≡ class_of (charge key.now self.now.block) }
-        ensures is_class { IfSome result IsClass }
+    /// Finds what it needs under that key; none where eight pages don't hold it.
+    pub(crate) fn need(&self, key: &[u8]) -> Option<Need>
+        ensures value { result ≡ need_of (charge key.now self.now.block) }
+        ensures is_need { IfSome result IsNeed }
     {
-        mc_slab::class_of(charge_of(key, self.bytes().len() as u64))
+        mc_slab::need_of(charge_of(key, self.bytes().len() as u64))
     }
 
-    /// Tells whether its chunk under that key is of the class.
-    pub(crate) fn is_of(&self, key: &[u8], class: Class) -> bool
+    /// Counts its chunks of the class under that key.
+    pub(crate) fn chunks_in(&self, key: &[u8], class: Class) -> u64
         requires { IsClass class }
-        ensures { result ≡ (item_class key.now self.now == class) }
+        ensures value { result ≡ chunks_in (item_need key.now self.now) class }
+        ensures range { result ≤ 2 ^ 45 }
     {
-        self.class(key) == Some(class)
+        chunks_of(key.len() as u64 + self.bytes().len() as u64, class)
     }
 
     /// Lends its block.
@@ -229,8 +235,8 @@ impl Standing for Item {
         self.unique
     }
 
-    fn block(&self) -> &[u8] {
-        self.bytes()
+    fn number(&self) -> Option<u64> {
+        number_of(self.bytes())
     }
 }
 
@@ -242,4 +248,27 @@ fn charge_of(key: &[u8], block_len: u64) -> u64
     CHUNK_HEAD
         .saturating_add(key.len() as u64)
         .saturating_add(block_len)
+}
+
+/// Counts the chunks of the class that an item has whose key and block are so long together. It
+/// holds of each length, since nothing bounds it here.
+fn chunks_of(len: u64, class: Class) -> u64
+    requires class { IsClass class }
+    requires len { len < 2 ^ 64 - 1 }
+    ensures value { result ≡ chunks_in (need_for (chunk_head + len)) class }
+    ensures range { result ≤ 2 ^ 45 }
+{
+    match mc_slab::class_of(CHUNK_HEAD.saturating_add(len)) {
+        Some(held) => u64::from(held == class),
+        None if class.number() == 40 => pages_for(len),
+        None => 0,
+    }
+}
+
+/// Counts the pages that hold an item whose key and block are so long together.
+fn pages_for(len: u64) -> u64
+    ensures value { result ≡ (chunk_head + len + 1048575) / 1048576 }
+    ensures range { result ≤ 2 ^ 45 }
+{
+    len / PAGE + (len % PAGE + CHUNK_HEAD + PAGE - 1) / PAGE
 }

@@ -1,16 +1,18 @@
-//! What room the plain store has: the items of a class against its pages' chunks, and the pages that
-//! are left. It counts the items each time, so the cost grows with their number.
+//! What room the plain store has: the chunks that its items have of a class against those of its
+//! pages, and the pages that are left. It counts them each time, so the cost grows with the number
+//! of items.
 
-ghost use Rattle.std.specs.Prelude.{◌≡◌, ◌+◌, ◌-◌, ◌<◌, ◌≤◌, ◌==◌, sum, slice_set, true, if◌then◌else◌};
+ghost use Rattle.std.specs.Prelude.{◌≡◌, ◌+◌, ◌-◌, ◌*◌, ◌^◌, ◌<◌, ◌≤◌, sum};
 ghost use Rattle.mc_slab.specs.Classes.{IsClass};
-ghost use Rattle.mc_command.specs.Plain.{class_count, count_of, pages_of, chunks_of, has_room, standing};
-ghost use Rattle.mc_command.specs.Accounts.{dead_class};
+ghost use Rattle.mc_command.specs.Plain.{class_count, count_of, pages_of, chunks_of, unused, has_room, standing};
+ghost use Rattle.mc_command.specs.Laws.{of_class};
+ghost use Rattle.mc_command.specs.Accounts.{dead_item};
 ghost use Rattle.mc_command.specs.Items.{items_of};
 ghost use Rattle.mc_command.specs.Steps.{found, paged};
 
 use crate::plain::PlainStore;
 use crate::plain::item::Item;
-use mc_slab::Class;
+use mc_slab::{Class, Need};
 use mc_time::Moment;
 use std::collections::BTreeMap;
 
@@ -18,84 +20,86 @@ use std::collections::BTreeMap;
 pub(crate) const CLASSES: usize = 40;
 
 impl PlainStore {
-    /// Tells whether a chunk of the class can be had, once the key's item is dropped if it is dead.
-    pub(super) fn has_room(&self, key: &[u8], class: Class, now: Moment) -> bool
-        ensures value { result ≡ has_room (found key.now self.now now) class }
-        ensures is_class { IsClass class }
+    /// Returns whether the chunks of a need can be had, once the key's item is dropped if it is
+    /// dead.
+    pub(super) fn has_room(&self, key: &[u8], need: Need, now: Moment) -> bool
+        ensures { result ≡ has_room (found key.now self.now now) need }
     {
-        let chunks = self.chunks(class);
-        self.count(key, class, now) < chunks || self.pages_in_use < self.limit
+        let left = u64::from(self.pages_left()) * u64::from(need.class().chunks_a_page());
+        u64::from(need.count()) <= self.unused(key, need.class(), now) + left
     }
 
-    /// Tells whether all chunks of the class are in use, once the key's item is dropped if it is dead.
-    pub(super) fn is_full(&self, key: &[u8], class: Class, now: Moment) -> bool
-        ensures { result ≡ (count_of (found key.now self.now now).items class
-            == chunks_of self.now class) }
+    /// Counts the pages that its class wants for a need, once the key's item is dropped if it is
+    /// dead.
+    pub(super) fn pages_wanted(&self, key: &[u8], need: Need, now: Moment) -> u32
+        ensures { result ≡ need.count - unused (found key.now self.now now) need.class }
     {
-        let chunks = self.chunks(class);
-        self.count(key, class, now) == chunks
+        u64::from(need.count()).saturating_sub(self.unused(key, need.class(), now)) as u32
     }
 
-    /// Gives the class a page more where it is full.
-    pub(super) fn page_if(&mut self, is_full: bool, class: Class)
-        requires { is_full ≡ true → sum self.old.pages < self.old.limit }
-        ensures { self.new ≡ paged is_full self.old class }
+    /// Gives the class so many pages more.
+    pub(super) fn add_pages(&mut self, more: u32, class: Class)
+        requires { more ≤ self.old.limit - sum self.old.pages }
+        ensures { self.new ≡ paged more self.old class }
     {
-        if is_full {
-            self.pages[place(class)] += 1;
-            self.pages_in_use += 1;
-        }
+        self.pages[place(class)] += more;
+        self.pages_in_use += more;
+    }
+
+    /// Counts the pages that no class has.
+    fn pages_left(&self) -> u32
+        ensures value { result ≡ self.now.limit - sum self.now.pages }
+        ensures range { result ≤ 65536 }
+    {
+        self.limit - self.pages_in_use
     }
 
     /// Counts the chunks of the class's pages.
     fn chunks(&self, class: Class) -> u64
         ensures value { result ≡ chunks_of self.now class }
+        ensures range { result ≤ 65536 * 10922 }
         ensures is_class { IsClass class }
     {
         u64::from(self.pages[place(class)]) * u64::from(class.chunks_a_page())
     }
 
-    /// Counts the items of the class, but for the key's where it is dead.
-    fn count(&self, key: &[u8], class: Class, now: Moment) -> u64
-        requires { IsClass class }
-        ensures { result ≡ count_of (found key.now self.now now).items class }
+    /// Counts the chunks of the class's pages that no item has, once the key's item is dropped if
+    /// it is dead.
+    fn unused(&self, key: &[u8], class: Class, now: Moment) -> u64
+        ensures value { result ≡ unused (found key.now self.now now) class }
+        ensures range { result ≤ 2 ^ 50 }
     {
-        let is_dead = self.dead_class(key, now) == Some(class);
-        without(is_dead, count_in(&self.items, class)) as u64
+        let chunks = self.chunks(class) + self.dead_chunks(key, class, now);
+        chunks_but(chunks, &self.items, class)
     }
 
-    /// Finds the class of the key's dead item, where no item stands under it.
-    fn dead_class(&self, key: &[u8], now: Moment) -> Option<Class>
-        ensures { result ≡ dead_class (standing self.now key.now now) key.now self.now }
+    /// Counts the chunks of the class that the key's dead item has, where no item stands under it.
+    fn dead_chunks(&self, key: &[u8], class: Class, now: Moment) -> u64
+        requires { IsClass class }
+        ensures value { result ≡ of_class key.now
+            (dead_item (standing self.now key.now now) key.now self.now) class }
+        ensures range { result ≤ 2 ^ 45 }
     {
         if self.standing(key, now).is_some() {
-            return None;
+            return 0;
         }
-        self.items.get(key)?.class(key)
+        match self.items.get(key) {
+            Some(item) => item.chunks_in(key, class),
+            None => 0,
+        }
     }
 }
 
-/// Counts the items of a class.
-fn count_in(items: &BTreeMap<Vec<u8>, Item>, class: Class) -> usize
+/// Counts the chunks that are left of so many of the class, once the items have theirs.
+fn chunks_but(chunks: u64, items: &BTreeMap<Vec<u8>, Item>, class: Class) -> u64
     requires { IsClass class }
-    ensures { result ≡ count_of (items_of items.now.entries) class }
+    ensures { result ≡ chunks - count_of (items_of items.now.entries) class }
 {
-    let mut count = items.len();
+    let mut left = chunks;
     for (key, item) in items {
-        count = without(!item.is_of(key, class), count);
+        left = left.saturating_sub(item.chunks_in(key, class));
     }
-    count
-}
-
-/// Counts one less where one is gone.
-fn without(is_gone: bool, count: usize) -> usize
-    ensures { result ≡ (if is_gone then count - 1 else count) }
-{
-    if is_gone {
-        count.saturating_sub(1)
-    } else {
-        count
-    }
+    left
 }
 
 /// Finds a class's place among the classes, from 0.

@@ -1,13 +1,13 @@
 //! How the plain store writes: it finds out first whether the write can be made, and copies the
 //! block only then.
 
-ghost use Rattle.std.specs.Prelude.{◌≡◌, ◌≢◌, ◌-◌, ◌^◌, ◌==◌, ℕ, List, nat_lt, true, if◌then◌else◌, Some, None, IsTrue, OnOk, OnErr};
+ghost use Rattle.std.specs.Prelude.{◌≡◌, ◌≢◌, ◌≤◌, ◌-◌, ◌^◌, ◌==◌, ℕ, List, length, nat_lt, true, if◌then◌else◌, Some, None, IfSome, IsTrue, OnOk, OnErr};
 ghost use Rattle.std.specs.FinMap.{get};
 ghost use Rattle.std.specs.Option.{option_copied};
-ghost use Rattle.mc_slab.specs.Classes.{IsClass};
-ghost use Rattle.mc_command.specs.Laws.{of_class};
-ghost use Rattle.mc_command.specs.Plain.{charge, block_class, has_room, keeps_chunk, written_block, CopiesBlock};
-ghost use Rattle.mc_command.specs.Steps.{Ends, Prepares, IsReady, StaysIn};
+ghost use Rattle.mc_slab.specs.Needs.{IsNeed};
+ghost use Rattle.mc_command.specs.Commands.{longest_key};
+ghost use Rattle.mc_command.specs.Plain.{charge, block_need, has_room, keeps_chunk, written_block, CopiesBlock};
+ghost use Rattle.mc_command.specs.Steps.{Ends, Prepares, IsReady, StaysIn, needs_this, same_needs};
 ghost use Rattle.mc_command.specs.Steps.{number_in, block_in, found, drafting, writing, rewritten, placed, done};
 
 use crate::plain::PlainStore;
@@ -16,7 +16,7 @@ use crate::reply::Reply;
 use crate::row::{Body, Draft};
 use crate::step::StepFault;
 use itoa::Buffer;
-use mc_slab::Class;
+use mc_slab::Need;
 use mc_time::Moment;
 use std::alloc::{AllocError, Global};
 
@@ -25,10 +25,10 @@ use std::alloc::{AllocError, Global};
 pub(crate) enum Next {
     /// Nothing is written, and this is answered.
     Answer(Reply),
-    /// It goes into the chunk of the item that stands, and this is answered.
+    /// It goes into the chunks of the item that stands, and this is answered.
     Rewrite(Reply, Written),
-    /// It takes a chunk of that class, and this is answered.
-    Place(Reply, Class, Written),
+    /// It takes the chunks of that need, and this is answered.
+    Place(Reply, Need, Written),
 }
 
 impl PlainStore {
@@ -41,6 +41,7 @@ impl PlainStore {
         draft: Draft,
         now: Moment,
     ) -> Result<Reply, StepFault>
+        requires { length key.now ≤ longest_key }
         ensures { Ends (drafting draft key.now block.now self.old now) result self.old self.new }
     {
         let mut buffer = Buffer::new();
@@ -52,15 +53,16 @@ impl PlainStore {
         self.finish(alloc, key, next, now)
     }
 
-    /// Finds the class that holds a write; none where its charge is above the greatest.
-    fn class_for(&self, key: &[u8], write: &LentWrite<'_>) -> Option<Class>
-        ensures { result ≡ (if nat_lt self.now.greatest (charge key.now write.now.block) then None
-            else Some (block_class key.now write.now.block)) }
+    /// Finds what a write needs; none where its charge is above the greatest.
+    fn need_for(&self, key: &[u8], write: &LentWrite<'_>) -> Option<Need>
+        ensures value { result ≡ (if nat_lt self.now.greatest (charge key.now write.now.block)
+            then None else Some (block_need key.now write.now.block)) }
+        ensures is_need { IfSome result IsNeed }
     {
         if self.greatest < write.charge(key) {
             return None;
         }
-        write.class(key)
+        write.need(key)
     }
 
     /// Tells whether no unique number is left.
@@ -71,8 +73,8 @@ impl PlainStore {
     }
 
     /// Finds out what comes of a write, and makes its block where it can be made: its charge is not
-    /// too large, a unique number is left, and it has a chunk. A write that `stays` goes into the
-    /// chunk of the item that stands.
+    /// too large, a unique number is left, and it has chunks. A write that `stays` goes into those
+    /// of the item that stands.
     pub(super) fn prepared(
         &self,
         alloc: Global,
@@ -87,7 +89,7 @@ impl PlainStore {
         ensures { Prepares (writing stays reply write.now key.now self.now now)
             result key.now self.now now }
     {
-        let Some(class) = self.class_for(key, write) else {
+        let Some(need) = self.need_for(key, write) else {
             return Ok(Next::Answer(Reply::TooLarge));
         };
         if self.is_spent() {
@@ -96,10 +98,10 @@ impl PlainStore {
         if stays {
             return Ok(Next::Rewrite(reply, write.made(alloc)?));
         }
-        if !self.has_room(key, class, now) {
+        if !self.has_room(key, need, now) {
             return Ok(Next::Answer(Reply::NoChunk));
         }
-        Ok(Next::Place(reply, class, write.made(alloc)?))
+        Ok(Next::Place(reply, need, write.made(alloc)?))
     }
 
     /// Does what comes of a write. Where nothing is written, the key's dead item is dropped.
@@ -122,34 +124,34 @@ impl PlainStore {
                 self.put_in_place(key, written, now);
                 Ok(reply)
             }
-            Next::Place(reply, class, written) => {
-                self.put(alloc, key, class, written, now)?;
+            Next::Place(reply, need, written) => {
+                self.put(alloc, key, need, written, now)?;
                 Ok(reply)
             }
         }
     }
 
-    /// Writes in a chunk of the class, in place of the key's old item, dead or not. Refused, it
+    /// Writes in chunks of that need, in place of the key's old item, dead or not. Refused, it
     /// changes nothing.
     fn put(
         &mut self,
         alloc: Global,
         key: &[u8],
-        class: Class,
+        need: Need,
         written: Written,
         now: Moment,
     ) -> Result<(), AllocError>
-        requires class { class ≡ block_class key.now written.block }
-        requires is_class { IsClass class }
-        requires room { IsTrue (has_room (found key.now self.old now) class) }
+        requires need { need ≡ block_need key.now written.block }
+        requires is_need { IsNeed need }
+        requires room { IsTrue (has_room (found key.now self.old now) need) }
         requires number { self.old.next_unique ≢ 2 ^ 64 - 1 }
         ensures placed { OnOk result (self.new ≡ placed written key.now self.old now) }
         ensures err { OnErr result (self.new ≡ self.old) }
     {
-        let is_full = self.is_full(key, class, now);
+        let wanted = self.pages_wanted(key, need, now);
         let bytes = Vec::from_slice(alloc, key)?;
         self.insert(bytes, written, now)?;
-        self.page_if(is_full, class);
+        self.add_pages(wanted, need.class());
         Ok(())
     }
 
@@ -165,11 +167,11 @@ impl PlainStore {
         Ok(())
     }
 
-    /// Writes in the chunk of the item that stands under the key, whose class stays. It takes no
-    /// memory.
+    /// Writes in the chunks of the item that stands under the key, which needs the same. It takes
+    /// no memory.
     fn put_in_place(&mut self, key: &[u8], written: Written, now: Moment)
-        requires class { of_class key.now (get self.old.items key.now)
-            (block_class key.now written.block) ≡ 1 }
+        requires need { IsTrue (needs_this key.now (get self.old.items key.now)
+            (block_need key.now written.block)) }
         requires number { self.old.next_unique ≢ 2 ^ 64 - 1 }
         ensures { self.new ≡ rewritten written key.now self.old now }
     {
@@ -199,9 +201,10 @@ fn block_in<'a>(item: Option<&'a Item>) -> &'a [u8]
     }
 }
 
-/// Tells whether a write stays in the chunk of the item that stands: one that counts it to a number
-/// of the same class does.
+/// Returns whether a write stays in the chunks of the item that stands: one that counts it to a
+/// number that needs the same does.
 fn stays(body: Body, key: &[u8], item: Option<&Item>, write: &LentWrite<'_>) -> bool
+    requires { length key.now ≤ longest_key }
     ensures { (block : List ℕ) →
         write.now.block ≡ written_block body block (option_copied item.entry) →
         result ≡ keeps_chunk body key.now (option_copied item.entry) }
@@ -209,8 +212,18 @@ fn stays(body: Body, key: &[u8], item: Option<&Item>, write: &LentWrite<'_>) -> 
     match body {
         Body::Given | Body::Appended | Body::Prepended => false,
         Body::Counted(_) => match item {
-            Some(item) => item.class(key) == write.class(key),
+            Some(item) => are_same(item.need(key), write.need(key)),
             None => false,
         },
+    }
+}
+
+/// Returns whether two needs are there and ask for the same.
+fn are_same(one: Option<Need>, other: Option<Need>) -> bool
+    ensures { result ≡ same_needs one other }
+{
+    match (one, other) {
+        (Some(one), Some(other)) => one.class() == other.class() && one.count() == other.count(),
+        _ => false,
     }
 }

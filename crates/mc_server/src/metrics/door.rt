@@ -3,7 +3,7 @@ ghost use Rattle.std.specs.Prelude.{◌≡◌, IfErr};
 ghost use Rattle.mc_server.specs.Ends.{EndsWithoutDoor};
 
 use crate::end::{End, Obstacle, Refusal};
-use crate::options::ScrapePlace;
+use mc_options::ScrapePlace;
 use mio::net::TcpListener;
 use mio::{Events, Interest, Poll, Token};
 use std::alloc::{AllocError, Global};
@@ -11,9 +11,6 @@ use std::io::{self, ErrorKind};
 use std::net::{Net, SocketAddr, TcpStream};
 use std::thread;
 use std::time::{Clock, Duration};
-
-/// How long it rests at most until it looks whether the program ends, in milliseconds.
-const REST: u64 = 500;
 
 /// How long it waits where the system can't tell of connections, in milliseconds.
 const PAUSE: u64 = 10;
@@ -73,19 +70,18 @@ impl Door {
         })
     }
 
-    /// Waits until a connection comes, or it has rested.
-    pub fn wait<R: Clock>(&mut self, rt: &R) {
-        let rest = Duration::from_millis(REST);
+    /// Waits until a connection comes, or it has rested so long.
+    pub fn wait<R: Clock>(&mut self, rt: &R, rest: Duration) {
         if self.poll.poll(&mut self.events, Some(rest)).is_err() {
             let _ = thread::sleep(rt, Duration::from_millis(PAUSE));
         }
     }
 
-    /// Gives a connection that waits, whose calls wait.
-    pub fn accept(&self) -> io::Result<TcpStream> {
-        let (stream, _peer) = self.listener.accept()?;
+    /// Gives a connection that waits, whose calls wait, and its peer.
+    pub fn accept(&self) -> io::Result<(TcpStream, SocketAddr)> {
+        let (stream, peer) = self.listener.accept()?;
         let stream = TcpStream::from(stream);
         stream.set_nonblocking(false)?;
-        Ok(stream)
+        Ok((stream, peer))
     }
 }

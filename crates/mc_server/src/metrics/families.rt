@@ -2,35 +2,11 @@
 //! memcached.
 
 use crate::connection::Parting;
-use crate::metrics::counts::Counted;
-use crate::metrics::reading::{Figure, SlabFigure};
-
-/// Whether a number only grows.
-#[derive(Clone, Copy)]
-pub enum Kind {
-    Counter,
-    Gauge,
-}
-
-/// The samples of a family.
-#[derive(Clone, Copy)]
-pub enum Samples {
-    /// One, with no label.
-    One(Figure),
-    /// One for each of these labels.
-    Each(&'static [(&'static str, Figure)]),
-    /// One for each class of chunks that has a page.
-    Slabs(SlabFigure),
-}
-
-/// A family of samples: its kind, its name, what it tells, and its samples.
-#[derive(Clone, Copy)]
-pub struct Family(pub Kind, pub &'static str, pub &'static str, pub Samples);
-
 use Counted as C;
 use Figure::{Closed, Count};
 use Kind::{Counter, Gauge};
 use Samples::{Each, One, Slabs};
+use mc_metrics::{Counted, Family, Figure, Kind, Samples, SlabFigure};
 
 /// The program's own version, as `--version` prints it.
 const VERSION: &[(&str, Figure)] = &[(r#"{version="0.9.0"}"#, Figure::One)];
@@ -57,17 +33,35 @@ const COMMANDS: &[(&str, Figure)] = &[
 
 /// Why connections were closed.
 const REASONS: &[(&str, Figure)] = &[
-    (r#"{reason="client_closed"}"#, Closed(Parting::Ended)),
-    (r#"{reason="session_over"}"#, Closed(Parting::SessionOver)),
-    (r#"{reason="idle"}"#, Closed(Parting::Idle)),
-    (r#"{reason="read_fault"}"#, Closed(Parting::ReadFault)),
-    (r#"{reason="write_fault"}"#, Closed(Parting::WriteFault)),
-    (r#"{reason="one_too_many"}"#, Closed(Parting::OneTooMany)),
-    (r#"{reason="no_descriptor"}"#, Closed(Parting::NoDescriptor)),
-    (r#"{reason="no_memory"}"#, Closed(Parting::NoRoom)),
+    (
+        r#"{reason="client_closed"}"#,
+        Closed(Parting::Ended as usize),
+    ),
+    (
+        r#"{reason="session_over"}"#,
+        Closed(Parting::SessionOver as usize),
+    ),
+    (r#"{reason="idle"}"#, Closed(Parting::Idle as usize)),
+    (
+        r#"{reason="read_fault"}"#,
+        Closed(Parting::ReadFault as usize),
+    ),
+    (
+        r#"{reason="write_fault"}"#,
+        Closed(Parting::WriteFault as usize),
+    ),
+    (
+        r#"{reason="one_too_many"}"#,
+        Closed(Parting::OneTooMany as usize),
+    ),
+    (
+        r#"{reason="no_descriptor"}"#,
+        Closed(Parting::NoDescriptor as usize),
+    ),
+    (r#"{reason="no_memory"}"#, Closed(Parting::NoRoom as usize)),
     (
         r#"{reason="listener_failed"}"#,
-        Closed(Parting::ListenerFailed),
+        Closed(Parting::ListenerFailed as usize),
     ),
 ];
 
@@ -86,7 +80,7 @@ pub const FAMILIES: [Family; 22] = [
         Each(VERSION),
     ),
     Family(
-        Gauge,
+        Counter,
         "memcached_uptime_seconds",
         "Seconds since it began to serve.",
         One(Figure::Uptime),

@@ -2,9 +2,8 @@
 
 use crate::asker::Asker;
 use crate::connection::{Crowd, PARTINGS};
-use crate::metrics::counts::{COUNTED, Counted, Counts};
-use crate::metrics::reading::{Reading, SlabReading, number_at};
-use mc_slab::{Class, class_of};
+use mc_metrics::{COUNTED, Counts, Reading, SlabReading};
+use mc_slab::class_of;
 use std::alloc::{AllocError, Global};
 use std::sync::{Arc, Wait};
 use std::time::{Clock, Instant};
@@ -34,21 +33,14 @@ impl Observer<'_> {
     pub fn read<R: Wait + Clock>(&mut self, rt: &R, alloc: Global) -> Result<Reading, AllocError> {
         let items = self.asker.items(rt);
         let slabs = self.slabs(rt, alloc)?;
-        let counts = self.counted();
-        let stored = number_at(&counts, Counted::SetStored.place());
-        let not_stored = number_at(&counts, Counted::SetNotStored.place());
-        let exchanged = number_at(&counts, Counted::CasHit.place());
         Ok(Reading {
-            counts,
-            closed: self.closed(),
+            counts: self.counted(),
+            closed: self.closed(alloc)?,
             uptime: self.uptime(rt),
-            sets: stored.wrapping_add(not_stored),
-            stored: stored.wrapping_add(exchanged),
             connections: u64::from(self.crowd.open()),
             accepted: self.crowd.accepted(),
             most: u64::from(self.crowd.most()),
             items,
-            bytes: bytes_of(slabs.as_slice()),
             limit: u64::from(self.pages) * PAGE,
             shelves: u64::from(self.asker.shelves()),
             slabs,
@@ -67,12 +59,12 @@ impl Observer<'_> {
     }
 
     /// Gives how many connections were closed for each reason.
-    fn closed(&self) -> [u64; PARTINGS] {
-        let mut closed = [0u64; PARTINGS];
-        for at in 0..PARTINGS {
-            closed[at] = self.crowd.closed_at(at);
+    fn closed(&self, alloc: Global) -> Result<Vec<u64>, AllocError> {
+        let mut closed = Vec::with_capacity(alloc, PARTINGS)?;
+        for place in 0..PARTINGS {
+            closed.push(self.crowd.closed_at(place))?;
         }
-        closed
+        Ok(closed)
     }
 
     /// Gives for how many seconds it serves.
@@ -94,7 +86,7 @@ impl Observer<'_> {
             let Some(class) = next else {
                 break;
             };
-            let slab = self.slab(rt, class);
+            let slab = SlabReading::of(class, self.asker.account(rt, class));
             if slab.pages > 0 {
                 slabs.push(slab)?;
             }
@@ -102,31 +94,4 @@ impl Observer<'_> {
         }
         Ok(slabs)
     }
-
-    /// Reads what a class of chunks has.
-    fn slab<R: Wait>(&mut self, rt: &R, class: Class) -> SlabReading {
-        let account = self.asker.account(rt, class);
-        let chunks_a_page = u64::from(class.chunks_a_page());
-        let pages = u64::from(account.pages);
-        let chunks = pages.saturating_mul(chunks_a_page);
-        let used = u64::from(account.out);
-        SlabReading {
-            number: class.number(),
-            size: u64::from(class.size()),
-            chunks_a_page,
-            pages,
-            chunks,
-            used,
-            free: chunks.saturating_sub(used),
-        }
-    }
-}
-
-/// Adds up the bytes of the chunks that items lie in.
-fn bytes_of(slabs: &[SlabReading]) -> u64 {
-    let mut bytes = 0u64;
-    for slab in slabs {
-        bytes = bytes.saturating_add(slab.used.saturating_mul(slab.size));
-    }
-    bytes
 }

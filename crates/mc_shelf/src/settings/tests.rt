@@ -6,13 +6,15 @@ use std::test::*;
 /// Pages, a greatest charge and shelves, and whether a store may be set up so.
 type Row = (u32, u64, u32, bool);
 
-const ROWS: [Row; 21] = [
+const ROWS: [Row; 23] = [
     (0, 1048576, 64, false),
     (1, 1048576, 64, true),
     (65536, 1048576, 64, true),
     (65537, 1048576, 64, false),
     (64, 1048575, 64, false),
-    (64, 1048577, 64, false),
+    (64, 1048577, 64, true),
+    (64, 8388608, 64, true),
+    (64, 8388609, 64, false),
     (64, 1048576, 0, false),
     (64, 1048576, 1, true),
     (64, 1048576, 2, true),

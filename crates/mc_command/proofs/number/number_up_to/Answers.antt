@@ -30,4 +30,5 @@ loop-byte-preserved c =
 
 pub returns-then-number-limit : goal.returns-then-number-limit
 returns-then-number-limit c =
-    sym (whole-some c.args.word.now c.loop-byte.byte-index (omega arith) c.loop-byte.number c.loop-byte.invariant.value (grind (arith, c.is_empty.ensures)) c.args.limit c.loop-byte.invariant.digits c.if-number-limit.true)
+    sym (whole-some c.args.word.now c.loop-byte.byte-index (omega arith) c.loop-byte.number c.loop-byte.invariant.value
+    (grind (arith, c.is_empty.ensures)) c.args.limit c.loop-byte.invariant.digits c.if-number-limit.true)

@@ -12,7 +12,8 @@ loop-moved-init g c = record {
 }
 
 pub move_one-requires-clause-room : goal.move_one-requires-clause-room
-move_one-requires-clause-room g c = omega (arith, c.loop-moved.invariant.room, c.loop-moved.invariant.capacity, c.requires.room, some_filled c.loop-moved.draining.items c.in-Some.at c.in-Some.ensures.found)
+move_one-requires-clause-room g c =
+    omega (arith, c.loop-moved.invariant.room, c.loop-moved.invariant.capacity, c.requires.room, some_filled c.loop-moved.draining.items c.in-Some.at c.in-Some.ensures.found)
 
 pub loop-moved-preserved : goal.loop-moved-preserved
 loop-moved-preserved g c = record {

@@ -1,4 +1,4 @@
-use Rattle.std.proofs.Common.{◌≡◌, ◌+◌, ◌≤◌, vec_len, vec_capacity}
+use Rattle.std.proofs.Common.{◌≡◌, ◌+◌, ◌≤◌, length}
 use Rattle.mc_hop.specs.Cells.{filled}
 use Rattle.mc_grow.specs.Adding.{beside}
 use Rattle.mc_grow.proofs.MoveLemmas.{MovedSoFar}
@@ -8,6 +8,6 @@ abbrev pub invariant-loop-moved : goal.invariant-loop-moved
 invariant-loop-moved g l = record {
   moves : MovedSoFar g.T.Keyed.hash_of g.T.Keyed.key_of l.fn.table.k l.moved l.fn.draining.items l.draining.items (beside l.fn.table l.fn.strays.items) (beside l.table l.strays.items);
   same_k : l.table.k ≡ l.fn.table.k;
-  room : vec_len l.strays + filled l.draining.items ≤ vec_len l.fn.strays + filled l.fn.draining.items;
-  capacity : vec_capacity l.strays ≡ vec_capacity l.fn.strays;
+  room : length l.strays.items + filled l.draining.items ≤ length l.fn.strays.items + filled l.fn.draining.items;
+  capacity : l.strays.room ≡ l.fn.strays.room;
 }

@@ -12,7 +12,8 @@ place-requires-clause-new g c =
       gone = (c.content_laws.ensures.absent c.remove-entry.new.self.items _ _).0 c.remove-entry.ensures.gone;
       apart = c.entries_are_apart.ensures;
     } in
-    new_to_other _ _ c.content_laws.ensures c.args.draining.now.items (cells_of (beside c.args.table.now c.args.strays.now.items)) c.remove-entry.new.self.items c.remove-entry.result c.requires.apart out
+    new_to_other _ _ c.content_laws.ensures c.args.draining.now.items
+    (cells_of (beside c.args.table.now c.args.strays.now.items)) c.remove-entry.new.self.items c.remove-entry.result c.requires.apart out
 
 pub returns-clause-taken : goal.returns-clause-taken
 returns-clause-taken g c = record { entry = c.remove-entry.result; taken = c.remove-entry.ensures.back; added = c.place.ensures.added }
@@ -27,4 +28,5 @@ returns-clause-content g c =
       gone = (c.content_laws.ensures.absent c.remove-entry.new.self.items _ _).0 c.remove-entry.ensures.gone;
       apart = c.entries_are_apart.ensures;
     } in
-    moved _ _ c.content_laws.ensures c.args.draining.now.items (cells_of (beside c.args.table.now c.args.strays.now.items)) c.remove-entry.new.self.items (cells_of (beside c.place.new.table c.place.new.strays.items)) c.remove-entry.result c.requires.apart out c.place.ensures.content
+    moved _ _ c.content_laws.ensures c.args.draining.now.items (cells_of (beside c.args.table.now c.args.strays.now.items)) c.remove-entry.new.self.items
+    (cells_of (beside c.place.new.table c.place.new.strays.items)) c.remove-entry.result c.requires.apart out c.place.ensures.content

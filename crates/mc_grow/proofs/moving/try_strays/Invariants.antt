@@ -1,4 +1,4 @@
-use Rattle.std.proofs.Common.{◌≡◌, ◌≤◌, vec_len, vec_capacity}
+use Rattle.std.proofs.Common.{◌≡◌, ◌≤◌, length}
 use Rattle.mc_grow.specs.Adding.{beside}
 use Rattle.mc_grow.proofs.StrayLemmas.{TriedSoFar}
 use Rattle.mc_grow.proofs.moving.try_strays.Given as goal
@@ -7,6 +7,6 @@ abbrev pub invariant-loop-turn : goal.invariant-loop-turn
 invariant-loop-turn g l = record {
   turns : TriedSoFar g.T.Keyed.hash_of g.T.Keyed.key_of l.fn.table.k l._turn l.kept (beside l.fn.table l.fn.strays.items) (beside l.table l.strays.items);
   same_k : l.table.k ≡ l.fn.table.k;
-  room : vec_len l.strays ≤ vec_len l.fn.strays;
-  capacity : vec_capacity l.strays ≡ vec_capacity l.fn.strays;
+  room : length l.strays.items ≤ length l.fn.strays.items;
+  capacity : l.strays.room ≡ l.fn.strays.room;
 }

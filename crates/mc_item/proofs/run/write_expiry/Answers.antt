@@ -7,27 +7,28 @@ use Rattle.mc_item.proofs.run.write_expiry.Goals as goal
 
 -- the header that is written
 abbrev header : goal.After-put_header → Header
-header c = record (header_in c.args.chunk.now) { expiry = c.args.expiry }
+header c = record (header_in c.args.chunks.now.bytes) { expiry = c.args.expiry }
 
-lies : (c : goal.After-put_header) → Lies (header c) (key_in c.args.chunk.now) (block_in c.args.chunk.now) c.put_header.new.chunk
+lies : (c : goal.After-put_header) → Lies (header c) (key_in c.args.chunks.now.bytes) (block_in c.args.chunks.now.bytes) c.put_header.new.chunks.bytes
 lies c =
-    let key_fits = length-key_in c.args.chunk.now c.requires in
-    let block_fits = length-block_in c.args.chunk.now c.requires in
-    let behind : drop (48 + length (key_in c.args.chunk.now)) c.put_header.new.chunk ≡ drop (48 + length (key_in c.args.chunk.now)) c.args.chunk.now =
-    drop-further 48 (48 + length (key_in c.args.chunk.now)) c.put_header.new.chunk c.args.chunk.now (omega arith) c.put_header.ensures.behind in
+    let key_fits = length-key_in c.args.chunks.now c.requires in
+    let block_fits = length-block_in c.args.chunks.now c.requires in
+    let behind : drop (48 + length (key_in c.args.chunks.now.bytes)) c.put_header.new.chunks.bytes ≡ drop (48 + length (key_in c.args.chunks.now.bytes)) c.args.chunks.now.bytes =
+    drop-further 48 (48 + length (key_in c.args.chunks.now.bytes)) c.put_header.new.chunks.bytes c.args.chunks.now.bytes (omega arith) c.put_header.ensures.behind in
     record {
-      header_is = subst (λ (h : Header). header_in c.put_header.new.chunk ≡ record h { expiry = c.args.expiry }) (c.read-old.ensures ∙ ap header_in c.bytes.ensures.value) c.put_header.ensures.value;
+      header_is = subst (λ (h : Header). header_in c.put_header.new.chunks.bytes ≡ record h { expiry = c.args.expiry }) (c.read-old.ensures ∙ c.front.ensures.header) c.put_header.ensures.value;
       key_length = sym key_fits;
       block_length = sym block_fits;
-      key_is = rw key_fits (ap (take (key_length_in c.args.chunk.now)) c.put_header.ensures.behind);
-      block_is = rw block_fits (ap (take (block_length_in c.args.chunk.now)) behind ∙ rw key_fits refl);
+      key_is = rw key_fits (ap (take (key_length_in c.args.chunks.now.bytes)) c.put_header.ensures.behind);
+      block_is = rw block_fits (ap (take (block_length_in c.args.chunks.now.bytes)) behind ∙ rw key_fits refl);
     }
 
 pub returns-clause-value : goal.returns-clause-value
-returns-clause-value c = item_in-Lies (header c) (key_in c.args.chunk.now) (block_in c.args.chunk.now) c.put_header.new.chunk c.args.chunk.now (lies c) (omega arith)
+returns-clause-value c = item_in-Lies (header c) (key_in c.args.chunks.now.bytes) (block_in c.args.chunks.now.bytes) c.put_header.new.chunks c.args.chunks.now (lies c) cc
 
 pub returns-clause-holds : goal.returns-clause-holds
 returns-clause-holds c =
-    let key_fits = length-key_in c.args.chunk.now c.requires in
-    let block_fits = length-block_in c.args.chunk.now c.requires in
-    HoldsItem-Lies (header c) (key_in c.args.chunk.now) (block_in c.args.chunk.now) c.put_header.new.chunk c.args.chunk.now (lies c) (omega arith) c.put_header.ensures.chunk (omega arith) (omega arith) c.requires.updated
+    let key_fits = length-key_in c.args.chunks.now c.requires in
+    let block_fits = length-block_in c.args.chunks.now c.requires in
+    HoldsItem-Lies (header c) (key_in c.args.chunks.now.bytes) (block_in c.args.chunks.now.bytes) c.put_header.new.chunks (lies c) c.put_header.ensures.are
+    (omega arith) (omega arith) c.requires.updated

@@ -5,7 +5,8 @@ use Rattle.mc_parse.specs.Peeks.{IsSpelled, unit_of}
 use Rattle.mc_parse.proofs.tests.pass_unit.Goals as goal
 
 -- so many bytes spell what was found
-found_len : (greatest passed : ℕ) (bytes : List ℕ) (len : ℕ) (found : Option (ProtocolUnit × ℕ)) → IfSome found (λ p. (passed ≡ 0) × IsSpelled greatest p bytes) → Some len ≡ option_map (λ p. p.1) found → (unit : ProtocolUnit) × IsSpelled greatest (unit, len) bytes × (passed ≡ 0)
+found_len : (greatest passed : ℕ) (bytes : List ℕ) (len : ℕ) (found : Option (ProtocolUnit × ℕ)) → IfSome found (λ p. (passed ≡ 0) × IsSpelled greatest p bytes)
+    → Some len ≡ option_map (λ p. p.1) found → (unit : ProtocolUnit) × IsSpelled greatest (unit, len) bytes × (passed ≡ 0)
 found_len greatest passed bytes len None h e = absurd (cc)
 found_len greatest passed bytes len (Some (unit, n)) h e =
     let same : n ≡ len = cc in

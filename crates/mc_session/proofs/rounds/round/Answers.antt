@@ -13,10 +13,12 @@ returns-in_err-write_out-in-Ok-Idle-clause-goes g c = λ _. record {
 }
 
 pub returns-in-Ok-Did-clause-goes : goal.returns-in-Ok-Did-clause-goes
-returns-in-Ok-Did-clause-goes g c = λ _. record { goes = λ most first so_far. then_turned c.now.result c.now.ensures c.in_ok-write_much.ensures.ok c.in-Ok-Did.ensures.ok (then_wrote c.write_much.ensures.wrote so_far) }
+returns-in-Ok-Did-clause-goes g c =
+    λ _. record { goes = λ most first so_far. then_turned c.now.result c.now.ensures c.in_ok-write_much.ensures.ok c.in-Ok-Did.ensures.ok (then_wrote c.write_much.ensures.wrote so_far) }
 
 pub returns-in-Ok-Closed-clause-goes : goal.returns-in-Ok-Closed-clause-goes
-returns-in-Ok-Closed-clause-goes g c = λ _. record { goes = λ most first so_far. then_turned c.now.result c.now.ensures c.in_ok-write_much.ensures.ok c.in-Ok-Closed.ensures.ok (then_wrote c.write_much.ensures.wrote so_far) }
+returns-in-Ok-Closed-clause-goes g c =
+    λ _. record { goes = λ most first so_far. then_turned c.now.result c.now.ensures c.in_ok-write_much.ensures.ok c.in-Ok-Closed.ensures.ok (then_wrote c.write_much.ensures.wrote so_far) }
 
 pub returns-in_ok-write_out-in-Ok-Idle-clause-goes : goal.returns-in_ok-write_out-in-Ok-Idle-clause-goes
 returns-in_ok-write_out-in-Ok-Idle-clause-goes g c = λ other. record {
@@ -33,4 +35,5 @@ returns-in_ok-write_out-in-Ok-Idle-clause-memory g c = λ is. record {
 }
 
 pub returns-in-Err-clause-memory : goal.returns-in-Err-clause-memory
-returns-in-Err-clause-memory g c = λ _. record { goes = λ most first few so_far. short_turn c.now.result c.now.ensures c.in_ok-write_much.ensures.ok c.in-Err.ensures.err few (then_wrote c.write_much.ensures.wrote so_far) }
+returns-in-Err-clause-memory g c =
+    λ _. record { goes = λ most first few so_far. short_turn c.now.result c.now.ensures c.in_ok-write_much.ensures.ok c.in-Err.ensures.err few (then_wrote c.write_much.ensures.wrote so_far) }

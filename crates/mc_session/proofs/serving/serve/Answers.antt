@@ -7,7 +7,8 @@ returns-in-Err-clause-memory g c = λ _. serves_none c.args.greatest c.args.stor
 
 pub returns-in-Ok-serve_endpoint-clause-ok : goal.returns-in-Ok-serve_endpoint-clause-ok
 returns-in-Ok-serve_endpoint-clause-ok g c =
-    on_ok c.write_out.result (λ written. serves_all c.new-session.ensures (c.in-Ok-serve_endpoint.ensures.goes (λ is. cc)) c.in-Ok-serve_endpoint.ensures.ended c.write_out.ensures.wrote written) c.write_out.ensures.ok
+    on_ok c.write_out.result
+    (λ written. serves_all c.new-session.ensures (c.in-Ok-serve_endpoint.ensures.goes (λ is. cc)) c.in-Ok-serve_endpoint.ensures.ended c.write_out.ensures.wrote written) c.write_out.ensures.ok
 
 pub returns-in-Ok-serve_endpoint-clause-write : goal.returns-in-Ok-serve_endpoint-clause-write
 returns-in-Ok-serve_endpoint-clause-write g c = λ _. serves c.new-session.ensures (then_wrote c.write_out.ensures.wrote (c.in-Ok-serve_endpoint.ensures.goes (λ is. cc)))

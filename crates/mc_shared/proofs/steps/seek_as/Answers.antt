@@ -18,8 +18,10 @@ load-requires g c =
       c.requires.seat.seated.own,
       (let wide = c.requires.seat.seated.fit.wide in let is = c.requires.word in let same = ap (λ (b : Beginning). word_of b.shelves n) c.requires.began in
           let low = word_inside c.args.board.now.shared.key.value.settings.shelves n c.requires.seat.seated.fit.divides below in omega (arith, wide, is, same, low)),
-      subst (λ (b : Beginning). Allows (Kept b) c.args.board.now.shared.table_id.slots c.args.seat.now.id c.args.seat.now.me c.args.word (λ k. k) (sought start g.S.Seeks.key g.S.Seeks.moment n (step c.args.board.now.shared.table_id.slots c.args.word 0 0 none) c.args.seat.now.me))
+      subst (λ (b : Beginning). Allows (Kept b) c.args.board.now.shared.table_id.slots c.args.seat.now.id c.args.seat.now.me c.args.word (λ k. k)
+          (sought start g.S.Seeks.key g.S.Seeks.moment n (step c.args.board.now.shared.table_id.slots c.args.word 0 0 none) c.args.seat.now.me))
           c.requires.began
-          (subst (λ (x : ℕ). Allows (Kept start) c.args.board.now.shared.table_id.slots c.args.seat.now.id c.args.seat.now.me x (λ k. k) (sought start g.S.Seeks.key g.S.Seeks.moment n (step c.args.board.now.shared.table_id.slots x 0 0 none) c.args.seat.now.me))
+          (subst (λ (x : ℕ). Allows (Kept start) c.args.board.now.shared.table_id.slots c.args.seat.now.id c.args.seat.now.me x (λ k. k)
+          (sought start g.S.Seeks.key g.S.Seeks.moment n (step c.args.board.now.shared.table_id.slots x 0 0 none) c.args.seat.now.me))
           (sym c.requires.word) (seeks start _ _ g.S.Seeks.key g.S.Seeks.moment n c.args.seat.now.me below refl c.requires.seat.lives)),
     )

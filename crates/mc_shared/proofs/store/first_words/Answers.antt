@@ -15,4 +15,5 @@ loop-number-preserved c =
 pub returns : goal.returns
 returns c start is parts =
     let all : 4096 ≤ c.loop-number.number = search rules in
-    are_first c.args.count c.loop-number.words.items c.count_shelves-counts.result c.args.shelves.now c.requires.divides c.loop-number.number all c.loop-number.invariant.1 c.count_shelves-counts.ensures start is parts
+    are_first c.args.count c.loop-number.words.items c.count_shelves-counts.result c.args.shelves.now c.requires.divides c.loop-number.number all
+    c.loop-number.invariant.1 c.count_shelves-counts.ensures start is parts

@@ -1,4 +1,5 @@
 use Rattle.std.proofs.Common.{sym, refl}
+use Rattle.mc_command.specs.Commands.{key_of}
 use Rattle.mc_shelf.specs.Plans.{next_of}
 use Rattle.mc_shelf.proofs.TakesLemmas.{is_spent}
 use Rattle.mc_shelf.proofs.RefusalLemmas.{can_wants, needs_can, writes_some}
@@ -9,6 +10,7 @@ returns-clause-spent c step now shelf desk on does none =
     let some = writes_some (next_of shelf step now) does in
     is_spent c.counts_follow.ensures.insert c.counts_follow.ensures.remove step now shelf desk on some.0 some.1 (sym some.2) none
 
-pub returns-clause-page : goal.returns-clause-page
-returns-clause-page c step now shelf desk on slab most needs =
-    can_wants c.counts_follow.ensures.insert c.counts_follow.ensures.remove step now shelf desk on slab most (next_of shelf step now) refl (needs_can (next_of shelf step now) desk needs)
+pub returns-clause-pages : goal.returns-clause-pages
+returns-clause-pages c step now shelf desk on slab most needs =
+    can_wants c.counts_follow.ensures.insert c.counts_follow.ensures.remove step now shelf desk on slab (next_of shelf step now) refl
+    (needs_can (next_of shelf step now) shelf (key_of step) now desk needs)

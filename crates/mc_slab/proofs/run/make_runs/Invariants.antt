@@ -1,11 +1,10 @@
 use Rattle.std.proofs.Common.{◌≡◌, ◌+◌}
-use Rattle.mc_slab.specs.Classes.{chunks_a_page}
 use Rattle.mc_slab.specs.Runs.{AreRunsOf, uncut}
 use Rattle.mc_slab.proofs.run.make_runs.Given as goal
 
 abbrev pub invariant-loop-left : goal.invariant-loop-left
 invariant-loop-left l = record {
-  made : uncut l.runs.items + l.left ≡ chunks_a_page l.class;
+  made : uncut l.runs.items + l.left ≡ uncut l.fn.runs.items + l.fn.count;
   runs : AreRunsOf l.class l.runs.items;
 }
 

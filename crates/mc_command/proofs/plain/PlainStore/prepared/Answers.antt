@@ -3,15 +3,16 @@ use Rattle.mc_command.specs.declared.plain.item.Written.{Written}
 use Rattle.mc_command.specs.declared.step.StepFault.TheVariants.{NoMemory}
 use Rattle.mc_command.specs.Plain.{Answered}
 use Rattle.mc_command.specs.Steps.{placed}
-use Rattle.mc_command.proofs.WriteLemmas.{write-full, write-placed, Prepares-refused, class-by}
+use Rattle.mc_command.proofs.WriteLemmas.{write-full, write-placed, Prepares-refused, need-by}
 use Rattle.mc_command.proofs.plain.PlainStore.prepared.Goals as goal
 
 pub returns-then-not-has_room : goal.returns-then-not-has_room
 returns-then-not-has_room c = record {
   ready = tt;
   same =
-      sym (write-full c.args.self.now c.args.key.now c.args.now c.args.write.now c.args.reply c.in-Some.class (sym c.in-Some.is ∙ c.class_for.ensures) (sym c.is_spent.ensures ∙ c.if-is_spent.false)
-      c.args.stays c.if-stays.false (sym c.has_room.ensures.value ∙ c.if-not-has_room.true));
+      sym (write-full c.args.self.now c.args.key.now c.args.now c.args.write.now c.args.reply c.in-Some.need (sym c.in-Some.is ∙ c.need_for.ensures.value)
+      (sym c.is_spent.ensures ∙ c.if-is_spent.false)
+      c.args.stays c.if-stays.false (sym c.has_room.ensures ∙ c.if-not-has_room.true));
   spent = λ e. cc;
   refused = λ e. cc;
 }
@@ -20,23 +21,24 @@ pub returns-in_err-made-2 : goal.returns-in_err-made-2
 returns-in_err-made-2 c =
     let fault : c.from_residual-in_err-made-2.result ≡ Err NoMemory = search rules in
     Prepares-refused _ c.args.reply (placed c.args.write.now c.args.key.now c.args.self.now c.args.now) _ c.args.key.now c.args.self.now c.args.now
-    (write-placed c.args.self.now c.args.key.now c.args.now c.args.write.now c.args.reply c.in-Some.class (sym c.in-Some.is ∙ c.class_for.ensures) (sym c.is_spent.ensures ∙ c.if-is_spent.false)
-    c.args.stays c.if-stays.false (sym c.has_room.ensures.value ∙ c.if-not-has_room.false))
+    (write-placed c.args.self.now c.args.key.now c.args.now c.args.write.now c.args.reply c.in-Some.need (sym c.in-Some.is ∙ c.need_for.ensures.value) (sym c.is_spent.ensures ∙ c.if-is_spent.false)
+    c.args.stays c.if-stays.false (sym c.has_room.ensures ∙ c.if-not-has_room.false))
     c.requires.reply fault
 
 pub returns : goal.returns
 returns c = record {
   ready = record {
     copies = c.requires.reply;
-    class_is = class-by _ _ _ (sym c.in-Some.is ∙ c.class_for.ensures) ∙ search rules;
-    is_class = c.has_room.ensures.is_class;
-    room = sym c.has_room.ensures.value ∙ c.if-not-has_room.false;
+    need_is = need-by _ _ _ (sym c.in-Some.is ∙ c.need_for.ensures.value) ∙ search rules;
+    is_need = search rules;
+    room = sym c.has_room.ensures ∙ c.if-not-has_room.false;
     number = search rules;
   };
   same =
       ap (λ (w : Written). Answered c.args.reply (placed w c.args.key.now c.args.self.now c.args.now)) c.in_ok-made-2.ensures
-      ∙ sym (write-placed c.args.self.now c.args.key.now c.args.now c.args.write.now c.args.reply c.in-Some.class (sym c.in-Some.is ∙ c.class_for.ensures) (sym c.is_spent.ensures ∙ c.if-is_spent.false)
-      c.args.stays c.if-stays.false (sym c.has_room.ensures.value ∙ c.if-not-has_room.false));
+      ∙ sym (write-placed c.args.self.now c.args.key.now c.args.now c.args.write.now c.args.reply c.in-Some.need (sym c.in-Some.is ∙ c.need_for.ensures.value)
+      (sym c.is_spent.ensures ∙ c.if-is_spent.false)
+      c.args.stays c.if-stays.false (sym c.has_room.ensures ∙ c.if-not-has_room.false));
   spent = λ e. cc;
   refused = λ e. cc;
 }

@@ -7,7 +7,8 @@ use Rattle.mc_command.proofs.plain.PlainStore.write.Goals as goal
 pub prepared-requires-clause-stays : goal.prepared-requires-clause-stays
 prepared-requires-clause-stays c =
     let digits : c.as_bytes-digits.result.now ≡ decimal (number_in c.args.draft.body) = search rules in
-    draft-stays c.args.draft c.args.key.now c.args.block.now c.block_in.result.now c.as_bytes-digits.result.now c.args.self.now c.args.now c.standing-item.result c.drafted-write.result c.stays-stays.result
+    draft-stays c.args.draft c.args.key.now c.args.block.now c.block_in.result.now c.as_bytes-digits.result.now c.args.self.now c.args.now
+    c.standing-item.result c.drafted-write.result c.stays-stays.result
     c.standing-item.ensures c.block_in.ensures digits c.drafted-write.ensures c.stays-stays.ensures
 
 pub returns-in_err-next : goal.returns-in_err-next
@@ -15,7 +16,8 @@ returns-in_err-next c =
     let digits : c.as_bytes-digits.result.now ≡ decimal (number_in c.args.draft.body) = search rules in
     let fault : c.from_residual.result ≡ Err c.in_err-next.field-0.0 = search rules in
     Ends-refused _ _ c.prepared.result c.in_err-next.field-0.0 c.from_residual.result c.args.key.now c.args.self.now c.args.now
-    (draft-is c.args.draft c.args.key.now c.args.block.now c.block_in.result.now c.as_bytes-digits.result.now c.args.self.now c.args.now c.standing-item.result c.drafted-write.result c.stays-stays.result
+    (draft-is c.args.draft c.args.key.now c.args.block.now c.block_in.result.now c.as_bytes-digits.result.now c.args.self.now c.args.now c.standing-item.result
+    c.drafted-write.result c.stays-stays.result
     c.standing-item.ensures c.block_in.ensures digits c.drafted-write.ensures c.stays-stays.ensures c.reply.result c.reply.ensures)
     c.prepared.ensures c.in_err-next.was fault
 
@@ -23,6 +25,7 @@ pub returns : goal.returns
 returns c =
     let digits : c.as_bytes-digits.result.now ≡ decimal (number_in c.args.draft.body) = search rules in
     Ends-finished _ _ c.in_ok-next.next c.finish.result c.args.key.now c.args.self.now c.finish.new.self c.args.now
-    (draft-is c.args.draft c.args.key.now c.args.block.now c.block_in.result.now c.as_bytes-digits.result.now c.args.self.now c.args.now c.standing-item.result c.drafted-write.result c.stays-stays.result
+    (draft-is c.args.draft c.args.key.now c.args.block.now c.block_in.result.now c.as_bytes-digits.result.now c.args.self.now c.args.now c.standing-item.result
+    c.drafted-write.result c.stays-stays.result
     c.standing-item.ensures c.block_in.ensures digits c.drafted-write.ensures c.stays-stays.ensures c.reply.result c.reply.ensures)
     c.in_ok-next.ensures c.finish.ensures

@@ -11,8 +11,10 @@ overflow_add-len g c = omega (arith, c.len.ensures, c.buckets-buckets.ensures.va
 
 pub invariant_of-self : goal.invariant_of-self
 invariant_of-self g c = record {
-  apart = subst (λ (l : List g.row.T.Denot). AreApart g.T.Keyed.hash_of g.T.Keyed.key_of (drained_items c.self.inside.draining ++ (c.self.inside.table.items ++ map Some l))) (sym c.reserve.ensures.items) c.self.invariant.apart;
-  has_room = omega (arith, c.self.invariant.has_room, ap length c.reserve.ensures.items, c.reserve.ensures.capacity);
+  apart = subst
+      (λ (l : List g.row.T.Denot). AreApart g.T.Keyed.hash_of g.T.Keyed.key_of
+      (drained_items c.self.inside.draining ++ (c.self.inside.table.items ++ map Some l))) (sym c.reserve.ensures.items) c.self.invariant.apart;
+  has_room = omega (arith, c.self.invariant.has_room, ap length c.reserve.ensures.items, c.reserve.ensures.room);
 }
 
 pub invariant_of-self-2 : goal.invariant_of-self-2
@@ -20,14 +22,16 @@ invariant_of-self-2 g c =
     let rests : is_some c.self.inside.draining ≡ false = ap (λ (s : IndexState g.row.T.Denot). s.growing) c.self.view_is ∙ due_rests _ _ c.requires in
     let left = ap (λ (t : HopState g.row.T.Denot). filled t.items) c.replace.ensures.value in
     record {
-      apart = (begun g.T.Keyed.hash_of g.T.Keyed.key_of c.content_laws.ensures c.self.inside.draining c.self.inside.table c.in_ok-table.table c.replace.result c.replace.new.dest c.self.inside.strays.items c.reserve.new.self.items _ _ rests
+      apart = (begun g.T.Keyed.hash_of g.T.Keyed.key_of c.content_laws.ensures c.self.inside.draining c.self.inside.table c.in_ok-table.table c.replace.result
+          c.replace.new.dest c.self.inside.strays.items c.reserve.new.self.items _ _ rests
           c.replace.ensures.value c.replace.ensures.after c.in_ok-table.ensures c.entries_are_apart.ensures c.reserve.ensures.items c.self.invariant.apart).apart;
-      has_room = omega (arith, c.in_ok-reserve.ensures.ok, c.len.ensures, left, c.reserve.new.self.ok.0);
+      has_room = omega (arith, c.in_ok-reserve.ensures.ok, c.len.ensures, left);
     }
 
 pub returns-clause-content : goal.returns-clause-content
 returns-clause-content g c =
     let rests : is_some c.self.inside.draining ≡ false = ap (λ (s : IndexState g.row.T.Denot). s.growing) c.self.view_is ∙ due_rests _ _ c.requires in
-    (begun g.T.Keyed.hash_of g.T.Keyed.key_of c.content_laws.ensures c.self.inside.draining c.self.inside.table c.in_ok-table.table c.replace.result c.replace.new.dest c.self.inside.strays.items c.reserve.new.self.items _ _ rests
+    (begun g.T.Keyed.hash_of g.T.Keyed.key_of c.content_laws.ensures c.self.inside.draining c.self.inside.table c.in_ok-table.table c.replace.result
+    c.replace.new.dest c.self.inside.strays.items c.reserve.new.self.items _ _ rests
     c.replace.ensures.value c.replace.ensures.after c.in_ok-table.ensures c.entries_are_apart.ensures c.reserve.ensures.items c.self.invariant.apart).same
     ∙ ap (holds g.T.Keyed.hash_of g.T.Keyed.key_of) c.self.view_is

@@ -15,19 +15,22 @@ invariant_of-self g c =
     let fresh = still_new g.T.Keyed.hash_of g.T.Keyed.key_of _ c.self.view_is c.requires.new in
     let spare = ap (λ (s : IndexState g.row.T.Denot). s.spare) c.self.view_is in
     record {
-      apart = all_apart g.T.Keyed.hash_of g.T.Keyed.key_of c.content_laws.ensures (drained_items c.self.inside.draining) _ (cells_of (beside c.place-at.new.table c.place-at.new.strays.items)) c.args.entry c.self.invariant.apart fresh c.place-at.ensures.content;
+      apart = all_apart g.T.Keyed.hash_of g.T.Keyed.key_of c.content_laws.ensures (drained_items c.self.inside.draining) _
+          (cells_of (beside c.place-at.new.table c.place-at.new.strays.items)) c.args.entry c.self.invariant.apart fresh c.place-at.ensures.content;
       has_room = subst (λ (n : ℕ). length c.place-at.new.strays.items + filled (drained_items c.self.inside.draining) ≤ n) (sym c.place-at.ensures.capacity)
-          (omega (arith, spare, c.requires.room, c.place-at.ensures.room, c.place-at.new.strays.ok.0, c.self.inside.strays.ok.0));
+          (omega (arith, spare, c.requires.room, c.place-at.ensures.room));
     }
 
 pub returns-clause-place : goal.returns-clause-place
 returns-clause-place g c =
     let fresh = still_new g.T.Keyed.hash_of g.T.Keyed.key_of _ c.self.view_is c.requires.new in
-    its_place g.T.Keyed.hash_of g.T.Keyed.key_of c.content_laws.ensures (drained_items c.self.inside.draining) _ (cells_of (beside c.place-at.new.table c.place-at.new.strays.items)) c.args.entry c.self.invariant.apart fresh c.place-at.ensures.content
+    its_place g.T.Keyed.hash_of g.T.Keyed.key_of c.content_laws.ensures (drained_items c.self.inside.draining) _
+    (cells_of (beside c.place-at.new.table c.place-at.new.strays.items)) c.args.entry c.self.invariant.apart fresh c.place-at.ensures.content
     _ refl c.drained_buckets-buckets.result c.place-at.result c.drained_buckets-buckets.ensures.value c.place-at.ensures.there
 
 pub returns-clause-count : goal.returns-clause-count
 returns-clause-count g c =
     let fresh = still_new g.T.Keyed.hash_of g.T.Keyed.key_of _ c.self.view_is c.requires.new in
-    one_more g.T.Keyed.hash_of g.T.Keyed.key_of c.content_laws.ensures (drained_items c.self.inside.draining) _ (cells_of (beside c.place-at.new.table c.place-at.new.strays.items)) c.args.entry c.self.invariant.apart fresh c.place-at.ensures.content
+    one_more g.T.Keyed.hash_of g.T.Keyed.key_of c.content_laws.ensures (drained_items c.self.inside.draining) _
+    (cells_of (beside c.place-at.new.table c.place-at.new.strays.items)) c.args.entry c.self.invariant.apart fresh c.place-at.ensures.content
     ∙ ap (λ (s : IndexState g.row.T.Denot). count s + 1) c.self.view_is

@@ -9,20 +9,20 @@ pub overflow_add-result : goal.overflow_add-result
 overflow_add-result g c = omega (arith, c.drained_len.ensures.most, c.len.ensures.most)
 
 pub overflow_add-result-2 : goal.overflow_add-result-2
-overflow_add-result-2 g c = omega (arith, c.drained_len.ensures.most, c.len.ensures.most, c.len-2.ensures, c.self.inside.strays.ok.1, c.self.inside.strays.small)
+overflow_add-result-2 g c = omega (arith, c.drained_len.ensures.most, c.len.ensures.most, c.len-2.ensures.most)
 
 pub returns-clause-count : goal.returns-clause-count
 returns-clause-count g c =
     let i = c.self.inside in
     subst (λ (s : IndexState g.row.T.Denot). c.drained_len.result + c.len.result + c.len-2.result ≡ count s) c.self.view_is
-    (omega (arith, c.drained_len.ensures.value, c.len.ensures.value, c.len-2.ensures, i.strays.ok.0, count_parts (drained_items i.draining) i.table.items i.strays.items))
+    (omega (arith, c.drained_len.ensures.value, c.len.ensures.value, c.len-2.ensures.value, count_parts (drained_items i.draining) i.table.items i.strays.items))
 
 pub returns-clause-held : goal.returns-clause-held
 returns-clause-held g c =
     let i = c.self.inside in
     subst (λ (s : IndexState g.row.T.Denot). len (holds g.T.Keyed.hash_of g.T.Keyed.key_of s) ≡ c.drained_len.result + c.len.result + c.len-2.result) c.self.view_is
     (c.content_counts_entries.ensures _ c.self.invariant.apart
-    ∙ (omega (arith, c.drained_len.ensures.value, c.len.ensures.value, c.len-2.ensures, i.strays.ok.0, count_parts (drained_items i.draining) i.table.items i.strays.items)))
+    ∙ (omega (arith, c.drained_len.ensures.value, c.len.ensures.value, c.len-2.ensures.value, count_parts (drained_items i.draining) i.table.items i.strays.items)))
 
 pub returns-clause-most : goal.returns-clause-most
-returns-clause-most g c = omega (arith, c.drained_len.ensures.most, c.len.ensures.most, c.len-2.ensures, c.self.inside.strays.ok.1, c.self.inside.strays.small)
+returns-clause-most g c = omega (arith, c.drained_len.ensures.most, c.len.ensures.most, c.len-2.ensures.most)

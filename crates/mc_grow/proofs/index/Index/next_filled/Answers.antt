@@ -20,5 +20,6 @@ returns-then-stray-len-clause-found g c =
     let stray = c.saturating_sub-stray.result in
     subst (λ (s : IndexState g.row.T.Denot). IsFirstFilled (cells s) c.args.at (c.drained_buckets-first.result + c.buckets.result + stray)) c.self.view_is
     (subst (λ (n : ℕ). IsFirstFilled (all (drained_items i.draining) i.table.items i.strays.items) c.args.at n) (omega (arith, first, second))
-    (first_stray _ _ _ _ c.saturating_sub.result stray (c.filled_drained.ensures.none (ap is_some c.in_default.is)) (omega (arith, c.saturating_sub.ensures, first)) (c.filled_bucket.ensures.none (ap is_some c.in_default-filled_bucket.is))
-    (omega (arith, c.saturating_sub-stray.ensures, first, second)) (omega (arith, c.if-stray-len.true, c.len.ensures, i.strays.ok.0))))
+    (first_stray _ _ _ _ c.saturating_sub.result stray (c.filled_drained.ensures.none (ap is_some c.in_default.is))
+    (omega (arith, c.saturating_sub.ensures, first)) (c.filled_bucket.ensures.none (ap is_some c.in_default-filled_bucket.is))
+    (omega (arith, c.saturating_sub-stray.ensures, first, second)) (omega (arith, c.if-stray-len.true, c.len.ensures.value))))

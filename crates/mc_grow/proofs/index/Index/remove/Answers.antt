@@ -1,11 +1,11 @@
 use Rattle.std.proofs.Common.{ℕ, ◌+◌, ◌≤◌, List, Option, None, is_some, length, get_or, refl, sym, ap, subst, ◌∙◌, arith}
-use Rattle.std.specs.Prelude.{vec_len}
 use Rattle.mc_hop.specs.Cells.{filled}
 use Rattle.mc_hop.specs.Tables.{AreApart, HopState}
 use Rattle.mc_grow.specs.Parts.{drained_items}
-use Rattle.mc_grow.proofs.PartLemmas.{inside, swapped, stray_inside}
+use Rattle.mc_grow.proofs.PartLemmas.{inside, stray_inside}
 use Rattle.mc_grow.proofs.CellLemmas.{all, cell_drained, cell_table, filled-taken, apart_taken}
-use Rattle.mc_grow.proofs.ChangeLemmas.{set_drained, set_table, removed, removed_stray, apart_shorter, in_drained, in_table, in_strays, number_drained, number_table, number_stray, same_number, more_room, one_stray_less, seen_removed}
+use Rattle.mc_grow.proofs.ChangeLemmas.{set_drained, set_table, removed, removed_stray, apart_shorter, in_drained, in_table, in_strays, number_drained, number_table, number_stray}
+use Rattle.mc_grow.proofs.ChangeLemmas.{same_number, more_room, one_stray_less, seen_removed}
 use Rattle.mc_grow.proofs.index.Index.remove.Goals as goal
 
 pub remove_drained-requires : goal.remove_drained-requires
@@ -15,7 +15,7 @@ pub remove-requires : goal.remove-requires
 remove-requires g c = ap is_some (in_table c.self.view_is c.requires.1 c.in-Table.ensures)
 
 pub swap_remove-requires : goal.swap_remove-requires
-swap_remove-requires g c = omega (arith, stray_inside c.self.inside.strays.items c.in-Stray.at _ (in_strays c.self.view_is c.in-Stray.at c.requires.1 c.in-Stray.ensures), c.self.inside.strays.ok.0)
+swap_remove-requires g c = stray_inside c.self.inside.strays.items c.in-Stray.at _ (in_strays c.self.view_is c.in-Stray.at c.requires.1 c.in-Stray.ensures)
 
 pub invariant_of-self : goal.invariant_of-self
 invariant_of-self g c =
@@ -36,7 +36,8 @@ invariant_of-self-in-Table g c =
     record {
       apart =
           subst (AreApart g.T.Keyed.hash_of g.T.Keyed.key_of)
-          (sym (set_table (drained_items i.draining) i.table.items i.strays.items c.in-Table.at (length (drained_items i.draining) + c.in-Table.at) None (inside _ _ _ c.remove.ensures.here) refl (ap (λ (t : HopState g.row.T.Denot). t.items) c.remove.ensures.removed)))
+          (sym (set_table (drained_items i.draining) i.table.items i.strays.items c.in-Table.at (length (drained_items i.draining) + c.in-Table.at) None
+          (inside _ _ _ c.remove.ensures.here) refl (ap (λ (t : HopState g.row.T.Denot). t.items) c.remove.ensures.removed)))
           (apart_taken g.T.Keyed.hash_of g.T.Keyed.key_of _ (length (drained_items i.draining) + c.in-Table.at) c.self.invariant.apart);
       has_room = c.self.invariant.has_room;
     }
@@ -44,10 +45,11 @@ invariant_of-self-in-Table g c =
 pub invariant_of-self-in-Stray : goal.invariant_of-self-in-Stray
 invariant_of-self-in-Stray g c =
     let i = c.self.inside in
-    let swap = swapped i.strays.ok.0 c.swap_remove.new.self.ok.0 c.swap_remove.ensures.len c.swap_remove.ensures.by_index in
+    let swap = c.swap_remove.ensures.swapped in
     record {
-      apart = apart_shorter g.T.Keyed.hash_of g.T.Keyed.key_of (drained_items i.draining) i.table.items i.strays.items _ c.in-Stray.at swap (stray_inside _ _ _ (in_strays c.self.view_is c.in-Stray.at c.requires.1 c.in-Stray.ensures)) c.self.invariant.apart;
-      has_room = omega (arith, c.self.invariant.has_room, swap.shorter, c.swap_remove.ensures.capacity);
+      apart = apart_shorter g.T.Keyed.hash_of g.T.Keyed.key_of (drained_items i.draining) i.table.items i.strays.items _ c.in-Stray.at swap
+          (stray_inside _ _ _ (in_strays c.self.view_is c.in-Stray.at c.requires.1 c.in-Stray.ensures)) c.self.invariant.apart;
+      has_room = omega (arith, c.self.invariant.has_room, swap.shorter, c.swap_remove.ensures.room);
     }
 
 pub returns-in-Drained : goal.returns-in-Drained
@@ -62,7 +64,7 @@ returns-in-Drained g c =
     seen_removed c.self.view_is
     (removed g.T.Keyed.hash_of g.T.Keyed.key_of c.remove_drained.result c.args.place _ _ c.content_changes_at_one_key.ensures.taken c.self.invariant.apart there
     (set_drained (drained_items i.draining) i.table.items i.strays.items c.in-Drained.at c.args.place.number None spot.0 spot.1 gone)
-    refl c.remove_drained.ensures.stays fewer (more_room _ _ _ _ fewer))
+    (omega (arith, spot.0, spot.1)) refl refl c.remove_drained.ensures.stays fewer (more_room _ _ _ _ fewer))
 
 pub returns-in-Table : goal.returns-in-Table
 returns-in-Table g c =
@@ -74,14 +76,16 @@ returns-in-Table g c =
     seen_removed c.self.view_is
     (removed g.T.Keyed.hash_of g.T.Keyed.key_of c.remove.result c.args.place _ _ c.content_changes_at_one_key.ensures.taken c.self.invariant.apart there
     (set_table (drained_items i.draining) i.table.items i.strays.items c.in-Table.at c.args.place.number None spot.0 spot.1 (ap (λ (t : HopState g.row.T.Denot). t.items) gone))
-    (ap (λ (t : HopState g.row.T.Denot). t.k) gone) refl (same_number _) (same_number _))
+    (omega (arith, spot.0, spot.1)) refl (ap (λ (t : HopState g.row.T.Denot). t.k) gone) refl (same_number _) (same_number _))
 
 pub returns-in-Stray : goal.returns-in-Stray
 returns-in-Stray g c =
     let i = c.self.inside in
-    let swap = swapped i.strays.ok.0 c.swap_remove.new.self.ok.0 c.swap_remove.ensures.len c.swap_remove.ensures.by_index in
-    let shorter : vec_len c.swap_remove.new.self ≤ vec_len i.strays = omega (arith, c.swap_remove.ensures.len) in
+    let swap = c.swap_remove.ensures.swapped in
+    let shorter : length c.swap_remove.new.self.items ≤ length i.strays.items = omega (arith, swap.shorter) in
     seen_removed c.self.view_is
-    (removed_stray g.T.Keyed.hash_of g.T.Keyed.key_of i.strays.items _ c.in-Stray.at c.swap_remove.result c.args.place _ _ c.content_changes_at_one_key.ensures.taken c.content_has_each_entry.ensures.same
-    swap (stray_inside _ _ _ (in_strays c.self.view_is c.in-Stray.at c.requires.1 c.in-Stray.ensures)) c.swap_remove.ensures.value c.self.invariant.apart refl refl (number_stray c.self.view_is c.in-Stray.at c.in-Stray.ensures) refl refl (same_number _)
-    (one_stray_less _ _ _ _ _ c.swap_remove.ensures.capacity shorter))
+    (removed_stray g.T.Keyed.hash_of g.T.Keyed.key_of i.strays.items _ c.in-Stray.at c.swap_remove.result c.args.place _ _
+    c.content_changes_at_one_key.ensures.taken c.content_has_each_entry.ensures.same
+    swap (stray_inside _ _ _ (in_strays c.self.view_is c.in-Stray.at c.requires.1 c.in-Stray.ensures)) c.swap_remove.ensures.value
+    c.self.invariant.apart refl refl (number_stray c.self.view_is c.in-Stray.at c.in-Stray.ensures) refl refl c.swap_remove.ensures.items refl refl (same_number _)
+    (one_stray_less _ _ _ _ _ c.swap_remove.ensures.room shorter))

@@ -1,5 +1,4 @@
 use Rattle.std.proofs.Common.{ℕ, ◌+◌, ◌-◌, Some, None, is_some, length, get_or, refl, sym, ap, subst, ◌∙◌, arith}
-use Rattle.std.specs.Prelude.{vec_len, vec_capacity}
 use Rattle.mc_hop.specs.Cells.{filled}
 use Rattle.mc_hop.specs.Tables.{AreApart, HopState}
 use Rattle.mc_grow.specs.Parts.{drained_items}
@@ -14,7 +13,9 @@ update_drained-requires-clause-filled g c = ap is_some (in_drained c.self.view_i
 pub update_drained-requires-clause-keeps : goal.update_drained-requires-clause-keeps
 update_drained-requires-clause-keeps g c entry there =
     let spot = number_drained c.self.view_is c.in-Drained.ensures in
-    c.requires.keeps entry (seen_entry c.args.place c.self.view_is (ap (λ (n : ℕ). get_or (all (drained_items c.self.inside.draining) c.self.inside.table.items c.self.inside.strays.items) n None) spot.1 ∙ cell_drained _ _ _ c.in-Drained.at spot.0 ∙ there))
+    c.requires.keeps entry
+    (seen_entry c.args.place c.self.view_is
+    (ap (λ (n : ℕ). get_or (all (drained_items c.self.inside.draining) c.self.inside.table.items c.self.inside.strays.items) n None) spot.1 ∙ cell_drained _ _ _ c.in-Drained.at spot.0 ∙ there))
 
 pub update-requires-clause-filled : goal.update-requires-clause-filled
 update-requires-clause-filled g c = ap is_some (in_table c.self.view_is c.requires.filled.1 c.in-Table.ensures)
@@ -22,15 +23,19 @@ update-requires-clause-filled g c = ap is_some (in_table c.self.view_is c.requir
 pub update-requires-clause-keeps : goal.update-requires-clause-keeps
 update-requires-clause-keeps g c entry there =
     let spot = number_table c.self.view_is c.in-Table.ensures in
-    c.requires.keeps entry (seen_entry c.args.place c.self.view_is (ap (λ (n : ℕ). get_or (all (drained_items c.self.inside.draining) c.self.inside.table.items c.self.inside.strays.items) n None) spot.1 ∙ cell_table _ _ _ c.in-Table.at spot.0 ∙ there))
+    c.requires.keeps entry
+    (seen_entry c.args.place c.self.view_is
+    (ap (λ (n : ℕ). get_or (all (drained_items c.self.inside.draining) c.self.inside.table.items c.self.inside.strays.items) n None) spot.1 ∙ cell_table _ _ _ c.in-Table.at spot.0 ∙ there))
 
-pub update_stray-requires-clause-inside : goal.update_stray-requires-clause-inside
-update_stray-requires-clause-inside g c = omega (arith, stray_inside c.self.inside.strays.items c.in-Stray.at _ (in_strays c.self.view_is c.in-Stray.at c.requires.filled.1 c.in-Stray.ensures), c.self.inside.strays.ok.0)
+pub update-requires-in-Stray-clause-inside : goal.update-requires-in-Stray-clause-inside
+update-requires-in-Stray-clause-inside g c = stray_inside c.self.inside.strays.items c.in-Stray.at _ (in_strays c.self.view_is c.in-Stray.at c.requires.filled.1 c.in-Stray.ensures)
 
-pub update_stray-requires-clause-may : goal.update_stray-requires-clause-may
-update_stray-requires-clause-may g c entry there =
+pub update-requires-in-Stray-clause-keeps : goal.update-requires-in-Stray-clause-keeps
+update-requires-in-Stray-clause-keeps g c entry there =
     let spot = number_stray c.self.view_is c.in-Stray.at c.in-Stray.ensures in
-    (c.requires.keeps entry (seen_entry c.args.place c.self.view_is (ap (λ (n : ℕ). get_or (all (drained_items c.self.inside.draining) c.self.inside.table.items c.self.inside.strays.items) n None) spot ∙ cell_stray _ _ _ c.in-Stray.at ∙ there))).may_call
+    c.requires.keeps entry
+    (seen_entry c.args.place c.self.view_is
+    (ap (λ (n : ℕ). get_or (all (drained_items c.self.inside.draining) c.self.inside.table.items c.self.inside.strays.items) n None) spot ∙ cell_stray _ _ _ c.in-Stray.at ∙ there))
 
 pub invariant_of-self : goal.invariant_of-self
 invariant_of-self g c =
@@ -43,7 +48,8 @@ invariant_of-self g c =
       apart =
           subst (AreApart g.T.Keyed.hash_of g.T.Keyed.key_of)
           (sym (set_drained (drained_items i.draining) i.table.items i.strays.items c.in-Drained.at c.in-Drained.at (Some is.given) (inside _ _ _ here) refl is.changed))
-          (apart_changed g.T.Keyed.hash_of g.T.Keyed.key_of _ c.in-Drained.at c.requires.filled.0 is.given c.self.invariant.apart whole (keeps.same_hash (is.given, c.update_drained.result) is.called) (keeps.same_key (is.given, c.update_drained.result) is.called));
+          (apart_changed g.T.Keyed.hash_of g.T.Keyed.key_of _ c.in-Drained.at c.requires.filled.0 is.given c.self.invariant.apart whole
+          (keeps.same_hash (is.given, c.update_drained.result) is.called) (keeps.same_key (is.given, c.update_drained.result) is.called));
       has_room = omega (arith, c.self.invariant.has_room, ap filled is.changed ∙ filled-changed _ c.in-Drained.at c.requires.filled.0 is.given here);
     }
 
@@ -67,7 +73,7 @@ pub invariant_of-self-in-Stray : goal.invariant_of-self-in-Stray
 invariant_of-self-in-Stray g c =
     let i = c.self.inside in
     let here = in_strays c.self.view_is c.in-Stray.at c.requires.filled.1 c.in-Stray.ensures in
-    let is = c.update_stray.ensures.changed c.requires.filled.0 here in
+    let is = c.update-in-Stray.ensures.changed c.requires.filled.0 here in
     let keeps = c.requires.keeps c.requires.filled.0 c.requires.filled.1 in
     let number = length (drained_items i.draining) + (length i.table.items + c.in-Stray.at) in
     let whole = cell_stray (drained_items i.draining) i.table.items i.strays.items c.in-Stray.at ∙ here in
@@ -75,8 +81,9 @@ invariant_of-self-in-Stray g c =
       apart =
           subst (AreApart g.T.Keyed.hash_of g.T.Keyed.key_of)
           (sym (set_stray (drained_items i.draining) i.table.items i.strays.items c.in-Stray.at number (Some is.given) _ refl is.changed))
-          (apart_changed g.T.Keyed.hash_of g.T.Keyed.key_of _ number c.requires.filled.0 is.given c.self.invariant.apart whole (keeps.same_hash (is.given, c.update_stray.result) is.called) (keeps.same_key (is.given, c.update_stray.result) is.called));
-      has_room = omega (arith, c.self.invariant.has_room, c.update_stray.ensures.capacity, c.update_stray.ensures.len, i.strays.ok.0, c.update_stray.new.strays.ok.0);
+          (apart_changed g.T.Keyed.hash_of g.T.Keyed.key_of _ number c.requires.filled.0 is.given c.self.invariant.apart whole
+          (keeps.same_hash (is.given, c.update-in-Stray.result) is.called) (keeps.same_key (is.given, c.update-in-Stray.result) is.called));
+      has_room = omega (arith, c.self.invariant.has_room, c.update-in-Stray.ensures.room, c.update-in-Stray.ensures.len);
     }
 
 pub returns-in-Drained : goal.returns-in-Drained
@@ -87,11 +94,12 @@ returns-in-Drained g c entry there =
     let is = c.update_drained.ensures.changed entry here in
     let keeps = c.requires.keeps entry there in
     seen_updated c.self.view_is
-    (updated g.T.Keyed.hash_of g.T.Keyed.key_of entry is.given c.args.place _ _ c.content_changes_at_one_key.ensures.replaced c.self.invariant.apart (seen_entry c.args.place (sym c.self.view_is) there)
+    (updated g.T.Keyed.hash_of g.T.Keyed.key_of entry is.given c.args.place _ _ c.content_changes_at_one_key.ensures.replaced c.self.invariant.apart
+    (seen_entry c.args.place (sym c.self.view_is) there)
     (keeps.same_hash (is.given, c.update_drained.result) is.called) (keeps.same_key (is.given, c.update_drained.result) is.called) is.called
     (set_drained (drained_items i.draining) i.table.items i.strays.items c.in-Drained.at c.args.place.number (Some is.given) spot.0 spot.1 is.changed)
     refl c.update_drained.ensures.stays (ap filled is.changed ∙ filled-changed _ c.in-Drained.at entry is.given here)
-    (ap (λ (n : ℕ). vec_capacity i.strays - (vec_len i.strays + n)) (ap filled is.changed ∙ filled-changed _ c.in-Drained.at entry is.given here)))
+    (ap (λ (n : ℕ). i.strays.room - (length i.strays.items + n)) (ap filled is.changed ∙ filled-changed _ c.in-Drained.at entry is.given here)))
 
 pub returns-in-Table : goal.returns-in-Table
 returns-in-Table g c entry there =
@@ -112,10 +120,11 @@ returns-in-Stray g c entry there =
     let i = c.self.inside in
     let spot = number_stray c.self.view_is c.in-Stray.at c.in-Stray.ensures in
     let here = in_strays c.self.view_is c.in-Stray.at there c.in-Stray.ensures in
-    let is = c.update_stray.ensures.changed entry here in
+    let is = c.update-in-Stray.ensures.changed entry here in
     let keeps = c.requires.keeps entry there in
     seen_updated c.self.view_is
-    (updated g.T.Keyed.hash_of g.T.Keyed.key_of entry is.given c.args.place _ _ c.content_changes_at_one_key.ensures.replaced c.self.invariant.apart (seen_entry c.args.place (sym c.self.view_is) there)
-    (keeps.same_hash (is.given, c.update_stray.result) is.called) (keeps.same_key (is.given, c.update_stray.result) is.called) is.called
+    (updated g.T.Keyed.hash_of g.T.Keyed.key_of entry is.given c.args.place _ _ c.content_changes_at_one_key.ensures.replaced c.self.invariant.apart
+    (seen_entry c.args.place (sym c.self.view_is) there)
+    (keeps.same_hash (is.given, c.update-in-Stray.result) is.called) (keeps.same_key (is.given, c.update-in-Stray.result) is.called) is.called
     (set_stray (drained_items i.draining) i.table.items i.strays.items c.in-Stray.at c.args.place.number (Some is.given) _ spot is.changed)
-    refl refl refl (λ j. c.update_stray.ensures.capacity j - (c.update_stray.ensures.len j + filled (drained_items i.draining))))
+    refl refl refl (λ j. c.update-in-Stray.ensures.room j - (c.update-in-Stray.ensures.len j + filled (drained_items i.draining))))

@@ -8,4 +8,6 @@ pub invariant_of-self : goal.invariant_of-self
 invariant_of-self g c = rw c.set_word_in.ensures.numbers c.self.invariant
 
 pub returns : goal.returns
-returns g c = same_state (c.set_word_in.ensures.words ∙ ap (λ (l : List ℕ). slice_set l c.args.at c.args.word) (seen_words c.self.view_is)) (c.set_word_in.ensures.tags ∙ seen_tags c.self.view_is) (ap (map (item_of c.self.inside.items.items)) c.set_word_in.ensures.numbers ∙ seen_items c.self.view_is)
+returns g c =
+    same_state (c.set_word_in.ensures.words ∙ ap (λ (l : List ℕ). slice_set l c.args.at c.args.word) (seen_words c.self.view_is))
+    (c.set_word_in.ensures.tags ∙ seen_tags c.self.view_is) (ap (map (item_of c.self.inside.items.items)) c.set_word_in.ensures.numbers ∙ seen_items c.self.view_is)

@@ -21,7 +21,8 @@ returns-clause-content g c =
 pub returns-clause-gone : goal.returns-clause-gone
 returns-clause-gone g c =
     rw (c.set_word.ensures, c.take-entry.ensures.taken)
-    (gone_after g.T.Keyed.hash_of g.T.Keyed.key_of c.self.inside.cells.items c.args.at c.take-entry.result (alone _ _ _ _ _ c.self.invariant.table _ _ c.take-entry.ensures.here) (filled_inside c.self.inside.cells.items c.args.at c.take-entry.result c.take-entry.ensures.here))
+    (gone_after g.T.Keyed.hash_of g.T.Keyed.key_of c.self.inside.cells.items c.args.at c.take-entry.result
+    (alone _ _ _ _ _ c.self.invariant.table _ _ c.take-entry.ensures.here) (filled_inside c.self.inside.cells.items c.args.at c.take-entry.result c.take-entry.ensures.here))
 
 pub returns-clause-back : goal.returns-clause-back
 returns-clause-back g c =

@@ -23,7 +23,8 @@ returns g c entry there =
     let items = ap (λ (s : HopState g.row.T.Denot). s.items) c.self.view_is in
     let is = same_Some c.take-entry.result entry (sym here ∙ ap (λ (l : List (Option g.row.T.Denot)). get_or l c.args.at None) items ∙ there) in
     let keeps = c.requires.keeps c.take-entry.result (ap (λ (s : HopState g.row.T.Denot). get_or s.items c.args.at None) (sym c.self.view_is) ∙ here) in
-    let put = ap (λ (s : CellsState g.row.T.Denot). s.items) c.put.ensures ∙ ap (λ (s : CellsState g.row.T.Denot). set s.items c.args.at (Some changed.0)) c.take-entry.ensures.taken ∙ set-set c.self.inside.cells.items c.args.at None (Some changed.0) in
+    let put = ap (λ (s : CellsState g.row.T.Denot). s.items) c.put.ensures
+    ∙ ap (λ (s : CellsState g.row.T.Denot). set s.items c.args.at (Some changed.0)) c.take-entry.ensures.taken ∙ set-set c.self.inside.cells.items c.args.at None (Some changed.0) in
     let over = content-over g.T.Keyed.hash_of g.T.Keyed.key_of c.self.inside.cells.items c.args.at c.take-entry.result changed.0 here
     (keeps.same_hash changed c.change-entry.ensures) (keeps.same_key changed c.change-entry.ensures)
     (alone _ _ _ _ _ c.self.invariant.table _ _ here) (filled_inside c.self.inside.cells.items c.args.at c.take-entry.result here) in (

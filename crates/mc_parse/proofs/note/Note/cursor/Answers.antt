@@ -14,4 +14,5 @@ returns-in_err-exptime-clause-none c = λ greatest taken is _ unit len h.
 pub returns-clause-some : goal.returns-clause-some
 returns-clause-some c = λ greatest is.
     subst (λ cursor. IsFirst greatest cursor c.args.unread.now) (sym c.first.ensures)
-    (first_noted greatest c.args.self.now c.args.unread.now c.in-Ok.noted (c.in_ok-exptime.exptime, c.in_ok-exptime.keys, c.in_ok-exptime.with_unique) c.in-Ok.is (sym c.retrieval_in.ensures ∙ c.in_ok-exptime.was) is)
+    (first_noted greatest c.args.self.now c.args.unread.now c.in-Ok.noted
+    (c.in_ok-exptime.exptime, c.in_ok-exptime.keys, c.in_ok-exptime.with_unique) c.in-Ok.is (sym c.retrieval_in.ensures ∙ c.in_ok-exptime.was) is)

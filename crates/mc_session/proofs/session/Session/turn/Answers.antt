@@ -7,24 +7,34 @@ use Rattle.mc_session.proofs.session.Session.turn.Goals as goal
 
 pub go_on-requires : goal.go_on-requires
 go_on-requires g c =
-    may_go_on g.S.Steps c.args.now c.no_spelling_begins_another.ensures (the_view c.self.inside) c.args.store.now c.answer.new.store (unit_of c.peek_after-found.result) c.peek_after-found.ensures.found c.self.invariant c.if-not-self.false
+    may_go_on g.S.Steps c.args.now c.no_spelling_begins_another.ensures (the_view c.self.inside) c.args.store.now c.answer.new.store
+    (unit_of c.peek_after-found.result) c.peek_after-found.ensures.found c.self.invariant c.if-not-self.false
     c.in-Ok-Some.next c.answer.new.out
-    (tells_next g.S.Steps c.args.now (unit_of c.peek_after-found.result) c.args.store.now c.answer.new.store c.self.inside.out c.answer.new.out c.in-Ok-Some.field-0 c.in-Ok-Some.next c.in-Ok-Some.field-0-is c.in-Ok-Some.ensures.some)
+    (tells_next g.S.Steps c.args.now
+    (unit_of c.peek_after-found.result) c.args.store.now c.answer.new.store c.self.inside.out c.answer.new.out c.in-Ok-Some.field-0 c.in-Ok-Some.next
+    c.in-Ok-Some.field-0-is c.in-Ok-Some.ensures.some)
 
 pub returns-in-Ok-Some-clause-did : goal.returns-in-Ok-Some-clause-did
 returns-in-Ok-Some-clause-did g c = λ _.
-    rw (← c.self.view_is) (takes_told g.S.Steps c.args.now c.no_spelling_begins_another.ensures (the_view c.self.inside) c.args.store.now c.answer.new.store (unit_of c.peek_after-found.result) c.peek_after-found.ensures.found c.self.invariant c.if-not-self.false
+    rw (← c.self.view_is)
+    (takes_told g.S.Steps c.args.now c.no_spelling_begins_another.ensures (the_view c.self.inside) c.args.store.now c.answer.new.store
+    (unit_of c.peek_after-found.result) c.peek_after-found.ensures.found c.self.invariant c.if-not-self.false
     c.in-Ok-Some.next c.answer.new.out
-    (tells_next g.S.Steps c.args.now (unit_of c.peek_after-found.result) c.args.store.now c.answer.new.store c.self.inside.out c.answer.new.out c.in-Ok-Some.field-0 c.in-Ok-Some.next c.in-Ok-Some.field-0-is c.in-Ok-Some.ensures.some)
+    (tells_next g.S.Steps c.args.now
+    (unit_of c.peek_after-found.result) c.args.store.now c.answer.new.store c.self.inside.out c.answer.new.out c.in-Ok-Some.field-0 c.in-Ok-Some.next
+    c.in-Ok-Some.field-0-is c.in-Ok-Some.ensures.some)
     c.go_on.new.self c.go_on.ensures)
 
 pub returns-in-Err-clause-due : goal.returns-in-Err-clause-due
 returns-in-Err-clause-due g c =
-    rw (← c.self.view_is) (c.if-not-self.false, λ none. c.in-Err.ensures.due (none_found c.self.inside.feed c.self.inside.taken (unit_of c.peek_after-found.result) c.peek_after-found.ensures.found none))
+    rw (← c.self.view_is)
+    (c.if-not-self.false, λ none. c.in-Err.ensures.due (none_found c.self.inside.feed c.self.inside.taken (unit_of c.peek_after-found.result) c.peek_after-found.ensures.found none))
 
 pub returns-in-Err-clause-decided : goal.returns-in-Err-clause-decided
 returns-in-Err-clause-decided g c = λ decided.
-    rw (← c.self.view_is) (decides_next g.S.Steps c.args.now c.no_spelling_begins_another.ensures (the_view c.self.inside) c.args.store.now c.answer.new.store (unit_of c.peek_after-found.result) c.peek_after-found.ensures.found c.self.invariant c.if-not-self.false
+    rw (← c.self.view_is)
+    (decides_next g.S.Steps c.args.now c.no_spelling_begins_another.ensures (the_view c.self.inside) c.args.store.now c.answer.new.store
+    (unit_of c.peek_after-found.result) c.peek_after-found.ensures.found c.self.invariant c.if-not-self.false
     (c.in-Err.ensures.decided decided))
 
 pub returns-in-Err-clause-err : goal.returns-in-Err-clause-err

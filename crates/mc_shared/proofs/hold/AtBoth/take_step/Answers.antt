@@ -26,7 +26,8 @@ pub begin_step-requires-clause-stands : goal.begin_step-requires-clause-stands
 begin_step-requires-clause-stands g c =
     let hash_of = g.K.KeyHash.hash_of in
     let ask = c.args.ask.now in
-    let h = subst (λ (t : ShelfState × DeskState). HoldsBoth hash_of c.self.inside.shared.now c.self.inside.seat c.self.inside.at t.0.content t.1) (λ i. (sym c.deref_mut.ensures.value i, sym c.deref_mut-2.ensures.value i)) c.self.invariant in
+    let h = subst (λ (t : ShelfState × DeskState). HoldsBoth hash_of c.self.inside.shared.now c.self.inside.seat c.self.inside.at t.0.content t.1)
+    (λ i. (sym c.deref_mut.ensures.value i, sym c.deref_mut-2.ensures.value i)) c.self.invariant in
     let asked = subst (λ (s : SharedState g.row.K.Denot). IsAsked hash_of s ask) (sym (ap (λ h. h.shared) c.self.view_is)) c.requires.asked in
     both_stand hash_of c.self.inside.shared.now c.self.inside.seat c.self.inside.at c.deref_mut.result.now.content c.deref_mut-2.result.now (key_of ask.step.now)
     (asked.own ∙ sym (ap (λ h. h.at) c.self.view_is ∙ c.requires.at)) h
@@ -37,7 +38,8 @@ raise_for-word-requires-clause-may g c =
     let board = c.shared.inside.board.shared in
     let ask = c.args.ask.now in
     let old = c.deref_mut.result.now.content in
-    let h = subst (λ (t : ShelfState × DeskState). HoldsBoth hash_of c.self.inside.shared.now c.self.inside.seat c.self.inside.at t.0.content t.1) (λ i. (sym c.deref_mut.ensures.value i, sym c.deref_mut-2.ensures.value i)) c.self.invariant in
+    let h = subst (λ (t : ShelfState × DeskState). HoldsBoth hash_of c.self.inside.shared.now c.self.inside.seat c.self.inside.at t.0.content t.1)
+    (λ i. (sym c.deref_mut.ensures.value i, sym c.deref_mut-2.ensures.value i)) c.self.invariant in
     let asked = subst (λ (s : SharedState g.row.K.Denot). IsAsked hash_of s ask) (sym (c.shared.view_is ∙ ap (λ h. h.shared) c.self.view_is)) c.requires.asked in
     let was : c.len-before.result ≡ len old.items = c.len-before.ensures.count ∙ ap (λ (s : ShelfState). len s.content.items) (c.deref.ensures ∙ sym c.deref_mut.ensures.value) in
     let most = c.len-before.ensures.most in
@@ -63,7 +65,8 @@ decide-requires g c =
     let reply = told_next plan.next begun in
     let what = Stepped step ask.moment reply in
     let inv = c.shared.invariant in
-    let h = subst (λ (t : ShelfState × DeskState). HoldsBoth hash_of c.self.inside.shared.now seat at t.0.content t.1) (λ i. (sym c.deref_mut.ensures.value i, sym c.deref_mut-2.ensures.value i)) c.self.invariant in
+    let h = subst (λ (t : ShelfState × DeskState). HoldsBoth hash_of c.self.inside.shared.now seat at t.0.content t.1)
+    (λ i. (sym c.deref_mut.ensures.value i, sym c.deref_mut-2.ensures.value i)) c.self.invariant in
     let asked = subst (λ (s : SharedState g.row.K.Denot). IsAsked hash_of s ask) (sym (c.shared.view_is ∙ ap (λ h. h.shared) c.self.view_is)) c.requires.asked in
     let own = asked.own ∙ sym (ap (λ h. h.at) c.self.view_is ∙ c.requires.at) in
     let taken : IsTaken step ask.moment (began.hash_of key) old from reply new to =
@@ -81,7 +84,9 @@ decide-requires g c =
     let left_is : left ≡ (added + len old.items) - len new.items = ap (λ (k : ℕ). k - len new.items) (omega (arith, was)) in
     let held = loaded (holds_two seat.me.0.past began.shelves (OfDesk from) at (OfShelf old)) (replicate added word) in
     record {
-      may = subst (λ (t : DeskState × ShelfState). MayDecide board.table_id board.key.value c.raise_for-word.new.seat c.shared.inside.settings.shelves began (OfDesk t.0) what ((at, OfShelf (finished plan begun step t.1.content)) ∷ [])
+      may = subst
+          (λ (t : DeskState × ShelfState). MayDecide board.table_id board.key.value c.raise_for-word.new.seat c.shared.inside.settings.shelves began
+          (OfDesk t.0) what ((at, OfShelf (finished plan begun step t.1.content)) ∷ [])
           (replicate ((c.len-before.result + added) - len (finished plan begun step t.1.content).items) word)) (λ i. (sym c.of.ensures i, sym c.deref-in-Ok.ensures i))
           (at_both hash_of board.table_id board.key.value c.self.inside.shared.now seat c.raise_for-word.new.seat at c.shared.inside.settings.shelves old from (OfDesk to) what ((at, OfShelf new) ∷ [])
           (replicate added word) (replicate left word) c.shared.view_is inv.0 shelves h c.raise_for-word.ensures.seat c.raise_for-word.ensures.view
@@ -112,7 +117,9 @@ overflow_sub-had g c =
     let most = enough began at c.shared.invariant.0.divides key own old new c.in-Ok.ensures.took.others.items added _ refl adds in omega (arith, was, is, most)
   where
     is_left : (g : _) → (c : After-len g) → c.len.result ≡ len (finished c.in-Ok.plan c.in-Ok.begun c.args.ask.now.step.now c.begin_step.new.shelf.content).items
-    is_left g c = c.len.ensures.count ∙ ap (λ (s : ShelfState). len s.content.items) c.deref-in-Ok-2.ensures ∙ ap (λ (s : ShelfContent). len s.items) (c.finish-reply.ensures.content ∙ ap (λ (s : ShelfState). finished c.in-Ok.plan c.in-Ok.begun c.args.ask.now.step.now s.content) c.deref_mut-in-Ok.ensures.value)
+    is_left g c = c.len.ensures.count ∙ ap (λ (s : ShelfState). len s.content.items) c.deref-in-Ok-2.ensures
+        ∙ ap (λ (s : ShelfContent). len s.items)
+        (c.finish-reply.ensures.content ∙ ap (λ (s : ShelfState). finished c.in-Ok.plan c.in-Ok.begun c.args.ask.now.step.now s.content) c.deref_mut-in-Ok.ensures.value)
 
 pub lower_all-requires-clause-named : goal.lower_all-requires-clause-named
 lower_all-requires-clause-named g c =
@@ -124,8 +131,11 @@ lower_all-requires-clause-named g c =
     let new = finished c.in-Ok.plan c.in-Ok.begun step c.deref-in-Ok.result.now.content in
     let all : ℕ = c.len-before.result + c.raise_for-word.result.1 in
     let content = c.finish-reply.ensures.content ∙ ap (λ (s : ShelfState). finished c.in-Ok.plan c.in-Ok.begun step s.content) (c.deref_mut-in-Ok.ensures.value ∙ sym c.deref-in-Ok.ensures) in
-    let left : c.len.result ≡ len new.items = c.len.ensures.count ∙ ap (λ (s : ShelfState). len s.content.items) c.deref-in-Ok-2.ensures ∙ ap (λ (s : ShelfContent). len s.items) content in
-    ([], all_named c.raise_for-word.new.seat.me c.decide.new.seat.me what ((inside.at, OfShelf new) ∷ []) c.raise_for-word.result.0 (all - len new.items) (all - c.len.result) c.decide.ensures.view.0 (ap (λ (k : ℕ). all - k) (sym left)))
+    let left : c.len.result ≡ len new.items = c.len.ensures.count ∙ ap (λ (s : ShelfState). len s.content.items) c.deref-in-Ok-2.ensures ∙ ap (λ (s : ShelfContent). len s.items) content in (
+      [],
+      all_named c.raise_for-word.new.seat.me c.decide.new.seat.me what ((inside.at, OfShelf new) ∷ []) c.raise_for-word.result.0 (all - len new.items)
+          (all - c.len.result) c.decide.ensures.view.0 (ap (λ (k : ℕ). all - k) (sym left)),
+    )
 
 pub give-requires-clause-held : goal.give-requires-clause-held
 give-requires-clause-held g c =
@@ -138,7 +148,9 @@ give-requires-clause-held g c =
     let all : ℕ = c.len-before.result + c.raise_for-word.result.1 in
     let content = c.finish-reply.ensures.content ∙ ap (λ (s : ShelfState). finished c.in-Ok.plan c.in-Ok.begun step s.content) (c.deref_mut-in-Ok.ensures.value ∙ sym c.deref-in-Ok.ensures) in
     let left : c.len.result ≡ len new.items = c.len.ensures.count ∙ ap (λ (s : ShelfState). len s.content.items) c.deref-in-Ok-2.ensures ∙ ap (λ (s : ShelfContent). len s.items) content in
-    let last = last_held inside.seat.me c.raise_for-word.new.seat.me c.decide.new.seat.me c.lower_all.new.seat.me p inside.shared.now.began.settings.shelves (OfDesk inside.desk.value) inside.at (OfShelf inside.shelf.value.content) (OfShelf new) what
+    let last =
+    last_held inside.seat.me c.raise_for-word.new.seat.me c.decide.new.seat.me c.lower_all.new.seat.me p inside.shared.now.began.settings.shelves
+    (OfDesk inside.desk.value) inside.at (OfShelf inside.shelf.value.content) (OfShelf new) what
     (replicate c.raise_for-word.result.1 c.raise_for-word.result.0) c.raise_for-word.result.0 (all - len new.items) (all - c.len.result)
     c.self.invariant.held c.raise_for-word.ensures.view c.decide.ensures.view.0 (ap (λ (k : ℕ). all - k) (sym left)) c.lower_all.ensures.view in
     let q = call p (entry_of p what) in
@@ -156,7 +168,9 @@ invariant_of-result g c =
     let all : ℕ = c.len-before.result + c.raise_for-word.result.1 in
     let content = c.finish-reply.ensures.content ∙ ap (λ (s : ShelfState). finished c.in-Ok.plan c.in-Ok.begun step s.content) (c.deref_mut-in-Ok.ensures.value ∙ sym c.deref-in-Ok.ensures) in
     let left : c.len.result ≡ len new.items = c.len.ensures.count ∙ ap (λ (s : ShelfState). len s.content.items) c.deref-in-Ok-2.ensures ∙ ap (λ (s : ShelfContent). len s.items) content in
-    let last = last_held inside.seat.me c.raise_for-word.new.seat.me c.decide.new.seat.me c.lower_all.new.seat.me p inside.shared.now.began.settings.shelves (OfDesk inside.desk.value) inside.at (OfShelf inside.shelf.value.content) (OfShelf new) what
+    let last =
+    last_held inside.seat.me c.raise_for-word.new.seat.me c.decide.new.seat.me c.lower_all.new.seat.me p inside.shared.now.began.settings.shelves
+    (OfDesk inside.desk.value) inside.at (OfShelf inside.shelf.value.content) (OfShelf new) what
     (replicate c.raise_for-word.result.1 c.raise_for-word.result.0) c.raise_for-word.result.0 (all - len new.items) (all - c.len.result)
     c.self.invariant.held c.raise_for-word.ensures.view c.decide.ensures.view.0 (ap (λ (k : ℕ). all - k) (sym left)) c.lower_all.ensures.view in
     let q = call p (entry_of p what) in
@@ -173,19 +187,28 @@ returns-in-Ok g c =
     let all : ℕ = c.len-before.result + c.raise_for-word.result.1 in
     let content = c.finish-reply.ensures.content ∙ ap (λ (s : ShelfState). finished c.in-Ok.plan c.in-Ok.begun step s.content) (c.deref_mut-in-Ok.ensures.value ∙ sym c.deref-in-Ok.ensures) in
     let left : c.len.result ≡ len new.items = c.len.ensures.count ∙ ap (λ (s : ShelfState). len s.content.items) c.deref-in-Ok-2.ensures ∙ ap (λ (s : ShelfContent). len s.items) content in
-    let last = last_held inside.seat.me c.raise_for-word.new.seat.me c.decide.new.seat.me c.lower_all.new.seat.me p inside.shared.now.began.settings.shelves (OfDesk inside.desk.value) inside.at (OfShelf inside.shelf.value.content) (OfShelf new) what
+    let last =
+    last_held inside.seat.me c.raise_for-word.new.seat.me c.decide.new.seat.me c.lower_all.new.seat.me p inside.shared.now.began.settings.shelves
+    (OfDesk inside.desk.value) inside.at (OfShelf inside.shelf.value.content) (OfShelf new) what
     (replicate c.raise_for-word.result.1 c.raise_for-word.result.0) c.raise_for-word.result.0 (all - len new.items) (all - c.len.result)
     c.self.invariant.held c.raise_for-word.ensures.view c.decide.ensures.view.0 (ap (λ (k : ℕ). all - k) (sym left)) c.lower_all.ensures.view in
     let q = call p (entry_of p what) in
     let hash_of = g.K.KeyHash.hash_of in
     let self = c.args.self in
     let rests = one_rests c.lower_all.new.seat.me c.give.new.seat.me q inside.at (OfShelf new) last c.give.ensures.view.0 in
-    let then = decided_one inside.seat.me c.raise_for-word.new.seat.me c.decide.new.seat.me p inside.shared.now.began.settings.shelves (OfDesk inside.desk.value) inside.at (OfShelf inside.shelf.value.content) (OfShelf new) what
-    (replicate c.raise_for-word.result.1 c.raise_for-word.result.0) (replicate (all - len new.items) c.raise_for-word.result.0) c.self.invariant.held c.raise_for-word.ensures.view c.decide.ensures.view.0 in
-    let seats = c.give.ensures.seat.0 ∙ (c.lower_all.ensures.seat.0 ∙ (c.decide.ensures.seat.0 ∙ (c.raise_for-word.ensures.seat.0 ∙ (c.self.invariant.own ∙ ap (λ h. h.shared.table) c.self.view_is)))) in
-    let agrees = subst (λ (t : StoreState g.row.K.Denot × Past). Agrees (start_of hash_of t.0) (call t.1 (entry_of t.1 what))) (λ i. (((c.shared.view_is ∙ ap (λ h. h.shared) c.self.view_is) i).began, (c.self.view_is i).past))
+    let then =
+    decided_one inside.seat.me c.raise_for-word.new.seat.me c.decide.new.seat.me p inside.shared.now.began.settings.shelves
+    (OfDesk inside.desk.value) inside.at (OfShelf inside.shelf.value.content) (OfShelf new) what
+    (replicate c.raise_for-word.result.1 c.raise_for-word.result.0)
+    (replicate (all - len new.items) c.raise_for-word.result.0) c.self.invariant.held c.raise_for-word.ensures.view c.decide.ensures.view.0 in
+    let seats = c.give.ensures.seat.0
+    ∙ (c.lower_all.ensures.seat.0 ∙ (c.decide.ensures.seat.0 ∙ (c.raise_for-word.ensures.seat.0 ∙ (c.self.invariant.own ∙ ap (λ h. h.shared.table) c.self.view_is)))) in
+    let agrees =
+    subst (λ (t : StoreState g.row.K.Denot × Past). Agrees (start_of hash_of t.0) (call t.1 (entry_of t.1 what)))
+    (λ i. (((c.shared.view_is ∙ ap (λ h. h.shared) c.self.view_is) i).began, (c.self.view_is i).past))
     (subst (Agrees (start_of hash_of c.shared.inside.board.shared.key.value)) (ap (λ (m : Mine). m.0.past) then) c.decide.ensures.view.1) in
-    came_out (start_of hash_of self.shared.began) (caller_of self.shared self.past) (record { table = c.give.new.seat.table_id; past = c.give.new.seat.me.0.past }) step c.args.ask.now.moment c.finish-reply.result told Refuses
+    came_out (start_of hash_of self.shared.began) (caller_of self.shared self.past)
+    (record { table = c.give.new.seat.table_id; past = c.give.new.seat.me.0.past }) step c.args.ask.now.moment c.finish-reply.result told Refuses
     seats (ap (λ (m : Mine). m.0.past) rests ∙ (λ i. call (c.self.view_is i).past (entry_of (c.self.view_is i).past what))) c.finish-reply.ensures.reply agrees
 
 pub returns-in-Err : goal.returns-in-Err
@@ -193,7 +216,8 @@ returns-in-Err g c =
     let hash_of = g.K.KeyHash.hash_of in
     let inside = c.self.inside in
     let ask = c.args.ask.now in
-    let h = subst (λ (t : ShelfState × DeskState). HoldsBoth hash_of inside.shared.now inside.seat inside.at t.0.content t.1) (λ i. (sym c.deref_mut.ensures.value i, sym c.deref_mut-2.ensures.value i)) c.self.invariant in
+    let h = subst (λ (t : ShelfState × DeskState). HoldsBoth hash_of inside.shared.now inside.seat inside.at t.0.content t.1)
+    (λ i. (sym c.deref_mut.ensures.value i, sym c.deref_mut-2.ensures.value i)) c.self.invariant in
     let asked = subst (λ (s : SharedState g.row.K.Denot). IsAsked hash_of s ask) (sym (ap (λ h. h.shared) c.self.view_is)) c.requires.asked in
     let own = asked.own ∙ sym (ap (λ h. h.at) c.self.view_is ∙ c.requires.at) in
     let new : CallerState = record { table = c.give-in-Err-2.new.seat.table_id; past = c.give-in-Err-2.new.seat.me.0.past } in

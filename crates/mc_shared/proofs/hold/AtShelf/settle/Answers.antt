@@ -36,7 +36,10 @@ decide-requires g c =
     subst (λ h. IsSettled step ask.moment h old reply new) (c.requires.plan.hashed ∙ asked.hashed) (c.settle-reply.ensures step ask.moment plan) in
     let what = Stepped step ask.moment reply in
     let held = holds_one c.self.inside.seat.me.0.past at (OfShelf old) in
-    let alone = λ (m : Plain) (part : IsShelfOf began.hash_of began.shelves m at old). c.steps_change_one_shelf.ensures.settled began.hash_of began.shelves at m step ask.moment reply old new asked.on_key own part settled in
+    let alone =
+    λ (m : Plain)
+    (part : IsShelfOf began.hash_of began.shelves m at old).
+    c.steps_change_one_shelf.ensures.settled began.hash_of began.shelves at m step ask.moment reply old new asked.on_key own part settled in
     record {
       may = subst (λ (s : ShelfState). MayDecide board.table_id board.key.value c.self.inside.seat at began (OfShelf s.content) what [] []) (sym c.of.ensures)
           (at_shelf hash_of board.table_id board.key.value c.self.inside.shared.now c.self.inside.seat at old (OfShelf new) what [] []

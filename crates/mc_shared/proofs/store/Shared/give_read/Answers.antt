@@ -35,10 +35,15 @@ decide-requires g c =
     subst (λ h. IsSettled step ask.moment h old reply new) asked.hashed c.settle_read.ensures in
     let what = Stepped step ask.moment reply in
     let held = holds_one seat.me.0.past at (OfShelf old) in
-    let alone = λ (m : Plain) (part : IsShelfOf began.hash_of began.shelves m at old). c.steps_change_one_shelf.ensures.settled began.hash_of began.shelves at m step ask.moment reply old new asked.on_key asked.own part settled in
+    let alone =
+    λ (m : Plain)
+    (part : IsShelfOf began.hash_of began.shelves m at old).
+    c.steps_change_one_shelf.ensures.settled began.hash_of began.shelves at m step ask.moment reply old new asked.on_key asked.own part settled in
     let told = c.deref_mut.ensures.value ∙ sym (c.of-before.ensures ∙ c.deref.ensures) in
     record {
-      may = subst (λ (t : ShelfState × ShelfState). MayDecide board.table_id board.key.value seat at began (OfShelf t.0.content) (Stepped step ask.moment (hit_of (stood t.1.content step ask.moment))) [] []) (λ i. (sym c.of.ensures i, told i))
+      may = subst
+          (λ (t : ShelfState × ShelfState). MayDecide board.table_id board.key.value seat at began (OfShelf t.0.content)
+          (Stepped step ask.moment (hit_of (stood t.1.content step ask.moment))) [] []) (λ i. (sym c.of.ensures i, told i))
           (at_shelf hash_of board.table_id board.key.value c.args.self.now seat at old (OfShelf new) what [] []
           c.self.view_is inv.0
           (subst (λ (s : ShelfState). HoldsShelf hash_of c.args.self.now seat at s.content) (sym here) c.requires.holds)

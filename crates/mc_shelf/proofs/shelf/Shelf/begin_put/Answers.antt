@@ -1,12 +1,12 @@
 use Rattle.std.proofs.Common.{◌≡◌, List, ℕ, Option, Some, is_some, length, arith, sym, ap, subst, ◌∙◌}
 use Rattle.std.specs.FinMap.{get}
-use Rattle.mc_slab.specs.Classes.{class_holding}
+use Rattle.mc_slab.specs.Needs.{need_for}
 use Rattle.mc_command.specs.Commands.{key_of}
 use Rattle.mc_command.specs.Plain.{Entry, block_of, charge}
 use Rattle.mc_shelf.specs.States.{EntryState, ShelfState}
 use Rattle.mc_shelf.specs.Places.{IsChanged, items_of}
 use Rattle.mc_shelf.specs.Plans.{IsPut, drafted}
-use Rattle.mc_shelf.proofs.ShelfLemmas.{changed_put, content_of, put_again, put_new}
+use Rattle.mc_shelf.proofs.ShelfLemmas.{changed_put, content_of, known_sought, put_again, put_new}
 use Rattle.mc_shelf.proofs.shelf.Shelf.begin_put.Goals as goal
 
 -- the item whose block is still to be written was put
@@ -35,14 +35,14 @@ returns-in-Some-clause-left c =
     sym (ap (λ (s : ShelfState). get s.content.items key) c.self.view_is) ∙ ap (λ (k : List ℕ). get (items_of c.self.inside.index) k) (sym c.key.ensures) ∙ c.in-Some.ensures.item in
     record {
       short = c.requires.can.short;
-      known = record {
+      sought = known_sought _ key c.args.write.now.hash c.args.write.now.place record {
         hash = put.hash;
         place = c.requires.can.known.place ∙ ap (λ (o : Option Entry). is_some o) stood ∙ sym (ap (λ (o : Option Entry). is_some o) put.item);
       };
-      ready = record { item = item; there = put.item; class = ap class_holding same };
+      ready = record { item = item; there = put.item; need = ap need_for same };
     }
 
 pub returns-in-None-clause-put : goal.returns-in-None-clause-put
 returns-in-None-clause-put c =
     let write = c.args.write.now in
-    put_new (key_of c.args.step.now) write.hash c.args.self.now.content c.args.chunk (drafted write.draft (block_of c.args.step.now) c.args.unique write.moment)
+    put_new (key_of c.args.step.now) write.hash c.args.self.now.content c.args.chunks (drafted write.draft (block_of c.args.step.now) c.args.unique write.moment)

@@ -24,7 +24,7 @@ give-requires c =
     let first = c.in-Some.ensures.next in
     let are = out_after c.args.self.now.content.items (items_of inside.index) c.args.desk.now c.loop-number.desk c.loop-number.invariant.gives c.requires in
     entry_out c.counts_follow.ensures.remove inside.greatest inside.cut inside.index c.remove-entry.new.self c.remove-entry.result c.remove-entry.ensures.item c.remove-entry.ensures.removed
-    c.loop-number.desk c.loop-number.desk c.into_chunk.result c.into_chunk.ensures.chunk c.into_chunk.ensures.is_class are
+    c.loop-number.desk c.loop-number.desk c.into_chunks.result c.into_chunks.ensures.need c.into_chunks.ensures.is_need are
 
 pub loop-number-smaller : goal.loop-number-smaller
 loop-number-smaller c =
@@ -43,7 +43,7 @@ loop-number-preserved c =
       cut = held.cut;
       gives = gives_both c.args.self.now.content.items (items_of inside.index) (items_of c.remove-entry.new.self) c.args.desk.now c.loop-number.desk c.give.new.self held.gives
           (entry_gives c.counts_follow.ensures.remove inside.greatest inside.cut inside.index c.remove-entry.new.self c.remove-entry.result c.remove-entry.ensures.item c.remove-entry.ensures.removed
-          c.loop-number.desk c.give.new.self c.into_chunk.result c.into_chunk.ensures.chunk c.into_chunk.ensures.is_class are c.give.ensures.given c.give.ensures.slab);
+          c.loop-number.desk c.give.new.self c.into_chunks.result c.into_chunks.ensures.need c.into_chunks.ensures.is_need are c.give.ensures.given c.give.ensures.slab);
       below = below_removed IsNone inside.index c.loop-number.at c.in-Some.number c.in-Some.place first held.below c.remove-entry.new.self c.remove-entry.ensures.lower;
     }
 

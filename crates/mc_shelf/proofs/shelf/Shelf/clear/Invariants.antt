@@ -7,7 +7,7 @@ use Rattle.mc_shelf.proofs.shelf.Shelf.clear.Given as goal
 
 abbrev pub invariant-loop-number : goal.invariant-loop-number
 invariant-loop-number l = record {
-  most : l.self-inside.greatest ≤ 1048576;
+  most : l.self-inside.greatest ≤ 8388608;
   greatest : l.self-inside.greatest ≡ l.fn.self.content.greatest;
   cut : l.self-inside.cut ≡ l.fn.self.content.cut;
   gives : GivesFor l.fn.self.content.items (items_of l.self-inside.index) l.fn.desk l.desk;

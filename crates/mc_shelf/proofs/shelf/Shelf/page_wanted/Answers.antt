@@ -1,21 +1,32 @@
-use Rattle.std.proofs.Common.{sym, subst, arith, ◌∙◌}
-use Rattle.mc_shelf.specs.Plans.{WantsPage}
-use Rattle.mc_shelf.proofs.TakesLemmas.{drafts}
+use Rattle.std.proofs.Common.{◌≡◌, ℕ, sym, ap, subst, arith, ◌∙◌}
+use Rattle.mc_slab.specs.Needs.{NeedState}
+use Rattle.mc_slab.specs.Slabs.{WantsPages, pages_wanted}
+use Rattle.mc_shelf.specs.Plans.{back_at}
+use Rattle.mc_shelf.proofs.TakesLemmas.{drafts, some_more}
 use Rattle.mc_shelf.proofs.shelf.Shelf.page_wanted.Goals as goal
 
-pub class_for-class-requires : goal.class_for-class-requires
-class_for-class-requires c =
+pub need_for-need-requires : goal.need_for-need-requires
+need_for-need-requires c =
     let plan = c.requires.2 in
     (drafts c.args.self.now.content c.requires.0 c.requires.1 c.in-Write.charge c.in-Write.field-1 (sym c.in-Write.is ∙ plan.next)).fits
 
-pub returns-then-wants_page-clause-wanted : goal.returns-then-wants_page-clause-wanted
-returns-then-wants_page-clause-wanted c = (
-  record {
-    size = c.in-Write.charge;
-    draft = c.in-Write.field-1;
-    writes_it = c.in-Write.is;
-    number = λ spent. let less = c.is_spent.ensures.left c.if-is_spent.false in omega (arith, less, spent);
-    page = subst (WantsPage c.args.desk.now.slab) c.class_for-class.ensures.value (c.wants_page.ensures.0 c.if-wants_page.true);
-  },
-  c.class_for-class.ensures.value,
-)
+pub returns-clause-wanted : goal.returns-clause-wanted
+returns-clause-wanted c =
+    let plan = c.args.plan.now in
+    let shelf = c.args.self.now.content in
+    let slab = c.args.desk.now.slab in
+    let need = c.need_for-need.result in
+    let need_is = c.need_for-need.ensures.value in
+    let back = c.back.ensures.value in
+    some_more _ _ c.wanted.result c.wanted.ensures.wanted (λ wanted is.
+    let wants = subst (λ (n : ℕ). WantsPages slab need n) back is.0 in
+    let same = is.1 ∙ ap (λ (n : ℕ). record { class = need.class; pages = pages_wanted slab need n }) back in (
+      record {
+        size = c.in-Write.charge;
+        draft = c.in-Write.field-1;
+        writes_it = c.in-Write.is;
+        number = λ spent. let less = c.is_spent.ensures.left c.if-is_spent.false in omega (arith, less, spent);
+        pages = subst (λ (n : NeedState). WantsPages slab n (back_at shelf plan.key plan.moment n)) need_is wants;
+      },
+      subst (λ (n : NeedState). wanted ≡ record { class = n.class; pages = pages_wanted slab n (back_at shelf plan.key plan.moment n) }) need_is same,
+    ))

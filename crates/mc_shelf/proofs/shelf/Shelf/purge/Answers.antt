@@ -22,7 +22,7 @@ give-requires c =
     let first = c.in-Some.ensures.next in
     let are = out_after c.args.self.now.content.items (content_of inside.greatest inside.cut inside.index).items c.args.desk.now c.loop-number.desk c.loop-number.invariant.swept.gives c.requires in
     entry_out c.counts_follow.ensures.remove inside.greatest inside.cut inside.index c.remove-entry.new.self c.remove-entry.result c.remove-entry.ensures.item c.remove-entry.ensures.removed
-    c.loop-number.desk c.loop-number.desk c.into_chunk.result c.into_chunk.ensures.chunk c.into_chunk.ensures.is_class are
+    c.loop-number.desk c.loop-number.desk c.into_chunks.result c.into_chunks.ensures.need c.into_chunks.ensures.is_need are
 
 pub loop-number-smaller-then-is_gone : goal.loop-number-smaller-then-is_gone
 loop-number-smaller-then-is_gone c =
@@ -42,7 +42,7 @@ loop-number-preserved-then-is_gone c =
       swept = swept_both c.args.now c.args.self.now.content (content_of inside.greatest inside.cut inside.index) (content_of inside.greatest inside.cut c.remove-entry.new.self) c.args.desk.now
           c.loop-number.desk c.give.new.self held.swept
           (swept_one c.counts_follow.ensures.remove inside.greatest inside.cut inside.index c.remove-entry.new.self c.remove-entry.result c.remove-entry.ensures.item c.remove-entry.ensures.removed
-          c.loop-number.desk c.give.new.self c.into_chunk.result c.into_chunk.ensures.chunk c.into_chunk.ensures.is_class are c.args.now gone c.give.ensures.given c.give.ensures.slab);
+          c.loop-number.desk c.give.new.self c.into_chunks.result c.into_chunks.ensures.need c.into_chunks.ensures.is_need are c.args.now gone c.give.ensures.given c.give.ensures.slab);
       below = below_removed (Stays inside.cut c.args.now c.loop-number.soonest) inside.index c.loop-number.at c.in-Some.number c.in-Some.place first held.below c.remove-entry.new.self
           c.remove-entry.ensures.lower;
     }

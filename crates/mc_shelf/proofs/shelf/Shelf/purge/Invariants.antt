@@ -6,7 +6,7 @@ use Rattle.mc_shelf.proofs.shelf.Shelf.purge.Given as goal
 
 abbrev pub invariant-loop-number : goal.invariant-loop-number
 invariant-loop-number l = record {
-  most : l.self-inside.greatest ≤ 1048576;
+  most : l.self-inside.greatest ≤ 8388608;
   swept : Swept l.now l.fn.self.content (content_of l.self-inside.greatest l.self-inside.cut l.self-inside.index) l.fn.desk l.desk;
   below : Below l.self-inside.index l.at (Stays l.self-inside.cut l.now l.soonest);
 }

@@ -5,7 +5,7 @@ use Rattle.mc_command.specs.Plain.{block_of}
 use Rattle.mc_shelf.specs.States.{EntryState, ShelfState}
 use Rattle.mc_grow.specs.Indexes.{entry_at}
 use Rattle.mc_shelf.specs.Places.{IsChanged}
-use Rattle.mc_shelf.specs.Plans.{block_beside, block_in, drafted, made_block}
+use Rattle.mc_shelf.specs.Plans.{block_beside, block_in, drafted, item_in, made_block}
 use Rattle.mc_shelf.proofs.ShelfLemmas.{changed_put, inserted_put}
 use Rattle.mc_shelf.proofs.shelf.Shelf.put_whole.Goals as goal
 
@@ -26,9 +26,8 @@ returns-in-Some-clause-put c =
     let step = c.args.step.now in
     let old = c.args.self.now.content in
     let item = drafted write.draft (block_beside old step write.draft) c.args.unique write.moment in
-    let beside : c.block_in-old.result.now ≡ block_in (get old.items (key_of step)) =
-    c.block_in-old.ensures.value
-    ∙ ap block_in ((c.found.ensures c.key.result.now c.find_again-place.ensures).item
+    let beside : block_in (item_in c.found-old.result) ≡ block_in (get old.items (key_of step)) =
+    ap block_in ((c.found-old.ensures c.key.result.now c.find_again-place.ensures).item
     ∙ ap (λ (s : ShelfState). get s.content.items c.key.result.now) c.self.view_is
     ∙ ap (λ (k : List ℕ). get old.items k) c.key.ensures) in
     let entry : c.entry_in-entry.result ≡ record { hash = write.hash; key = key_of step; item = item } =
@@ -48,9 +47,8 @@ returns-in-None-clause-put c =
     let step = c.args.step.now in
     let old = c.args.self.now.content in
     let item = drafted write.draft (block_beside old step write.draft) c.args.unique write.moment in
-    let beside : c.block_in-old.result.now ≡ block_in (get old.items (key_of step)) =
-    c.block_in-old.ensures.value
-    ∙ ap block_in ((c.found.ensures c.key.result.now c.find_again-place.ensures).item
+    let beside : block_in (item_in c.found-old.result) ≡ block_in (get old.items (key_of step)) =
+    ap block_in ((c.found-old.ensures c.key.result.now c.find_again-place.ensures).item
     ∙ ap (λ (s : ShelfState). get s.content.items c.key.result.now) c.self.view_is
     ∙ ap (λ (k : List ℕ). get old.items k) c.key.ensures) in
     let entry : c.entry_in-entry.result ≡ record { hash = write.hash; key = key_of step; item = item } =

@@ -2,11 +2,10 @@ use Rattle.std.proofs.Common.{◌≡◌, ◌⊎◌, inl, inr, List, ℕ, None, a
 use Rattle.mc_command.specs.declared.row.Body.{Body}
 use Rattle.mc_command.specs.declared.row.Body.TheVariants.{Given, Appended, Prepended}
 use Rattle.mc_command.specs.Commands.{key_of}
-use Rattle.mc_command.specs.Plain.{Entry, block_of, charge}
-use Rattle.mc_slab.specs.Classes.{class_holding}
+use Rattle.mc_command.specs.Plain.{Entry, block_need, block_of}
 use Rattle.mc_shelf.specs.States.{ShelfContent}
 use Rattle.mc_shelf.specs.Plans.{IsPut, drafted, own_block, with_item}
-use Rattle.mc_shelf.proofs.ShelfLemmas.{put_over}
+use Rattle.mc_shelf.proofs.ShelfLemmas.{known_sought, put_over}
 use Rattle.mc_shelf.proofs.shelf.Shelf.rewrite.Goals as goal
 
 -- a body that is no number's has the step's own block
@@ -32,11 +31,11 @@ returns-in-Given-clause-left c =
     let block = own_step c.args.write.now.draft.body (block_of step) c.in-Given.is in
     record {
       short = c.requires.key;
-      known = c.requires.known;
+      sought = known_sought _ (key_of step) c.args.write.now.hash c.args.write.now.place c.requires.known;
       ready = record {
         item = there.item;
         there = there.there;
-        class = there.class ∙ ap (λ (l : List ℕ). class_holding (charge (key_of step) l)) block;
+        need = there.need ∙ ap (λ (l : List ℕ). block_need (key_of step) l) block;
       };
     }
 

@@ -1,9 +1,10 @@
-use Rattle.std.proofs.Common.{◌≡◌, ℕ, Err, Result, rules, sym, subst, ◌∙◌}
+use Rattle.std.proofs.Common.{◌≡◌, ℕ, List, Err, Result, rules, sym, subst, ◌∙◌}
 use Rattle.mc_command.specs.declared.reply.Reply.{Reply}
 use Rattle.mc_command.specs.declared.step.StepFault.{StepFault}
 use Rattle.mc_command.specs.declared.step.StepFault.TheVariants.{NoMemory, NumbersSpent}
 use Rattle.mc_shelf.specs.States.{ShelfContent}
-use Rattle.mc_shelf.specs.Plans.{IsSpent, IsTaken}
+use Rattle.mc_command.specs.Commands.{key_of}
+use Rattle.mc_shelf.specs.Plans.{CanWrite, IsSpent, IsTaken, NeedsPages}
 use Rattle.mc_shelf.proofs.TakesLemmas.{is_spent}
 use Rattle.mc_shelf.proofs.RefusalLemmas.{can_wants, needs_can, spent_told, taken_not_spent, wants_not_spent, writes_some}
 use Rattle.mc_shelf.proofs.shelf.Shelf.step.Goals as goal
@@ -15,7 +16,9 @@ pub returns-in_err-make_room-clause-refused : goal.returns-in_err-make_room-clau
 returns-in_err-make_room-clause-refused c e s at =
     let plan = c.in_ok-plan.ensures.plan in
     can_wants c.counts_follow.ensures.insert c.counts_follow.ensures.remove c.args.step.now c.args.now c.args.self.now.content c.args.desk.now c.requires.look.on_key c.make_room.ensures.slab
-    c.plan.ensures.most c.in_ok-plan.plan.next plan.next c.in_err-make_room.ensures.refused s at
+    c.in_ok-plan.plan.next plan.next
+    (subst (λ (k : List ℕ). CanWrite c.in_ok-plan.plan.next c.args.self.now.content k c.args.now c.args.desk.now) plan.key
+    (subst (λ (n : ℕ). CanWrite c.in_ok-plan.plan.next c.args.self.now.content c.in_ok-plan.plan.key n c.args.desk.now) plan.moment c.in_err-make_room.ensures.refused)) s at
 
 pub returns-in_err-make_room-clause-spent : goal.returns-in_err-make_room-clause-spent
 returns-in_err-make_room-clause-spent c =
@@ -28,8 +31,10 @@ pub returns-clause-refused : goal.returns-clause-refused
 returns-clause-refused c e s at =
     let plan = c.in_ok-plan.ensures.plan in
     can_wants c.counts_follow.ensures.insert c.counts_follow.ensures.remove c.args.step.now c.args.now c.args.self.now.content c.args.desk.now c.requires.look.on_key c.make_room.ensures.slab
-    c.plan.ensures.most c.in_ok-plan.plan.next plan.next
-    (needs_can c.in_ok-plan.plan.next c.args.desk.now (c.apply.ensures.refused e)) s at
+    c.in_ok-plan.plan.next plan.next
+    (needs_can c.in_ok-plan.plan.next c.args.self.now.content (key_of c.args.step.now) c.args.now c.args.desk.now
+    (subst (λ (t : ShelfContent). NeedsPages c.in_ok-plan.plan.next t (key_of c.args.step.now) c.args.now c.args.desk.now) c.make_room.ensures.content
+    (subst (λ (n : ℕ). NeedsPages c.in_ok-plan.plan.next c.make_room.new.self.content (key_of c.args.step.now) n c.args.desk.now) plan.moment (c.apply.ensures.refused e)))) s at
 
 pub returns-clause-spent : goal.returns-clause-spent
 returns-clause-spent c =

@@ -15,4 +15,5 @@ invariant_of-result g c =
 pub returns-clause-plain : goal.returns-clause-plain
 returns-clause-plain g c =
     plain_is c.args.settings refl refl
-    (new_parts {hash_of = g.K.KeyHash.hash_of c.args.hasher} (some_shelf c.args.settings.shelves c.args.settings.shelves_fit) c.counts_follow.ensures.empty c.in_ok-shelves.ensures.content c.in_ok-desk.ensures)
+    (new_parts {hash_of = g.K.KeyHash.hash_of c.args.hasher}
+    (some_shelf c.args.settings.shelves c.args.settings.shelves_fit) c.counts_follow.ensures.empty c.in_ok-shelves.ensures.content c.in_ok-desk.ensures)

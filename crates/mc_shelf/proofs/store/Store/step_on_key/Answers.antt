@@ -44,8 +44,10 @@ returns g c =
     let stands = is_at step mine (parts.each at c.index_mut-shelf.result.now here) parts.account in
     rw (← c.self.view_is)
     (record {
-      took = if_ok c.step.result c.step.ensures.took (λ reply took. (took_step s.settings parts here step c.args.now c.step.new.self c.step.new.desk mine hashed c.requires.on_key c.steps_change_one_shelf.ensures.taken took, (refl, refl)));
+      took = if_ok c.step.result c.step.ensures.took
+          (λ reply took. (took_step s.settings parts here step c.args.now c.step.new.self c.step.new.desk mine hashed c.requires.on_key c.steps_change_one_shelf.ensures.taken took, (refl, refl)));
       spent = (λ e. c.step.ensures.spent.0 e state stands, λ e. c.step.ensures.spent.1 (spent_there step c.args.now c.requires.on_key stands e));
-      err = if_err c.step.result c.step.ensures.err (λ same. record { plain = plain_after s.settings parts c.step.new.self (goes_nowhere s.settings parts here same.0 same.1); settings = refl; hasher = refl });
+      err = if_err c.step.result c.step.ensures.err
+          (λ same. record { plain = plain_after s.settings parts c.step.new.self (goes_nowhere s.settings parts here same.0 same.1); settings = refl; hasher = refl });
       refused = λ e. c.step.ensures.refused e state stands;
     })

@@ -1,6 +1,6 @@
-use Rattle.std.proofs.Common.{subst, ap, ◌∙◌, arith, ◌<◌, Ok, take}
+use Rattle.std.proofs.Common.{subst, ap, ◌∙◌, arith, ◌<◌, Ok, take, false}
 use Rattle.mc_session.specs.Turns.{sent}
-use Rattle.mc_workers.specs.Links.{Takes, took}
+use Rattle.mc_workers.specs.Links.{Takes, asked, took}
 use Rattle.mc_workers.specs.Guests.{GuestState}
 use Rattle.mc_workers.proofs.VisitLemmas.{writes_front}
 use Rattle.mc_workers.proofs.guest.Guest.write_out.Goals as goal
@@ -13,4 +13,4 @@ returns-else-taken-eq0-clause-writes g c =
     let some : 0 < n = omega arith in
     writes_front _ _ n bytes (c.out.ensures ∙ ap (λ (s : GuestState). s.session.out) c.self.view_is) some t.0
     (c.sent.ensures ∙ ap (λ (s : GuestState). sent s.session n) c.self.view_is)
-    (t.1 ∙ ap (λ (s : GuestState). took s.link (take n bytes)) c.self.view_is)
+    (t.1 ∙ ap (λ (s : GuestState). took (asked false s.link) (take n bytes)) c.self.view_is)

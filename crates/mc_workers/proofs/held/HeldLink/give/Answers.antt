@@ -1,7 +1,7 @@
-use Rattle.std.proofs.Common.{◌<◌, ℕ, List, length, take, get_or, ap, ◌∙◌, arith, Some}
+use Rattle.std.proofs.Common.{◌<◌, ℕ, List, length, take, get_or, ap, ◌∙◌, arith, Some, true}
 use Rattle.std.proofs.Math.ListN.{set}
 use Rattle.mc_workers.proofs.LinkLemmas.{given_one, some_set}
-use Rattle.mc_workers.specs.Links.{LinkState, gave}
+use Rattle.mc_workers.specs.Links.{LinkState, asked, gave}
 use Rattle.mc_workers.proofs.held.HeldLink.give.Goals as goal
 
 pub returns : goal.returns
@@ -11,7 +11,7 @@ returns c =
     let inside : s.at < length s.input.now = omega arith in
     let room : 0 < length piece = omega arith in (
       some_set piece _ room,
-      ap (λ (given : List ℕ). record { given = Some given; taken = Some s.output.items; faults = s.calls; is_ended = s.is_ended })
+      ap (λ (given : List ℕ). record { given = Some given; taken = Some s.output.items; faults = s.calls; is_ended = s.is_ended; was_read = true })
           (given_one s.input.now piece s.at inside room)
-          ∙ ap (λ (l : LinkState). gave l (take 1 (set piece 0 (get_or s.input.now s.at 0)))) c.self.view_is,
+          ∙ ap (λ (l : LinkState). gave (asked true l) (take 1 (set piece 0 (get_or s.input.now s.at 0)))) c.self.view_is,
     )

@@ -12,5 +12,6 @@ loop-preserved g c = goes_both _ _ _ _ c.loop.invariant (goes_at _ _ c.now-now.e
 
 pub returns-in-Closed-clause-calls : goal.returns-in-Closed-clause-calls
 returns-in-Closed-clause-calls g c =
-    subst (λ (p : Past). Further (g.C.Clock.may_give c.args.self.now.clock.now) c.args.caller.past p) (sym (c.into_caller.ensures.same.1 ∙ ap (λ (s : AskingState g.row.K.Denot). s.past) c.into_steps.ensures))
+    subst (λ (p : Past). Further (g.C.Clock.may_give c.args.self.now.clock.now) c.args.caller.past p)
+    (sym (c.into_caller.ensures.same.1 ∙ ap (λ (s : AskingState g.row.K.Denot). s.past) c.into_steps.ensures))
     (goes_both _ _ _ _ c.loop.invariant (goes_at _ _ c.now-now.ensures _ _ c.make_round.ensures)).calls

@@ -7,7 +7,8 @@ use Rattle.mc_world.proofs.world.World.give_turn.Goals as goal
 
 pub invariant_of-self : goal.invariant_of-self
 invariant_of-self g c =
-    result_stands c.grammar.ensures g.K.KeyHash.hash_of (state_of c.self.inside.parts) (state_of c.turn.new.self) (Turn c.args.session) c.turn.result c.self.invariant c.turn.ensures.ok c.turn.ensures.err
+    result_stands c.grammar.ensures g.K.KeyHash.hash_of (state_of c.self.inside.parts) (state_of c.turn.new.self)
+    (Turn c.args.session) c.turn.result c.self.invariant c.turn.ensures.ok c.turn.ensures.err
 
 pub returns-clause-ok : goal.returns-clause-ok
 returns-clause-ok g c =

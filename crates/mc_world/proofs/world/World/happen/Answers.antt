@@ -6,7 +6,8 @@ use Rattle.mc_world.proofs.world.World.happen.Goals as goal
 
 pub invariant_of-self : goal.invariant_of-self
 invariant_of-self g c =
-    result_stands c.grammar.ensures g.K.KeyHash.hash_of (state_of c.self.inside.parts) (state_of c.happen.new.self) c.args.event.now c.happen.result c.self.invariant c.happen.ensures.ok c.happen.ensures.err
+    result_stands c.grammar.ensures g.K.KeyHash.hash_of (state_of c.self.inside.parts)
+    (state_of c.happen.new.self) c.args.event.now c.happen.result c.self.invariant c.happen.ensures.ok c.happen.ensures.err
 
 pub returns-clause-ok : goal.returns-clause-ok
 returns-clause-ok g c =

@@ -11,4 +11,5 @@ returns-in-Err-clause-err g c =
 
 pub loop-at-preserved : goal.loop-at-preserved
 loop-at-preserved g c =
-    told_on g.K.KeyHash.hash_of c.args.self.now c.loop-at.self c.happen.new.self c.args.events.now c.loop-at.at c.index-events-at.result c.index-events-at.is c.loop-at-test.true c.loop-at.invariant c.in_default.ensures.ok
+    told_on g.K.KeyHash.hash_of c.args.self.now c.loop-at.self c.happen.new.self c.args.events.now c.loop-at.at c.index-events-at.result c.index-events-at.is
+    c.loop-at-test.true c.loop-at.invariant c.in_default.ensures.ok

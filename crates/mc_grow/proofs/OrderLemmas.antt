@@ -1,0 +1,406 @@
+-- The order of the strays: what a search finds in it, and what comes of it when a stray comes or goes.
+use Rattle.std.proofs.Common.{◌≡◌, ℕ, zero, suc, ◌+◌, ◌-◌, ◌<◌, ◌≤◌, ◌/◌, ◌^◌, Bool, true, false, if◌then◌else◌, List, [], ◌∷◌, ◌++◌, Some, None, map, length, length-append}
+use Rattle.std.proofs.Common.{length-set, get_or, set, refl, sym, ap, subst, ◌∙◌, arith, ⊎_elim}
+use Rattle.std.proofs.lemmas.Bool.{cases_eq, cases_lt}
+use Rattle.std.proofs.lemmas.Option.{none-some}
+use Rattle.std.proofs.lemmas.Cmp.{nat_list_cmp_total, tied_itself}
+use Rattle.std.proofs.lemmas.Map.Lookups.{exact_bytes}
+use Rattle.std.proofs.Math.Nat.{pow-succ'}
+use Rattle.std.proofs.lemmas.List.{get_or-map, get_or_append_left, get_or_push, get_or_read, length-map, map-append, get_or-set_same, get_or-set_other}
+use Rattle.std.proofs.lemmas.List.Edits.{get_or-insert_at, get_or-insert_below, get_or-insert_above, get_or-remove_below, get_or-remove_above, length-insert, length-remove}
+use Rattle.std.specs.Ordering.{nat_cmp, ordering_reverse}
+use Rattle.std.specs.declared.cmp.Ordering.{Ordering}
+use Rattle.std.specs.declared.cmp.Ordering.TheVariants.{Less, Equal, Greater}
+use Rattle.std.specs.Cmp.Lexicographic.{slice_cmp}
+use Rattle.std.specs.List.{insert}
+use Rattle.mc_hop.specs.Links.{IsSwapped}
+use Rattle.mc_hop.specs.Tables.{IsAbsent, IsAt}
+use Rattle.mc_grow.specs.Indexes.{IndexState, binary_digits, digits_in, most_reads}
+use Rattle.mc_grow.specs.Strays.{IsBefore, IsGap, IsOrder, forgotten, key_by, keys_in}
+use Rattle.mc_grow.proofs.PartLemmas.{same_Some, stray_inside, stray_is}
+
+-- ---- one hash and key before another
+
+less-equal : (o : Ordering) → o ≡ Less → o ≡ Equal → ⊥
+less-equal o e f = cc
+
+not_before_itself : (key : List ℕ) → IsBefore key key → ⊥
+not_before_itself key before = less-equal (slice_cmp nat_cmp key key) before (tied_itself nat_list_cmp_total key)
+
+pub turned : (key other : List ℕ) → slice_cmp nat_cmp key other ≡ Greater → IsBefore other key
+turned key other e = nat_list_cmp_total.antisymm other key ∙ ap ordering_reverse e
+
+carry : {a b c d : List ℕ} → a ≡ b → c ≡ d → IsBefore b d → IsBefore a c
+carry e f before = (λ i. slice_cmp nat_cmp (e i) (f i)) ∙ before
+
+-- ---- a search
+
+module _ (keys : List (List ℕ)) (order : List ℕ) (o : IsOrder keys order) where
+  abbrev at_place : ℕ → List ℕ
+  at_place = key_by keys order
+
+  places_apart : (p q : ℕ) → p < length order → q < length order → at_place p ≡ at_place q → p ≡ q
+  places_apart p q l m e =
+      ⊎_elim
+      (λ (less : p < q). absurd (not_before_itself (at_place q) (carry (sym e) refl (o.rises p q less m))))
+      (λ (more : q ≤ p).
+      ⊎_elim
+      (λ (same : p ≡ q). same)
+      (λ (d : p ≡ q → ⊥). absurd (not_before_itself (at_place p) (carry e refl (o.rises q p (omega (arith, more, d)) l))))
+      (cases_eq p q))
+      (cases_lt p q)
+
+  numbers_apart : (p q : ℕ) → p < length order → q < length order → get_or order p 0 ≡ get_or order q 0 → p ≡ q
+  numbers_apart p q l m e = places_apart p q l m (ap (λ (n : ℕ). get_or keys n []) e)
+
+  pub all_before : (middle : ℕ) (key : List ℕ) → middle < length order → IsBefore (at_place middle) key → (p : ℕ) → p < middle + 1 → IsBefore (at_place p) key
+  all_before middle key inside before p l =
+      ⊎_elim
+      (λ (same : p ≡ middle). carry (ap at_place same) refl before)
+      (λ (d : p ≡ middle → ⊥). nat_list_cmp_total.trans (at_place p) (at_place middle) key (o.rises p middle (omega (arith, d, l)) inside) before)
+      (cases_eq p middle)
+
+  pub all_behind : (middle : ℕ) (key : List ℕ) → IsBefore key (at_place middle) → (p : ℕ) → middle ≤ p → p < length order → IsBefore key (at_place p)
+  all_behind middle key before p l inside =
+      ⊎_elim
+      (λ (same : p ≡ middle). carry refl (ap at_place same) before)
+      (λ (d : p ≡ middle → ⊥). nat_list_cmp_total.trans key (at_place middle) (at_place p) before (o.rises middle p (omega (arith, d, l)) inside))
+      (cases_eq p middle)
+
+  none_in_gap : (key : List ℕ) (place : ℕ) → IsGap keys order key place → (n : ℕ) → n < length keys → get_or keys n [] ≡ key → ⊥
+  none_in_gap key place gap n l e =
+      let p = o.each n l in
+      let is : at_place p.0 ≡ key = ap (λ (m : ℕ). get_or keys m []) p.2 ∙ e in
+      ⊎_elim
+      (λ (less : p.0 < place). not_before_itself key (carry (sym is) refl (gap.before p.0 less)))
+      (λ (more : place ≤ p.0). not_before_itself key (carry refl (sym is) (gap.behind p.0 more p.1)))
+      (cases_lt p.0 place)
+
+  pub its_number : (place number : ℕ) → place < length order → number < length keys → at_place place ≡ get_or keys number [] → get_or order place 0 ≡ number
+  its_number place number l m e =
+      let p = o.each number m in
+      ap (λ (q : ℕ). get_or order q 0) (places_apart place p.0 l p.1 (e ∙ sym (ap (λ (n : ℕ). get_or keys n []) p.2))) ∙ p.2
+
+-- ---- a stray comes
+
+module _ (keys : List (List ℕ)) (order : List ℕ) (key : List ℕ) (place : ℕ) (o : IsOrder keys order) (gap : IsGap keys order key place) where
+  abbrev more_keys : List (List ℕ)
+  more_keys = keys ++ (key ∷ [])
+
+  abbrev longer : List ℕ
+  longer = insert order place (length keys)
+
+  in_front : (p : ℕ) → p < place → (get_or longer p 0 ≡ get_or order p 0) × (key_by more_keys longer p ≡ key_by keys order p)
+  in_front p l =
+      let number : get_or longer p 0 ≡ get_or order p 0 = get_or-insert_below order place (length keys) 0 p l gap.inside in
+      (number, ap (λ (n : ℕ). get_or more_keys n []) number ∙ get_or_append_left keys (key ∷ []) [] (get_or order p 0) (o.inside p (omega (arith, l, gap.inside))))
+
+  at_gap : (get_or longer place 0 ≡ length keys) × (key_by more_keys longer place ≡ key)
+  at_gap =
+      let number : get_or longer place 0 ≡ length keys = get_or-insert_at order place (length keys) 0 gap.inside in
+      (number, ap (λ (n : ℕ). get_or more_keys n []) number ∙ get_or_push keys key [] (length keys) refl)
+
+  in_back : (p : ℕ) → place ≤ p → p < length order → (get_or longer (p + 1) 0 ≡ get_or order p 0) × (key_by more_keys longer (p + 1) ≡ key_by keys order p)
+  in_back p l m =
+      let number : get_or longer (p + 1) 0 ≡ get_or order p 0 = get_or-insert_above order place (length keys) 0 p l gap.inside in
+      (number, ap (λ (n : ℕ). get_or more_keys n []) number ∙ get_or_append_left keys (key ∷ []) [] (get_or order p 0) (o.inside p m))
+
+  -- which of the three a place is
+  data Part (p : ℕ) : Type 0 where
+    front : p < place → Part p
+    gap_itself : p ≡ place → Part p
+    back : (q : ℕ) → p ≡ q + 1 → place ≤ q → q < length order → Part p
+
+  part_of : (p : ℕ) → p < length longer → Part p
+  part_of p l =
+      ⊎_elim
+      (λ (less : p < place). front less)
+      (λ (more : place ≤ p).
+      ⊎_elim (λ (same : p ≡ place). gap_itself same)
+      (λ (d : p ≡ place → ⊥). back (p - 1) (omega (arith, more, d)) (omega (arith, more, d)) (omega (arith, more, d, l, length-insert order place (length keys) gap.inside)))
+      (cases_eq p place))
+      (cases_lt p place)
+
+  key_from : (p q : ℕ) → p ≡ q → key_by more_keys longer p ≡ key_by more_keys longer q
+  key_from p q e = ap (λ (n : ℕ). key_by more_keys longer n) e
+
+  rises_on : (p q : ℕ) → p < q → Part p → Part q → IsBefore (key_by more_keys longer p) (key_by more_keys longer q)
+  rises_on p q l (front a) (front b) = carry (in_front p a).1 (in_front q b).1 (o.rises p q l (omega (arith, b, gap.inside)))
+  rises_on p q l (front a) (gap_itself e) = carry (in_front p a).1 (key_from q place e ∙ at_gap.1) (gap.before p a)
+  rises_on p q l (front a) (back r e b m) = carry (in_front p a).1 (key_from q (r + 1) e ∙ (in_back r b m).1) (o.rises p r (omega (arith, a, b)) m)
+  rises_on p q l (gap_itself e) (front b) = absurd (omega (arith, e, b, l))
+  rises_on p q l (gap_itself e) (gap_itself f) = absurd (omega (arith, e, f, l))
+  rises_on p q l (gap_itself e) (back r f b m) = carry (key_from p place e ∙ at_gap.1) (key_from q (r + 1) f ∙ (in_back r b m).1) (gap.behind r b m)
+  rises_on p q l (back s d a k) (front b) = absurd (omega (arith, d, a, b, l))
+  rises_on p q l (back s d a k) (gap_itself f) = absurd (omega (arith, d, a, f, l))
+  rises_on p q l (back s d a k) (back r f b m) = carry (key_from p (s + 1) d ∙ (in_back s a k).1) (key_from q (r + 1) f ∙ (in_back r b m).1) (o.rises s r (omega (arith, d, f, l)) m)
+
+  inside_now : (p : ℕ) → Part p → get_or longer p 0 < length keys + 1
+  inside_now p (front a) = omega (arith, (in_front p a).0, o.inside p (omega (arith, a, gap.inside)))
+  inside_now p (gap_itself e) = omega (arith, ap (λ (n : ℕ). get_or longer n 0) e, at_gap.0)
+  inside_now p (back q e b m) = omega (arith, ap (λ (n : ℕ). get_or longer n 0) e, (in_back q b m).0, o.inside q m)
+
+  each_now : (n : ℕ) → n < length keys + 1 → (p : ℕ) × (p < length longer) × (get_or longer p 0 ≡ n)
+  each_now n l =
+      let size = length-insert order place (length keys) gap.inside in
+      ⊎_elim
+      (λ (its : n ≡ length keys). (place, omega (arith, size, gap.inside), at_gap.0 ∙ sym its))
+      (λ (d : n ≡ length keys → ⊥).
+      let p = o.each n (omega (arith, d, l)) in
+      ⊎_elim
+      (λ (less : p.0 < place). (p.0, omega (arith, size, p.1), (in_front p.0 less).0 ∙ p.2))
+      (λ (more : place ≤ p.0). (p.0 + 1, omega (arith, size, p.1), (in_back p.0 more p.1).0 ∙ p.2))
+      (cases_lt p.0 place))
+      (cases_eq n (length keys))
+
+  pub order_more : IsOrder more_keys longer
+  order_more =
+      let size = length-insert order place (length keys) gap.inside in
+      let many = length-append keys (key ∷ []) in
+      record {
+        same_length = omega (arith, size, many, o.same_length);
+        inside = λ p l. omega (arith, many, inside_now p (part_of p l));
+        each = λ n l. each_now n (omega (arith, many, l));
+        rises = λ p q l m. rises_on p q l (part_of p (omega (arith, l, m))) (part_of q m);
+      }
+
+-- ---- a stray goes
+
+module _ (keys less : List (List ℕ)) (order : List ℕ) (number place last : ℕ) (o : IsOrder keys order) (swap : IsSwapped keys less number)
+    (inside : number < length keys) (place_in : place < length order) (there : get_or order place 0 ≡ number) (last_in : last < length order) (last_there : get_or order last 0 ≡ length keys - 1) where
+  abbrev middle : List ℕ
+  middle = set order last (get_or order place 0)
+
+  -- where a place was, and where one is now
+  abbrev skip : ℕ → ℕ
+  skip p = p + (1 - (place - p))
+
+  abbrev unskip : ℕ → ℕ
+  unskip r = r - (1 - (place + 1 - r))
+
+  sizes : (length middle ≡ length order) × (length (forgotten order place last) + 1 ≡ length order)
+  sizes =
+      let one = length-set order last (get_or order place 0) in
+      (one, length-remove middle place (omega (arith, one, place_in)) ∙ one)
+
+  read : (p : ℕ) → get_or (forgotten order place last) p 0 ≡ get_or middle (skip p) 0
+  read p =
+      let fits : place < length middle = omega (arith, sizes.0, place_in) in
+      ⊎_elim
+      (λ (l : p < place). get_or-remove_below middle place 0 p l fits ∙ ap (λ (n : ℕ). get_or middle n 0) {x = p} {y = skip p} (omega (arith, l)))
+      (λ (g : place ≤ p). get_or-remove_above middle place 0 p g fits ∙ ap (λ (n : ℕ). get_or middle n 0) {x = p + 1} {y = skip p} (omega (arith, g)))
+      (cases_lt p place)
+
+  not_last : (r : ℕ) → r ≡ last → (r ≡ place → ⊥) → number + 1 < length keys
+  not_last r e d =
+      ⊎_elim
+      (λ (its : number ≡ length keys - 1). absurd (d (e ∙ sym (numbers_apart keys order o place last place_in last_in (there ∙ its ∙ sym last_there)))))
+      (λ (n : number ≡ length keys - 1 → ⊥). omega (arith, n, inside))
+      (cases_eq number (length keys - 1))
+
+  -- what stands at a place that stays: its number then and now, and its hash and key
+  stays : (r : ℕ) → r < length order → (r ≡ place → ⊥) → (get_or middle r 0 < length less) × (get_or less (get_or middle r 0) [] ≡ key_by keys order r)
+  stays r l d =
+      ⊎_elim
+      (λ (e : r ≡ last).
+      let more : number + 1 < length keys = not_last r e d in
+      let is : get_or middle r 0 ≡ number = ap (λ (n : ℕ). get_or middle n 0) e ∙ get_or-set_same order last (get_or order place 0) 0 last_in ∙ there in (
+        omega (arith, is, more, swap.shorter),
+        ap (λ (n : ℕ). get_or less n []) is ∙ swap.last [] more ∙ ap (λ (n : ℕ). get_or keys n []) (sym last_there) ∙ ap (λ (n : ℕ). key_by keys order n) (sym e),
+      ))
+      (λ (n : r ≡ last → ⊥).
+      let is : get_or middle r 0 ≡ get_or order r 0 = get_or-set_other order last r (get_or order place 0) 0 n in
+      let other : get_or order r 0 ≡ number → ⊥ = λ f. d (numbers_apart keys order o r place l place_in (f ∙ sym there)) in
+      let before : get_or order r 0 ≡ length keys - 1 → ⊥ = λ f. n (numbers_apart keys order o r last l last_in (f ∙ sym last_there)) in
+      let more : get_or order r 0 + 1 < length keys = omega (arith, before, o.inside r l) in (
+        omega (arith, is, more, swap.shorter),
+        ap (λ (m : ℕ). get_or less m []) is ∙ swap.others (get_or order r 0) [] other more,
+      ))
+      (cases_eq r last)
+
+  now_at : (p : ℕ) → p < length (forgotten order place last) → (get_or (forgotten order place last) p 0 < length less) × (key_by less (forgotten order place last) p ≡ key_by keys order (skip p))
+  now_at p l =
+      let was = stays (skip p) (omega (arith, sizes.1, l)) (λ e. omega (arith, e)) in
+      (omega (arith, read p, was.0), ap (λ (n : ℕ). get_or less n []) (read p) ∙ was.1)
+
+  -- the place that a number has now, from the one where it stood
+  place_now : (r n : ℕ) → r < length order → (r ≡ place → ⊥) → get_or middle r 0 ≡ n → (p : ℕ) × (p < length (forgotten order place last)) × (get_or (forgotten order place last) p 0 ≡ n)
+  place_now r n l d e = (unskip r, omega (arith, sizes.1, l, d, place_in), read (unskip r) ∙ ap (λ (m : ℕ). get_or middle m 0) {x = skip (unskip r)} {y = r} (omega (arith, d)) ∙ e)
+
+  each_left : (n : ℕ) → n < length less → (p : ℕ) × (p < length (forgotten order place last)) × (get_or (forgotten order place last) p 0 ≡ n)
+  each_left n l =
+      ⊎_elim
+      (λ (its : n ≡ number).
+      place_now last n last_in (λ e. omega (arith, its, l, swap.shorter, sym there ∙ ap (λ (m : ℕ). get_or order m 0) (sym e) ∙ last_there))
+      (get_or-set_same order last (get_or order place 0) 0 last_in ∙ there ∙ sym its))
+      (λ (other : n ≡ number → ⊥).
+      let r = o.each n (omega (arith, l, swap.shorter)) in
+      place_now r.0 n r.1 (λ e. other (sym r.2 ∙ ap (λ (m : ℕ). get_or order m 0) e ∙ there))
+      (get_or-set_other order last r.0 (get_or order place 0) 0 (λ e. omega (arith, l, swap.shorter, sym r.2 ∙ ap (λ (m : ℕ). get_or order m 0) e ∙ last_there)) ∙ r.2))
+      (cases_eq n number)
+
+  pub order_less : IsOrder less (forgotten order place last)
+  order_less = record {
+    same_length = omega (arith, sizes.1, swap.shorter, o.same_length);
+    inside = λ p l. (now_at p l).0;
+    each = each_left;
+    rises = λ p q l m.
+        carry (now_at p (omega (arith, l, m))).1 (now_at q m).1 (o.rises (skip p) (skip q) (omega (arith, l)) (omega (arith, sizes.1, m)));
+  }
+
+-- ---- the same of entries
+
+abbrev head_of : List ℕ → ℕ
+head_of [] = 0
+head_of (x ∷ xs) = x
+
+abbrev tail_of : List ℕ → List ℕ
+tail_of [] = []
+tail_of (x ∷ xs) = xs
+
+module _ {X : Type 0} (hash_of : X → ℕ) (key_of : X → List ℕ) where
+  abbrev key : X → List ℕ
+  key x = hash_of x ∷ key_of x
+
+  pub key_at : (items : List X) (n : ℕ) (x : X) → n < length items → get_or (keys_in hash_of key_of items) n [] ≡ key (get_or items n x)
+  key_at items n x l = get_or-map key items n x [] l
+
+  pub many_keys : (items : List X) → length (keys_in hash_of key_of items) ≡ length items
+  many_keys items = length-map items key
+
+  pub absent_in_gap : (items : List X) (order : List ℕ) (hash : ℕ) (its_key : List ℕ) (place : ℕ) → IsOrder (keys_in hash_of key_of items) order
+      → IsGap (keys_in hash_of key_of items) order (hash ∷ its_key) place → IsAbsent hash_of key_of (map Some items) hash its_key
+  absent_in_gap items order hash its_key place o gap n is =
+      let l = stray_inside items n is.entry is.there in
+      none_in_gap (keys_in hash_of key_of items) order o (hash ∷ its_key) place gap n (omega (arith, l, many_keys items))
+      (key_at items n is.entry l ∙ ap key (stray_is items n is.entry is.entry is.there) ∙ λ i. is.same_hash i ∷ is.same_key i)
+
+  some_item : (items : List X) (n : ℕ) → n < length items → (x : X) × (get_or (map Some items) n None ≡ Some x)
+  some_item [] n l = absurd (omega (arith, l))
+  some_item (x ∷ items) zero l = (x, refl)
+  some_item (x ∷ items) (suc n) l = some_item items n (omega (arith, l))
+
+  pub found_at : (items : List X) (order : List ℕ) (hash : ℕ) (its_key : List ℕ) (place : ℕ) → IsOrder (keys_in hash_of key_of items) order
+      → place < length order → key_by (keys_in hash_of key_of items) order place ≡ hash ∷ its_key → (get_or order place 0 < length items)
+      × IsAt hash_of key_of (map Some items) hash its_key (get_or order place 0)
+  found_at items order hash its_key place o l is =
+      let n = get_or order place 0 in
+      let inside : n < length items = omega (arith, o.inside place l, many_keys items) in
+      let x = some_item items n inside in
+      let its : key x.0 ≡ hash ∷ its_key = ap key (sym (stray_is items n x.0 x.0 x.1)) ∙ sym (key_at items n x.0 inside) ∙ is in
+      (inside, record { entry = x.0; there = x.1; same_hash = ap head_of its; same_key = ap tail_of its })
+
+  pub not_found : (items : List X) (order : List ℕ) (hash : ℕ) (its_key : List ℕ) (place : ℕ) → IsOrder (keys_in hash_of key_of items) order
+      → place < length order → key_by (keys_in hash_of key_of items) order place ≡ hash ∷ its_key → IsAbsent hash_of key_of (map Some items) hash its_key → ⊥
+  not_found items order hash its_key place o l is absent = absent (get_or order place 0) (found_at items order hash its_key place o l is).1
+
+  pub keys_swapped : (items fewer : List X) (at : ℕ) (x : X) → at < length items → IsSwapped items fewer at → IsSwapped (keys_in hash_of key_of items) (keys_in hash_of key_of fewer) at
+  keys_swapped items fewer at x l swap =
+      let a = many_keys items in
+      let b = many_keys fewer in
+      record {
+        shorter = omega (arith, a, b, swap.shorter);
+        last = λ d m.
+            get_or-map key fewer at x d (omega (arith, m, a, swap.shorter)) ∙ ap key (swap.last x (omega (arith, m, a)))
+            ∙ sym (ap (λ (n : ℕ). get_or (keys_in hash_of key_of items) (n - 1) d) a ∙ get_or-map key items (length items - 1) x d (omega (arith, l)));
+        others = λ k d apart m.
+            get_or-map key fewer k x d (omega (arith, m, a, swap.shorter)) ∙ ap key (swap.others k x apart (omega (arith, m, a)))
+            ∙ sym (get_or-map key items k x d (omega (arith, m, a)));
+      }
+
+  pub keys_kept : (items : List X) (at : ℕ) (x y : X) → get_or (map Some items) at None ≡ Some x → hash_of y ≡ hash_of x → key_of y ≡ key_of x
+      → keys_in hash_of key_of (set items at y) ≡ keys_in hash_of key_of items
+  keys_kept [] at x y e h k = absurd (none-some x e)
+  keys_kept (z ∷ items) zero x y e h k =
+      let is : z ≡ x = same_Some z x e in
+      λ i. ((h ∙ ap hash_of (sym is)) i ∷ (k ∙ ap key_of (sym is)) i) ∷ keys_in hash_of key_of items
+  keys_kept (z ∷ items) (suc at) x y e h k = ap (λ (ks : List (List ℕ)). key z ∷ ks) (keys_kept items at x y e h k)
+
+  -- what is compared is what stands at the place
+  pub compared : (items : List X) (order : List ℕ) (place number : ℕ) (x : X) → IsOrder (keys_in hash_of key_of items) order → place < length order
+      → number ≡ get_or order place number → x ≡ get_or items number x → key x ≡ key_by (keys_in hash_of key_of items) order place
+  compared items order place number x o l read lent =
+      let is : number ≡ get_or order place 0 = get_or_read order place number l read 0 in
+      let inside : number < length items = omega (arith, is, o.inside place l, many_keys items) in
+      ap key lent ∙ sym (key_at items number x inside) ∙ ap (λ (n : ℕ). get_or (keys_in hash_of key_of items) n []) is
+
+  pub equal_there : (items : List X) (order : List ℕ) (place number : ℕ) (x : X) (its_key : List ℕ) (answer : Ordering)
+      → IsOrder (keys_in hash_of key_of items) order → place < length order → number ≡ get_or order place number → x ≡ get_or items number x
+      → answer ≡ slice_cmp nat_cmp (key x) its_key → answer ≡ Equal → key_by (keys_in hash_of key_of items) order place ≡ its_key
+  equal_there items order place number x its_key answer o l read lent is equal = sym (compared items order place number x o l read lent) ∙ exact_bytes (key x) its_key (sym is ∙ equal)
+
+  pub less_there : (items : List X) (order : List ℕ) (place number : ℕ) (x : X) (its_key : List ℕ) (answer : Ordering)
+      → IsOrder (keys_in hash_of key_of items) order → place < length order → number ≡ get_or order place number → x ≡ get_or items number x
+      → answer ≡ slice_cmp nat_cmp (key x) its_key → answer ≡ Less → IsBefore (key_by (keys_in hash_of key_of items) order place) its_key
+  less_there items order place number x its_key answer o l read lent is less = carry (sym (compared items order place number x o l read lent)) refl (sym is ∙ less)
+
+  pub greater_there : (items : List X) (order : List ℕ) (place number : ℕ) (x : X) (its_key : List ℕ) (answer : Ordering)
+      → IsOrder (keys_in hash_of key_of items) order → place < length order → number ≡ get_or order place number → x ≡ get_or items number x
+      → answer ≡ slice_cmp nat_cmp (key x) its_key → answer ≡ Greater → IsBefore its_key (key_by (keys_in hash_of key_of items) order place)
+  greater_there items order place number x its_key answer o l read lent is greater = carry refl (sym (compared items order place number x o l read lent)) (turned (key x) its_key (sym is ∙ greater))
+
+  -- the hash and the key that a search for a stray's own asks for
+  own_key : (items : List X) (number : ℕ) (x : X) (hash : ℕ) (its_key : List ℕ) → number < length items → x ≡ get_or items number x → hash ≡ hash_of x
+      → its_key ≡ key_of x → get_or (keys_in hash_of key_of items) number [] ≡ hash ∷ its_key
+  own_key items number x hash its_key l lent same_hash same_key = key_at items number x l ∙ ap key (sym lent) ∙ (λ i. sym same_hash i ∷ sym same_key i)
+
+  pub own_is_found : (items : List X) (order : List ℕ) (number : ℕ) (x : X) (hash : ℕ) (its_key : List ℕ) (place : ℕ)
+      → IsOrder (keys_in hash_of key_of items) order → number < length items → x ≡ get_or items number x → hash ≡ hash_of x → its_key ≡ key_of x
+      → IsGap (keys_in hash_of key_of items) order (hash ∷ its_key) place → ⊥
+  own_is_found items order number x hash its_key place o l lent same_hash same_key gap =
+      none_in_gap (keys_in hash_of key_of items) order o (hash ∷ its_key) place gap number (omega (arith, l, many_keys items)) (own_key items number x hash its_key l lent same_hash same_key)
+
+  pub own_number : (items : List X) (order : List ℕ) (number : ℕ) (x : X) (hash : ℕ) (its_key : List ℕ) (place : ℕ)
+      → IsOrder (keys_in hash_of key_of items) order → number < length items → x ≡ get_or items number x → hash ≡ hash_of x → its_key ≡ key_of x
+      → (place < length order) × (key_by (keys_in hash_of key_of items) order place ≡ hash ∷ its_key) → get_or order place 0 ≡ number
+  own_number items order number x hash its_key place o l lent same_hash same_key found =
+      its_number (keys_in hash_of key_of items) order o place number found.0 (omega (arith, l, many_keys items)) (found.1 ∙ sym (own_key items number x hash its_key l lent same_hash same_key))
+
+  -- what was found, as the order gives it
+  pub found_there : (items : List X) (order : List ℕ) (hash : ℕ) (its_key : List ℕ) (place number : ℕ) → IsOrder (keys_in hash_of key_of items) order
+      → (place < length order) × (key_by (keys_in hash_of key_of items) order place ≡ hash ∷ its_key) → number ≡ get_or order place number
+      → (number < length items) × IsAt hash_of key_of (map Some items) hash its_key number
+  found_there items order hash its_key place number o found read =
+      subst (λ (n : ℕ). (n < length items) × IsAt hash_of key_of (map Some items) hash its_key n) (sym (get_or_read order place number found.0 read 0))
+      (found_at items order hash its_key place o found.0 found.1)
+
+  -- a stray comes, and one goes
+  pub comes : (items more : List X) (order longer : List ℕ) (place number hash : ℕ) (its_key : List ℕ) (x : X) → IsOrder (keys_in hash_of key_of items) order
+      → IsGap (keys_in hash_of key_of items) order (hash ∷ its_key) place → hash ≡ hash_of x → its_key ≡ key_of x → more ≡ items ++ (x ∷ [])
+      → number ≡ length items → longer ≡ insert order place number → IsOrder (keys_in hash_of key_of more) longer
+  comes items more order longer place number hash its_key x o gap same_hash same_key pushed many put =
+      let keys = keys_in hash_of key_of items in
+      let new_keys : keys_in hash_of key_of more ≡ keys ++ ((hash ∷ its_key) ∷ []) = ap (keys_in hash_of key_of) pushed ∙ map-append key items (x ∷ [])
+      ∙ (λ i. keys ++ ((sym same_hash i ∷ sym same_key i) ∷ [])) in
+      let new_order : longer ≡ insert order place (length keys) = put ∙ ap (insert order place) (many ∙ sym (many_keys items)) in
+      subst (λ (l : List ℕ). IsOrder (keys_in hash_of key_of more) l) (sym new_order)
+      (subst (λ (ks : List (List ℕ)). IsOrder ks (insert order place (length keys))) (sym new_keys) (order_more keys order (hash ∷ its_key) place o gap))
+
+  pub goes : (items fewer : List X) (order shorter : List ℕ) (number place last : ℕ) (x : X) → IsOrder (keys_in hash_of key_of items) order
+      → IsSwapped items fewer number → number < length items → place < length order → get_or order place 0 ≡ number → last < length order
+      → get_or order last 0 ≡ length items - 1 → shorter ≡ forgotten order place last → IsOrder (keys_in hash_of key_of fewer) shorter
+  goes items fewer order shorter number place last x o swap l place_in there last_in last_there is =
+      subst (λ (s : List ℕ). IsOrder (keys_in hash_of key_of fewer) s) (sym is)
+      (order_less (keys_in hash_of key_of items) (keys_in hash_of key_of fewer) order number place last o (keys_swapped items fewer number x l swap)
+      (omega (arith, l, many_keys items)) place_in there last_in (last_there ∙ ap (λ (n : ℕ). n - 1) (sym (many_keys items))))
+
+-- ---- what a search costs
+
+pub halved : (width half left : ℕ) → 1 ≤ width → half + half ≤ width → width < 2 ^ left → (less : ℕ) × (less + 1 ≡ left) × (half < 2 ^ less)
+halved width half zero some most fits = absurd (omega (arith, some, fits))
+halved width half (suc less) some most fits = (less, omega arith, omega (arith, most, fits, pow-succ' 2 less))
+
+pub below_power : (most n : ℕ) → n ≤ most → n < 2 ^ digits_in most n
+below_power zero zero l = omega arith
+below_power zero (suc n) l = absurd (omega (arith, l))
+below_power (suc most) zero l = omega arith
+below_power (suc most) (suc n) l = omega (arith, below_power most (suc n / 2) (omega (arith, l)), pow-succ' 2 (digits_in most (suc n / 2)))
+
+both_tables : (b : Bool) → ◌≡◌ {A = ℕ} (if b then 64 else 32) ((if b then 32 else 0) + 32)
+both_tables true = refl
+both_tables false = refl
+
+pub reads_in_all : {X : Type 0} (now : IndexState X) (growing : Bool) (n before first second last : ℕ) → growing ≡ now.growing → n ≡ length now.strays
+    → first ≤ before + (if growing then 32 else 0) → second ≤ first + 32 → last ≤ second + binary_digits n → last ≤ before + most_reads now
+reads_in_all now growing n before first second last same many a b c =
+    omega (arith, a, b, c, both_tables now.growing, ap {B = ℕ} (λ (g : Bool). if g then 32 else 0) same, ap binary_digits many)

@@ -1,0 +1,17 @@
+use Rattle.std.proofs.Common.{◌<◌, Some, map, length, subst}
+use Rattle.mc_hop.specs.Tables.{IsAbsent, IsAt}
+use Rattle.mc_grow.specs.Strays.{StraysState}
+use Rattle.mc_grow.proofs.OrderLemmas.{absent_in_gap, found_there}
+use Rattle.mc_grow.proofs.strays.Strays.find.Goals as goal
+
+pub returns-in-Ok-clause-found : goal.returns-in-Ok-clause-found
+returns-in-Ok-clause-found g c =
+    subst (λ (s : StraysState g.row.T.Denot). (c.index.result.now < length s.items)
+    × IsAt g.T.Keyed.hash_of g.T.Keyed.key_of (map Some s.items) c.args.hash c.args.key.now c.index.result.now) c.self.view_is
+    (found_there g.T.Keyed.hash_of g.T.Keyed.key_of c.self.inside.items.items c.self.inside.order.items c.args.hash c.args.key.now c.in-Ok.place
+    c.index.result.now c.self.invariant c.in-Ok.ensures.found c.index.ensures)
+
+pub returns-in-Err-clause-none : goal.returns-in-Err-clause-none
+returns-in-Err-clause-none g c _ =
+    subst (λ (s : StraysState g.row.T.Denot). IsAbsent g.T.Keyed.hash_of g.T.Keyed.key_of (map Some s.items) c.args.hash c.args.key.now) c.self.view_is
+    (absent_in_gap g.T.Keyed.hash_of g.T.Keyed.key_of c.self.inside.items.items c.self.inside.order.items c.args.hash c.args.key.now c.in-Err.field-0 c.self.invariant c.in-Err.ensures.none)

@@ -1,0 +1,258 @@
+//! The strays of an index: a list, and an order in which they are found.
+
+ghost use Rattle.std.specs.Prelude.{◌≡◌, ℕ, ◌+◌, ◌<◌, ◌≤◌, ◌^◌, ◌∷◌, ◌++◌, [], Some, None, IfSome, IsNone, IfOk, IfErr, OnOk, map, length};
+ghost use Rattle.std.specs.Prelude.{option_copied, slice_index_or, vec_len, vec_capacity};
+ghost use Rattle.std.specs.List.{insert, swap_remove};
+ghost use Rattle.std.specs.Ordering.{nat_cmp};
+ghost use Rattle.std.specs.Cmp.Lexicographic.{slice_cmp};
+ghost use Rattle.mc_hop.specs.Links.{IsSwapped};
+ghost use Rattle.mc_hop.specs.Tables.{AreApart, IsAbsent, IsAt, KeepsKey};
+ghost use Rattle.mc_grow.specs.Adding.{beside, cells_of};
+ghost use Rattle.mc_grow.specs.Moving.{HoldsAll, IsTried};
+ghost use Rattle.mc_grow.specs.Parts.{IsChanged};
+ghost use Rattle.mc_grow.specs.Strays.{IsGap, IsOrder, forgotten, key_by, keys_in};
+
+use crate::parts::update_stray;
+use crate::trying::try_item;
+use mc_hop::{Counts, Hop, Keyed, Uncounted};
+use std::alloc::{AllocError, Global};
+use std::cmp::Ordering;
+use std::marker::Model;
+
+/// Entries that stand in no table, each under its number: the order in which they came, but that the last takes the number of
+/// one that goes. Beside them stand their numbers in the order of the hashes, and of the keys where a hash is the same, so that
+/// a search reads as many entries as their count has binary digits, whatever the hashes are.
+///
+/// Contracts see the entries by their numbers, and how many there is room for.
+#[derive(Drop)]
+pub(crate) struct Strays<T: Keyed + Drop> {
+    items: Vec<T>,
+    order: Vec<usize>,
+}
+
+impl<T: Keyed + Drop> Model for Strays<T> {
+    ghost use Rattle.std.specs.Prelude.{min, vec_capacity};
+    ghost use Rattle.mc_grow.specs.Strays.{IsOrder, StraysState, coded_strays, keys_in};
+
+    ghost Value = { StraysState T };
+
+    ghost coded = { coded_strays T.code };
+
+    ghost view = { λ s. record {
+      items = s.items.items;
+      room = min (vec_capacity s.items) (vec_capacity s.order);
+    } };
+
+    ghost invariant = { λ s. IsOrder (keys_in T.hash_of T.key_of s.items.items) s.order.items };
+}
+
+/// Compares the hash and key of an entry with others: the hashes, and the keys where those are the same. It is one read of a
+/// stray.
+fn compare<T: Keyed + Drop, C: Counts>(entry: &T, hash: u64, key: &[u8], reads: &mut C) -> Ordering
+    ensures order { result
+        ≡ slice_cmp nat_cmp (T.hash_of entry.now ∷ T.key_of entry.now) (hash ∷ key.now) }
+    ensures reads { C.count reads.new ≤ C.count reads.old + 1 }
+{
+    reads.tick();
+    match entry.hash().cmp(&hash) {
+        Ordering::Less => Ordering::Less,
+        Ordering::Greater => Ordering::Greater,
+        Ordering::Equal => entry.key().cmp(key),
+    }
+}
+
+/// Finds the place in the order where the stray of that hash and key stands, or else the one where it would stand. The reads are
+/// at most as many as the count of strays has binary digits.
+fn search<T: Keyed + Drop, C: Counts>(
+    items: &Vec<T>,
+    order: &Vec<usize>,
+    hash: u64,
+    key: &[u8],
+    reads: &mut C,
+) -> Result<usize, usize>
+    requires { IsOrder (keys_in T.hash_of T.key_of items.now.items) order.now.items }
+    ensures found { IfOk result (λ place. (place < length order.now.items)
+        × (key_by (keys_in T.hash_of T.key_of items.now.items) order.now.items place
+        ≡ hash ∷ key.now)) }
+    ensures none { IfErr result
+        (IsGap (keys_in T.hash_of T.key_of items.now.items) order.now.items (hash ∷ key.now)) }
+    ensures reads { (digits : ℕ) → length items.now.items < 2 ^ digits →
+        C.count reads.new ≤ C.count reads.old + digits }
+{
+    let mut low = 0;
+    let mut high = order.len();
+    while low < high {
+        let middle = low + (high - low) / 2;
+        match compare(&items[order[middle]], hash, key, reads) {
+            Ordering::Less => low = middle + 1,
+            Ordering::Greater => high = middle,
+            Ordering::Equal => return Ok(middle),
+        }
+    }
+    Err(low)
+}
+
+/// Finds the place in the order where the stray of a number stands.
+fn place_of<T: Keyed + Drop>(items: &Vec<T>, order: &Vec<usize>, number: usize) -> usize
+    requires order { IsOrder (keys_in T.hash_of T.key_of items.now.items) order.now.items }
+    requires inside { number < length items.now.items }
+    ensures inside { result < length order.now.items }
+    ensures there { slice_index_or order.now.items result 0 ≡ number }
+{
+    let entry = &items[number];
+    match search(items, order, entry.hash(), entry.key(), &mut Uncounted) {
+        Ok(place) => place,
+        Err(_) => unreachable!(),
+    }
+}
+
+/// Takes the number at a place out of the order, and gives it to the stray whose number stands at the place `last`.
+fn forget(order: &mut Vec<usize>, place: usize, last: usize)
+    requires place { place < length order.old.items }
+    requires last { last < length order.old.items }
+    ensures order { order.new.items ≡ forgotten order.old.items place last }
+    ensures capacity { vec_capacity order.new ≡ vec_capacity order.old }
+{
+    order[last] = order[place];
+    order.remove(place);
+}
+
+impl<T: Keyed + Drop> Strays<T> {
+    /// Makes a list of none. It takes no memory.
+    pub(crate) fn new(alloc: Global) -> Strays<T>
+        ensures { result.items ≡ [] }
+    {
+        Strays {
+            items: Vec::new(alloc),
+            order: Vec::new(alloc),
+        }
+    }
+
+    /// Counts the strays.
+    pub(crate) fn len(&self) -> usize
+        ensures value { result ≡ length self.now.items }
+        ensures most { result < 2 ^ 63 }
+    {
+        self.items.len()
+    }
+
+    /// Returns how many strays there is room for.
+    pub(crate) fn room(&self) -> usize
+        ensures { result ≡ self.now.room }
+    {
+        self.items.capacity().min(self.order.capacity())
+    }
+
+    /// Finds the number of the stray of that hash and key. It reads at most as many strays as their count has binary digits.
+    pub(crate) fn find<C: Counts>(&self, hash: u64, key: &[u8], reads: &mut C) -> Option<usize>
+        ensures found { IfSome result (λ at. (at < length self.now.items)
+            × IsAt T.hash_of T.key_of (map Some self.now.items) hash key.now at) }
+        ensures none { IsNone result →
+            IsAbsent T.hash_of T.key_of (map Some self.now.items) hash key.now }
+        ensures reads { (digits : ℕ) → length self.now.items < 2 ^ digits →
+            C.count reads.new ≤ C.count reads.old + digits }
+        ensures small { length self.now.items < 2 ^ 63 }
+    {
+        match search(&self.items, &self.order, hash, key, reads) {
+            Ok(place) => Some(self.order[place]),
+            Err(_) => None,
+        }
+    }
+
+    /// Lends a stray, where there is one of that number.
+    pub(crate) fn get(&self, at: usize) -> Option<&T>
+        ensures { option_copied result ≡ slice_index_or (map Some self.now.items) at None }
+    {
+        self.items.get(at)
+    }
+
+    /// Makes room for so many strays more. Those that are there stay, and so does the room where it is refused. The one error is
+    /// a refused allocation.
+    pub(crate) fn reserve(&mut self, more: usize) -> Result<(), AllocError>
+        ensures items { self.new.items ≡ self.old.items }
+        ensures ok { OnOk result (length self.new.items + more ≤ self.new.room) }
+        ensures room { self.old.room ≤ self.new.room }
+    {
+        self.items.reserve(more)?;
+        self.order.reserve(more)
+    }
+
+    /// Puts in an entry of a new hash and key, for which there is room, under the number that is the count. It takes no memory,
+    /// and moves as many numbers as stand behind its own in the order.
+    pub(crate) fn push_reserved(&mut self, entry: T)
+        requires room { length self.old.items < self.old.room }
+        requires new { IsAbsent T.hash_of T.key_of (map Some self.old.items)
+            (T.hash_of entry) (T.key_of entry) }
+        ensures items { self.new.items ≡ self.old.items ++ (entry ∷ []) }
+        ensures room { self.new.room ≡ self.old.room }
+    {
+        let number = self.items.len();
+        let place = match search(
+            &self.items,
+            &self.order,
+            entry.hash(),
+            entry.key(),
+            &mut Uncounted,
+        ) {
+            Err(place) => place,
+            Ok(_) => unreachable!(),
+        };
+        self.items.push_reserved(entry);
+        let _ = self.order.insert(place, number);
+    }
+
+    /// Takes the stray of a number out. The last one has its number then. It takes no memory, and moves as many numbers as
+    /// stand behind its own in the order.
+    pub(crate) fn swap_remove(&mut self, at: usize) -> T
+        requires { at < length self.old.items }
+        ensures value { result ≡ slice_index_or self.old.items at result }
+        ensures items { self.new.items ≡ swap_remove self.old.items at result }
+        ensures swapped { IsSwapped self.old.items self.new.items at }
+        ensures room { self.new.room ≡ self.old.room }
+    {
+        let place = place_of(&self.items, &self.order, at);
+        let last = place_of(&self.items, &self.order, self.items.len() - 1);
+        forget(&mut self.order, place, last);
+        self.items.swap_remove(at)
+    }
+
+    /// Changes the stray of a number by a closure that keeps its hash and its key, and hands out what the closure answers beside
+    /// it. It takes no memory of its own.
+    pub(crate) fn update<R, F: FnOnce(T) -> (T, R)>(&mut self, at: usize, change: F) -> R
+        requires inside { at < length self.old.items }
+        requires keeps { (entry : T) →
+            slice_index_or (map Some self.old.items) at None ≡ Some entry →
+            KeepsKey T.hash_of T.key_of (F.pre change) (F.post change) entry }
+        ensures changed { (entry : T) →
+            slice_index_or (map Some self.old.items) at None ≡ Some entry →
+            IsChanged (F.post change) entry at
+            (map Some self.old.items) (map Some self.new.items) result }
+        ensures len { length self.new.items ≡ length self.old.items }
+        ensures room { self.new.room ≡ self.old.room }
+    {
+        update_stray(&mut self.items, at, change)
+    }
+
+    /// Tries the stray of a number in a table, and answers whether it went there. The last stray has its number then. It takes
+    /// no memory.
+    pub(crate) fn try_in(&mut self, table: &mut Hop<T>, at: usize) -> bool
+        requires inside { at < length self.old.items }
+        requires apart { AreApart T.hash_of T.key_of (cells_of (beside table.old self.old.items)) }
+        ensures tried { IsTried T.hash_of T.key_of table.old.k at result
+            (beside table.old self.old.items) (beside table.new self.new.items) }
+        ensures content { HoldsAll T.hash_of T.key_of
+            (cells_of (beside table.old self.old.items))
+            (cells_of (beside table.new self.new.items)) }
+        ensures k { table.new.k ≡ table.old.k }
+        ensures len { length self.new.items ≤ length self.old.items }
+        ensures room { self.new.room ≡ self.old.room }
+    {
+        let place = place_of(&self.items, &self.order, at);
+        let last = place_of(&self.items, &self.order, self.items.len() - 1);
+        let went = try_item(table, &mut self.items, at);
+        if went {
+            forget(&mut self.order, place, last);
+        }
+        went
+    }
+}

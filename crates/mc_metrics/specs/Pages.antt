@@ -1,0 +1,104 @@
+-- The page of metrics.
+use Rattle.std.specs.Prelude.{ℕ, ◌+◌, ◌*◌, ◌-◌, ◌%◌, ◌^◌, min, sum_by, List, [], ◌++◌, Option, Some, None, slice_get, codes, decimal}
+use Rattle.std.specs.Borrow.{Bor}
+use Rattle.std.specs.List.{flat_map}
+use Rattle.mc_metrics.specs.Places.{place_of}
+use Rattle.mc_metrics.specs.declared.counts.Counted.{Counted}
+use Rattle.mc_metrics.specs.declared.counts.Counted.TheVariants.{SetStored, SetNotStored, CasHit}
+use Rattle.mc_metrics.specs.declared.family.Family.{Family}
+use Rattle.mc_metrics.specs.declared.family.Kind.{Kind}
+use Rattle.mc_metrics.specs.declared.family.Kind.TheVariants.{Counter, Gauge}
+use Rattle.mc_metrics.specs.declared.family.Samples.{Samples}
+use Rattle.mc_metrics.specs.declared.family.Samples.TheVariants.{One, Each, Slabs}
+use Rattle.mc_metrics.specs.declared.reading.Reading.{Reading}
+use Rattle.mc_metrics.specs.declared.reading.SlabReading.{SlabReading}
+use Rattle.mc_metrics.specs.declared.reading.Figure.{Figure}
+use Rattle.mc_metrics.specs.declared.reading.Figure.TheVariants as figure
+use Rattle.mc_metrics.specs.declared.reading.SlabFigure.{SlabFigure}
+use Rattle.mc_metrics.specs.declared.reading.SlabFigure.TheVariants as slab
+
+-- a number that is there, or 0
+abbrev pub or_zero : Option ℕ → ℕ
+or_zero (Some n) = n
+or_zero None = 0
+
+-- the number at a place, and 0 where there is none
+abbrev pub number_at : List ℕ → (place : ℕ) → ℕ
+number_at numbers place = or_zero (slice_get numbers place)
+
+-- how often the one or the other was counted, in 64 bits
+abbrev pub both : List ℕ → (one other : Counted) → ℕ
+both counts one other = (number_at counts (place_of one) + number_at counts (place_of other)) % 2 ^ 64
+
+-- the bytes of the chunks that items lie in, as many as 64 bits hold
+abbrev pub bytes_of : List SlabReading → ℕ
+bytes_of slabs = min (sum_by (λ class. class.used * class.size) slabs) (2 ^ 64 - 1)
+
+-- a number that is told
+abbrev pub figure_of : Reading → Figure → ℕ
+figure_of reading figure.One = 1
+figure_of reading figure.Uptime = reading.uptime
+figure_of reading (figure.Count counted) = number_at reading.counts (place_of counted)
+figure_of reading figure.Sets = both reading.counts SetStored SetNotStored
+figure_of reading figure.Stored = both reading.counts SetStored CasHit
+figure_of reading figure.Connections = reading.connections
+figure_of reading figure.Accepted = reading.accepted
+figure_of reading figure.Most = reading.most
+figure_of reading (figure.Closed place) = number_at reading.closed.items place
+figure_of reading figure.Items = reading.items
+figure_of reading figure.Bytes = bytes_of reading.slabs.items
+figure_of reading figure.Limit = reading.limit
+figure_of reading figure.Shelves = reading.shelves
+
+-- a number that is told of a class of chunks
+abbrev pub slab_figure_of : SlabReading → SlabFigure → ℕ
+slab_figure_of reading slab.Size = reading.size
+slab_figure_of reading slab.ChunksAPage = reading.chunks_a_page
+slab_figure_of reading slab.Pages = reading.pages
+slab_figure_of reading slab.Chunks = reading.chunks
+slab_figure_of reading slab.Used = reading.used
+slab_figure_of reading slab.Free = reading.free
+
+-- the name of a kind, as it stands at the end of a line
+abbrev pub kind_name : Kind → List ℕ
+kind_name Counter = codes " counter\n"
+kind_name Gauge = codes " gauge\n"
+
+-- the two lines with which a family begins
+abbrev pub head_text : Kind → (name help : List ℕ) → List ℕ
+head_text kind name help =
+    codes "# HELP " ++ name ++ codes " " ++ help ++ codes "\n# TYPE " ++ name ++ kind_name kind
+
+-- the line of a sample, whose labels stand in braces
+abbrev pub sample_text : (name labels : List ℕ) → (number : ℕ) → List ℕ
+sample_text name labels number = name ++ labels ++ codes " " ++ decimal number ++ codes "\n"
+
+-- the line of a sample of the class of chunks that has this number
+abbrev pub slab_text : (name : List ℕ) → (class number : ℕ) → List ℕ
+slab_text name class number =
+    name ++ codes "{slab=\"" ++ decimal class ++ codes "\"} " ++ decimal number ++ codes "\n"
+
+-- a line for each of these labels
+abbrev pub each_text : Reading → (name : List ℕ) → List (Bor (List ℕ) × Figure) → List ℕ
+each_text reading name rows =
+    flat_map (λ row. sample_text name row.0.now (figure_of reading row.1)) rows
+
+-- a line for each of these classes
+abbrev pub slabs_text : SlabFigure → (name : List ℕ) → List SlabReading → List ℕ
+slabs_text told name slabs =
+    flat_map (λ class. slab_text name class.number (slab_figure_of class told)) slabs
+
+-- the samples of a family
+abbrev pub samples_text : Reading → (name : List ℕ) → Samples → List ℕ
+samples_text reading name (One told) = sample_text name [] (figure_of reading told)
+samples_text reading name (Each rows) = each_text reading name rows.now
+samples_text reading name (Slabs told) = slabs_text told name reading.slabs.items
+
+-- a family
+abbrev pub family_text : Reading → Family → List ℕ
+family_text reading family =
+    head_text family.0 family.1.now family.2.now ++ samples_text reading family.1.now family.3
+
+-- families, one after another
+abbrev pub families_text : Reading → List Family → List ℕ
+families_text reading families = flat_map (family_text reading) families

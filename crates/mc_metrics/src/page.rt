@@ -1,0 +1,155 @@
+//! The page of metrics, in the text format 0.0.4 of Prometheus.
+ghost use Rattle.std.specs.Prelude.{◌≡◌, ◌++◌, OnOk, IfOk};
+ghost use Rattle.mc_metrics.specs.Pages.{
+  head_text,
+  sample_text,
+  slab_text,
+  kind_name,
+  each_text,
+  slabs_text,
+  samples_text,
+  family_text,
+  families_text,
+};
+
+use crate::family::{Family, Kind, Samples};
+use crate::reading::{Figure, Reading, SlabFigure, SlabReading};
+use itoa::Buffer;
+use std::alloc::{AllocError, Global};
+
+/// How many bytes a page has at most, mostly.
+const USUAL: usize = 8192;
+
+/// Makes the page of these families, of what was read. The one error is a refused allocation.
+pub fn page_of(alloc: Global, families: &[Family], reading: &Reading) -> Result<Vec<u8>, AllocError>
+    ensures { IfOk result (λ page. page.items ≡ families_text reading.now families.now) }
+{
+    let mut page = Vec::with_capacity(alloc, USUAL)?;
+    put_families(&mut page, families, reading)?;
+    Ok(page)
+}
+
+/// Appends families.
+fn put_families(
+    page: &mut Vec<u8>,
+    families: &[Family],
+    reading: &Reading,
+) -> Result<(), AllocError>
+    ensures { OnOk result (page.new.items
+        ≡ page.old.items ++ families_text reading.now families.now) }
+{
+    for family in families {
+        put_family(page, family, reading)?;
+    }
+    Ok(())
+}
+
+/// Appends a family: its head, and its samples.
+fn put_family(page: &mut Vec<u8>, family: &Family, reading: &Reading) -> Result<(), AllocError>
+    ensures { OnOk result (page.new.items ≡ page.old.items ++ family_text reading.now family.now) }
+{
+    put_head(page, family.0, family.1, family.2)?;
+    put_samples(page, family.1, family.3, reading)
+}
+
+/// Appends the samples of a family.
+fn put_samples(
+    page: &mut Vec<u8>,
+    name: &str,
+    samples: Samples,
+    reading: &Reading,
+) -> Result<(), AllocError>
+    ensures { OnOk result (page.new.items
+        ≡ page.old.items ++ samples_text reading.now name.now samples) }
+{
+    match samples {
+        Samples::One(figure) => put_sample(page, name, "", reading.figure(figure)),
+        Samples::Each(rows) => put_each(page, name, rows, reading),
+        Samples::Slabs(figure) => put_slabs(page, name, figure, reading.slabs.as_slice()),
+    }
+}
+
+/// Appends a sample for each of these labels.
+fn put_each(
+    page: &mut Vec<u8>,
+    name: &str,
+    rows: &[(&str, Figure)],
+    reading: &Reading,
+) -> Result<(), AllocError>
+    ensures { OnOk result (page.new.items
+        ≡ page.old.items ++ each_text reading.now name.now rows.now) }
+{
+    for row in rows {
+        put_sample(page, name, row.0, reading.figure(row.1))?;
+    }
+    Ok(())
+}
+
+/// Appends a sample for each class of chunks.
+fn put_slabs(
+    page: &mut Vec<u8>,
+    name: &str,
+    figure: SlabFigure,
+    slabs: &[SlabReading],
+) -> Result<(), AllocError>
+    ensures { OnOk result (page.new.items
+        ≡ page.old.items ++ slabs_text figure name.now slabs.now) }
+{
+    for slab in slabs {
+        put_slab(page, name, slab.number, slab.figure(figure))?;
+    }
+    Ok(())
+}
+
+/// Appends the head of a family.
+fn put_head(page: &mut Vec<u8>, kind: Kind, name: &str, help: &str) -> Result<(), AllocError>
+    ensures { OnOk result (page.new.items
+        ≡ page.old.items ++ head_text kind name.now help.now) }
+{
+    page.extend_from_slice(b"# HELP ")?;
+    page.extend_from_slice(name.as_bytes())?;
+    page.extend_from_slice(b" ")?;
+    page.extend_from_slice(help.as_bytes())?;
+    page.extend_from_slice(b"\n# TYPE ")?;
+    page.extend_from_slice(name.as_bytes())?;
+    page.extend_from_slice(kind.name())
+}
+
+impl Kind {
+    /// Gives its name, as it stands at the end of a line.
+    fn name(self) -> &'static [u8]
+        ensures { result.now ≡ kind_name self }
+    {
+        match self {
+            Kind::Counter => b" counter\n",
+            Kind::Gauge => b" gauge\n",
+        }
+    }
+}
+
+/// Appends a sample: the family's name, the labels in their braces, and the number.
+fn put_sample(page: &mut Vec<u8>, name: &str, labels: &str, number: u64) -> Result<(), AllocError>
+    ensures { OnOk result (page.new.items
+        ≡ page.old.items ++ sample_text name.now labels.now number) }
+{
+    let mut buffer = Buffer::new();
+    page.extend_from_slice(name.as_bytes())?;
+    page.extend_from_slice(labels.as_bytes())?;
+    page.extend_from_slice(b" ")?;
+    page.extend_from_slice(buffer.format(number).as_bytes())?;
+    page.extend_from_slice(b"\n")
+}
+
+/// Appends a sample of the class of chunks that has this number.
+fn put_slab(page: &mut Vec<u8>, name: &str, slab: u8, number: u64) -> Result<(), AllocError>
+    ensures { OnOk result (page.new.items
+        ≡ page.old.items ++ slab_text name.now slab number) }
+{
+    let mut buffer = Buffer::new();
+    page.extend_from_slice(name.as_bytes())?;
+    page.extend_from_slice(b"{slab=\"")?;
+    page.extend_from_slice(buffer.format(slab).as_bytes())?;
+    page.extend_from_slice(b"\"} ")?;
+    page.extend_from_slice(buffer.format(number).as_bytes())?;
+    page.extend_from_slice(b"\n")
+}

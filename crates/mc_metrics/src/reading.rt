@@ -1,0 +1,181 @@
+//! What a scrape reads.
+ghost use Rattle.std.specs.Prelude.{◌≡◌};
+ghost use Rattle.mc_metrics.specs.Pages.{figure_of, slab_figure_of, number_at, bytes_of};
+
+use crate::counts::{COUNTED, Counted};
+use mc_slab::{Account, Class};
+
+/// What was read for a page.
+#[derive(Drop)]
+pub struct Reading {
+    /// What all workers counted, each at its place.
+    pub counts: [u64; COUNTED],
+    /// How many connections were closed, for each reason at its place.
+    pub closed: Vec<u64>,
+    /// How many seconds it serves.
+    pub uptime: u64,
+    /// How many connections are open.
+    pub connections: u64,
+    /// How many were accepted.
+    pub accepted: u64,
+    /// How many may be open at once.
+    pub most: u64,
+    /// How many items stand.
+    pub items: u64,
+    /// The bytes of all pages that there may be.
+    pub limit: u64,
+    pub shelves: u64,
+    /// The classes of chunks that have a page, from the smallest up.
+    pub slabs: Vec<SlabReading>,
+}
+
+/// What a class of chunks has.
+#[derive(Clone, Copy)]
+pub struct SlabReading {
+    pub number: u8,
+    /// The bytes of a chunk.
+    pub size: u64,
+    pub chunks_a_page: u64,
+    pub pages: u64,
+    /// The chunks of all its pages.
+    pub chunks: u64,
+    /// Those that items lie in.
+    pub used: u64,
+    /// The others.
+    pub free: u64,
+}
+
+/// A number that is told.
+#[derive(Clone, Copy)]
+pub enum Figure {
+    /// 1.
+    One,
+    Uptime,
+    /// What was counted as this.
+    Count(Counted),
+    /// The storage commands but `cas` that found room, whether their condition held or not.
+    Sets,
+    /// The items that were stored.
+    Stored,
+    Connections,
+    Accepted,
+    Most,
+    /// The connections that were closed for the reason at this place.
+    Closed(usize),
+    Items,
+    /// The bytes of the chunks that items lie in.
+    Bytes,
+    Limit,
+    Shelves,
+}
+
+/// A number that is told of each class of chunks.
+#[derive(Clone, Copy)]
+pub enum SlabFigure {
+    Size,
+    ChunksAPage,
+    Pages,
+    Chunks,
+    Used,
+    Free,
+}
+
+impl Reading {
+    /// Gives a number that is told.
+    pub fn figure(&self, figure: Figure) -> u64
+        ensures { result ≡ figure_of self.now figure }
+    {
+        match figure {
+            Figure::One => 1,
+            Figure::Uptime => self.uptime,
+            Figure::Count(counted) => number_at(&self.counts, counted.place()),
+            Figure::Sets => self.both(Counted::SetStored, Counted::SetNotStored),
+            Figure::Stored => self.both(Counted::SetStored, Counted::CasHit),
+            Figure::Connections => self.connections,
+            Figure::Accepted => self.accepted,
+            Figure::Most => self.most,
+            Figure::Closed(place) => number_at(self.closed.as_slice(), place),
+            Figure::Items => self.items,
+            Figure::Bytes => bytes_of(self.slabs.as_slice()),
+            Figure::Limit => self.limit,
+            Figure::Shelves => self.shelves,
+        }
+    }
+}
+
+impl Reading {
+    ghost use Rattle.std.specs.Prelude.{◌≡◌};
+    ghost use Rattle.mc_metrics.specs.Pages.{both};
+
+    /// Gives how often the one or the other was counted, modulo 2^64.
+    fn both(&self, one: Counted, other: Counted) -> u64
+        ensures { result ≡ both self.now.counts one other }
+    {
+        let ones = number_at(&self.counts, one.place());
+        ones.wrapping_add(number_at(&self.counts, other.place()))
+    }
+}
+
+impl SlabReading {
+    ghost use Rattle.std.specs.Prelude.{◌≡◌, ◌*◌, ◌-◌, ◌^◌, min};
+    ghost use Rattle.mc_slab.specs.Classes.{chunks_a_page};
+    ghost use Rattle.mc_metrics.specs.Pages.{slab_figure_of};
+
+    /// Gives what a class has by its account: the chunks of its pages, at most 2^64 - 1, those that items
+    /// lie in, and the others.
+    pub fn of(class: Class, account: Account) -> SlabReading
+        ensures pages { result.pages ≡ account.pages }
+        ensures used { result.used ≡ account.out }
+        ensures chunks { result.chunks ≡ min (account.pages * chunks_a_page class) (2 ^ 64 - 1) }
+        ensures free { result.free ≡ result.chunks - account.out }
+    {
+        let chunks_a_page = u64::from(class.chunks_a_page());
+        let pages = u64::from(account.pages);
+        let chunks = pages.saturating_mul(chunks_a_page);
+        let used = u64::from(account.out);
+        SlabReading {
+            number: class.number(),
+            size: u64::from(class.size()),
+            chunks_a_page,
+            pages,
+            chunks,
+            used,
+            free: chunks.saturating_sub(used),
+        }
+    }
+
+    /// Gives a number that is told of it.
+    pub fn figure(&self, figure: SlabFigure) -> u64
+        ensures { result ≡ slab_figure_of self.now figure }
+    {
+        match figure {
+            SlabFigure::Size => self.size,
+            SlabFigure::ChunksAPage => self.chunks_a_page,
+            SlabFigure::Pages => self.pages,
+            SlabFigure::Chunks => self.chunks,
+            SlabFigure::Used => self.used,
+            SlabFigure::Free => self.free,
+        }
+    }
+}
+
+/// Adds up the bytes of the chunks that items lie in, to 2^64 - 1 at most.
+pub fn bytes_of(slabs: &[SlabReading]) -> u64
+    ensures { result ≡ bytes_of slabs.now }
+{
+    let mut bytes = 0u64;
+    for slab in slabs {
+        bytes = bytes.saturating_add(slab.used.saturating_mul(slab.size));
+    }
+    bytes
+}
+
+/// Gives the number at a place, and 0 where there is none.
+pub fn number_at(numbers: &[u64], place: usize) -> u64
+    ensures { result ≡ number_at numbers.now place }
+{
+    match numbers.get(place) {
+        Some(number) => *number,
+        None => 0,
+    }
+}

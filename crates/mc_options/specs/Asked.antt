@@ -1,0 +1,54 @@
+-- What is taken of the numbers that the command line asks for.
+use Rattle.std.specs.Prelude.{◌≡◌, ◌≤◌, ℕ, [], ◌∷◌, Option, Some, None}
+use Rattle.std.specs.Net.Addr.{ipv4_octets, IsV4And}
+use Rattle.std.specs.declared.net.ip_addr.IpAddr.{IpAddr}
+use Rattle.mc_shelf.specs.Ranges.{IsGreatestCharge, IsShelfCount}
+use Rattle.mc_options.specs.declared.options.AskedPlace.{AskedPlace}
+use Rattle.mc_options.specs.declared.options.ScrapePlace.{ScrapePlace}
+
+-- from 1 up to the most
+abbrev pub IsUpTo : (most taken : ℕ) → Type 0
+IsUpTo most taken = 1 ≤ taken × taken ≤ most
+
+-- the number that is asked for, where it is in range; another number in range where it isn't, and
+-- where nothing is asked for the usual one
+pub record IsAskedFor (asked : Option ℕ) (usual most taken : ℕ) : Type 0 where
+  pub unasked : asked ≡ None → taken ≡ usual
+  pub asked_for : (n : ℕ) → asked ≡ Some n → 1 ≤ n → n ≤ most → taken ≡ n
+  pub range : IsUpTo most taken
+
+-- the number that is asked for, where it is at most the most; another such number where it isn't, and 0
+-- where nothing is asked for
+pub record IsTimeoutFor (asked : Option ℕ) (most taken : ℕ) : Type 0 where
+  pub unasked : asked ≡ None → taken ≡ 0
+  pub asked_for : (n : ℕ) → asked ≡ Some n → n ≤ most → taken ≡ n
+  pub range : taken ≤ most
+
+-- the greatest charge of an item that is asked for, where it is that of 1 to 8 pages; another such where it
+-- isn't, and that of a page where nothing is asked for
+pub record IsGreatestFor (asked : Option ℕ) (taken : ℕ) : Type 0 where
+  pub unasked : asked ≡ None → taken ≡ 1048576
+  pub asked_for : (n : ℕ) → asked ≡ Some n → IsGreatestCharge n → taken ≡ n
+  pub range : IsGreatestCharge taken
+
+-- a number of shelves is asked for that a store can't have
+abbrev pub AsksNoShelfCount : (asked : Option ℕ) → Type 0
+AsksNoShelfCount asked = (n : ℕ) × (asked ≡ Some n) × ¬ IsShelfCount n
+
+-- the address that is asked for, and 127.0.0.1 where none is
+pub record IsAddressFor (asked : Option IpAddr) (taken : IpAddr) : Type 0 where
+  pub unasked : asked ≡ None → IsV4And taken (λ ip. ipv4_octets ip ≡ 127 ∷ 0 ∷ 0 ∷ 1 ∷ [])
+  pub asked_for : (address : IpAddr) → asked ≡ Some address → taken ≡ address
+
+-- the place that is asked for, where its port is in range, and else the first port; without an address it is
+-- this machine's own
+pub record IsPlaceFor (asked : AskedPlace) (taken : ScrapePlace) : Type 0 where
+  pub address : IsAddressFor asked.address taken.address
+  pub port : 1 ≤ asked.port → taken.port ≡ asked.port
+  pub range : 1 ≤ taken.port
+
+-- the place that is asked for, and none where none is
+abbrev pub IsScrapePlaceFor : (asked : Option AskedPlace) → (taken : Option ScrapePlace) → Type 0
+IsScrapePlaceFor None None = Unit {0}
+IsScrapePlaceFor (Some asked) (Some taken) = IsPlaceFor asked taken
+IsScrapePlaceFor _ _ = ⊥

@@ -1,0 +1,623 @@
+//! What the command line asks for.
+ghost use Rattle.std.specs.Prelude.{◌≡◌, ◌≤◌, ◌^◌, min, option_map, IfOk, IfSome, None};
+ghost use Rattle.std.specs.Option.{option_or};
+ghost use Rattle.mc_options.specs.Asked.{
+  IsUpTo,
+  IsAskedFor,
+  IsTimeoutFor,
+  IsGreatestFor,
+  AsksNoShelfCount,
+  IsAddressFor,
+  IsScrapePlaceFor,
+};
+
+use crate::unserved::{not_served, with_unserved};
+use clap::error::ErrorKind;
+use clap::{Arg, ArgAction, ArgMatches, Command, Error, value_parser};
+use mc_shelf::Settings;
+use mc_time::Moment;
+use std::alloc::{AllocError, Global};
+use std::net::{IpAddr, Ipv4Addr, Ipv6Addr, SocketAddr};
+
+/// The program's own version, and that of memcached's protocol that is spoken, as `version` answers
+/// it.
+const VERSION: &str = "0.9.0 (memcached's protocol 1.6.0)";
+
+/// The most workers that there may be.
+const MOST_WORKERS: u32 = 64;
+
+/// The most connections that may be open at once, at most.
+const MOST_CONNECTIONS: u32 = 65536;
+
+/// The longest time after which a connection that is idle may be closed, in seconds: 30 days.
+const LONGEST_TIMEOUT: u32 = 2_592_000;
+
+/// The connections that may be open at once where the command line says nothing of them.
+const CONNECTIONS: u32 = 1024;
+
+/// The port where the command line says nothing of it.
+const PORT: u16 = 11211;
+
+/// The workers where the command line says nothing of them.
+const WORKERS: u32 = 4;
+
+/// The pages of a store where the command line says nothing of them.
+const PAGES: u32 = 64;
+
+/// The shelves of a store where the command line says nothing of them.
+const SHELVES: u32 = 64;
+
+/// What is said of a UDP port.
+const NO_UDP: &str = "'-U' ('--udp-port') takes 0 alone: there is no UDP; clients reach it by TCP";
+
+/// What is said of several addresses.
+const ONE_ADDRESS: &str =
+    "'-l' ('--listen') takes one address: '0.0.0.0' stands for all of version \
+4, '::' for all of version 6 and mostly of version 4 too; else start a server for each";
+
+/// What is said of a place for scrapes that is none.
+const NO_PLACE: &str = "a port, 1 to 65535, before which an IP address may stand, \
+as in 9150, 10.0.0.5:9150 and [::1]:9150";
+
+/// What is said of the greatest charge of an item where it is none.
+const NO_SIZE: &str = "1048576 to 8388608 bytes, as in 2097152, 2048k and 2m";
+
+/// What is said of an address that is none.
+const NO_ADDRESS: &str =
+    "invalid IP address syntax; names aren't looked up, and a port may follow, \
+as in 10.0.0.5, ::1, 10.0.0.5:11211 and [::1]:11211";
+
+/// What stands below the options in the help.
+const STATUSES: &str = "\
+Exit status:
+  0  the input is at its end, or the session was closed by quit or by a line that is too long;
+     or it was asked to end, where --allow-quit lets it
+  1  a read or a write failed, memory ran out, or it can't listen
+  2  the command line is bad";
+
+/// What `clap` found on the command line.
+#[derive(Clone, Copy)]
+pub struct Asked {
+    /// `--stdin` is there.
+    pub stdin: bool,
+    /// The seconds of `--now`.
+    pub now: Option<u64>,
+    /// The pages of `-m`.
+    pub pages: Option<u32>,
+    /// The bytes of `-I`.
+    pub greatest: Option<u64>,
+    /// The shelves of `--shelves`.
+    pub shelves: Option<u32>,
+    /// The address of `-l`.
+    pub address: Option<IpAddr>,
+    /// The port that stands behind the address of `-l`.
+    pub address_port: Option<u16>,
+    /// The port of `-p`.
+    pub port: Option<u16>,
+    /// The workers of `-t`.
+    pub workers: Option<u32>,
+    /// The connections of `-c`.
+    pub connections: Option<u32>,
+    /// The seconds of `--idle-timeout`.
+    pub idle_timeout: Option<u32>,
+    /// The place of `--metrics`.
+    pub scrapes: Option<AskedPlace>,
+    /// `--allow-quit` is there.
+    pub may_quit: bool,
+    /// `-v` is there.
+    pub verbose: bool,
+}
+
+/// Where scrapes are to be answered, as it is asked for.
+#[derive(Clone, Copy)]
+pub struct AskedPlace {
+    pub address: Option<IpAddr>,
+    pub port: u16,
+}
+
+/// Where scrapes are answered.
+#[derive(Clone, Copy)]
+pub struct ScrapePlace {
+    pub address: IpAddr,
+    /// The TCP port, 1 to 65535.
+    pub port: u16,
+}
+
+/// What the command line asks for.
+#[derive(Clone, Copy)]
+pub struct Options {
+    /// One session over standard input and output is wanted.
+    pub stdin: bool,
+    /// Where the clock stands; with none the system's clock is read.
+    pub now: Option<Moment>,
+    /// How the store is set up.
+    pub settings: Settings,
+    /// At which address it listens.
+    pub address: IpAddr,
+    /// At which TCP port it listens, 1 to 65535.
+    pub port: u16,
+    /// How many workers serve the connections, 1 to 64.
+    pub workers: u32,
+    /// How many connections may be open at once, 1 to 65536.
+    pub connections: u32,
+    /// After how many seconds a connection that is idle is closed, at most 2592000; with 0 never.
+    pub idle_timeout: u32,
+    /// Where scrapes are answered; nowhere where that isn't asked for.
+    pub scrapes: Option<ScrapePlace>,
+    /// Peers of this machine may end it, where scrapes are answered.
+    pub may_quit: bool,
+    /// Each connection that opens or closes is told of.
+    pub verbose: bool,
+}
+
+/// Why the command line asks for nothing that can be done.
+#[derive(Drop)]
+pub enum Unfit {
+    /// What `clap` says of it; help and the version are such, too.
+    Told(Error),
+    /// The number of shelves is no power of two.
+    Shelves,
+}
+
+impl From<Error> for Unfit {
+    fn from(error: Error) -> Unfit {
+        Unfit::Told(error)
+    }
+}
+
+impl Asked {
+    /// Gives the settings of the store that is asked for. Where nothing is asked for it has 64 pages, items
+    /// of at most 1048576 bytes, and 64 shelves. What is out of range, which is refused before, is brought into it. There are none where
+    /// the number of shelves that is asked for is no power of two.
+    pub fn settings(self) -> Option<Settings>
+        ensures pages { IfSome result (λ settings. IsAskedFor self.pages 64 65536 settings.pages) }
+        ensures greatest { IfSome result (λ settings.
+            IsGreatestFor self.greatest settings.greatest) }
+        ensures shelves { IfSome result (λ settings.
+            IsAskedFor self.shelves 64 256 settings.shelves) }
+        ensures none { result ≡ None → AsksNoShelfCount self.shelves }
+    {
+        let pages = taken(self.pages, PAGES, Settings::MOST_PAGES);
+        let shelves = taken(self.shelves, SHELVES, Settings::MOST_SHELVES);
+        Settings::new(pages, greatest_of(self.greatest), shelves)
+    }
+}
+
+impl Options {
+    /// Makes options of what `clap` found, and the settings of it. Where they aren't asked for the
+    /// address is 127.0.0.1, the port is 11211, there are 4 workers, at most 1024 connections are open at
+    /// once, none is closed for being idle, and scrapes are answered nowhere, or at 127.0.0.1. A port behind
+    /// the address goes before the one of `-p`. What is out of range, which is refused before, is brought
+    /// into it.
+    pub fn new(asked: Asked, settings: Settings) -> Options
+        ensures stdin { result.stdin ≡ asked.stdin }
+        ensures now { result.now ≡ option_map (min (2 ^ 62)) asked.now }
+        ensures settings { result.settings ≡ settings }
+        ensures address { IsAddressFor asked.address result.address }
+        ensures port { IsAskedFor (option_or asked.address_port asked.port) 11211 65535 result.port }
+        ensures workers { IsAskedFor asked.workers 4 64 result.workers }
+        ensures connections { IsAskedFor asked.connections 1024 65536 result.connections }
+        ensures idle_timeout { IsTimeoutFor asked.idle_timeout 2592000 result.idle_timeout }
+        ensures scrapes { IsScrapePlaceFor asked.scrapes result.scrapes }
+        ensures may_quit { result.may_quit ≡ asked.may_quit }
+        ensures verbose { result.verbose ≡ asked.verbose }
+    {
+        Options {
+            stdin: asked.stdin,
+            now: asked.now.map(Moment::from_seconds_at_most),
+            settings,
+            address: address_of(asked.address),
+            port: match asked.address_port.or(asked.port) {
+                Some(port) => port.max(1),
+                None => PORT,
+            },
+            workers: taken(asked.workers, WORKERS, MOST_WORKERS),
+            connections: taken(asked.connections, CONNECTIONS, MOST_CONNECTIONS),
+            idle_timeout: timeout(asked.idle_timeout, LONGEST_TIMEOUT),
+            scrapes: scrape_place(asked.scrapes),
+            may_quit: asked.may_quit,
+            verbose: asked.verbose,
+        }
+    }
+}
+
+/// Gives the address that is asked for, and 127.0.0.1 where none is.
+fn address_of(asked: Option<IpAddr>) -> IpAddr
+    ensures { IsAddressFor asked result }
+{
+    match asked {
+        Some(address) => address,
+        None => IpAddr::V4(Ipv4Addr::LOCALHOST),
+    }
+}
+
+/// Gives where scrapes are answered, by the place that is asked for: nowhere where none is, and at
+/// 127.0.0.1 where it has no address.
+fn scrape_place(asked: Option<AskedPlace>) -> Option<ScrapePlace>
+    ensures { IsScrapePlaceFor asked result }
+{
+    match asked {
+        Some(place) => Some(ScrapePlace {
+            address: address_of(place.address),
+            port: place.port.max(1),
+        }),
+        None => None,
+    }
+}
+
+/// Gives the number that is asked for, brought into 1 to `most`, and the usual one where none is.
+fn taken(asked: Option<u32>, usual: u32, most: u32) -> u32
+    requires { IsUpTo most usual }
+    ensures { IsAskedFor asked usual most result }
+{
+    match asked {
+        Some(number) => number.clamp(1, most),
+        None => usual,
+    }
+}
+
+/// Gives the greatest charge of an item that is asked for, brought into 1 to 8 pages, and 1 page where none
+/// is.
+fn greatest_of(asked: Option<u64>) -> u64
+    ensures { IsGreatestFor asked result }
+{
+    match asked {
+        Some(bytes) => bytes.clamp(Settings::GREATEST, Settings::MOST_GREATEST),
+        None => Settings::GREATEST,
+    }
+}
+
+/// Gives the seconds that are asked for, at most so many, and 0 where none are.
+fn timeout(asked: Option<u32>, longest: u32) -> u32
+    ensures { IsTimeoutFor asked longest result }
+{
+    match asked {
+        Some(seconds) => seconds.min(longest),
+        None => 0,
+    }
+}
+
+/// Reads the words of the command line, the program's own name first.
+pub fn parsed(alloc: Global, words: &[String]) -> Result<Options, Unfit>
+    ensures port { IfOk result (λ options. 1 ≤ options.port) }
+    ensures workers { IfOk result (λ options. 1 ≤ options.workers × options.workers ≤ 64) }
+    ensures connections { IfOk result (λ options.
+        1 ≤ options.connections × options.connections ≤ 65536) }
+    ensures idle_timeout { IfOk result (λ options. options.idle_timeout ≤ 2592000) }
+{
+    let mut command = command(alloc)?;
+    let matches = command.try_get_matches_from_mut(words)?;
+    refuse_unserved(alloc, &mut command, &matches)?;
+    let place = place_in(alloc, &mut command, &matches)?;
+    let scrapes = scrapes_in(alloc, &mut command, &matches)?;
+    let greatest = greatest_in(alloc, &mut command, &matches)?;
+    let asked = Asked {
+        stdin: matches.get_flag("stdin"),
+        now: matches.get_one::<u64>("now"),
+        pages: matches.get_one::<u32>("pages"),
+        greatest,
+        shelves: matches.get_one::<u32>("shelves"),
+        address: place.map(|place| place.address),
+        address_port: place.and_then(|place| place.port),
+        port: matches.get_one::<u16>("port"),
+        workers: matches.get_one::<u32>("workers"),
+        connections: matches.get_one::<u32>("connections"),
+        idle_timeout: matches.get_one::<u32>("idle-timeout"),
+        scrapes,
+        may_quit: matches.get_flag("allow-quit"),
+        verbose: matches.get_count("verbose") > 0,
+    };
+    match asked.settings() {
+        Some(settings) => Ok(Options::new(asked, settings)),
+        None => Err(Unfit::Shelves),
+    }
+}
+
+/// Refuses what memcached has and this program doesn't, in words that say what to do in its place.
+fn refuse_unserved(
+    alloc: Global,
+    command: &mut Command<'_>,
+    matches: &ArgMatches<'_>,
+) -> Result<(), Error> {
+    for option in not_served() {
+        if option.is_in(matches) {
+            let (short, long, instead) = (option.short, option.long, option.instead);
+            let message = format!(in alloc; "'-{short}' ('--{long}') isn't served: {instead}")?;
+            return Err(command.error(ErrorKind::UnknownArgument, message.as_str())?);
+        }
+    }
+    match matches.get_one::<u32>("udp-port") {
+        None | Some(0) => Ok(()),
+        Some(_port) => Err(command.error(ErrorKind::ValueValidation, NO_UDP)?),
+    }
+}
+
+/// An address to listen at, and the port that stands behind it.
+#[derive(Clone, Copy)]
+struct Place {
+    address: IpAddr,
+    port: Option<u16>,
+}
+
+/// Reads where to listen, of `-l`.
+fn place_in(
+    alloc: Global,
+    command: &mut Command<'_>,
+    matches: &ArgMatches<'_>,
+) -> Result<Option<Place>, Error> {
+    let text = match matches.get_strs("address") {
+        None | Some([]) => return Ok(None),
+        Some([text]) => *text,
+        Some(_several) => return Err(command.error(ErrorKind::TooManyValues, ONE_ADDRESS)?),
+    };
+    if text.contains(',') {
+        return Err(command.error(ErrorKind::TooManyValues, ONE_ADDRESS)?);
+    }
+    match place_of(text) {
+        Some(place) => Ok(Some(place)),
+        None => {
+            let message = format!(in alloc;
+                "invalid value '{text}' for '--listen <ADDR>': {NO_ADDRESS}"
+            )?;
+            Err(command.error(ErrorKind::ValueValidation, message.as_str())?)
+        }
+    }
+}
+
+/// Reads where scrapes are to be answered, of `--metrics`.
+fn scrapes_in(
+    alloc: Global,
+    command: &mut Command<'_>,
+    matches: &ArgMatches<'_>,
+) -> Result<Option<AskedPlace>, Error> {
+    let text = match matches.get_str("metrics") {
+        None => return Ok(None),
+        Some(text) => text,
+    };
+    match scrapes_of(text) {
+        Some(place) => Ok(Some(place)),
+        None => {
+            let message = format!(in alloc;
+                "invalid value '{text}' for '--metrics <[ADDR:]PORT>': it takes {NO_PLACE}"
+            )?;
+            Err(command.error(ErrorKind::ValueValidation, message.as_str())?)
+        }
+    }
+}
+
+/// Reads the greatest charge of an item, of `-I`.
+fn greatest_in(
+    alloc: Global,
+    command: &mut Command<'_>,
+    matches: &ArgMatches<'_>,
+) -> Result<Option<u64>, Error> {
+    let text = match matches.get_str("max-item-size") {
+        None => return Ok(None),
+        Some(text) => text,
+    };
+    match bytes_of(text) {
+        Some(bytes) if Settings::GREATEST <= bytes && bytes <= Settings::MOST_GREATEST => {
+            Ok(Some(bytes))
+        }
+        _ => {
+            let message = format!(in alloc;
+                "invalid value '{text}' for '--max-item-size <BYTES>': it takes {NO_SIZE}"
+            )?;
+            Err(command.error(ErrorKind::ValueValidation, message.as_str())?)
+        }
+    }
+}
+
+/// Reads a number of bytes, or of KiB or MiB, where it ends with `k` or `m`: `2097152`, `2048k`, `2m`.
+fn bytes_of(text: &str) -> Option<u64> {
+    if let Some(number) = text.strip_suffix('k').or(text.strip_suffix('K')) {
+        return number.parse::<u64>().ok()?.checked_mul(1 << 10);
+    }
+    if let Some(number) = text.strip_suffix('m').or(text.strip_suffix('M')) {
+        return number.parse::<u64>().ok()?.checked_mul(1 << 20);
+    }
+    text.parse::<u64>().ok()
+}
+
+/// Reads a port, alone or behind an address: `80`, `10.0.0.5:80`, `[::1]:80`.
+fn scrapes_of(text: &str) -> Option<AskedPlace> {
+    if let Ok(port) = text.parse::<u16>()
+        && port > 0
+    {
+        return Some(AskedPlace {
+            address: None,
+            port,
+        });
+    }
+    let place = place_of(text)?;
+    Some(AskedPlace {
+        address: Some(place.address),
+        port: place.port?,
+    })
+}
+
+/// Reads an address, alone or with a port: `10.0.0.5`, `10.0.0.5:80`, `::1`, `[::1]`, `[::1]:80`.
+fn place_of(text: &str) -> Option<Place> {
+    // a scope, as in `[fe80::1%2]:80`, would be lost
+    if text.contains('%') {
+        return None;
+    }
+    if let Ok(address) = text.parse::<IpAddr>() {
+        return Some(Place {
+            address,
+            port: None,
+        });
+    }
+    if let Some(inside) = bracketed(text) {
+        let address = IpAddr::V6(inside.parse::<Ipv6Addr>().ok()?);
+        return Some(Place {
+            address,
+            port: None,
+        });
+    }
+    match text.parse::<SocketAddr>() {
+        Ok(place) if place.port() > 0 => Some(Place {
+            address: place.ip(),
+            port: Some(place.port()),
+        }),
+        _ => None,
+    }
+}
+
+/// Gives what stands between `[` and `]`.
+fn bracketed(text: &str) -> Option<&str> {
+    text.strip_prefix('[')?.strip_suffix(']')
+}
+
+/// The options that there are.
+fn command<'a>(alloc: Global) -> Result<Command<'a>, Error> {
+    let command = Command::new(alloc, "mcserver")
+        .bin_name("mcserver")?
+        .version(VERSION)
+        .about("A cache server that speaks memcached's text protocol")
+        .after_help(STATUSES)
+        .args_override_self(true);
+    let command = with_session_options(alloc, command)?;
+    let command = with_store_options(alloc, command)?;
+    let command = with_listening_options(alloc, command)?;
+    let command = with_connection_options(alloc, command)?;
+    let command = with_telling_options(alloc, command)?;
+    let command = with_options_without_effect(alloc, command)?;
+    Ok(with_unserved(alloc, command)?)
+}
+
+/// Adds the options of which a session over standard input and output has a use.
+fn with_session_options<'a>(
+    alloc: Global,
+    command: Command<'a>,
+) -> Result<Command<'a>, AllocError> {
+    let stdin = Arg::new(alloc, "stdin")
+        .long("stdin")
+        .action(ArgAction::SetTrue)
+        .help("Serve one session over standard input and output");
+    let now = Arg::new(alloc, "now")
+        .long("now")
+        .value_name("N")
+        .action(ArgAction::Set)
+        .value_parser(value_parser!(u64).range(0..=Moment::LATEST as i64))
+        .help("Let the clock stand at N seconds after 1970 [default: the system's clock]");
+    command.arg(stdin)?.arg(now)
+}
+
+/// Adds the options of how the store is set up.
+fn with_store_options<'a>(alloc: Global, command: Command<'a>) -> Result<Command<'a>, AllocError> {
+    let pages = Arg::new(alloc, "pages")
+        .short('m')
+        .long("memory-limit")
+        .value_name("N")
+        .action(ArgAction::Set)
+        .value_parser(value_parser!(u32).range(1..=i64::from(Settings::MOST_PAGES)))
+        .help("Keep items in at most N pages of 1 MiB, 1 to 65536 [default: 64]");
+    let greatest = Arg::new(alloc, "max-item-size")
+        .short('I')
+        .long("max-item-size")
+        .value_name("BYTES")
+        .action(ArgAction::Set)
+        .help("Take items of at most BYTES with key and header, 1m to 8m [default: 1m]");
+    let shelves = Arg::new(alloc, "shelves")
+        .long("shelves")
+        .value_name("N")
+        .action(ArgAction::Set)
+        .value_parser(value_parser!(u32).range(1..=i64::from(Settings::MOST_SHELVES)))
+        .help("Keep keys on N shelves, a power of two, 1 to 256 [default: 64]");
+    command.arg(pages)?.arg(greatest)?.arg(shelves)
+}
+
+/// Adds the options of where a program listens, and by how many it serves there.
+fn with_listening_options<'a>(
+    alloc: Global,
+    command: Command<'a>,
+) -> Result<Command<'a>, AllocError> {
+    let address = Arg::new(alloc, "address")
+        .short('l')
+        .long("listen")
+        .value_name("ADDR")
+        .action(ArgAction::Append)
+        .help("Listen at the IP address ADDR, behind which a port may stand [default: 127.0.0.1]");
+    let port = Arg::new(alloc, "port")
+        .short('p')
+        .long("port")
+        .value_name("N")
+        .action(ArgAction::Set)
+        .value_parser(value_parser!(u16).range(1..=i64::from(u16::MAX)))
+        .help("Listen at TCP port N, 1 to 65535 [default: 11211]");
+    let workers = Arg::new(alloc, "workers")
+        .short('t')
+        .long("threads")
+        .value_name("N")
+        .action(ArgAction::Set)
+        .value_parser(value_parser!(u32).range(1..=i64::from(MOST_WORKERS)))
+        .help("Serve connections by N workers, 1 to 64 [default: 4]");
+    command.arg(address)?.arg(port)?.arg(workers)
+}
+
+/// Adds the options of connections, how many there are, and how long.
+fn with_connection_options<'a>(
+    alloc: Global,
+    command: Command<'a>,
+) -> Result<Command<'a>, AllocError> {
+    let connections = Arg::new(alloc, "connections")
+        .short('c')
+        .long("conn-limit")
+        .value_name("N")
+        .action(ArgAction::Set)
+        .value_parser(value_parser!(u32).range(1..=i64::from(MOST_CONNECTIONS)))
+        .help("Have at most N connections open, 1 to 65536 [default: 1024]");
+    let idle_timeout = Arg::new(alloc, "idle-timeout")
+        .long("idle-timeout")
+        .value_name("SECONDS")
+        .action(ArgAction::Set)
+        .value_parser(value_parser!(u32).range(0..=i64::from(LONGEST_TIMEOUT)))
+        .help(
+            "Close connections that are idle for so long, 1 to 2592000; with 0 none [default: 0]",
+        );
+    command.arg(connections)?.arg(idle_timeout)
+}
+
+/// Adds the options of what is told, and to whom, and of who may end the program.
+fn with_telling_options<'a>(
+    alloc: Global,
+    command: Command<'a>,
+) -> Result<Command<'a>, AllocError> {
+    let metrics = Arg::new(alloc, "metrics")
+        .long("metrics")
+        .value_name("[ADDR:]PORT")
+        .action(ArgAction::Set)
+        .help("Tell Prometheus what is counted, by HTTP at this port [default: not at all]");
+    let allow_quit = Arg::new(alloc, "allow-quit")
+        .long("allow-quit")
+        .action(ArgAction::SetTrue)
+        .requires_arg("metrics")?
+        .help("End by 'POST /quit' at that port, where it comes of this machine");
+    let verbose = Arg::new(alloc, "verbose")
+        .short('v')
+        .long("verbose")
+        .action(ArgAction::Count)
+        .help("Tell of each connection that opens or closes, on standard error");
+    command.arg(metrics)?.arg(allow_quit)?.arg(verbose)
+}
+
+/// Adds what memcached's command lines have, and what is so without it.
+fn with_options_without_effect<'a>(
+    alloc: Global,
+    command: Command<'a>,
+) -> Result<Command<'a>, AllocError> {
+    let evictions = Arg::new(alloc, "disable-evictions")
+        .short('M')
+        .long("disable-evictions")
+        .action(ArgAction::SetTrue)
+        .help("Change nothing: nothing is ever evicted, and a full store refuses");
+    let udp = Arg::new(alloc, "udp-port")
+        .short('U')
+        .long("udp-port")
+        .value_name("0")
+        .action(ArgAction::Set)
+        .value_parser(value_parser!(u32))
+        .help("Change nothing: there is no UDP, and 0 is all that is taken");
+    command.arg(evictions)?.arg(udp)
+}

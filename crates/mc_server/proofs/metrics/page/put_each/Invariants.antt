@@ -1,7 +1,0 @@
-use Rattle.std.proofs.Common.{◌≡◌, ◌++◌, take}
-use Rattle.mc_server.specs.Pages.{each_text}
-use Rattle.mc_server.proofs.metrics.page.put_each.Given as goal
-
-abbrev pub invariant-loop-row : goal.invariant-loop-row
-invariant-loop-row l =
-    l.page.items ≡ l.fn.page.items ++ each_text l.reading l.name (take l.row-index l.rows)

@@ -1,7 +1,0 @@
-use Rattle.std.proofs.Common.{◌≡◌, ◌++◌, take}
-use Rattle.mc_server.specs.Pages.{families_text}
-use Rattle.mc_server.proofs.metrics.page.put_families.Given as goal
-
-abbrev pub invariant-loop-family : goal.invariant-loop-family
-invariant-loop-family l =
-    l.page.items ≡ l.fn.page.items ++ families_text l.reading (take l.family-index l.families)

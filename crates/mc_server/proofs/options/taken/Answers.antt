@@ -1,6 +1,0 @@
-use Rattle.std.proofs.Common.{arith}
-use Rattle.mc_server.proofs.AskedLemmas.{clamped}
-use Rattle.mc_server.proofs.options.taken.Goals as goal
-
-pub returns-in-Some : goal.returns-in-Some
-returns-in-Some c = clamped c.args.asked c.args.usual c.args.most c.in-Some.number c.clamp.result c.in-Some.is c.clamp.ensures (omega arith)

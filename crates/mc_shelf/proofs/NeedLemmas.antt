@@ -1,0 +1,103 @@
+-- What a charge needs.
+use Rattle.std.proofs.Common.{◌≡◌, ℕ, ◌+◌, ◌-◌, ◌*◌, ◌/◌, ◌<◌, ◌≤◌, true, false, true≢false, ◌&&◌, not, eqb, eqb-true, eq-eqb, ltb, List, Option, Some, None, length, get_or, inl}
+use Rattle.std.proofs.Common.{inr, leb, if◌then◌else◌, sym, ap, subst, ◌∙◌, arith, refl}
+use Rattle.std.proofs.lemmas.Bool.{cases_lt, le-leb, leb-true, leb-false}
+use Rattle.std.proofs.lemmas.List.Sums.{fails_before_first, passes_at_first}
+use Rattle.std.specs.List.{position_or_len}
+use Rattle.mc_slab.specs.Classes.{IsClass, chunk_sizes, class_holding, size_of}
+use Rattle.mc_slab.specs.Needs.{NeedState, need_for, same_need, size_in}
+use Rattle.mc_command.specs.Plain.{Entry, item_need}
+use Rattle.mc_command.specs.Laws.{of_class}
+use Rattle.mc_shelf.specs.Plans.{dead_chunks, gives_way, has_need, is_gone}
+use Rattle.mc_slab.specs.Chunks.{ChunksState, AreChunksOf}
+use Rattle.mc_slab.proofs.ClassLemmas.{length-chunk_sizes, size_of-last}
+
+pub by_charge : (P : NeedState → Type 0) (charge : ℕ) → (charge ≤ 1048576 → P (record { class = class_holding charge; count = 1 }))
+    → (1048576 < charge → P (record { class = 40; count = (charge + 1048575) / 1048576 })) → P (need_for charge)
+by_charge P charge small large =
+    elim (leb charge 1048576) as (λ b. leb charge 1048576 ≡ b → P (if b then record { class = class_holding charge; count = 1 } else record { class = 40; count = (charge + 1048575) / 1048576 })) [
+      | true ↦ λ e. small (leb-true charge 1048576 e)
+      | false ↦ λ e. large (leb-false charge 1048576 e)
+    ] refl
+
+last_but_one : get_or chunk_sizes 38 0 ≡ 493552
+unfolding chunk_sizes
+last_but_one = refl
+
+-- two needs that are the same
+pub needs_same : (a b : NeedState) → a ≡ b → same_need a b ≡ true
+needs_same a b e = subst (λ (n : NeedState). same_need a n ≡ true) e (λ i. eq-eqb a.class a.class refl i && eq-eqb a.count a.count refl i)
+
+-- a charge of at most a page has a class, and fits it
+class_least : (charge : ℕ) → charge ≤ 1048576 → IsClass (class_holding charge)
+class_least charge most =
+    let place : ℕ = position_or_len (λ size. leb charge size) chunk_sizes in
+    elim (cases_lt 39 place) as (λ _. IsClass (class_holding charge)) [
+      | inl behind ↦ absurd (true≢false (sym (le-leb charge 1048576 most) ∙ ap (leb charge) (sym size_of-last) ∙ fails_before_first (λ size. leb charge size) chunk_sizes 39 0 behind))
+      | inr within ↦ (omega arith, omega arith)
+    ]
+
+class_fits : (charge : ℕ) → IsClass (class_holding charge) → charge ≤ size_of (class_holding charge)
+class_fits charge is =
+    let smaller : ℕ = position_or_len (λ size. leb charge size) chunk_sizes in
+    let inside : smaller < length chunk_sizes = rw length-chunk_sizes (omega (arith, is)) in
+    let one_back : smaller ≡ smaller + 1 - 1 = omega arith in
+    leb-true _ _ (subst (λ n. leb charge (get_or chunk_sizes n 0) ≡ true) one_back (passes_at_first (λ size. leb charge size) chunk_sizes 0 inside))
+
+-- what is needed is of a class
+pub need_class : (charge : ℕ) → IsClass (need_for charge).class
+need_class charge = by_charge (λ need. IsClass need.class) charge (class_least charge) (λ above. (omega arith, omega arith))
+
+-- and a charge fits what it needs
+pub need_fits : (charge : ℕ) → charge ≤ size_in (need_for charge)
+need_fits charge =
+    by_charge (λ need. charge ≤ size_in need) charge
+    (λ most. let fits = class_fits charge (class_least charge most) in omega (arith, fits))
+    (λ above. let pages : ℕ = (charge + 1048575) / 1048576 in
+    let fits : charge ≤ pages * 1048576 = omega arith in
+    subst (λ (k : ℕ). charge ≤ pages * k) (sym size_of-last) fits)
+
+-- how long the chunks of a need are
+pub chunks_size : (need : NeedState) (chunks : ChunksState) → AreChunksOf need chunks → length chunks.bytes ≡ size_in need
+chunks_size need chunks are = are.are.size ∙ ap size_in are.need_is
+
+-- ---- small charges
+
+small_class : (charge : ℕ) → charge ≤ 493552 → class_holding charge ≤ 39
+small_class charge small =
+    let place : ℕ = position_or_len (λ size. leb charge size) chunk_sizes in
+    elim (cases_lt 38 place) as (λ _. class_holding charge ≤ 39) [
+      | inl behind ↦ absurd (true≢false (sym (le-leb charge 493552 small) ∙ ap (leb charge) (sym last_but_one) ∙ fails_before_first (λ size. leb charge size) chunk_sizes 38 0 behind))
+      | inr within ↦ omega arith
+    ]
+
+-- what needs chunks of a small charge's class needs the same
+small_same : (charge other : ℕ) → charge ≤ 493552 → (need_for other).class ≡ (need_for charge).class → need_for other ≡ need_for charge
+small_same charge other small =
+    by_charge (λ need. (need_for other).class ≡ need.class → need_for other ≡ need) charge
+    (λ most. by_charge (λ need. need.class ≡ class_holding charge → need ≡ record { class = class_holding charge; count = 1 }) other
+    (λ most same. λ i. record { class = same i; count = 1 })
+    (λ above same. let low = small_class charge small in absurd (omega (arith, same, low))))
+    (λ above. absurd (omega (arith, small, above)))
+
+pub small_stays : (cut : Option ℕ) (now : ℕ) (key : List ℕ) (f : Option Entry) (charge : ℕ) → charge ≤ 493552 → gives_way cut now key f (need_for charge) ≡ false
+small_stays cut now key None charge small = refl
+small_stays cut now key (Some old) charge small =
+    elim (has_need key (Some old) (need_for charge)) as (λ b. has_need key (Some old) (need_for charge) ≡ b → not b && ltb 0 (dead_chunks cut now key (Some old) (need_for charge).class) ≡ false) [
+      | true ↦ λ same. refl
+      | false ↦ λ other. ap (ltb 0) (none other)
+    ] refl
+  where
+    none : has_need key (Some old) (need_for charge) ≡ false → dead_chunks cut now key (Some old) (need_for charge).class ≡ 0
+    none other =
+        let apart : of_class key (Some old) (need_for charge).class ≡ 0 =
+        elim (eqb (item_need key old).class (need_for charge).class) as (λ b. eqb (item_need key old).class (need_for charge).class ≡ b → (if b then (item_need key old).count else 0) ≡ 0) [
+          | true ↦
+              λ same. absurd
+              (true≢false
+              (sym
+              (needs_same (item_need key old) (need_for charge)
+              (small_same charge (48 + length key + length old.block) small (eqb-true (item_need key old).class (need_for charge).class same))) ∙ other))
+          | false ↦ λ different. refl
+        ] refl in
+        elim (is_gone cut now (Some old)) as (λ b. (if b then of_class key (Some old) (need_for charge).class else 0) ≡ 0) [ true ↦ apart | false ↦ refl ]

@@ -1,0 +1,80 @@
+-- A block in parts, and which of them are blank.
+use Rattle.std.proofs.Common.{◌≡◌, ℕ, zero, suc, ◌+◌, ◌-◌, ◌<◌, ◌≤◌, ◌&&◌, Bool, true, false, List, [], ◌∷◌, ◌++◌, length, take, drop, Some, None, slice_get, if◌then◌else◌, refl}
+use Rattle.std.proofs.Common.{sym, ap, subst, ◌∙◌, arith}
+use Rattle.std.proofs.Math.Seq.{drop-cons, drop-nil}
+use Rattle.std.proofs.lemmas.Option.{get_or_from_slice_get, same_Some, slice_get_within}
+use Rattle.std.proofs.lemmas.List.{length-take-le}
+use Rattle.std.proofs.lemmas.List.Folds.{list_all-append}
+use Rattle.std.specs.List.{concat, list_all}
+use Rattle.mc_slab.specs.Classes.{size_of}
+use Rattle.mc_slab.specs.Needs.{need_for}
+use Rattle.mc_slab.proofs.ClassLemmas.{size_of-last}
+use Rattle.mc_item.specs.Items.{pieces}
+use Rattle.mc_command.specs.Plain.{Entry, charge, item_need, number_of}
+use Rattle.mc_shelf.specs.States.{parts_of}
+use Rattle.mc_shelf.proofs.NeedLemmas.{by_charge}
+use Rattle.mc_command.specs.Words.{is_space}
+
+-- each part is nothing but spaces
+abbrev pub are_blank : List (List ℕ) → Bool
+are_blank parts = list_all (λ part. list_all is_space part) parts
+
+pub blank_concat : (parts : List (List ℕ)) → list_all is_space (concat parts) ≡ are_blank parts
+blank_concat [] = refl
+blank_concat (part ∷ parts) = list_all-append is_space part (concat parts) ∙ ap (λ (b : Bool). list_all is_space part && b) (blank_concat parts)
+
+add-one : (n : ℕ) → suc n ≡ n + 1
+add-one n = omega arith
+
+from_here : (parts : List (List ℕ)) (at : ℕ) (part : List ℕ) → slice_get parts at ≡ Some part → drop at parts ≡ part ∷ drop (at + 1) parts
+from_here parts at part there =
+    drop-cons parts at [] (slice_get_within parts at part there)
+    ∙ (λ i. get_or_from_slice_get parts at part [] there i ∷ drop (add-one at i) parts)
+
+pub blank_on : (parts : List (List ℕ)) (at : ℕ) (part : List ℕ) → slice_get parts at ≡ Some part → list_all is_space part ≡ true → are_blank (drop at parts) ≡ are_blank (drop (at + 1) parts)
+blank_on parts at part there blank = ap are_blank (from_here parts at part there) ∙ ap (λ (b : Bool). b && are_blank (drop (at + 1) parts)) blank
+
+pub blank_off : (parts : List (List ℕ)) (at : ℕ) (part : List ℕ) → slice_get parts at ≡ Some part → list_all is_space part ≡ false → are_blank (drop at parts) ≡ false
+blank_off parts at part there not_blank = ap are_blank (from_here parts at part there) ∙ ap (λ (b : Bool). b && are_blank (drop (at + 1) parts)) not_blank
+
+length_pieces : (size count : ℕ) (bytes : List ℕ) → length (pieces size count bytes) ≡ count
+length_pieces size zero bytes = refl
+length_pieces size (suc count) bytes = ap suc (length_pieces size count (drop size bytes))
+
+-- as many parts as chunks
+pub parts_count : (key : List ℕ) (item : Entry) → 1 ≤ (item_need key item).count → length (parts_of key item) ≡ (item_need key item).count
+parts_count key item some =
+    let rest = length_pieces (size_of (item_need key item).class) ((item_need key item).count - 1) (drop (size_of (item_need key item).class - (48 + length key)) item.block) in
+    omega (arith, rest, some)
+
+-- past the last there is none
+pub blank_past : (parts : List (List ℕ)) (at : ℕ) → length parts ≤ at → are_blank (drop at parts) ≡ true
+blank_past [] at past = ap are_blank (drop-nil at)
+blank_past (part ∷ parts) zero past = absurd (omega (arith, past))
+blank_past (part ∷ parts) (suc at) past = blank_past parts at (omega (arith, past))
+
+-- what is in front of other parts is long
+front_long : (key block : List ℕ) → length key ≤ 250 → ((need_for (charge key block)).count ≡ 1 → ⊥) → 20 < length (take (size_of (need_for (charge key block)).class - (48 + length key)) block)
+front_long key block short several =
+    by_charge (λ need. (need.count ≡ 1 → ⊥) → 20 < length (take (size_of need.class - (48 + length key)) block)) (charge key block)
+    (λ most several. absurd (several refl))
+    (λ above several.
+    let size : size_of 40 ≡ 1048576 = size_of-last in
+    let inside : 1048576 - (48 + length key) ≤ length block = omega (arith, above) in
+    let long : length (take (1048576 - (48 + length key)) block) ≡ 1048576 - (48 + length key) = length-take-le (1048576 - (48 + length key)) block inside in
+    subst (λ (n : ℕ). 20 < length (take (n - (48 + length key)) block)) (sym size) (omega (arith, long, short)))
+    several
+
+abbrev pub FrontTells : Type 0
+FrontTells = (front rest : List ℕ) → 20 < length front → number_of (front ++ rest) ≡ (if list_all is_space rest then number_of front else None)
+
+-- the number of a block, by its first part
+pub number_by : FrontTells → (key : List ℕ) (item : Entry) → length key ≤ 250 → concat (parts_of key item) ≡ item.block → ((item_need key item).count ≡ 1 → ⊥)
+    → (first : List ℕ) → slice_get (parts_of key item) 0 ≡ Some first
+    → number_of item.block ≡ (if are_blank (drop 1 (parts_of key item)) then number_of first else None)
+number_by tells key item short joined several first there =
+    let front : List ℕ = take (size_of (item_need key item).class - (48 + length key)) item.block in
+    let rest : List (List ℕ) = drop 1 (parts_of key item) in
+    let same : front ≡ first = same_Some front first there in
+    ap number_of (sym joined) ∙ tells front (concat rest) (front_long key item.block short several)
+    ∙ (λ i. if blank_concat rest i then number_of (same i) else None)

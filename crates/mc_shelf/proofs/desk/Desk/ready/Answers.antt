@@ -1,0 +1,21 @@
+use Rattle.std.proofs.Common.{◌≡◌, OnErr, true, sym, ap, subst}
+use Rattle.mc_slab.specs.Slabs.{SlabState, WantsPages, has_room_with, out_of, pages_of}
+use Rattle.mc_shelf.specs.States.{DeskState}
+use Rattle.mc_shelf.proofs.DeskLemmas.{fault_wants}
+use Rattle.mc_shelf.proofs.desk.Desk.ready.Goals as goal
+use Rattle.mc_shelf.proofs.desk.Desk.ready.Goals.{in-Ok, in-Err}
+
+pub returns-clause-pages : goal.returns-clause-pages
+returns-clause-pages c = elim c.match-ready_with.branch [
+  | in-Ok w ↦ subst (λ r. OnErr r (WantsPages c.args.self.now.slab c.args.need c.args.back)) (sym w.result-is) tt
+  | in-Err w ↦
+      let slab = c.self.inside.slab in
+      let need = c.args.need in
+      let back = c.args.back in
+      let same : slab ≡ c.args.self.now.slab = ap (λ (d : DeskState). d.slab) c.self.view_is in
+      let room = subst (λ (t : SlabState). has_room_with t need back ≡ true) (sym same) c.requires.room in
+      let wants =
+      fault_wants slab need back _ w.in-Err.is c.ready_with.ensures.faults c.ready_with.ensures.no_memory
+      (c.ready_with.ensures.full need.class (pages_of slab need.class) (out_of slab need.class)).0 room in
+      subst (λ r. OnErr r (WantsPages c.args.self.now.slab need back)) (sym w.result-is) (subst (λ (t : SlabState). WantsPages t need back) same wants)
+]

@@ -1,0 +1,143 @@
+//! Items of several pages: what takes the place of which, and what a dead one gives back first.
+
+ghost use Rattle.std.specs.Prelude.{◌≤◌};
+
+use super::*;
+use mc_command::Verb;
+use mc_hop::Fnv;
+use mc_slab::{Account, class_of};
+use mc_testing::{Ask, Row, Want, filled, first_unlike, set};
+use std::process::Abort;
+use std::test::*;
+
+/// A block of two pages, and one of three.
+const TWO: usize = 2_000_000;
+
+const THREE: usize = 3_000_000;
+
+/// A block that makes a page with a key of one byte.
+const ONE: usize = 1_048_527;
+
+/// A store of that many pages, whose items may take eight, asked for again where memory is refused.
+fn open(alloc: Global, pages: u32) -> Result<Store<Fnv>, AllocError>
+    requires { (1 ≤ pages) × (pages ≤ 65536) }
+{
+    let settings = Settings {
+        pages,
+        greatest: 8388608,
+        shelves: 64,
+    };
+    match Store::new(alloc, settings, Fnv) {
+        Err(_) => Store::new(alloc, settings, Fnv),
+        made => made,
+    }
+}
+
+/// A new store of that many pages answers each row as it wants, and has so many pages of the last class and chunks of it out
+/// then.
+fn answers(
+    rt: &impl Abort,
+    alloc: Global,
+    pages: u32,
+    rows: &[Row<'_>],
+    want: (u32, u32),
+) -> Result<(), Fail>
+    requires { (1 ≤ pages) × (pages ≤ 65536) }
+{
+    let mut store = open(alloc, pages)?;
+    assert_eq!(rt; first_unlike(&mut store, alloc, rows)?, None);
+    assert_eq!(rt; account(&store), want);
+    Ok(())
+}
+
+/// The pages of the last class, and its chunks that are out.
+fn account(store: &Store<Fnv>) -> (u32, u32) {
+    match class_of(1_048_576) {
+        Some(class) => {
+            let Account { pages, out } = store.parts.desk.account(class);
+            (pages, out)
+        }
+        None => (0, 0),
+    }
+}
+
+/// An item that isn't dead keeps its pages until the new one has its own.
+#[test]
+fn one_that_stands_gives_its_pages_last(rt: HostRuntime) -> Result<(), Fail> {
+    let two = filled(rt.alloc(), TWO)?;
+    let three = filled(rt.alloc(), THREE)?;
+    let rows: [Row<'_>; 5] = [
+        set(1000, b"k", 0, two.as_slice(), "stored"),
+        set(1000, b"k", 0, three.as_slice(), "no chunk"),
+        (1000, b"k", Ask::Get, Want::Hit(1, two.as_slice())),
+        set(1000, b"k", 0, b"small", "stored"),
+        (1000, b"k", Ask::Get, Want::Hit(2, b"small")),
+    ];
+    answers(&rt, rt.alloc(), 4, &rows, (2, 0))
+}
+
+/// A dead item of three pages gives way to one of two, and the third serves another.
+#[test]
+fn a_dead_one_gives_way_to_a_shorter(rt: HostRuntime) -> Result<(), Fail> {
+    let one = filled(rt.alloc(), ONE)?;
+    let two = filled(rt.alloc(), TWO)?;
+    let three = filled(rt.alloc(), THREE)?;
+    let rows: [Row<'_>; 5] = [
+        set(1000, b"k", 10, three.as_slice(), "stored"),
+        set(1010, b"k", 0, two.as_slice(), "stored"),
+        (1010, b"k", Ask::Get, Want::Hit(2, two.as_slice())),
+        set(1010, b"b", 0, one.as_slice(), "stored"),
+        set(1010, b"c", 0, one.as_slice(), "no chunk"),
+    ];
+    answers(&rt, rt.alloc(), 3, &rows, (3, 3))
+}
+
+/// A dead item of two pages gives way to one of three, for which one page comes.
+#[test]
+fn a_dead_one_gives_way_to_a_longer(rt: HostRuntime) -> Result<(), Fail> {
+    let two = filled(rt.alloc(), TWO)?;
+    let three = filled(rt.alloc(), THREE)?;
+    let rows: [Row<'_>; 3] = [
+        set(1000, b"k", 10, two.as_slice(), "stored"),
+        set(1010, b"k", 0, three.as_slice(), "stored"),
+        (1010, b"k", Ask::Get, Want::Hit(2, three.as_slice())),
+    ];
+    answers(&rt, rt.alloc(), 3, &rows, (3, 3))
+}
+
+/// Where even its pages are too few the dead item goes all the same.
+#[test]
+fn a_dead_one_goes_where_no_room_is(rt: HostRuntime) -> Result<(), Fail> {
+    let one = filled(rt.alloc(), ONE)?;
+    let two = filled(rt.alloc(), TWO)?;
+    let three = filled(rt.alloc(), THREE)?;
+    let rows: [Row<'_>; 4] = [
+        set(1000, b"k", 10, two.as_slice(), "stored"),
+        set(1000, b"b", 0, one.as_slice(), "stored"),
+        set(1010, b"k", 0, three.as_slice(), "no chunk"),
+        set(1010, b"c", 0, two.as_slice(), "stored"),
+    ];
+    answers(&rt, rt.alloc(), 3, &rows, (3, 3))
+}
+
+/// Makes the row of a join.
+fn join<'a>(verb: Verb, block: &'a [u8]) -> Row<'a> {
+    let ask = Ask::Store(verb, 0, block);
+    (1000, b"k", ask, Want::Told("stored"))
+}
+
+/// A block that lies in several pages is joined of others.
+#[test]
+fn joins_go_over_pages(rt: HostRuntime) -> Result<(), Fail> {
+    let middle = filled(rt.alloc(), 1_000_000)?;
+    let end = filled(rt.alloc(), 1_500_000)?;
+    let front = filled(rt.alloc(), 500_000)?;
+    let three = filled(rt.alloc(), THREE)?;
+    let rows: [Row<'_>; 4] = [
+        set(1000, b"k", 0, middle.as_slice(), "stored"),
+        join(Verb::Append, end.as_slice()),
+        join(Verb::Prepend, front.as_slice()),
+        (1000, b"k", Ask::Get, Want::Hit(3, three.as_slice())),
+    ];
+    answers(&rt, rt.alloc(), 6, &rows, (6, 3))
+}

@@ -1,0 +1,130 @@
+//! Chunks that are had together.
+
+ghost use Rattle.std.specs.Prelude.{◌≡◌, ℕ, ◌+◌, ◌-◌, ◌<◌, ◌≤◌, length, take, IfOk};
+ghost use Rattle.mc_slab.specs.Chunks.{ChunksState, AreChunks, AreChunksOf, chunk_at, need_in, with_part};
+ghost use Rattle.mc_slab.specs.Classes.{IsClass, size_of};
+ghost use Rattle.mc_slab.specs.Helds.{chunks_in};
+ghost use Rattle.mc_slab.specs.declared.held.Held.TheVariants.{Sheets};
+
+use crate::class::Class;
+use crate::cut;
+use crate::held::{self, Held};
+use crate::need::Need;
+use crate::sheet::Sheet;
+use std::alloc::{AllocError, Global};
+use std::marker::Model;
+
+/// One chunk of a class, or two to eight chunks of a page each. Contracts see the class, the count,
+/// and the bytes of the chunks one after another. They are moved and never copied; chunks that are
+/// let go, and not given back to their slab, stay out in the slab's account for ever. The memory of
+/// a class below the last stays with the process until the process ends, also where its chunk or
+/// its slab is dropped; that of a page is given back.
+#[derive(Drop)]
+pub struct Chunks {
+    held: Held,
+}
+
+impl Model for Chunks {
+    ghost use Rattle.mc_slab.specs.Chunks.{ChunksState, coded_chunks, AreChunks};
+    ghost use Rattle.mc_slab.specs.Helds.{chunks_in};
+
+    ghost Value = { ChunksState };
+
+    ghost coded = { coded_chunks };
+
+    ghost view = { λ c. chunks_in c.held };
+
+    ghost invariant = { λ c. AreChunks (chunks_in c.held) };
+}
+
+impl Chunks {
+    /// Tells the need that they serve: their class, and how many there are.
+    pub fn need(&self) -> Need
+        ensures value { result ≡ need_in self.now }
+        ensures are { AreChunks self.now }
+    {
+        held::need(&self.held)
+    }
+
+    /// Lends the bytes of the first chunk, as many as the class's size.
+    pub fn first(&self) -> &[u8]
+        ensures value { result.now ≡ take (size_of self.now.class) self.now.bytes }
+        ensures lone { self.now.count ≡ 1 → result.now ≡ self.now.bytes }
+        ensures are { AreChunks self.now }
+    {
+        held::first(&self.held)
+    }
+
+    /// Lends the bytes of the chunk at a place, the first at 0, as many as the class's size. It goes
+    /// from one chunk to the next.
+    pub fn part(&self, at: usize) -> &[u8]
+        requires { at < self.now.count }
+        ensures value { result.now ≡ chunk_at self.now at }
+        ensures are { AreChunks self.now }
+    {
+        if at == 0 {
+            return held::first(&self.held);
+        }
+        held::sheet(&self.held).part(at)
+    }
+
+    /// Copies a part to the place `at` of the bytes, counted from 0 over the chunks one after
+    /// another. All else stays.
+    pub fn write_at(&mut self, at: usize, part: &[u8])
+        requires { at + length part.now ≤ length self.old.bytes }
+        ensures value { self.new ≡ record self.old { bytes = with_part self.old.bytes at part.now } }
+        ensures are { AreChunks self.new }
+    {
+        held::write_at(&mut self.held, at, part);
+    }
+
+    /// Cuts a chunk of a class below the last off.
+    pub(crate) fn cut(class: Class, memory: &'static mut [u8]) -> (Chunks, &'static mut [u8])
+        requires class { class < 40 }
+        requires room { size_of class ≤ length memory.old }
+        ensures chunk { AreChunksOf (record { class = class; count = 1 }) result.0 }
+        ensures rest { length result.1.now + size_of class ≡ length memory.entry.now }
+    {
+        let (held, rest) = cut::cut(class, memory);
+        (Chunks { held }, rest)
+    }
+
+    /// Makes a chunk of the last class, of zeros. The one error is a refused allocation.
+    pub(crate) fn page(alloc: Global) -> Result<Chunks, AllocError>
+        ensures { IfOk result (AreChunksOf (record { class = 40; count = 1 })) }
+    {
+        Ok(of_sheets(Sheet::new(alloc)?))
+    }
+
+    /// Puts one chunk in front of fewer than eight others, all of the last class. It takes no
+    /// memory.
+    pub(crate) fn in_front(one: Chunks, behind: Chunks) -> Chunks
+        requires one { AreChunksOf (record { class = 40; count = 1 }) one }
+        requires behind { (behind.class ≡ 40) × (behind.count < 8) }
+        ensures { AreChunksOf (record { class = 40; count = 1 + behind.entry.count }) result }
+    {
+        let (one, behind) = (held::into_sheet(one.held), held::into_sheet(behind.held));
+        of_sheets(Sheet::in_front(one, behind))
+    }
+
+    /// Takes the first chunk off others. It takes no memory.
+    pub(crate) fn taken_off(self) -> (Chunks, Chunks)
+        requires { 2 ≤ self.count }
+        ensures one { AreChunksOf (record { class = self.entry.class; count = 1 }) result.0 }
+        ensures behind { (result.1.class ≡ self.entry.class)
+            × (1 + result.1.count ≡ self.entry.count) × AreChunks result.1 }
+    {
+        let (one, behind) = Sheet::taken_off(held::into_sheet(self.held));
+        (of_sheets(one), of_sheets(behind))
+    }
+}
+
+/// Chunks of the last class.
+fn of_sheets(sheet: Box<Sheet>) -> Chunks
+    requires { AreChunks (chunks_in (Sheets sheet)) }
+    ensures { result ≡ chunks_in (Sheets sheet) }
+{
+    Chunks {
+        held: Held::Sheets(sheet),
+    }
+}

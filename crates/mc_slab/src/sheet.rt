@@ -1,0 +1,201 @@
+//! A chunk of a page's size, and those that lie behind it.
+
+ghost use Rattle.std.specs.Prelude.{◌≡◌, ◌+◌, ◌*◌, ◌<◌, ◌≤◌, List, [], ◌++◌, length, take, drop, ℕ, IfOk};
+ghost use Rattle.mc_slab.specs.Chunks.{with_part};
+ghost use Rattle.mc_slab.specs.Sheets.{sheets_in};
+
+use crate::whole::{WHOLE, Whole};
+use std::alloc::{AllocError, Global};
+use std::marker::Model;
+use std::mem;
+
+/// A chunk of a page's size, and those that lie behind it. Its box is made with the chunk, so that
+/// linking takes no memory. Contracts see how many there are, and their bytes one after another.
+#[cycle(sheet)]
+#[derive(Drop)]
+pub(crate) struct Sheet {
+    node: Node,
+}
+
+/// What a sheet has.
+#[cycle(sheet)]
+#[derive(Drop)]
+enum Node {
+    Last(Whole),
+    Before(Whole, Box<Sheet>),
+    /// Its chunk was moved away for a moment.
+    Hollow,
+}
+
+impl Model for Sheet {
+    ghost use Rattle.std.specs.Prelude.{ℕ, List};
+
+    ghost Value = { ℕ × List ℕ };
+
+    ghost use Rattle.mc_slab.specs.Sheets.{sheets_in};
+
+    ghost view = { λ s. sheets_in s.node };
+
+    ghost size = { λ s. s.0 };
+
+    ghost use Rattle.std.proofs.Common.{arith};
+
+    ghost size_decreases = { λ a h. Prim.grind (arith) };
+}
+
+impl Sheet {
+    /// Makes one sheet, of zeros, in its box. The one error is a refused allocation.
+    pub(crate) fn new(alloc: Global) -> Result<Box<Sheet>, AllocError>
+        ensures { IfOk result (λ sheet.
+            (sheet.value.0 ≡ 1) × (length sheet.value.1 ≡ 1048576)) }
+    {
+        let whole = Whole::new(alloc)?;
+        Ok(Box::new(
+            alloc,
+            Sheet {
+                node: Node::Last(whole),
+            },
+        )?)
+    }
+
+    /// Counts the chunks.
+    pub(crate) fn count(&self) -> u8
+        requires { self.now.0 ≤ 8 }
+        ensures { result ≡ self.now.0 }
+    {
+        match &self.node {
+            Node::Last(_) => 1,
+            Node::Before(_, behind) => 1 + behind.count(),
+            Node::Hollow => 0,
+        }
+    }
+
+    /// Lends the bytes of the first chunk.
+    #[tactic(auto, using(crate::proofs::SheetLemmas::first_here, crate::proofs::SheetLemmas::first_alone))]
+    pub(crate) fn first(&self) -> &[u8]
+        requires { 1 ≤ self.now.0 }
+        ensures { result.now ≡ take 1048576 self.now.1 }
+    {
+        match &self.node {
+            Node::Last(whole) => whole.bytes(),
+            Node::Before(whole, _) => whole.bytes(),
+            Node::Hollow => unreachable!(),
+        }
+    }
+
+    /// Lends the bytes of the chunk at a place, the first at 0. It goes from one to the next.
+    pub(crate) fn part(&self, at: usize) -> &[u8]
+        requires { at < self.now.0 }
+        ensures { result.now ≡ take 1048576 (drop (at * 1048576) self.now.1) }
+    {
+        if at == 0 {
+            return self.first();
+        }
+        match &self.node {
+            Node::Before(whole, behind) => {
+                whole.is_whole();
+                behind.part(at - 1)
+            }
+            Node::Last(_) | Node::Hollow => unreachable!(),
+        }
+    }
+
+    /// Puts one sheet in front of others. It takes no memory.
+    pub(crate) fn in_front(mut sheet: Box<Sheet>, behind: Box<Sheet>) -> Box<Sheet>
+        requires one { (sheet.value.0 ≡ 1) × (length sheet.value.1 ≡ 1048576) }
+        ensures { result.value
+            ≡ (1 + behind.value.0, sheet.value.1 ++ behind.value.1) }
+    {
+        let node = mem::replace(&mut sheet.node, Node::Hollow);
+        sheet.node = before(node, behind);
+        sheet
+    }
+
+    /// Takes the first sheet off others. It takes no memory.
+    pub(crate) fn taken_off(mut sheet: Box<Sheet>) -> (Box<Sheet>, Box<Sheet>)
+        requires { 2 ≤ sheet.value.0 }
+        ensures one { (result.0.value.0 ≡ 1) × (length result.0.value.1 ≡ 1048576) }
+        ensures behind { (1 + result.1.value.0 ≡ sheet.value.0)
+            × (1048576 + length result.1.value.1 ≡ length sheet.value.1) }
+    {
+        let node = mem::replace(&mut sheet.node, Node::Hollow);
+        let (node, behind) = parted(node);
+        sheet.node = node;
+        (sheet, behind)
+    }
+
+    /// Copies a part to the place `at` of the bytes, one chunk's after another's. All else stays.
+    #[cycle(write_at)]
+    pub(crate) fn write_at(&mut self, at: usize, part: &[u8])
+        requires { at + length part.now ≤ length self.old.1 }
+        ensures { self.new ≡ (self.old.0, with_part self.old.1 at part.now) }
+    {
+        match &mut self.node {
+            Node::Last(whole) => write_last(whole, at, part),
+            Node::Before(whole, behind) => write_before(whole, &mut **behind, at, part),
+            Node::Hollow => {}
+        }
+    }
+}
+
+/// The node of one chunk, with others behind it.
+fn before(node: Node, behind: Box<Sheet>) -> Node
+    requires { ((sheets_in node).0 ≡ 1) × (length (sheets_in node).1 ≡ 1048576) }
+    ensures { sheets_in result
+        ≡ (1 + behind.value.0, (sheets_in node).1 ++ behind.value.1) }
+{
+    match node {
+        Node::Last(whole) => Node::Before(whole, behind),
+        Node::Before(whole, _hollow) => {
+            whole.is_whole();
+            Node::Before(whole, behind)
+        }
+        Node::Hollow => unreachable!(),
+    }
+}
+
+/// The node of the first chunk, and what lay behind it.
+fn parted(node: Node) -> (Node, Box<Sheet>)
+    requires { 2 ≤ (sheets_in node).0 }
+    ensures one { ((sheets_in result.0).0 ≡ 1)
+        × (length (sheets_in result.0).1 ≡ 1048576) }
+    ensures behind { (1 + result.1.value.0 ≡ (sheets_in node).0)
+        × (1048576 + length result.1.value.1 ≡ length (sheets_in node).1) }
+{
+    match node {
+        Node::Before(whole, behind) => {
+            whole.is_whole();
+            (Node::Last(whole), behind)
+        }
+        Node::Last(_) | Node::Hollow => unreachable!(),
+    }
+}
+
+/// Copies a part to a place of the last chunk.
+fn write_last(whole: &mut Whole, at: usize, part: &[u8])
+    requires { at + length part.now ≤ length whole.old }
+    ensures { whole.new ≡ with_part whole.old at part.now }
+{
+    whole.is_whole();
+    whole.write_at(at, part);
+}
+
+/// Copies a part to a place of a chunk and those behind it.
+#[cycle(write_at)]
+fn write_before(whole: &mut Whole, behind: &mut Sheet, at: usize, part: &[u8])
+    requires { at + length part.now ≤ length (whole.old ++ behind.old.1) }
+    ensures value { whole.new ++ behind.new.1
+        ≡ with_part (whole.old ++ behind.old.1) at part.now }
+    ensures count { behind.new.0 ≡ behind.old.0 }
+{
+    whole.is_whole();
+    if at >= WHOLE {
+        behind.write_at(at - WHOLE, part);
+    } else if part.len() <= WHOLE - at {
+        whole.write_at(at, part);
+    } else {
+        let (front, rest) = part.split_at(WHOLE - at);
+        whole.write_at(at, front);
+        behind.write_at(0, rest);
+    }
+}

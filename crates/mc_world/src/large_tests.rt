@@ -1,0 +1,134 @@
+//! Items of several pages, in worlds of stores of few. Where memory is refused a test ends early.
+
+use crate::World;
+use crate::tests::{NO_CHUNK, ask, opened_with, tells};
+use mc_hop::Fnv;
+use mc_shelf::Settings;
+use std::alloc::{AllocError, Global};
+use std::process::Abort;
+use std::test::Fail;
+
+/// How stores of two, three and eight pages are set up whose items may be of eight.
+const TWO: Settings = Settings {
+    pages: 2,
+    greatest: Settings::MOST_GREATEST,
+    shelves: 64,
+};
+
+const THREE: Settings = Settings {
+    pages: 3,
+    greatest: Settings::MOST_GREATEST,
+    shelves: 64,
+};
+
+const EIGHT: Settings = Settings {
+    pages: 8,
+    greatest: Settings::MOST_GREATEST,
+    shelves: 64,
+};
+
+/// What a set is answered of a block that is too large.
+const TOO_LARGE: &str = "SERVER_ERROR object too large for cache\r\n";
+
+/// What session 1 asks.
+#[derive(Clone, Copy)]
+enum Asks {
+    /// A set of a key to so many bytes, and its exptime.
+    Set(char, u32, i32),
+    Delete(char),
+}
+
+/// What session 1 asks, and what it is answered.
+type Row = (Asks, &'static str);
+
+/// A line that sets a key, and so many bytes.
+fn set_of(alloc: Global, key: char, length: u32, exptime: i32) -> Result<Vec<u8>, AllocError> {
+    let mut text = format!(in alloc; "set {key} 0 {exptime} {length}\r\n")?.into_bytes();
+    let line = text.len();
+    text.resize(line + length as usize, b'x')?;
+    text.extend_from_slice(b"\r\n")?;
+    Ok(text)
+}
+
+/// The bytes that ask so.
+fn bytes_of(alloc: Global, asks: Asks) -> Result<Vec<u8>, AllocError> {
+    match asks {
+        Asks::Set(key, length, exptime) => set_of(alloc, key, length, exptime),
+        Asks::Delete(key) => Ok(format!(in alloc; "delete {key}\r\n")?.into_bytes()),
+    }
+}
+
+fn row_is_told(
+    rt: &impl Abort,
+    alloc: Global,
+    world: &mut World<Fnv>,
+    row: &Row,
+) -> Result<(), Fail> {
+    let (asks, output) = *row;
+    let bytes = bytes_of(alloc, asks)?;
+    ask(alloc, world, 1000, &bytes)?;
+    tells(rt, world, output);
+    Ok(())
+}
+
+fn rows_are_told(
+    rt: &impl Abort,
+    alloc: Global,
+    world: &mut World<Fnv>,
+    rows: &[Row],
+) -> Result<(), Fail> {
+    for row in rows {
+        row_is_told(rt, alloc, world, row)?;
+    }
+    Ok(())
+}
+
+/// In a new world whose store is set up so, session 1 is answered as each row says.
+fn are_told(rt: &impl Abort, alloc: Global, settings: Settings, rows: &[Row]) -> Result<(), Fail> {
+    let mut world = opened_with(alloc, Fnv, settings)?;
+    rows_are_told(rt, alloc, &mut world, rows)
+}
+
+#[test]
+fn items_of_several_pages_share_a_store(rt: HostRuntime) -> Result<(), Fail> {
+    const ROWS: [Row; 7] = [
+        (Asks::Set('b', 3000000, 0), "STORED\r\n"),
+        (Asks::Set('s', 1, 0), NO_CHUNK),
+        (Asks::Set('b', 3000000, 0), NO_CHUNK),
+        (Asks::Delete('b'), "DELETED\r\n"),
+        (Asks::Set('c', 2000000, 0), "STORED\r\n"),
+        (Asks::Set('d', 1048527, 0), "STORED\r\n"),
+        (Asks::Set('e', 1048527, 0), NO_CHUNK),
+    ];
+    are_told(&rt, rt.alloc(), THREE, &ROWS)
+}
+
+#[test]
+fn an_item_has_at_most_eight_pages(rt: HostRuntime) -> Result<(), Fail> {
+    const ROWS: [Row; 2] = [
+        (Asks::Set('k', 8388559, 0), "STORED\r\n"),
+        (Asks::Set('k', 8388560, 0), TOO_LARGE),
+    ];
+    are_told(&rt, rt.alloc(), EIGHT, &ROWS)
+}
+
+#[test]
+fn an_item_takes_all_its_pages_or_none(rt: HostRuntime) -> Result<(), Fail> {
+    const ROWS: [Row; 2] = [
+        (Asks::Set('b', 3000000, 0), NO_CHUNK),
+        (Asks::Set('s', 1, 0), "STORED\r\n"),
+    ];
+    are_told(&rt, rt.alloc(), TWO, &ROWS)
+}
+
+/// An item that is dead gives its pages to a larger one and to a smaller one of its key.
+#[test]
+fn a_dead_item_gives_way_to_one_of_other_pages(rt: HostRuntime) -> Result<(), Fail> {
+    const ROWS: [Row; 4] = [
+        (Asks::Set('b', 2000000, -1), "STORED\r\n"),
+        (Asks::Set('b', 3000000, -1), "STORED\r\n"),
+        (Asks::Set('b', 2000000, 0), "STORED\r\n"),
+        (Asks::Set('c', 1048527, 0), "STORED\r\n"),
+    ];
+    are_told(&rt, rt.alloc(), THREE, &ROWS)
+}
