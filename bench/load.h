@@ -12,7 +12,7 @@
 #include "load_figures.h"
 
 enum {
-    GREATEST_VALUE = 1 << 20,
+    GREATEST_VALUE = 8 << 20,
     RECEIVED_BYTES = 1 << 18,
     LINE_BYTES = 512,
     /* a call that sends takes 1,024 pieces, and a request is two of them */

@@ -65,6 +65,8 @@ class Workload:
     idle: int = 0
     workers: int = 4
     fills: bool = True
+    # further words of both servers' command lines
+    args: list = field(default_factory=list)
 
     @property
     def grows(self):
@@ -85,6 +87,7 @@ def workloads():
     deep, zipf = ["--depth", "32"], ["--zipf", "0.99", "--gets", "90"]
     kilo = {"keys": 10_000, "value": 10_000}
     mega = {"keys": 100, "value": 1_000_000, "connections": 8}
+    megas = {size: {"keys": 200 // size, "value": size * 1_000_000, "connections": 8, "args": ["-I", "8m"]} for size in (4, 8)}
     nothing, hundred = ["--nothing", "--first-key", "1000000000"], ["--keys-a-get", "100"]
     made = [
         Workload("get", "get", "get"),
@@ -96,6 +99,7 @@ def workloads():
         Workload("set-10k", "set of 10 KB", "set", **kilo),
         Workload("get-1m", "get of 1 MB", "get", **mega),
         Workload("set-1m", "set of 1 MB", "set", **mega),
+        *[Workload(f"{verb}-{size}m", f"{verb} of {size} MB", verb, **it) for size, it in megas.items() for verb in ("get", "set")],
         Workload("nothing-32", "get of nothing, 32 deep, of 1,000 items", "get", [*nothing, *deep], keys=1000),
         Workload("nothing-100-keys", "get of 100 keys, all of nothing, of 1,000 items", "get", [*nothing, *hundred], keys=1000),
         Workload("nothing-full-32", "get of nothing, 32 deep, of 1,000,000 items", "get", [*nothing, *deep], keys=1_000_000),
@@ -116,12 +120,12 @@ def workloads():
 # ---- servers
 
 
-def memcached(workers):
-    return Server("memcached", pages=PAGES, workers=workers, args=["-c", "16384"])
+def memcached(work):
+    return started("memcached", work)
 
 
-def mcserver(program, workers):
-    return Server(program, pages=PAGES, workers=workers, args=["-c", "16384"])
+def started(program, work):
+    return Server(program, pages=PAGES, workers=work.workers, args=["-c", "16384", *work.args])
 
 
 def processor_seconds(server):
@@ -224,7 +228,7 @@ class Bench:
         """A list of pairs of figures, a round each, memcached's first."""
         if work.grows:
             return [self.grown(work, number) for number in range(self.rounds)]
-        with self.sides[0](work.workers) as one, self.sides[1](work.workers) as other:
+        with self.sides[0](work) as one, self.sides[1](work) as other:
             servers = (one, other)
             for server in servers if work.fills else ():
                 self.fill(work, server)
@@ -245,13 +249,13 @@ class Bench:
             taken[side] = loads[side].round(WARM, self.seconds)
             used = processor_seconds(servers[1 - side]) - used
             resting[1 - side] = used / (time.monotonic() - began)
-        return tuple({**taken[side], "resting": resting[side]} for side in (0, 1))
+        return tuple({**taken[side], "resting": resting[side], "resident": servers[side].memory()} for side in (0, 1))
 
     def grown(self, work, number):
         """One round of new keys of each, of a server that was just started."""
         taken = {}
         for side in (0, 1) if number % 2 == 0 else (1, 0):
-            with self.sides[side](work.workers) as server, self.loaded(work, server) as load:
+            with self.sides[side](work) as server, self.loaded(work, server) as load:
                 taken[side] = load.round(0, self.seconds)
                 self.read_back(work, server)
         return taken[0], taken[1]
@@ -290,6 +294,7 @@ def summed(work, rounds):
         made = {it: statistics.median([figure(pair[side]) for pair in rounds]) for it, figure in FIGURES.items()}
         made["system_part"] = system_part(rounds, side)
         made["resting"] = statistics.median([pair[side].get("resting", 0.0) for pair in rounds])
+        made["resident"] = max(pair[side].get("resident", 0) for pair in rounds)
         made["wrong"] = sum(pair[side]["wrong"] for pair in rounds)
         made["first_wrong"] = next((pair[side]["first_wrong"] for pair in rounds if pair[side]["wrong"]), "")
         made["client_us"] = statistics.median([it[side]["client_ns"] / 1000 / max(it[side]["operations"], 1) for it in rounds])
@@ -348,6 +353,14 @@ def resting(rows):
     return f"While the other was asked, and it was asked nothing, at most {', '.join(parts)}."
 
 
+def resident(rows):
+    """The most memory that each server had, where items are large."""
+    for row in rows:
+        if row["name"].endswith("m") and "-" in row["name"]:
+            parts = [f"{name} {row['sides'][name]['resident'] / 1e6:.0f} MB" for name in NAMES]
+            yield f"Resident behind a round, at most, {row['title']}: {', '.join(parts)}."
+
+
 def aggregate(rows):
     """The median of all ratios of a kind."""
     made = {name: statistics.median([row["ratios"][name]["median"] for row in rows]) for name in ("a_second", "us")}
@@ -383,7 +396,7 @@ def report(rows, failures, took, settings):
         f"{' Memcached stands on both sides.' if settings['sanity'] else ''}\n"
     )
     if rows:
-        print(cost_table(rows), latency_table(rows), *longest(rows), resting(rows), aggregate(rows), sep="\n\n", end="\n\n")
+        print(cost_table(rows), latency_table(rows), *longest(rows), *resident(rows), resting(rows), aggregate(rows), sep="\n\n", end="\n\n")
     print("\n".join(faults) if faults else "Every reply was compared, and none was wrong.", flush=True)
     return 1 if faults else 0
 
@@ -602,7 +615,7 @@ def chosen_sides(given):
         return memcached, memcached
     if not os.access(given.program, os.X_OK):
         raise Failed(f"there is no program {given.program}: make build")
-    return memcached, lambda workers: mcserver(given.program, workers)
+    return memcached, lambda work: started(given.program, work)
 
 
 def raise_limits():

@@ -161,14 +161,14 @@ def grows(port, until):
         first += 100_000
 
 
-def appends(port, until):
-    """Appends to an item until it is large, and begins anew."""
-    piece = b"z" * 50_000
+def appends(port, until, key, size):
+    """Appends blocks of so many bytes to an item of its own until it has 19 of them, and begins anew."""
+    piece = b"z" * size
     with connect(port) as link:
         while time.monotonic() < until.value:
-            put(link, b"joined", piece)
+            put(link, key, piece)
             for _ in range(18):
-                link.sendall(b"append joined 0 0 %d\r\n%s\r\n" % (len(piece), piece))
+                link.sendall(b"append %s 0 0 %d\r\n%s\r\n" % (key, size, piece))
                 answer(link, b"STORED\r\n")
 
 
@@ -197,6 +197,7 @@ class Row:
     seconds: float = 5
     verb: str = "get"
     holds: bool = False
+    options: list = field(default_factory=list)
 
 
 def large_item(port):
@@ -206,6 +207,10 @@ def large_item(port):
 
 def many_keys(port):
     fill(port, 100_000)
+
+
+def joining(size):
+    return [(appends, (b"joined%d" % number, size)) for number in range(4)]
 
 
 def rows(quick):
@@ -233,7 +238,8 @@ def rows(quick):
         Row("flush", f"one flush of {items:,} items", [(flushes, ())], filled),
         Row("tidy", f"{items:,} items expire", [], expiring, seconds=15 if quick else 70, verb="set"),
         Row("growth", "one that stores new keys", [(grows, ())], seconds=8, verb="set"),
-        Row("joins", "4 that append 50 KB to items of up to 950 KB", [(appends, ())] * 4, verb="set"),
+        Row("joins", "4 that append 50 KB to items of up to 950 KB", joining(50_000), verb="set"),
+        Row("joins-8m", "4 that append 400 KB to items of up to 7.6 MB, -I 8m", joining(400_000), verb="set", options=["-I", "8m"]),
         Row("stopped", "a worker's thread that is held for 10 ms, ten times a second", [(holds_a_worker, ())], verb="set", holds=True),
     ]
 
@@ -249,7 +255,7 @@ def raise_limits():
 def servers(given, row):
     for name in NAMES:
         program = "memcached" if name == "memcached" else given.program
-        yield name, Server(program, pages=row.pages, workers=row.threads, args=["-c", "16384"])
+        yield name, Server(program, pages=row.pages, workers=row.threads, args=["-c", "16384", *row.options])
 
 
 def measured(server, row, seconds):
