@@ -15,7 +15,7 @@ DOCS = LICENSE CHANGELOG.md README.md docs/OPERATING.md docs/PROTOCOL.md docs/CL
 # Where the prefix is below a home, nothing of the system's is touched: of units there is at most the user's own.
 IN_HOME = $(filter $(HOME)/% /home/% /root/%,$(PREFIX)/)
 # The program's own version, as --version prints it.
-VERSION = $(shell sed -n 's/^const VERSION: .*"\([0-9.]*\) .*/\1/p' crates/mc_server/src/options.rt)
+VERSION = $(shell sed -n 's/^const VERSION: .*"\([0-9.]*\) .*/\1/p' crates/mc_options/src/options.rt)
 ARGS ?=
 JOBS ?= $(shell nproc)
 MINUTES ?= 30
@@ -26,7 +26,7 @@ MINUTES ?= 30
 # Proves the program and what is below it, and builds it. rt run runs it too: --help ends it at once. What it says goes to standard
 # error, so that `make run` writes what the program writes alone. Beside the program it notes what it was built of.
 build:
-	@test -x $(PROGRAM) || echo "The first build proves every crate: 20 to 30 minutes on 4 cores." >&2
+	@test -x $(PROGRAM) || echo "The first build proves every crate: 35 to 50 minutes on 4 cores." >&2
 	@cd crates/mc_server && rt run -- --help < /dev/null > /dev/null
 	@printf 'commit %s\ntoolchain %s\n' "$$(git describe --always --dirty 2> /dev/null)" "$$(rt version)" > $(dir $(PROGRAM))BUILD
 	@echo "$(PROGRAM) is proved and built" >&2
@@ -35,9 +35,10 @@ build:
 bench-build:
 	@cd crates/mc_bench && rt run -- worlds 1 1 < /dev/null > /dev/null
 
-# Serves at the default port: make run ARGS="-p 11311 -t 2"
+# Serves at the default port: make run ARGS="-p 11311 -t 2". Ctrl-C ends it with status 130, which is no failure. By set -m the
+# terminal's signal comes to the program alone, as make would say that it was interrupted.
 run: build
-	@$(PROGRAM) $(ARGS)
+	@trap : INT; set -m 2> /dev/null; $(PROGRAM) $(ARGS) || { status=$$?; test $$status -eq 130 || exit $$status; }
 
 # The gate: every proof, every must-fail edit, every test of the crates, and the tests of tests/.
 test:

@@ -171,7 +171,7 @@ class Maker:
             own = under[name] - {low for library in under[name] for low in under[library]}
             kit = [library for library in self.crates[name].libraries if library not in self.crates]
             named = " ".join(library for library in self.crates if library in own)
-            lines.append(f"{depths[name]}  {name:<13}{named:<30}{'+ ' + ' '.join(kit) if kit else ''}".rstrip() + "\n")
+            lines.append(f"{depths[name]}  {name:<13}{named:<42}{'+ ' + ' '.join(kit) if kit else ''}".rstrip() + "\n")
         return "```\n" + "".join(lines) + "```\n"
 
     def linked(self):
@@ -300,7 +300,7 @@ def lost_paths(document, text):
 
 def untold_options():
     """The options of the program that a document for users doesn't tell, and documents that tell another version."""
-    code, faults = read(f"{ROOT}/crates/{PROGRAM}/src/options.rt"), []
+    code, faults = read(f"{ROOT}/crates/mc_options/src/options.rt"), []
     version = re.search(r'const VERSION: .*"([\d.]+) ', code).group(1)
     for document in OPTIONS:
         text = read(f"{ROOT}/{document}").replace("\\-", "-")
