@@ -1,10 +1,11 @@
 """A plain, slow model of one session of the server, written from the protocol's rules alone.
 
-`answer(stream, now, pages)` gives the bytes that a session over `stream` must write, with the clock
-standing at `now` and a store of so many pages. The whole stream is read at once, line by line; nothing
-here is shared with the server. The memory of the machine is taken to be always there.
+`answer(stream, now, pages, greatest)` gives the bytes that a session over `stream` must write, with the
+clock standing at `now` and a store of so many pages, whose items have at most so many bytes. The whole
+stream is read at once, line by line; nothing here is shared with the server. The memory of the machine is
+taken to be always there.
 
-    python3 -m tests.lib.model --now 1000 -m 64 < input     prints what the model answers
+    python3 -m tests.lib.model --now 1000 -m 64 -I 1048576 < input     prints what the model answers
 """
 import argparse
 import sys
@@ -93,10 +94,12 @@ def chunk_sizes():
 SIZES = chunk_sizes()
 
 
-def class_of(key, block):
-    """The smallest class whose chunks hold the item, counted from 0."""
+def need_of(key, block):
+    """The class of the chunks that hold the item, counted from 0, and how many: one of the smallest class, or several pages."""
     charge = 48 + len(key) + len(block)
-    return next(at for at, size in enumerate(SIZES) if charge <= size)
+    if charge > PAGE:
+        return len(SIZES) - 1, -(-charge // PAGE)
+    return next(at for at, size in enumerate(SIZES) if charge <= size), 1
 
 
 class Item:
@@ -106,19 +109,21 @@ class Item:
 
 
 class Store:
-    def __init__(self, now, pages):
+    def __init__(self, now, pages, greatest=GREATEST):
         self.now, self.items, self.cut, self.next_unique = now, {}, None, 1
-        self.pages_left, self.pages = pages, [0] * len(SIZES)
+        self.pages_left, self.pages, self.greatest = pages, [0] * len(SIZES), greatest
 
-    def takes_chunk(self, size_class):
-        """Whether an item of the class finds a chunk. Items that are dead and not dropped count."""
-        used = sum(class_of(key, item.block) == size_class for key, item in self.items.items())
-        if used < self.pages[size_class] * (PAGE // SIZES[size_class]):
-            return True
-        if not self.pages_left:
+    def takes_chunks(self, size_class, count):
+        """Whether an item finds its chunks. Items that are dead and not dropped count."""
+        needs = [need_of(key, item.block) for key, item in self.items.items()]
+        used = sum(taken for held_class, taken in needs if held_class == size_class)
+        chunks_a_page = PAGE // SIZES[size_class]
+        lacking = max(count - (self.pages[size_class] * chunks_a_page - used), 0)
+        wanted = -(-lacking // chunks_a_page)
+        if wanted > self.pages_left:
             return False
-        self.pages_left -= 1
-        self.pages[size_class] += 1
+        self.pages_left -= wanted
+        self.pages[size_class] += wanted
         return True
 
     def expiry(self, exptime):
@@ -143,10 +148,10 @@ class Store:
         return item
 
     def write(self, key, flags, expiry, block, reply, may_stay=False):
-        """Writes an item and gives the reply, or finds no chunk. A count whose class stays asks for none."""
-        size_class = class_of(key, block)
-        stays = may_stay and class_of(key, self.items[key].block) == size_class
-        if not stays and not self.takes_chunk(size_class):
+        """Writes an item and gives the reply, or finds no chunks. A count that needs what it has asks for none."""
+        need = need_of(key, block)
+        stays = may_stay and need_of(key, self.items[key].block) == need
+        if not stays and not self.takes_chunks(*need):
             return NO_CHUNK
         self.items[key] = Item(flags, expiry, block, self.next_unique, self.now)
         self.next_unique += 1
@@ -160,7 +165,7 @@ class Store:
         if verb in (b"append", b"prepend"):
             flags, expiry = item.flags, item.expiry
             block = item.block + block if verb == b"append" else block + item.block
-            if 48 + len(key) + len(block) > GREATEST:
+            if 48 + len(key) + len(block) > self.greatest:
                 return TOO_LARGE
         return self.write(key, flags, expiry, block, b"STORED\r\n")
 
@@ -220,8 +225,8 @@ class Store:
 class Session:
     """A stream, how far it has been read, and what was answered."""
 
-    def __init__(self, stream, now, pages):
-        self.stream, self.at, self.store, self.out = stream, 0, Store(now, pages), []
+    def __init__(self, stream, now, pages, greatest=GREATEST):
+        self.stream, self.at, self.store, self.out = stream, 0, Store(now, pages, greatest), []
         self.is_open = True
 
     def run(self):
@@ -258,7 +263,7 @@ class Session:
         key, flags = key_of(words[1]), number(words[2], MOST_FLAGS)
         exptime, length = exptime_of(words[3]), number(words[4], MOST_BYTES)
         unique = number(words[5], MOST_COUNT) if name == b"cas" else None
-        if 48 + len(key) + length > GREATEST:
+        if 48 + len(key) + length > self.store.greatest:
             raise Fault(TOO_LARGE, length + 2)
         if len(self.stream) < after + length + 2:
             return False
@@ -320,16 +325,17 @@ class Session:
         return self.store.flush(delay), quiet
 
 
-def answer(stream, now, pages=PAGES):
-    return Session(stream, now, pages).run()
+def answer(stream, now, pages=PAGES, greatest=GREATEST):
+    return Session(stream, now, pages, greatest).run()
 
 
 def main():
     parser = argparse.ArgumentParser(description=__doc__, formatter_class=argparse.RawDescriptionHelpFormatter)
     parser.add_argument("--now", type=int, default=1000)
     parser.add_argument("-m", type=int, default=PAGES, dest="pages")
+    parser.add_argument("-I", type=int, default=GREATEST, dest="greatest")
     given = parser.parse_args()
-    sys.stdout.buffer.write(answer(sys.stdin.buffer.read(), given.now, given.pages))
+    sys.stdout.buffer.write(answer(sys.stdin.buffer.read(), given.now, given.pages, given.greatest))
     return 0
 
 

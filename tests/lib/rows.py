@@ -19,8 +19,8 @@ from tests.lib.compare import same, shown
 from tests.lib.settings import ROOT
 
 ROWS = f"{ROOT}/tests/rows"
-# The pages of a store where no option says how many.
-PAGES = 64
+# The pages of a store where no option says how many, and the greatest charge of its items.
+PAGES, GREATEST = 64, 1048576
 # An input at most this long is also handed over a byte at a time, a longer one in pieces of this many bytes.
 BYTEWISE, PIECE = 4096, 4093
 
@@ -61,13 +61,13 @@ class Row:
         return 1 if len(self.stdin) <= BYTEWISE else PIECE
 
     def session(self):
-        """Where the clock of a plain session stands, and how many pages its store has; None for another row."""
+        """Where the clock of a plain session stands, how many pages its store has, and the greatest charge there; None for another row."""
         if self.args[:2] != ["--stdin", "--now"] or self.status or self.wants["stdout"][1] is not None:
             return None
         numbers = dict(zip(self.args[1::2], self.args[2::2]))
-        if len(self.args) % 2 == 0 or not numbers.keys() <= {"--now", "-m", "--shelves"}:
+        if len(self.args) % 2 == 0 or not numbers.keys() <= {"--now", "-m", "-I", "--shelves"}:
             return None
-        return int(numbers["--now"]), int(numbers.get("-m", PAGES))
+        return int(numbers["--now"]), int(numbers.get("-m", PAGES)), int(numbers.get("-I", GREATEST))
 
     def holds(self, ran):
         """Fails where a run did something else than is wanted."""

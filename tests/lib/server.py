@@ -17,6 +17,7 @@ import tempfile
 import time
 
 from tests.lib import settings
+from tests.lib.rows import GREATEST
 from tests.lib.wait import until
 
 HOST = "127.0.0.1"
@@ -139,7 +140,12 @@ class Started:
         return sum(it.startswith("socket:") for it in found) - 1
 
     def settle(self):
-        """Waits until the connections that were closed are closed on its side too, or a second has gone by."""
+        """Waits until the connections that were closed are closed on its side too, or a second has gone by.
+
+        The one that waited for the start may still wait to be accepted: one that is answered comes in behind it."""
+        with socket.create_connection(self.address, timeout=SECONDS) as behind:
+            behind.sendall(b"version\r\n")
+            behind.recv(100)
         until(lambda: self.connections() == 0, 1)
 
     def processor(self):
@@ -173,8 +179,9 @@ class Server(Started):
 
 
 class StillServer(Server):
-    """A running server whose clock stands."""
+    """A running server whose clock stands, and whose items have at most so many bytes with key and header."""
 
-    def __init__(self, now=MOMENT, connections=MOST, **options):
+    def __init__(self, now=MOMENT, connections=MOST, greatest=GREATEST, **options):
         clock = [] if is_memcached(settings.program()) else ["--now", str(now)]
-        super().__init__(args=["-c", str(connections), *clock], **options)
+        largest = [] if greatest == GREATEST else ["-I", str(greatest)]
+        super().__init__(args=["-c", str(connections), *largest, *clock], **options)

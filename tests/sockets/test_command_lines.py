@@ -10,7 +10,7 @@ WRONG += [["-l", "01.0.0.1"], ["-l", ":::"]]
 WRONG += [["--idle-timeout", "-1"], ["--idle-timeout", "2592001"], ["--idle-timeout", "x"], ["--idle-timeout", ""], ["--idle-timeout"]]
 WRONG += [["--metrics", it] for it in ("0", "65536", "x", "", "127.0.0.1", "127.0.0.1:0", "::1:9150", "localhost:9150")] + [["--metrics"]]
 # What memcached has and this program doesn't: options that stand alone, and options with a value.
-FLAGS, VALUED = "dSZkLrCFAXWi", "uPsaYoIfnRbBDeN"
+FLAGS, VALUED = "dSZkLrCFAXWi", "uPsaYofnRbBDeN"
 
 
 class CommandLines(ProgramCase):

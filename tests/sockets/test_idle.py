@@ -92,8 +92,6 @@ class Idle(ProgramCase):
 
     def test_the_place_of_one_comes_back(self):
         with idle_server(LIMIT, "-c", "2") as server:
-            with Peer(server.port) as peer:  # (it comes in behind the one that waited for the start)
-                peer.asks(b"get a\r\n", b"END\r\n")
             server.settle()
             with clients(server.port, 2) as peers:
                 for peer in peers:

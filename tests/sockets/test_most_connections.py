@@ -13,8 +13,6 @@ class MostConnections(ProgramCase):
     def test_one_more_than_there_may_be(self):
         """After one has gone another is answered, again and again."""
         with StillServer(connections=MOST) as server:
-            with Peer(server.port) as peer:  # (it comes in behind the one that waited for the start)
-                peer.asks(b"get a\r\n", b"END\r\n")
             for turn in range(3):
                 server.settle()
                 with self.subTest(turn=turn), clients(server.port, MOST, seconds=ANSWERED) as peers:

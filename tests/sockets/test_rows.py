@@ -5,7 +5,7 @@ from tests.lib import model
 from tests.lib.case import ProgramCase
 from tests.lib.compare import same, shown
 from tests.lib.exchange import exchange
-from tests.lib.rows import PAGES, all_rows
+from tests.lib.rows import GREATEST, PAGES, all_rows
 from tests.lib.server import MOMENT, StillServer
 
 # So many servers stand side by side.
@@ -17,8 +17,8 @@ TOGETHER = 16
 class Watched(model.Store):
     """Notes which keys were asked for, and whether an answer depends on more than these."""
 
-    def __init__(self, now, pages):
-        super().__init__(now, pages)
+    def __init__(self, now, pages, greatest):
+        super().__init__(now, pages, greatest)
         self.keys, self.is_apart = set(), True
 
     def live(self, key):
@@ -43,11 +43,10 @@ class Told:
 
     def __init__(self, row):
         self.row = row
-        now, pages = row.session()
-        session = model.Session(row.stdin, now, pages)
-        session.store = store = Watched(now, pages)
+        session = model.Session(row.stdin, *row.session())
+        session.store = store = Watched(*row.session())
         out = session.run()
-        self.keys, self.is_apart = store.keys, store.is_apart and (now, pages) == (MOMENT, PAGES)
+        self.keys, self.is_apart = store.keys, store.is_apart and row.session() == (MOMENT, PAGES, GREATEST)
         # What it leaves unread makes the system reset the connection.
         self.closes_itself = not session.is_open or out.endswith(model.TOO_LONG)
 
@@ -61,8 +60,8 @@ class Told:
 
 def alone(told, size):
     """The row on a server of its own."""
-    now, pages = told.row.session()
-    with StillServer(now, pages=pages, workers=1 + len(told.row.stdin) % 4) as server:
+    now, pages, greatest = told.row.session()
+    with StillServer(now, pages=pages, greatest=greatest, workers=1 + len(told.row.stdin) % 4) as server:
         told.holds(exchange(server.port, [told.row.stdin], size)[0])
 
 

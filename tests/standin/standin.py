@@ -1,7 +1,7 @@
 #!/usr/bin/env python3
 """A slow stand-in for the server: the model behind sockets. It shows that the tests over sockets can fail (test_lies.py).
 
-The environment's LIE says in which way it is wrong; without it, it is right. Options as the program's: -p -t -m -c --now --idle-timeout,
+The environment's LIE says in which way it is wrong; without it, it is right. Options as the program's: -p -t -m -I -c --now --idle-timeout,
 but that -c and --idle-timeout are read and not used.
 """
 import argparse
@@ -64,8 +64,8 @@ class Forgetful(model.Store):
 class Late(model.Store):
     """A store that now and then reads what stood before the last write."""
 
-    def __init__(self, now, pages):
-        super().__init__(now, pages)
+    def __init__(self, now, pages, greatest):
+        super().__init__(now, pages, greatest)
         self.before, self.reads = {}, 0
 
     def write(self, key, *rest, **more):
@@ -87,7 +87,7 @@ class Late(model.Store):
 class Link:
     def __init__(self, taken, store):
         self.socket, self.out, self.ends, self.began = taken, bytearray(), False, time.monotonic()
-        self.session = Turns(b"", store.now, store.pages_left)
+        self.session = Turns(b"", store.now, store.pages_left, store.greatest)
         self.session.store, self.earlier = store, b""
 
     def wants(self):
@@ -98,7 +98,7 @@ class Standin:
     def __init__(self, given):
         self.given, self.answers, self.kept = given, 0, []
         stores = {"forgets writes": Forgetful, "repeats numbers": Forgetful, "reads what was": Late}
-        self.store = stores.get(LIE, model.Store)(given.now, given.m)
+        self.store = stores.get(LIE, model.Store)(given.now, given.m, given.I)
         self.chooser = selectors.DefaultSelector()
         self.listener = socket.create_server(("127.0.0.1", given.p), backlog=1024)
         self.listener.setblocking(False)
@@ -222,7 +222,7 @@ def main():
     parser = argparse.ArgumentParser()
     parser.add_argument("--now", type=int, default=int(time.time()))
     parser.add_argument("--idle-timeout", type=int, default=0)
-    for name, default in (("-p", 11211), ("-t", 4), ("-m", 64), ("-c", 1024)):
+    for name, default in (("-p", 11211), ("-t", 4), ("-m", 64), ("-I", model.GREATEST), ("-c", 1024)):
         parser.add_argument(name, type=int, default=default)
     if LIE == "stays":
         for which in (signal.SIGTERM, signal.SIGINT):

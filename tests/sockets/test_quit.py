@@ -1,0 +1,154 @@
+"""With --allow-quit it ends by a request of this machine, with status 0, after what is due was answered and sent, and soon."""
+import socket
+import subprocess
+import threading
+import time
+
+from tests.lib.case import ProgramCase
+from tests.lib.listening import ended
+from tests.lib.peer import Peer
+from tests.lib.scrape import MetricsServer, sent, told
+from tests.lib.server import HOST, free_port
+from tests.lib.wait import until
+
+POST = b"POST /quit HTTP/1.1\r\nHost: mcserver\r\nContent-Length: 0\r\n\r\n"
+GET = b"GET /quit HTTP/1.1\r\nHost: mcserver\r\n\r\n"
+# Open connections have so many seconds at most; where none is open, or none has anything to do, it ends so soon.
+AT_MOST, EMPTY, IDLE, MORE = 5, 1, 4, 3
+BLOCK = b"b" * 1000000
+
+
+class Quitting(ProgramCase):
+    def server(self, *args, **options):
+        return MetricsServer("--allow-quit", *args, **options)
+
+    def asked(self, server):
+        """Asks it to end, which it is told that it will."""
+        answer = told(sent(server.metrics, POST))
+        self.assertEqual((200, b"stopping\n"), (answer.status, answer.body))
+        return time.monotonic()
+
+    def ends(self, server, seconds):
+        """Fails unless it ends in time, with status 0 and no word but those that it began with; its port is free then."""
+        try:
+            status = server.process.wait(seconds)
+        except subprocess.TimeoutExpired:
+            self.fail(f"still runs {seconds} seconds after it was asked to end")
+        self.assertEqual(0, status, server.said())
+        self.assertEqual([], [it for it in server.said().splitlines() if "listening on" not in it and "metrics at" not in it])
+        with socket.socket() as it:
+            it.setsockopt(socket.SOL_SOCKET, socket.SO_REUSEADDR, 1)
+            it.bind((HOST, server.port))
+            it.listen()
+
+    def test_without_connections(self):
+        with self.server() as server:
+            server.settle()
+            self.asked(server)
+            self.ends(server, EMPTY)
+
+    def test_an_answered_request_and_an_idle_connection(self):
+        """A pipelined request is answered whole, and the connection is closed when nothing more is heard of it."""
+        request = b"set a 0 0 %d\r\n%s\r\n" % (len(BLOCK), BLOCK) + b"get a\r\n" * 3 + b"get none\r\n"
+        hit = b"VALUE a 0 %d\r\n%s\r\nEND\r\n" % (len(BLOCK), BLOCK)
+        with self.server() as server, Peer(server.port) as peer:
+            peer.send(request)
+            peer.is_told(b"STORED\r\n" + hit * 3 + b"END\r\n")
+            self.asked(server)
+            self.assertTrue(peer.is_closed(), "the connection is open")
+            self.ends(server, IDLE)
+
+    def test_what_was_sent_before_is_answered_and_sent(self):
+        """Requests whose answers nobody has read yet are answered whole, and so is one in halves."""
+        with self.server() as server, Peer(server.port) as slow, Peer(server.port) as halves:
+            slow.asks(b"set a 0 0 %d\r\n%s\r\n" % (len(BLOCK), BLOCK), b"STORED\r\n")
+            slow.send(b"get a\r\n" * 20)
+            halves.send(b"set b 0 0 10\r\n01234")
+            self.asked(server)
+            halves.send(b"56789\r\nget b\r\n")
+            halves.is_told(b"STORED\r\nVALUE b 0 10\r\n0123456789\r\nEND\r\n")
+            for _ in range(20):
+                slow.is_told(b"VALUE a 0 %d\r\n%s\r\nEND\r\n" % (len(BLOCK), BLOCK))
+            self.ends(server, IDLE)
+
+    def test_nobody_comes_in_any_more(self):
+        with self.server() as server, Peer(server.port) as peer:
+            peer.asks(b"get a\r\n", b"END\r\n")
+            self.asked(server)
+
+            def refused():
+                try:
+                    socket.create_connection(server.address, timeout=1).close()
+                except ConnectionRefusedError:
+                    return True
+                return False
+
+            self.assertTrue(until(refused, 0.5), "connections are accepted")
+            peer.asks(b"get a\r\n", b"END\r\n")
+            self.assertEqual(200, told(sent(server.metrics, POST)).status, "asked once more")
+            self.ends(server, IDLE)
+
+    def test_it_ends_in_time_whatever_clients_do(self):
+        """One that asks on and on and one that reads nothing don't keep it for longer than it may take."""
+        over = threading.Event()
+        with self.server() as server, Peer(server.port) as mute, Peer(server.port) as busy:
+            mute.asks(b"set a 0 0 %d\r\n%s\r\n" % (len(BLOCK), BLOCK), b"STORED\r\n")
+            mute.send(b"get a\r\n" * 100)
+            asking = threading.Thread(target=self.asks_on, args=(busy, over))
+            asking.start()
+            began = self.asked(server)
+            try:
+                self.ends(server, AT_MOST + MORE)
+            finally:
+                over.set()
+                asking.join()
+            self.assertGreater(time.monotonic() - began, AT_MOST - 1, "it didn't wait for one that asks")
+
+    def asks_on(self, peer, over):
+        try:
+            while not over.is_set():
+                peer.asks(b"get none\r\n", b"END\r\n")
+                time.sleep(0.01)
+        except (AssertionError, OSError):  # (it has ended)
+            pass
+
+
+class Answers(ProgramCase):
+    def test_other_methods(self):
+        with MetricsServer("--allow-quit") as server:
+            for method in (b"GET", b"PUT", b"DELETE", b"post", b"HEAD"):
+                answer = told(sent(server.metrics, method + GET[3:]))
+                self.assertEqual((405, "POST"), (answer.status, answer.fields["allow"]), method)
+            for target in (b"/quit/", b"/quit?now", b"/", b"/QUIT"):
+                answer = told(sent(server.metrics, POST.replace(b"/quit", target)))
+                self.assertEqual((405, "GET"), (answer.status, answer.fields["allow"]), target)
+            self.assertEqual(200, told(sent(server.metrics, b"GET /healthz HTTP/1.1\r\n\r\n")).status)
+            self.assertTrue(server.runs())
+
+    def test_without_the_option_there_is_no_such_path(self):
+        with MetricsServer() as server, Peer(server.port) as peer:
+            for request in (POST, GET):
+                self.assertEqual(404, told(sent(server.metrics, request)).status)
+            peer.asks(b"get a\r\n", b"END\r\n")
+            self.assertTrue(server.runs())
+
+    def test_it_is_refused_from_elsewhere(self):
+        """By an address of this machine that isn't its loopback's."""
+        with socket.socket(socket.AF_INET, socket.SOCK_DGRAM) as it:
+            try:
+                it.connect(("192.0.2.1", 9))
+            except OSError:
+                self.skipTest("this machine has no other address")
+            host = it.getsockname()[0]
+        if host.startswith("127."):
+            self.skipTest("this machine has no other address")
+        port = free_port(host)
+        with MetricsServer("--allow-quit", "--metrics", f"0.0.0.0:{port}") as server:
+            for place, status in ((host, 403), (HOST, 200)):
+                with socket.create_connection((place, port), timeout=AT_MOST) as link:
+                    link.sendall(POST)
+                    self.assertTrue(link.recv(100).startswith(b"HTTP/1.1 %d " % status), place)
+            self.assertEqual(0, server.process.wait(IDLE))
+
+    def test_it_wants_a_port_for_it(self):
+        ended(self.program, ["-p", str(free_port()), "--allow-quit"], 2, rb"error: ")
