@@ -48,10 +48,10 @@ ROWS = [
 @tests_of(ROWS, lambda row: row[0])
 class Full(ProgramCase):
     @contextlib.contextmanager
-    def started(self, pages):
+    def started(self, pages, *options):
         """The program, which listens, and a client of it."""
         self.port = free_port()
-        words = [self.program, "-l", HOST, "-p", str(self.port), "--now", str(MOMENT), "-m", str(pages)]
+        words = [self.program, "-l", HOST, "-p", str(self.port), "--now", str(MOMENT), "-m", str(pages), *options]
         with Listener(words) as made:
             made.line()
             with Peer(self.port) as peer:
@@ -64,6 +64,18 @@ class Full(ProgramCase):
             peer.asks(step, REFUSED)
             said = f"mcserver: full: no chunk {chunks}, {GIVEN_OUT[pages]} (told once a minute)\n"
             self.assertEqual(said.encode(), started.line())
+
+    def test_an_item_of_several_pages(self):
+        """It says how many were wanted, of which some may be left, and the same of one that grows."""
+        chunks = "no 2 chunks of 1048576 bytes are left: class 40 has 2 pages, 2 chunks, all in use"
+        for step, said in (
+            (setting(b"other1", b"x" * 1_100_000), f"{chunks}, and too few of the 3 pages of -m are left"),
+            (b"append k00000 0 0 100000\r\n%s\r\n" % (b"x" * 100_000), "no chunk is left for an item that grows, and too few of the 3 pages of -m are left"),
+        ):
+            with self.subTest(said), self.started(3, "-I", "4m") as (started, peer):
+                fill_large(peer, 2)
+                peer.asks(step, REFUSED)
+                self.assertEqual(f"mcserver: full: {said} (told once a minute)\n".encode(), started.line())
 
     def test_a_burst_of_refusals(self):
         """Of thousands of stores that 8 clients are refused at once, and of others behind them, there is one line."""

@@ -1,10 +1,12 @@
 -- What is taken of the numbers that the command line asks for.
-use Rattle.std.specs.Prelude.{◌≡◌, ◌≤◌, ℕ, [], ◌∷◌, Option, Some, None}
+use Rattle.std.specs.Prelude.{◌≡◌, ◌≤◌, ℕ, max, List, [], ◌∷◌, map, Option, Some, None}
 use Rattle.std.specs.Net.Addr.{ipv4_octets, IsV4And}
 use Rattle.std.specs.declared.net.ip_addr.IpAddr.{IpAddr}
 use Rattle.mc_shelf.specs.Ranges.{IsGreatestCharge, IsShelfCount}
 use Rattle.mc_options.specs.declared.options.AskedPlace.{AskedPlace}
-use Rattle.mc_options.specs.declared.options.ScrapePlace.{ScrapePlace}
+use Rattle.mc_options.specs.declared.endpoints.AskedAddress.{AskedAddress}
+use Rattle.mc_options.specs.declared.endpoints.Endpoint.{Endpoint}
+use Rattle.mc_options.specs.declared.endpoints.Endpoints.{Endpoints}
 
 -- from 1 up to the most
 abbrev pub IsUpTo : (most taken : ℕ) → Type 0
@@ -40,15 +42,32 @@ pub record IsAddressFor (asked : Option IpAddr) (taken : IpAddr) : Type 0 where
   pub unasked : asked ≡ None → IsV4And taken (λ ip. ipv4_octets ip ≡ 127 ∷ 0 ∷ 0 ∷ 1 ∷ [])
   pub asked_for : (address : IpAddr) → asked ≡ Some address → taken ≡ address
 
+-- the port behind an address, else the one that is asked for beside, else 11211; for 0, which is no port, 1
+abbrev pub port_for : (behind asked : Option ℕ) → ℕ
+port_for (Some port) asked = max 1 port
+port_for None (Some port) = max 1 port
+port_for None None = 11211
+
+-- the address that is asked for, at its port
+abbrev pub endpoint_for : (port : Option ℕ) → AskedAddress → Endpoint
+endpoint_for port asked = record { address = asked.address; port = port_for asked.port port }
+
+-- the addresses that are asked for, each at its port, in their order; this machine's own where none is
+abbrev pub IsEndpointsFor : (port : Option ℕ) → List AskedAddress → Endpoints → Type 0
+IsEndpointsFor port [] taken =
+    IsAddressFor None taken.first.address × (taken.first.port ≡ port_for None port) × (taken.others.items ≡ [])
+IsEndpointsFor port (asked ∷ more) taken =
+    (taken.first ≡ endpoint_for port asked) × (taken.others.items ≡ map (endpoint_for port) more)
+
 -- the place that is asked for, where its port is in range, and else the first port; without an address it is
 -- this machine's own
-pub record IsPlaceFor (asked : AskedPlace) (taken : ScrapePlace) : Type 0 where
+pub record IsPlaceFor (asked : AskedPlace) (taken : Endpoint) : Type 0 where
   pub address : IsAddressFor asked.address taken.address
   pub port : 1 ≤ asked.port → taken.port ≡ asked.port
   pub range : 1 ≤ taken.port
 
 -- the place that is asked for, and none where none is
-abbrev pub IsScrapePlaceFor : (asked : Option AskedPlace) → (taken : Option ScrapePlace) → Type 0
+abbrev pub IsScrapePlaceFor : (asked : Option AskedPlace) → (taken : Option Endpoint) → Type 0
 IsScrapePlaceFor None None = Unit {0}
 IsScrapePlaceFor (Some asked) (Some taken) = IsPlaceFor asked taken
 IsScrapePlaceFor _ _ = ⊥

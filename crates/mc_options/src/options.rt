@@ -1,23 +1,22 @@
 //! What the command line asks for.
 ghost use Rattle.std.specs.Prelude.{◌≡◌, ◌≤◌, ◌^◌, min, option_map, IfOk, IfSome, None};
-ghost use Rattle.std.specs.Option.{option_or};
 ghost use Rattle.mc_options.specs.Asked.{
   IsUpTo,
   IsAskedFor,
   IsTimeoutFor,
   IsGreatestFor,
   AsksNoShelfCount,
-  IsAddressFor,
   IsScrapePlaceFor,
 };
 
+use crate::endpoints::{AskedAddress, Endpoint, Endpoints, address_of};
 use crate::unserved::{not_served, with_unserved};
 use clap::error::ErrorKind;
 use clap::{Arg, ArgAction, ArgMatches, Command, Error, value_parser};
 use mc_shelf::Settings;
 use mc_time::Moment;
 use std::alloc::{AllocError, Global};
-use std::net::{IpAddr, Ipv4Addr, Ipv6Addr, SocketAddr};
+use std::net::IpAddr;
 
 /// The program's own version, and that of memcached's protocol that is spoken, as `version` answers
 /// it.
@@ -35,9 +34,6 @@ const LONGEST_TIMEOUT: u32 = 2_592_000;
 /// The connections that may be open at once where the command line says nothing of them.
 const CONNECTIONS: u32 = 1024;
 
-/// The port where the command line says nothing of it.
-const PORT: u16 = 11211;
-
 /// The workers where the command line says nothing of them.
 const WORKERS: u32 = 4;
 
@@ -50,22 +46,17 @@ const SHELVES: u32 = 64;
 /// What is said of a UDP port.
 const NO_UDP: &str = "'-U' ('--udp-port') takes 0 alone: there is no UDP; clients reach it by TCP";
 
-/// What is said of several addresses.
-const ONE_ADDRESS: &str =
-    "'-l' ('--listen') takes one address: '0.0.0.0' stands for all of version \
-4, '::' for all of version 6 and mostly of version 4 too; else start a server for each";
-
 /// What is said of a place for scrapes that is none.
 const NO_PLACE: &str = "a port, 1 to 65535, before which an IP address may stand, \
 as in 9150, 10.0.0.5:9150 and [::1]:9150";
-
-/// What is said of the greatest charge of an item where it is none.
-const NO_SIZE: &str = "1048576 to 8388608 bytes, as in 2097152, 2048k and 2m";
 
 /// What is said of an address that is none.
 const NO_ADDRESS: &str =
     "invalid IP address syntax; names aren't looked up, and a port may follow, \
 as in 10.0.0.5, ::1, 10.0.0.5:11211 and [::1]:11211";
+
+/// What is said of the greatest charge of an item where it is none.
+const NO_SIZE: &str = "1048576 to 8388608 bytes, as in 2097152, 2048k and 2m";
 
 /// What stands below the options in the help.
 const STATUSES: &str = "\
@@ -88,12 +79,6 @@ pub struct Asked {
     pub greatest: Option<u64>,
     /// The shelves of `--shelves`.
     pub shelves: Option<u32>,
-    /// The address of `-l`.
-    pub address: Option<IpAddr>,
-    /// The port that stands behind the address of `-l`.
-    pub address_port: Option<u16>,
-    /// The port of `-p`.
-    pub port: Option<u16>,
     /// The workers of `-t`.
     pub workers: Option<u32>,
     /// The connections of `-c`.
@@ -115,16 +100,8 @@ pub struct AskedPlace {
     pub port: u16,
 }
 
-/// Where scrapes are answered.
-#[derive(Clone, Copy)]
-pub struct ScrapePlace {
-    pub address: IpAddr,
-    /// The TCP port, 1 to 65535.
-    pub port: u16,
-}
-
 /// What the command line asks for.
-#[derive(Clone, Copy)]
+#[derive(Drop)]
 pub struct Options {
     /// One session over standard input and output is wanted.
     pub stdin: bool,
@@ -132,10 +109,8 @@ pub struct Options {
     pub now: Option<Moment>,
     /// How the store is set up.
     pub settings: Settings,
-    /// At which address it listens.
-    pub address: IpAddr,
-    /// At which TCP port it listens, 1 to 65535.
-    pub port: u16,
+    /// Where it listens.
+    pub endpoints: Endpoints,
     /// How many workers serve the connections, 1 to 64.
     pub workers: u32,
     /// How many connections may be open at once, 1 to 65536.
@@ -143,7 +118,7 @@ pub struct Options {
     /// After how many seconds a connection that is idle is closed, at most 2592000; with 0 never.
     pub idle_timeout: u32,
     /// Where scrapes are answered; nowhere where that isn't asked for.
-    pub scrapes: Option<ScrapePlace>,
+    pub scrapes: Option<Endpoint>,
     /// Peers of this machine may end it, where scrapes are answered.
     pub may_quit: bool,
     /// Each connection that opens or closes is told of.
@@ -184,17 +159,15 @@ impl Asked {
 }
 
 impl Options {
-    /// Makes options of what `clap` found, and the settings of it. Where they aren't asked for the
-    /// address is 127.0.0.1, the port is 11211, there are 4 workers, at most 1024 connections are open at
-    /// once, none is closed for being idle, and scrapes are answered nowhere, or at 127.0.0.1. A port behind
-    /// the address goes before the one of `-p`. What is out of range, which is refused before, is brought
-    /// into it.
-    pub fn new(asked: Asked, settings: Settings) -> Options
+    /// Makes options of what `clap` found, and of the settings and the endpoints of it. Where they aren't
+    /// asked for there are 4 workers, at most 1024 connections are open at once, none is closed for being
+    /// idle, and scrapes are answered nowhere, or at 127.0.0.1. What is out of range, which is refused
+    /// before, is brought into it.
+    pub fn new(asked: Asked, settings: Settings, endpoints: Endpoints) -> Options
         ensures stdin { result.stdin ≡ asked.stdin }
         ensures now { result.now ≡ option_map (min (2 ^ 62)) asked.now }
         ensures settings { result.settings ≡ settings }
-        ensures address { IsAddressFor asked.address result.address }
-        ensures port { IsAskedFor (option_or asked.address_port asked.port) 11211 65535 result.port }
+        ensures endpoints { result.endpoints ≡ endpoints }
         ensures workers { IsAskedFor asked.workers 4 64 result.workers }
         ensures connections { IsAskedFor asked.connections 1024 65536 result.connections }
         ensures idle_timeout { IsTimeoutFor asked.idle_timeout 2592000 result.idle_timeout }
@@ -206,11 +179,7 @@ impl Options {
             stdin: asked.stdin,
             now: asked.now.map(Moment::from_seconds_at_most),
             settings,
-            address: address_of(asked.address),
-            port: match asked.address_port.or(asked.port) {
-                Some(port) => port.max(1),
-                None => PORT,
-            },
+            endpoints,
             workers: taken(asked.workers, WORKERS, MOST_WORKERS),
             connections: taken(asked.connections, CONNECTIONS, MOST_CONNECTIONS),
             idle_timeout: timeout(asked.idle_timeout, LONGEST_TIMEOUT),
@@ -221,23 +190,13 @@ impl Options {
     }
 }
 
-/// Gives the address that is asked for, and 127.0.0.1 where none is.
-fn address_of(asked: Option<IpAddr>) -> IpAddr
-    ensures { IsAddressFor asked result }
-{
-    match asked {
-        Some(address) => address,
-        None => IpAddr::V4(Ipv4Addr::LOCALHOST),
-    }
-}
-
 /// Gives where scrapes are answered, by the place that is asked for: nowhere where none is, and at
 /// 127.0.0.1 where it has no address.
-fn scrape_place(asked: Option<AskedPlace>) -> Option<ScrapePlace>
+fn scrape_place(asked: Option<AskedPlace>) -> Option<Endpoint>
     ensures { IsScrapePlaceFor asked result }
 {
     match asked {
-        Some(place) => Some(ScrapePlace {
+        Some(place) => Some(Endpoint {
             address: address_of(place.address),
             port: place.port.max(1),
         }),
@@ -279,7 +238,6 @@ fn timeout(asked: Option<u32>, longest: u32) -> u32
 
 /// Reads the words of the command line, the program's own name first.
 pub fn parsed(alloc: Global, words: &[String]) -> Result<Options, Unfit>
-    ensures port { IfOk result (λ options. 1 ≤ options.port) }
     ensures workers { IfOk result (λ options. 1 ≤ options.workers × options.workers ≤ 64) }
     ensures connections { IfOk result (λ options.
         1 ≤ options.connections × options.connections ≤ 65536) }
@@ -288,7 +246,7 @@ pub fn parsed(alloc: Global, words: &[String]) -> Result<Options, Unfit>
     let mut command = command(alloc)?;
     let matches = command.try_get_matches_from_mut(words)?;
     refuse_unserved(alloc, &mut command, &matches)?;
-    let place = place_in(alloc, &mut command, &matches)?;
+    let endpoints = endpoints_in(alloc, &mut command, &matches)?;
     let scrapes = scrapes_in(alloc, &mut command, &matches)?;
     let greatest = greatest_in(alloc, &mut command, &matches)?;
     let asked = Asked {
@@ -297,9 +255,6 @@ pub fn parsed(alloc: Global, words: &[String]) -> Result<Options, Unfit>
         pages: matches.get_one::<u32>("pages"),
         greatest,
         shelves: matches.get_one::<u32>("shelves"),
-        address: place.map(|place| place.address),
-        address_port: place.and_then(|place| place.port),
-        port: matches.get_one::<u16>("port"),
         workers: matches.get_one::<u32>("workers"),
         connections: matches.get_one::<u32>("connections"),
         idle_timeout: matches.get_one::<u32>("idle-timeout"),
@@ -308,7 +263,7 @@ pub fn parsed(alloc: Global, words: &[String]) -> Result<Options, Unfit>
         verbose: matches.get_count("verbose") > 0,
     };
     match asked.settings() {
-        Some(settings) => Ok(Options::new(asked, settings)),
+        Some(settings) => Ok(Options::new(asked, settings, endpoints)),
         None => Err(Unfit::Shelves),
     }
 }
@@ -332,36 +287,24 @@ fn refuse_unserved(
     }
 }
 
-/// An address to listen at, and the port that stands behind it.
-#[derive(Clone, Copy)]
-struct Place {
-    address: IpAddr,
-    port: Option<u16>,
-}
-
-/// Reads where to listen, of `-l`.
-fn place_in(
+/// Reads where to listen, of `-l` and `-p`.
+fn endpoints_in(
     alloc: Global,
     command: &mut Command<'_>,
     matches: &ArgMatches<'_>,
-) -> Result<Option<Place>, Error> {
-    let text = match matches.get_strs("address") {
-        None | Some([]) => return Ok(None),
-        Some([text]) => *text,
-        Some(_several) => return Err(command.error(ErrorKind::TooManyValues, ONE_ADDRESS)?),
-    };
-    if text.contains(',') {
-        return Err(command.error(ErrorKind::TooManyValues, ONE_ADDRESS)?);
-    }
-    match place_of(text) {
-        Some(place) => Ok(Some(place)),
-        None => {
+) -> Result<Endpoints, Error> {
+    let mut addresses = Vec::new(alloc);
+    for text in matches.get_strs("address").unwrap_or(&[]) {
+        let Some(address) = AskedAddress::of(text) else {
             let message = format!(in alloc;
                 "invalid value '{text}' for '--listen <ADDR>': {NO_ADDRESS}"
             )?;
-            Err(command.error(ErrorKind::ValueValidation, message.as_str())?)
-        }
+            return Err(command.error(ErrorKind::ValueValidation, message.as_str())?);
+        };
+        addresses.push(address)?;
     }
+    let port = matches.get_one::<u16>("port");
+    Ok(Endpoints::new(alloc, addresses.as_slice(), port)?)
 }
 
 /// Reads where scrapes are to be answered, of `--metrics`.
@@ -429,44 +372,11 @@ fn scrapes_of(text: &str) -> Option<AskedPlace> {
             port,
         });
     }
-    let place = place_of(text)?;
+    let place = AskedAddress::of(text)?;
     Some(AskedPlace {
         address: Some(place.address),
         port: place.port?,
     })
-}
-
-/// Reads an address, alone or with a port: `10.0.0.5`, `10.0.0.5:80`, `::1`, `[::1]`, `[::1]:80`.
-fn place_of(text: &str) -> Option<Place> {
-    // a scope, as in `[fe80::1%2]:80`, would be lost
-    if text.contains('%') {
-        return None;
-    }
-    if let Ok(address) = text.parse::<IpAddr>() {
-        return Some(Place {
-            address,
-            port: None,
-        });
-    }
-    if let Some(inside) = bracketed(text) {
-        let address = IpAddr::V6(inside.parse::<Ipv6Addr>().ok()?);
-        return Some(Place {
-            address,
-            port: None,
-        });
-    }
-    match text.parse::<SocketAddr>() {
-        Ok(place) if place.port() > 0 => Some(Place {
-            address: place.ip(),
-            port: Some(place.port()),
-        }),
-        _ => None,
-    }
-}
-
-/// Gives what stands between `[` and `]`.
-fn bracketed(text: &str) -> Option<&str> {
-    text.strip_prefix('[')?.strip_suffix(']')
 }
 
 /// The options that there are.
@@ -538,7 +448,10 @@ fn with_listening_options<'a>(
         .long("listen")
         .value_name("ADDR")
         .action(ArgAction::Append)
-        .help("Listen at the IP address ADDR, behind which a port may stand [default: 127.0.0.1]");
+        .value_delimiter(',')
+        .help(
+            "Listen at the IP addresses ADDR, with commas between, each alone or with a port [default: 127.0.0.1]",
+        );
     let port = Arg::new(alloc, "port")
         .short('p')
         .long("port")

@@ -1,11 +1,11 @@
 -- What the shell is told of an end of the program, and what is said on standard error.
-use Rattle.std.specs.Prelude.{◌≡◌, ◌⊎◌, ℕ, Bool, true, List, Option, Some, None, Ok, Err, codes}
-use Rattle.std.specs.declared.net.ip_addr.IpAddr.{IpAddr}
+use Rattle.std.specs.Prelude.{◌≡◌, ◌⊎◌, ℕ, Bool, true, List, slice_get, Option, Some, None, Ok, Err, codes}
 use Rattle.mc_session.specs.declared.serving.ServeFault.TheVariants as fault
 use Rattle.mc_server.specs.declared.end.Obstacle.{Obstacle}
 use Rattle.mc_server.specs.declared.end.Obstacle.TheVariants.{Taken, NotAllowed, NotHere, NoDescriptor, Other}
 use Rattle.mc_server.specs.declared.end.Refusal.{Refusal}
-use Rattle.mc_options.specs.declared.options.ScrapePlace.{ScrapePlace}
+use Rattle.mc_options.specs.declared.endpoints.Endpoint.{Endpoint}
+use Rattle.mc_options.specs.declared.endpoints.Endpoints.{Endpoints}
 use Rattle.mc_server.specs.declared.end.End.{End}
 use Rattle.mc_server.specs.declared.end.End.TheVariants as end
 
@@ -52,27 +52,40 @@ IsUnnamed NoDescriptor = Unit {0}
 IsUnnamed Other = Unit {0}
 IsUnnamed _ = ⊥
 
--- a refusal names this address and port
-abbrev pub Names : IpAddr → (port : ℕ) → Refusal → Type 0
-Names address port it = (it.address ≡ address) × (it.port ≡ port)
+-- an endpoint is one of these
+abbrev pub IsOneOf : Endpoints → Endpoint → Type 0
+IsOneOf all one = (one ≡ all.first) ⊎ ((i : ℕ) × (slice_get all.others.items i ≡ Some one))
 
--- a refusal names the place where scrapes were to be answered
-abbrev pub NamesScrapes : Option ScrapePlace → Refusal → Type 0
+-- the ends of a program that was to listen at an endpoint and can't: it names the endpoint, or memory ran out
+abbrev pub EndsUnboundAt : Endpoint → End → Type 0
+EndsUnboundAt endpoint (end.CannotListen it) = it.endpoint ≡ endpoint
+EndsUnboundAt endpoint end.NoMemory = Unit {0}
+EndsUnboundAt endpoint _ = ⊥
+
+-- the ends of a program that was to listen at endpoints and can't at one
+abbrev pub EndsUnbound : Endpoints → End → Type 0
+EndsUnbound endpoints (end.CannotListen it) = IsOneOf endpoints it.endpoint
+EndsUnbound endpoints end.NoMemory = Unit {0}
+EndsUnbound endpoints _ = ⊥
+
+-- a refusal names the endpoint where scrapes were to be answered
+abbrev pub NamesScrapes : Option Endpoint → Refusal → Type 0
 NamesScrapes None it = ⊥
-NamesScrapes (Some place) it = Names place.address place.port it
+NamesScrapes (Some endpoint) it = it.endpoint ≡ endpoint
 
--- the ends of a program that was to answer scrapes there and can't: it names the place, or memory ran out
-abbrev pub EndsWithoutDoor : Option ScrapePlace → End → Type 0
+-- the ends of a program that was to answer scrapes there and can't
+abbrev pub EndsWithoutDoor : Option Endpoint → End → Type 0
 EndsWithoutDoor scrapes (end.CannotListen it) = NamesScrapes scrapes it
 EndsWithoutDoor scrapes end.NoMemory = Unit {0}
 EndsWithoutDoor scrapes _ = ⊥
 
--- the ends of a program that was to listen there, to answer scrapes there, and to end where it is asked to or
--- not: it can't listen, and names the one place or the other, memory ran out before the first connection, the
+-- the ends of a program that was to listen at endpoints, to answer scrapes at another, and to end where it is
+-- asked to or not: it can't listen, and names one of them, memory ran out before the first connection, a
 -- listener failed, or it may be asked to end, and was
-abbrev pub EndsListening : IpAddr → (port : ℕ) → Option ScrapePlace → (may_quit : Bool) → End → Type 0
-EndsListening address port scrapes may_quit (end.CannotListen it) = Names address port it ⊎ NamesScrapes scrapes it
-EndsListening address port scrapes may_quit end.NoMemory = Unit {0}
-EndsListening address port scrapes may_quit (end.Served (Err fault.Read)) = Unit {0}
-EndsListening address port scrapes may_quit end.Stopped = may_quit ≡ true
-EndsListening address port scrapes may_quit _ = ⊥
+abbrev pub EndsListening : Endpoints → (scrapes : Option Endpoint) → (may_quit : Bool) → End → Type 0
+EndsListening endpoints scrapes may_quit (end.CannotListen it) =
+    IsOneOf endpoints it.endpoint ⊎ NamesScrapes scrapes it
+EndsListening endpoints scrapes may_quit end.NoMemory = Unit {0}
+EndsListening endpoints scrapes may_quit (end.Served (Err fault.Read)) = Unit {0}
+EndsListening endpoints scrapes may_quit end.Stopped = may_quit ≡ true
+EndsListening endpoints scrapes may_quit _ = ⊥

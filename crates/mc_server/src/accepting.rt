@@ -48,8 +48,6 @@ struct Door {
     listener: TcpListener,
     spare: Option<TcpListener>,
     crowd: Arc<Crowd>,
-    /// How many connections were accepted.
-    count: u64,
 }
 
 /// Accepts connections until the listener fails or the program is asked to end, and deals them to the workers
@@ -61,34 +59,54 @@ pub fn accept_all<R: Wait + Clock>(
     crowd: Arc<Crowd>,
     arrivals: &Arrivals,
 ) {
-    let spare = listener.try_clone().ok();
-    let mut door = Door {
-        listener,
-        spare,
-        crowd,
-        count: 0,
-    };
-    let mut turn = 0;
-    let mut stop = Stop::Failed;
-    for _ in rt.forever() {
-        match door.accept(rt, arrivals) {
-            Came::Connection(connection) => {
-                turn = arrivals.deal(rt, connection, turn);
-            }
-            Came::Nothing => {}
-            Came::Stop(why) => {
-                stop = why;
-                break;
-            }
-        }
-    }
-    if let Stop::Asked = stop {
+    let mut door = Door::new(listener, crowd);
+    if let Stop::Asked = door.deal_all(rt, arrivals, 0) {
         door.close(rt);
     }
     arrivals.end();
 }
 
+/// Does the same at another listener, beside the one who accepts all there, and deals the first connection to
+/// the worker with this number. Where the program is asked to end it waits for nobody.
+pub fn accept_beside<R: Wait + Clock>(
+    rt: &R,
+    listener: TcpListener,
+    crowd: Arc<Crowd>,
+    arrivals: &Arrivals,
+    turn: usize,
+) {
+    let mut door = Door::new(listener, crowd);
+    if let Stop::Failed = door.deal_all(rt, arrivals, turn) {
+        arrivals.end();
+    }
+}
+
 impl Door {
+    /// Takes a listener, at which connections of this crowd come in.
+    fn new(listener: TcpListener, crowd: Arc<Crowd>) -> Door {
+        let spare = listener.try_clone().ok();
+        Door {
+            listener,
+            spare,
+            crowd,
+        }
+    }
+
+    /// Deals connections to the workers turn about until no more are to come, and says why.
+    fn deal_all<R: Wait + Clock>(&mut self, rt: &R, arrivals: &Arrivals, turn: usize) -> Stop {
+        let mut turn = turn;
+        for _ in rt.forever() {
+            match self.accept(rt, arrivals) {
+                Came::Connection(connection) => {
+                    turn = arrivals.deal(rt, connection, turn);
+                }
+                Came::Nothing => {}
+                Came::Stop(why) => return why,
+            }
+        }
+        Stop::Failed
+    }
+
     /// Waits for the next connection. The one that comes where the program is asked to end is closed.
     fn accept<R: Clock>(&mut self, rt: &R, arrivals: &Arrivals) -> Came {
         let accepted = self.listener.accept();
@@ -145,7 +163,6 @@ impl Door {
             listener,
             spare,
             crowd,
-            count: _,
         } = self;
         drop(listener);
         drop(spare);
@@ -161,9 +178,8 @@ impl Door {
     fn counted(&mut self, stream: std::net::TcpStream, peer: SocketAddr) -> Option<Connection> {
         stream.set_nonblocking(true).ok()?;
         let crowd = self.crowd.clone().ok()?;
-        self.count = self.count.wrapping_add(1);
         let stream = TcpStream::from_std(stream);
-        Some(Connection::new(crowd, stream, self.count, peer))
+        Some(Connection::new(crowd, stream, peer))
     }
 }
 

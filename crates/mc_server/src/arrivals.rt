@@ -4,6 +4,7 @@ use crate::connection::Connection;
 use crossbeam_queue::SegQueue;
 use mio::Waker;
 use std::alloc::{AllocError, Global};
+use std::net::{Shutdown, TcpStream};
 use std::sync::Wait;
 use std::sync::atomic::{AtomicBool, AtomicU32, AtomicU64, Ordering};
 use std::time::{Clock, Duration, Instant};
@@ -21,7 +22,7 @@ const PATIENCE: u64 = 10;
 /// took its connections meanwhile, they would have more to do than it from then on.
 const LONG_PATIENCE: u64 = 250;
 
-/// What becomes of connections that come: they are accepted; they are, and the one who accepts is asked to
+/// What becomes of connections that come: they are accepted; they are, and whoever accepts is asked to
 /// stop; no more are accepted, and those that are open may end by themselves; all end.
 const OPEN: u32 = 0;
 
@@ -113,14 +114,18 @@ impl Inbox {
 #[derive(Drop)]
 pub struct Arrivals {
     inboxes: Vec<Inbox>,
+    /// The sockets at which the program listens, as ones that can be shut down.
+    sockets: Vec<TcpStream>,
     phase: AtomicU32,
 }
 
 impl Arrivals {
-    /// Takes the workers' inboxes, in the order of their numbers.
-    pub fn new(inboxes: Vec<Inbox>) -> Arrivals {
+    /// Takes the workers' inboxes, in the order of their numbers, and the sockets at which the program
+    /// listens.
+    pub fn new(inboxes: Vec<Inbox>, sockets: Vec<TcpStream>) -> Arrivals {
         Arrivals {
             inboxes,
+            sockets,
             phase: AtomicU32::new(OPEN),
         }
     }
@@ -225,32 +230,40 @@ impl Arrivals {
         None
     }
 
-    /// Asks the one who accepts to stop, who looks whether it is asked to behind each connection.
-    pub fn ask_to_close(&self) {
+    /// Asks whoever accepts to stop, and returns whether that is so. Where nobody can be woken, all stays as
+    /// it was.
+    pub fn ask_to_close(&self) -> bool {
         self.turn(OPEN, ASKED);
+        self.wake_acceptors() || !self.turn(ASKED, OPEN)
     }
 
-    /// Takes that back, and returns whether it could: the one who accepts hadn't heard of it.
-    pub fn take_back(&self) -> bool {
-        self.turn(ASKED, OPEN)
-    }
-
-    /// Returns whether the one who accepts is asked to stop, and tells then that it does, and calls all
-    /// workers.
+    /// Returns whether whoever accepts is asked to stop. The first who looks, as each does behind every
+    /// connection, tells that they do, and calls all workers.
     pub fn begins_to_close(&self) -> bool {
-        let begins = self.turn(ASKED, CLOSING);
-        if begins {
+        if self.turn(ASKED, CLOSING) {
             self.call_all();
         }
-        begins
+        self.is_closing()
     }
 
-    /// Tells that no more connections come and that all that are open end, and calls all workers.
+    /// Tells that no more connections come and that all that are open end, and calls all who accept and all
+    /// workers.
     pub fn end(&self) {
         if !self.turn(CLOSING, OVER) {
             self.phase.store(FAILED, Ordering::SeqCst);
         }
+        self.wake_acceptors();
         self.call_all();
+    }
+
+    /// Ends the calls in which those wait who accept, and all that they would make. Says whether that could
+    /// be done for one at least.
+    fn wake_acceptors(&self) -> bool {
+        let mut woken = false;
+        for socket in &self.sockets {
+            woken |= socket.shutdown(Shutdown::Both).is_ok();
+        }
+        woken
     }
 
     /// Returns whether it is over since that was asked.

@@ -114,12 +114,17 @@ impl Crowd {
         }
     }
 
-    /// Counts a connection, and says whether there were as many as there may be.
-    fn enter(&self, number: u64, peer: SocketAddr) -> bool {
+    /// Counts a connection, and gives its number among all that were accepted, from 1 on.
+    fn enter(&self, peer: SocketAddr) -> u64 {
+        let number = self.accepted.fetch_add(1, Ordering::SeqCst).wrapping_add(1);
         if let Some(log) = &self.told {
             log.say(Line::Opened { number, peer });
         }
-        self.accepted.fetch_add(1, Ordering::SeqCst);
+        number
+    }
+
+    /// Counts a connection that is open, and says whether there were as many as there may be.
+    fn open_one(&self) -> bool {
         self.open.fetch_add(1, Ordering::SeqCst) >= self.most
     }
 
@@ -144,10 +149,10 @@ pub struct Connection {
 }
 
 impl Connection {
-    /// Counts one more connection, which has this number among all that were accepted. It takes no
-    /// memory.
-    pub fn new(crowd: Arc<Crowd>, stream: TcpStream, number: u64, peer: SocketAddr) -> Connection {
-        let parting = if crowd.enter(number, peer) {
+    /// Counts one more connection. It takes no memory.
+    pub fn new(crowd: Arc<Crowd>, stream: TcpStream, peer: SocketAddr) -> Connection {
+        let number = crowd.enter(peer);
+        let parting = if crowd.open_one() {
             Parting::OneTooMany
         } else {
             Parting::NoRoom

@@ -4,10 +4,10 @@ ghost use Rattle.std.specs.Prelude.{◌≡◌};
 ghost use Rattle.mc_server.specs.Ends.{IsUnnamed, status_of, text_of};
 
 use clap::error::ErrorKind;
+use mc_options::Endpoint;
 use mc_session::ServeFault;
 use std::alloc::AllocError;
 use std::io;
-use std::net::IpAddr;
 
 /// How the program ends.
 #[derive(Debug, Drop)]
@@ -36,8 +36,7 @@ pub enum End {
 /// Where it can't listen, and why.
 #[derive(Clone, Copy, Debug, Drop)]
 pub struct Refusal {
-    pub address: IpAddr,
-    pub port: u16,
+    pub endpoint: Endpoint,
     pub why: Obstacle,
 }
 
@@ -128,7 +127,21 @@ impl End {
     ghost use Rattle.std.specs.declared.io.ErrorKind.TheVariants as io_kind;
     ghost use Rattle.clap.specs.Words.{kind_of};
     ghost use Rattle.clap.specs.declared.error.kind.ErrorKind.TheVariants as kind;
-    ghost use Rattle.mc_server.specs.Ends.{status_of, text_of};
+    ghost use Rattle.mc_server.specs.Ends.{status_of, text_of, EndsUnboundAt};
+
+    /// Gives the end where it can't listen at an endpoint, by the system's error: memory ran out, or it says
+    /// where and why.
+    pub fn without(endpoint: Endpoint, error: &io::Error) -> End
+        ensures { EndsUnboundAt endpoint result }
+    {
+        if error.kind() == io::ErrorKind::OutOfMemory {
+            return End::NoMemory;
+        }
+        End::CannotListen(Refusal {
+            endpoint,
+            why: Obstacle::of(error),
+        })
+    }
 
     /// Gives the end where the words of the command line could not be read: memory ran out, or one
     /// isn't text.

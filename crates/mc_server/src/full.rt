@@ -2,7 +2,7 @@
 
 use crate::logger::Log;
 use mc_command::{KeyStep, Verb};
-use mc_slab::{Account, Class};
+use mc_slab::{Account, Need};
 use mc_workers::{Outcome, Tally};
 use std::fmt::{self, Display, Formatter};
 use std::sync::atomic::{AtomicU64, Ordering};
@@ -118,41 +118,56 @@ impl Tally for Refusals<'_> {
     }
 }
 
-/// What a class has, which had no chunk left.
+/// What was wanted, and what its class has, which hadn't as much left.
 #[derive(Clone, Copy)]
 pub struct Stock {
-    pub class: Class,
+    pub need: Need,
     pub account: Account,
 }
 
-/// That the store is full: what has no chunk left, where that is known, and how many pages it has in all.
+/// That the store is full: what was wanted, where that is known, how many pages the store has in all, and how
+/// many an item may take.
 #[derive(Clone, Copy)]
 pub struct Full {
     pub stock: Option<Stock>,
     pub pages: u32,
+    pub most: u32,
+}
+
+impl Full {
+    /// Gives how many chunks were wanted at most.
+    fn wanted(&self) -> u32 {
+        match &self.stock {
+            Some(stock) => stock.need.count(),
+            None => self.most,
+        }
+    }
 }
 
 impl Display for Full {
     fn fmt<W: fmt::Write>(&self, f: &mut Formatter<W>) -> fmt::Result {
         match &self.stock {
-            Some(stock) => write!(
-                f,
-                "no chunk of {} bytes is left: {stock}",
-                stock.class.size()
-            )?,
+            Some(stock) => write!(f, "{stock}")?,
             None => write!(f, "no chunk is left for an item that grows")?,
         }
-        match self.pages {
-            1 => write!(f, ", and the one page of -m is given out"),
-            pages => write!(f, ", and all {pages} pages of -m are given out"),
+        match (self.wanted(), self.pages) {
+            (1, 1) => write!(f, ", and the one page of -m is given out"),
+            (1, pages) => write!(f, ", and all {pages} pages of -m are given out"),
+            (_, 1) => write!(f, ", and -m has one page"),
+            (_, pages) => write!(f, ", and too few of the {pages} pages of -m are left"),
         }
     }
 }
 
 impl Display for Stock {
     fn fmt<W: fmt::Write>(&self, f: &mut Formatter<W>) -> fmt::Result {
-        let Stock { class, account } = self;
+        let Stock { need, account } = self;
         let Account { pages, out } = *account;
+        let class = need.class();
+        match need.count() {
+            1 => write!(f, "no chunk of {} bytes is left: ", class.size())?,
+            count => write!(f, "no {count} chunks of {} bytes are left: ", class.size())?,
+        }
         let chunks = u64::from(pages).saturating_mul(u64::from(class.chunks_a_page()));
         write!(f, "class {} has ", class.number())?;
         match pages {

@@ -2,19 +2,20 @@
 ghost use Rattle.std.specs.Prelude.{◌≡◌};
 ghost use Rattle.mc_server.specs.Ends.{EndsListening};
 
-use crate::accepting::accept_all;
+use crate::accepting::{accept_all, accept_beside};
 use crate::arrivals::{Arrivals, Inbox, Share};
 use crate::asker::Asker;
+use crate::binding::{Listeners, Wanting, bound_all, look_for_descriptors, sockets_of};
 use crate::clock::AskedClock;
 use crate::closing::ClosingLinks;
 use crate::connection::Crowd;
 use crate::descriptors::allowed;
-use crate::end::{End, Obstacle, Refusal};
+use crate::end::{End, Refusal};
 use crate::full::Refusals;
 use crate::heard::Heard;
 use crate::links::{EVENTS, SocketLinks, WAKER};
 use crate::logger::{Log, Notice, write_lines};
-use crate::metrics::{Counts, Door, LONGEST, Observer, Quitter, Teller, opened};
+use crate::metrics::{Counts, Door, LONGEST, Observer, Teller, opened};
 use mc_hop::Fnv;
 use mc_options::Options;
 use mc_session::ServeFault;
@@ -24,7 +25,7 @@ use mio::{Events, Poll, Waker};
 use std::alloc::{AllocError, AllocGlobal, Global};
 use std::fs::Files;
 use std::io::{self, Stderr, Write};
-use std::net::{Net, SocketAddr, TcpListener};
+use std::net::Net;
 use std::sync::{Arc, Wait};
 use std::thread::{Builder, Threads};
 use std::time::Instant;
@@ -56,10 +57,10 @@ struct Posts {
 /// Where it listens, whom it serves there, and who tells of it.
 #[derive(Drop)]
 struct Opening<'a> {
-    listener: TcpListener,
+    listeners: Listeners,
     crowd: Arc<Crowd>,
     posts: Vec<Post>,
-    notice: Notice,
+    notice: Notice<'a>,
     arrivals: &'a Arrivals,
     log: &'a Log,
 }
@@ -70,66 +71,41 @@ const LARGE: usize = 5_242_880;
 /// The name of the thread that writes to standard error.
 const LOGGER: &str = "logger";
 
-/// What is wanting to begin.
-#[derive(Debug, Drop)]
-enum Wanting {
-    /// The port, or a descriptor.
-    Listener(Obstacle),
-    Memory,
-}
-
-impl From<io::Error> for Wanting {
-    fn from(error: io::Error) -> Wanting {
-        if error.kind() == io::ErrorKind::OutOfMemory {
-            Wanting::Memory
-        } else {
-            Wanting::Listener(Obstacle::of(&error))
-        }
-    }
-}
-
-impl From<AllocError> for Wanting {
-    fn from(_refused: AllocError) -> Wanting {
-        Wanting::Memory
-    }
-}
-
-/// Listens at the address and the port of the options, and serves the connections, so many at once, by so
-/// many workers over one store, by the clock that is asked for, until the listener fails or, where that may
+/// Listens at the endpoints of the options, and serves the connections, so many at once, by so
+/// many workers over one store, by the clock that is asked for, until a listener fails or, where that may
 /// be, it is asked to end; where scrapes are to be answered it does that, too. It ends at once where it can't
-/// listen at one of both, or memory runs out.
+/// listen at one of them, or memory runs out.
 pub fn listen<R, S>(rt: &R, stderr: Stderr, options: Options, clock: &AskedClock<S>) -> End
 where
     R: Net + Files + AllocGlobal + Wait + Threads + time::Clock + Sync,
     S: Clock + Sync,
     requires { clock.now.asked ≡ options.now }
-    ensures { EndsListening options.address options.port options.scrapes options.may_quit
-        result }
+    ensures { EndsListening options.endpoints options.scrapes options.may_quit result }
 {
-    let Options {
-        address,
-        port,
-        may_quit,
-        ..
-    } = options;
     let door = match opened(rt, rt.alloc(), options.scrapes) {
         Ok(door) => door,
         Err(end) => return end,
     };
-    match begin(rt, stderr, options, door, clock) {
-        Ok(true) if may_quit => End::Stopped,
+    let listeners = match bound_all(rt, rt.alloc(), &options.endpoints) {
+        Ok(listeners) => listeners,
+        Err(end) => return end,
+    };
+    let endpoint = options.endpoints.first;
+    match begin(rt, stderr, &options, listeners, door, clock) {
+        Ok(true) if options.may_quit => End::Stopped,
         Ok(_) => End::Served(Err(ServeFault::Read)),
-        Err(Wanting::Listener(why)) => End::CannotListen(Refusal { address, port, why }),
+        Err(Wanting::Descriptor(why)) => End::CannotListen(Refusal { endpoint, why }),
         Err(Wanting::Memory) => End::NoMemory,
     }
 }
 
-/// Makes the listener, the store and the workers' posts, serves until no more connections are accepted, and
+/// Makes the store and the workers' posts, serves until no more connections are accepted, and
 /// returns whether that was asked; or says what was wanting.
 fn begin<R, C>(
     rt: &R,
     stderr: Stderr,
-    options: Options,
+    options: &Options,
+    listeners: Listeners,
     door: Option<Door>,
     clock: &C,
 ) -> Result<bool, Wanting>
@@ -139,15 +115,14 @@ where
 {
     let alloc = rt.alloc();
     keep_memory(alloc, stderr);
-    let listener = bound(rt, SocketAddr::from((options.address, options.port)))?;
     let (shared, caller) = Shared::new(alloc, options.settings, Fnv)?;
     let Posts {
         posts,
         inboxes,
         counts,
     } = make_posts(rt, alloc, options)?;
-    let arrivals = Arrivals::new(inboxes);
-    look_for_descriptors(&listener)?;
+    let arrivals = Arrivals::new(inboxes, sockets_of(alloc, &listeners)?);
+    look_for_descriptors(alloc, &listeners)?;
     let log = Log::new(alloc, options.verbose)?;
     let crowd = crowd_of(alloc, options, &log)?;
     let mut asker = Asker::new(&shared, caller);
@@ -158,10 +133,9 @@ where
         pages: options.settings.pages,
         since: Instant::now(rt).ok(),
     };
-    let quitter = Quitter::new(&listener, options.may_quit)?;
-    let teller = teller_of(alloc, door, observer, quitter)?;
+    let teller = teller_of(alloc, door, observer, options.may_quit)?;
     let opening = Opening {
-        listener,
+        listeners,
         crowd,
         posts,
         notice: Notice {
@@ -180,7 +154,7 @@ where
 
 /// Has no connections yet, of which the log is told where that is asked for. The one error is a refused
 /// allocation.
-fn crowd_of(alloc: Global, options: Options, log: &Arc<Log>) -> Result<Arc<Crowd>, AllocError> {
+fn crowd_of(alloc: Global, options: &Options, log: &Arc<Log>) -> Result<Arc<Crowd>, AllocError> {
     let told = if options.verbose {
         Some(log.clone().map_err(|_| AllocError)?)
     } else {
@@ -195,13 +169,13 @@ fn teller_of<'a>(
     alloc: Global,
     door: Option<Door>,
     observer: Observer<'a>,
-    quitter: Quitter,
+    may_quit: bool,
 ) -> Result<Option<Teller<'a>>, AllocError> {
     match door {
         Some(door) => Ok(Some(Teller {
             door,
             observer,
-            quitter,
+            may_quit,
             buffer: vec![in alloc; 0u8; LONGEST]?,
         })),
         None => Ok(None),
@@ -220,23 +194,8 @@ fn keep_memory(alloc: Global, stderr: Stderr) {
     }
 }
 
-/// Binds the listener, whose accepts wait.
-pub fn bound<R: Net>(rt: &R, address: SocketAddr) -> io::Result<TcpListener> {
-    // std's listener lets 128 connections wait, this one as many as the system allows
-    let listener = TcpListener::from(mio::net::TcpListener::bind(rt, address)?);
-    listener.set_nonblocking(false)?;
-    Ok(listener)
-}
-
-/// Fails where the system hasn't a descriptor for one connection, and the one that is kept spare.
-fn look_for_descriptors(listener: &TcpListener) -> io::Result<()> {
-    let _spare = listener.try_clone()?;
-    let _connection = listener.try_clone()?;
-    Ok(())
-}
-
 /// Makes as many posts as the options say, and by them.
-fn make_posts<R: Net>(rt: &R, alloc: Global, options: Options) -> Result<Posts, Wanting> {
+fn make_posts<R: Net>(rt: &R, alloc: Global, options: &Options) -> Result<Posts, Wanting> {
     let mut posts = Vec::new(alloc);
     let mut inboxes = Vec::new(alloc);
     let mut all_counts = Vec::new(alloc);
@@ -270,7 +229,7 @@ fn make_posts<R: Net>(rt: &R, alloc: Global, options: Options) -> Result<Posts, 
 }
 
 /// Gives the shelf that a worker tidies first, so that workers begin far from each other.
-fn first_shelf(options: Options, worker: u32) -> u32 {
+fn first_shelf(options: &Options, worker: u32) -> u32 {
     worker.saturating_mul(options.settings.shelves) / options.workers.max(1)
 }
 
@@ -302,7 +261,7 @@ where
     let alloc = rt.alloc();
     let name = LOGGER.to_string(alloc)?;
     let Opening {
-        listener,
+        listeners: Listeners { first, others },
         crowd,
         posts,
         notice,
@@ -326,6 +285,23 @@ where
                     return Err(Wanting::Memory);
                 }
             }
+            let mut turn = 0usize;
+            for listener in others {
+                turn = turn.saturating_add(1);
+                let Ok(crowd) = crowd.clone() else {
+                    arrivals.end();
+                    return Err(Wanting::Memory);
+                };
+                log.enter();
+                let accepting = move || {
+                    accept_beside(rt, listener, crowd, arrivals, turn);
+                    log.leave();
+                };
+                if Builder::new().spawn_scoped(scope, accepting).is_err() {
+                    arrivals.end();
+                    return Err(Wanting::Memory);
+                }
+            }
             if let Some(teller) = teller {
                 let telling = move || teller.answer_all(rt, alloc, arrivals);
                 if Builder::new().spawn_scoped(scope, telling).is_err() {
@@ -339,7 +315,7 @@ where
                 arrivals.end();
                 return Err(Wanting::Memory);
             }
-            accept_all(rt, listener, crowd, arrivals);
+            accept_all(rt, first, crowd, arrivals);
             log.leave();
             Ok(())
         },

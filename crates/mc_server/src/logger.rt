@@ -5,11 +5,12 @@ use crate::connection::Parting;
 use crate::full::{Asked, Full, Shortage, Stock};
 use crate::lines::{Line, Lines, Waiting};
 use mc_command::KeyStep;
-use mc_options::Options;
+use mc_options::{Endpoints, Options};
+use mc_shelf::Settings;
 use mc_slab::need_of;
 use std::alloc::{AllocError, Global};
 use std::io::{self, Stderr};
-use std::net::SocketAddr;
+use std::net::IpAddr;
 use std::sync::atomic::{AtomicU32, Ordering};
 use std::sync::{Arc, Wait};
 use std::thread::Parker;
@@ -23,9 +24,9 @@ const QUIET: u64 = 60;
 
 /// What it says of itself when it serves.
 #[derive(Clone, Copy, Drop)]
-pub struct Notice {
+pub struct Notice<'a> {
     pub stderr: Stderr,
-    pub options: Options,
+    pub options: &'a Options,
     /// How many descriptors it may have, where the system tells.
     pub descriptors: Option<u64>,
 }
@@ -82,11 +83,11 @@ impl Log {
 
 /// Says that it serves, and then what the log is given, until nobody has anything more to say. It sleeps
 /// where there is nothing, and a minute after it said that the store is full it wakes once by itself.
-pub fn write_lines<R: Wait + Clock>(rt: &R, log: &Log, notice: Notice, asker: Asker<'_>) {
+pub fn write_lines<R: Wait + Clock>(rt: &R, log: &Log, notice: Notice<'_>, asker: Asker<'_>) {
     let mut logger = Logger {
         log,
         stderr: notice.stderr,
-        pages: notice.options.settings.pages,
+        settings: notice.options.settings,
         asker,
         turn: 0,
         told_full: None,
@@ -111,8 +112,8 @@ pub fn write_lines<R: Wait + Clock>(rt: &R, log: &Log, notice: Notice, asker: As
 struct Logger<'a> {
     log: &'a Log,
     stderr: Stderr,
-    /// How many pages the store has at most.
-    pages: u32,
+    /// How the store is set up.
+    settings: Settings,
     asker: Asker<'a>,
     /// Which line is the next.
     turn: u64,
@@ -155,7 +156,8 @@ impl Logger<'_> {
         self.told_full = Instant::now(rt).ok();
         let full = Full {
             stock: self.stock(rt, asked),
-            pages: self.pages,
+            pages: self.settings.pages,
+            most: pages_of(self.settings.greatest),
         };
         let stderr = self.stderr;
         let _ = eprintln!(stderr; "mcserver: full: {full} (told once a minute)");
@@ -163,12 +165,12 @@ impl Logger<'_> {
 
     /// Gives what the class has that a chunk was asked of, where that is known.
     fn stock<R: Wait>(&mut self, rt: &R, asked: Asked) -> Option<Stock> {
-        let class = match asked {
-            Asked::Size(size) => need_of(size)?.class(),
+        let need = match asked {
+            Asked::Size(size) => need_of(size)?,
             Asked::Growth => return None,
         };
-        let account = self.asker.account(rt, class);
-        Some(Stock { class, account })
+        let account = self.asker.account(rt, need.class());
+        Some(Stock { need, account })
     }
 
     /// Sleeps until it is called, or it may say again that the store is full.
@@ -191,6 +193,14 @@ impl Logger<'_> {
     }
 }
 
+/// Gives how many pages an item of so many bytes takes at most, 1 where it is less than one.
+fn pages_of(bytes: u64) -> u32 {
+    match need_of(bytes) {
+        Some(need) => need.count(),
+        None => 1,
+    }
+}
+
 /// Writes a line.
 fn written(stderr: Stderr, line: Line) -> io::Result<()> {
     match line {
@@ -204,9 +214,18 @@ fn written(stderr: Stderr, line: Line) -> io::Result<()> {
     }
 }
 
+/// Warns on standard error where others than this machine can reach the address.
+fn warn(stderr: Stderr, address: IpAddr) {
+    if !address.to_canonical().is_loopback() {
+        let _ = eprintln!(stderr;
+            "mcserver: warning: the protocol has no passwords, and {address} isn't this machine's alone"
+        );
+    }
+}
+
 /// Says on standard error where it listens, and what it has; and warns where others than this machine can
 /// reach it, and where more connections are asked for than there can be descriptors.
-fn say(notice: Notice) {
+fn say(notice: Notice<'_>) {
     let Notice {
         stderr,
         options,
@@ -214,18 +233,16 @@ fn say(notice: Notice) {
     } = notice;
     let workers = options.workers;
     let pages = options.settings.pages;
-    let address = SocketAddr::from((options.address, options.port));
+    let Endpoints { first, others } = &options.endpoints;
+    let places = &options.endpoints;
     // where standard error is closed it serves all the same
-    let _ = eprintln!(stderr; "mcserver: listening on {address}, {pages} pages, {workers} workers");
-    let ip = options.address;
-    if !ip.to_canonical().is_loopback() {
-        let _ = eprintln!(stderr;
-            "mcserver: warning: the protocol has no passwords, and {ip} isn't this machine's alone"
-        );
+    let _ = eprintln!(stderr; "mcserver: listening on {places}, {pages} pages, {workers} workers");
+    warn(stderr, first.address);
+    for other in others {
+        warn(stderr, other.address);
     }
-    if let Some(place) = options.scrapes {
-        let place = SocketAddr::from((place.address, place.port));
-        let _ = eprintln!(stderr; "mcserver: metrics at http://{place}/metrics");
+    if let Some(endpoint) = options.scrapes {
+        let _ = eprintln!(stderr; "mcserver: metrics at http://{endpoint}/metrics");
     }
     let Some(most) = descriptors else {
         return;

@@ -8,6 +8,7 @@ ghost use Rattle.mc_server.specs.Ends.{status_of};
 mod accepting;
 mod arrivals;
 mod asker;
+mod binding;
 mod channel;
 mod clock;
 mod closing;
@@ -37,10 +38,9 @@ mod tests;
 mod yard;
 
 use clap::error::ErrorKind;
-use end::End;
+use end::{End, Refusal};
 use mc_options::{Options, Unfit};
 use running::run;
-use std::net::SocketAddr;
 use std::process::ExitCode;
 use std::{env, io};
 
@@ -85,9 +85,9 @@ fn said(rt: &HostRuntime, end: &End) -> ExitCode
     let (status, text) = end.ending();
     // where standard error is closed too, the status alone tells
     let _ = if let End::CannotListen(refusal) = end {
-        let place = SocketAddr::from((refusal.address, refusal.port));
-        let reason = refusal.why.reason();
-        eprintln!(rt; "{text} on {place}: {reason}")
+        let Refusal { endpoint, why } = *refusal;
+        let reason = why.reason();
+        eprintln!(rt; "{text} on {endpoint}: {reason}")
     } else if text.is_empty() {
         Ok(())
     } else {

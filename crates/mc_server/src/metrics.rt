@@ -10,4 +10,4 @@ pub use counting::counted_as;
 pub use door::{Door, opened};
 pub use mc_metrics::{Counted, Counts, LONGEST};
 pub use observer::Observer;
-pub use scrape::{Quitter, Teller};
+pub use scrape::Teller;

@@ -18,7 +18,7 @@ use std::thread::Threads;
 use std::time;
 
 /// Does what the command line asks for: with `--stdin` it serves one session over the reader and the
-/// writer, by the clock that is asked for; without, it listens at the address and the port by that clock,
+/// writer, by the clock that is asked for; without, it listens at the endpoints by that clock,
 /// answers scrapes where that is asked for, and ends where it may be asked to and is, and neither reads nor writes here.
 pub fn run<H, R, W>(rt: &H, stderr: Stderr, options: Options, reader: &mut R, writer: &mut W) -> End
 where
@@ -30,7 +30,7 @@ where
         (R.remaining reader.old) (R.remaining reader.new)
         (W.contents writer.old) (W.contents writer.new) result }
     ensures listens { options.stdin ≡ false
-        → EndsListening options.address options.port options.scrapes options.may_quit result }
+        → EndsListening options.endpoints options.scrapes options.may_quit result }
     ensures reads_nothing { options.stdin ≡ false → reader.new ≡ reader.old }
     ensures writes_nothing { options.stdin ≡ false → writer.new ≡ writer.old }
 {

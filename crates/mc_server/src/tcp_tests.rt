@@ -2,10 +2,10 @@
 
 use crate::arrivals::{Arrivals, Inbox, Share};
 use crate::asker::Asker;
+use crate::binding::bound;
 use crate::closing::ClosingLinks;
 use crate::connection::{Connection, Crowd};
 use crate::links::{EVENTS, SocketLinks, WAKER};
-use crate::listening::bound;
 use crate::metrics::Counts;
 use mc_hop::Fnv;
 use mc_shared::Shared;
@@ -43,10 +43,10 @@ where
     let poll = Poll::new(rt)?;
     let mut inboxes = Vec::new(alloc);
     inboxes.push(Inbox::new(alloc, Waker::new(poll.registry(), WAKER)?)?)?;
-    let arrivals = Arrivals::new(inboxes);
+    let arrivals = Arrivals::new(inboxes, Vec::new(alloc));
     let crowd = Crowd::new(alloc, 1, None)?;
     let stream = Stream::from_std(stream);
-    arrivals.deal(rt, Connection::new(crowd, stream, 1, peer), 0);
+    arrivals.deal(rt, Connection::new(crowd, stream, peer), 0);
     arrivals.end();
     let (shared, caller) = Shared::new(alloc, SETTINGS, Fnv)?;
     let events = Events::with_capacity(alloc, EVENTS)?;

@@ -3,12 +3,12 @@
 use crate::clock::AskedClock;
 use crate::end::{End, ending};
 use crate::serving::serve;
-use mc_options::{Asked, Options};
+use mc_options::{Asked, Endpoints, Options};
 use mc_session::ServeFault;
 use mc_shelf::Settings;
 use mc_testing::{Drip, Sip};
 use mc_time::{Fixed, Moment};
-use std::alloc::Global;
+use std::alloc::{AllocError, Global};
 use std::io::ErrorKind;
 use std::test::Fail;
 
@@ -30,16 +30,18 @@ const SETTINGS: Settings = Settings {
 const SYSTEM: u64 = 2_999_999;
 
 /// How a session is served with the clock that is asked for.
-fn served(alloc: Global, now: Option<u64>, reader: &mut Drip<'_>, writer: &mut Sip) -> End {
+fn served(
+    alloc: Global,
+    now: Option<u64>,
+    reader: &mut Drip<'_>,
+    writer: &mut Sip,
+) -> Result<End, AllocError> {
     let asked = Asked {
         stdin: true,
         now,
         pages: None,
         greatest: None,
         shelves: None,
-        address: None,
-        address_port: None,
-        port: None,
         workers: None,
         connections: None,
         idle_timeout: None,
@@ -47,12 +49,13 @@ fn served(alloc: Global, now: Option<u64>, reader: &mut Drip<'_>, writer: &mut S
         may_quit: false,
         verbose: false,
     };
-    let options = Options::new(asked, SETTINGS);
+    let endpoints = Endpoints::new(alloc, &[], None)?;
+    let options = Options::new(asked, SETTINGS, endpoints);
     let clock = AskedClock {
         asked: options.now,
         system: Fixed(Moment::from_seconds_at_most(SYSTEM)),
     };
-    serve(alloc, options.settings, reader, writer, &clock)
+    Ok(serve(alloc, options.settings, reader, writer, &clock))
 }
 
 #[test]
@@ -66,7 +69,7 @@ fn keeps_the_clock_that_is_asked_for(rt: HostRuntime) -> Result<(), Fail> {
     ] {
         let mut reader = Drip::new(INPUT.as_bytes(), 7);
         let mut writer = Sip::new(alloc, 5);
-        let end = served(alloc, now, &mut reader, &mut writer);
+        let end = served(alloc, now, &mut reader, &mut writer)?;
         assert!(rt; matches!(end, End::Served(Ok(()))));
         assert!(rt; writer.taken() == wanted.as_bytes());
     }
@@ -79,7 +82,7 @@ fn tells_each_read_that_fails(rt: HostRuntime) -> Result<(), Fail> {
     for calls in 0..INPUT.len() {
         let mut reader = Drip::failing(INPUT.as_bytes(), calls, ErrorKind::WouldBlock);
         let mut writer = Sip::new(alloc, 5);
-        let end = served(alloc, None, &mut reader, &mut writer);
+        let end = served(alloc, None, &mut reader, &mut writer)?;
         assert!(rt; matches!(end, End::Served(Err(ServeFault::Read))));
         assert!(rt; ALIVE.as_bytes().starts_with(writer.taken()));
         assert!(rt; end.ending() == (1, "mcserver: read fault"));
@@ -93,7 +96,7 @@ fn tells_each_write_that_fails(rt: HostRuntime) -> Result<(), Fail> {
     for calls in 0..ALIVE.len() {
         let mut reader = Drip::new(INPUT.as_bytes(), 100);
         let mut writer = Sip::failing(alloc, 0, calls, ErrorKind::BrokenPipe)?;
-        let end = served(alloc, None, &mut reader, &mut writer);
+        let end = served(alloc, None, &mut reader, &mut writer)?;
         assert!(rt; matches!(end, End::Served(Err(ServeFault::Write))));
         assert!(rt; writer.taken().len() == calls);
         assert!(rt; ALIVE.as_bytes().starts_with(writer.taken()));

@@ -6,7 +6,6 @@ use Rattle.std.proofs.Crossing as crossing
 use Rattle.mc_metrics.proofs.counts.Counts.TheSendSync as counts
 use Rattle.mc_server.proofs.connection.Crowd.TheSendSync as crowd
 use Rattle.mc_server.proofs.metrics.door.Door.TheSendSync as door
-use Rattle.mc_server.proofs.metrics.scrape.Quitter.TheSendSync as quitter
 use Rattle.mc_server.specs.contracts.metrics.observer.Observer as observer
 use Rattle.mc_server.specs.contracts.metrics.scrape.Teller as teller
 use Rattle.mc_server.proofs.Sent.{asker_send}
@@ -26,5 +25,5 @@ observer_send a = struct_send (struct.shape (observer.the_type a)) (
 pub teller_send : (a : NamedLft) → IsSend (teller.the_row a)
 teller_send a = recorded_send (teller.the_field a).row _ _ (teller.the_type a).to_one (struct_send (struct.shape (teller.the_type a)) (
   door.the_field_send,
-  (observer_send a, (quitter.the_field_send, (search (crossing.crosses, sendable) depth 60 fits 20000, tt))),
+  (observer_send a, (search sendable, (search (crossing.crosses, sendable) depth 60 fits 20000, tt))),
 ))

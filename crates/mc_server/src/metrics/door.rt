@@ -2,15 +2,14 @@
 ghost use Rattle.std.specs.Prelude.{◌≡◌, IfErr};
 ghost use Rattle.mc_server.specs.Ends.{EndsWithoutDoor};
 
-use crate::end::{End, Obstacle, Refusal};
-use mc_options::ScrapePlace;
+use crate::end::End;
+use mc_options::Endpoint;
 use mio::net::TcpListener;
 use mio::{Events, Interest, Poll, Token};
 use std::alloc::{AllocError, Global};
-use std::io::{self, ErrorKind};
 use std::net::{Net, SocketAddr, TcpStream};
-use std::thread;
 use std::time::{Clock, Duration};
+use std::{io, thread};
 
 /// How long it waits where the system can't tell of connections, in milliseconds.
 const PAUSE: u64 = 10;
@@ -25,34 +24,20 @@ pub struct Door {
 
 /// Listens at the place that is asked for; nowhere where none is. The program ends where it can't, or
 /// memory runs out.
-pub fn opened<R: Net>(
-    rt: &R,
-    alloc: Global,
-    asked: Option<ScrapePlace>,
-) -> Result<Option<Door>, End>
+pub fn opened<R: Net>(rt: &R, alloc: Global, asked: Option<Endpoint>) -> Result<Option<Door>, End>
     ensures { IfErr result (EndsWithoutDoor asked) }
 {
-    let Some(place) = asked else {
+    let Some(endpoint) = asked else {
         return Ok(None);
     };
-    match Door::open(rt, alloc, SocketAddr::from((place.address, place.port))) {
+    match Door::open(
+        rt,
+        alloc,
+        SocketAddr::from((endpoint.address, endpoint.port)),
+    ) {
         Ok(door) => Ok(Some(door)),
-        Err(error) => Err(end_of(place, &error)),
+        Err(error) => Err(End::without(endpoint, &error)),
     }
-}
-
-/// Says how the program ends that can't listen there.
-fn end_of(place: ScrapePlace, error: &io::Error) -> End
-    ensures { EndsWithoutDoor (Some place) result }
-{
-    if error.kind() == ErrorKind::OutOfMemory {
-        return End::NoMemory;
-    }
-    End::CannotListen(Refusal {
-        address: place.address,
-        port: place.port,
-        why: Obstacle::of(error),
-    })
 }
 
 impl Door {

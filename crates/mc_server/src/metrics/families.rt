@@ -80,7 +80,7 @@ pub const FAMILIES: [Family; 22] = [
         Each(VERSION),
     ),
     Family(
-        Counter,
+        Gauge,
         "memcached_uptime_seconds",
         "Seconds since it began to serve.",
         One(Figure::Uptime),

@@ -6,48 +6,17 @@ use crate::metrics::families::FAMILIES;
 use crate::metrics::observer::Observer;
 use mc_metrics::{Answer, NO_MEMORY, QuitAccess, page_of, pass_rest, request_of, response, send};
 use std::alloc::{AllocError, Global};
-use std::io;
-use std::net::{Shutdown, TcpListener, TcpStream};
-use std::os::fd::OwnedFd;
+use std::net::{Shutdown, TcpStream};
 use std::sync::Wait;
 use std::time::Clock;
-
-/// How the program is asked to end.
-#[derive(Drop)]
-pub struct Quitter {
-    /// Peers of this machine may ask for it.
-    is_offered: bool,
-    /// The socket at which the program listens, as one that can be shut down.
-    listening: TcpStream,
-}
-
-impl Quitter {
-    /// Lets peers of this machine ask for the end of a program that listens there, where that is offered.
-    /// It fails where the system has no descriptor.
-    pub fn new(listener: &TcpListener, is_offered: bool) -> io::Result<Quitter> {
-        let listening = OwnedFd::from(listener.try_clone()?);
-        Ok(Quitter {
-            is_offered,
-            listening: TcpStream::from(listening),
-        })
-    }
-
-    /// Has no more connections accepted, and returns whether that is so. Where the one who accepts can't
-    /// be woken, all stays as it was.
-    fn quit(&self, arrivals: &Arrivals) -> bool {
-        arrivals.ask_to_close();
-        // the one who accepts waits in a call that this ends
-        let woken = self.listening.shutdown(Shutdown::Both);
-        woken.is_ok() || !arrivals.take_back()
-    }
-}
 
 /// Who answers requests over HTTP: where they come in, whom they ask, and where a request is read.
 #[derive(Drop)]
 pub struct Teller<'a> {
     pub door: Door,
     pub observer: Observer<'a>,
-    pub quitter: Quitter,
+    /// Peers of this machine may ask the program to end.
+    pub may_quit: bool,
     pub buffer: Vec<u8>,
 }
 
@@ -72,7 +41,7 @@ impl Teller<'_> {
         match self.door.accept() {
             Ok((mut stream, peer)) => {
                 let peer = peer.ip().to_canonical();
-                let access = QuitAccess::of(self.quitter.is_offered, peer);
+                let access = QuitAccess::of(self.may_quit, peer);
                 self.answer_one(rt, alloc, arrivals, access, &mut stream);
                 true
             }
@@ -93,7 +62,7 @@ impl Teller<'_> {
         let asked = request_of(rt, stream, self.buffer.as_mut_slice(), access);
         let answer = match asked {
             None => return,
-            Some(Answer::Stopping) if !self.quitter.quit(arrivals) => Answer::CannotStop,
+            Some(Answer::Stopping) if !arrivals.ask_to_close() => Answer::CannotStop,
             Some(answer) => answer,
         };
         match self.text_of(rt, alloc, answer) {
