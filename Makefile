@@ -1,5 +1,5 @@
 # Proves, builds, tests and installs mcserver. It needs the toolchain's command rt, python3 and make; tests and benchmarks a C compiler, cc,
-# too. test-clients and test-scaling run what there is of other packages, and name what isn't there.
+# too. test-clients, test-scaling and test-metrics run what there is of other packages, and name what isn't there.
 
 PROGRAM = crates/mc_server/out/mc_server
 # What runs the program builds it first, unless another is named: make test-clients PROGRAM=/usr/bin/memcached
@@ -21,7 +21,7 @@ JOBS ?= $(shell nproc)
 MINUTES ?= 30
 
 .PHONY: build bench-build run test check crate rows history fmt bench bench-tcp bench-waiting clean
-.PHONY: docs docs-check where test-clients test-scaling soak man install uninstall deb is-built
+.PHONY: docs docs-check where test-clients test-scaling test-metrics soak man install uninstall deb is-built
 
 # Proves the program and what is below it, and builds it. rt run runs it too: --help ends it at once. What it says goes to standard
 # error, so that `make run` writes what the program writes alone. Beside the program it notes what it was built of.
@@ -97,6 +97,10 @@ test-clients: $(SERVED)
 # The configurations of docs/SCALING.md, with nutcracker and the clients that are installed.
 test-scaling: $(SERVED)
 	@PROGRAM=$(PROGRAM) /usr/bin/python3 -m tests interop -p test_scaling.py
+
+# What --metrics tells, by promtool and a Prometheus that scrapes it, where Debian's package prometheus is installed.
+test-metrics: $(SERVED)
+	@PROGRAM=$(PROGRAM) /usr/bin/python3 -m tests interop -p test_prometheus.py
 
 # Mixed load, whose answers are all checked, while memory and descriptors are watched: make soak MINUTES=30
 soak: $(SERVED)
