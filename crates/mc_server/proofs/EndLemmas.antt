@@ -1,5 +1,5 @@
 -- How a program ends that can't listen at one of its endpoints.
-use Rattle.std.proofs.Common.{◌≡◌, ◌∙◌, ap, sym, subst, ℕ, ◌<◌, length, List, slice_index_or, slice_get, Some, ◌⊎◌, inl, inr}
+use Rattle.std.proofs.Common.{◌≡◌, sym, subst, ℕ, ◌<◌, length, List, slice_index_or, slice_get, Some, inr}
 use Rattle.std.proofs.lemmas.Option.{slice_get-get_or}
 use Rattle.mc_options.specs.declared.endpoints.Endpoint.{Endpoint}
 use Rattle.mc_options.specs.declared.endpoints.Endpoints.{Endpoints}
