@@ -5,14 +5,17 @@ use crate::connection::{Connection, Crowd, Parting};
 use mio::net::TcpStream;
 use std::net::{SocketAddr, TcpListener};
 use std::sync::{Arc, Wait};
-use std::time::{Clock, Duration};
+use std::time::{Clock, Duration, Instant};
 use std::{io, thread};
 
 /// How long it waits where the system has no room for a connection, in milliseconds.
 const PAUSE: u64 = 10;
 
-/// How often it looks, at such pauses, whether all connections are closed: for 5 seconds.
-const LOOKS: u64 = 500;
+/// For how long it waits until all connections are closed, in seconds.
+const CLOSING: u64 = 5;
+
+/// How often it looks, at such pauses, whether they are; pauses may be longer than was asked for.
+const LOOKS: u64 = CLOSING * 1000 / PAUSE;
 
 /// The errors by which the system says that a descriptor is no listener: `EBADF`, `EINVAL`,
 /// `ENOTSOCK` and `EOPNOTSUPP` of accept(2). All others are of one connection, or of the moment.
@@ -166,8 +169,9 @@ impl Door {
         } = self;
         drop(listener);
         drop(spare);
+        let began = Instant::now(rt).ok();
         for _look in 0..LOOKS {
-            if crowd.open() == 0 {
+            if crowd.open() == 0 || is_past(rt, began) {
                 return;
             }
             let _ = thread::sleep(rt, Duration::from_millis(PAUSE));
@@ -180,6 +184,17 @@ impl Door {
         let crowd = self.crowd.clone().ok()?;
         let stream = TcpStream::from_std(stream);
         Some(Connection::new(crowd, stream, peer))
+    }
+}
+
+/// Says whether it has waited for as long as it waits from this moment on, where that is known.
+fn is_past<R: Clock>(rt: &R, began: Option<Instant>) -> bool {
+    match began {
+        Some(began) => match began.elapsed(rt) {
+            Ok(time) => time >= Duration::from_secs(CLOSING),
+            Err(_) => false,
+        },
+        None => false,
     }
 }
 
