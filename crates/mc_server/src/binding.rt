@@ -1,5 +1,5 @@
 //! Listeners, and what they want of the system.
-ghost use Rattle.std.specs.Prelude.{◌≡◌, IfErr};
+ghost use Rattle.std.specs.Prelude.{◌≡◌, ◌+◌, length, IfOk, IfErr};
 ghost use Rattle.mc_server.specs.Ends.{EndsUnbound, EndsUnboundAt};
 
 use crate::end::{End, Obstacle};
@@ -50,7 +50,9 @@ pub fn bound<R: Net>(rt: &R, address: SocketAddr) -> io::Result<TcpListener> {
 
 /// Binds a listener at each endpoint. The program ends where it can't, or memory runs out.
 pub fn bound_all<R: Net>(rt: &R, alloc: Global, endpoints: &Endpoints) -> Result<Listeners, End>
-    ensures { IfErr result (EndsUnbound endpoints.now) }
+    ensures each { IfOk result (λ listeners.
+        length listeners.others.items ≡ length endpoints.now.others.items) }
+    ensures ends { IfErr result (EndsUnbound endpoints.now) }
 {
     let first = match bound_at(rt, endpoints.first) {
         Ok(listener) => listener,
@@ -81,7 +83,10 @@ fn bound_at<R: Net>(rt: &R, endpoint: Endpoint) -> Result<TcpListener, End>
 
 /// Gives the listeners' sockets as ones that can be shut down. It fails where the system has no descriptor
 /// for one, or memory runs out.
-pub fn sockets_of(alloc: Global, listeners: &Listeners) -> Result<Vec<TcpStream>, Wanting> {
+pub fn sockets_of(alloc: Global, listeners: &Listeners) -> Result<Vec<TcpStream>, Wanting>
+    ensures { IfOk result (λ sockets.
+        length sockets.items ≡ length listeners.now.others.items + 1) }
+{
     let mut sockets = Vec::new(alloc);
     let first = socket_of(&listeners.first)?;
     sockets.push(first).map_err(|_| AllocError)?;
