@@ -279,6 +279,10 @@ impl Item {
     {
         out.reserve(self.block_len())?;
         let parts = self.parts();
+        if parts == 1 {
+            append_reserved(out, self.part(0));
+            return Ok(());
+        }
         for index in 0..parts {
             append_reserved(out, self.part(index));
         }

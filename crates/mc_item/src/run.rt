@@ -55,6 +55,24 @@ fn put(chunks: &mut Chunks, offset: usize, source: &[u8])
     chunks.write_at(offset, source);
 }
 
+/// Copies a source that is mostly empty to the offset, and looks at nothing where it is.
+fn put_more(chunks: &mut Chunks, offset: usize, source: &[u8])
+    requires { offset + length source.now ≤ length chunks.old.bytes }
+    ensures before { take (offset + length source.now) chunks.new.bytes
+        ≡ take offset chunks.old.bytes ++ source.now }
+    ensures behind { drop (offset + length source.now) chunks.new.bytes
+        ≡ drop (offset + length source.now) chunks.old.bytes }
+    ensures size { length chunks.new.bytes ≡ length chunks.old.bytes }
+    ensures need { need_in chunks.new ≡ need_in chunks.old }
+    ensures are { AreChunks chunks.new }
+{
+    if source.is_empty() {
+        let _need = chunks.need();
+        return;
+    }
+    put(chunks, offset, source);
+}
+
 /// Writes the header. What is behind it stays.
 fn put_header(chunks: &mut Chunks, header: Header)
     requires { 48 ≤ length chunks.old.bytes }
@@ -97,7 +115,7 @@ pub(crate) fn write_item(
     put_header(chunks, header);
     let block = HEADER + key.len();
     put(chunks, HEADER, key);
-    put(chunks, block, first);
+    put_more(chunks, block, first);
     put(chunks, block + first.len(), second);
 }
 

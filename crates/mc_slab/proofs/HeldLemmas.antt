@@ -1,6 +1,7 @@
 -- The bytes of the first chunk, wherever it lies.
 use Rattle.std.proofs.Common.{◌≡◌, ℕ, ◌*◌, ◌≤◌, List, length, take, refl, sym, ap, subst, ◌∙◌, arith}
-use Rattle.std.proofs.lemmas.List.{take_all}
+use Rattle.std.proofs.lemmas.List.{take_all, length-take-le}
+use Rattle.std.proofs.Math.Nat.{mul-le-mul_right}
 use Rattle.mc_slab.specs.Classes.{size_of}
 use Rattle.mc_slab.specs.Chunks.{ChunksState, AreChunks}
 use Rattle.mc_slab.specs.Helds.{chunks_in, first_in}
@@ -61,3 +62,19 @@ first_lone chunks first are is one =
     let size : length chunks.bytes ≡ chunks.count * size_of chunks.class = are.size in
     let single : chunks.count * size_of chunks.class ≡ size_of chunks.class = ap (λ (n : ℕ). n * size_of chunks.class) one ∙ omega arith in
     is ∙ take_all (size_of chunks.class) chunks.bytes (omega arith)
+
+-- the first has its class's size, so cutting it to that takes nothing off
+pub first_length : (held : Held) → AreChunks (chunks_in held) → length (first_in held) ≡ size_of (chunks_in held).class
+first_length held are =
+    let one : 1 * size_of (chunks_in held).class ≤ (chunks_in held).count * size_of (chunks_in held).class = mul-le-mul_right (size_of (chunks_in held).class) are.is_need.some in
+    let size : length (chunks_in held).bytes ≡ (chunks_in held).count * size_of (chunks_in held).class = are.size in
+    ap (λ (l : List ℕ). length l) (first_is held are) ∙ length-take-le (size_of (chunks_in held).class) (chunks_in held).bytes (omega arith)
+
+pub first_size : (held : Held) (class size : ℕ) → AreChunks (chunks_in held) → class ≡ (chunks_in held).class → size ≡ size_of class → size ≡ length (first_in held)
+first_size held class size are class_is size_is = size_is ∙ ap (λ (k : ℕ). size_of k) class_is ∙ sym (first_length held are)
+
+pub first_cut : (held : Held) (class size : ℕ) → AreChunks (chunks_in held) → class ≡ (chunks_in held).class → size ≡ size_of class
+    → take size (first_in held) ≡ take (size_of (chunks_in held).class) (chunks_in held).bytes
+first_cut held class size are class_is size_is =
+    let is : size ≡ length (first_in held) = first_size held class size are class_is size_is in
+    take_all size (first_in held) (omega arith) ∙ first_is held are

@@ -108,6 +108,7 @@ impl Chunks {
     }
 
     /// Takes the first chunk off others. It takes no memory.
+    #[inline(never)]
     pub(crate) fn taken_off(self) -> (Chunks, Chunks)
         requires { 2 ≤ self.count }
         ensures one { AreChunksOf (record { class = self.entry.class; count = 1 }) result.0 }

@@ -5,7 +5,7 @@ ghost use Rattle.mc_slab.specs.Chunks.{ChunksState, AreChunks, need_in, with_par
 ghost use Rattle.mc_slab.specs.Classes.{size_of};
 ghost use Rattle.mc_slab.specs.Helds.{chunks_in, first_in};
 
-use crate::class::Class;
+use crate::class::{CLASSES, Class};
 use crate::need::Need;
 use crate::sheet::Sheet;
 
@@ -54,57 +54,79 @@ pub(crate) enum Held {
     Sheets(Box<Sheet>),
 }
 
+/// Their class.
+pub(crate) fn class(held: &Held) -> Class
+    ensures { result ≡ (chunks_in held.now).class }
+{
+    match held {
+        Held::C1(_) => Class::of(1),
+        Held::C2(_) => Class::of(2),
+        Held::C3(_) => Class::of(3),
+        Held::C4(_) => Class::of(4),
+        Held::C5(_) => Class::of(5),
+        Held::C6(_) => Class::of(6),
+        Held::C7(_) => Class::of(7),
+        Held::C8(_) => Class::of(8),
+        Held::C9(_) => Class::of(9),
+        Held::C10(_) => Class::of(10),
+        Held::C11(_) => Class::of(11),
+        Held::C12(_) => Class::of(12),
+        Held::C13(_) => Class::of(13),
+        Held::C14(_) => Class::of(14),
+        Held::C15(_) => Class::of(15),
+        Held::C16(_) => Class::of(16),
+        Held::C17(_) => Class::of(17),
+        Held::C18(_) => Class::of(18),
+        Held::C19(_) => Class::of(19),
+        Held::C20(_) => Class::of(20),
+        Held::C21(_) => Class::of(21),
+        Held::C22(_) => Class::of(22),
+        Held::C23(_) => Class::of(23),
+        Held::C24(_) => Class::of(24),
+        Held::C25(_) => Class::of(25),
+        Held::C26(_) => Class::of(26),
+        Held::C27(_) => Class::of(27),
+        Held::C28(_) => Class::of(28),
+        Held::C29(_) => Class::of(29),
+        Held::C30(_) => Class::of(30),
+        Held::C31(_) => Class::of(31),
+        Held::C32(_) => Class::of(32),
+        Held::C33(_) => Class::of(33),
+        Held::C34(_) => Class::of(34),
+        Held::C35(_) => Class::of(35),
+        Held::C36(_) => Class::of(36),
+        Held::C37(_) => Class::of(37),
+        Held::C38(_) => Class::of(38),
+        Held::C39(_) => Class::of(39),
+        Held::Sheets(_) => Class::of(CLASSES),
+    }
+}
+
 /// The need that they serve.
 pub(crate) fn need(held: &Held) -> Need
     requires { AreChunks (chunks_in held.now) }
     ensures { result ≡ need_in (chunks_in held.now) }
 {
-    match held {
-        Held::C1(_) => Need::one(Class::of(1)),
-        Held::C2(_) => Need::one(Class::of(2)),
-        Held::C3(_) => Need::one(Class::of(3)),
-        Held::C4(_) => Need::one(Class::of(4)),
-        Held::C5(_) => Need::one(Class::of(5)),
-        Held::C6(_) => Need::one(Class::of(6)),
-        Held::C7(_) => Need::one(Class::of(7)),
-        Held::C8(_) => Need::one(Class::of(8)),
-        Held::C9(_) => Need::one(Class::of(9)),
-        Held::C10(_) => Need::one(Class::of(10)),
-        Held::C11(_) => Need::one(Class::of(11)),
-        Held::C12(_) => Need::one(Class::of(12)),
-        Held::C13(_) => Need::one(Class::of(13)),
-        Held::C14(_) => Need::one(Class::of(14)),
-        Held::C15(_) => Need::one(Class::of(15)),
-        Held::C16(_) => Need::one(Class::of(16)),
-        Held::C17(_) => Need::one(Class::of(17)),
-        Held::C18(_) => Need::one(Class::of(18)),
-        Held::C19(_) => Need::one(Class::of(19)),
-        Held::C20(_) => Need::one(Class::of(20)),
-        Held::C21(_) => Need::one(Class::of(21)),
-        Held::C22(_) => Need::one(Class::of(22)),
-        Held::C23(_) => Need::one(Class::of(23)),
-        Held::C24(_) => Need::one(Class::of(24)),
-        Held::C25(_) => Need::one(Class::of(25)),
-        Held::C26(_) => Need::one(Class::of(26)),
-        Held::C27(_) => Need::one(Class::of(27)),
-        Held::C28(_) => Need::one(Class::of(28)),
-        Held::C29(_) => Need::one(Class::of(29)),
-        Held::C30(_) => Need::one(Class::of(30)),
-        Held::C31(_) => Need::one(Class::of(31)),
-        Held::C32(_) => Need::one(Class::of(32)),
-        Held::C33(_) => Need::one(Class::of(33)),
-        Held::C34(_) => Need::one(Class::of(34)),
-        Held::C35(_) => Need::one(Class::of(35)),
-        Held::C36(_) => Need::one(Class::of(36)),
-        Held::C37(_) => Need::one(Class::of(37)),
-        Held::C38(_) => Need::one(Class::of(38)),
-        Held::C39(_) => Need::one(Class::of(39)),
-        Held::Sheets(sheet) => Need::pages(sheet.count()),
+    let class = class(held);
+    if class.number() < CLASSES {
+        Need::one(class)
+    } else {
+        Need::pages(sheet(held).count())
     }
 }
 
-/// Lends the bytes of the first.
+/// Lends the bytes of the first, as many as the class's size.
 pub(crate) fn first(held: &Held) -> &[u8]
+    requires { AreChunks (chunks_in held.now) }
+    ensures { result.now
+        ≡ take (size_of (chunks_in held.now).class) (chunks_in held.now).bytes }
+{
+    // The length is read from the table of sizes. By the variants alone it would be a jump to one of 40 places.
+    &whole(held)[..class(held).size() as usize]
+}
+
+/// Lends the bytes of the first.
+fn whole(held: &Held) -> &[u8]
     requires { 1 ≤ (chunks_in held.now).count }
     ensures { result.now ≡ first_in held.now }
 {
@@ -159,6 +181,23 @@ pub(crate) fn write_at(held: &mut Held, at: usize, part: &[u8])
       bytes = with_part (chunks_in held.old).bytes at part.now;
     } }
 {
+    if class(held).number() < CLASSES {
+        return write_one(held, at, part);
+    }
+    match held {
+        Held::Sheets(sheet) => sheet.write_at(at, part),
+        _ => unreachable!(),
+    }
+}
+
+/// Copies a part to a place of one chunk of a class below the last.
+fn write_one(held: &mut Held, at: usize, part: &[u8])
+    requires class { (chunks_in held.old).class < 40 }
+    requires room { at + length part.now ≤ length (chunks_in held.old).bytes }
+    ensures { chunks_in held.new ≡ record (chunks_in held.old) {
+      bytes = with_part (chunks_in held.old).bytes at part.now;
+    } }
+{
     match held {
         Held::C1(bytes) => write_part(&mut bytes[..], at, part),
         Held::C2(bytes) => write_part(&mut bytes[..], at, part),
@@ -199,7 +238,7 @@ pub(crate) fn write_at(held: &mut Held, at: usize, part: &[u8])
         Held::C37(bytes) => write_part(&mut bytes[..], at, part),
         Held::C38(bytes) => write_part(&mut bytes[..], at, part),
         Held::C39(bytes) => write_part(&mut bytes[..], at, part),
-        Held::Sheets(sheet) => sheet.write_at(at, part),
+        Held::Sheets(_) => unreachable!(),
     }
 }
 
@@ -208,7 +247,17 @@ fn write_part(bytes: &mut [u8], at: usize, part: &[u8])
     requires { at + length part.now ≤ length bytes.old }
     ensures { bytes.new ≡ with_part bytes.old at part.now }
 {
-    bytes[at..at + part.len()].copy_from_slice(part);
+    copy(&mut bytes[at..at + part.len()], part);
+}
+
+/// Copies bytes over as many. It stands alone so that the compiler sees that each variant is written
+/// alike, and makes no jump to one of 40 places.
+#[inline(never)]
+fn copy(bytes: &mut [u8], part: &[u8])
+    requires { length part.now ≡ length bytes.old }
+    ensures { bytes.new ≡ part.now }
+{
+    bytes.copy_from_slice(part);
 }
 
 /// Lends the sheet of chunks of the last class.

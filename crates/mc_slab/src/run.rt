@@ -276,6 +276,7 @@ impl Runs {
     }
 
     /// Cuts the chunks of one run, for which there is room.
+    #[inline(never)]
     pub(crate) fn cut_into(&mut self, chunks: &mut Vec<Chunks>)
         requires some { 0 < self.old.count }
         requires none { chunks.old.items ≡ [] }

@@ -59,6 +59,7 @@ impl Sheet {
     }
 
     /// Counts the chunks.
+    #[inline(never)]
     pub(crate) fn count(&self) -> u8
         requires { self.now.0 ≤ 8 }
         ensures { result ≡ self.now.0 }
@@ -84,6 +85,7 @@ impl Sheet {
     }
 
     /// Lends the bytes of the chunk at a place, the first at 0. It goes from one to the next.
+    #[inline(never)]
     pub(crate) fn part(&self, at: usize) -> &[u8]
         requires { at < self.now.0 }
         ensures { result.now ≡ take 1048576 (drop (at * 1048576) self.now.1) }
@@ -126,6 +128,7 @@ impl Sheet {
 
     /// Copies a part to the place `at` of the bytes, one chunk's after another's. All else stays.
     #[cycle(write_at)]
+    #[inline(never)]
     pub(crate) fn write_at(&mut self, at: usize, part: &[u8])
         requires { at + length part.now ≤ length self.old.1 }
         ensures { self.new ≡ (self.old.0, with_part self.old.1 at part.now) }

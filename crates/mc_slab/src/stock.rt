@@ -87,6 +87,7 @@ impl Stock {
     /// So many pages more: those that are brought, as far as they are wanted and of the class.
     /// Refused, the stock is as it was: the memory of all is had whole, with room for their chunks
     /// among the free ones, or none.
+    #[inline(never)]
     pub(crate) fn add_pages(
         &mut self,
         alloc: Global,
@@ -151,6 +152,7 @@ fn take_linked(free: &mut Vec<Chunks>, uncut: &mut Runs, count: u32) -> Chunks
 }
 
 /// Takes so many chunks of the last class, linked.
+#[inline(never)]
 fn take_pages(free: &mut Vec<Chunks>, uncut: &mut Runs, count: u32) -> Chunks
     requires class { uncut.old.class ≡ 40 }
     requires few { (1 ≤ count) × (count ≤ 8) }

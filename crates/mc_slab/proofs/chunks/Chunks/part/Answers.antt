@@ -2,13 +2,11 @@ use Rattle.std.proofs.Common.{◌≡◌, ◌*◌, ℕ, List, take, drop, sym, ap
 use Rattle.mc_slab.specs.Chunks.{ChunksState, AreChunks, need_in}
 use Rattle.mc_slab.specs.Classes.{size_of}
 use Rattle.mc_slab.proofs.ChunkLemmas.{part_first, part_is, several_are}
-use Rattle.mc_slab.proofs.HeldLemmas.{first_is}
 use Rattle.mc_slab.proofs.chunks.Chunks.part.Goals as goal
 
 pub returns-then-at-eq0-clause-value : goal.returns-then-at-eq0-clause-value
 returns-then-at-eq0-clause-value c =
     c.first.ensures
-    ∙ first_is c.self.inside.held c.self.invariant
     ∙ ap (λ (s : ChunksState). take (size_of s.class) s.bytes) c.self.view_is
     ∙ part_first c.args.self.now c.args.at c.if-at-eq0.true
 
