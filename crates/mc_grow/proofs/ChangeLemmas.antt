@@ -68,7 +68,8 @@ pub removed : {X : Type 0} (hash_of : X → ℕ) (key_of : X → List ℕ) (entr
     → ((items : List (Option X)) (at : ℕ) (x : X) → AreApart hash_of key_of items → get_or items at None ≡ Some x
     → content hash_of key_of (set items at None) ≡ remove (content hash_of key_of items) (hash_of x ∷ key_of x)) → AreApart hash_of key_of (cells old)
     → entry_at old place ≡ Some entry → cells new ≡ set (cells old) place.number None → place.number < length old.draining + length old.table
-    → new.strays ≡ old.strays → new.k ≡ old.k → new.growing ≡ old.growing → left new ≤ left old → old.spare ≤ new.spare → IsRemoved hash_of key_of place entry old new
+    → new.strays ≡ old.strays → new.k ≡ old.k → new.growing ≡ old.growing → (left new ≤ left old) × (left old ≤ left new + 1) → old.spare ≤ new.spare
+    → IsRemoved hash_of key_of place entry old new
 removed {X} hash_of key_of entry place old new law apart there changed bucket strays k growing less spare = record {
   there = there;
   removed = ap (content hash_of key_of) changed ∙ law (cells old) place.number entry apart there;
@@ -78,7 +79,8 @@ removed {X} hash_of key_of entry place old new law apart there changed bucket st
   };
   others = record { of_tables = λ _. (changed, strays); of_strays = λ behind. absurd (omega (arith, bucket, behind)) };
   room = spare;
-  less_left = less;
+  less_left = less.0;
+  one_less_left = less.1;
   fewer = filled-taken (cells old) place.number entry there ∙ ap (λ (items : List (Option X)). filled items + 1) (sym changed);
   same_k = k;
   same_growing = growing;
@@ -225,7 +227,8 @@ pub removed_stray : {X : Type 0} (hash_of : X → ℕ) (key_of : X → List ℕ)
     → content hash_of key_of items ≡ content hash_of key_of others) → IsSwapped strays less at → at < length strays → entry ≡ get_or strays at entry
     → AreApart hash_of key_of (cells old) → cells old ≡ all old.draining old.table strays → cells new ≡ all old.draining old.table less
     → place.number ≡ length old.draining + (length old.table + at) → new.draining ≡ old.draining → new.table ≡ old.table
-    → new.strays ≡ swap_remove old.strays at entry → new.k ≡ old.k → new.growing ≡ old.growing → left new ≤ left old → old.spare ≤ new.spare → IsRemoved hash_of key_of place entry old new
+    → new.strays ≡ swap_remove old.strays at entry → new.k ≡ old.k → new.growing ≡ old.growing → (left new ≤ left old) × (left old ≤ left new + 1) → old.spare ≤ new.spare
+    → IsRemoved hash_of key_of place entry old new
 removed_stray {X} hash_of key_of strays less at entry place old new taken same swap below is apart old_is new_is number_is same_old same_table strays_are k growing fewer_left spare =
     let front = old.draining ++ old.table in
     let olds : cells old ≡ front ++ map Some strays = old_is ∙ sym (append_assoc old.draining old.table (map Some strays)) in
@@ -255,7 +258,8 @@ removed_stray {X} hash_of key_of strays less at entry place old new taken same s
             λ _. (same_old, same_table, strays_are ∙ ap (λ (n : ℕ). swap_remove old.strays n entry) {x = at} {y = place.number - (length old.draining + length old.table)} (omega (arith, number_is)));
       };
       room = spare;
-      less_left = fewer_left;
+      less_left = fewer_left.0;
+      one_less_left = fewer_left.1;
       fewer = ap filled olds ∙ fewer hash_of key_of front strays less at swap below ∙ ap (λ (items : List (Option X)). filled items + 1) (sym news);
       same_k = k;
       same_growing = growing;
@@ -301,6 +305,9 @@ module _ {X : Type 0} {v now : IndexState X} {place : Place} (same : v ≡ now) 
 
 pub same_number : (n : ℕ) → n ≤ n
 same_number n = omega arith
+
+pub none_fewer : (n : ℕ) → (n ≤ n) × (n ≤ n + 1)
+none_fewer n = (omega arith, omega arith)
 
 pub more_room : (room len more fewer : ℕ) → fewer ≤ more → room - (len + more) ≤ room - (len + fewer)
 more_room room len more fewer less = omega (arith, less)

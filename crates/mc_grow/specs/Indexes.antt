@@ -144,7 +144,7 @@ pub record OthersStay {X : Type 0} (entry : X) (number : ℕ) (old new : IndexSt
   pub of_tables : number < length old.draining + length old.table → (cells new ≡ slice_set (cells old) number None) × (new.strays ≡ old.strays)
   pub of_strays : length old.draining + length old.table ≤ number → (new.draining ≡ old.draining) × (new.table ≡ old.table) × (new.strays ≡ swap_remove old.strays (number - (length old.draining + length old.table)) entry)
 
--- the entry at a place was taken out: lower numbers stay, and there is no less room than before
+-- the entry at a place was taken out, and no other of the old table: lower numbers stay, and there is no less room than before
 pub record IsRemoved {X : Type 0} (hash_of : X → ℕ) (key_of : X → List ℕ) (place : Place) (entry : X) (old new : IndexState X) : Type 0 where
   pub there : entry_at old place ≡ Some entry
   pub removed : holds hash_of key_of new ≡ remove (holds hash_of key_of old) (hash_of entry ∷ key_of entry)
@@ -152,6 +152,7 @@ pub record IsRemoved {X : Type 0} (hash_of : X → ℕ) (key_of : X → List ℕ
   pub others : OthersStay entry place.number old new
   pub room : old.spare ≤ new.spare
   pub less_left : left new ≤ left old
+  pub one_less_left : left old ≤ left new + 1
   pub fewer : count old ≡ count new + 1
   pub same_k : new.k ≡ old.k
   pub same_growing : new.growing ≡ old.growing

@@ -207,11 +207,36 @@ impl<T: Keyed + Drop> Index<T> {
         drained_len(&self.draining) + self.table.len() + self.strays.len()
     }
 
+    /// States that each entry is counted once: the content has as many as stand in it. It does nothing.
+    pub fn each_entry_counts_once(&self)
+        ensures { len (holds T.hash_of T.key_of self.now) ≡ count self.now }
+    {
+        content_counts_entries::<T>();
+        let _ = &self.strays;
+    }
+
     /// Counts the entries of the old table, which are left to move.
     pub fn left(&self) -> usize
-        ensures { result ≡ left self.now }
+        ensures value { result ≡ left self.now }
+        ensures rests { self.now.growing ≡ false → result ≡ 0 }
     {
         drained_len(&self.draining)
+    }
+
+    /// Counts the strays, for which no bucket could be had near their homes. They are tried again when a growth ends.
+    pub fn strays(&self) -> usize
+        ensures count { result ≡ length self.now.strays }
+        ensures within { result + left self.now ≤ count self.now }
+    {
+        self.strays.len()
+    }
+
+    /// Counts the homes of the table that new entries go to: 2^k of them, k from 6 to 24. A growth doubles them.
+    pub fn homes(&self) -> usize
+        ensures value { result ≡ 2 ^ self.now.k }
+        ensures range { (64 ≤ result) × (result ≤ 2 ^ 24) }
+    {
+        1 << self.table.exponent()
     }
 
     /// Returns whether a growth runs.
@@ -228,7 +253,7 @@ impl<T: Keyed + Drop> Index<T> {
     pub fn lags(&self) -> bool
         ensures { result ≡ lags self.now }
     {
-        let homes = 1usize << self.table.exponent();
+        let homes = self.homes();
         let entries = self.len().saturating_add(1).saturating_mul(4);
         self.is_growing() && entries > 3 * homes
     }
@@ -337,11 +362,10 @@ impl<T: Keyed + Drop> Index<T> {
     fn is_due(&self) -> bool
         ensures { result ≡ is_due self.now }
     {
-        let k = self.table.exponent();
-        if self.draining.is_some() || k >= 24 {
+        if self.draining.is_some() || self.table.exponent() >= 24 {
             return false;
         }
-        let homes = 1usize << k;
+        let homes = self.homes();
         let entries = self.len().saturating_add(1).saturating_mul(4);
         entries > 3 * homes || (self.strays.len() > 0 && entries >= homes)
     }

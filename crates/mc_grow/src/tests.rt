@@ -28,6 +28,8 @@ fn entries_stand_in_three_parts(rt: HostRuntime) -> Result<(), Fail> {
     assert!(rt; index.is_growing(), "no growth has begun");
     assert!(rt; index.len() == 67, "{} entries", index.len());
     assert!(rt; index.left() == 32, "{} in the old table", index.left());
+    assert!(rt; index.strays() == 3, "{} strays", index.strays());
+    assert!(rt; index.homes() == 128, "{} homes", index.homes());
     for hash in 0..MARKS {
         let found = index.find(hash, &KEY);
         assert!(rt; found.is_some(), "{hash} is not found");

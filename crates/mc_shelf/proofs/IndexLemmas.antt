@@ -146,11 +146,13 @@ module _ (old new : IndexState EntryState) (keyed : IsKeyed (entries_of old)) wh
     pub same_hashes : hashes_of new ≡ hashes_of old
     same_hashes = ap hashes_in now ∙ hashes-replace _ keyed e given stood
 
-    pub changed : (key : List ℕ) → e.key ≡ key → new.spare ≡ old.spare → left new ≡ left old → IsChanged old new key given.item
-    changed key is_key spare rest =
+    pub changed : (key : List ℕ) → e.key ≡ key → new.k ≡ old.k → new.growing ≡ old.growing → new.spare ≡ old.spare → left new ≡ left old → IsChanged old new key given.item
+    changed key is_key same_k same_growing spare rest =
         record {
           items = changed_items ∙ ap (λ k. insert (items_of old) k given.item) (same_key ∙ is_key);
           hashes = same_hashes;
+          same_k = same_k;
+          same_growing = same_growing;
           same_room = spare;
           same_left = rest;
         }

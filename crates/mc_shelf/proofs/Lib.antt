@@ -19,5 +19,6 @@ pub mod LabelLemmas
 pub mod KeyMapLemmas
 pub mod DeathLemmas
 pub mod LenLemmas
+pub mod CountLemmas
 pub mod NumberLemmas
 pub mod HitLemmas

@@ -1,4 +1,5 @@
 pub mod States
+pub mod Counts
 pub mod KeyMaps
 pub mod Places
 pub mod Plans

@@ -54,5 +54,7 @@ pub record KeyGoes (old new : IndexState EntryState) (key : List ℕ) : Type 0 w
 pub record IsChanged (old new : IndexState EntryState) (key : List ℕ) (item : Entry) : Type 0 where
   pub items : items_of new ≡ insert (items_of old) key item
   pub hashes : hashes_of new ≡ hashes_of old
+  pub same_k : new.k ≡ old.k
+  pub same_growing : new.growing ≡ old.growing
   pub same_room : new.spare ≡ old.spare
   pub same_left : left new ≡ left old

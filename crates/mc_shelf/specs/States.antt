@@ -1,6 +1,6 @@
 -- What contracts see of an entry, a shelf and a desk.
-use Rattle.std.specs.Prelude.{◌≡◌, ℕ, List, ◌++◌, Option, Some, None, refl}
-use Rattle.std.specs.Coded.{Coded, code_by, coded×, coded_ℕ, coded_list, coded_option}
+use Rattle.std.specs.Prelude.{◌≡◌, ℕ, Bool, List, ◌++◌, Option, Some, None, refl}
+use Rattle.std.specs.Coded.{Coded, code_by, coded×, coded_ℕ, coded_bool, coded_list, coded_option}
 use Rattle.std.specs.Ordering.{nat_cmp}
 use Rattle.std.specs.Cmp.Lexicographic.{slice_cmp}
 use Rattle.std.specs.FinMap.{FinMap, get, empty, code}
@@ -109,17 +109,29 @@ coded_content =
     (λ p. record { greatest = p.0; items = p.1.0; hashes = p.1.1.0; cut = p.1.1.1 })
     (λ _. refl)
 
--- A shelf: what it holds, and what moves beside it: for how many more entries there is room, and how many of an old table's
--- are left to move.
+-- A shelf: what it holds, and what moves beside it: for how many more entries there is room, how many homes the table has that
+-- new entries go to, whether it grows, how many of an old table's entries are left to move then, and how many stand in no table.
 pub record ShelfState : Type 0 where
   pub content : ShelfContent
   pub room : ℕ
+  pub homes : ℕ
+  pub growing : Bool
   pub left : ℕ
+  pub strays : ℕ
 
 abbrev pub coded_shelf : Coded ShelfState
 coded_shelf =
-    code_by (ShelfContent × (ℕ × ℕ)) (coded× coded_content (coded× coded_ℕ coded_ℕ)) (λ s. (s.content, (s.room, s.left)))
-    (λ p. record { content = p.0; room = p.1.0; left = p.1.1 })
+    code_by (ShelfContent × (ℕ × (ℕ × (Bool × (ℕ × ℕ)))))
+    (coded× coded_content (coded× coded_ℕ (coded× coded_ℕ (coded× coded_bool (coded× coded_ℕ coded_ℕ)))))
+    (λ s. (s.content, (s.room, (s.homes, (s.growing, (s.left, s.strays))))))
+    (λ p. record {
+      content = p.0;
+      room = p.1.0;
+      homes = p.1.1.0;
+      growing = p.1.1.1.0;
+      left = p.1.1.1.1.0;
+      strays = p.1.1.1.1.1;
+    })
     (λ _. refl)
 
 -- a shelf that holds nothing

@@ -1,12 +1,13 @@
 //! Entries, found by their keys.
 
 ghost use Rattle.std.specs.Prelude.{◌≡◌, ℕ, ◌+◌, ◌-◌, ◌^◌, ◌<◌, ◌≤◌, List, length, min};
-ghost use Rattle.std.specs.Prelude.{Some, None, IfOk, IfSome, OnOk, option_copied, true, false};
+ghost use Rattle.std.specs.Prelude.{Some, None, IfOk, IfSome, OnOk, nat_lt, option_copied, true, false};
 ghost use Rattle.std.specs.FinMap.{empty, get, len};
 ghost use Rattle.mc_slab.specs.Needs.{need_for};
 ghost use Rattle.mc_command.specs.Plain.{charge, item_need};
 ghost use Rattle.mc_shelf.specs.Plans.{drafted};
 ghost use Rattle.mc_grow.specs.Indexes.{IsFilled, IsNext, KeepsLower, count, entry_at, left};
+ghost use Rattle.mc_shelf.specs.Counts.{CaughtUp, FitTogether, KeepsTable, MovesFew, counts_in};
 ghost use Rattle.mc_shelf.specs.Deaths.{DieNoSooner, NoneIsDead};
 ghost use Rattle.mc_shelf.specs.KeyMaps.{IsHashOf, IsKeyed};
 ghost use Rattle.mc_shelf.specs.States.{EntryState};
@@ -22,6 +23,7 @@ ghost use Rattle.mc_shelf.specs.Places.{
   items_of,
 };
 
+use crate::counts::ShelfCounts;
 use crate::entry::Entry;
 use crate::soonest::Soonest;
 use crate::write::Write;
@@ -73,6 +75,9 @@ impl Index {
         ensures items { IfOk result (λ index. items_of index ≡ empty) }
         ensures hashes { IfOk result (λ index. hashes_of index ≡ empty) }
         ensures left { IfOk result (λ index. left index ≡ 0) }
+        ensures homes { IfOk result (λ index. index.k ≡ 6) }
+        ensures rests { IfOk result (λ index.
+            (index.growing ≡ false) × (length index.strays ≡ 0)) }
     {
         Ok(Index {
             entries: mc_grow::Index::new(alloc, LEAST_EXPONENT)?,
@@ -118,6 +123,7 @@ impl Index {
     pub(crate) fn reserve(&mut self, alloc: Global) -> Result<(), AllocError>
         ensures entries { entries_of self.new ≡ entries_of self.old }
         ensures room { OnOk result (1 ≤ self.new.spare) }
+        ensures moves { MovesFew 8 (counts_in self.old) (counts_in self.new) }
     {
         self.catch_up();
         self.entries.reserve(alloc)
@@ -126,8 +132,11 @@ impl Index {
     /// Moves entries of the old table where a growth lags, so that it ends before the new table is full, also where no other
     /// moves come. It takes no memory.
     fn catch_up(&mut self)
-        ensures { entries_of self.new ≡ entries_of self.old }
+        ensures entries { entries_of self.new ≡ entries_of self.old }
+        ensures count { len (items_of self.new) ≡ count self.new }
+        ensures moves { CaughtUp (counts_in self.old) (counts_in self.new) }
     {
+        self.entries.each_entry_counts_once();
         if self.entries.lags() {
             let _ = self.entries.move_some(CATCH_UP);
         }
@@ -140,7 +149,7 @@ impl Index {
         ensures inserted { KeyComes self.old self.new entry.entry }
         ensures place { IsKeyAt self.new entry.entry.key result }
         ensures room { self.old.spare ≤ self.new.spare + 1 }
-        ensures left { left self.new ≡ left self.old }
+        ensures table { KeepsTable 0 (counts_in self.old) (counts_in self.new) }
     {
         self.soonest = self.soonest.with(entry.expiry(), entry.updated());
         self.entries.insert_reserved(entry)
@@ -217,7 +226,7 @@ impl Index {
         ensures removed { KeyGoes self.old self.new result.key }
         ensures lower { KeepsLower self.old self.new place.number }
         ensures room { self.old.spare ≤ self.new.spare }
-        ensures left { left self.new ≤ left self.old }
+        ensures table { KeepsTable 1 (counts_in self.old) (counts_in self.new) }
     {
         self.entries.remove(place)
     }
@@ -252,9 +261,25 @@ impl Index {
     /// Counts the items.
     pub(crate) fn len(&self) -> usize
         ensures count { result ≡ len (items_of self.now) }
+        ensures entries { result ≡ count self.now }
         ensures most { result < 2 ^ 64 - 1 }
     {
         self.entries.len()
+    }
+
+    /// Counts the items, the homes of the table that new entries go to, the entries of an old table and the strays, and tells
+    /// whether a growth runs.
+    pub(crate) fn counts(&self) -> ShelfCounts
+        ensures value { result ≡ counts_in self.now }
+        ensures fits { FitTogether result }
+    {
+        ShelfCounts {
+            items: self.len() as u64,
+            homes: self.entries.homes() as u64,
+            growing: self.entries.is_growing(),
+            left: self.entries.left() as u64,
+            strays: self.entries.strays() as u64,
+        }
     }
 
     /// Answers whether no entry is there.
@@ -290,6 +315,8 @@ impl Index {
         ensures left { left self.new ≡ left self.old - result }
         ensures entries { entries_of self.new ≡ entries_of self.old }
         ensures room { self.old.spare ≤ self.new.spare }
+        ensures same_k { self.new.k ≡ self.old.k }
+        ensures growing { self.new.growing ≡ nat_lt 0 (left self.new) }
     {
         self.entries.move_some(n)
     }

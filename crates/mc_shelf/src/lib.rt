@@ -4,6 +4,7 @@
 mod begun;
 #[cfg(test)]
 mod compare_tests;
+mod counts;
 mod desk;
 mod entry;
 mod hit;
@@ -17,6 +18,7 @@ mod store;
 mod write;
 
 pub use begun::{Begun, Unwritten};
+pub use counts::ShelfCounts;
 pub use desk::{Desk, Wanted};
 pub use entry::Entry;
 pub use hit::{Found, Hit};

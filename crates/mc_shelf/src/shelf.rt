@@ -1,7 +1,7 @@
 //! A shelf: the items of some keys, and the steps on one of its keys.
 
 ghost use Rattle.std.specs.Prelude.{◌≡◌, ◌≢◌, ◌↔◌, ℕ, ◌+◌, ◌-◌, ◌%◌, ◌^◌, ◌<◌, ◌≤◌, length, min, slice_index, slice_set};
-ghost use Rattle.std.specs.Prelude.{Option, Some, None, Err, IfOk, IfSome, OnErr, OnOk, true, false};
+ghost use Rattle.std.specs.Prelude.{Option, Some, None, Err, IfOk, IfSome, OnErr, OnOk, nat_lt, true, false};
 ghost use Rattle.std.specs.FinMap.{empty, get, len};
 ghost use Rattle.mc_time.specs.declared.expiry.Expiry.{Expiry as Expires};
 ghost use Rattle.mc_slab.specs.Needs.{IsNeed, need_for, size_in};
@@ -10,6 +10,7 @@ ghost use Rattle.mc_command.specs.declared.step.KeyStep.{KeyStep as Step};
 ghost use Rattle.mc_command.specs.declared.row.Row.TheVariants.{Reads};
 ghost use Rattle.mc_command.specs.Commands.{key_of};
 ghost use Rattle.mc_command.specs.Plain.{Entry as Item};
+ghost use Rattle.mc_shelf.specs.Counts.{FitTogether, MovesFew, counts_of};
 ghost use Rattle.mc_shelf.specs.States.{CanStand, nothing_held};
 ghost use Rattle.mc_shelf.specs.Numbers.{AreCounted, HasPlaces};
 ghost use Rattle.mc_shelf.specs.Plans.{
@@ -45,6 +46,7 @@ ghost use Rattle.mc_shelf.specs.Plans.{
 ghost use Rattle.mc_shelf.specs.Sweeps.{AreOut, GivesFor, IsPurged};
 
 use crate::begun::Begun;
+use crate::counts::ShelfCounts;
 use crate::desk::{Desk, Wanted};
 use crate::entry::Entry;
 use crate::index::{Index, Place};
@@ -63,7 +65,8 @@ const SMALL: u64 = 493_552;
 /// The items of some keys, and the flush that is waiting or has come. Their chunks are counted in the slab of a desk.
 ///
 /// Contracts see what it holds (the greatest charge, the items and the hashes under their keys, the flush), and beside that
-/// what moves: for how many more entries there is room, and how many of an old table's entries are left to move.
+/// what moves: for how many more entries there is room, how many homes the table has, whether it grows, how many of an old table's
+/// entries are left to move then, and how many entries stand in no table.
 #[derive(Drop)]
 pub struct Shelf {
     /// The greatest charge of an item, in bytes, 0 to 8388608.
@@ -75,7 +78,7 @@ pub struct Shelf {
 }
 
 impl Model for Shelf {
-    ghost use Rattle.std.specs.Prelude.{◌≤◌};
+    ghost use Rattle.std.specs.Prelude.{◌≤◌, ◌^◌, length};
     ghost use Rattle.mc_grow.specs.Indexes.{left};
     ghost use Rattle.mc_shelf.specs.Places.{items_of, hashes_of};
     ghost use Rattle.mc_shelf.specs.States.{ShelfState, coded_shelf};
@@ -92,7 +95,10 @@ impl Model for Shelf {
         cut = s.cut;
       };
       room = s.index.spare;
+      homes = 2 ^ s.index.k;
+      growing = s.index.growing;
       left = left s.index;
+      strays = length s.index.strays;
     } };
 
     ghost invariant = { λ s. s.greatest ≤ 8388608 };
@@ -104,7 +110,9 @@ impl Shelf {
     pub fn new(alloc: Global, greatest: u64) -> Result<Shelf, AllocError>
         requires { greatest ≤ 8388608 }
         ensures content { IfOk result (λ shelf. shelf.content ≡ nothing_held greatest) }
+        ensures homes { IfOk result (λ shelf. shelf.homes ≡ 64) }
         ensures left { IfOk result (λ shelf. shelf.left ≡ 0) }
+        ensures rests { IfOk result (λ shelf. (shelf.growing ≡ false) × (shelf.strays ≡ 0)) }
     {
         Ok(Shelf {
             greatest,
@@ -184,6 +192,8 @@ impl Shelf {
         ensures hash { IfOk result (λ plan. plan.hash ≡ hash) }
         ensures room { IfOk result (λ plan. HasRoom plan self.new step.now) }
         ensures content { self.new.content ≡ self.old.content }
+        ensures moves { MovesFew 8 (counts_of self.old) (counts_of self.new) }
+        ensures idle { IfOk result (λ plan. writes plan.next ≡ false → self.new ≡ self.old) }
         ensures asked { OnErr result (LookTakesMemory step.now now self.old.content) }
         ensures most { self.old.content.greatest ≤ 8388608 }
     {
@@ -397,6 +407,8 @@ impl Shelf {
         ensures moved { result ≡ min n self.old.left }
         ensures left { self.new.left ≡ self.old.left - result }
         ensures room { self.old.room ≤ self.new.room }
+        ensures homes { self.new.homes ≡ self.old.homes }
+        ensures growing { self.new.growing ≡ nat_lt 0 self.new.left }
     {
         self.index.move_some(n)
     }
@@ -406,6 +418,15 @@ impl Shelf {
         ensures { result ≡ self.now.left }
     {
         self.index.left()
+    }
+
+    /// Counts the items, the homes of the table that new entries go to, the entries of an old table that are left to move, and
+    /// those that stand in no table, and tells whether the table grows. It walks nothing.
+    pub fn counts(&self) -> ShelfCounts
+        ensures value { result ≡ counts_of self.now }
+        ensures fits { FitTogether result }
+    {
+        self.index.counts()
     }
 
     /// Finds out what a step at a moment does, and makes no room. A hit's block is copied, and nothing else takes memory.
@@ -483,6 +504,7 @@ impl Shelf {
     fn make_room(&mut self, alloc: Global, plan: &Plan<'_>, desk: &Desk) -> Result<(), AllocError>
         requires { (step : Step) × (now : ℕ) × IsPlan plan.now self.old.content step now }
         ensures content { self.new.content ≡ self.old.content }
+        ensures moves { MovesFew 8 (counts_of self.old) (counts_of self.new) }
         ensures room { OnOk result (CanWrite plan.now.next self.old.content plan.now.key
             plan.now.moment desk.now → PutsEntry plan.now.next self.old.content plan.now.key
             plan.now.moment → 1 ≤ self.new.room) }

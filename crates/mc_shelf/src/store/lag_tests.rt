@@ -3,6 +3,7 @@
 ghost use Rattle.std.specs.Prelude.{◌≡◌, ◌≤◌, length};
 
 use super::*;
+use crate::counts::ShelfCounts;
 use mc_command::Verb;
 use mc_testing::{Ask, asked, filled, step_of};
 use std::test::*;
@@ -43,8 +44,8 @@ fn front(bytes: &[u8], len: usize) -> &[u8]
     front
 }
 
-/// Sets keys of each length from 1 to that, at most 250, and answers how many entries are left to move then.
-fn left_after(alloc: Global, keys: usize) -> Result<usize, AllocError> {
+/// A store with keys of each length from 1 to that, at most 250.
+fn store_of(alloc: Global, keys: usize) -> Result<Store<ByLength>, AllocError> {
     let long = filled(alloc, 250)?;
     let mut store = open(alloc)?;
     let now = Moment::from_seconds_at_most(1000);
@@ -53,7 +54,15 @@ fn left_after(alloc: Global, keys: usize) -> Result<usize, AllocError> {
         let step = step_of(key, Ask::Store(Verb::Set, 0, b"x"));
         let _ = asked(&mut store, alloc, &step, now);
     }
-    Ok(store.grow(0, 1000))
+    Ok(store)
+}
+
+/// What is counted of the first shelf.
+fn counts(store: &Store<ByLength>) -> Option<ShelfCounts> {
+    match store.parts.shelves.first() {
+        Some(shelf) => Some(shelf.counts()),
+        None => None,
+    }
 }
 
 /// The table of 64 homes grows before the 49th key comes. The growth lags from the 97th key on, when there are more than three
@@ -73,8 +82,34 @@ fn a_growth_that_lags_is_moved_on_by_new_keys(rt: HostRuntime) -> Result<(), Fai
         (205, 204),
     ];
     for (keys, want) in rows {
-        let left = left_after(rt.alloc(), keys)?;
+        let left = store_of(rt.alloc(), keys)?.grow(0, 1000);
         assert!(rt; left == want, "{left} are left after {keys} keys");
+    }
+    Ok(())
+}
+
+/// Each home has one entry at most, so that none is a stray.
+#[test]
+fn a_shelf_counts_what_its_table_has(rt: HostRuntime) -> Result<(), Fail> {
+    // So many keys, and what is counted then: the homes, whether the table grows, and how many entries are left to move.
+    let rows: [(usize, u64, bool, u64); 6] = [
+        (0, 64, false, 0),
+        (48, 64, false, 0),
+        (49, 128, true, 48),
+        (97, 128, true, 40),
+        (102, 256, true, 101),
+        (205, 512, true, 204),
+    ];
+    for (keys, homes, growing, left) in rows {
+        let store = store_of(rt.alloc(), keys)?;
+        let want = ShelfCounts {
+            items: keys as u64,
+            homes,
+            growing,
+            left,
+            strays: 0,
+        };
+        assert!(rt; counts(&store) == Some(want), "after {keys} keys");
     }
     Ok(())
 }

@@ -154,6 +154,30 @@ fn keys_are_counted_by_their_numbers(rt: HostRuntime) -> Result<(), Fail> {
     Ok(())
 }
 
+/// How many entries of the first shelf stand in no table, and how many in an old one.
+fn apart<K: KeyHash + Drop>(store: &Store<K>) -> (u64, u64) {
+    match store.parts.shelves.first() {
+        Some(shelf) => {
+            let counts = shelf.counts();
+            (counts.strays, counts.left)
+        }
+        None => (0, 0),
+    }
+}
+
+/// A table takes 32 keys of one hash, and two are moved after each key. So the 33rd is a stray, and with the 34th a growth
+/// begins.
+#[test]
+fn keys_that_find_no_bucket_are_strays(rt: HostRuntime) -> Result<(), Fail> {
+    let rows: [(usize, (u64, u64)); 4] = [(32, (0, 0)), (33, (1, 0)), (34, (1, 30)), (35, (1, 28))];
+    for (many, want) in rows {
+        let store = store_of(rt.alloc(), Constant(0), many)?;
+        let has = apart(&store);
+        assert!(rt; has == want, "{} and {} after {many} keys", has.0, has.1);
+    }
+    Ok(())
+}
+
 /// Keys of one hash, of which a table takes 32, and the others are strays. From the 34th on a growth runs.
 #[test]
 fn strays_are_counted(rt: HostRuntime) -> Result<(), Fail> {

@@ -5,7 +5,7 @@ use Rattle.mc_grow.specs.Parts.{drained_items}
 use Rattle.mc_grow.proofs.PartLemmas.{inside, stray_inside}
 use Rattle.mc_grow.proofs.CellLemmas.{all, cell_drained, cell_table, filled-taken, apart_taken}
 use Rattle.mc_grow.proofs.ChangeLemmas.{set_drained, set_table, removed, removed_stray, apart_shorter, in_drained, in_table, in_strays, number_drained, number_table, number_stray}
-use Rattle.mc_grow.proofs.ChangeLemmas.{same_number, more_room, one_stray_less, seen_removed}
+use Rattle.mc_grow.proofs.ChangeLemmas.{none_fewer, same_number, more_room, one_stray_less, seen_removed}
 use Rattle.mc_grow.proofs.index.Index.remove.Goals as goal
 
 pub remove_drained-requires : goal.remove_drained-requires
@@ -60,11 +60,12 @@ returns-in-Drained g c =
     let spot = number_drained c.self.view_is c.in-Drained.ensures in
     let less = filled-taken _ c.in-Drained.at _ here ∙ ap (λ (items : List (Option g.row.T.Denot)). filled items + 1) (sym gone) in
     let fewer : filled (drained_items c.remove_drained.new.draining) ≤ filled (drained_items i.draining) = omega (arith, less) in
+    let one_less : filled (drained_items i.draining) ≤ filled (drained_items c.remove_drained.new.draining) + 1 = omega (arith, less) in
     let there = ap (λ (n : ℕ). get_or (all (drained_items i.draining) i.table.items i.strays.items) n None) spot.1 ∙ cell_drained _ _ _ c.in-Drained.at spot.0 ∙ here in
     seen_removed c.self.view_is
     (removed g.T.Keyed.hash_of g.T.Keyed.key_of c.remove_drained.result c.args.place _ _ c.content_changes_at_one_key.ensures.taken c.self.invariant.apart there
     (set_drained (drained_items i.draining) i.table.items i.strays.items c.in-Drained.at c.args.place.number None spot.0 spot.1 gone)
-    (omega (arith, spot.0, spot.1)) refl refl c.remove_drained.ensures.stays fewer (more_room _ _ _ _ fewer))
+    (omega (arith, spot.0, spot.1)) refl refl c.remove_drained.ensures.stays (fewer, one_less) (more_room _ _ _ _ fewer))
 
 pub returns-in-Table : goal.returns-in-Table
 returns-in-Table g c =
@@ -76,7 +77,7 @@ returns-in-Table g c =
     seen_removed c.self.view_is
     (removed g.T.Keyed.hash_of g.T.Keyed.key_of c.remove.result c.args.place _ _ c.content_changes_at_one_key.ensures.taken c.self.invariant.apart there
     (set_table (drained_items i.draining) i.table.items i.strays.items c.in-Table.at c.args.place.number None spot.0 spot.1 (ap (λ (t : HopState g.row.T.Denot). t.items) gone))
-    (omega (arith, spot.0, spot.1)) refl (ap (λ (t : HopState g.row.T.Denot). t.k) gone) refl (same_number _) (same_number _))
+    (omega (arith, spot.0, spot.1)) refl (ap (λ (t : HopState g.row.T.Denot). t.k) gone) refl (none_fewer _) (same_number _))
 
 pub returns-in-Stray : goal.returns-in-Stray
 returns-in-Stray g c =
@@ -87,5 +88,5 @@ returns-in-Stray g c =
     (removed_stray g.T.Keyed.hash_of g.T.Keyed.key_of i.strays.items _ c.in-Stray.at c.swap_remove.result c.args.place _ _
     c.content_changes_at_one_key.ensures.taken c.content_has_each_entry.ensures.same
     swap (stray_inside _ _ _ (in_strays c.self.view_is c.in-Stray.at c.requires.1 c.in-Stray.ensures)) c.swap_remove.ensures.value
-    c.self.invariant.apart refl refl (number_stray c.self.view_is c.in-Stray.at c.in-Stray.ensures) refl refl c.swap_remove.ensures.items refl refl (same_number _)
+    c.self.invariant.apart refl refl (number_stray c.self.view_is c.in-Stray.at c.in-Stray.ensures) refl refl c.swap_remove.ensures.items refl refl (none_fewer _)
     (one_stray_less _ _ _ _ _ c.swap_remove.ensures.room shorter))

@@ -42,6 +42,6 @@ returns-clause-changed c =
     let becomes : is.given ≡ c.args.entry = let met = is.called in search rules in
     let hash : found.entry.hash ≡ c.args.entry.hash = c.requires.hash found.entry.hash found.hash in
     let change = changed c.self.inside.entries c.update.new.self c.self.invariant.0 found.entry is.given held (ap (λ (e : EntryState). e.hash) becomes ∙ sym hash)
-    (ap (λ (e : EntryState). e.key) becomes ∙ sym found.same_key) is.content c.args.entry.key found.same_key is.same_spare is.same_left in
+    (ap (λ (e : EntryState). e.key) becomes ∙ sym found.same_key) is.content c.args.entry.key found.same_key is.same_k is.same_growing is.same_spare is.same_left in
     subst (λ (i : Entry). IsChanged c.args.self.now c.update.new.self c.args.entry.key i) (ap (λ (e : EntryState). e.item) becomes)
     (subst (λ (s : IndexState EntryState). IsChanged s c.update.new.self c.args.entry.key is.given.item) c.self.view_is change)

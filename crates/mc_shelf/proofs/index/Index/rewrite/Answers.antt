@@ -34,6 +34,6 @@ returns c =
     let is = c.update.ensures found.entry there in
     let becomes : is.given ≡ record found.entry { item = drafted c.args.write.now.draft c.args.block.now c.args.unique c.args.write.now.moment } = let met = is.called in search rules in
     let change = changed c.self.inside.entries c.update.new.self c.self.invariant.0 found.entry is.given held (ap (λ (e : EntryState). e.hash) becomes) (ap (λ (e : EntryState). e.key) becomes)
-    is.content c.args.key.now found.same_key is.same_spare is.same_left in
+    is.content c.args.key.now found.same_key is.same_k is.same_growing is.same_spare is.same_left in
     subst (λ (i : Entry). IsChanged c.args.self.now c.update.new.self c.args.key.now i) (ap (λ (e : EntryState). e.item) becomes)
     (subst (λ (s : IndexState EntryState). IsChanged s c.update.new.self c.args.key.now is.given.item) c.self.view_is change)

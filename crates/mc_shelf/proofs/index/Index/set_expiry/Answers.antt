@@ -31,6 +31,6 @@ returns c key found =
     let is = c.update.ensures found.entry there in
     let becomes : is.given ≡ record found.entry { item = record found.entry.item { expiry = c.args.expiry } } = let met = is.called in search rules in
     let change = changed c.self.inside.entries c.update.new.self c.self.invariant.0 found.entry is.given held (ap (λ (e : EntryState). e.hash) becomes) (ap (λ (e : EntryState). e.key) becomes)
-    is.content key found.same_key is.same_spare is.same_left in
+    is.content key found.same_key is.same_k is.same_growing is.same_spare is.same_left in
     subst (λ (i : Entry). IsChanged c.args.self.now c.update.new.self key i) (ap (λ (e : EntryState). e.item) becomes)
     (subst (λ (s : IndexState EntryState). IsChanged s c.update.new.self key is.given.item) c.self.view_is change)

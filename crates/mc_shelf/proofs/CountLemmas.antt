@@ -1,0 +1,125 @@
+-- How few entries of an old table a step moves.
+use Rattle.std.proofs.Common.{◌≡◌, ℕ, ◌+◌, ◌*◌, ◌-◌, ◌<◌, ◌≤◌, ◌^◌, ◌⊎◌, inl, inr, Bool, true, false, true≢false, not, ◌&&◌, ◌||◌, List, [], ◌∷◌, ◌++◌, Option, None, Some, Result, Ok, Err, length, map, refl, sym, ap}
+use Rattle.std.proofs.Common.{subst, ◌∙◌, arith, ⊎_elim}
+use Rattle.std.specs.Prelude.{min, nat_lt, OnOk, OnErr}
+use Rattle.std.specs.FinMap.{len}
+use Rattle.std.proofs.lemmas.Grind.{pow_more}
+use Rattle.std.proofs.lemmas.Bool.{and_parts, ltb-true, ltb-false}
+use Rattle.mc_hop.specs.Cells.{filled}
+use Rattle.mc_grow.specs.Indexes as grow
+use Rattle.mc_grow.specs.Indexes.{IndexState, StandsAs, count, is_due, lags, left}
+use Rattle.mc_grow.specs.Adding.{AreMoved}
+use Rattle.mc_shelf.specs.States.{EntryState}
+use Rattle.mc_shelf.specs.KeyMaps.{EntryMap, hash_in, key_in, items_in}
+use Rattle.mc_shelf.specs.Places.{entries_of, items_of}
+use Rattle.mc_shelf.specs.declared.counts.ShelfCounts.{ShelfCounts}
+use Rattle.mc_shelf.specs.Counts.{Begins, CaughtUp, GoesOn, IsDue, IsLoaded, KeepsTable, MovesFew, counts_in}
+
+-- ---- an index after a change
+
+module _ (old new : IndexState EntryState) (same_k : new.k ≡ old.k) (same_growing : new.growing ≡ old.growing) where
+  pub unmoved : left new ≡ left old → KeepsTable 0 (counts_in old) (counts_in new)
+  unmoved same = record { homes = ap (λ k. 2 ^ k) same_k; growing = same_growing; less = omega (arith, same); few = omega (arith, same) }
+
+  pub one_gone : left new ≤ left old → left old ≤ left new + 1 → KeepsTable 1 (counts_in old) (counts_in new)
+  one_gone less few = record { homes = ap (λ k. 2 ^ k) same_k; growing = same_growing; less = less; few = few }
+
+-- ---- moves that catch up
+
+module _ (old new : IndexState EntryState) (once : len (items_of old) ≡ count old) where
+  loaded : nat_lt (3 * 2 ^ old.k) (4 * (count old + 1)) ≡ true → IsLoaded (counts_in old)
+  loaded e = omega (arith, ltb-true (3 * 2 ^ old.k) (4 * (count old + 1)) e, once)
+
+  pub caught_up : (moved : ℕ) → lags old ≡ true → AreMoved hash_in key_in moved old new → moved ≡ min 8 (left old) → left new ≡ left old - moved
+      → entries_of new ≡ entries_of old → CaughtUp (counts_in old) (counts_in new)
+  caught_up moved late are is rest same =
+      let load = and_parts old.growing (nat_lt (3 * 2 ^ old.k) (4 * (count old + 1))) late in
+      record {
+        items = ap (λ (m : EntryMap). len (items_in m)) same;
+        goes = record {
+          homes = ap (λ k. 2 ^ k) are.same_k;
+          none_begins = λ _. load.0;
+          less = omega (arith, rest);
+          few = omega (arith, rest, is);
+        };
+        ends = λ _ over. (
+          let none : left new ≤ 0 = ltb-false 0 (left new) (sym are.growing ∙ over) in omega (arith, none, rest, is),
+          loaded load.1,
+        );
+        rests = λ e. absurd (true≢false (sym load.0 ∙ e));
+      }
+
+-- ---- a reserve
+
+-- of the test that tells whether a growth is due
+due_by_load : (growing few more stray many : Bool) → (not growing && (few && (more || (stray && not many)))) ≡ true
+    → (growing ≡ false) × ((more ≡ true) ⊎ ((stray ≡ true) × (many ≡ false)))
+due_by_load true few more stray many e = absurd (true≢false (sym e))
+due_by_load false false more stray many e = absurd (true≢false (sym e))
+due_by_load false true true stray many e = (refl, inl refl)
+due_by_load false true false false many e = absurd (true≢false (sym e))
+due_by_load false true false true true e = absurd (true≢false (sym e))
+due_by_load false true false true false e = (refl, inr (refl, refl))
+
+filled_front : {X : Type 0} (xs ys : List (Option X)) → filled xs ≤ filled (xs ++ ys)
+filled_front [] ys = omega arith
+filled_front (None ∷ xs) ys = filled_front xs ys
+filled_front (Some x ∷ xs) ys = omega (arith, filled_front xs ys)
+
+filled_back : {X : Type 0} (xs ys : List (Option X)) → filled ys ≤ filled (xs ++ ys)
+filled_back [] ys = omega arith
+filled_back (None ∷ xs) ys = filled_back xs ys
+filled_back (Some x ∷ xs) ys = omega (arith, filled_back xs ys)
+
+table_within : (index : IndexState EntryState) → filled index.table ≤ count index
+table_within index =
+    omega (arith, filled_front index.table (map Some index.strays), filled_back index.draining (index.table ++ map Some index.strays))
+
+doubled : (k : ℕ) → 2 ^ (k + 1) ≡ 2 * 2 ^ k
+doubled k = omega (arith, pow_more 2 k)
+
+module _ (old : ShelfCounts) (mid new : IndexState EntryState) (caught : CaughtUp old (counts_in mid)) (once : len (items_of mid) ≡ count mid) where
+  stays_so : StandsAs mid new → MovesFew 8 old (counts_in new)
+  stays_so is = inl (subst (λ (c : ShelfCounts). GoesOn 8 old c) (sym same) caught.goes) where
+    same : counts_in new ≡ counts_in mid
+    same = ap counts_in is
+
+  was_due : is_due mid ≡ true → IsDue (counts_in mid) × (mid.growing ≡ false)
+  was_due e =
+      let homes = 2 ^ mid.k in
+      let four = 4 * (count mid + 1) in
+      let why = due_by_load mid.growing (nat_lt mid.k 24) (nat_lt (3 * homes) four) (nat_lt 0 (length mid.strays)) (nat_lt four homes) e in (
+        ⊎_elim (λ more. inl (omega (arith, ltb-true (3 * homes) four more, once)))
+            (λ both. inr (why.0, ltb-true 0 (length mid.strays) both.0, omega (arith, ltb-false four homes both.1, once))) why.1,
+        why.0,
+      )
+
+  due_before : IsDue (counts_in mid) → mid.growing ≡ false → IsDue old × (old.growing ≡ true → old.left ≤ 8)
+  due_before due over =
+      elim (old.growing) as (λ b. old.growing ≡ b → IsDue old × (old.growing ≡ true → old.left ≤ 8)) [
+        | true ↦ λ runs. let last = caught.ends runs over in (inl last.1, λ _. last.0)
+        | false ↦ λ rests. (subst (λ (c : ShelfCounts). IsDue c) (caught.rests rests) due, λ runs. absurd (true≢false (sym runs ∙ rests)))
+      ] refl
+
+  begins_so : is_due mid ≡ true → grow.HasBegun mid new → MovesFew 8 old (counts_in new)
+  begins_so e is =
+      let was = was_due e in
+      let before = due_before was.0 was.1 in
+      let fewer : filled mid.table ≤ count mid = table_within mid in
+      let rest : left new ≡ filled mid.table = ap (λ (s : IndexState EntryState). left s) is in
+      inr (record {
+        due = before.0;
+        last = before.1;
+        homes = ap (λ (s : IndexState EntryState). 2 ^ s.k) is ∙ doubled mid.k ∙ ap (λ n. 2 * n) caught.goes.homes;
+        growing = ap (λ (s : IndexState EntryState). s.growing) is;
+        left = omega (arith, rest, fewer, once, caught.items);
+      })
+
+  pub reserved : {T E : Type 0} (result : Result T E) → OnOk result (is_due mid ≡ true → grow.HasBegun mid new) → OnOk result (is_due mid ≡ false → StandsAs mid new)
+      → OnErr result (StandsAs mid new) → MovesFew 8 old (counts_in new)
+  reserved (Ok done) begins stays refused =
+      elim (is_due mid) as (λ b. is_due mid ≡ b → MovesFew 8 old (counts_in new)) [
+        | true ↦ λ due. begins_so due (begins due)
+        | false ↦ λ none. stays_so (stays none)
+      ] refl
+  reserved (Err fault) begins stays refused = stays_so refused

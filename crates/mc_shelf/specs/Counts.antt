@@ -1,0 +1,78 @@
+-- What is counted of a shelf, and how few of its entries a step moves.
+use Rattle.std.specs.Prelude.{◌≡◌, ℕ, ◌+◌, ◌*◌, ◌<◌, ◌≤◌, ◌^◌, ◌⊎◌, true, false, length}
+use Rattle.std.specs.FinMap.{len}
+use Rattle.mc_grow.specs.Indexes.{IndexState, left}
+use Rattle.mc_shelf.specs.States.{EntryState, ShelfState}
+use Rattle.mc_shelf.specs.Places.{items_of}
+use Rattle.mc_shelf.specs.declared.counts.ShelfCounts.{ShelfCounts}
+
+-- the counts of a shelf
+abbrev pub counts_of : ShelfState → ShelfCounts
+counts_of shelf = record {
+  items = len shelf.content.items;
+  homes = shelf.homes;
+  growing = shelf.growing;
+  left = shelf.left;
+  strays = shelf.strays;
+}
+
+-- the counts of the shelf that has this index
+abbrev pub counts_in : IndexState EntryState → ShelfCounts
+counts_in index = record {
+  items = len (items_of index);
+  homes = 2 ^ index.k;
+  growing = index.growing;
+  left = left index;
+  strays = length index.strays;
+}
+
+-- what holds of the counts of each shelf
+pub record FitTogether (counts : ShelfCounts) : Type 0 where
+  pub homes : (64 ≤ counts.homes) × (counts.homes ≤ 2 ^ 24)
+  pub within : counts.left + counts.strays ≤ counts.items
+  pub rests : counts.growing ≡ false → counts.left ≡ 0
+
+-- The table is the one that it was, and of the entries that are left in an old one at most so many have gone.
+pub record KeepsTable (most : ℕ) (old new : ShelfCounts) : Type 0 where
+  pub homes : new.homes ≡ old.homes
+  pub growing : new.growing ≡ old.growing
+  pub less : new.left ≤ old.left
+  pub few : old.left ≤ new.left + most
+
+-- No growth has begun, and of the entries that are left in an old table at most so many have gone.
+pub record GoesOn (most : ℕ) (old new : ShelfCounts) : Type 0 where
+  pub homes : new.homes ≡ old.homes
+  pub none_begins : new.growing ≡ true → old.growing ≡ true
+  pub less : new.left ≤ old.left
+  pub few : old.left ≤ new.left + most
+
+-- with one item more, there are more than three for every four homes
+abbrev pub IsLoaded : ShelfCounts → Type 0
+IsLoaded counts = 3 * counts.homes < 4 * (counts.items + 1)
+
+-- A growth is due before one item more comes: by that load, or where none runs, an item is a stray, and there is one for every
+-- four homes.
+abbrev pub IsDue : ShelfCounts → Type 0
+IsDue counts =
+    IsLoaded counts
+    ⊎ ((counts.growing ≡ false) × (0 < counts.strays) × (counts.homes ≤ 4 * (counts.items + 1)))
+
+-- A growth that is due has begun: the homes have doubled, and at most all items are left to move. One that ran before is over,
+-- for which the last 8 were moved at most.
+pub record Begins (old new : ShelfCounts) : Type 0 where
+  pub due : IsDue old
+  pub last : old.growing ≡ true → old.left ≤ 8
+  pub homes : new.homes ≡ 2 * old.homes
+  pub growing : new.growing ≡ true
+  pub left : new.left ≤ old.items
+
+-- Of the entries that are left in an old table at most so many have gone, and no growth has begun but one that is due.
+abbrev pub MovesFew : (most : ℕ) → (old new : ShelfCounts) → Type 0
+MovesFew most old new = GoesOn most old new ⊎ Begins old new
+
+-- 8 entries were moved at most. A growth that was ended so was lagging; where none ran, all counts are as they were.
+pub record CaughtUp (old new : ShelfCounts) : Type 0 where
+  pub items : new.items ≡ old.items
+  pub goes : GoesOn 8 old new
+  pub ends : old.growing ≡ true → new.growing ≡ false → (old.left ≤ 8) × IsLoaded old
+  pub rests : old.growing ≡ false → new ≡ old
