@@ -1,5 +1,6 @@
 //! What takes the reply to a step, so that a hit can be told where its item lies.
 
+use crate::bytes::Bytes;
 use crate::reply::Reply;
 use std::alloc::AllocError;
 use thiserror::Error;
@@ -7,14 +8,17 @@ use thiserror::Error;
 /// What takes the reply to a step.
 pub trait Answer {
     ghost use Rattle.std.specs.Prelude.{◌≡◌, OnOk, OnErr};
+    ghost use Rattle.std.specs.List.{concat};
     ghost use Rattle.mc_command.specs.declared.reply.Reply.{Reply};
 
     /// The one, once it was told the reply, is the other.
     ghost told: { Self → Reply → Self → Type 0 };
 
-    /// Takes a hit, whose block is lent where it lies. Refused, it is as it was.
-    fn hit(&mut self, flags: u32, unique: u64, block: &[u8]) -> Result<(), AllocError>
-        ensures told { OnOk result (told self.old (Reply.Hit flags unique block.now) self.new) }
+    /// Takes a hit, whose block is lent where it lies, in parts one after another. Refused, it is as it
+    /// was.
+    fn hit(&mut self, flags: u32, unique: u64, parts: &[Bytes<'_>]) -> Result<(), AllocError>
+        ensures told { OnOk result (told self.old (Reply.Hit flags unique (concat parts.now))
+            self.new) }
         ensures err { OnErr result (self.new ≡ self.old) };
 
     /// Takes any reply. Refused, it is as it was.

@@ -1,8 +1,10 @@
-ghost use Rattle.std.specs.Prelude.{◌≡◌, ◌++◌, ◌<◌, ◌+◌, take, length, OnOk, OnErr};
+ghost use Rattle.std.specs.Prelude.{◌≡◌, ◌++◌, ◌<◌, ◌≤◌, ◌+◌, take, length, min, OnOk, OnErr};
+ghost use Rattle.std.specs.Prelude.{vec_capacity};
+ghost use Rattle.std.specs.List.{concat};
 ghost use Rattle.mc_reply.specs.Texts.{retrieval_text, hit_parts, end_text, HasNoRoom};
 
 use crate::numbers::Numbers;
-use mc_command::{Keys, Reply};
+use mc_command::{Bytes, Keys, Reply};
 use std::alloc::AllocError;
 
 /// Appends what a retrieval tells of key `at`, and `END` after the last. Only a hit reads the key.
@@ -26,27 +28,30 @@ pub(crate) fn write_retrieval(
             flags,
             unique,
             block,
-        } => write_found(keys, with_unique, at, *flags, *unique, block.bytes(), out),
+        } => {
+            let parts = [Bytes::of(block.bytes())];
+            write_found(keys, with_unique, at, *flags, *unique, &parts, out)
+        }
         _ => out.extend_from_slice(end_of(keys.len(), at)),
     }
 }
 
-/// Appends the same for a hit of these flags, this unique number and this block.
+/// Appends the same for a hit of these flags and this unique number, whose block lies in these parts.
 pub(crate) fn write_found(
     keys: &Keys<'_>,
     with_unique: bool,
     at: usize,
     flags: u32,
     unique: u64,
-    block: &[u8],
+    parts: &[Bytes<'_>],
     out: &mut Vec<u8>,
 ) -> Result<(), AllocError>
     requires { at < length keys.now }
     ensures ok { OnOk result (out.new.items ≡ out.old.items
-        ++ retrieval_text keys.now with_unique at (Reply.Hit flags unique block.now)) }
+        ++ retrieval_text keys.now with_unique at (Reply.Hit flags unique (concat parts.now))) }
     ensures err { OnErr result (out.new.items ≡ out.old.items) }
     ensures full { OnErr result (HasNoRoom out.old
-        (retrieval_text keys.now with_unique at (Reply.Hit flags unique block.now))) }
+        (retrieval_text keys.now with_unique at (Reply.Hit flags unique (concat parts.now)))) }
 {
     let end = end_of(keys.len(), at);
     let Some(key) = keys.get(at) else {
@@ -56,10 +61,11 @@ pub(crate) fn write_found(
     if with_unique {
         numbers.put_word(unique);
     }
-    numbers.put_word(block.len() as u64);
+    let block_len = length_of(parts);
+    numbers.put_word(block_len as u64);
     numbers.put_word(flags as u64);
     let before = out.len();
-    let result = append_hit(key, numbers.as_slice(), block, end, out);
+    let result = append_hit(key, numbers.as_slice(), parts, block_len, end, out);
     if result.is_err() {
         out.truncate(before);
     }
@@ -74,24 +80,38 @@ fn end_of(count: usize, at: usize) -> &'static [u8]
     if at + 1 == count { b"END\r\n" } else { b"" }
 }
 
-/// Appends the parts of a hit, with room for all of them made once. What a refusal leaves behind
-/// the old text is the caller's to drop.
+/// Counts the bytes of parts, or as many of them as a number can say.
+fn length_of(parts: &[Bytes<'_>]) -> usize
+    ensures { result ≡ min (length (concat parts.now)) 18446744073709551615 }
+{
+    let mut counted = 0_usize;
+    for part in parts {
+        counted = counted.saturating_add(part.as_slice().len());
+    }
+    counted
+}
+
+/// Appends the parts of a hit, with room for all of them made once. `block_len` is what `length_of`
+/// counts of them. What a refusal leaves behind the old text is the caller's to drop.
 fn append_hit(
     key: &[u8],
     numbers: &[u8],
-    block: &[u8],
+    parts: &[Bytes<'_>],
+    block_len: usize,
     end: &[u8],
     out: &mut Vec<u8>,
 ) -> Result<(), AllocError>
+    requires { block_len ≡ min (length (concat parts.now)) 18446744073709551615 }
     ensures ok { OnOk result (out.new.items ≡ out.old.items
-        ++ hit_parts key.now numbers.now block.now end.now) }
+        ++ hit_parts key.now numbers.now (concat parts.now) end.now) }
+    ensures counted { OnOk result (block_len ≡ length (concat parts.now)) }
     ensures err { OnErr result (take (length out.old.items) out.new.items ≡ out.old.items) }
     ensures full { OnErr result (HasNoRoom out.old
-        (hit_parts key.now numbers.now block.now end.now)) }
+        (hit_parts key.now numbers.now (concat parts.now) end.now)) }
 {
     let room = key
         .len()
-        .saturating_add(block.len())
+        .saturating_add(block_len)
         .saturating_add(numbers.len())
         .saturating_add(end.len())
         .saturating_add(8);
@@ -99,7 +119,20 @@ fn append_hit(
     out.extend_from_slice(b"VALUE ")?;
     out.extend_from_slice(key)?;
     out.extend_from_slice(numbers)?;
-    out.extend_from_slice(block)?;
+    append_parts(parts, out)?;
     out.extend_from_slice(b"\r\n")?;
     out.extend_from_slice(end)
+}
+
+/// Appends parts one after another. What a refusal leaves behind the old bytes is the caller's to drop.
+fn append_parts(parts: &[Bytes<'_>], out: &mut Vec<u8>) -> Result<(), AllocError>
+    ensures ok { OnOk result (out.new.items ≡ out.old.items ++ concat parts.now) }
+    ensures err { OnErr result (take (length out.old.items) out.new.items ≡ out.old.items) }
+    ensures full { OnErr result (HasNoRoom out.old (concat parts.now)) }
+    ensures room { vec_capacity out.old ≤ vec_capacity out.new }
+{
+    for part in parts {
+        out.extend_from_slice(part.as_slice())?;
+    }
+    Ok(())
 }

@@ -22,7 +22,7 @@ struct Found {
 #[derive(Drop)]
 enum Call<'a> {
     Step(&'a Command<'a>, usize, &'a Reply),
-    Hit(&'a Command<'a>, usize, u32, u64, &'a [u8]),
+    Hit(&'a Command<'a>, usize, u32, u64, &'a [Bytes<'a>]),
     Fault(LineFault),
     Plain(&'a Command<'a>),
     TooLong,
@@ -35,9 +35,9 @@ fn call_once(rt: &impl Abort, call: &Call<'_>, out: &mut Vec<u8>) -> Result<(), 
             assert!(rt; *at < steps_of(command));
             write(command, *at, reply, out)
         }
-        Call::Hit(command, at, flags, unique, block) => {
+        Call::Hit(command, at, flags, unique, parts) => {
             assert!(rt; *at < steps_of(command));
-            write_hit(command, *at, *flags, *unique, block, out)
+            write_hit(command, *at, *flags, *unique, parts, out)
         }
         Call::Fault(fault) => write_fault(fault, out),
         Call::Plain(command) => write_plain(command, out),
@@ -214,7 +214,18 @@ const FOUND: [Found; 4] = [
     },
 ];
 
-/// A hit is told the same from a reply and from where its block lies.
+fn found_in_parts(
+    rt: &impl Abort,
+    alloc: Global,
+    command: &Command<'_>,
+    found: &Found,
+    parts: &[Bytes<'_>],
+) -> Result<(), Fail> {
+    let call = Call::Hit(command, found.at, found.flags, found.unique, parts);
+    expect(rt, alloc, call, found.text)
+}
+
+/// A hit is told the same from a reply and from where its block lies, in one part or in more.
 fn found_is_told(rt: &impl Abort, alloc: Global, found: &Found) -> Result<(), Fail> {
     let reply = Reply::Hit {
         flags: found.flags,
@@ -228,8 +239,10 @@ fn found_is_told(rt: &impl Abort, alloc: Global, found: &Found) -> Result<(), Fa
             Call::Step(&command, found.at, &reply),
             found.text,
         )?;
-        let call = Call::Hit(&command, found.at, found.flags, found.unique, found.block);
-        expect(rt, alloc, call, found.text)?;
+        found_in_parts(rt, alloc, &command, found, &[Bytes::of(found.block)])?;
+        let (front, back) = found.block.split_at(found.block.len() / 2);
+        let parts = [Bytes::of(front), Bytes::of(b"".as_slice()), Bytes::of(back)];
+        found_in_parts(rt, alloc, &command, found, &parts)?;
     }
     Ok(())
 }

@@ -1,11 +1,12 @@
 ghost use Rattle.std.specs.Prelude.{◌≡◌, ◌++◌, ◌<◌, ◌+◌, length, codes, decimal, OnOk, OnErr};
+ghost use Rattle.std.specs.List.{concat};
 ghost use Rattle.mc_command.specs.Commands.{steps};
 ghost use Rattle.mc_reply.specs.Texts.{reply_text, fault_text, plain_text, long_text};
 ghost use Rattle.mc_reply.specs.Texts.{lone_text, spent_text, said, HasNoRoom};
 
 use crate::numbers::Numbers;
 use crate::retrieval::{write_found, write_retrieval};
-use mc_command::{Command, LineFault, Lone, Reply, is_quiet};
+use mc_command::{Bytes, Command, LineFault, Lone, Reply, is_quiet};
 use std::alloc::AllocError;
 
 /// Appends the text of the reply to step `at`, with `END` after the last key of a retrieval, and
@@ -36,22 +37,23 @@ pub fn write(
     }
 }
 
-/// Appends the text of the reply to step `at` where it is a hit of these flags, this unique number and
-/// this block, as `write` does of such a reply. It is refused as `write` is.
+/// Appends the text of the reply to step `at` where it is a hit of these flags and this unique number,
+/// whose block lies in these parts one after another, as `write` does of such a reply. It is refused as
+/// `write` is.
 pub fn write_hit(
     command: &Command<'_>,
     at: usize,
     flags: u32,
     unique: u64,
-    block: &[u8],
+    parts: &[Bytes<'_>],
     out: &mut Vec<u8>,
 ) -> Result<(), AllocError>
     requires { at < length (steps command.now) }
     ensures ok { OnOk result (out.new.items ≡ out.old.items
-        ++ reply_text command.now at (Reply.Hit flags unique block.now)) }
+        ++ reply_text command.now at (Reply.Hit flags unique (concat parts.now))) }
     ensures err { OnErr result (out.new.items ≡ out.old.items) }
     ensures full { OnErr result (HasNoRoom out.old
-        (reply_text command.now at (Reply.Hit flags unique block.now))) }
+        (reply_text command.now at (Reply.Hit flags unique (concat parts.now)))) }
 {
     match command {
         Command::Get { keys, with_unique }
@@ -59,7 +61,7 @@ pub fn write_hit(
             keys,
             with_unique,
             ..
-        } => write_found(keys, *with_unique, at, flags, unique, block, out),
+        } => write_found(keys, *with_unique, at, flags, unique, parts, out),
         _ => Ok(()),
     }
 }

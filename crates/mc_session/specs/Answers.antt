@@ -1,5 +1,6 @@
 -- What one turn of the unit that was found does.
 use Rattle.std.specs.Prelude.{◌≡◌, ℕ, ◌+◌, ◌^◌, ◌<◌, ◌≤◌, ◌==◌, List, ◌++◌, length, Option, Some, if◌then◌else◌, slice_get}
+use Rattle.std.specs.List.{concat}
 use Rattle.mc_command.specs.Commands.{steps}
 use Rattle.mc_command.specs.Commands.{Command}
 use Rattle.mc_command.specs.declared.step.KeyStep.{KeyStep}
@@ -19,8 +20,8 @@ use Rattle.mc_session.specs.Turns.{SessionState, Answers, turn_count, closed, to
 -- the bytes of a text
 abbrev pub bytes_of : Text → List ℕ
 bytes_of (First command reply) = reply_text command.now 0 reply.now
-bytes_of (Hit command flags unique block) =
-    reply_text command.now 0 (HitReply flags unique block.now)
+bytes_of (Hit command flags unique parts) =
+    reply_text command.now 0 (HitReply flags unique (concat parts.now))
 bytes_of (Spent command) = spent_text command.now
 bytes_of (Plain command) = plain_text command.now
 bytes_of (Flaw fault) = fault_text fault
@@ -29,7 +30,7 @@ bytes_of TooLong = long_text
 -- the command that a reply is to takes a step
 abbrev pub IsText : Text → Type 0
 IsText (First command reply) = 0 < length (steps command.now)
-IsText (Hit command flags unique block) = 0 < length (steps command.now)
+IsText (Hit command flags unique parts) = 0 < length (steps command.now)
 IsText (Spent command) = Unit {0}
 IsText (Plain command) = Unit {0}
 IsText (Flaw fault) = Unit {0}

@@ -1,9 +1,15 @@
 //! Sessions over a store that tells a hit from where its block lies.
 
-ghost use Rattle.std.specs.Prelude.{◌≡◌, OnOk, OnErr};
+ghost use Rattle.std.specs.Prelude.{◌≡◌, ◌<◌, OnOk, OnErr, length};
+ghost use Rattle.mc_command.specs.Commands.{steps};
+ghost use Rattle.mc_command.specs.declared.reply.Reply.{Reply as Told};
 
 use super::*;
-use mc_command::{Answer, KeyStep, PlainStore, Reply, StepFault, Steps, Unanswered};
+use crate::teller::{Asked, Teller};
+use crate::text::Output;
+use mc_command::{
+    Answer, Bytes, Command, KeyStep, Keys, PlainStore, Reply, StepFault, Steps, Unanswered,
+};
 use mc_testing::SESSIONS;
 use mc_time::Moment;
 use std::alloc::{AllocError, Global};
@@ -16,12 +22,20 @@ const GREATEST: u64 = 100;
 /// More turns than a test takes.
 const TURNS: u64 = 1000;
 
-/// A plain store that tells a hit from where its block lies. Where it refuses hits, memory for each
-/// is refused.
+/// How hits are told: with a block in one part or in three, or not at all, as memory for each is
+/// refused.
+#[derive(Clone, Copy, PartialEq)]
+enum Telling {
+    Whole,
+    InParts,
+    Refused,
+}
+
+/// A plain store that tells a hit from where its block lies.
 #[derive(Drop)]
 struct Lending {
     store: PlainStore,
-    refuses: bool,
+    telling: Telling,
 }
 
 impl Steps for Lending {
@@ -47,7 +61,7 @@ impl Steps for Lending {
         answer: &mut A,
     ) -> Result<(), Unanswered> {
         match self.store.step(alloc, step, now) {
-            Ok(reply) => tell(&reply, self.refuses, answer),
+            Ok(reply) => tell(&reply, self.telling, answer),
             Err(StepFault::NumbersSpent) => Err(Unanswered::NumbersSpent),
             Err(StepFault::NoMemory) => Err(Unanswered::NoMemory),
         }
@@ -55,17 +69,16 @@ impl Steps for Lending {
 }
 
 /// Tells a reply: a hit from where its block lies, if none is refused.
-fn tell<A: Answer>(reply: &Reply, refuses: bool, answer: &mut A) -> Result<(), Unanswered>
+fn tell<A: Answer>(reply: &Reply, telling: Telling, answer: &mut A) -> Result<(), Unanswered>
     ensures told { OnOk result (A.told answer.old reply.now answer.new) }
     ensures err { OnErr result (answer.new ≡ answer.old) }
 {
     let told = match reply {
-        Reply::Hit { .. } if refuses => Err(AllocError),
         Reply::Hit {
             flags,
             unique,
             block,
-        } => answer.hit(*flags, *unique, block.bytes()),
+        } => tell_hit(*flags, *unique, block.bytes(), telling, answer),
         _ => answer.reply(reply),
     };
     match told {
@@ -74,11 +87,33 @@ fn tell<A: Answer>(reply: &Reply, refuses: bool, answer: &mut A) -> Result<(), U
     }
 }
 
-/// A store of no items, which tells each hit.
-fn new_store(alloc: Global) -> Result<Lending, AllocError> {
+/// Tells a hit, with a block that is cut in three where it lies in parts: the middle one is empty.
+fn tell_hit<A: Answer>(
+    flags: u32,
+    unique: u64,
+    block: &[u8],
+    telling: Telling,
+    answer: &mut A,
+) -> Result<(), AllocError>
+    ensures told { OnOk result (A.told answer.old (Told.Hit flags unique block.now) answer.new) }
+    ensures err { OnErr result (answer.new ≡ answer.old) }
+{
+    match telling {
+        Telling::Refused => Err(AllocError),
+        Telling::Whole => answer.hit(flags, unique, &[Bytes::of(block)]),
+        Telling::InParts => {
+            let (front, back) = block.split_at(block.len() / 2);
+            let parts = [Bytes::of(front), Bytes::of(b"".as_slice()), Bytes::of(back)];
+            answer.hit(flags, unique, &parts)
+        }
+    }
+}
+
+/// A store of no items.
+fn new_store(alloc: Global, telling: Telling) -> Result<Lending, AllocError> {
     Ok(Lending {
         store: PlainStore::new(alloc, 64, 1_048_576)?,
-        refuses: false,
+        telling,
     })
 }
 
@@ -121,36 +156,47 @@ fn is_told(
 fn session_is_told(
     rt: &impl Abort,
     alloc: Global,
+    telling: Telling,
     input: &str,
     output: &str,
 ) -> Result<(), TurnFault> {
-    let mut store = new_store(alloc)?;
+    let mut store = new_store(alloc, telling)?;
     is_told(rt, alloc, &mut store, input, output)
 }
 
-#[test]
-fn sessions_are_answered_as_from_replies(rt: HostRuntime) -> Result<(), Fail> {
+/// Sessions are answered as from replies, where hits are told so.
+fn sessions_are_told(rt: &impl Abort, alloc: Global, telling: Telling) -> Result<(), TurnFault> {
     for (input, output) in &SESSIONS {
-        if session_is_told(&rt, rt.alloc(), input, output).is_err() {
-            session_is_told(&rt, rt.alloc(), input, output)?;
+        if session_is_told(rt, alloc, telling, input, output).is_err() {
+            session_is_told(rt, alloc, telling, input, output)?;
         }
     }
     Ok(())
 }
 
+#[test]
+fn sessions_are_answered_as_from_replies(rt: HostRuntime) -> Result<(), Fail> {
+    Ok(sessions_are_told(&rt, rt.alloc(), Telling::Whole)?)
+}
+
+#[test]
+fn sessions_are_answered_from_parts_as_from_replies(rt: HostRuntime) -> Result<(), Fail> {
+    Ok(sessions_are_told(&rt, rt.alloc(), Telling::InParts)?)
+}
+
 /// A hit is asked for behind another turn. Where its text is refused memory the session closes with
 /// the text of the other, nothing is decided, and the store answers another session as before.
-fn hit_is_told(rt: &impl Abort, alloc: Global, refuses: bool) -> Result<(), TurnFault> {
-    let mut store = new_store(alloc)?;
-    is_told(rt, alloc, &mut store, "set a 5 0 1\r\n1\r\n", "STORED\r\n")?;
+fn hit_is_told(rt: &impl Abort, alloc: Global, telling: Telling) -> Result<(), TurnFault> {
+    let mut store = new_store(alloc, Telling::Whole)?;
+    is_told(rt, alloc, &mut store, "set a 5 0 2\r\n12\r\n", "STORED\r\n")?;
     let mut session = Session::new(alloc, GREATEST);
     take_turns(rt, alloc, &mut session, &mut store, "foo\r\n")?;
-    store.refuses = refuses;
+    store.telling = telling;
     let told = take_turns(rt, alloc, &mut session, &mut store, "get a\r\n");
-    assert!(rt; told.is_err() || !refuses);
+    assert!(rt; told.is_err() || telling != Telling::Refused);
     match told {
         Ok(()) => {
-            let text = b"ERROR\r\nVALUE a 5 1\r\n1\r\nEND\r\n".as_slice();
+            let text = b"ERROR\r\nVALUE a 5 2\r\n12\r\nEND\r\n".as_slice();
             assert_eq!(rt; session.out(), text);
         }
         Err(fault) => {
@@ -158,23 +204,59 @@ fn hit_is_told(rt: &impl Abort, alloc: Global, refuses: bool) -> Result<(), Turn
             assert_eq!(rt; session.out(), b"ERROR\r\n".as_slice());
         }
     }
-    store.refuses = false;
-    let text = "VALUE a 5 1\r\n1\r\nEND\r\n";
+    store.telling = Telling::Whole;
+    let text = "VALUE a 5 2\r\n12\r\nEND\r\n";
     is_told(rt, alloc, &mut store, "get a\r\n", text)
 }
 
 #[test]
 fn a_hit_is_told_where_its_block_lies(rt: HostRuntime) -> Result<(), Fail> {
-    if hit_is_told(&rt, rt.alloc(), false).is_err() {
-        hit_is_told(&rt, rt.alloc(), false)?;
+    for telling in [Telling::Whole, Telling::InParts] {
+        if hit_is_told(&rt, rt.alloc(), telling).is_err() {
+            hit_is_told(&rt, rt.alloc(), telling)?;
+        }
     }
     Ok(())
 }
 
 #[test]
 fn a_refused_hit_decides_nothing(rt: HostRuntime) -> Result<(), Fail> {
-    if hit_is_told(&rt, rt.alloc(), true).is_err() {
-        hit_is_told(&rt, rt.alloc(), true)?;
+    if hit_is_told(&rt, rt.alloc(), Telling::Refused).is_err() {
+        hit_is_told(&rt, rt.alloc(), Telling::Refused)?;
     }
+    Ok(())
+}
+
+/// Tells a hit in three parts, of the flags 5 and the unique number 7.
+fn told_in_parts(command: &Command<'_>, out: &mut Output) -> Result<(), AllocError>
+    requires { 0 < length (steps command.now) }
+{
+    let parts = [
+        Bytes::of(b"12".as_slice()),
+        Bytes::of(b"\r\n".as_slice()),
+        Bytes::of(b"3".as_slice()),
+    ];
+    let asked = Asked { command };
+    let mut teller = Teller { asked: &asked, out };
+    teller.hit(5, 7, &parts)
+}
+
+/// A hit in three parts is told behind other bytes. Refused, it leaves them as they were.
+#[test]
+fn a_hit_in_parts_is_one_text(rt: HostRuntime) -> Result<(), Fail> {
+    let command = Command::Get {
+        keys: Keys::of(b" a"),
+        with_unique: true,
+    };
+    let mut out = Output::new(rt.alloc());
+    if out.push(b"ERROR\r\n").is_err() {
+        out.push(b"ERROR\r\n")?;
+    }
+    if told_in_parts(&command, &mut out).is_err() {
+        assert_eq!(rt; out.as_slice(), b"ERROR\r\n".as_slice());
+        told_in_parts(&command, &mut out)?;
+    }
+    let text = b"ERROR\r\nVALUE a 5 5 7\r\n12\r\n3\r\nEND\r\n".as_slice();
+    assert_eq!(rt; out.as_slice(), text);
     Ok(())
 }

@@ -4,7 +4,7 @@ ghost use Rattle.std.specs.Prelude.{◌<◌, length};
 ghost use Rattle.mc_command.specs.Commands.{steps};
 
 use crate::text::{Output, Text};
-use mc_command::{Answer, Command, Reply};
+use mc_command::{Answer, Bytes, Command, Reply};
 use std::alloc::AllocError;
 
 /// A command that takes a step.
@@ -28,12 +28,12 @@ impl<'a> Answer for Teller<'a> {
     ghost told = { λ old reply new. (new.out.ghost_name ≡ old.out.ghost_name)
         × (new.out.now ≡ old.out.now ++ reply_text old.asked.now.command.now 0 reply) };
 
-    fn hit(&mut self, flags: u32, unique: u64, block: &[u8]) -> Result<(), AllocError> {
+    fn hit(&mut self, flags: u32, unique: u64, parts: &[Bytes<'_>]) -> Result<(), AllocError> {
         self.out.append(&Text::Hit {
             command: self.asked.command,
             flags,
             unique,
-            block,
+            parts,
         })
     }
 

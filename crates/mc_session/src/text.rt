@@ -1,6 +1,6 @@
 //! What turns are answered with.
 
-use mc_command::{Command, LineFault, Reply};
+use mc_command::{Bytes, Command, LineFault, Reply};
 use mc_parse::{Append, Queue};
 use mc_reply::{write, write_fault, write_hit, write_plain, write_spent, write_too_long};
 use std::alloc::AllocError;
@@ -14,12 +14,13 @@ pub type Output = Queue<131072>;
 pub enum Text<'a> {
     /// The reply to the first step of a command.
     First(&'a Command<'a>, &'a Reply),
-    /// The reply to the first step of a command where it is a hit, whose block is lent where it lies.
+    /// The reply to the first step of a command where it is a hit, whose block is lent where it lies, in
+    /// parts one after another.
     Hit {
         command: &'a Command<'a>,
         flags: u32,
         unique: u64,
-        block: &'a [u8],
+        parts: &'a [Bytes<'a>],
     },
     /// That the unique numbers are spent, which a command's step needs.
     Spent(&'a Command<'a>),
@@ -45,8 +46,8 @@ impl<'a> Append for Text<'a> {
                 command,
                 flags,
                 unique,
-                block,
-            } => write_hit(command, 0, *flags, *unique, block, buffer),
+                parts,
+            } => write_hit(command, 0, *flags, *unique, parts, buffer),
             Text::Spent(command) => write_spent(command, buffer),
             Text::Plain(command) => write_plain(command, buffer),
             Text::Flaw(fault) => write_fault(fault, buffer),

@@ -5,7 +5,7 @@ ghost use Rattle.mc_workers.specs.Tending.{tidied_at_once, Tidied};
 
 use crate::tally::{Outcome, Tally};
 use crate::tending::Tending;
-use mc_command::{Answer, KeyStep, Reply, StepFault, Steps, Unanswered};
+use mc_command::{Answer, Bytes, KeyStep, Reply, StepFault, Steps, Unanswered};
 use mc_hop::KeyHash;
 use mc_shared::Gate;
 use mc_time::Moment;
@@ -121,9 +121,9 @@ impl<'a, A: Answer> Answer for Noting<'a, A> {
     ghost told = { λ old reply new. (new.answer.ghost_name ≡ old.answer.ghost_name)
         × A.told old.answer.now reply new.answer.now };
 
-    fn hit(&mut self, flags: u32, unique: u64, block: &[u8]) -> Result<(), AllocError> {
+    fn hit(&mut self, flags: u32, unique: u64, parts: &[Bytes<'_>]) -> Result<(), AllocError> {
         self.noted.set(Some(Outcome::Hit));
-        self.answer.hit(flags, unique, block)
+        self.answer.hit(flags, unique, parts)
     }
 
     fn reply(&mut self, reply: &Reply) -> Result<(), AllocError> {

@@ -4,7 +4,7 @@ use crate::counting::Counting;
 use crate::held::{HeldLink, HeldLinks, Seen};
 use crate::tally::{Outcome, Tally};
 use crate::worker::Worker;
-use mc_command::{Answer, KeyStep, Reply, StepFault, Steps, Verb};
+use mc_command::{Answer, Bytes, KeyStep, Reply, StepFault, Steps, Verb};
 use mc_hop::Fnv;
 use mc_shared::{NoGate, Shared};
 use mc_shelf::{Settings, Store};
@@ -57,7 +57,7 @@ struct Listener {
 impl Answer for Listener {
     ghost told = { λ old reply new. Unit {0} };
 
-    fn hit(&mut self, _flags: u32, _unique: u64, _block: &[u8]) -> Result<(), AllocError> {
+    fn hit(&mut self, _flags: u32, _unique: u64, _parts: &[Bytes<'_>]) -> Result<(), AllocError> {
         if self.is_deaf {
             Err(AllocError)
         } else {
