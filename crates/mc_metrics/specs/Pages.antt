@@ -12,6 +12,7 @@ use Rattle.mc_metrics.specs.declared.family.Samples.{Samples}
 use Rattle.mc_metrics.specs.declared.family.Samples.TheVariants.{One, Each, Slabs}
 use Rattle.mc_metrics.specs.declared.reading.Reading.{Reading}
 use Rattle.mc_metrics.specs.declared.reading.SlabReading.{SlabReading}
+use Rattle.mc_metrics.specs.declared.reading.TablesReading.{TablesReading}
 use Rattle.mc_metrics.specs.declared.reading.Figure.{Figure}
 use Rattle.mc_metrics.specs.declared.reading.Figure.TheVariants as figure
 use Rattle.mc_metrics.specs.declared.reading.SlabFigure.{SlabFigure}
@@ -45,10 +46,30 @@ figure_of reading figure.Connections = reading.connections
 figure_of reading figure.Accepted = reading.accepted
 figure_of reading figure.Most = reading.most
 figure_of reading (figure.Closed place) = number_at reading.closed.items place
-figure_of reading figure.Items = reading.items
+figure_of reading figure.Items = reading.tables.items
 figure_of reading figure.Bytes = bytes_of reading.slabs.items
 figure_of reading figure.Limit = reading.limit
 figure_of reading figure.Shelves = reading.shelves
+figure_of reading figure.Homes = reading.tables.homes
+figure_of reading figure.Growths = reading.tables.growths
+figure_of reading figure.Running = reading.tables.running
+figure_of reading figure.Left = reading.tables.left
+figure_of reading figure.Strays = reading.tables.strays
+
+-- the sum of two numbers, or the greatest number that 64 bits hold
+abbrev pub sum_in_64_bits : (one other : ℕ) → ℕ
+sum_in_64_bits one other = min (one + other) (2 ^ 64 - 1)
+
+-- what tables and others have
+abbrev pub together : (tables others : TablesReading) → TablesReading
+together tables others = record {
+  items = sum_in_64_bits tables.items others.items;
+  homes = sum_in_64_bits tables.homes others.homes;
+  growths = sum_in_64_bits tables.growths others.growths;
+  running = sum_in_64_bits tables.running others.running;
+  left = sum_in_64_bits tables.left others.left;
+  strays = sum_in_64_bits tables.strays others.strays;
+}
 
 -- a number that is told of a class of chunks
 abbrev pub slab_figure_of : SlabReading → SlabFigure → ℕ

@@ -14,5 +14,5 @@ pub use counts::{COUNTED, Counted, Counts};
 pub use exchange::{LONGEST, pass_rest, request_of, send};
 pub use family::{Family, Kind, Samples};
 pub use page::page_of;
-pub use reading::{Figure, Reading, SlabFigure, SlabReading, bytes_of, number_at};
+pub use reading::{Figure, Reading, SlabFigure, SlabReading, TablesReading, bytes_of, number_at};
 pub use request::{QuitAccess, asked};

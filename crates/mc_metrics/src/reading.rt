@@ -1,6 +1,6 @@
 //! What a scrape reads.
 ghost use Rattle.std.specs.Prelude.{◌≡◌};
-ghost use Rattle.mc_metrics.specs.Pages.{figure_of, slab_figure_of, number_at, bytes_of};
+ghost use Rattle.mc_metrics.specs.Pages.{figure_of, slab_figure_of, number_at, bytes_of, together};
 
 use crate::counts::{COUNTED, Counted};
 use mc_slab::{Account, Class};
@@ -20,13 +20,30 @@ pub struct Reading {
     pub accepted: u64,
     /// How many may be open at once.
     pub most: u64,
-    /// How many items stand.
-    pub items: u64,
+    /// What the tables of all shelves have.
+    pub tables: TablesReading,
     /// The bytes of all pages that there may be.
     pub limit: u64,
     pub shelves: u64,
     /// The classes of chunks that have a page, from the smallest up.
     pub slabs: Vec<SlabReading>,
+}
+
+/// What the tables have by which items are found.
+#[derive(Clone, Copy)]
+pub struct TablesReading {
+    /// The items that have an entry there, which are all that stand.
+    pub items: u64,
+    /// The homes of the tables that new entries come to.
+    pub homes: u64,
+    /// The growths that began, each of which makes twice the homes.
+    pub growths: u64,
+    /// The growths that run.
+    pub running: u64,
+    /// The entries that these have still to move.
+    pub left: u64,
+    /// The entries that stand in a list, as no bucket could be had near their homes.
+    pub strays: u64,
 }
 
 /// What a class of chunks has.
@@ -67,6 +84,14 @@ pub enum Figure {
     Bytes,
     Limit,
     Shelves,
+    /// The homes of all tables.
+    Homes,
+    Growths,
+    /// The growths that run.
+    Running,
+    /// The entries that growths have still to move.
+    Left,
+    Strays,
 }
 
 /// A number that is told of each class of chunks.
@@ -95,10 +120,15 @@ impl Reading {
             Figure::Accepted => self.accepted,
             Figure::Most => self.most,
             Figure::Closed(place) => number_at(self.closed.as_slice(), place),
-            Figure::Items => self.items,
+            Figure::Items => self.tables.items,
             Figure::Bytes => bytes_of(self.slabs.as_slice()),
             Figure::Limit => self.limit,
             Figure::Shelves => self.shelves,
+            Figure::Homes => self.tables.homes,
+            Figure::Growths => self.tables.growths,
+            Figure::Running => self.tables.running,
+            Figure::Left => self.tables.left,
+            Figure::Strays => self.tables.strays,
         }
     }
 }
@@ -113,6 +143,34 @@ impl Reading {
     {
         let ones = number_at(&self.counts, one.place());
         ones.wrapping_add(number_at(&self.counts, other.place()))
+    }
+}
+
+impl TablesReading {
+    ghost use Rattle.std.specs.Prelude.{◌≡◌};
+
+    /// Is what no table has.
+    pub const NONE: TablesReading = TablesReading {
+        items: 0,
+        homes: 0,
+        growths: 0,
+        running: 0,
+        left: 0,
+        strays: 0,
+    };
+
+    /// Adds up what tables and others have, each number to 2^64 - 1 at most.
+    pub fn with(self, others: TablesReading) -> TablesReading
+        ensures { result ≡ together self others }
+    {
+        TablesReading {
+            items: self.items.saturating_add(others.items),
+            homes: self.homes.saturating_add(others.homes),
+            growths: self.growths.saturating_add(others.growths),
+            running: self.running.saturating_add(others.running),
+            left: self.left.saturating_add(others.left),
+            strays: self.strays.saturating_add(others.strays),
+        }
     }
 }
 

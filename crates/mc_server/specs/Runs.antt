@@ -8,8 +8,8 @@ use Rattle.mc_shelf.specs.declared.settings.Settings.{Settings}
 use Rattle.mc_hop.specs.declared.hash.Fnv.{Fnv}
 use Rattle.mc_session.specs.declared.serving.ServeFault.{ServeFault}
 use Rattle.mc_session.specs.declared.serving.ServeFault.TheVariants as fault
-use Rattle.mc_server.specs.declared.end.End.{End}
-use Rattle.mc_server.specs.declared.end.End.TheVariants as end
+use Rattle.mc_host.specs.declared.end.End.{End}
+use Rattle.mc_host.specs.declared.end.End.TheVariants as end
 
 -- the hash of a key, whatever hasher there is: that of FNV-1a has no state
 abbrev pub hash_of : Fnv → List ℕ → ℕ
@@ -28,11 +28,6 @@ new_world hasher settings now = record {
 -- what the system's clock may give: any moment
 abbrev pub IsSystemMoment : ℕ → Type 0
 IsSystemMoment now = now ≤ 2 ^ 62
-
--- the moments of the clock that is asked for: one that stands, or the system's
-abbrev pub moments : Option ℕ → (ℕ → Type 0) → ℕ → Type 0
-moments (Some moment) system now = now ≡ moment
-moments None system now = system now
 
 -- The world was new at a moment of the clock, and was served so.
 pub record InNewWorld (settings : Settings) (may_give : ℕ → Type 0)

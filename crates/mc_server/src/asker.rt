@@ -3,6 +3,7 @@ ghost use Rattle.std.specs.Prelude.{◌≡◌};
 
 use crate::closing::ClosingLinks;
 use mc_hop::Fnv;
+use mc_metrics::TablesReading;
 use mc_shared::{Caller, Shared};
 use mc_slab::{Account, Class};
 use mc_time::Clock;
@@ -11,6 +12,9 @@ use std::alloc::Global;
 use std::marker::Model;
 use std::sync::Wait;
 use std::time;
+
+/// How many homes a shelf's first table has. Each growth makes twice as many.
+const FIRST_HOMES: u64 = 64;
 
 /// A caller of a store, with the store.
 #[derive(Drop)]
@@ -50,21 +54,28 @@ impl<'a> Asker<'a> {
         self.shared.shelves()
     }
 
-    /// Counts the items of all shelves, of which it holds one after another.
-    pub fn items<R: Wait>(&mut self, rt: &R) -> u64 {
-        let mut items = 0u64;
+    /// Reads what the tables of all shelves have, of which it holds one after another.
+    pub fn tables<R: Wait>(&mut self, rt: &R) -> TablesReading {
+        let mut tables = TablesReading::NONE;
         for shelf in 0..self.shelves() {
-            items = items.saturating_add(self.items_of(rt, shelf));
+            tables = tables.with(self.table_of(rt, shelf));
         }
-        items
+        tables
     }
 
-    /// Counts the items of a shelf. One that isn't there has none.
-    fn items_of<R: Wait>(&mut self, rt: &R, shelf: u32) -> u64 {
-        if shelf < self.shared.shelves() {
-            self.shared.items(rt, &mut self.caller, shelf)
-        } else {
-            0
+    /// Reads what the table of a shelf has. One that isn't there has none.
+    fn table_of<R: Wait>(&mut self, rt: &R, shelf: u32) -> TablesReading {
+        if shelf >= self.shared.shelves() {
+            return TablesReading::NONE;
+        }
+        let counts = self.shared.shelf_counts(rt, &mut self.caller, shelf);
+        TablesReading {
+            items: counts.items,
+            homes: counts.homes,
+            growths: u64::from((counts.homes / FIRST_HOMES).trailing_zeros()),
+            running: u64::from(counts.growing),
+            left: counts.left,
+            strays: counts.strays,
         }
     }
 

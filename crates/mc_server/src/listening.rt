@@ -1,22 +1,22 @@
 //! Serves connections by workers in threads.
 ghost use Rattle.std.specs.Prelude.{◌≡◌};
-ghost use Rattle.mc_server.specs.Ends.{EndsListening};
+ghost use Rattle.mc_host.specs.Ends.{EndsListening};
 
 use crate::accepting::{accept_all, accept_beside};
 use crate::arrivals::{Arrivals, Inbox, Share};
 use crate::asker::Asker;
-use crate::binding::{Listeners, Wanting, bound_all, look_for_descriptors, sockets_of};
-use crate::clock::AskedClock;
 use crate::closing::ClosingLinks;
 use crate::connection::Crowd;
-use crate::descriptors::allowed;
-use crate::end::{End, Refusal};
 use crate::full::Refusals;
 use crate::heard::Heard;
 use crate::links::{EVENTS, SocketLinks, WAKER};
 use crate::logger::{Log, Notice, write_lines};
-use crate::metrics::{Counts, Door, LONGEST, Observer, Teller, opened};
+use crate::metrics::{Counts, LONGEST, Observer, Teller};
 use mc_hop::Fnv;
+use mc_host::{
+    AskedClock, Door, End, Listeners, Refusal, Wanting, allowed, bound_all, look_for_descriptors,
+    opened, sockets_of,
+};
 use mc_options::Options;
 use mc_session::ServeFault;
 use mc_shared::Shared;

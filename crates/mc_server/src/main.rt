@@ -3,18 +3,14 @@
 
 ghost use Rattle.std.specs.Prelude.{◌≡◌};
 ghost use Rattle.std.specs.Process.{exit_status};
-ghost use Rattle.mc_server.specs.Ends.{status_of};
+ghost use Rattle.mc_host.specs.Ends.{status_of};
 
 mod accepting;
 mod arrivals;
 mod asker;
-mod binding;
 mod channel;
-mod clock;
 mod closing;
 mod connection;
-mod descriptors;
-mod end;
 mod full;
 mod heard;
 mod idle;
@@ -38,7 +34,7 @@ mod tests;
 mod yard;
 
 use clap::error::ErrorKind;
-use end::{End, Refusal};
+use mc_host::{End, Refusal};
 use mc_options::{Options, Unfit};
 use running::run;
 use std::process::ExitCode;

@@ -1,13 +1,11 @@
 //! What is counted, and how whoever asks over HTTP is told of it.
 
 mod counting;
-mod door;
 mod families;
 mod observer;
 mod scrape;
 
 pub use counting::counted_as;
-pub use door::{Door, opened};
 pub use mc_metrics::{Counted, Counts, LONGEST};
 pub use observer::Observer;
 pub use scrape::Teller;

@@ -1,12 +1,12 @@
 //! What the program does, by its command line.
 ghost use Rattle.std.specs.Prelude.{◌≡◌, true, false};
-ghost use Rattle.mc_server.specs.Ends.{EndsListening};
-ghost use Rattle.mc_server.specs.Runs.{moments, IsSystemMoment, EndsServed};
+ghost use Rattle.mc_host.specs.Ends.{EndsListening};
+ghost use Rattle.mc_host.specs.Clocks.{moments};
+ghost use Rattle.mc_server.specs.Runs.{IsSystemMoment, EndsServed};
 
-use crate::clock::AskedClock;
-use crate::end::End;
 use crate::listening::listen;
 use crate::serving::serve;
+use mc_host::{AskedClock, End};
 use mc_options::Options;
 use mc_time::SystemClock;
 use std::alloc::AllocGlobal;

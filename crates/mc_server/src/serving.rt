@@ -1,8 +1,8 @@
 //! One session over a reader and a writer.
 ghost use Rattle.mc_server.specs.Runs.{Serves, EndsServed};
 
-use crate::end::End;
 use mc_hop::Fnv;
+use mc_host::End;
 use mc_session::ServeFault;
 use mc_shelf::Settings;
 use mc_time::Clock;

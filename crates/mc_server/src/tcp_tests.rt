@@ -2,12 +2,12 @@
 
 use crate::arrivals::{Arrivals, Inbox, Share};
 use crate::asker::Asker;
-use crate::binding::bound;
 use crate::closing::ClosingLinks;
 use crate::connection::{Connection, Crowd};
 use crate::links::{EVENTS, SocketLinks, WAKER};
 use crate::metrics::Counts;
 use mc_hop::Fnv;
+use mc_host::bound;
 use mc_shared::Shared;
 use mc_shelf::Settings;
 use mc_time::{Fixed, Moment};

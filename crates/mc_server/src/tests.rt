@@ -1,8 +1,7 @@
 //! What is served of a command line, over streams that a test holds.
 
-use crate::clock::AskedClock;
-use crate::end::{End, ending};
 use crate::serving::serve;
+use mc_host::{AskedClock, End};
 use mc_options::{Asked, Endpoints, Options};
 use mc_session::ServeFault;
 use mc_shelf::Settings;
@@ -100,19 +99,6 @@ fn tells_each_write_that_fails(rt: HostRuntime) -> Result<(), Fail> {
         assert!(rt; matches!(end, End::Served(Err(ServeFault::Write))));
         assert!(rt; writer.taken().len() == calls);
         assert!(rt; ALIVE.as_bytes().starts_with(writer.taken()));
-    }
-    Ok(())
-}
-
-#[test]
-fn tells_how_a_session_ended(rt: HostRuntime) -> Result<(), Fail> {
-    for (answer, expected) in [
-        (Ok(()), (0, "")),
-        (Err(ServeFault::Read), (1, "mcserver: read fault")),
-        (Err(ServeFault::Write), (1, "mcserver: write fault")),
-        (Err(ServeFault::NoMemory), (1, "mcserver: out of memory")),
-    ] {
-        assert!(rt; ending(&answer) == expected);
     }
     Ok(())
 }

@@ -1,10 +1,15 @@
 -- What a read is told of the item that is found standing under its key.
-use Rattle.std.proofs.Common.{◌≡◌, cond, true, false, List, ℕ, Option, Some, None, sym, ap, ◌∙◌}
+use Rattle.std.proofs.Common.{◌≡◌, cond, Bool, true, false, ℕ, zero, suc, ◌-◌, ◌≤◌, List, [], ◌∷◌, length, drop, get_or, Option, Some, None, refl, ap, arith}
+use Rattle.std.specs.Prelude.{is_none}
+use Rattle.std.specs.List.{concat}
 use Rattle.mc_time.specs.Death.{is_dead}
-use Rattle.mc_command.specs.declared.reply.Reply.TheVariants.{Hit}
-use Rattle.mc_command.specs.Plain.{alive, hit_of}
+use Rattle.mc_slab.specs.Classes.{size_of}
+use Rattle.mc_item.specs.Items.{front_of, pieces}
+use Rattle.mc_command.specs.Plain.{alive, item_need}
 use Rattle.mc_command.specs.Plain.{Entry as Item}
 use Rattle.mc_shelf.specs.Lent.{HitState}
+use Rattle.mc_shelf.specs.States.{parts_of, stored}
+use Rattle.mc_shelf.specs.Plans.{is_gone}
 use Rattle.mc_shelf.specs.Hits.{found_of}
 use Rattle.mc_shelf.specs.declared.hit.Found.{Found}
 use Rattle.mc_shelf.specs.declared.hit.Found.TheVariants.{Nothing, Dead, Standing}
@@ -26,8 +31,47 @@ found_stands cut now key (Some item) hit is =
       | false ↦ λ e. ap item_found e
     ] is
 
--- its flags, its number and its block are the hit that it is answered
-pub is_hit : (stood : Option Item) (item : Item) (flags unique : ℕ) (block : List ℕ) → stood ≡ Some item
-    → flags ≡ item.flags → unique ≡ item.unique → block ≡ item.block → Hit flags unique block ≡ hit_of stood
-is_hit stood item flags unique block is f u b =
-    (ap (λ x. Hit x unique block) f ∙ ap (λ x. Hit item.flags x block) u ∙ ap (λ x. Hit item.flags item.unique x) b) ∙ ap hit_of (sym is)
+-- what was found dead is gone
+found_dead : Found → Bool
+found_dead Nothing = false
+found_dead Dead = true
+found_dead (Standing hit) = false
+
+pub found_gone : (cut : Option ℕ) (now : ℕ) (key : List ℕ) (o : Option Item) → found_of cut now key o ≡ Dead → is_gone cut now o ≡ true
+unfolding found_dead
+found_gone cut now key None is = ap found_dead is
+found_gone cut now key (Some item) is =
+    elim (is_dead item.expiry item.updated cut now) as (λ b. cond b Dead (Standing (record { key = key; item = item })) ≡ Dead → is_none (cond b None (Some item)) ≡ true) [
+      | true ↦ λ e. refl
+      | false ↦ λ e. ap found_dead e
+    ] is
+
+-- there are as many parts of an item as it has chunks
+length-pieces : (size count : ℕ) (bytes : List ℕ) → length (pieces size count bytes) ≡ count
+length-pieces size zero bytes = refl
+length-pieces size (suc count) bytes = ap suc (length-pieces size count (drop size bytes))
+
+pub length-parts_of : (key : List ℕ) (item : Item) → 1 ≤ (item_need key item).count → length (parts_of key item) ≡ (item_need key item).count
+length-parts_of key item some =
+    let more = length-pieces (size_of (item_need key item).class) ((item_need key item).count - 1) (drop (front_of (stored key item)) item.block) in
+    omega arith
+
+-- nothing lies behind the last of them
+pub none_behind : (parts : List (List ℕ)) (at : ℕ) → length parts ≤ at → get_or parts at [] ≡ []
+none_behind [] at behind = refl
+none_behind (x ∷ parts) zero behind = absurd (omega arith)
+none_behind (x ∷ parts) (suc at) behind = none_behind parts at (omega arith)
+
+-- eight places have all of them
+pub concat-eight : (parts : List (List ℕ)) → length parts ≤ 8
+    → concat (get_or parts 0 [] ∷ get_or parts 1 [] ∷ get_or parts 2 [] ∷ get_or parts 3 [] ∷ get_or parts 4 [] ∷ get_or parts 5 [] ∷ get_or parts 6 [] ∷ get_or parts 7 [] ∷ []) ≡ concat parts
+concat-eight [] few = refl
+concat-eight (a ∷ []) few = refl
+concat-eight (a ∷ b ∷ []) few = refl
+concat-eight (a ∷ b ∷ c ∷ []) few = refl
+concat-eight (a ∷ b ∷ c ∷ d ∷ []) few = refl
+concat-eight (a ∷ b ∷ c ∷ d ∷ e ∷ []) few = refl
+concat-eight (a ∷ b ∷ c ∷ d ∷ e ∷ f ∷ []) few = refl
+concat-eight (a ∷ b ∷ c ∷ d ∷ e ∷ f ∷ g ∷ []) few = refl
+concat-eight (a ∷ b ∷ c ∷ d ∷ e ∷ f ∷ g ∷ h ∷ []) few = refl
+concat-eight (a ∷ b ∷ c ∷ d ∷ e ∷ f ∷ g ∷ h ∷ x ∷ rest) few = absurd (omega arith)

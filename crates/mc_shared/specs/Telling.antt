@@ -1,5 +1,5 @@
 -- Steps whose replies are told.
-use Rattle.std.specs.Prelude.{◌≡◌, ℕ, Result, Err, OnOk, OnErr, Some, None}
+use Rattle.std.specs.Prelude.{◌≡◌, ℕ, Result, Err, OnOk, OnErr, Some, None, true}
 use Rattle.std.specs.FinMap.{get}
 use Rattle.mc_command.specs.declared.step.KeyStep.{KeyStep}
 use Rattle.mc_command.specs.declared.reply.Reply.{Reply}
@@ -8,7 +8,7 @@ use Rattle.mc_command.specs.Commands.{key_of}
 use Rattle.mc_command.specs.Plain.{Entry, hit_of}
 use Rattle.mc_command.specs.Laws.{IsOnKey}
 use Rattle.mc_shelf.specs.States.{ShelfContent}
-use Rattle.mc_shelf.specs.Plans.{stood}
+use Rattle.mc_shelf.specs.Plans.{is_gone, stood}
 use Rattle.mc_shared.specs.History.{Beginning}
 use Rattle.mc_shared.specs.Past.{Past}
 use Rattle.mc_shared.specs.Steps.{Agrees}
@@ -24,7 +24,7 @@ abbrev pub Stands : ShelfContent → KeyStep → (now : ℕ) → Type 0
 Stands shelf step now = (item : Entry) × (stood shelf step now ≡ Some item)
 
 -- What was told of the item of a read that was sought in a shelf: a hit of it where it stands. Where
--- the key has none, or a dead one, nothing was told.
+-- the key has none, or a dead one, nothing was told; only a dead one is deferred.
 abbrev pub IsSought
     : {A : Type 0} → (told : A → Reply → A → Type 0) → ShelfContent → KeyStep → (now : ℕ)
     → (before : A) → Sought → (after : A) → Type 0
@@ -32,7 +32,8 @@ IsSought told shelf step now before (Told place) after =
     Stands shelf step now × told before (hit_of (stood shelf step now)) after
 IsSought told shelf step now before Nothing after =
     (get shelf.items (key_of step) ≡ None) × (after ≡ before)
-IsSought told shelf step now before Deferred after = after ≡ before
+IsSought told shelf step now before Deferred after =
+    (is_gone shelf.cut now (get shelf.items (key_of step)) ≡ true) × (after ≡ before)
 
 -- What came of a read, by what was sought: it was taken with the hit that was told; it was taken as
 -- a miss, and nothing was told; or it wasn't taken.

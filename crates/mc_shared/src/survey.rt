@@ -1,8 +1,8 @@
 //! What a shelf and a class have is told.
 ghost use Rattle.std.specs.Prelude.{◌≡◌, ◌*◌, ◌<◌, ◌≤◌};
-ghost use Rattle.std.specs.FinMap.{len};
 ghost use Rattle.mc_slab.specs.Classes.{chunks_a_page};
 ghost use Rattle.mc_slab.specs.Slabs.{pages_of, out_of};
+ghost use Rattle.mc_shelf.specs.Counts.{FitTogether, counts_of};
 ghost use Rattle.mc_shared.specs.History.{start_of};
 ghost use Rattle.mc_shared.specs.Steps.{Agrees};
 
@@ -10,15 +10,17 @@ use crate::hold::{AtBoth, AtShelf};
 use crate::store::{Caller, Shared};
 use core::mem::replace_with;
 use mc_hop::KeyHash;
+use mc_shelf::ShelfCounts;
 use mc_slab::{Account, Class};
 use std::sync::Wait;
 
 impl<'a, K: KeyHash + Drop> AtShelf<'a, K> {
-    /// Counts the shelf's items, the dead ones among them.
-    fn items(&self) -> u64
-        ensures { result ≡ len self.now.shelf.content.items }
+    /// Counts the shelf's items, the dead ones among them, and how they stand.
+    fn shelf_counts(&self) -> ShelfCounts
+        ensures value { result ≡ counts_of self.now.shelf }
+        ensures fits { FitTogether result }
     {
-        self.shelf.len() as u64
+        self.shelf.counts()
     }
 }
 
@@ -36,20 +38,21 @@ impl<'a, K: KeyHash + Drop> AtBoth<'a, K> {
     }
 }
 
-/// Counts the items of a shelf for a caller, who comes back. Nothing is decided.
-fn items_for<K: KeyHash + Drop, R: Wait>(
+/// Counts what a shelf has for a caller, who comes back. Nothing is decided.
+fn shelf_counts_for<K: KeyHash + Drop, R: Wait>(
     caller: Caller,
     asked: (&Shared<K>, &R, u32),
-) -> (Caller, u64)
+) -> (Caller, ShelfCounts)
     requires own { caller.table ≡ asked.0.now.table }
     requires inside { asked.2 < asked.0.now.began.settings.shelves }
     ensures same { result.0 ≡ caller }
+    ensures fits { FitTogether result.1 }
     ensures agrees { Agrees (start_of K.hash_of asked.entry.0.now.began) caller.past }
 {
     let (shared, rt, at) = asked;
     let hold = shared.wait_for_shelf(rt, caller, at);
-    let items = hold.items();
-    (hold.give_back(), items)
+    let counts = hold.shelf_counts();
+    (hold.give_back(), counts)
 }
 
 /// Tells what a class has for a caller, who comes back. Nothing is decided.
@@ -71,15 +74,17 @@ fn account_for<K: KeyHash + Drop, R: Wait>(
 
 impl<K: KeyHash + Drop> Shared<K> {
     /// Counts the items of a shelf as it was when it was held, those among them that are dead and not
-    /// yet dropped. It waits for the shelf. Nothing is decided, no item is walked, and no memory is
-    /// taken.
-    pub fn items<R: Wait>(&self, rt: &R, caller: &mut Caller, shelf: u32) -> u64
+    /// yet dropped, the homes of its table, the items that are left to move there while the table
+    /// grows, and those that stand in no table. It waits for the shelf. Nothing is decided, no item is
+    /// walked, and no memory is taken.
+    pub fn shelf_counts<R: Wait>(&self, rt: &R, caller: &mut Caller, shelf: u32) -> ShelfCounts
         requires own { caller.old.table ≡ self.now.table }
         requires shelf { shelf < self.now.began.settings.shelves }
         ensures same { (caller.new.table ≡ caller.old.table) × (caller.new.past ≡ caller.old.past) }
+        ensures fits { FitTogether result }
         ensures agrees { Agrees (start_of K.hash_of self.now.began) caller.new.past }
     {
-        replace_with(caller, (self, rt, shelf), items_for)
+        replace_with(caller, (self, rt, shelf), shelf_counts_for)
     }
 
     /// Tells of a class how many pages it has, and in how many of its chunks items lie, as the desk was

@@ -7,19 +7,24 @@ use crate::store::{Caller, Shared};
 use crate::tests::{MANY, ONE, SOME};
 use mc_command::Verb;
 use mc_hop::Fnv;
-use mc_shelf::Settings;
+use mc_shelf::{Settings, ShelfCounts};
 use mc_slab::{Account, Class, class_of};
 use mc_testing::{Ask, filled};
 use std::alloc::Global;
 use std::sync::Wait;
 use std::test::*;
 
-/// Counts the items of a key's shelf. What the caller knows stays.
-fn items_beside<R: Wait>(rt: &R, shared: &Shared<Fnv>, caller: &mut Caller, key: &[u8]) -> u64
+/// Counts what a key's shelf has. What the caller knows stays.
+fn counts_beside<R: Wait>(
+    rt: &R,
+    shared: &Shared<Fnv>,
+    caller: &mut Caller,
+    key: &[u8],
+) -> ShelfCounts
     requires { caller.old.table ≡ shared.now.table }
     ensures { caller.new ≡ caller.old }
 {
-    shared.items(rt, caller, shared.shelf_of(key))
+    shared.shelf_counts(rt, caller, shared.shelf_of(key))
 }
 
 /// Tells what a class has. What the caller knows stays.
@@ -30,10 +35,21 @@ fn account_of<R: Wait>(rt: &R, shared: &Shared<Fnv>, caller: &mut Caller, class:
     shared.account(rt, caller, class)
 }
 
-/// Counts the items of a key's shelf.
+/// Counts the items of a key's shelf, whose table has 64 homes still. A table that is another one counts as no items.
 fn items<R: Wait>(sole: &mut Sole<'_, R, Fnv>, key: &[u8]) -> u64 {
     let Sole { rt, shared, caller } = sole;
-    items_beside(*rt, shared, caller, key)
+    let ShelfCounts {
+        items,
+        homes,
+        growing,
+        left,
+        strays,
+    } = counts_beside(*rt, shared, caller, key);
+    if homes == 64 && !growing && left == 0 && strays == 0 {
+        items
+    } else {
+        0
+    }
 }
 
 /// Tells the pages of the class of a charge, and in how many of its chunks items lie.

@@ -1,10 +1,12 @@
 //! A step whose reply is told: a hit while its item stands where it lies, and any other when the step is taken.
-ghost use Rattle.std.specs.Prelude.{◌≡◌, ◌<◌, [], true, false, Ok, Err, IfOk, OnOk, OnErr};
+ghost use Rattle.std.specs.Prelude.{◌≡◌, ◌<◌, [], true, false, Ok, Err, Some, IfOk, OnOk, OnErr};
+ghost use Rattle.std.specs.Prelude.{◌≤◌, get_or, length};
+ghost use Rattle.std.specs.List.{concat};
 ghost use Rattle.std.specs.FinMap.{get};
 ghost use Rattle.mc_command.specs.Commands.{key_of};
 ghost use Rattle.mc_command.specs.Plain.{hit_of};
 ghost use Rattle.mc_command.specs.declared.reply.Reply.{Reply as Told};
-ghost use Rattle.mc_shelf.specs.States.{IsHash};
+ghost use Rattle.mc_shelf.specs.States.{IsHash, parts_of};
 ghost use Rattle.mc_shelf.specs.Hits.{is_read};
 ghost use Rattle.mc_shelf.specs.Plans.{IsKnown, is_gone, stood};
 ghost use Rattle.mc_shared.specs.History.{start_of};
@@ -25,9 +27,9 @@ use crate::rule::Seat;
 use crate::step::is_read;
 use crate::steps::{decide, give};
 use crate::store::{Caller, Shared};
-use mc_command::{Answer, KeyStep, Reply, StepFault, Unanswered};
+use mc_command::{Answer, Bytes, KeyStep, Reply, StepFault, Unanswered};
 use mc_hop::KeyHash;
-use mc_shelf::{Found, Place, Shelf, steps_change_one_shelf};
+use mc_shelf::{Found, Hit, Place, Shelf, steps_change_one_shelf};
 use mc_time::Moment;
 use std::alloc::{AllocError, Global};
 use std::snapshot::Snapshot;
@@ -40,13 +42,54 @@ pub(crate) enum Sought {
     Told(Place),
     /// The key has none.
     Nothing,
-    /// It is dead, or its block lies in several parts. Nothing was told of it, and the read isn't taken
-    /// there.
+    /// It is dead. Nothing was told of it, and the read isn't taken there.
     Deferred,
 }
 
-/// Seeks the item of a read in its shelf, and tells a hit of it where it stands, unless its block lies
-/// in several parts.
+/// The most parts in which an item's block may lie.
+const MOST_PARTS: usize = 8;
+
+/// Lends a part of an item's block. Behind the last there are empty ones.
+fn part_at<'a>(hit: &'a Hit<'_>, at: usize) -> Bytes<'a>
+    ensures value { result ≡ get_or (parts_of hit.now.key hit.now.item) at [] }
+    ensures joined { concat (parts_of hit.now.key hit.now.item) ≡ hit.now.item.block }
+    ensures few { length (parts_of hit.now.key hit.now.item) ≤ 8 }
+{
+    if at < hit.parts() {
+        Bytes::of(hit.part(at))
+    } else {
+        Bytes::of(b"".as_slice())
+    }
+}
+
+/// Lends the parts of an item's block, with empty ones behind the last. No memory is taken for them.
+fn parts_of<'a>(hit: &'a Hit<'_>) -> [Bytes<'a>; MOST_PARTS]
+    ensures { concat result ≡ hit.now.item.block }
+{
+    [
+        part_at(hit, 0),
+        part_at(hit, 1),
+        part_at(hit, 2),
+        part_at(hit, 3),
+        part_at(hit, 4),
+        part_at(hit, 5),
+        part_at(hit, 6),
+        part_at(hit, 7),
+    ]
+}
+
+/// Tells a hit of an item, whose block isn't copied, in however many parts it lies.
+fn tell_item<A: Answer>(hit: &Hit<'_>, answer: &mut A) -> Result<(), AllocError>
+    ensures told { OnOk result (A.told answer.old (hit_of (Some hit.now.item)) answer.new) }
+    ensures err { OnErr result (answer.new ≡ answer.old) }
+{
+    if hit.parts() == 1 {
+        return answer.hit(hit.flags(), hit.unique(), &[Bytes::of(hit.part(0))]);
+    }
+    answer.hit(hit.flags(), hit.unique(), &parts_of(hit))
+}
+
+/// Seeks the item of a read in its shelf, and tells a hit of it where it stands.
 fn tell_hit<A: Answer>(shelf: &Shelf, ask: &Ask<'_>, answer: &mut A) -> Result<Sought, AllocError>
     requires { IsHash shelf.now.content (key_of ask.now.step.now) ask.now.hash }
     ensures sought { IfOk result (λ sought. IsSought A.told shelf.now.content ask.now.step.now
@@ -57,8 +100,7 @@ fn tell_hit<A: Answer>(shelf: &Shelf, ask: &Ask<'_>, answer: &mut A) -> Result<S
     match shelf.find(ask.step.key(), ask.hash, ask.moment) {
         Found::Nothing => Ok(Sought::Nothing),
         Found::Dead => Ok(Sought::Deferred),
-        Found::Standing(hit) if hit.parts() != 1 => Ok(Sought::Deferred),
-        Found::Standing(hit) => match answer.hit(hit.flags(), hit.unique(), hit.part(0)) {
+        Found::Standing(hit) => match tell_item(&hit, answer) {
             Ok(()) => Ok(Sought::Told(hit.place())),
             Err(refused) => Err(refused),
         },
@@ -138,8 +180,8 @@ impl<K: KeyHash + Drop> Shared<K> {
     }
 
     /// Takes a read at its shelf: a hit is told there, before it is decided, and of a miss nothing is told.
-    /// Where the item is dead or lies in several parts the read isn't taken, nor where the telling is
-    /// refused. The gate is called once while the shelf is held.
+    /// Where the item is dead the read isn't taken, nor where the telling is refused. The gate is called
+    /// once while the shelf is held.
     fn read_telling<R: Wait, G: Gate, A: Answer>(
         &self,
         patience: &Waiting<'_, R, G>,

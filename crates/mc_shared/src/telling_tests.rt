@@ -1,8 +1,8 @@
 //! Replies that are told, as one caller hears them. Where an allocation is refused it asks again.
 
-use crate::tests::Trial;
-use mc_command::{Answer, Block, KeyStep, Reply, StepFault, Steps, Unanswered, Verb};
-use mc_testing::{Ask, Row, Want, first_unlike, set, step_of};
+use crate::tests::{LARGE, Trial};
+use mc_command::{Answer, Block, Bytes, KeyStep, Reply, StepFault, Steps, Unanswered, Verb};
+use mc_testing::{Ask, Row, Want, filled, first_unlike, set, step_of};
 use mc_time::Moment;
 use std::alloc::{AllocError, Global};
 use std::marker::Model;
@@ -19,8 +19,8 @@ struct Keeper {
 impl Answer for Keeper {
     ghost told = { λ old reply new. Unit {0} };
 
-    fn hit(&mut self, flags: u32, unique: u64, block: &[u8]) -> Result<(), AllocError> {
-        let block = Block::of(Vec::from_slice(self.alloc, block)?);
+    fn hit(&mut self, flags: u32, unique: u64, parts: &[Bytes<'_>]) -> Result<(), AllocError> {
+        let block = Block::of(joined(self.alloc, parts)?);
         self.kept = Some(Reply::Hit {
             flags,
             unique,
@@ -33,6 +33,15 @@ impl Answer for Keeper {
         self.kept = without_block(reply);
         Ok(())
     }
+}
+
+/// Copies parts into one block.
+fn joined(alloc: Global, parts: &[Bytes<'_>]) -> Result<Vec<u8>, AllocError> {
+    let mut block = Vec::new(alloc);
+    for part in parts {
+        block.extend_from_slice(part.as_slice())?;
+    }
+    Ok(block)
 }
 
 /// Copies a reply that has no block.
@@ -61,7 +70,7 @@ struct Deaf;
 impl Answer for Deaf {
     ghost told = { λ old reply new. Unit {0} };
 
-    fn hit(&mut self, _flags: u32, _unique: u64, _block: &[u8]) -> Result<(), AllocError> {
+    fn hit(&mut self, _flags: u32, _unique: u64, _parts: &[Bytes<'_>]) -> Result<(), AllocError> {
         Err(AllocError)
     }
 
@@ -168,5 +177,69 @@ fn a_hit_that_is_not_heard_is_not_taken(rt: HostRuntime) -> Result<(), Fail> {
         (1010, b"a", Ask::Get, Want::Hit(3, b"z")),
     ];
     assert_eq!(rt; first_unlike(&mut trial, alloc, rows)?, None);
+    Ok(())
+}
+
+/// Counts the parts of a hit that have bytes, and the bytes in them. It takes no memory.
+#[derive(Drop)]
+struct Counter {
+    parts: usize,
+    bytes: usize,
+}
+
+impl Answer for Counter {
+    ghost told = { λ old reply new. Unit {0} };
+
+    fn hit(&mut self, _flags: u32, _unique: u64, parts: &[Bytes<'_>]) -> Result<(), AllocError> {
+        for part in parts {
+            let len = part.as_slice().len();
+            if len > 0 {
+                self.parts = self.parts.saturating_add(1);
+                self.bytes = self.bytes.saturating_add(len);
+            }
+        }
+        Ok(())
+    }
+
+    fn reply(&mut self, _reply: &Reply) -> Result<(), AllocError> {
+        Err(AllocError)
+    }
+}
+
+/// Makes a block of three pages, with `y` on both sides of where the first page ends that has a key of
+/// one byte, and `z` where the second does.
+fn large_block(alloc: Global) -> Result<Vec<u8>, AllocError> {
+    let mut block = filled(alloc, 2_500_000)?;
+    for (at, byte) in block.iter_mut().enumerate() {
+        if at == 1_048_526 || at == 1_048_527 {
+            *byte = b'y';
+        } else if at == 2_097_102 || at == 2_097_103 {
+            *byte = b'z';
+        }
+    }
+    Ok(block)
+}
+
+/// A block in three pages is told as it is, and the telling asks for no memory: it goes well whatever
+/// allocation is refused.
+#[test]
+fn an_item_of_several_pages_is_told_where_it_lies(rt: HostRuntime) -> Result<(), Fail> {
+    let alloc = rt.alloc();
+    let block = large_block(alloc)?;
+    let mut heard = Heard {
+        trial: Trial::open_so(&rt, alloc, LARGE)?,
+    };
+    let rows: &[Row<'_>] = &[
+        set(1000, b"a", 0, block.as_slice(), "stored"),
+        (1000, b"a", Ask::Get, Want::Hit(3, block.as_slice())),
+        (1000, b"a", Ask::Gat(10), Want::Hit(3, block.as_slice())),
+    ];
+    assert_eq!(rt; first_unlike(&mut heard, alloc, rows)?, None);
+    let mut counter = Counter { parts: 0, bytes: 0 };
+    let step = step_of(b"a", Ask::Gat(20));
+    let now = Moment::from_seconds_at_most(1009);
+    let told = heard.trial.tell(alloc, &step, now, &mut counter);
+    assert!(rt; told.is_ok());
+    assert_eq!(rt; (counter.parts, counter.bytes), (3, 2_500_000));
     Ok(())
 }

@@ -66,7 +66,7 @@ const REASONS: &[(&str, Figure)] = &[
 ];
 
 /// What is told, in this order.
-pub const FAMILIES: [Family; 22] = [
+pub const FAMILIES: [Family; 27] = [
     Family(
         Gauge,
         "memcached_up",
@@ -192,6 +192,36 @@ pub const FAMILIES: [Family; 22] = [
         "mcserver_shelves",
         "Shelves that keys lie on.",
         One(Figure::Shelves),
+    ),
+    Family(
+        Gauge,
+        "mcserver_table_homes",
+        "Homes of the tables that keys come to.",
+        One(Figure::Homes),
+    ),
+    Family(
+        Counter,
+        "mcserver_growths_total",
+        "Growths of tables to twice their homes.",
+        One(Figure::Growths),
+    ),
+    Family(
+        Gauge,
+        "mcserver_growths_running",
+        "Growths that run.",
+        One(Figure::Running),
+    ),
+    Family(
+        Gauge,
+        "mcserver_growth_entries_left",
+        "Entries that growths have still to move.",
+        One(Figure::Left),
+    ),
+    Family(
+        Gauge,
+        "mcserver_stray_entries",
+        "Entries in no bucket near their homes.",
+        One(Figure::Strays),
     ),
     Family(
         Counter,

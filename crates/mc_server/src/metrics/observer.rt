@@ -31,7 +31,7 @@ impl Observer<'_> {
     /// Reads all that is told. It holds the shelves one after another, and then what they share for each
     /// class of chunks. The one error is a refused allocation.
     pub fn read<R: Wait + Clock>(&mut self, rt: &R, alloc: Global) -> Result<Reading, AllocError> {
-        let items = self.asker.items(rt);
+        let tables = self.asker.tables(rt);
         let slabs = self.slabs(rt, alloc)?;
         Ok(Reading {
             counts: self.counted(),
@@ -40,7 +40,7 @@ impl Observer<'_> {
             connections: u64::from(self.crowd.open()),
             accepted: self.crowd.accepted(),
             most: u64::from(self.crowd.most()),
-            items,
+            tables,
             limit: u64::from(self.pages) * PAGE,
             shelves: u64::from(self.asker.shelves()),
             slabs,

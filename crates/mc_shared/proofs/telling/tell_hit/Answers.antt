@@ -1,8 +1,16 @@
-use Rattle.std.proofs.Common.{◌≡◌, ℕ, Option, Some, sym, ap, ◌∙◌, subst, arith}
+use Rattle.std.proofs.Common.{sym, ap, ◌∙◌, subst, refl}
 use Rattle.std.specs.FinMap.{get}
-use Rattle.mc_command.specs.Plain.{alive, item_need}
-use Rattle.mc_shared.proofs.HitLemmas.{found_stands, is_hit}
+use Rattle.mc_command.specs.Plain.{alive, hit_of}
+use Rattle.mc_shelf.specs.Plans.{is_gone}
+use Rattle.mc_shared.proofs.HitLemmas.{found_gone, found_stands}
 use Rattle.mc_shared.proofs.telling.tell_hit.Goals as goal
+
+pub returns-in-Dead-clause-sought : goal.returns-in-Dead-clause-sought
+returns-in-Dead-clause-sought g c =
+    let shelf = c.args.shelf.now.content in
+    let now = c.args.ask.now.moment in
+    let found = sym c.find.ensures ∙ c.in-Dead.is in
+    (ap (λ k. is_gone shelf.cut now (get shelf.items k)) (sym c.key.ensures) ∙ found_gone shelf.cut now c.key.result.now (get shelf.items c.key.result.now) found, refl)
 
 pub returns-in-Ok-clause-sought : goal.returns-in-Ok-clause-sought
 returns-in-Ok-clause-sought g c =
@@ -11,8 +19,7 @@ returns-in-Ok-clause-sought g c =
     let hit = c.in-Standing.hit in
     let found = sym c.find.ensures ∙ c.in-Standing.is in
     let stood = ap (λ k. alive shelf.cut now (get shelf.items k)) (sym c.key.ensures) ∙ found_stands shelf.cut now c.key.result.now (get shelf.items c.key.result.now) hit found in
-    let one : (item_need hit.key hit.item).count ≡ 1 = omega (arith, c.if-parts-ne1.false, c.parts.ensures.value) in
-    ((hit.item, stood), subst (λ r. g.A.Answer.told c.args.answer.now r c.hit.new.self) (is_hit _ hit.item _ _ _ stood c.flags.ensures c.unique.ensures (c.part.ensures.lone one)) c.in-Ok.ensures.told)
+    ((hit.item, stood), subst (λ r. g.A.Answer.told c.args.answer.now r c.tell_item.new.answer) (ap hit_of (sym stood)) c.in-Ok.ensures.told)
 
 pub returns-in-Err-clause-stands : goal.returns-in-Err-clause-stands
 returns-in-Err-clause-stands g c =

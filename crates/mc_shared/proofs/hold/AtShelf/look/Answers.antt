@@ -1,4 +1,4 @@
-use Rattle.std.proofs.Common.{true, sym, ap, ◌∙◌, subst}
+use Rattle.std.proofs.Common.{sym, ap, ◌∙◌, subst}
 use Rattle.mc_shelf.specs.States.{ShelfState}
 use Rattle.mc_shared.specs.History.{start_of}
 use Rattle.mc_shared.specs.Shown.{SharedState}

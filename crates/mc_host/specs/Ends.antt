@@ -1,0 +1,91 @@
+-- What the shell is told of an end of the program, and what is said on standard error.
+use Rattle.std.specs.Prelude.{◌≡◌, ◌⊎◌, ℕ, Bool, true, List, slice_get, Option, Some, None, Ok, Err, codes}
+use Rattle.mc_session.specs.declared.serving.ServeFault.TheVariants as fault
+use Rattle.mc_host.specs.declared.end.Obstacle.{Obstacle}
+use Rattle.mc_host.specs.declared.end.Obstacle.TheVariants.{Taken, NotAllowed, NotHere, NoDescriptor, Other}
+use Rattle.mc_host.specs.declared.end.Refusal.{Refusal}
+use Rattle.mc_options.specs.declared.endpoints.Endpoint.{Endpoint}
+use Rattle.mc_options.specs.declared.endpoints.Endpoints.{Endpoints}
+use Rattle.mc_host.specs.declared.end.End.{End}
+use Rattle.mc_host.specs.declared.end.End.TheVariants as end
+
+-- 0 at the end, 1 for a device's fault or want of memory, 2 for a bad command line
+abbrev pub status_of : End → ℕ
+status_of (end.Served (Ok _)) = 0
+status_of (end.Served (Err _)) = 1
+status_of (end.CannotListen _) = 1
+status_of end.Stopped = 0
+status_of end.BadCommandLine = 2
+status_of end.BadShelves = 2
+status_of end.NotText = 2
+status_of end.Shown = 0
+status_of end.NotShown = 1
+status_of end.NoMemory = 1
+
+-- what is wrong; of a bad command line clap has said it, and where it can't listen the address and the
+-- reason stand behind it
+abbrev pub text_of : End → List ℕ
+text_of (end.Served (Ok _)) = codes ""
+text_of (end.Served (Err fault.Read)) = codes "mcserver: read fault"
+text_of (end.Served (Err fault.Write)) = codes "mcserver: write fault"
+text_of (end.Served (Err fault.NoMemory)) = codes "mcserver: out of memory"
+text_of (end.CannotListen _) = codes "mcserver: cannot listen"
+text_of end.Stopped = codes ""
+text_of end.BadCommandLine = codes ""
+text_of end.BadShelves = codes "mcserver: shelves must be a power of two"
+text_of end.NotText = codes "error: invalid UTF-8 was detected in one or more arguments"
+text_of end.Shown = codes ""
+text_of end.NotShown = codes "mcserver: write fault"
+text_of end.NoMemory = codes "mcserver: out of memory"
+
+-- why it can't listen
+abbrev pub reason_of : Obstacle → List ℕ
+reason_of Taken = codes "something listens there already"
+reason_of NotAllowed = codes "the port isn't allowed to this user"
+reason_of NotHere = codes "the address isn't one of this machine"
+reason_of NoDescriptor = codes "the system gives too few descriptors (ulimit -n)"
+reason_of Other = codes "the system refuses it"
+
+-- an obstacle for which std has no kind of error
+abbrev pub IsUnnamed : Obstacle → Type 0
+IsUnnamed NoDescriptor = Unit {0}
+IsUnnamed Other = Unit {0}
+IsUnnamed _ = ⊥
+
+-- an endpoint is one of these
+abbrev pub IsOneOf : Endpoints → Endpoint → Type 0
+IsOneOf all one = (one ≡ all.first) ⊎ ((i : ℕ) × (slice_get all.others.items i ≡ Some one))
+
+-- the ends of a program that was to listen at an endpoint and can't: it names the endpoint, or memory ran out
+abbrev pub EndsUnboundAt : Endpoint → End → Type 0
+EndsUnboundAt endpoint (end.CannotListen it) = it.endpoint ≡ endpoint
+EndsUnboundAt endpoint end.NoMemory = Unit {0}
+EndsUnboundAt endpoint _ = ⊥
+
+-- the ends of a program that was to listen at endpoints and can't at one
+abbrev pub EndsUnbound : Endpoints → End → Type 0
+EndsUnbound endpoints (end.CannotListen it) = IsOneOf endpoints it.endpoint
+EndsUnbound endpoints end.NoMemory = Unit {0}
+EndsUnbound endpoints _ = ⊥
+
+-- a refusal names the endpoint where scrapes were to be answered
+abbrev pub NamesScrapes : Option Endpoint → Refusal → Type 0
+NamesScrapes None it = ⊥
+NamesScrapes (Some endpoint) it = it.endpoint ≡ endpoint
+
+-- the ends of a program that was to answer scrapes there and can't
+abbrev pub EndsWithoutDoor : Option Endpoint → End → Type 0
+EndsWithoutDoor scrapes (end.CannotListen it) = NamesScrapes scrapes it
+EndsWithoutDoor scrapes end.NoMemory = Unit {0}
+EndsWithoutDoor scrapes _ = ⊥
+
+-- the ends of a program that was to listen at endpoints, to answer scrapes at another, and to end where it is
+-- asked to or not: it can't listen, and names one of them, memory ran out before the first connection, a
+-- listener failed, or it may be asked to end, and was
+abbrev pub EndsListening : Endpoints → (scrapes : Option Endpoint) → (may_quit : Bool) → End → Type 0
+EndsListening endpoints scrapes may_quit (end.CannotListen it) =
+    IsOneOf endpoints it.endpoint ⊎ NamesScrapes scrapes it
+EndsListening endpoints scrapes may_quit end.NoMemory = Unit {0}
+EndsListening endpoints scrapes may_quit (end.Served (Err fault.Read)) = Unit {0}
+EndsListening endpoints scrapes may_quit end.Stopped = may_quit ≡ true
+EndsListening endpoints scrapes may_quit _ = ⊥

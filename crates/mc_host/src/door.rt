@@ -1,0 +1,72 @@
+//! Where scrapes come in.
+ghost use Rattle.std.specs.Prelude.{◌≡◌, IfErr};
+ghost use Rattle.mc_host.specs.Ends.{EndsWithoutDoor};
+
+use crate::end::End;
+use mc_options::Endpoint;
+use mio::net::TcpListener;
+use mio::{Events, Interest, Poll, Token};
+use std::alloc::{AllocError, Global};
+use std::net::{Net, SocketAddr, TcpStream};
+use std::time::{Clock, Duration};
+use std::{io, thread};
+
+/// How long it waits where the system can't tell of connections, in milliseconds.
+const PAUSE: u64 = 10;
+
+/// A listener for scrapes, and what tells of connections there.
+#[derive(Drop)]
+pub struct Door {
+    listener: TcpListener,
+    poll: Poll,
+    events: Events,
+}
+
+/// Listens at the place that is asked for; nowhere where none is. The program ends where it can't, or
+/// memory runs out.
+pub fn opened<R: Net>(rt: &R, alloc: Global, asked: Option<Endpoint>) -> Result<Option<Door>, End>
+    ensures { IfErr result (EndsWithoutDoor asked) }
+{
+    let Some(endpoint) = asked else {
+        return Ok(None);
+    };
+    match Door::open(
+        rt,
+        alloc,
+        SocketAddr::from((endpoint.address, endpoint.port)),
+    ) {
+        Ok(door) => Ok(Some(door)),
+        Err(error) => Err(End::without(endpoint, &error)),
+    }
+}
+
+impl Door {
+    /// Listens at an address and a port.
+    fn open<R: Net>(rt: &R, alloc: Global, place: SocketAddr) -> io::Result<Door> {
+        let mut listener = TcpListener::bind(rt, place)?;
+        let poll = Poll::new(rt)?;
+        poll.registry()
+            .register(&mut listener, Token(0), Interest::READABLE)?;
+        let events = Events::with_capacity(alloc, 1)?;
+        Ok(Door {
+            listener,
+            poll,
+            events,
+        })
+    }
+
+    /// Waits until a connection comes, or it has rested so long.
+    pub fn wait<R: Clock>(&mut self, rt: &R, rest: Duration) {
+        if self.poll.poll(&mut self.events, Some(rest)).is_err() {
+            let _ = thread::sleep(rt, Duration::from_millis(PAUSE));
+        }
+    }
+
+    /// Gives a connection that waits, whose calls wait, and its peer.
+    pub fn accept(&self) -> io::Result<(TcpStream, SocketAddr)> {
+        let (stream, peer) = self.listener.accept()?;
+        let stream = TcpStream::from(stream);
+        stream.set_nonblocking(false)?;
+        Ok((stream, peer))
+    }
+}

@@ -1,5 +1,0 @@
-use Rattle.std.proofs.Common.{◌≡◌, length}
-use Rattle.mc_server.proofs.binding.bound_all.Given as goal
-
-abbrev pub invariant-loop-endpoint : goal.invariant-loop-endpoint
-invariant-loop-endpoint g l = length l.others.items ≡ l.endpoint-index

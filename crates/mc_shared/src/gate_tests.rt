@@ -1,0 +1,117 @@
+//! How often a gate is called: once while a step's shelf is held, and never by what holds none.
+
+use crate::patience::{Gate, Waiting};
+use crate::tests::Trial;
+use mc_command::{Answer, Bytes, KeyStep, Reply, Verb};
+use mc_testing::{Ask, step_of};
+use mc_time::Moment;
+use std::alloc::{AllocError, Global};
+use std::sync::Wait;
+use std::sync::atomic::{AtomicU64, Ordering};
+use std::test::*;
+
+/// Counts its calls.
+#[derive(Drop)]
+struct CallCount<'a> {
+    calls: &'a AtomicU64,
+}
+
+impl<'a> Gate for CallCount<'a> {
+    fn inside(&self, _shelf: u32) {
+        self.calls.fetch_add(1, Ordering::SeqCst);
+    }
+}
+
+/// Takes each reply.
+#[derive(Drop)]
+struct Listener;
+
+impl Answer for Listener {
+    ghost told = { λ old reply new. Unit {0} };
+
+    fn hit(&mut self, _flags: u32, _unique: u64, _parts: &[Bytes<'_>]) -> Result<(), AllocError> {
+        Ok(())
+    }
+
+    fn reply(&mut self, _reply: &Reply) -> Result<(), AllocError> {
+        Ok(())
+    }
+}
+
+/// Counts the calls of a gate while a step at a second is taken, or refused memory.
+fn calls_of_step<R: Wait>(
+    trial: &mut Trial<'_, R>,
+    alloc: Global,
+    (second, key, ask): (u64, &[u8], Ask<'_>),
+) -> u64 {
+    if key.len() > 250 {
+        return u64::MAX;
+    }
+    let calls = AtomicU64::new(0);
+    let gate = CallCount { calls: &calls };
+    let now = Moment::from_seconds_at_most(second);
+    let Trial { rt, shared, caller } = trial;
+    let _ = shared.step_at(*rt, alloc, caller, &step_of(key, ask), now, &gate);
+    calls.load(Ordering::SeqCst)
+}
+
+/// Counts the calls of a gate while a step at a second has its reply told.
+fn calls_of_telling<R: Wait>(
+    trial: &mut Trial<'_, R>,
+    alloc: Global,
+    (second, key, ask): (u64, &[u8], Ask<'_>),
+) -> u64 {
+    if key.len() > 250 {
+        return u64::MAX;
+    }
+    let calls = AtomicU64::new(0);
+    let gate = CallCount { calls: &calls };
+    let now = Moment::from_seconds_at_most(second);
+    let Trial { rt, shared, caller } = trial;
+    let patience = Waiting {
+        rt: *rt,
+        gate: &gate,
+    };
+    let step = step_of(key, ask);
+    let _ = shared.step_telling(&patience, alloc, caller, &step, now, &mut Listener);
+    calls.load(Ordering::SeqCst)
+}
+
+/// The key `a` stands, and dies at second 1010. The keys `none` and `zz` have no item.
+const STEPS: [(u64, &[u8], Ask<'static>); 7] = [
+    (1000, b"a", Ask::Gat(10)),
+    (1000, b"a", Ask::Get),
+    (1000, b"new", Ask::Store(Verb::Set, 0, b"x")),
+    (1000, b"new", Ask::Store(Verb::Append, 0, b"y")),
+    (1000, b"new", Ask::Store(Verb::Add, 0, b"z")),
+    (1010, b"a", Ask::Get),
+    (1010, b"a", Ask::Delete),
+];
+
+#[test]
+fn a_gate_is_called_once_a_step(rt: HostRuntime) -> Result<(), Fail> {
+    let alloc = rt.alloc();
+    let mut trial = Trial::open(&rt, alloc)?;
+    for step in STEPS {
+        assert_eq!(rt; calls_of_step(&mut trial, alloc, step), 1);
+    }
+    assert_eq!(rt;
+        calls_of_step(&mut trial, alloc, (1010, b"", Ask::Flush(0))),
+        0
+    );
+    Ok(())
+}
+
+#[test]
+fn a_gate_is_called_once_a_telling(rt: HostRuntime) -> Result<(), Fail> {
+    let alloc = rt.alloc();
+    let mut trial = Trial::open(&rt, alloc)?;
+    for step in STEPS {
+        assert_eq!(rt; calls_of_telling(&mut trial, alloc, step), 1);
+    }
+    assert_eq!(rt;
+        calls_of_telling(&mut trial, alloc, (1010, b"none", Ask::Get)),
+        0
+    );
+    Ok(())
+}
