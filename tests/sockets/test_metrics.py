@@ -1,5 +1,6 @@
 """With --metrics it tells Prometheus over HTTP what is counted, each exactly; who holds a connection there keeps nobody out."""
 import contextlib
+import itertools
 import socket
 import subprocess
 import threading
@@ -28,6 +29,8 @@ def closed(reason):
     return f'mcserver_connections_closed_total{{reason="{reason}"}}'
 
 
+# What tables have: homes, growths that began and that run, entries that these have still to move, and strays.
+TABLES = ["mcserver_table_homes", "mcserver_growths_total", "mcserver_growths_running", "mcserver_growth_entries_left", "mcserver_stray_entries"]
 ITEMS, STORED, REFUSED = "memcached_current_items", "memcached_items_total", "mcserver_refusals_total"
 READ, WRITTEN = "memcached_read_bytes_total", "memcached_written_bytes_total"
 # What is sent, what is answered, and what is counted for it, but for what stands then.
@@ -79,6 +82,20 @@ REQUESTS = [
 ]
 
 
+def hash_of(key):
+    """FNV-1a in 64 bits, http://www.isthe.com/chongo/tech/comp/fnv/."""
+    found = 0xCBF29CE484222325
+    for byte in key:
+        found = (found ^ byte) * 0x100000001B3 % 2 ** 64
+    return found
+
+
+def of_one_home(count):
+    """Keys that have one home in each table of at most 256 homes."""
+    keys = (b"k%d" % number for number in itertools.count())
+    return list(itertools.islice((it for it in keys if hash_of(it) // 256 % 256 == 7), count))
+
+
 class Metrics(ProgramCase):
     def test_each_command_counts_as_what_it_is(self):
         with MetricsServer() as server, Peer(server.port) as peer:
@@ -113,6 +130,38 @@ class Metrics(ProgramCase):
                 self.assertEqual([small, large], samples, name)
             peer.asks(b"flush_all\r\n", b"OK\r\n")
             self.assertEqual(0, server.scrape()[ITEMS])
+
+    def test_tables_that_grow(self):
+        """A table of 64 homes grows before the 49th key comes, and 8 entries are moved behind a step."""
+        with MetricsServer("--shelves", "1") as server, Peer(server.port) as peer:
+            self.assertEqual([64, 0, 0, 0, 0], self.tables(server))
+            for number in range(48):
+                peer.asks(b"set %d 0 0 1\r\nx\r\n" % number, b"STORED\r\n")
+            self.assertEqual([64, 0, 0, 0, 0], self.tables(server))
+            peer.asks(b"set last 0 0 1\r\nx\r\n", b"STORED\r\n")
+            homes, began, running, left, strays = self.tables(server)
+            self.assertEqual([128, 1, 1, 0], [homes, began, running, strays])
+            self.assertIn(left, (40, 48), "before and behind the first move")
+            for _ in range(5):
+                peer.asks(b"get last\r\n", b"VALUE last 0 1\r\nx\r\nEND\r\n")
+            self.assertTrue(until(lambda: self.tables(server) == [128, 1, 0, 0, 0], SOON), self.tables(server))
+
+    def test_strays(self):
+        """Of keys of one home 32 have a bucket near it. A stray has the table grow while a quarter of its homes are taken."""
+        with MetricsServer("--shelves", "1") as server, Peer(server.port) as peer:
+            keys = of_one_home(40)
+            for key in keys[:32]:
+                peer.asks(b"set %s 0 0 1\r\nx\r\n" % key, b"STORED\r\n")
+            self.assertEqual([64, 0, 0, 0, 0], self.tables(server))
+            for key in keys[32:]:
+                peer.asks(b"set %s 0 0 1\r\nx\r\n" % key, b"STORED\r\n")
+            self.assertTrue(until(lambda: self.tables(server) == [256, 2, 0, 0, 8], SOON), self.tables(server))
+            peer.asks(b"flush_all\r\n", b"OK\r\n")
+            self.assertEqual(0, self.tables(server)[-1])
+
+    def tables(self, server):
+        now = server.scrape()
+        return [now[name] for name in TABLES]
 
     def test_refusals(self):
         """Each reply for want of a chunk counts, and as nothing else."""
