@@ -181,7 +181,7 @@ class Server(Started):
 class StillServer(Server):
     """A running server whose clock stands, and whose items have at most so many bytes with key and header."""
 
-    def __init__(self, now=MOMENT, connections=MOST, greatest=GREATEST, **options):
+    def __init__(self, now=MOMENT, connections=MOST, greatest=GREATEST, more=(), **options):
         clock = [] if is_memcached(settings.program()) else ["--now", str(now)]
         largest = [] if greatest == GREATEST else ["-I", str(greatest)]
-        super().__init__(args=["-c", str(connections), *largest, *clock], **options)
+        super().__init__(args=["-c", str(connections), *largest, *clock, *more], **options)

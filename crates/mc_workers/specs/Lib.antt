@@ -5,3 +5,4 @@ pub mod Visits
 pub mod Telling
 pub mod Tending
 pub mod Outcomes
+pub mod Asks

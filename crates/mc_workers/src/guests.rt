@@ -1,13 +1,16 @@
 //! The guests of one worker.
 ghost use Rattle.std.specs.Prelude.{◌≡◌, ◌<◌, ◌≤◌, ◌+◌};
-ghost use Rattle.mc_workers.specs.Visits.{MakesRound};
+ghost use Rattle.mc_workers.specs.Asks.{MakesRound};
 
+use crate::budget::Budget;
 use crate::guest::{Guest, Visit};
 use crate::link::Link;
 use crate::row::Row;
+use crate::weighed::Waits;
 use mc_command::Steps;
 use mc_time::Moment;
 use std::alloc::Global;
+use std::collections::VecDeque;
 use std::marker::Model;
 
 /// How many sessions ended, and how. A count that is full stays there.
@@ -27,6 +30,9 @@ pub struct WorkEnd {
 pub struct Guests<L: Link + Drop> {
     row: Row<L>,
     awake: usize,
+    budget: Budget,
+    /// The numbers of the links whose guests are kept waiting, the oldest first.
+    queue: VecDeque<u64>,
 }
 
 impl<L: Link + Drop> Model for Guests<L> {
@@ -39,20 +45,27 @@ impl<L: Link + Drop> Model for Guests<L> {
     ghost invariant = { λ g. g.awake ≤ g.row };
 }
 
+/// How many seconds a link is quiet at least whose guest is to make room for others.
+const QUIET: u64 = 10;
+
 /// How a guest that is awake goes on.
 #[derive(Clone, Copy, Debug, PartialEq, Eq)]
 enum Fate {
     GoesOn,
+    /// It is kept waiting from now on.
+    Waits,
     Sleeps,
     Ended,
 }
 
 impl<L: Link + Drop> Guests<L> {
-    /// Has no guests. It takes no memory.
-    pub fn new(alloc: Global) -> Guests<L> {
+    /// Has no guests, who are to keep within this budget. It takes no memory.
+    pub fn new(alloc: Global, budget: Budget) -> Guests<L> {
         Guests {
             row: Row::new(alloc),
             awake: 0,
+            budget,
+            queue: VecDeque::new(alloc),
         }
     }
 
@@ -63,7 +76,7 @@ impl<L: Link + Drop> Guests<L> {
 
     /// Says whether none is awake.
     pub fn is_quiet(&self) -> bool {
-        self.awake == 0
+        self.awake == 0 && !self.budget.may_try()
     }
 
     /// Makes a guest of the link with this number, which is awake, and says whether there was memory
@@ -84,7 +97,42 @@ impl<L: Link + Drop> Guests<L> {
     pub fn visit_all<S: Steps>(&mut self, alloc: Global, store: &mut S, now: Moment)
         ensures { MakesRound S.Steps now store.old store.new }
     {
-        self.row.visit_front(alloc, self.awake, store, now);
+        self.let_on();
+        let Guests { row, budget, .. } = self;
+        row.visit_front(alloc, self.awake, store, now, budget);
+    }
+
+    /// Wakes the first of those that are kept waiting, where memory came back.
+    fn let_on(&mut self) {
+        if !self.budget.may_try() {
+            return;
+        }
+        let Some(number) = self.queue.front().copied() else {
+            return;
+        };
+        match self.row.place_of(number) {
+            Some(place) if self.waits_at(place) => {
+                self.row.set_waits(place, Waits::Next);
+                self.wake_at(place);
+            }
+            _ => {
+                self.queue.pop_front();
+            }
+        }
+    }
+
+    /// Says whether the guest at a place is kept waiting, if there is one.
+    fn waits_at(&self, at: usize) -> bool {
+        at < self.row.len() && self.row.waits(at) != Waits::No
+    }
+
+    /// Names the link whose guest holds most while others are kept waiting, of those that hold much and were
+    /// quiet for 10 seconds.
+    pub fn hoarder(&self, now: Moment) -> Option<u64> {
+        if self.budget.waiting == 0 {
+            return None;
+        }
+        self.row.hoarder(now.seconds().checked_sub(QUIET)?)
     }
 
     /// Lets go of those that have ended, which are counted, and lets those sleep that answered
@@ -100,10 +148,34 @@ impl<L: Link + Drop> Guests<L> {
         requires { at < self.old }
         ensures { self.old ≤ self.new + 1 }
     {
-        match fate_of(self.row.last(at), end) {
+        match self.fate_at(at, end) {
             Fate::GoesOn => {}
+            Fate::Waits => self.line_up(at),
             Fate::Sleeps => self.put_behind(at),
             Fate::Ended => self.let_go(at),
+        }
+    }
+
+    /// Says how one that is awake goes on.
+    fn fate_at(&self, at: usize, end: &mut WorkEnd) -> Fate
+        requires { at < self.now }
+    {
+        match self.row.waits(at) {
+            Waits::No => fate_of(self.row.last(at), end),
+            Waits::New => Fate::Waits,
+            Waits::Queued | Waits::Next => Fate::Sleeps,
+        }
+    }
+
+    /// Lets one sleep that is kept waiting, behind the others. Without memory it stays awake.
+    fn line_up(&mut self, at: usize)
+        requires { at < self.old }
+        ensures { self.old ≤ self.new + 1 }
+    {
+        let number = self.row.number_of(at);
+        if self.queue.push_back(number).is_ok() {
+            self.row.set_waits(at, Waits::Queued);
+            self.put_behind(at);
         }
     }
 
@@ -143,7 +215,7 @@ impl<L: Link + Drop> Guests<L> {
         let end = self.row.len() - 1;
         self.row.swap(last, end);
         self.awake = last;
-        self.row.pop();
+        self.row.pop(&mut self.budget);
     }
 }
 

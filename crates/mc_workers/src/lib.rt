@@ -1,6 +1,9 @@
 //! Worker loops over links.
 #![tactic(auto)]
 
+mod budget;
+#[cfg(test)]
+mod budget_tests;
 #[cfg(test)]
 mod calls;
 mod counting;
@@ -17,6 +20,7 @@ mod guests;
 mod held;
 mod laws;
 mod link;
+mod measure;
 mod rounds;
 mod row;
 mod tally;
@@ -28,6 +32,7 @@ mod tending_tests;
 mod tests;
 #[cfg(test)]
 mod visit_tests;
+mod weighed;
 mod worker;
 
 pub use gathering::Gathering;

@@ -1,10 +1,12 @@
 //! Guests in a row, each of which is found by the number of its link.
 ghost use Rattle.std.specs.Prelude.{◌≡◌, ◌<◌, ◌≤◌, ◌+◌, IsTrue, IsFalse};
-ghost use Rattle.mc_workers.specs.Visits.{MakesRound};
+ghost use Rattle.mc_workers.specs.Asks.{MakesRound};
 
+use crate::budget::Budget;
 use crate::guest::{Guest, Visit};
 use crate::link::Link;
-use crate::rounds::round;
+use crate::rounds::round_within;
+use crate::weighed::{Waits, Weighed};
 use mc_command::Steps;
 use mc_time::Moment;
 use std::alloc::Global;
@@ -14,7 +16,7 @@ use std::marker::Model;
 /// Guests in a row. Contracts see how many there are.
 #[derive(Drop)]
 pub struct Row<L: Link + Drop> {
-    guests: Vec<Guest<L>>,
+    guests: Vec<Weighed<L>>,
     /// The number of each one's link.
     numbers: Vec<u64>,
     /// The place of the guest whose link has a number.
@@ -64,7 +66,7 @@ impl<L: Link + Drop> Row<L> {
             self.places.remove(&number);
             return false;
         }
-        if self.guests.push(guest).is_err() {
+        if self.guests.push(Weighed::new(guest)).is_err() {
             self.numbers.pop();
             self.places.remove(&number);
             return false;
@@ -72,12 +74,14 @@ impl<L: Link + Drop> Row<L> {
         true
     }
 
-    /// Drops the last guest.
-    pub fn pop(&mut self)
+    /// Drops the last guest, which is counted no more.
+    pub fn pop(&mut self, budget: &mut Budget)
         requires { 0 < self.old }
         ensures { self.new + 1 ≡ self.old }
     {
-        self.guests.pop();
+        if let Some(guest) = self.guests.pop() {
+            guest.leave(budget);
+        }
         if let Some(number) = self.numbers.pop() {
             self.places.remove(&number);
         }
@@ -90,19 +94,64 @@ impl<L: Link + Drop> Row<L> {
         self.guests[at].last()
     }
 
+    /// Says whether a guest is kept waiting until there is room.
+    pub fn waits(&self, at: usize) -> Waits
+        requires { at < self.now }
+    {
+        self.guests[at].waits()
+    }
+
+    /// Notes that a guest stands in the queue of those that are kept waiting, or that it is its turn there.
+    pub fn set_waits(&mut self, at: usize, waits: Waits)
+        ensures { self.new ≡ self.old }
+    {
+        if let Some(guest) = self.guests.get_mut(at) {
+            guest.set_waits(waits);
+        }
+    }
+
+    /// Says which number the link of a guest has.
+    pub fn number_of(&self, at: usize) -> u64
+        requires { at < self.now }
+    {
+        self.numbers[at]
+    }
+
+    /// Names the link of the guest that holds most, of those that hold more than a little and whose links were
+    /// quiet since that second.
+    pub fn hoarder(&self, second: u64) -> Option<u64> {
+        let mut most = 0usize;
+        let mut found = None;
+        for at in 0..self.guests.len() {
+            let hoards = self.guests[at].hoards(second);
+            if hoards > most {
+                most = hoards;
+                found = Some(self.numbers[at]);
+            }
+        }
+        found
+    }
+
     /// Says where the guest stands whose link has this number.
     pub fn place_of(&self, number: u64) -> Option<usize> {
         self.places.get(&number).copied()
     }
 
-    /// Visits each of the first `count` once.
-    pub fn visit_front<S: Steps>(&mut self, alloc: Global, count: usize, store: &mut S, now: Moment)
+    /// Visits each of the first `count` once, within the budget.
+    pub fn visit_front<S: Steps>(
+        &mut self,
+        alloc: Global,
+        count: usize,
+        store: &mut S,
+        now: Moment,
+        budget: &mut Budget,
+    )
         requires { count ≤ self.old }
         ensures round { MakesRound S.Steps now store.old store.new }
         ensures same { self.new ≡ self.old }
     {
         let (front, _) = self.guests.as_mut_slice().split_at_mut(count);
-        round(alloc, front, store, now);
+        round_within(alloc, front, store, now, budget);
     }
 
     /// Swaps two guests. It does nothing where they are one.

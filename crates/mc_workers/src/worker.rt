@@ -4,6 +4,7 @@ ghost use Rattle.mc_shared.specs.Asking.{GoesFurther, Further};
 ghost use Rattle.mc_shared.specs.History.{start_of};
 ghost use Rattle.mc_shared.specs.Steps.{Agrees};
 
+use crate::budget::Budget;
 use crate::counting::Counting;
 use crate::guests::{Guests, WorkEnd};
 use crate::link::Link;
@@ -36,6 +37,10 @@ pub trait Links<L> {
 
     /// Passes some time where there is nothing to do.
     fn rest(&mut self);
+
+    /// Lets a link end whose guest holds much and was quiet, to make room for others. It is named then. By
+    /// itself it does nothing.
+    fn end(&mut self, _number: u64) {}
 }
 
 /// How a worker works beside serving: what it calls, what hears of it, by which clock it goes, and where
@@ -49,6 +54,10 @@ pub struct Worker<'a, G: Gate, T: Tally, C: Clock> {
     pub clock: &'a C,
     /// The shelf that is tidied first, modulo their number: workers that begin apart don't meet.
     pub first: u32,
+    /// How many bytes its guests are meant to hold of what they were sent and what they are to be told. Beyond
+    /// that one waits who wants more than 131072, until others hold less; and whoever holds most, and whose link
+    /// was quiet for 10 seconds, makes room for those who wait.
+    pub share: usize,
 }
 
 impl<'a, G: Gate, T: Tally, C: Clock> Worker<'a, G, T, C> {
@@ -80,7 +89,7 @@ impl<'a, G: Gate, T: Tally, C: Clock> Worker<'a, G, T, C> {
             greatest: shared.greatest(),
             opened: 0,
         };
-        let mut guests = Guests::new(alloc);
+        let mut guests = Guests::new(alloc, Budget::new(self.share, shared.greatest()));
         let mut end = WorkEnd {
             served: 0,
             broken: 0,
@@ -91,6 +100,7 @@ impl<'a, G: Gate, T: Tally, C: Clock> Worker<'a, G, T, C> {
             let now = self.clock.now();
             make_round(alloc, &mut guests, &mut counting, before, now);
             guests.settle(&mut end);
+            make_room(&guests, links, before, now);
             if let Came::Closed = door.open(alloc, links, &mut guests, &mut end) {
                 return (counting.into_steps().into_caller(), end);
             }
@@ -120,6 +130,7 @@ pub fn work<R: Wait, K: KeyHash + Drop, L: Link + Drop, Q: Links<L>, G: Gate, C:
         tally: &NoTally,
         clock,
         first: 0,
+        share: usize::MAX,
     };
     worker.work(rt, alloc, shared, caller, links)
 }
@@ -138,6 +149,20 @@ fn make_round<R: Wait, K: KeyHash + Drop, L: Link + Drop, G: Gate, T: Tally>(
     guests.visit_all(alloc, counting, now);
     if before.seconds() < now.seconds() {
         counting.tidy(now);
+    }
+}
+
+/// Lets the link end whose guest is to make room for others, where the clock has risen.
+fn make_room<L: Link + Drop, Q: Links<L>>(
+    guests: &Guests<L>,
+    links: &mut Q,
+    before: Moment,
+    now: Moment,
+) {
+    if before.seconds() < now.seconds()
+        && let Some(number) = guests.hoarder(now)
+    {
+        links.end(number);
     }
 }
 
