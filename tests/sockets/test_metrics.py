@@ -155,6 +155,8 @@ class Metrics(ProgramCase):
             self.assertEqual([64, 0, 0, 0, 0], self.tables(server))
             for key in keys[32:]:
                 peer.asks(b"set %s 0 0 1\r\nx\r\n" % key, b"STORED\r\n")
+            for key in keys[:6]:
+                peer.asks(b"get %s\r\n" % key, b"VALUE %s 0 1\r\nx\r\nEND\r\n" % key)
             self.assertTrue(until(lambda: self.tables(server) == [256, 2, 0, 0, 8], SOON), self.tables(server))
             peer.asks(b"flush_all\r\n", b"OK\r\n")
             self.assertEqual(0, self.tables(server)[-1])
