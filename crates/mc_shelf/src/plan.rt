@@ -172,7 +172,7 @@ fn hit(alloc: Global, item: Option<&Entry>) -> Result<Reply, AllocError>
 fn copied(alloc: Global, item: &Entry) -> Result<Block, AllocError>
     ensures { IfOk result (λ block. block ≡ item.now.item.block) }
 {
-    let mut block = Vec::new(alloc);
+    let mut block = Vec::with_capacity(alloc, item.block_len())?;
     item.append_to(&mut block)?;
     Ok(Block::of(block))
 }
