@@ -335,3 +335,15 @@ block_most item is =
     let size : size_of item.class ≤ 1048576 = size_of-most item.class is.is_need.is_class in
     let most : item.count * size_of item.class ≤ 8 * 1048576 = mul-le item.count (size_of item.class) 8 1048576 is.is_need.most size in
     omega arith
+
+-- the run of an item that ends where its block does, where what is behind the header has stayed
+pub run_behind : (chunks : ChunksState) (headed : List ℕ) → drop 48 headed ≡ drop 48 chunks.bytes
+    → take (48 + key_length_in chunks.bytes + block_length_in chunks.bytes) headed ≡ take 48 headed ++ (key_in chunks.bytes ++ block_in chunks.bytes)
+run_behind chunks headed behind =
+    let k : ℕ = key_length_in chunks.bytes in
+    let many : ℕ = block_length_in chunks.bytes in
+    let place : 48 + k + many ≡ 48 + (k + many) = omega arith in
+    ap (λ (n : ℕ). take n headed) place
+    ∙ take-add 48 (k + many) headed
+    ∙ ap (λ (rest : List ℕ). take 48 headed ++ take (k + many) rest) behind
+    ∙ ap (λ (rest : List ℕ). take 48 headed ++ rest) (take-add k many (drop 48 chunks.bytes) ∙ ap (λ (rest : List ℕ). key_in chunks.bytes ++ take many rest) (drop-drop k 48 chunks.bytes))

@@ -33,8 +33,8 @@ use crate::header::{
     updated_in,
 };
 use crate::run::{
-    append_reserved, front, length_in, part_of, write_block, write_expiry, write_head, write_item,
-    write_number,
+    append_reserved, front, length_in, part_of, write_behind, write_block, write_expiry,
+    write_head, write_item, write_number,
 };
 use mc_slab::{Chunks, Class, Need};
 use mc_time::{Expiry, Moment};
@@ -227,6 +227,22 @@ impl Item {
             parts.first,
             parts.second,
         );
+    }
+
+    /// Puts bytes behind its block, which stays where it lies, and sets its flags, its expiry, its unique number and the moment of
+    /// the write. The key, its hash and the chunks stay. It copies these bytes alone, and takes no memory.
+    pub fn extend(&mut self, more: &[u8], flags: u32, expiry: Expiry, unique: u64, updated: Moment)
+        requires room { charge_of self.old + length more.now ≤ size_in (item_need self.old) }
+        ensures value { self.new ≡ record self.old {
+          flags = flags;
+          expiry = expiry;
+          block = self.old.block ++ more.now;
+          unique = unique;
+          updated = updated;
+        } }
+        ensures is_item { IsItem self.new }
+    {
+        write_behind(&mut self.chunks, more, flags, expiry, unique, updated);
     }
 
     /// Lends its key, 0 to 250 bytes.

@@ -155,6 +155,41 @@ pub(crate) fn write_block(chunks: &mut Chunks, at: usize, part: &[u8])
     put(chunks, start + at, part);
 }
 
+/// Copies bytes behind the block of the item in chunks, which has them too then, and sets what else a write brings.
+pub(crate) fn write_behind(
+    chunks: &mut Chunks,
+    more: &[u8],
+    flags: u32,
+    expiry: Expiry,
+    unique: u64,
+    updated: Moment,
+)
+    requires item { HoldsItem chunks.old }
+    requires room { header_size + key_length_in chunks.old.bytes
+        + (block_length_in chunks.old.bytes + length more.now) ≤ length chunks.old.bytes }
+    ensures value { item_in chunks.new ≡ record (item_in chunks.old) {
+      flags = flags;
+      expiry = expiry;
+      block = block_in chunks.old.bytes ++ more.now;
+      unique = unique;
+      updated = updated;
+    } }
+    ensures holds { HoldsItem chunks.new }
+{
+    let old = Header::read(front(chunks));
+    let block_len = old.block_length as usize;
+    let header = Header {
+        flags,
+        expiry,
+        unique,
+        updated,
+        block_length: length_in(chunks, block_len + more.len()),
+        ..old
+    };
+    put_header(chunks, header);
+    put(chunks, HEADER + old.key_length as usize + block_len, more);
+}
+
 /// The block of the item in chunks becomes the number's digits.
 pub(crate) fn write_number(chunks: &mut Chunks, number: u64, unique: u64, updated: Moment)
     requires item { HoldsItem chunks.old }

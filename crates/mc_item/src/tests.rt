@@ -396,6 +396,59 @@ fn a_large_block_lies_in_several_chunks(rt: HostRuntime) -> Result<(), Fail> {
     joins_to(&rt, alloc, &item, block.as_slice())
 }
 
+/// Puts bytes behind an item's block, with other numbers beside it.
+fn extend(rt: &impl Abort, item: &mut Item, more: &[u8], numbers: Numbers) {
+    let room = room_of(item.need());
+    let charge = item.charge();
+    let count = more.len() as u64;
+    assert!(rt; count <= 4000000 && charge <= 4000000);
+    assert!(rt; charge + count <= room as u64);
+    let updated = Moment::from_seconds_at_most(numbers.updated);
+    item.extend(more, numbers.flags, numbers.expiry, numbers.unique, updated);
+}
+
+/// A chunk of 96 bytes is filled to the last one by a block of 45 with a key of 3.
+#[test]
+fn bytes_come_behind_a_block(rt: HostRuntime) -> Result<(), Fail> {
+    let alloc = rt.alloc();
+    let numbers = Numbers {
+        flags: 7,
+        expiry: Expiry::At(5),
+        unique: 3,
+        updated: 4,
+        ..ZEROS
+    };
+    for (block, more, joined) in [
+        (b"".as_slice(), b"".as_slice(), b"".as_slice()),
+        (b"", b"block", b"block"),
+        (b"block", b"", b"block"),
+        (b"blo", b"ck", b"block"),
+        (
+            b"0123456789012345678901234567890123456789abcd",
+            b"e",
+            b"0123456789012345678901234567890123456789abcde",
+        ),
+    ] {
+        let mut item = item_of(&rt, alloc, b"key", block, b"", ZEROS)?;
+        extend(&rt, &mut item, more, numbers);
+        has_head(&rt, &item, b"key", numbers);
+        is_block(&rt, &item, joined);
+    }
+    Ok(())
+}
+
+#[test]
+fn bytes_come_behind_a_block_across_chunks(rt: HostRuntime) -> Result<(), Fail> {
+    let alloc = rt.alloc();
+    let block = pattern(alloc, 3000000)?;
+    let (first, second) = block.as_slice().split_at(700000);
+    let mut item = begun_of(&rt, alloc, b"key", 3000000, ZEROS)?;
+    write_whole(&rt, &mut item, b"key", first, ZEROS);
+    extend(&rt, &mut item, second, ZEROS);
+    has_lengths(&rt, &item, [1048525, 1048576, 902899]);
+    joins_to(&rt, alloc, &item, block.as_slice())
+}
+
 #[test]
 fn a_number_takes_the_place_of_a_large_block(rt: HostRuntime) -> Result<(), Fail> {
     let alloc = rt.alloc();

@@ -1,6 +1,6 @@
 //! The slab: pages that go to classes, and the chunks that are taken of them.
 
-ghost use Rattle.std.specs.Prelude.{◌≡◌, ◌≤◌, map, IfOk};
+ghost use Rattle.std.specs.Prelude.{◌≡◌, ◌+◌, ◌≤◌, map, IfOk};
 ghost use Rattle.std.specs.List.{range_with_len};
 ghost use Rattle.mc_slab.specs.Slabs.{
   IsSlab,
@@ -8,10 +8,12 @@ ghost use Rattle.mc_slab.specs.Slabs.{
   Readies,
   untouched,
   empty_stock,
+  chunks_of,
   pages_of,
   out_of,
   pages_left,
   given,
+  unused,
 };
 ghost use Rattle.mc_slab.specs.declared.slab.TakeFault.TheVariants.{NoMemory};
 
@@ -176,6 +178,16 @@ impl Slab {
     {
         let stock = &self.stocks[class.index()];
         stock.account()
+    }
+
+    /// Counts the class's chunks that aren't out: those that came back, and those that are still to be cut of its pages. With
+    /// those that are out they are all chunks of its pages.
+    pub fn unused(&self, class: Class) -> u32
+        ensures value { result ≡ unused self.now class }
+        ensures account { out_of self.now class + result ≡ chunks_of self.now class }
+        ensures is_slab { IsSlab self.now }
+    {
+        self.stocks[class.index()].unused()
     }
 
     /// Counts the pages that no class has yet.

@@ -73,6 +73,14 @@ impl Stock {
         }
     }
 
+    /// Counts its chunks that aren't out: the free ones, and those that are to be cut.
+    pub(crate) fn unused(&self) -> u32
+        ensures value { result ≡ all_chunks self.now - self.now.out }
+        ensures all { self.now.out + result ≡ all_chunks self.now }
+    {
+        self.free.len() as u32 + self.uncut.count()
+    }
+
     /// How many pages are wanting to so many chunks, once so many more came back, where a page gives
     /// one chunk, or one chunk is wanted.
     pub(crate) fn pages_wanted(&self, count: u32, back: u64) -> u32
