@@ -1,5 +1,5 @@
 -- How few entries of an old table a step moves.
-use Rattle.std.proofs.Common.{◌≡◌, ℕ, ◌+◌, ◌*◌, ◌-◌, ◌<◌, ◌≤◌, ◌^◌, ◌⊎◌, inl, inr, Bool, true, false, true≢false, not, ◌&&◌, ◌||◌, List, [], ◌∷◌, ◌++◌, Option, None, Some, Result, Ok, Err, length, map, refl, sym, ap}
+use Rattle.std.proofs.Common.{◌≡◌, ℕ, ◌+◌, ◌*◌, ◌-◌, ◌≤◌, ◌^◌, ◌⊎◌, inl, inr, Bool, true, false, true≢false, not, ◌&&◌, ◌||◌, List, [], ◌∷◌, ◌++◌, Option, None, Some, Result, Ok, Err, length, map, refl, sym, ap}
 use Rattle.std.proofs.Common.{subst, ◌∙◌, arith, ⊎_elim}
 use Rattle.std.specs.Prelude.{min, nat_lt, OnOk, OnErr}
 use Rattle.std.specs.FinMap.{len}
@@ -11,9 +11,10 @@ use Rattle.mc_grow.specs.Indexes.{IndexState, StandsAs, count, is_due, lags, lef
 use Rattle.mc_grow.specs.Adding.{AreMoved}
 use Rattle.mc_shelf.specs.States.{EntryState}
 use Rattle.mc_shelf.specs.KeyMaps.{EntryMap, hash_in, key_in, items_in}
-use Rattle.mc_shelf.specs.Places.{entries_of, items_of}
+use Rattle.mc_shelf.specs.Places.{IsChanged, entries_of, items_of}
 use Rattle.mc_shelf.specs.declared.counts.ShelfCounts.{ShelfCounts}
-use Rattle.mc_shelf.specs.Counts.{Begins, CaughtUp, GoesOn, IsDue, IsLoaded, KeepsTable, MovesFew, counts_in}
+use Rattle.mc_command.specs.Plain.{Entry}
+use Rattle.mc_shelf.specs.Counts.{CaughtUp, DropsAlone, GoesOn, IsDue, IsLoaded, KeepsTable, MovesFew, counts_in}
 
 -- ---- an index after a change
 
@@ -123,3 +124,65 @@ module _ (old : ShelfCounts) (mid new : IndexState EntryState) (caught : CaughtU
         | false ↦ λ none. stays_so (stays none)
       ] refl
   reserved (Err fault) begins stays refused = stays_so refused
+
+-- ---- the table of a shelf
+
+-- it is as it was
+pub kept : (counts : ShelfCounts) → KeepsTable 0 counts counts
+kept counts = record { homes = refl; growing = refl; less = omega arith; few = omega arith }
+
+pub kept_one : (old new : ShelfCounts) → KeepsTable 0 old new → KeepsTable 1 old new
+kept_one old new is = record { homes = is.homes; growing = is.growing; less = is.less; few = omega (arith, is.few) }
+
+pub kept_whole : (counts : ShelfCounts) → KeepsTable 1 counts counts
+kept_whole counts = kept_one counts counts (kept counts)
+
+pub kept_then : (old mid new : ShelfCounts) → KeepsTable 1 old mid → KeepsTable 0 mid new → KeepsTable 1 old new
+kept_then old mid new one none = record {
+  homes = none.homes ∙ one.homes;
+  growing = none.growing ∙ one.growing;
+  less = omega (arith, one.less, none.less);
+  few = omega (arith, one.few, none.few);
+}
+
+pub ruleset table_rules = (kept, kept_one, kept_whole)
+
+-- an item was changed
+pub changed_kept : (old new : IndexState EntryState) (key : List ℕ) (item : Entry) → IsChanged old new key item → KeepsTable 0 (counts_in old) (counts_in new)
+changed_kept old new key item is = unmoved old new is.same_k is.same_growing is.same_left
+
+-- a step: room is made for an entry first, and then the key's own may go
+pub moved_none : (counts : ShelfCounts) → MovesFew 9 counts counts
+moved_none counts = inl (record { homes = refl; none_begins = λ e. e; less = omega arith; few = omega arith })
+
+pub moved_more : (old new : ShelfCounts) → MovesFew 8 old new → MovesFew 9 old new
+moved_more old new (inl goes) = inl (record { homes = goes.homes; none_begins = goes.none_begins; less = goes.less; few = omega (arith, goes.few) })
+moved_more old new (inr begins) = inr begins
+
+pub moved_then : (old mid new : ShelfCounts) → MovesFew 8 old mid → KeepsTable 1 mid new → MovesFew 9 old new
+moved_then old mid new (inl goes) keeps = inl (record {
+  homes = keeps.homes ∙ goes.homes;
+  none_begins = λ e. goes.none_begins (sym keeps.growing ∙ e);
+  less = omega (arith, goes.less, keeps.less);
+  few = omega (arith, goes.few, keeps.few);
+})
+moved_then old mid new (inr begins) keeps = inr (record {
+  due = begins.due;
+  last = begins.last;
+  homes = keeps.homes ∙ begins.homes;
+  growing = keeps.growing ∙ begins.growing;
+  left = omega (arith, begins.left, keeps.less);
+})
+
+-- a sweep
+pub drops_none : (counts : ShelfCounts) → DropsAlone counts counts
+drops_none counts = record { homes = refl; growing = refl; less = omega arith; fewer = omega arith; few = omega arith }
+
+pub drops_one : (old mid new : ShelfCounts) → DropsAlone old mid → KeepsTable 1 mid new → mid.items ≡ new.items + 1 → DropsAlone old new
+drops_one old mid new drops keeps one = record {
+  homes = keeps.homes ∙ drops.homes;
+  growing = keeps.growing ∙ drops.growing;
+  less = omega (arith, drops.less, keeps.less);
+  fewer = omega (arith, drops.fewer, one);
+  few = omega (arith, drops.few, keeps.few, one);
+}

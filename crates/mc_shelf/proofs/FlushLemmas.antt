@@ -1,6 +1,6 @@
 -- What a purge of one shelf, and a flush of all, make of the state that they are parts of.
 use Rattle.std.proofs.Common.{◌≡◌, ◌≢◌, ℕ, ◌+◌, ◌<◌, ◌≤◌, Bool, true, false, cond, not, ◌||◌, eqb, eqb-true, eq-eqb, ne_eqb, ltb, lt-ltb, le-ltb, ltb-true, ltb-false, true≢false}
-use Rattle.std.proofs.Common.{List, ◌++◌, length, length-set, take, drop, Option, Some, None, is_some, slice_get, slice_set, refl, sym, ap, subst, ◌∙◌, arith, ◌⊎◌, inl, inr}
+use Rattle.std.proofs.Common.{suc, List, [], ◌∷◌, ◌++◌, length, length-set, take, drop, Option, Some, None, is_some, slice_get, slice_set, refl, sym, ap, subst, ◌∙◌, arith, ◌⊎◌, inl, inr}
 use Rattle.std.proofs.Common.{⊎_elim}
 use Rattle.std.proofs.lemmas.Option.{slice_get_within}
 use Rattle.std.specs.FinMap as maps
@@ -14,6 +14,7 @@ use Rattle.mc_shelf.specs.States.{ShelfContent, ShelfState, DeskState}
 use Rattle.mc_shelf.specs.Sweeps.{AreOut, GivesFor, IsPurged}
 use Rattle.mc_shelf.specs.Deaths.{NoneIsDead}
 use Rattle.mc_shelf.specs.Parts.{shelf_of, IsShelfOf, IsDeskOf, ArePartsOf, GoesTo}
+use Rattle.mc_shelf.specs.Asides.{count_in}
 use Rattle.mc_shelf.specs.Unions.{IsFlushed, left_of_flush}
 use Rattle.std.proofs.Math.Seq.{take-append_seam}
 use Rattle.mc_shelf.proofs.KeyLemmas.{order, same_maps, get_kept}
@@ -239,28 +240,49 @@ module _ (hash_of : List ℕ → ℕ) (count delay now : ℕ) (state : Plain) wh
         (λ i. parts.account.out class is i + count_of (none_below state.items i) class) ∙ (λ i. count_of state.items class + count_of (sym (none_below after.items) i) class);
   }
 
+  -- the items of the shelves below the next place are those of the shelf here, and those below
+  more_below : PartsLaw → (at : ℕ) → {s : Plain} {part : ShelfContent} → IsShelfOf hash_of count s at part → (class : ℕ)
+      → count_of (below place (at + 1) s.items) class ≡ count_of part.items class + count_of (below place at s.items) class
+  more_below law at {s} {part} is =
+      parted law (below place (at + 1) s.items) part.items (below place at s.items) (λ q. eqb (place q) at)
+      (λ q.
+      own_items is q ∙ is_own (get s.items q) (eqb (place q) at) (ltb (place q) at) (ltb (place q) (at + 1)) (below_next (place q) at)
+      ∙ ap (λ o. cond (eqb (place q) at) o None) (sym (get_kept s.items (λ q. ltb (place q) (at + 1)) q)))
+      (λ q.
+      get_kept s.items (λ q. ltb (place q) at) q
+      ∙ is_below (get s.items q) (eqb (place q) at) (ltb (place q) at) (ltb (place q) (at + 1)) (below_next (place q) at) (below_not_here (place q) at)
+      ∙ ap (λ o. cond (not (eqb (place q) at)) o None) (sym (get_kept s.items (λ q. ltb (place q) (at + 1)) q)))
+
+  -- the items of all shelves have the chunks of all items
+  counted_from : PartsLaw → 0 < count → (class at : ℕ) (rest : List ShelfState) → at + length rest ≡ count
+      → ((k : ℕ) (shelf : ShelfState) → slice_get rest k ≡ Some shelf → IsShelfOf hash_of count state (at + k) shelf.content)
+      → count_of (below place at state.items) class + count_in rest class ≡ count_of state.items class
+  counted_from law some class at [] long each =
+      let all : count_of (below place at state.items) class ≡ count_of state.items class = ap (λ (m : Items). count_of m class) (all_below at some (omega (arith, long)) state.items) in
+      omega (arith, all)
+  counted_from law some class at (shelf ∷ rest) long each =
+      let here : IsShelfOf hash_of count state at shelf.content = subst (λ n. IsShelfOf hash_of count state n shelf.content) (omega arith) (each 0 shelf refl) in
+      let one = more_below law at here class in
+      let behind = counted_from law some class (at + 1) rest (omega (arith, long))
+      (λ k s there. subst (λ n. IsShelfOf hash_of count state n s.content) (omega arith) (each (suc k) s there)) in
+      omega (arith, one, behind)
+
+  pub counted_all : PartsLaw → ((class : ℕ) → count_of maps.empty class ≡ 0) → {list : List ShelfState} {desk : DeskState} → ArePartsOf hash_of state list count desk → (class : ℕ) → IsClass class → out_of desk.slab class ≡ count_in list class
+  counted_all law none_of {list} parts class is =
+      let all = counted_from law parts.some_shelf class 0 list (omega (arith, parts.number)) (λ k shelf there. (let same : k ≡ 0 + k = omega arith in subst (λ n. IsShelfOf hash_of count state n shelf.content) same (parts.each k shelf there))) in
+      let none : count_of (below place 0 state.items) class ≡ 0 = ap (λ (m : Items). count_of m class) (none_below state.items) ∙ none_of class in
+      omega (arith, all, none, parts.account.out class is)
+
   -- one shelf more is flushed
   module _ {at : ℕ} {list : List ShelfState} {desk : DeskState} {shelf : ShelfState} (law : PartsLaw)
       (swept : AreFlushedTo hash_of count delay now state at list desk) (here : slice_get list at ≡ Some shelf) where
     fits : IsShelfOf hash_of count state at shelf.content
     fits = subst (λ b. IsShelfOf hash_of count (cond b after state) at shelf.content) (le-ltb at at (omega arith)) (swept.each at shelf here)
 
-    more_below : {s : Plain} {part : ShelfContent} → IsShelfOf hash_of count s at part → (class : ℕ)
-        → count_of (below place (at + 1) s.items) class ≡ count_of part.items class + count_of (below place at s.items) class
-    more_below {s} {part} is =
-        parted law (below place (at + 1) s.items) part.items (below place at s.items) (λ q. eqb (place q) at)
-        (λ q.
-        own_items is q ∙ is_own (get s.items q) (eqb (place q) at) (ltb (place q) at) (ltb (place q) (at + 1)) (below_next (place q) at)
-        ∙ ap (λ o. cond (eqb (place q) at) o None) (sym (get_kept s.items (λ q. ltb (place q) (at + 1)) q)))
-        (λ q.
-        get_kept s.items (λ q. ltb (place q) at) q
-        ∙ is_below (get s.items q) (eqb (place q) at) (ltb (place q) at) (ltb (place q) (at + 1)) (below_next (place q) at) (below_not_here (place q) at)
-        ∙ ap (λ o. cond (not (eqb (place q) at)) o None) (sym (get_kept s.items (λ q. ltb (place q) (at + 1)) q)))
-
     pub out_before : AreOut shelf.content desk
     out_before class is =
         let all = law state.items (λ q. ltb (place q) (at + 1)) class in
-        omega (arith, all, more_below fits class, swept.out class is)
+        omega (arith, all, more_below law at fits class, swept.out class is)
 
     module _ {desk' : DeskState} (shelf' : ShelfState) (flushes : IsFlushed delay now shelf.content shelf'.content) (gives : GivesFor shelf.content.items shelf'.content.items desk desk') where
       fits_after : IsShelfOf hash_of count after at shelf'.content
@@ -284,7 +306,7 @@ module _ (hash_of : List ℕ → ℕ) (count delay now : ℕ) (state : Plain) wh
         next_unique = gives.next_unique ∙ swept.next_unique;
         limit = gives.limit ∙ swept.limit;
         pages = gives.pages ∙ swept.pages;
-        out = λ class is. omega (arith, more_below fits class, more_below fits_after class, swept.out class is, gives.out class is);
+        out = λ class is. omega (arith, more_below law at fits class, more_below law at fits_after class, swept.out class is, gives.out class is);
       }
 
   pub flushed_all : {at : ℕ} {list : List ShelfState} {desk : DeskState} → count ≤ at → AreFlushedTo hash_of count delay now state at list desk → ArePartsOf hash_of after list count desk

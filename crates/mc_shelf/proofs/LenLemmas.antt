@@ -15,6 +15,18 @@ some_entry : (m : EntryMap) (es : List (List ℕ × EntryState)) → entries m �
 some_entry m [] is n more = absurd (let none : len m ≡ 0 = len-entries m ∙ ap (λ (es : List (List ℕ × EntryState)). Rattle.std.proofs.Common.length es) is in omega (arith, none, more))
 some_entry m (p ∷ es) is n more = (p.0, p.1, get-entries m p.0 ∙ ap (find order p.0) is ∙ ap (λ b. cond b (Some p.1) (find order p.0 es)) (same_itself p.0))
 
+some_len : (items : Items) (key : List ℕ) (item : Entry) → get items key ≡ Some item → 1 ≤ len items
+some_len items key item is = elim (len items) as (λ k. len items ≡ k → 1 ≤ k) [
+  | zero ↦ λ none. absurd (none-some item (sym (Rattle.std.specs.FinMap.get-empty order key) ∙ ap (λ (i : Items). get i key) (sym (empty_of_len items none)) ∙ is))
+  | suc k ↦ λ some. omega arith
+] refl
+
+-- where an item goes there is one less
+pub one_less : (old new : Items) (key : List ℕ) (item : Entry) → get old key ≡ Some item → new ≡ remove old key → len old ≡ len new + 1
+one_less old new key item there is =
+    let gone : len new ≡ len old - 1 = ap (λ (i : Items). len i) is ∙ len-remove nat_list_cmp_total old key ∙ ap (λ o. cond (is_some o) (len old - 1) (len old)) there in
+    omega (arith, gone, some_len old key item there)
+
 pub len_items : (n : ℕ) (m : EntryMap) → IsKeyed m → len m ≡ n → len (items_in m) ≡ n
 len_items zero m keyed is = ap (λ (k : EntryMap). len (items_in k)) (empty_of_len m is) ∙ ap (λ (i : Items). len i) items-empty ∙ len-empty order Entry
 len_items (suc n) m keyed is =
@@ -29,9 +41,3 @@ len_items (suc n) m keyed is =
     let gone : len (remove (items_in m) e.key) ≡ len (items_in m) - 1 = len-remove nat_list_cmp_total (items_in m) e.key ∙ ap (λ o. cond (is_some o) (len (items_in m) - 1) (len (items_in m))) item in
     let some_there : 1 ≤ len (items_in m) = some_len (items_in m) e.key e.item item in
     omega (arith, same, gone, some_there)
-  where
-    some_len : (items : Items) (key : List ℕ) (item : Entry) → get items key ≡ Some item → 1 ≤ len items
-    some_len items key item is = elim (len items) as (λ k. len items ≡ k → 1 ≤ k) [
-      | zero ↦ λ none. absurd (none-some item (sym (Rattle.std.specs.FinMap.get-empty order key) ∙ ap (λ (i : Items). get i key) (sym (empty_of_len items none)) ∙ is))
-      | suc k ↦ λ some. omega arith
-    ] refl

@@ -22,3 +22,4 @@ pub mod LenLemmas
 pub mod CountLemmas
 pub mod NumberLemmas
 pub mod HitLemmas
+pub mod AsideLemmas

@@ -23,7 +23,7 @@ use Rattle.mc_shelf.specs.declared.plan.Next.{Next}
 use Rattle.mc_shelf.specs.declared.plan.Next.TheVariants.{Answer, Expire, Discard, Write}
 use Rattle.mc_shelf.specs.States.{ShelfContent, DeskState, CanStand, IsAt, IsHash}
 use Rattle.mc_shelf.specs.Plans.{GivesBack, GivesChunks, gives_way, IsDropped, IsOut, IsPut, IsSpent, OthersStay, Takes, back_at, block_beside, counts, dead_chunks, drafted}
-use Rattle.mc_shelf.specs.Plans.{has_need, is_gone, next_of, own_block, reuses, row_at, stood, way_given}
+use Rattle.mc_shelf.specs.Plans.{has_need, is_gone, next_of, reuses, row_at, stood, way_given}
 use Rattle.mc_shelf.proofs.StandLemmas.{InsertCounts, RemoveCounts, base, step_is, at_none, at_dropped, at_put_again, at_wrote, given_taken, out-given, out-taken, out-way}
 use Rattle.mc_shelf.proofs.StandLemmas.{out_found, out_some, pages-way, pages_after, pages_are, pages_stay, room_by_free, room_is, taken_is_slab, weight, weight_here}
 use Rattle.mc_shelf.proofs.NeedLemmas.{needs_same}
@@ -275,27 +275,18 @@ module _ (insert_counts : InsertCounts) (remove_counts : RemoveCounts) (step : K
         let there = need_of_found its_key its_found need both.0 in
         (there.0, there.1, there.2, both.1)
 
-    own_counted : (body : Body) → counts body ≡ true → own_block body (block_of step) ≡ written_block body (block_of step) its_stands
-    own_counted Given e = absurd (true≢false (sym e))
-    own_counted Appended e = absurd (true≢false (sym e))
-    own_counted Prepended e = absurd (true≢false (sym e))
-    own_counted (Counted number) e = refl
-
-    own_given : (body : Body) → body ≡ Given → own_block body (block_of step) ≡ written_block body (block_of step) its_stands
-    own_given body e = ap (λ (b : Body). own_block b (block_of step)) e ∙ ap (λ (b : Body). written_block b (block_of step) its_stands) (sym e)
-
-    -- its block is the step's own, or a number
-    pub own_is : Reuses true → own_block draft.body (block_of step) ≡ block
-    own_is e = by its_stands refl
+    -- its block is a number, or the step's own
+    pub own_is : Reuses true → counts draft.body ≡ false → draft.body ≡ Given
+    own_is e none = by its_stands refl
       where
-        by : (st : Option Entry) → its_stands ≡ st → own_block draft.body (block_of step) ≡ block
-        by None is = own_given draft.body (drafted_is.given is)
-        by (Some old) is = own_counted draft.body (or_left (counts draft.body) (is_gone shelf.cut now its_found) (stands_not_gone shelf.cut now its_found old is) (reused_is e).3)
+        by : (st : Option Entry) → its_stands ≡ st → draft.body ≡ Given
+        by None is = drafted_is.given is
+        by (Some old) is =
+            absurd (true≢false (sym (or_left (counts draft.body) (is_gone shelf.cut now its_found) (stands_not_gone shelf.cut now its_found old is) (reused_is e).3) ∙ none))
 
-    pub need_own : Reuses true → (item : Entry) → its_found ≡ Some item → item_need its_key item ≡ block_need its_key (own_block draft.body (block_of step))
-    need_own e item there =
-        let r = reused_is e in
-        ap (item_need its_key) (same_Some item r.0 (sym there ∙ r.1)) ∙ r.2 ∙ need_charge ∙ ap (block_need its_key) (sym (own_is e))
+    -- where the key's item has the chunks of the need, they are those of the block that is made beside it
+    pub need_beside : (item : Entry) → item_need its_key item ≡ need → item_need its_key item ≡ block_need its_key (block_beside shelf step draft)
+    need_beside item is = is ∙ need_charge ∙ ap (block_need its_key) (sym beside_is)
 
     not_last : (s : Plain) → IsAt its_key shelf desk s → desk.next_unique ≢ 2 ^ 64 - 1 → s.next_unique ≢ 2 ^ 64 - 1
     not_last s at more e = more (sym at.next_unique ∙ e)
@@ -433,14 +424,13 @@ module _ (insert_counts : InsertCounts) (remove_counts : RemoveCounts) (step : K
         (way.0, way.1, way.3, way.4, drafted_is.given none, subst (λ (n : NeedState). gives_way shelf.cut now its_key its_found n ≡ true) need_is (λ i. not (other i) && lt-ltb 0 back some i))
 
     -- the item goes into the chunks of the key's item, where as many others are unused
-    pub item_given : has_need its_key its_found need ≡ true → draft.body ≡ Given → (old : Entry) × (its_found ≡ Some old)
-        × (item_need its_key old ≡ block_need its_key (own_block draft.body (block_of step)))
-    item_given has given =
+    pub item_over : has_need its_key its_found need ≡ true → (old : Entry) × (its_found ≡ Some old) × (item_need its_key old ≡ block_need its_key (block_beside shelf step draft))
+    item_over has =
         let there = need_of_found its_key its_found need has in
-        (there.0, there.1, there.2 ∙ need_charge ∙ ap (block_need its_key) (sym (own_given draft.body given)))
+        (there.0, there.1, need_beside there.0 there.2)
 
-    pub block_given : draft.body ≡ Given → own_block draft.body (block_of step) ≡ block
-    block_given given = own_given draft.body given
+    pub block_given : draft.body ≡ Given → block_of step ≡ block
+    block_given given = ap (λ (b : Body). written_block b (block_of step) its_stands) (sym given)
 
     -- it isn't dead then
     lives_on : Reuses false → has_need its_key its_found need ≡ true → is_gone shelf.cut now its_found ≡ false

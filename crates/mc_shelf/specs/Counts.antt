@@ -39,6 +39,15 @@ pub record KeepsTable (most : ℕ) (old new : ShelfCounts) : Type 0 where
   pub less : new.left ≤ old.left
   pub few : old.left ≤ new.left + most
 
+-- The table is the one that it was, and no entry was moved: of those that are left in an old table no more have gone than items
+-- have.
+pub record DropsAlone (old new : ShelfCounts) : Type 0 where
+  pub homes : new.homes ≡ old.homes
+  pub growing : new.growing ≡ old.growing
+  pub less : new.left ≤ old.left
+  pub fewer : new.items ≤ old.items
+  pub few : old.left + new.items ≤ new.left + old.items
+
 -- No growth has begun, and of the entries that are left in an old table at most so many have gone.
 pub record GoesOn (most : ℕ) (old new : ShelfCounts) : Type 0 where
   pub homes : new.homes ≡ old.homes

@@ -12,3 +12,5 @@ pub mod Stores
 pub mod Numbers
 pub mod Lent
 pub mod Hits
+pub mod Asides
+pub mod Bare

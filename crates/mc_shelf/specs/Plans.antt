@@ -51,13 +51,6 @@ made_block Appended block old = old ++ block
 made_block Prepended block old = block ++ old
 made_block (Counted number) block old = decimal number
 
--- the block that a body makes of a step's alone
-abbrev pub own_block : Body → (block : List ℕ) → List ℕ
-own_block Given block = block
-own_block Appended block = block
-own_block Prepended block = block
-own_block (Counted number) block = decimal number
-
 -- the charge of what a draft puts under a step's key
 abbrev pub charge_of : KeyStep → Option Entry → Draft → ℕ
 charge_of step item draft = charge (key_of step) (written_block draft.body (block_of step) item)
@@ -261,9 +254,14 @@ abbrev pub block_beside : ShelfContent → KeyStep → Draft → List ℕ
 block_beside shelf step draft =
     made_block draft.body (block_of step) (block_in (get shelf.items (key_of step)))
 
--- the item of a write whose block is the step's own
-abbrev pub own_item : Writing → Unwritten → KeyStep → Entry
-own_item write rest step = drafted write.draft (block_of step) rest.unique write.moment
+-- a body whose block may be left to be written: it is the step's own, or comes behind the one that stands
+abbrev pub MayBeLeft : Body → Type 0
+MayBeLeft body = (body ≡ Given) ⊎ (body ≡ Appended)
+
+-- the item of a write whose block is left, beside the item that the shelf has under the step's key
+abbrev pub left_item : Writing → Unwritten → KeyStep → ShelfContent → Entry
+left_item write rest step shelf =
+    drafted write.draft (block_beside shelf step write.draft) rest.unique write.moment
 
 -- a shelf after this item came under a key: with a hash where chunks wait for the item, and else into those of the key's item
 abbrev pub with_item : Option ChunksState → (key : List ℕ) → (own : ℕ) → Entry → ShelfContent → ShelfContent
@@ -277,7 +275,7 @@ with_item (Some chunks) key own item shelf = record shelf {
 abbrev pub written : Writing → Option Unwritten → KeyStep → ShelfContent → ShelfContent
 written write None step shelf = shelf
 written write (Some rest) step shelf =
-    with_item rest.chunks (key_of step) write.hash (own_item write rest step) shelf
+    with_item rest.chunks (key_of step) write.hash (left_item write rest step shelf) shelf
 
 -- the write of a plan
 abbrev pub write_of : Plan → (charge : ℕ) → Draft → Writing
@@ -349,12 +347,15 @@ pub record IsSought (shelf : ShelfContent) (key : List ℕ) (own : ℕ) (found :
   pub hash : IsHash shelf key own
   pub none : found ≡ None → get shelf.items key ≡ None
 
--- what is left of a write can be done: the key is known, and chunks are ready for its block
+-- what is left of a write can be done: the key is known, the block is one that may be left, and chunks are ready for what it
+-- makes beside the key's item
 pub record CanWriteBlock (write : Writing) (rest : Unwritten) (step : KeyStep) (shelf : ShelfState) : Type 0
   where
     pub short : length (key_of step) ≤ 250
     pub sought : IsSought shelf.content (key_of step) write.hash write.place
-    pub ready : IsReady rest.chunks (key_of step) (block_of step) shelf
+    pub body : MayBeLeft write.draft.body
+    pub ready : IsReady rest.chunks (key_of step) (block_beside shelf.content step write.draft)
+        shelf
 
 -- what is left of a step that comes next so can be done; nothing is asked unless it writes
 abbrev pub CanWriteNext : Plan → Next → Unwritten → KeyStep → ShelfState → Type 0

@@ -1,11 +1,19 @@
 //! A step in two parts: what the desk is needed for, and the copying of the step's block, which it isn't.
 
-ghost use Rattle.std.specs.Prelude.{◌≡◌, Some};
+ghost use Rattle.std.specs.Prelude.{◌≡◌, ◌≤◌, length, Some, None};
+ghost use Rattle.mc_command.specs.Commands.{key_of};
+ghost use Rattle.mc_shelf.specs.Counts.{KeepsTable, counts_of};
 ghost use Rattle.mc_shelf.specs.Plans.{
   CanFinish,
   CanWriteBlock,
+  IsSought,
+  LiesInNeed,
+  MayBeLeft,
+  block_beside,
+  drafted,
   finished,
   told_next,
+  with_item,
   write_told,
   written,
 };
@@ -17,8 +25,8 @@ use mc_command::{Draft, KeyStep, Reply};
 use mc_slab::Chunks;
 use std::mem;
 
-/// What is left of a write whose block is the step's own: a large block of a new key, or a block of any size that goes into the
-/// chunks of the key's item.
+/// What is left of a write: a large block of a new key, or a block of any size that goes into the chunks of the key's item, over
+/// that one's block or behind it.
 #[derive(Drop)]
 pub struct Unwritten {
     /// The number that it drew.
@@ -52,12 +60,15 @@ impl Begun {
 
 impl Shelf {
     /// Does what is left of a plan's step that was begun at this shelf, with no other step between, and answers it; the plan
-    /// has no answer then. Copies the block of an item that is written, and takes no memory.
+    /// has no answer then. Copies the step's block where that is left to be written, and takes no memory. No entry of an
+    /// old table is moved.
+    #[tactic(auto, using(crate::proofs::CountLemmas::table_rules))]
     pub fn finish(&mut self, plan: &mut Plan<'_>, begun: Begun, step: &KeyStep<'_>) -> Reply
         requires { CanFinish plan.old begun step.now self.old }
         ensures reply { result ≡ told_next plan.old.next begun.entry }
         ensures content { self.new.content
             ≡ finished plan.old begun.entry step.now self.old.content }
+        ensures table { KeepsTable 0 (counts_of self.old) (counts_of self.new) }
     {
         match &mut plan.next {
             Next::Answer(reply) => mem::replace(reply, Reply::Miss),
@@ -80,11 +91,12 @@ impl Shelf {
         }
     }
 
-    /// Writes the item of a write with the step's block.
+    /// Writes the item of a write whose block is left.
     fn write_block(&mut self, write: &Write, rest: Unwritten, step: &KeyStep<'_>)
         requires { CanWriteBlock write.now rest step.now self.old }
-        ensures { self.new.content
+        ensures content { self.new.content
             ≡ written write.now (Some rest.entry) step.now self.old.content }
+        ensures table { KeepsTable 0 (counts_of self.old) (counts_of self.new) }
     {
         let Unwritten { unique, chunks } = rest;
         match chunks {
@@ -92,7 +104,27 @@ impl Shelf {
                 let entry = write.entry_of(chunks, unique, step.key(), step.block());
                 self.index.insert_reserved(entry);
             }
-            None => self.overwrite(write, unique, step.key(), step.block()),
+            None => self.write_over(write, unique, step),
+        }
+    }
+
+    /// Writes the item of a write in the chunks of the key's item: the step's block over that one's, or behind it.
+    fn write_over(&mut self, write: &Write, unique: u64, step: &KeyStep<'_>)
+        requires short { length (key_of step.now) ≤ 250 }
+        requires sought { IsSought self.old.content (key_of step.now)
+            write.now.hash write.now.place }
+        requires body { MayBeLeft write.now.draft.body }
+        requires there { LiesInNeed (key_of step.now)
+            (block_beside self.old.content step.now write.now.draft) self.old }
+        ensures table { KeepsTable 0 (counts_of self.old) (counts_of self.new) }
+        ensures content { self.new.content ≡ with_item None (key_of step.now) write.now.hash
+            (drafted write.now.draft (block_beside self.old.content step.now write.now.draft)
+            unique write.now.moment) self.old.content }
+    {
+        if write.appends() {
+            self.extend(write, unique, step.key(), step.block());
+        } else {
+            self.overwrite(write, unique, step.key(), step.block());
         }
     }
 }

@@ -1,6 +1,7 @@
 //! What the shelves of a store share.
 
 ghost use Rattle.std.specs.Prelude.{◌≡◌, ◌+◌, ◌-◌, ◌^◌, ◌<◌, ◌≤◌, true, false, None, IfOk, IfErr, IfSome, OnOk, OnErr};
+ghost use Rattle.std.specs.Prelude.{ℕ, List};
 ghost use Rattle.mc_slab.specs.Needs.{IsNeed};
 ghost use Rattle.mc_slab.specs.Chunks.{AreChunksOf};
 ghost use Rattle.mc_slab.specs.Slabs.{
@@ -16,9 +17,14 @@ ghost use Rattle.mc_slab.specs.Slabs.{
   untouched,
   unused,
 };
+ghost use Rattle.mc_command.specs.Plain.{Plain};
+ghost use Rattle.mc_shelf.specs.Asides.{none_out};
+ghost use Rattle.mc_shelf.specs.Parts.{ArePartsOf};
 
-use mc_command::StepFault;
-use mc_slab::{Account, Chunks, Class, Need, Pages, Slab};
+use crate::collector::Collector;
+use crate::shelf::Shelf;
+use mc_command::{StepFault, counts_follow};
+use mc_slab::{Account, Chunks, Class, Need, Pages};
 use std::alloc::{AllocError, Global};
 use std::marker::Model;
 
@@ -26,7 +32,7 @@ use std::marker::Model;
 /// account and the number.
 #[derive(Drop)]
 pub struct Desk {
-    slab: Slab,
+    slab: Collector,
     next_unique: u64,
 }
 
@@ -62,7 +68,7 @@ impl Desk {
             desk ≡ record { slab = untouched pages; next_unique = next }) }
     {
         Ok(Desk {
-            slab: Slab::new(alloc, pages)?,
+            slab: Collector::new(alloc, pages)?,
             next_unique: next,
         })
     }
@@ -94,7 +100,8 @@ impl Desk {
         self.next_unique() == u64::MAX
     }
 
-    /// Draws the next number, where they are not spent.
+    /// Draws the next number, where they are not spent. Of shelves that lie aside a few items are collected, as each write draws
+    /// a number.
     pub(crate) fn draw(&mut self) -> u64
         requires { self.old.next_unique < 2 ^ 64 - 1 }
         ensures number { result ≡ self.old.next_unique }
@@ -102,6 +109,7 @@ impl Desk {
         ensures drawn { self.new
             ≡ record self.old { next_unique = self.old.next_unique + 1 } }
     {
+        self.slab.collect();
         let number = self.next_unique;
         self.next_unique += 1;
         number
@@ -246,5 +254,19 @@ impl Desk {
         ensures slab { IsSlab self.old.slab }
     {
         self.slab.give_all(chunks);
+    }
+
+    /// Lays aside shelves that are with this desk the parts of a state: no chunk is out then. It takes no memory. The cost
+    /// doesn't grow with their items: the chunks of these are free, and are collected later, a few with each write, and as many as
+    /// it takes before a class gets a page. Of shelves that lie aside already those with items stay so as far as the vector has
+    /// room for them; for want of room items are collected at once.
+    pub fn lay_aside(&mut self, shelves: Vec<Shelf>)
+        requires { (hash_of : List ℕ → ℕ) × (state : Plain) × (count : ℕ)
+            × ArePartsOf hash_of state shelves.items count self.old }
+        ensures none { self.new ≡ record self.old { slab = none_out self.old.slab } }
+        ensures slab { IsSlab self.new.slab }
+    {
+        counts_follow();
+        self.slab.lay_aside(shelves);
     }
 }

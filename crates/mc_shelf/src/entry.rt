@@ -130,6 +130,32 @@ impl Entry {
         });
     }
 
+    /// Puts bytes behind its block, which stays where it lies, and sets its flags, its expiry, its unique number and the moment of
+    /// the write. Its chunks are those that the charge needs then. The key and its hash stay.
+    pub(crate) fn extend(
+        &mut self,
+        more: &[u8],
+        flags: u32,
+        expiry: Expiry,
+        unique: u64,
+        updated: Moment,
+    )
+        requires { item_need self.old.key self.old.item
+            ≡ need_for (charge self.old.key (self.old.item.block ++ more.now)) }
+        ensures { self.new ≡ record self.old {
+          item = record {
+            flags = flags;
+            expiry = expiry;
+            block = self.old.item.block ++ more.now;
+            unique = unique;
+            updated = updated;
+          };
+        } }
+    {
+        self.lies_in_need();
+        self.item.extend(more, flags, expiry, unique, updated);
+    }
+
     /// Reads when its block was last written.
     pub fn updated(&self) -> Moment
         ensures { result ≡ self.now.item.updated }

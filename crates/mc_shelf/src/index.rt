@@ -1,6 +1,6 @@
 //! Entries, found by their keys.
 
-ghost use Rattle.std.specs.Prelude.{◌≡◌, ℕ, ◌+◌, ◌-◌, ◌^◌, ◌<◌, ◌≤◌, List, length, min};
+ghost use Rattle.std.specs.Prelude.{◌≡◌, ℕ, ◌+◌, ◌-◌, ◌^◌, ◌<◌, ◌≤◌, ◌++◌, List, length, min};
 ghost use Rattle.std.specs.Prelude.{Some, None, IfOk, IfSome, OnOk, nat_lt, option_copied, true, false};
 ghost use Rattle.std.specs.FinMap.{empty, get, len};
 ghost use Rattle.mc_slab.specs.Needs.{need_for};
@@ -218,6 +218,25 @@ impl Index {
         });
     }
 
+    /// Puts a block behind the one of the item at a place, with what a write brings beside it, in its chunks, which are those that
+    /// the charge needs then. It copies this block alone, and takes no memory.
+    pub(crate) fn extend<'a>(&mut self, place: Place, write: &Write, unique: u64, block: &'a [u8])
+        requires filled { (key : List ℕ) × IsKeyAt self.old key place }
+        requires need { (entry : EntryState) → entry_at self.old place ≡ Some entry →
+            item_need entry.key entry.item
+            ≡ need_for (charge entry.key (entry.item.block ++ block.now)) }
+        ensures { (key : List ℕ) (at : IsKeyAt self.old key place) →
+            IsChanged self.old self.new key (drafted write.now.draft
+            (at.entry.item.block ++ block.now) unique write.now.moment) }
+    {
+        let Write { moment, draft, .. } = *write;
+        self.soonest = self.soonest.with(draft.expiry, moment);
+        self.entries.update(place, |mut entry| {
+            entry.extend(block, draft.flags, draft.expiry, unique, moment);
+            (entry, ())
+        });
+    }
+
     /// Takes the entry at a place out. It takes no memory.
     pub(crate) fn remove(&mut self, place: Place) -> Entry
         requires { IsFilled self.old place }
@@ -240,6 +259,18 @@ impl Index {
         ensures fits { IfSome result (λ found. found.0 + 1 < 2 ^ 64) }
     {
         self.entries.filled_from(at)
+    }
+
+    /// Finds an entry: the first whose number is at or above `at`, or the first of all where none is. Answers the number and the
+    /// place, and none only where no entry is there.
+    pub(crate) fn any_from(&self, at: usize) -> Option<(usize, Place)>
+        ensures filled { IfSome result (λ found. IsFilled self.now found.1) }
+        ensures none { result ≡ None → items_of self.now ≡ empty }
+    {
+        match self.filled_from(at) {
+            Some(found) => Some(found),
+            None => self.filled_from(0),
+        }
     }
 
     /// Gives the hash of the entry at a place.

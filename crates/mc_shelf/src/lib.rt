@@ -1,7 +1,9 @@
 //! The store of one thread, by shelves: the items of some keys each, and the desk that they share.
 #![tactic(auto)]
 
+mod aside;
 mod begun;
+mod collector;
 #[cfg(test)]
 mod compare_tests;
 mod counts;

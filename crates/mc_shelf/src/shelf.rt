@@ -10,7 +10,7 @@ ghost use Rattle.mc_command.specs.declared.step.KeyStep.{KeyStep as Step};
 ghost use Rattle.mc_command.specs.declared.row.Row.TheVariants.{Reads};
 ghost use Rattle.mc_command.specs.Commands.{key_of};
 ghost use Rattle.mc_command.specs.Plain.{Entry as Item};
-ghost use Rattle.mc_shelf.specs.Counts.{FitTogether, MovesFew, counts_of};
+ghost use Rattle.mc_shelf.specs.Counts.{DropsAlone, FitTogether, KeepsTable, MovesFew, counts_of};
 ghost use Rattle.mc_shelf.specs.States.{CanStand, nothing_held};
 ghost use Rattle.mc_shelf.specs.Numbers.{AreCounted, HasPlaces};
 ghost use Rattle.mc_shelf.specs.Plans.{
@@ -151,7 +151,8 @@ impl Shelf {
     /// with the key, where it has the key.
     ///
     /// Numbers and room are asked before memory is: spent numbers, an item that is too large and one that finds no chunk are
-    /// always answered so.
+    /// always answered so. A growth of its table may begin, and of an old table 8 entries are moved at most, beside the key's own,
+    /// which may go.
     pub fn step(
         &mut self,
         alloc: Global,
@@ -170,6 +171,7 @@ impl Shelf {
             ((self.new.content ≡ self.old.content) × (desk.new ≡ desk.old)) }
         ensures refused { result ≡ Err StepFault.NoMemory
             → MayWantMemory step.now now self.old.content desk.old }
+        ensures moves { MovesFew 9 (counts_of self.old) (counts_of self.new) }
     {
         let plan = self.plan(alloc, step, hash, now)?;
         counts_follow();
@@ -204,11 +206,13 @@ impl Shelf {
         Ok(plan)
     }
 
-    /// Answers a step that needs no desk. It takes no memory.
+    /// Answers a step that needs no desk. It takes no memory, and no entry of an old table is moved.
+    #[tactic(auto, using(crate::proofs::CountLemmas::table_rules))]
     pub fn settle(&mut self, plan: Plan<'_>) -> Reply
         requires { CanSettle plan self.old.content }
-        ensures { (step : Step) (now : ℕ) → IsPlan plan.entry self.old.content step now →
+        ensures told { (step : Step) (now : ℕ) → IsPlan plan.entry self.old.content step now →
             IsSettled step now plan.entry.hash self.old.content result self.new.content }
+        ensures table { KeepsTable 0 (counts_of self.old) (counts_of self.new) }
     {
         counts_follow();
         let Plan {
@@ -230,7 +234,9 @@ impl Shelf {
     }
 
     /// Takes the step of a plan, and answers it: begins it, and finishes it. Pages that the slab gives to a class are all that
-    /// take memory. Refused, or with the unique numbers spent, the shelf holds what it held, and the desk is as it was.
+    /// take memory. Refused, or with the unique numbers spent, the shelf holds what it held, and the desk is as it was. No entry
+    /// of an old table is moved, though the key's own may go.
+    #[tactic(auto, using(crate::proofs::CountLemmas::table_rules))]
     pub fn apply(
         &mut self,
         alloc: Global,
@@ -250,6 +256,7 @@ impl Shelf {
         ensures refused { result ≡ Err StepFault.NoMemory
             → NeedsPages plan.entry.next self.old.content (key_of step.now) plan.entry.moment
             desk.old }
+        ensures table { KeepsTable 1 (counts_of self.old) (counts_of self.new) }
         ensures err { OnErr result
             ((self.new.content ≡ self.old.content) × (desk.new ≡ desk.old)) }
     {
@@ -297,7 +304,9 @@ impl Shelf {
     /// with it.
     ///
     /// Pages that the slab gives to a class are all that take memory; they are those that are brought, where so many of that
-    /// class are. Refused, or with the unique numbers spent, the shelf holds what it held, and the desk is as it was.
+    /// class are. Refused, or with the unique numbers spent, the shelf holds what it held, and the desk is as it was. No entry of
+    /// an old table is moved, though the key's own may go.
+    #[tactic(auto, using(crate::proofs::CountLemmas::table_rules))]
     pub fn begin(
         &mut self,
         alloc: Global,
@@ -319,6 +328,7 @@ impl Shelf {
             ↔ ((writes plan.now.next ≡ true) × has_no_number desk.old) }
         ensures refused { result ≡ Err StepFault.NoMemory → NeedsPages plan.now.next
             self.old.content (key_of step.now) plan.now.moment desk.old }
+        ensures table { KeepsTable 1 (counts_of self.old) (counts_of self.new) }
         ensures err { OnErr result
             ((self.new.content ≡ self.old.content) × (desk.new ≡ desk.old)) }
     {
@@ -347,11 +357,12 @@ impl Shelf {
     }
 
     /// Drops the items that are dead at a moment, and gives their chunks back. It takes no memory. The cost is that of one
-    /// pass over the items, and where none may be dead it walks none.
+    /// pass over the items, and where none may be dead it walks none. No entry is moved.
     pub fn purge(&mut self, now: Moment, desk: &mut Desk)
         requires { AreOut self.old.content desk.old }
         ensures shelf { IsPurged now self.old.content self.new.content }
         ensures desk { GivesFor self.old.content.items self.new.content.items desk.old desk.new }
+        ensures table { DropsAlone (counts_of self.old) (counts_of self.new) }
     {
         counts_follow();
         if !self.index.may_have_dead(self.cut, now) {
@@ -373,12 +384,13 @@ impl Shelf {
     }
 
     /// Drops all items, and gives their chunks back. It takes no memory. The cost is that of one pass over the items, and where
-    /// there are none it walks nothing.
+    /// there are none it walks nothing. No entry is moved.
     pub fn clear(&mut self, desk: &mut Desk)
         requires { AreOut self.old.content desk.old }
         ensures shelf { self.new.content
             ≡ record self.old.content { items = empty; hashes = empty } }
         ensures desk { GivesFor self.old.content.items self.new.content.items desk.old desk.new }
+        ensures table { DropsAlone (counts_of self.old) (counts_of self.new) }
     {
         counts_follow();
         if self.index.is_empty() {
@@ -553,11 +565,13 @@ impl Shelf {
     }
 
     /// Sets the expiry of a key's item.
+    #[tactic(auto, using(crate::proofs::CountLemmas::table_rules))]
     pub(crate) fn expire(&mut self, place: Option<Place>, hash: u64, key: &[u8], expiry: Expiry)
         requires { IsKnown self.old.content key.now hash place }
-        ensures { (item : Item) → get self.old.content.items key.now ≡ Some item →
+        ensures put { (item : Item) → get self.old.content.items key.now ≡ Some item →
             IsPut key.now hash self.old.content self.new.content
             (record item { expiry = expiry }) }
+        ensures table { KeepsTable 0 (counts_of self.old) (counts_of self.new) }
     {
         if let Some(place) = self.index.find_again(place, hash, key) {
             self.index.set_expiry(place, expiry);
@@ -565,6 +579,7 @@ impl Shelf {
     }
 
     /// Drops a key's item, and gives its chunks back.
+    #[tactic(auto, using(crate::proofs::CountLemmas::table_rules))]
     pub(crate) fn discard(&mut self, place: Option<Place>, hash: u64, key: &[u8], desk: &mut Desk)
         requires known { IsKnown self.old.content key.now hash place }
         requires out { IsOut key.now self.old.content desk.old }
@@ -572,6 +587,7 @@ impl Shelf {
             IsDropped key.now hash self.old.content self.new.content }
         ensures given { GivesBack key.now (get self.old.content.items key.now) desk.old desk.new }
         ensures room { self.old.room ≤ self.new.room }
+        ensures table { KeepsTable 1 (counts_of self.old) (counts_of self.new) }
     {
         if let Some(place) = self.index.find_again(place, hash, key) {
             let entry = self.index.remove(place);

@@ -8,6 +8,7 @@ ghost use Rattle.mc_slab.specs.Slabs.{WantsPages, unused};
 ghost use Rattle.mc_slab.specs.Chunks.{need_in};
 ghost use Rattle.mc_command.specs.Commands.{key_of};
 ghost use Rattle.mc_command.specs.Plain.{block_of, charge, write_reply};
+ghost use Rattle.mc_shelf.specs.Counts.{KeepsTable, counts_of};
 ghost use Rattle.mc_shelf.specs.States.{CanStand};
 ghost use Rattle.mc_shelf.specs.Plans as plans;
 ghost use Rattle.mc_shelf.specs.Plans.{
@@ -24,6 +25,7 @@ ghost use Rattle.mc_shelf.specs.Plans.{
   IsWriteOf,
   IsSought,
   LiesInNeed,
+  MayBeLeft,
   NeedsPages,
   PutsEntry,
   Suits,
@@ -36,7 +38,6 @@ ghost use Rattle.mc_shelf.specs.Plans.{
   item_in,
   left_of,
   made_block,
-  own_block,
   reuses,
   with_item,
   write_told,
@@ -87,15 +88,26 @@ impl Write {
     }
 
     /// Returns whether the item may go into the chunks of the key's item all the same: they are those that it needs, as many
-    /// others are unused, and the block is the step's own.
+    /// others are unused, and the block is the step's own, or comes behind the one that stands.
     fn goes_over(&self, same: bool, need: Need, desk: &Desk) -> bool
         ensures same { result ≡ true → same ≡ true }
-        ensures given { result ≡ true → self.now.draft.body ≡ Body.Given }
+        ensures body { result ≡ true → MayBeLeft self.now.draft.body }
         ensures unused { result ≡ true → need.count ≤ unused desk.now.slab need.class }
     {
         match self.draft.body {
-            Body::Given => same && desk.has_unused(need),
-            Body::Appended | Body::Prepended | Body::Counted(_) => false,
+            Body::Given | Body::Appended => same && desk.has_unused(need),
+            Body::Prepended | Body::Counted(_) => false,
+        }
+    }
+
+    /// Returns whether the step's block comes behind the one that stands.
+    pub(crate) fn appends(&self) -> bool
+        ensures yes { result ≡ true → self.now.draft.body ≡ Body.Appended }
+        ensures no { result ≡ false → self.now.draft.body ≡ Body.Appended → ⊥ }
+    {
+        match self.draft.body {
+            Body::Appended => true,
+            Body::Given | Body::Prepended | Body::Counted(_) => false,
         }
     }
 
@@ -312,6 +324,7 @@ pub(crate) fn dead_chunks(found: Option<&Entry>, need: Need, cut: Option<u64>, n
 
 impl Shelf {
     /// Begins to write the item of a step, in the chunks of the key's item or in others.
+    #[tactic(auto, using(crate::proofs::CountLemmas::table_rules))]
     pub(crate) fn write(
         &mut self,
         alloc: Global,
@@ -335,6 +348,7 @@ impl Shelf {
         ensures refused { result ≡ Err StepFault.NoMemory
             → NeedsPages (Next.Write write.now.charge write.now.draft) self.old.content
             (key_of step.now) write.now.moment desk.old }
+        ensures table { KeepsTable 1 (counts_of self.old) (counts_of self.new) }
         ensures err { OnErr result
             ((self.new.content ≡ self.old.content) × (desk.new ≡ desk.old)) }
     {
@@ -393,6 +407,7 @@ impl Shelf {
     /// Puts the item of a write in the place of a dead one of its key, which gives way to it: that one's chunks go back, and
     /// some of them or all serve the write. Pages that the class wants then are all that takes memory. Refused, the shelf and the
     /// desk are as they were.
+    #[tactic(auto, using(crate::proofs::CountLemmas::table_rules))]
     fn give_way(
         &mut self,
         alloc: Global,
@@ -415,6 +430,7 @@ impl Shelf {
             IfSome (left_of begun) (λ rest. CanWriteBlock write.now rest step.now self.new)) }
         ensures fault { IfErr result (λ fault. fault ≡ StepFault.NoMemory) }
         ensures pages { OnErr result (WantsPages desk.old.slab need back) }
+        ensures table { KeepsTable 1 (counts_of self.old) (counts_of self.new) }
         ensures err { OnErr result
             ((self.new.content ≡ self.old.content) × (desk.new ≡ desk.old)) }
     {
@@ -440,19 +456,23 @@ impl Shelf {
         Ok(self.put(&write, unique, chunks, step, desk))
     }
 
-    /// Writes a number in the chunks of the key's item. The step's own block is left to be written there.
+    /// Writes a number in the chunks of the key's item. The step's block, which is the whole then, is left to be written there.
+    #[tactic(auto, using(crate::proofs::CountLemmas::table_rules))]
     fn rewrite(&mut self, write: &Write, unique: u64, step: &KeyStep<'_>) -> Begun
         requires key { length (key_of step.now) ≤ 250 }
         requires known { IsKnown self.old.content (key_of step.now) write.now.hash write.now.place }
+        requires own { plans.counts write.now.draft.body ≡ false →
+            write.now.draft.body ≡ Body.Given }
         requires there { LiesInNeed (key_of step.now)
-            (own_block write.now.draft.body (block_of step.now)) self.old }
+            (block_beside self.old.content step.now write.now.draft) self.old }
         ensures told { write_told write.now.draft.body result ≡ write_reply write.now.draft.body }
         ensures put { IsPut (key_of step.now) write.now.hash self.old.content
             (written write.now (left_of result) step.now self.new.content)
-            (drafted write.now.draft (own_block write.now.draft.body (block_of step.now))
+            (drafted write.now.draft (block_beside self.old.content step.now write.now.draft)
             unique write.now.moment) }
         ensures left { IfSome (left_of result) (λ rest.
             CanWriteBlock write.now rest step.now self.new) }
+        ensures table { KeepsTable 0 (counts_of self.old) (counts_of self.new) }
     {
         match write.draft.body {
             Body::Given | Body::Appended | Body::Prepended => Begun::Left(Unwritten {
@@ -469,6 +489,7 @@ impl Shelf {
     }
 
     /// Writes a block in the chunks of a key's item.
+    #[tactic(auto, using(crate::proofs::CountLemmas::table_rules))]
     pub(crate) fn overwrite<'a>(
         &mut self,
         write: &Write,
@@ -479,11 +500,29 @@ impl Shelf {
         requires key { length key.now ≤ 250 }
         requires sought { IsSought self.old.content key.now write.now.hash write.now.place }
         requires there { LiesInNeed key.now block.now self.old }
-        ensures { self.new.content ≡ with_item None key.now write.now.hash
+        ensures content { self.new.content ≡ with_item None key.now write.now.hash
             (drafted write.now.draft block.now unique write.now.moment) self.old.content }
+        ensures table { KeepsTable 0 (counts_of self.old) (counts_of self.new) }
     {
         if let Some(place) = self.index.find_again(write.place, write.hash, key) {
             self.index.rewrite(place, write, unique, key, block);
+        }
+    }
+
+    /// Puts a block behind the one of a key's item, in its chunks.
+    #[tactic(auto, using(crate::proofs::CountLemmas::table_rules))]
+    pub(crate) fn extend<'a>(&mut self, write: &Write, unique: u64, key: &[u8], block: &'a [u8])
+        requires sought { IsSought self.old.content key.now write.now.hash write.now.place }
+        requires there { LiesInNeed key.now
+            (block_in (get self.old.content.items key.now) ++ block.now) self.old }
+        ensures table { KeepsTable 0 (counts_of self.old) (counts_of self.new) }
+        ensures content { self.new.content ≡ with_item None key.now write.now.hash
+            (drafted write.now.draft
+            (block_in (get self.old.content.items key.now) ++ block.now)
+            unique write.now.moment) self.old.content }
+    {
+        if let Some(place) = self.index.find_again(write.place, write.hash, key) {
+            self.index.extend(place, write, unique, block);
         }
     }
 
@@ -509,6 +548,7 @@ impl Shelf {
             desk.old desk.new }
         ensures left { IfSome (left_of result) (λ rest.
             CanWriteBlock write.now rest step.now self.new) }
+        ensures table { KeepsTable 0 (counts_of self.old) (counts_of self.new) }
     {
         if write.leaves_block(step) {
             return Begun::Left(self.begin_put(write, unique, chunks, step, desk));
@@ -519,6 +559,7 @@ impl Shelf {
 
     /// Puts the item of a write into chunks and under its key, but for the bytes of its block. Those of the item that stood there
     /// go back. A new key's chunks wait for the whole.
+    #[tactic(auto, using(crate::proofs::CountLemmas::table_rules))]
     fn begin_put(
         &mut self,
         write: &Write,
@@ -528,6 +569,7 @@ impl Shelf {
         desk: &mut Desk,
     ) -> Unwritten
         requires can { CanPut write.now step.now self.old desk.old }
+        requires given { write.now.draft.body ≡ Body.Given }
         requires chunks { Suits chunks (key_of step.now) (block_of step.now) }
         ensures put { IsPut (key_of step.now) write.now.hash self.old.content
             (written write.now (Some result) step.now self.new.content)
@@ -535,6 +577,7 @@ impl Shelf {
         ensures given { GivesBack (key_of step.now) (get self.old.content.items (key_of step.now))
             desk.old desk.new }
         ensures left { CanWriteBlock write.now result step.now self.new }
+        ensures table { KeepsTable 0 (counts_of self.old) (counts_of self.new) }
     {
         let place = self.index.find_again(write.place, write.hash, step.key());
         match place {
@@ -571,6 +614,7 @@ impl Shelf {
             unique write.now.moment) }
         ensures given { GivesBack (key_of step.now) (get self.old.content.items (key_of step.now))
             desk.old desk.new }
+        ensures table { KeepsTable 0 (counts_of self.old) (counts_of self.new) }
     {
         let place = self.index.find_again(write.place, write.hash, step.key());
         let old = self.index.found(place);
@@ -587,6 +631,7 @@ impl Shelf {
     }
 
     /// Drops the item of a write's key if it is dead.
+    #[tactic(auto, using(crate::proofs::CountLemmas::table_rules))]
     fn drop_dead(&mut self, write: &Write, key: &[u8], desk: &mut Desk)
         requires known { IsKnown self.old.content key.now write.now.hash write.now.place }
         requires out { IsOut key.now self.old.content desk.old }
@@ -597,6 +642,7 @@ impl Shelf {
         ensures alive { is_gone self.old.content.cut write.now.moment
             (get self.old.content.items key.now) ≡ false →
             ((self.new.content ≡ self.old.content) × (desk.new ≡ desk.old)) }
+        ensures table { KeepsTable 1 (counts_of self.old) (counts_of self.new) }
     {
         if is_gone(
             self.entry(write.place, write.hash, key),

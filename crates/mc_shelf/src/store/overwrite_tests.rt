@@ -1,5 +1,5 @@
-//! Sets of keys that stand, whose items are written over: where their class has a free chunk, the new item goes into the chunk of
-//! the old one. Where an allocation is refused the store answers as before, and takes the step when it is asked again.
+//! Sets of keys that stand, whose items are written over, and what is appended to them: where their class has a free chunk, the new
+//! item goes into the chunk of the old one. Where an allocation is refused the store answers as before, and takes the step when it is asked again.
 
 ghost use Rattle.std.specs.Prelude.{◌≤◌, length};
 
@@ -157,6 +157,95 @@ fn no_chunk_is_free_and_a_page_comes(rt: HostRuntime) -> Result<(), Fail> {
         (1000, b"k", Ask::Get, Want::Hit(2, larger)),
         set(1000, b"k", 0, large, "stored"),
         (1000, b"k", Ask::Get, Want::Hit(3, large)),
+    ];
+    let mut store = open(rt.alloc(), 2)?;
+    answers(&rt, rt.alloc(), &mut store, &rows)?;
+    assert_eq!(rt; account(&store, 600_000), (2, 1));
+    Ok(())
+}
+
+/// A block of 49 bytes, of whose middle 47 make a chunk of the least class with a key of one.
+const WHOLE: &[u8] = b"daxxxxxxxxxxxxxxxxxxxxxxxxxxxxxxxxxxxxxxxxxxxxxbc";
+
+/// Makes the row of a join.
+fn join<'a>(seconds: u64, verb: Verb, block: &'a [u8], told: &'static str) -> Row<'a> {
+    (seconds, b"k", Ask::Store(verb, 0, block), Want::Told(told))
+}
+
+/// What is appended stays in the chunk up to its last byte. One byte more takes a chunk of the next class, and the first is free.
+#[test]
+fn joins_end_where_a_chunk_does(rt: HostRuntime) -> Result<(), Fail> {
+    let rows: [(Row<'_>, u32, u32); 9] = [
+        (set(1000, b"k", 0, &WHOLE[1..2], "stored"), 1, 0),
+        (join(1000, Verb::Append, &WHOLE[2..47], "stored"), 1, 0),
+        (join(1000, Verb::Append, &WHOLE[47..48], "stored"), 1, 0),
+        (join(1000, Verb::Append, b"", "stored"), 1, 0),
+        ((1000, b"k", Ask::Get, Want::Hit(4, &WHOLE[1..48])), 1, 0),
+        (join(1000, Verb::Append, &WHOLE[48..49], "stored"), 0, 1),
+        ((1000, b"k", Ask::Get, Want::Hit(5, &WHOLE[1..49])), 0, 1),
+        (join(1000, Verb::Prepend, &WHOLE[..1], "stored"), 0, 1),
+        ((1000, b"k", Ask::Get, Want::Hit(6, WHOLE)), 0, 1),
+    ];
+    let alloc = rt.alloc();
+    let mut store = open(alloc, 2)?;
+    for (row, least, next) in rows {
+        answers(&rt, alloc, &mut store, &[row])?;
+        assert_eq!(rt; account(&store, 96).1, least);
+        assert_eq!(rt; account(&store, 120).1, next);
+    }
+    Ok(())
+}
+
+/// A join keeps the expiry, and is of its own moment: a flush at 1020 kills what was joined before then. Nothing is joined to a dead
+/// item.
+#[test]
+fn a_join_is_of_its_moment(rt: HostRuntime) -> Result<(), Fail> {
+    let rows: [Row<'_>; 12] = [
+        set(1000, b"k", 10, b"one", "stored"),
+        join(1009, Verb::Append, b"two", "stored"),
+        (1009, b"k", Ask::Get, Want::Hit(2, b"onetwo")),
+        join(1010, Verb::Append, b"three", "not stored"),
+        (1010, b"k", Ask::Get, Want::Told("miss")),
+        set(1010, b"k", 0, b"x", "stored"),
+        (1010, b"k", Ask::Flush(10), Want::Told("flushed")),
+        join(1019, Verb::Append, b"y", "stored"),
+        (1020, b"k", Ask::Get, Want::Told("miss")),
+        set(1020, b"k", 0, b"z", "stored"),
+        join(1021, Verb::Append, b"!", "stored"),
+        (1021, b"k", Ask::Get, Want::Hit(6, b"z!")),
+    ];
+    let mut store = open(rt.alloc(), 4)?;
+    answers(&rt, rt.alloc(), &mut store, &rows)
+}
+
+/// Where no chunk is free and no page left, a join that would stay in the chunk is refused all the same.
+#[test]
+fn a_join_wants_a_free_chunk(rt: HostRuntime) -> Result<(), Fail> {
+    let large = filled(rt.alloc(), 600_000)?;
+    let large = large.as_slice();
+    let rows: [Row<'_>; 4] = [
+        set(1000, b"k", 0, large, "stored"),
+        join(1000, Verb::Append, b"x", "no chunk"),
+        join(1000, Verb::Append, b"", "no chunk"),
+        (1000, b"k", Ask::Get, Want::Hit(1, large)),
+    ];
+    let mut store = open(rt.alloc(), 1)?;
+    answers(&rt, rt.alloc(), &mut store, &rows)?;
+    assert_eq!(rt; account(&store, 600_000), (1, 1));
+    Ok(())
+}
+
+/// The first join takes the second page. From there on a chunk is free, and joins stay in theirs.
+#[test]
+fn a_join_takes_a_page_once(rt: HostRuntime) -> Result<(), Fail> {
+    let first = filled(rt.alloc(), 600_000)?;
+    let more = filled(rt.alloc(), 50_000)?;
+    let whole = filled(rt.alloc(), 700_000)?;
+    let rows: [Row<'_>; 4] = [
+        set(1000, b"k", 0, first.as_slice(), "stored"),
+        join(1000, Verb::Append, more.as_slice(), "stored"),
+        join(1000, Verb::Append, more.as_slice(), "stored"),
+        (1000, b"k", Ask::Get, Want::Hit(3, whole.as_slice())),
     ];
     let mut store = open(rt.alloc(), 2)?;
     answers(&rt, rt.alloc(), &mut store, &rows)?;

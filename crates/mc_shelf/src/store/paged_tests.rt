@@ -141,3 +141,25 @@ fn joins_go_over_pages(rt: HostRuntime) -> Result<(), Fail> {
     ];
     answers(&rt, rt.alloc(), 6, &rows, (6, 3))
 }
+
+/// What is appended to an item of two pages stays in them while as many are free. One that needs three finds too few.
+#[test]
+fn joins_stay_in_their_pages(rt: HostRuntime) -> Result<(), Fail> {
+    let first = filled(rt.alloc(), 1_500_000)?;
+    let second = filled(rt.alloc(), 400_000)?;
+    let third = filled(rt.alloc(), 100_000)?;
+    let two = filled(rt.alloc(), TWO)?;
+    let rows: [Row<'_>; 5] = [
+        set(1000, b"k", 0, first.as_slice(), "stored"),
+        join(Verb::Append, second.as_slice()),
+        join(Verb::Append, third.as_slice()),
+        (
+            1000,
+            b"k",
+            Ask::Store(Verb::Append, 0, second.as_slice()),
+            Want::Told("no chunk"),
+        ),
+        (1000, b"k", Ask::Get, Want::Hit(3, two.as_slice())),
+    ];
+    answers(&rt, rt.alloc(), 4, &rows, (4, 2))
+}

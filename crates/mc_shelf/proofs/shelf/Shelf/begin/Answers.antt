@@ -40,7 +40,7 @@ returns-in-Expire-clause-took c =
     let next = sym c.in-Expire.is ∙ c.requires.plan.next in
     let key = c.key.ensures in
     let puts = λ (item : Entry) (found : get old.items (key_of step) ≡ Some item). subst (λ (k : List ℕ). IsPut k c.args.plan.now.hash old new (record item { expiry = c.in-Expire.expiry })) key
-    (c.expire.ensures item (ap (λ (k : List ℕ). get old.items k) key ∙ found)) in
+    (c.expire.ensures.put item (ap (λ (k : List ℕ). get old.items k) key ∙ found)) in
     let there = expired_is old step c.args.plan.now.moment c.in-Expire.expiry c.in-Expire.field-1 next in
     let put = puts there.0 there.1 in
     taken_as c.args.plan.now c.args.plan.now.next _ c.in-Expire.is step old c.args.desk.now new c.args.desk.now (record {

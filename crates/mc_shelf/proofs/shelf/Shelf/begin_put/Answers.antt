@@ -1,12 +1,18 @@
-use Rattle.std.proofs.Common.{◌≡◌, List, ℕ, Option, Some, is_some, length, arith, sym, ap, subst, ◌∙◌}
+use Rattle.std.proofs.Common.{◌≡◌, List, ℕ, Option, Some, None, inl, is_some, length, arith, sym, ap, subst, ◌∙◌}
 use Rattle.std.specs.FinMap.{get}
 use Rattle.mc_slab.specs.Needs.{need_for}
+use Rattle.mc_command.specs.declared.step.KeyStep.{KeyStep}
+use Rattle.mc_command.specs.declared.row.Body.{Body}
+use Rattle.mc_command.specs.declared.row.Body.TheVariants.{Given}
+use Rattle.mc_command.specs.declared.row.Draft.{Draft}
 use Rattle.mc_command.specs.Commands.{key_of}
-use Rattle.mc_command.specs.Plain.{Entry, block_of, charge}
-use Rattle.mc_shelf.specs.States.{EntryState, ShelfState}
+use Rattle.mc_command.specs.Plain.{Entry, block_need, block_of, charge}
+use Rattle.mc_shelf.specs.States.{EntryState, ShelfContent, ShelfState}
 use Rattle.mc_shelf.specs.Places.{IsChanged, items_of}
-use Rattle.mc_shelf.specs.Plans.{IsPut, drafted}
+use Rattle.mc_shelf.specs.Plans.{IsPut, block_beside, drafted, with_item}
 use Rattle.mc_shelf.proofs.ShelfLemmas.{changed_put, content_of, known_sought, put_again, put_new}
+use Rattle.mc_shelf.specs.Counts.{KeepsTable, counts_in, counts_of}
+use Rattle.mc_shelf.proofs.CountLemmas.{changed_kept}
 use Rattle.mc_shelf.proofs.shelf.Shelf.begin_put.Goals as goal
 
 -- the item whose block is still to be written was put
@@ -19,10 +25,20 @@ head_put c =
     c.replace-old.new.self c.head_of-entry.result.item c.requires.can.known.hash
     (subst (λ (k : List ℕ). IsChanged inside.index c.replace-old.new.self k c.head_of-entry.result.item) key c.replace-old.ensures.changed)
 
+-- a block that is given stands beside no other
+own_block : (draft : Draft) (step : KeyStep) (shelf : ShelfContent) → draft.body ≡ Given → block_of step ≡ block_beside shelf step draft
+own_block draft step shelf given = ap (λ (b : Body). block_beside shelf step (record draft { body = b })) (sym given)
+
 pub returns-in-Some-clause-put : goal.returns-in-Some-clause-put
 returns-in-Some-clause-put c =
     let write = c.args.write.now in
-    put_again (key_of c.args.step.now) write.hash c.args.self.now.content _ c.head_of-entry.result.item (drafted write.draft (block_of c.args.step.now) c.args.unique write.moment) (head_put c)
+    let step = c.args.step.now in
+    let old = c.args.self.now.content in
+    let mid = content_of c.self.inside.greatest c.self.inside.cut c.replace-old.new.self in
+    let own = drafted write.draft (block_of step) c.args.unique write.moment in
+    subst (λ (l : List ℕ). IsPut (key_of step) write.hash old (with_item None (key_of step) write.hash (drafted write.draft l c.args.unique write.moment) mid) own)
+    (own_block write.draft step mid c.requires.given)
+    (put_again (key_of step) write.hash old mid c.head_of-entry.result.item own (head_put c))
 
 pub returns-in-Some-clause-left : goal.returns-in-Some-clause-left
 returns-in-Some-clause-left c =
@@ -39,10 +55,26 @@ returns-in-Some-clause-left c =
         hash = put.hash;
         place = c.requires.can.known.place ∙ ap (λ (o : Option Entry). is_some o) stood ∙ sym (ap (λ (o : Option Entry). is_some o) put.item);
       };
-      ready = record { item = item; there = put.item; need = ap need_for same };
+      body = inl c.requires.given;
+      ready = record {
+        item = item;
+        there = put.item;
+        need = ap need_for same ∙ ap (block_need key)
+            (own_block c.args.write.now.draft c.args.step.now (content_of c.self.inside.greatest c.self.inside.cut c.replace-old.new.self) c.requires.given);
+      };
     }
 
 pub returns-in-None-clause-put : goal.returns-in-None-clause-put
 returns-in-None-clause-put c =
     let write = c.args.write.now in
-    put_new (key_of c.args.step.now) write.hash c.args.self.now.content c.args.chunks (drafted write.draft (block_of c.args.step.now) c.args.unique write.moment)
+    let step = c.args.step.now in
+    let old = c.args.self.now.content in
+    let own = drafted write.draft (block_of step) c.args.unique write.moment in
+    subst (λ (l : List ℕ). IsPut (key_of step) write.hash old (with_item (Some c.args.chunks) (key_of step) write.hash (drafted write.draft l c.args.unique write.moment) old) own)
+    (own_block write.draft step old c.requires.given)
+    (put_new (key_of step) write.hash old c.args.chunks own)
+
+pub returns-in-Some-clause-table : goal.returns-in-Some-clause-table
+returns-in-Some-clause-table c =
+    subst (λ (s : ShelfState). KeepsTable 0 (counts_of s) (counts_in c.replace-old.new.self)) c.self.view_is
+    (changed_kept c.self.inside.index c.replace-old.new.self c.head_of-entry.result.key c.head_of-entry.result.item c.replace-old.ensures.changed)

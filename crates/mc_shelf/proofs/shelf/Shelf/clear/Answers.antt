@@ -6,6 +6,9 @@ use Rattle.mc_shelf.specs.Sweeps.{GivesFor}
 use Rattle.mc_shelf.proofs.DeathLemmas.{sooner_none}
 use Rattle.mc_shelf.proofs.ShelfLemmas.{content_of}
 use Rattle.mc_shelf.proofs.SweepLemmas.{IsNone, below_removed, cleared, entry_gives, entry_out, fewer_removed, gives_both, gives_none, out_after}
+use Rattle.mc_shelf.specs.Counts.{DropsAlone, counts_in, counts_of}
+use Rattle.mc_shelf.proofs.CountLemmas.{drops_none, drops_one}
+use Rattle.mc_shelf.proofs.LenLemmas.{one_less}
 use Rattle.mc_shelf.proofs.shelf.Shelf.clear.Goals as goal
 
 pub loop-number-init : goal.loop-number-init
@@ -15,6 +18,7 @@ loop-number-init c = record {
   cut = ap (λ (s : ShelfState). s.content.cut) c.self.view_is;
   gives = subst (λ (s : ShelfState). GivesFor s.content.items (items_of c.self.inside.index) c.args.desk.now c.args.desk.now) c.self.view_is
       (gives_none (items_of c.self.inside.index) c.args.desk.now);
+  table = subst (λ (s : ShelfState). DropsAlone (counts_of s) (counts_in c.self.inside.index)) c.self.view_is (drops_none (counts_in c.self.inside.index));
   below = λ k e lt there. absurd (omega arith);
 }
 
@@ -44,6 +48,8 @@ loop-number-preserved c =
       gives = gives_both c.args.self.now.content.items (items_of inside.index) (items_of c.remove-entry.new.self) c.args.desk.now c.loop-number.desk c.give.new.self held.gives
           (entry_gives c.counts_follow.ensures.remove inside.greatest inside.cut inside.index c.remove-entry.new.self c.remove-entry.result c.remove-entry.ensures.item c.remove-entry.ensures.removed
           c.loop-number.desk c.give.new.self c.into_chunks.result c.into_chunks.ensures.need c.into_chunks.ensures.is_need are c.give.ensures.given c.give.ensures.slab);
+      table = drops_one (counts_of c.args.self.now) (counts_in inside.index) (counts_in c.remove-entry.new.self) held.table c.remove-entry.ensures.table
+          (one_less (items_of inside.index) (items_of c.remove-entry.new.self) c.remove-entry.result.key c.remove-entry.result.item c.remove-entry.ensures.item c.remove-entry.ensures.removed.items);
       below = below_removed IsNone inside.index c.loop-number.at c.in-Some.number c.in-Some.place first held.below c.remove-entry.new.self c.remove-entry.ensures.lower;
     }
 
@@ -65,3 +71,10 @@ returns-clause-shelf c =
 pub returns-clause-desk : goal.returns-clause-desk
 returns-clause-desk c =
     subst (λ (i : IndexState EntryState). GivesFor c.args.self.now.content.items (items_of i) c.args.desk.now c.loop-number.desk) (sym c.keep_soonest.ensures) c.loop-number.invariant.gives
+
+pub returns-clause-table : goal.returns-clause-table
+returns-clause-table c =
+    subst (λ (i : IndexState EntryState). DropsAlone (counts_of c.args.self.now) (counts_in i)) (sym c.keep_soonest.ensures) c.loop-number.invariant.table
+
+pub returns-then-is_empty-clause-table : goal.returns-then-is_empty-clause-table
+returns-then-is_empty-clause-table c = drops_none (counts_of c.args.self.now)

@@ -2,6 +2,7 @@ use Rattle.std.proofs.Common.{◌≡◌, ◌≤◌}
 use Rattle.mc_grow.specs.Indexes.{count_from}
 use Rattle.mc_shelf.specs.Places.{items_of}
 use Rattle.mc_shelf.specs.Sweeps.{GivesFor}
+use Rattle.mc_shelf.specs.Counts.{DropsAlone, counts_in, counts_of}
 use Rattle.mc_shelf.proofs.SweepLemmas.{Below, IsNone}
 use Rattle.mc_shelf.proofs.shelf.Shelf.clear.Given as goal
 
@@ -11,6 +12,7 @@ invariant-loop-number l = record {
   greatest : l.self-inside.greatest ≡ l.fn.self.content.greatest;
   cut : l.self-inside.cut ≡ l.fn.self.content.cut;
   gives : GivesFor l.fn.self.content.items (items_of l.self-inside.index) l.fn.desk l.desk;
+  table : DropsAlone (counts_of l.fn.self) (counts_in l.self-inside.index);
   below : Below l.self-inside.index l.at IsNone;
 }
 

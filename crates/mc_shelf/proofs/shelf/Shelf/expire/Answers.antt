@@ -5,10 +5,12 @@ use Rattle.mc_shelf.specs.States.{ShelfState}
 use Rattle.mc_shelf.specs.Places.{IsChanged}
 use Rattle.mc_shelf.proofs.PlaceLemmas.{there_item}
 use Rattle.mc_shelf.proofs.ShelfLemmas.{changed_put}
+use Rattle.mc_shelf.specs.Counts.{KeepsTable, counts_in, counts_of}
+use Rattle.mc_shelf.proofs.CountLemmas.{changed_kept}
 use Rattle.mc_shelf.proofs.shelf.Shelf.expire.Goals as goal
 
-pub returns-in-Some : goal.returns-in-Some
-returns-in-Some c item found =
+pub returns-in-Some-clause-put : goal.returns-in-Some-clause-put
+returns-in-Some-clause-put c item found =
     let inside = c.self.inside in
     let key = c.args.key.now in
     let at = c.in-Some.ensures in
@@ -16,3 +18,10 @@ returns-in-Some c item found =
     changed_put inside.greatest inside.cut c.args.self.now.content inside.index (ap (λ (s : ShelfState). s.content) c.self.view_is) key c.args.hash c.set_expiry.new.self
     (record item { expiry = c.args.expiry }) c.requires.hash
     (subst (λ (i : Entry). IsChanged inside.index c.set_expiry.new.self key i) (ap (λ (i : Entry). record i { expiry = c.args.expiry }) same) (c.set_expiry.ensures key at))
+
+pub returns-in-Some-clause-table : goal.returns-in-Some-clause-table
+returns-in-Some-clause-table c =
+    let inside = c.self.inside in
+    let at = c.in-Some.ensures in
+    subst (λ (s : ShelfState). KeepsTable 0 (counts_of s) (counts_in c.set_expiry.new.self)) c.self.view_is
+    (changed_kept inside.index c.set_expiry.new.self c.args.key.now (record at.entry.item { expiry = c.args.expiry }) (c.set_expiry.ensures c.args.key.now at))

@@ -9,6 +9,8 @@ use Rattle.mc_shelf.specs.States.{DeskState}
 use Rattle.mc_shelf.specs.Plans.{GivesBack, IsDropped, IsPut, block_beside, block_in, drafted, left_of, made_block, written}
 use Rattle.mc_shelf.proofs.StandLemmas.{ready_unused}
 use Rattle.mc_shelf.proofs.TakesLemmas.{put_after_drop, way_desk}
+use Rattle.mc_shelf.specs.Counts.{counts_of}
+use Rattle.mc_shelf.proofs.CountLemmas.{kept_then}
 use Rattle.mc_shelf.proofs.shelf.Shelf.give_way.Goals as goal
 
 pub take_unused-chunks-requires : goal.take_unused-chunks-requires
@@ -61,3 +63,6 @@ returns-clause-put c =
     put_after_drop key write.hash shelf mid new (drafted write.draft (block_of step) desk.next_unique write.moment) dropped
     (subst (λ (n : ℕ). IsPut key write.hash mid new (drafted write.draft (block_of step) n write.moment)) unique
     (subst (λ (l : List ℕ). IsPut key write.hash mid new (drafted write.draft l c.draw-unique.result write.moment)) block c.put.ensures.put))
+
+pub returns-clause-table : goal.returns-clause-table
+returns-clause-table c = kept_then (counts_of c.args.self.now) (counts_of c.discard.new.self) (counts_of c.put.new.self) c.discard.ensures.table c.put.ensures.table

@@ -6,6 +6,9 @@ use Rattle.mc_shelf.specs.Sweeps.{GivesFor, IsPurged}
 use Rattle.mc_shelf.proofs.ShelfLemmas.{content_of}
 use Rattle.mc_shelf.proofs.SweepLemmas.{Stays, Swept, all_stay, below_next, below_sooner, below_removed, entry_out, fewer_removed}
 use Rattle.mc_shelf.proofs.SweepLemmas.{gone_here, out_after, purged, stays_here, swept_both, swept_none, swept_one}
+use Rattle.mc_shelf.specs.Counts.{DropsAlone, counts_in, counts_of}
+use Rattle.mc_shelf.proofs.CountLemmas.{drops_none, drops_one}
+use Rattle.mc_shelf.proofs.LenLemmas.{one_less}
 use Rattle.mc_shelf.proofs.shelf.Shelf.purge.Goals as goal
 
 pub loop-number-init : goal.loop-number-init
@@ -13,6 +16,7 @@ loop-number-init c = record {
   most = c.self.invariant;
   swept = subst (λ (s : ShelfContent). Swept c.args.now s (content_of c.self.inside.greatest c.self.inside.cut c.self.inside.index) c.args.desk.now c.args.desk.now)
       (ap (λ (s : ShelfState). s.content) c.self.view_is) (swept_none c.args.now (content_of c.self.inside.greatest c.self.inside.cut c.self.inside.index) c.args.desk.now);
+  table = subst (λ (s : ShelfState). DropsAlone (counts_of s) (counts_in c.self.inside.index)) c.self.view_is (drops_none (counts_in c.self.inside.index));
   below = λ k e lt there. absurd (omega arith);
 }
 
@@ -43,6 +47,8 @@ loop-number-preserved-then-is_gone c =
           c.loop-number.desk c.give.new.self held.swept
           (swept_one c.counts_follow.ensures.remove inside.greatest inside.cut inside.index c.remove-entry.new.self c.remove-entry.result c.remove-entry.ensures.item c.remove-entry.ensures.removed
           c.loop-number.desk c.give.new.self c.into_chunks.result c.into_chunks.ensures.need c.into_chunks.ensures.is_need are c.args.now gone c.give.ensures.given c.give.ensures.slab);
+      table = drops_one (counts_of c.args.self.now) (counts_in inside.index) (counts_in c.remove-entry.new.self) held.table c.remove-entry.ensures.table
+          (one_less (items_of inside.index) (items_of c.remove-entry.new.self) c.remove-entry.result.key c.remove-entry.result.item c.remove-entry.ensures.item c.remove-entry.ensures.removed.items);
       below = below_removed (Stays inside.cut c.args.now c.loop-number.soonest) inside.index c.loop-number.at c.in-Some.number c.in-Some.place first held.below c.remove-entry.new.self
           c.remove-entry.ensures.lower;
     }
@@ -58,6 +64,7 @@ loop-number-preserved c =
     record {
       most = held.most;
       swept = held.swept;
+      table = held.table;
       below = below_next (Stays inside.cut c.args.now soonest) inside.index c.loop-number.at c.in-Some.number c.in-Some.place c.in-Some.ensures.next
           (below_sooner inside.cut c.args.now inside.index c.loop-number.at c.loop-number.soonest soonest c.with_found-soonest.ensures.others held.below)
           (stays_here inside.cut c.args.now soonest inside.index c.in-Some.place c.get.result c.get-else-is_gone.result c.get.ensures c.get-else-is_gone.ensures
@@ -93,3 +100,10 @@ returns-then-not-may_have_dead-clause-shelf c =
     subst (λ (s : ShelfState). IsPurged c.args.now s.content s.content) c.self.view_is
     (purged c.args.now shelf inside.greatest inside.cut inside.index c.may_have_dead.ensures.keyed desk desk (swept_none c.args.now shelf desk)
     (c.may_have_dead.ensures.none c.if-not-may_have_dead.true))
+
+pub returns-clause-table : goal.returns-clause-table
+returns-clause-table c =
+    subst (λ (i : IndexState EntryState). DropsAlone (counts_of c.args.self.now) (counts_in i)) (sym c.keep_soonest.ensures) c.loop-number.invariant.table
+
+pub returns-then-not-may_have_dead-clause-table : goal.returns-then-not-may_have_dead-clause-table
+returns-then-not-may_have_dead-clause-table c = drops_none (counts_of c.args.self.now)

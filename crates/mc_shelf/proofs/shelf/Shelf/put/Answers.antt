@@ -8,6 +8,9 @@ use Rattle.std.specs.FinMap.{get}
 use Rattle.mc_shelf.specs.Plans.{block_in, made_block}
 use Rattle.mc_shelf.proofs.shelf.Shelf.put.Goals as goal
 
+pub begin_put-requires-clause-given : goal.begin_put-requires-clause-given
+begin_put-requires-clause-given c = c.leaves_block.ensures c.if-leaves_block.true
+
 pub begin_put-requires-clause-chunks : goal.begin_put-requires-clause-chunks
 begin_put-requires-clause-chunks c =
     let key = key_of c.args.step.now in

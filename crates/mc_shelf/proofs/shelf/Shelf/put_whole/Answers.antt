@@ -7,6 +7,8 @@ use Rattle.mc_grow.specs.Indexes.{entry_at}
 use Rattle.mc_shelf.specs.Places.{IsChanged}
 use Rattle.mc_shelf.specs.Plans.{block_beside, block_in, drafted, item_in, made_block}
 use Rattle.mc_shelf.proofs.ShelfLemmas.{changed_put, inserted_put}
+use Rattle.mc_shelf.specs.Counts.{KeepsTable, counts_in, counts_of}
+use Rattle.mc_shelf.proofs.CountLemmas.{changed_kept}
 use Rattle.mc_shelf.proofs.shelf.Shelf.put_whole.Goals as goal
 
 pub give-requires : goal.give-requires
@@ -60,3 +62,11 @@ returns-in-None-clause-put c =
     }) beside in
     inserted_put inside.greatest inside.cut old inside.index (ap (λ (s : ShelfState). s.content) c.self.view_is) (key_of step) write.hash c.insert_reserved.new.self item c.entry_in-entry.result
     entry c.insert_reserved.ensures.inserted
+
+pub returns-in-Some-clause-table : goal.returns-in-Some-clause-table
+returns-in-Some-clause-table c =
+    subst (λ (s : ShelfState). KeepsTable 0 (counts_of s) (counts_in c.replace-old.new.self)) c.self.view_is
+    (changed_kept c.self.inside.index c.replace-old.new.self c.entry_in-entry.result.key c.entry_in-entry.result.item c.replace-old.ensures.changed)
+
+pub returns-in-None-clause-table : goal.returns-in-None-clause-table
+returns-in-None-clause-table c = subst (λ (s : ShelfState). KeepsTable 0 (counts_of s) (counts_in c.insert_reserved.new.self)) c.self.view_is c.insert_reserved.ensures.table

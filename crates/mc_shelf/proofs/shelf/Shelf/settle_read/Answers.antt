@@ -16,7 +16,7 @@ returns-in-Some c =
     settled_expiring c.counts_follow.ensures.insert c.counts_follow.ensures.remove step c.args.now c.args.hash old c.args.place c.requires.read c.requires.known c.requires.alive
     c.in-Some.expiry new (sym c.read_expiry.ensures ∙ c.in-Some.is) found
     (λ (item : Entry) (there : get old.items (key_of step) ≡ Some item). subst (λ (k : List ℕ). IsPut k c.args.hash old new (record item { expiry = c.in-Some.expiry })) key
-    (c.expire.ensures item (ap (λ (k : List ℕ). get old.items k) key ∙ there)))
+    (c.expire.ensures.put item (ap (λ (k : List ℕ). get old.items k) key ∙ there)))
 
 pub returns-in_default : goal.returns-in_default
 returns-in_default c =

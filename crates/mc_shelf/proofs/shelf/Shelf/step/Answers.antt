@@ -7,6 +7,8 @@ use Rattle.mc_command.specs.Commands.{key_of}
 use Rattle.mc_shelf.specs.Plans.{CanWrite, IsSpent, IsTaken, NeedsPages}
 use Rattle.mc_shelf.proofs.TakesLemmas.{is_spent}
 use Rattle.mc_shelf.proofs.RefusalLemmas.{can_wants, needs_can, spent_told, taken_not_spent, wants_not_spent, writes_some}
+use Rattle.mc_shelf.specs.Counts.{counts_of}
+use Rattle.mc_shelf.proofs.CountLemmas.{moved_more, moved_none, moved_then}
 use Rattle.mc_shelf.proofs.shelf.Shelf.step.Goals as goal
 
 apart : (r : Result Reply StepFault) → r ≡ Err NoMemory → r ≡ Err NumbersSpent → ⊥
@@ -52,3 +54,12 @@ returns-clause-spent c =
           (subst (λ (m : ℕ). IsSpent step m old desk) (sym plan.moment) spent))
           (λ e. wants_not_spent step c.args.now old desk c.requires.stands (returns-clause-refused c e) spent)),
     )
+
+pub returns-in_err-plan-clause-moves : goal.returns-in_err-plan-clause-moves
+returns-in_err-plan-clause-moves c = moved_none (counts_of c.args.self.now)
+
+pub returns-in_err-make_room-clause-moves : goal.returns-in_err-make_room-clause-moves
+returns-in_err-make_room-clause-moves c = moved_more (counts_of c.args.self.now) (counts_of c.make_room.new.self) c.make_room.ensures.moves
+
+pub returns-clause-moves : goal.returns-clause-moves
+returns-clause-moves c = moved_then (counts_of c.args.self.now) (counts_of c.make_room.new.self) (counts_of c.apply.new.self) c.make_room.ensures.moves c.apply.ensures.table

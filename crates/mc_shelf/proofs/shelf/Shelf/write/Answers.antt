@@ -5,13 +5,12 @@ use Rattle.mc_slab.specs.Classes.{IsClass}
 use Rattle.mc_slab.specs.Slabs.{WantsPages, has_room_with, out_of, taken}
 use Rattle.mc_command.specs.declared.reply.Reply.{Reply}
 use Rattle.mc_command.specs.Commands.{key_of}
-use Rattle.mc_command.specs.Plain.{Entry, block_need, block_of, charge, item_need, write_reply}
+use Rattle.mc_command.specs.Plain.{Entry, block_of, charge, item_need, write_reply}
 use Rattle.mc_shelf.specs.States.{DeskState}
-use Rattle.mc_command.specs.declared.row.Body.{Body}
 use Rattle.mc_shelf.proofs.NeedLemmas.{chunks_size, need_class}
 use Rattle.mc_shelf.proofs.ShelfLemmas.{known_sought, put_over}
-use Rattle.mc_shelf.specs.Plans.{back_at, way_given, has_need, with_item, GivesBack, IsDropped, IsOut, IsPut, Takes, block_beside, drafted, is_gone, left_of, own_block, reuses, written}
-use Rattle.mc_shelf.proofs.TakesLemmas.{beside_is, block_given, item_given, takes_in_place, charge_beside, need_own, drafts, is_out}
+use Rattle.mc_shelf.specs.Plans.{back_at, way_given, has_need, with_item, GivesBack, IsDropped, IsOut, IsPut, Takes, block_beside, drafted, is_gone, left_of, reuses, written}
+use Rattle.mc_shelf.proofs.TakesLemmas.{beside_is, block_given, item_over, takes_in_place, charge_beside, need_beside, drafts, is_out}
 use Rattle.mc_shelf.proofs.TakesLemmas.{is_out_taken, others_full, own_is, reused_is, takes_again, takes_anew, takes_full, takes_way, way_is, ok_both, err_brings}
 use Rattle.mc_shelf.proofs.shelf.Shelf.write.Goals as goal
 
@@ -31,10 +30,19 @@ rewrite-requires-clause-there c =
     record {
       item = there.0;
       there = there.1;
-      need = need_own c.counts_follow.ensures.insert c.counts_follow.ensures.remove c.args.step.now write.moment shelf c.args.desk.now c.requires.write.on_key write.charge write.draft
+      need = need_beside c.counts_follow.ensures.insert c.counts_follow.ensures.remove c.args.step.now write.moment shelf c.args.desk.now c.requires.write.on_key write.charge write.draft
           (sym c.requires.write.next)
-          c.need_for-need.result c.need_for-need.ensures.value reused there.0 there.1;
+          c.need_for-need.result c.need_for-need.ensures.value there.0 there.2;
     }
+
+pub rewrite-requires-clause-own : goal.rewrite-requires-clause-own
+rewrite-requires-clause-own c =
+    let shelf = c.args.self.now.content in
+    let write = c.args.write.now in
+    let reused = subst (λ (k : List ℕ). reuses shelf.cut write.moment k (get shelf.items k) c.need_for-need.result write.draft.body ≡ true) c.key.ensures
+    (sym c.fit-same.ensures.reused ∙ c.if-reused.true) in
+    own_is c.counts_follow.ensures.insert c.counts_follow.ensures.remove c.args.step.now write.moment shelf c.args.desk.now c.requires.write.on_key write.charge write.draft
+    (sym c.requires.write.next) c.need_for-need.result c.need_for-need.ensures.value reused
 
 pub returns-then-reused-clause-took : goal.returns-then-reused-clause-took
 returns-then-reused-clause-took c =
@@ -47,10 +55,9 @@ returns-then-reused-clause-took c =
     let need_is = c.need_for-need.ensures.value in
     let reused = subst (λ (k : List ℕ). reuses shelf.cut write.moment k (get shelf.items k) need write.draft.body ≡ true) c.key.ensures (sym c.fit-same.ensures.reused ∙ c.if-reused.true) in
     let more : desk.next_unique ≢ 2 ^ 64 - 1 = λ e. let less = c.is_spent.ensures.left c.if-is_spent.false in omega (arith, less) in
-    let block = own_is c.counts_follow.ensures.insert c.counts_follow.ensures.remove step write.moment shelf desk c.requires.write.on_key write.charge write.draft (sym c.requires.write.next)
-    need need_is reused in
+    let block = beside_is c.counts_follow.ensures.insert c.counts_follow.ensures.remove step write.moment shelf desk c.requires.write.on_key write.charge write.draft (sym c.requires.write.next) in
     let puts = subst (λ (l : List ℕ). IsPut (key_of step) write.hash shelf new (drafted write.draft l desk.next_unique write.moment)) block
-    (subst (λ (n : ℕ). IsPut (key_of step) write.hash shelf new (drafted write.draft (own_block write.draft.body (block_of step)) n write.moment)) c.draw-unique.ensures.number
+    (subst (λ (n : ℕ). IsPut (key_of step) write.hash shelf new (drafted write.draft (block_beside shelf step write.draft) n write.moment)) c.draw-unique.ensures.number
     c.rewrite.ensures.put) in
     record {
       takes = subst (λ (r : Reply). Takes step write.moment shelf desk r new c.draw-unique.new.self) (sym c.rewrite.ensures.told)
@@ -67,13 +74,13 @@ returns-then-goes_over-clause-left c =
     let write = c.args.write.now in
     let step = c.args.step.now in
     let same = subst (λ (k : List ℕ). has_need k (get shelf.items k) c.need_for-need.result ≡ true) c.key.ensures (sym c.fit-same.ensures.same ∙ c.goes_over.ensures.same c.if-goes_over.true) in
-    let given = c.goes_over.ensures.given c.if-goes_over.true in
-    let there = item_given c.counts_follow.ensures.insert c.counts_follow.ensures.remove step write.moment shelf c.args.desk.now c.requires.write.on_key write.charge write.draft
-    (sym c.requires.write.next) c.need_for-need.result c.need_for-need.ensures.value same given in
+    let there = item_over c.counts_follow.ensures.insert c.counts_follow.ensures.remove step write.moment shelf c.args.desk.now c.requires.write.on_key write.charge write.draft
+    (sym c.requires.write.next) c.need_for-need.result c.need_for-need.ensures.value same in
     record {
       short = c.requires.write.short;
       sought = known_sought _ (key_of step) write.hash write.place c.requires.write.known;
-      ready = record { item = there.0; there = there.1; need = there.2 ∙ ap (λ (b : Body). block_need (key_of step) (own_block b (block_of step))) given };
+      body = c.goes_over.ensures.body c.if-goes_over.true;
+      ready = record { item = there.0; there = there.1; need = there.2 };
     }
 
 pub returns-then-goes_over-clause-took : goal.returns-then-goes_over-clause-took
@@ -87,17 +94,15 @@ returns-then-goes_over-clause-took c =
     let anew = subst (λ (k : List ℕ). reuses shelf.cut write.moment k (get shelf.items k) c.need_for-need.result write.draft.body ≡ false) c.key.ensures
     (sym c.fit-same.ensures.reused ∙ c.if-reused.false) in
     let same = subst (λ (k : List ℕ). has_need k (get shelf.items k) c.need_for-need.result ≡ true) c.key.ensures (sym c.fit-same.ensures.same ∙ c.goes_over.ensures.same c.if-goes_over.true) in
-    let given = c.goes_over.ensures.given c.if-goes_over.true in
     let unique = c.draw-unique-then-goes_over.result in
     let own : List ℕ → ℕ → Entry = λ l n. drafted write.draft l n write.moment in
-    let new = with_item None (key_of step) write.hash (own (block_of step) unique) shelf in
+    let beside = block_beside shelf step write.draft in
+    let new = with_item None (key_of step) write.hash (own beside unique) shelf in
     let more : desk.next_unique ≢ 2 ^ 64 - 1 = λ e. let less = c.is_spent.ensures.left c.if-is_spent.false in omega (arith, less) in
-    let block = ap (λ (b : Body). own_block b (block_of step)) (sym given) ∙ block_given c.counts_follow.ensures.insert c.counts_follow.ensures.remove step write.moment shelf desk
-    c.requires.write.on_key write.charge write.draft
-    (sym c.requires.write.next) need need_is given in
+    let block = beside_is c.counts_follow.ensures.insert c.counts_follow.ensures.remove step write.moment shelf desk c.requires.write.on_key write.charge write.draft (sym c.requires.write.next) in
     let puts = subst (λ (l : List ℕ). IsPut (key_of step) write.hash shelf new (own l desk.next_unique)) block
-    (subst (λ (n : ℕ). IsPut (key_of step) write.hash shelf new (own (block_of step) n)) c.draw-unique-then-goes_over.ensures.number
-    (put_over (key_of step) write.hash shelf (own (block_of step) unique) c.requires.write.known.hash)) in
+    (subst (λ (n : ℕ). IsPut (key_of step) write.hash shelf new (own beside n)) c.draw-unique-then-goes_over.ensures.number
+    (put_over (key_of step) write.hash shelf (own beside unique) c.requires.write.known.hash)) in
     record {
       takes = subst (λ (d : DeskState). Takes step write.moment shelf desk (write_reply write.draft.body) new d) (sym c.draw-unique-then-goes_over.ensures.drawn)
           (takes_in_place c.counts_follow.ensures.insert c.counts_follow.ensures.remove step write.moment shelf desk c.requires.write.on_key write.charge write.draft
@@ -212,10 +217,9 @@ give_way-requires-clause-gives c =
     let class = need_class write.charge in
     let its_class : IsClass (item_need (key_of step) way.0).class = subst IsClass (sym (way.2 ∙ ap (λ (n : NeedState). n.class) need_is)) class in
     let out = is_out c.counts_follow.ensures.insert c.counts_follow.ensures.remove (key_of step) shelf desk c.requires.stands way.0 way.1 its_class in
-    let own =
+    let block =
     block_given c.counts_follow.ensures.insert c.counts_follow.ensures.remove step write.moment shelf desk c.requires.write.on_key write.charge write.draft
     (sym c.requires.write.next) need need_is way.4 in
-    let block = ap (λ (b : Body). own_block b (block_of step)) (sym way.4) ∙ own in
     let size = drafts shelf step write.moment write.charge write.draft (sym c.requires.write.next) in
     let charged : charge (key_of step) (block_of step) ≡ write.charge = ap (charge (key_of step)) block ∙ sym size.size_is in
     let chunks = sym c.has_room.ensures.value ∙ c.if-not-has_room.false in
@@ -256,10 +260,9 @@ returns-then-back-gt0-clause-took c =
     let way =
     way_is c.counts_follow.ensures.insert c.counts_follow.ensures.remove step write.moment shelf desk c.requires.write.on_key write.charge write.draft (sym c.requires.write.next) need need_is
     reused (subst (λ (n : ℕ). 0 < n) back_is c.if-back-gt0.true) in
-    let own =
+    let block =
     block_given c.counts_follow.ensures.insert c.counts_follow.ensures.remove step write.moment shelf desk c.requires.write.on_key write.charge write.draft
     (sym c.requires.write.next) need need_is way.4 in
-    let block = ap (λ (b : Body). own_block b (block_of step)) (sym way.4) ∙ own in
     let can : has_room_with desk.slab need (back_at shelf (key_of step) write.moment need) ≡ true =
     subst (λ (n : ℕ). has_room_with desk.slab need n ≡ true) back_is (sym c.has_room.ensures.value ∙ c.if-not-has_room.false) in
     ok_both _ _ _ c.give_way.result c.give_way.ensures.told c.give_way.ensures.put c.give_way.ensures.given (λ begun told put given.

@@ -1,0 +1,263 @@
+//! The slab of a desk, some of whose free chunks are collected later.
+
+ghost use Rattle.std.specs.Prelude.{◌≡◌, ◌+◌, ◌-◌, ◌<◌, ◌≤◌, ℕ, List, [], true, false, slice_index, vec_len, IfOk};
+ghost use Rattle.mc_slab.specs.Classes.{IsClass};
+ghost use Rattle.mc_slab.specs.Slabs.{
+  IsSlab,
+  Readies,
+  Takes,
+  given,
+  out_of,
+  pages_left,
+  pages_of,
+  untouched,
+};
+ghost use Rattle.mc_shelf.specs.Asides.{AreCollected, LieAside, Suffices, all_out, count_in, none_out};
+
+use crate::aside::{join, next_chunks};
+use crate::shelf::Shelf;
+use mc_slab::{Account, Chunks, Class, Need, Pages, Slab, TakeFault};
+use std::alloc::{AllocError, Global};
+use std::marker::Model;
+
+/// How many items a write collects of the shelves aside.
+const FEW: u32 = 8;
+
+/// A slab, and shelves that were laid aside whole. The chunks of their items are free at once: they are collected one by one, a
+/// few with each write, and as many as it takes before a class gets a page.
+///
+/// Contracts see the slab as if all of them were collected.
+#[derive(Drop)]
+pub(crate) struct Collector {
+    slab: Slab,
+    /// Of each class, class 1 first, how many chunks are out beside those of the shelves aside.
+    out: [u32; 40],
+    /// The shelves aside, of which the last one is collected first.
+    aside: Vec<Shelf>,
+    /// Where the walk over the last one goes on.
+    at: usize,
+}
+
+impl Model for Collector {
+    ghost use Rattle.mc_slab.specs.Slabs.{SlabState, coded_slab};
+    ghost use Rattle.mc_shelf.specs.Asides.{LieAside, seen};
+
+    ghost Value = { SlabState };
+
+    ghost coded = { coded_slab };
+
+    ghost view = { λ c. seen c.slab c.out };
+
+    ghost invariant = { λ c. LieAside c.slab c.out c.aside.items };
+}
+
+impl Collector {
+    /// Makes one of at most that many pages, 1 to 65536, none of which a class has yet. The one error is a refused allocation.
+    pub(crate) fn new(alloc: Global, pages: u32) -> Result<Collector, AllocError>
+        requires { (1 ≤ pages) × (pages ≤ 65536) }
+        ensures value { IfOk result (λ slab. slab ≡ untouched pages) }
+        ensures is_slab { IfOk result IsSlab }
+    {
+        Ok(Collector {
+            slab: Slab::new(alloc, pages)?,
+            out: [0; 40],
+            aside: Vec::new(alloc),
+            at: 0,
+        })
+    }
+
+    /// Counts the class's pages, and its chunks that are out.
+    pub(crate) fn account(&self, class: Class) -> Account
+        ensures value { result
+            ≡ record { pages = pages_of self.now class; out = out_of self.now class } }
+        ensures is_slab { IsSlab self.now }
+    {
+        let Account { pages, .. } = self.slab.account(class);
+        Account {
+            pages,
+            out: self.out[place_of(class)],
+        }
+    }
+
+    /// Counts the pages that no class has yet.
+    pub(crate) fn pages_left(&self) -> u32
+        ensures value { result ≡ pages_left self.now }
+        ensures is_slab { IsSlab self.now }
+    {
+        self.slab.pages_left()
+    }
+
+    /// Takes the chunks of a need, as a slab does.
+    pub(crate) fn take_all(&mut self, alloc: Global, need: Need) -> Result<Chunks, TakeFault>
+        ensures { Takes need self.old result self.new }
+    {
+        self.take_all_with(alloc, need, None)
+    }
+
+    /// Takes the chunks of a need, as a slab does with pages that are brought. Where its class has too few unused chunks, those
+    /// aside are collected first, until it has enough or none of the class lies aside.
+    pub(crate) fn take_all_with(
+        &mut self,
+        alloc: Global,
+        need: Need,
+        pages: Option<Pages>,
+    ) -> Result<Chunks, TakeFault>
+        ensures { Takes need self.old result self.new }
+    {
+        let place = place_of(need.class());
+        let out = self.out[place];
+        collect_for(&mut self.slab, &mut self.aside, &mut self.at, need, 0, out);
+        match self.slab.take_all_with(alloc, need, pages) {
+            Ok(chunks) => {
+                let _most = self.slab.account(need.class());
+                self.out[place] = out + need.count();
+                Ok(chunks)
+            }
+            Err(fault) => Err(fault),
+        }
+    }
+
+    /// Gives the class of a need the pages that it will want, as a slab does with pages that are brought. Where it has too few
+    /// unused chunks, those aside are collected first, until it has enough or none of the class lies aside.
+    pub(crate) fn ready_with(
+        &mut self,
+        alloc: Global,
+        need: Need,
+        back: u64,
+        pages: Option<Pages>,
+    ) -> Result<(), TakeFault>
+        requires { back ≤ out_of self.old need.class }
+        ensures { Readies need back self.old result self.new }
+    {
+        let out = self.out[place_of(need.class())];
+        collect_for(
+            &mut self.slab,
+            &mut self.aside,
+            &mut self.at,
+            need,
+            back,
+            out,
+        );
+        self.slab.ready_with(alloc, need, back, pages)
+    }
+
+    /// Takes chunks back, of whose class so many are out. It takes no memory.
+    pub(crate) fn give_all(&mut self, chunks: Chunks)
+        requires { chunks.count ≤ out_of self.old chunks.class }
+        ensures given { self.new ≡ given self.old chunks.entry.class chunks.entry.count }
+        ensures is_slab { IsSlab self.new }
+    {
+        let need = chunks.need();
+        self.slab.give_all(chunks);
+        self.out[place_of(need.class())] -= need.count();
+    }
+
+    /// Collects a few items of the shelves aside, where there are some.
+    pub(crate) fn collect(&mut self)
+        ensures { self.new ≡ self.old }
+    {
+        collect_few(&mut self.slab, &mut self.aside, &mut self.at);
+    }
+
+    /// Lays shelves aside, whose items have all the chunks that are out: none is out then. It takes no memory. Of shelves that
+    /// lie aside already those with items stay aside, as many as their vector has room for; the others' items are collected.
+    pub(crate) fn lay_aside(&mut self, shelves: Vec<Shelf>)
+        requires { (class : ℕ) → IsClass class
+            → out_of self.old class ≡ count_in shelves.items class }
+        ensures none { self.new ≡ none_out self.old }
+        ensures is_slab { IsSlab self.new }
+    {
+        let room = shelves.capacity() - shelves.len();
+        make_room(&mut self.slab, &mut self.aside, &mut self.at, room);
+        self.aside = join(shelves, &mut self.aside);
+        self.at = 0;
+        self.out = [0; 40];
+    }
+}
+
+/// Gives the place of a class, from 0 to 39.
+fn place_of(class: Class) -> usize
+    ensures value { result ≡ class - 1 }
+    ensures is_class { IsClass class }
+{
+    usize::from(class.number()) - 1
+}
+
+/// Collects one item of the shelves aside. Answers whether there was one; where there was none, no shelf is left.
+fn collect_one(slab: &mut Slab, aside: &mut Vec<Shelf>, at: &mut usize) -> bool
+    requires { (out : List ℕ) × LieAside slab.old out aside.old.items }
+    ensures collected { AreCollected slab.old slab.new aside.old.items aside.new.items }
+    ensures fewer { result ≡ true → all_out slab.new < all_out slab.old }
+    ensures none { result ≡ false → aside.new.items ≡ [] }
+{
+    match next_chunks(aside, at) {
+        Some(chunks) => {
+            slab.give_all(chunks);
+            true
+        }
+        None => false,
+    }
+}
+
+/// Collects a few items.
+fn collect_few(slab: &mut Slab, aside: &mut Vec<Shelf>, at: &mut usize)
+    requires { (out : List ℕ) × LieAside slab.old out aside.old.items }
+    ensures { AreCollected slab.old slab.new aside.old.items aside.new.items }
+{
+    for _ in 0..FEW {
+        if !collect_one(slab, aside, at) {
+            return;
+        }
+    }
+}
+
+/// Collects items until at most so many shelves lie aside.
+fn make_room(slab: &mut Slab, aside: &mut Vec<Shelf>, at: &mut usize, room: usize)
+    requires { (out : List ℕ) × LieAside slab.old out aside.old.items }
+    ensures collected { AreCollected slab.old slab.new aside.old.items aside.new.items }
+    ensures room { vec_len aside.new ≤ room }
+{
+    while aside.len() > room {
+        if !collect_one(slab, aside, at) {
+            return;
+        }
+    }
+}
+
+/// Returns whether a need's class has too few unused chunks, once so many that are out came back, and more of its chunks are out
+/// than these.
+fn lacks(slab: &Slab, need: Need, back: u64, out: u32) -> bool
+    requires { back ≤ out_of slab.now need.class }
+    ensures { result ≡ false → Suffices slab.now need back out }
+{
+    let class = need.class();
+    let account = slab.account(class);
+    if account.out == out {
+        return false;
+    }
+    let chunks = u64::from(account.pages) * u64::from(class.chunks_a_page());
+    chunks - u64::from(account.out) + back < u64::from(need.count())
+}
+
+/// Collects items until a need's class has unused chunks enough, once so many that are out came back, or none of it lies aside.
+/// `out` is how many chunks of it are out beside those.
+fn collect_for(
+    slab: &mut Slab,
+    aside: &mut Vec<Shelf>,
+    at: &mut usize,
+    need: Need,
+    back: u64,
+    out: u32,
+)
+    requires lie { (outs : List ℕ) × LieAside slab.old outs aside.old.items
+        × (out ≡ slice_index outs (need.class - 1)) }
+    requires back { back ≤ out }
+    ensures collected { AreCollected slab.old slab.new aside.old.items aside.new.items }
+    ensures enough { Suffices slab.new need back out }
+{
+    while lacks(slab, need, back, out) {
+        if !collect_one(slab, aside, at) {
+            return;
+        }
+    }
+}
