@@ -1,14 +1,20 @@
 -- The keys of each number are counted, shelf by shelf.
-use Rattle.std.proofs.Common.{◌≡◌, ℕ, zero, suc, ◌+◌, ◌/◌, ◌%◌, ◌≤◌, ◌<◌, List, [], ◌∷◌, length, Some, get_or, slice_get, slice_index, replicate, refl, sym, ap, ◌∙◌, arith, mod-lt}
+use Rattle.std.proofs.Common.{◌≡◌, ◌≢◌, ℕ, zero, suc, ◌+◌, ◌*◌, ◌/◌, ◌%◌, ◌≤◌, ◌<◌, List, [], ◌∷◌, length, Some, get_or, slice_get, slice_index, set, replicate, refl, sym, ap, ◌∙◌, subst, arith, mod-lt, div-add-mod', ◌==◌, get_or-set_same, get_or-set_other}
+use Rattle.std.proofs.lemmas.Nat.{same_from_place, mul-add-lt, div_below, mod_below}
 use Rattle.std.proofs.lemmas.Option.{none-some}
 use mathlib.Core.Logic.{dite}
 use native.Mathlib.Decide.{ℕ_discrete}
-use Rattle.mc_command.specs.Plain.{Plain}
+use Rattle.std.specs.FinMap.{empty, get-empty}
+use Rattle.mc_command.specs.Plain.{Plain, flushed}
 use Rattle.mc_shelf.specs.States.{ShelfState}
-use Rattle.mc_shelf.specs.Numbers.{AreCounted, HasPlaces, keys_with}
+use Rattle.mc_shelf.specs.Numbers.{AreCounted, HasPlaces, keys_with, number_of}
 use Rattle.mc_shelf.specs.Parts.{shelf_of, IsShelfOf}
-use Rattle.mc_shared.specs.Counted.{AreNone, AreAllOf, AreCountsOfAll}
+use Rattle.mc_shared.specs.Counted.{AreNone, AreAllOf, AreCountsOfAll, AreKeyCountsAt}
+use Rattle.mc_shelf.proofs.KeyLemmas.{order}
 use Rattle.mc_shared.specs.History.{Beginning}
+use Rattle.mc_shared.specs.Steps.{AreKeys}
+use Rattle.mc_shared.specs.View.{SeatView}
+use Rattle.mc_shared.proofs.NumberLemmas.{count_none}
 use Rattle.mc_shared.proofs.NumberSteps.{shelf_named, own_at}
 use Rattle.mc_shared.proofs.NumberSweeps.{off_shelf}
 
@@ -107,3 +113,88 @@ pub there_at : (shelves : List ShelfState) (at : ℕ) (shelf : ShelfState) → a
 there_at [] at shelf low is = absurd (omega (arith, low))
 there_at (x ∷ xs) zero shelf low is = ap Some (sym is)
 there_at (x ∷ xs) (suc at) shelf low is = there_at xs at shelf (omega (arith, low)) is
+
+-- ---- counts that words tell
+
+pub long_set : (counts : List ℕ) (n x : ℕ) → length (set counts n x) ≡ length counts
+long_set [] n x = refl
+long_set (y ∷ ys) zero x = refl
+long_set (y ∷ ys) (suc n) x = ap suc (long_set ys n x)
+
+-- one number more
+pub keys_next : (start : Beginning) (v : SeatView) (counts : List ℕ) (number count : ℕ) → number < length counts
+    → ((n : ℕ) → n < number → AreKeys start v n (slice_index counts n)) → AreKeys start v number count
+    → (n : ℕ) → n < number + 1 → AreKeys start v n (slice_index (set counts number count) n)
+keys_next start v counts number count inside so here n low = dite (ℕ_discrete n number)
+    (λ e. subst (λ (k : ℕ). AreKeys start v k (slice_index (set counts number count) k)) (sym e)
+    (subst (AreKeys start v number) (sym (get_or-set_same counts number count 0 inside)) here))
+    (λ ne. subst (AreKeys start v n) (sym (get_or-set_other counts number n count 0 ne)) (so n (omega (arith, low, ne))))
+
+-- a flush at once leaves no key
+pub none_left : (hash_of : List ℕ → ℕ) (number delay now : ℕ) (m : Plain) → delay ≡ 0 → keys_with hash_of number (flushed delay m now).items ≡ 0
+none_left hash_of number delay now m is =
+    subst (λ (d : ℕ). keys_with hash_of number (flushed d m now).items ≡ 0) (sym is)
+    (count_none (λ key. number_of hash_of key == number) empty (λ key passes. get-empty order key))
+
+-- ---- counts that words of one shelf tell
+
+-- its numbers of the rows before one were read
+pub record ReadsRows (start : Beginning) (v : SeatView) (at row : ℕ) (counts : List ℕ) : Type 0 where
+  pub many : length counts ≡ 4096
+  pub counted : (n : ℕ) → n < 4096 → n % start.shelves ≡ at → n / start.shelves < row → AreKeys start v n (slice_index counts n)
+  pub none : (n : ℕ) → n < 4096 → n % start.shelves ≢ at → slice_index counts n ≡ 0
+
+pub rows_start : (start : Beginning) (v : SeatView) (at : ℕ) (counts : List ℕ) → AreNone counts → ReadsRows start v at 0 counts
+rows_start start v at counts are = record {
+  many = are.many;
+  counted = λ n low own few. absurd (omega (arith, few));
+  none = λ n low other. are.none n;
+}
+
+-- where a row's number lies
+pub row_number : (shelves at row : ℕ) → at < shelves → (row * shelves + at) % shelves ≡ at
+row_number shelves at row inside =
+    let number : ℕ = row * shelves + at in
+    let low = mod_below number shelves (omega (arith, inside)) in
+    (same_from_place (number / shelves) (number % shelves) row at shelves low inside (div-add-mod' number shelves)).1
+
+pub row_below : (shelves at row : ℕ) → 4096 / shelves * shelves ≡ 4096 → at < shelves → row < 4096 / shelves → row * shelves + at < 4096
+row_below shelves at row divides inside low =
+    let q : ℕ = 4096 / shelves in
+    let less = mul-add-lt row shelves at q low inside in
+    let all = native.Mathlib.Nat.mul_comm q shelves in
+    omega (arith, less, all, divides)
+
+pub rows_next : (start : Beginning) (v : SeatView) (at row : ℕ) (counts : List ℕ) (count : ℕ) → at < start.shelves → row * start.shelves + at < 4096
+    → ReadsRows start v at row counts → AreKeys start v (row * start.shelves + at) count → ReadsRows start v at (row + 1) (set counts (row * start.shelves + at) count)
+rows_next start v at row counts count inside below so here =
+    let number : ℕ = row * start.shelves + at in
+    let long = so.many in
+    record {
+      many = long_set counts number count ∙ so.many;
+      counted = λ n low own few. dite (ℕ_discrete n number)
+          (λ e. subst (λ (k : ℕ). AreKeys start v k (slice_index (set counts number count) k)) (sym e)
+          (subst (AreKeys start v number) (sym (get_or-set_same counts number count 0 (omega (arith, long, below)))) here))
+          (λ ne. subst (AreKeys start v n) (sym (get_or-set_other counts number n count 0 ne))
+          (so.counted n low own
+          (let other : n / start.shelves ≢ row = (λ e. ne (sym (div-add-mod' n start.shelves) ∙ (λ i. e i * start.shelves + own i))) in omega (arith, few, other))));
+      none = λ n low other. get_or-set_other counts number n count 0 (λ e. other (ap (λ k. k % start.shelves) e ∙ row_number start.shelves at row inside))
+          ∙ so.none n low other;
+    }
+
+-- the same by another name of the number of shelves
+pub next_row : (start : Beginning) (shelves : ℕ) → shelves ≡ start.shelves → (v : SeatView) (at row : ℕ) (counts : List ℕ) (count : ℕ) → at < shelves → row * shelves + at < 4096
+    → ReadsRows start v at row counts → AreKeys start v (row * shelves + at) count → ReadsRows start v at (row + 1) (set counts (row * shelves + at) count)
+next_row start shelves is v at row counts count inside below so here =
+    subst (λ (s : ℕ). ReadsRows start v at (row + 1) (set counts (row * s + at) count)) (sym is)
+    (rows_next start v at row counts count (subst (λ (s : ℕ). at < s) is inside) (subst (λ (s : ℕ). row * s + at < 4096) is below) so
+    (subst (λ (s : ℕ). AreKeys start v (row * s + at) count) is here))
+
+pub rows_all : (start : Beginning) (v : SeatView) (at row : ℕ) (counts : List ℕ) → 4096 / start.shelves * start.shelves ≡ 4096 → at < start.shelves → 4096 / start.shelves ≤ row
+    → ReadsRows start v at row counts → AreKeyCountsAt start v at counts
+rows_all start v at row counts divides inside all so = record {
+  many = so.many;
+  counted = λ n low own. so.counted n low own
+      (let q : ℕ = 4096 / start.shelves in let less : n / start.shelves < q = div_below n start.shelves q (omega (arith, inside)) (omega (arith, low, divides)) in omega (arith, less, all));
+  none = so.none;
+}

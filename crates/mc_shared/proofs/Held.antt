@@ -18,14 +18,16 @@ use Rattle.mc_shelf.specs.States.{ShelfContent, DeskState, CanStand, IsAt}
 use Rattle.mc_shared.specs.Bays.{OfShelf, OfDesk}
 use Rattle.mc_command.specs.declared.reply.Reply.{Reply}
 use Rattle.mc_shared.specs.History.{Beginning, Operation, Stepped, start_of, shelf_in}
-use Rattle.mc_shared.specs.Steps.{Agrees, Decides, Counts, MayAdd}
+use Rattle.mc_shared.specs.Counted.{AreKeyCountsAt, AreCountsBy}
+use Rattle.mc_shared.specs.Steps.{Agrees, Decides, Counts, MayAdd, MayCount}
 use Rattle.std.specs.FinMap.{len}
 use Rattle.mc_shared.proofs.NumberSteps.{may_add}
+use Rattle.mc_shared.proofs.NumberSweeps.{may_count_one, shelf_counted}
 use Rattle.mc_shared.specs.Store.{CanCome, Refuses}
 use Rattle.mc_shared.specs.Shown.{SharedState, CallerState}
 use Rattle.mc_shared.specs.Holds.{HoldsShelf, HoldsBoth, caller_of}
 use Rattle.mc_shared.proofs.Decisions.{can_stand, comes_after, refuses}
-use Rattle.mc_shared.specs.Seats.{Sitter, SameSeat, IsTableOf, IsAlive, IsAnswered, MayDecide}
+use Rattle.mc_shared.specs.Seats.{Sitter, SameSeat, IsTableOf, IsSeatOf, IsAlive, IsAnswered, MayDecide}
 use Rattle.mc_shelf.specs.Stores.{StoreState}
 use Rattle.atomic_table.specs.Seated.{TableId}
 
@@ -112,6 +114,26 @@ pub may_raise : {K : Type 0} (hash_of : K → List ℕ → ℕ) (table : TableId
 may_raise {K} hash_of table began shared seat at f d is fit holds hash key hashed own small =
     let h = subst (λ (s : SharedState K). HoldsBoth hash_of s seat at f d) (sym is) holds in
     may_add (start_of hash_of began) at fit.divides hash key hashed own h.inside f d seat.me.0 (ap (λ (m : Mine). m.0.bays) h.held) (ap (λ (m : Mine). m.0.surplus) h.held) small
+
+-- a hold of a shelf may read the words of the shelf's numbers
+pub reads_shelf : {K : Type 0} (hash_of : K → List ℕ → ℕ) (table : TableId) (began : StoreState K) (shared : SharedState K) (seat : Sitter) (at n : ℕ) (f : ShelfContent)
+    → record { table = table; began = began } ≡ shared → IsTableOf table began → n ≡ began.settings.shelves → HoldsShelf hash_of shared seat at f
+    → IsSeatOf table began seat × (at < n) × ((number : ℕ) → number < 4096 → number % n ≡ at → MayCount (start_of hash_of began) seat.me.0 number)
+reads_shelf {K} hash_of table began shared seat at n f is fit count holds =
+    let h = subst (λ (s : SharedState K). HoldsShelf hash_of s seat at f) (sym is) holds in (
+      record { own = h.own; fit = fit },
+      subst (λ (k : ℕ). at < k) (sym count) h.inside,
+      λ number low own. may_count_one (start_of hash_of began) fit.divides seat.me.0.past at (OfShelf f) seat.me h.held number low (subst (λ (k : ℕ). number % k ≡ at) count own),
+    )
+
+-- and so it has the shelf's counts
+pub counts_shelf : {K : Type 0} (hash_of : K → List ℕ → ℕ) (table : TableId) (began : StoreState K) (shared : SharedState K) (seat : Sitter) (at : ℕ) (f : ShelfContent) (counts : List ℕ)
+    → record { table = table; began = began } ≡ shared → IsTableOf table began → HoldsShelf hash_of shared seat at f → AreKeyCountsAt (start_of hash_of began) seat.me.0 at counts
+    → AreCountsBy (hash_of shared.began.hasher) f counts
+counts_shelf {K} hash_of table began shared seat at f counts is fit holds keys =
+    let h = subst (λ (s : SharedState K). HoldsShelf hash_of s seat at f) (sym is) holds in
+    subst (λ (s : SharedState K). AreCountsBy (hash_of s.began.hasher) f counts) is
+    (shelf_counted (start_of hash_of began) fit.divides seat.me.0.past at f seat.me counts h.held h.fits keys)
 
 -- what a hold of a shelf and the desk has after the desk went back with a decision
 pub decided_one : (me now then : Mine) (p : Past) (n : ℕ) (y : Content) (at : ℕ) (x z : Content) (what : Operation) (had surplus : List ℕ)

@@ -14,6 +14,7 @@ pub mod HitLemmas
 pub mod Held
 pub mod Opening
 pub mod Stacked
+pub mod EmptyLemmas
 pub mod NumberSweeps
 pub mod CountLemmas
 pub mod OrderLawLemmas

@@ -16,9 +16,9 @@ use Rattle.mc_command.specs.Plain.{Entry}
 use Rattle.mc_shared.specs.Bays.{Content, OfShelf, OfDesk}
 use Rattle.mc_shared.specs.History.{Operation, shelf_in, next}
 use Rattle.mc_shared.specs.View.{SeatView}
-use Rattle.mc_shared.specs.Rule.{AllFit, holds_bay, times, named}
+use Rattle.mc_shared.specs.Rule.{Fits, AllFit, holds_bay, times, named}
 use Rattle.mc_shared.specs.Steps.{Counts, MayAdd}
-use Rattle.mc_shared.proofs.StockedKept.{here}
+use Rattle.mc_shared.proofs.StockedKept.{here, elsewhere}
 use Rattle.mc_shared.proofs.WordLemmas.{words_apart}
 use Rattle.mc_shared.proofs.NumberLemmas.{there, kept_same, len_change, count_here, count_most, count_other}
 
@@ -196,13 +196,30 @@ pub may_add : (start : Beginning) (at : ℕ) (divides : 4096 / start.shelves * s
 may_add start at divides hash key hashed own low f d v bays bare small =
     let n : ℕ = hash % 4096 in
     let same : n % start.shelves ≡ at = shelf_named hash start.shelves (4096 / start.shelves) divides ∙ (ap (λ h. h % start.shelves) hashed ∙ own) in record {
-      below = mod-lt hash (omega arith);
-      inside = subst (λ k. k < start.shelves) (sym same) low;
-      held = (let one : holds_bay (n % start.shelves) (at, OfShelf f) ≡ 1 = ap (λ b. holds_bay b (at, OfShelf f)) same ∙ here at (OfShelf f) in
-          let all : times (n % start.shelves) v ≡ holds_bay (n % start.shelves) (start.shelves, OfDesk d) +
-          (holds_bay (n % start.shelves) (at, OfShelf f) + 0) = ap (total (holds_bay (n % start.shelves))) bays in omega (arith, one, all));
-      bare = bare;
+      own = record {
+        below = mod-lt hash (omega arith);
+        inside = subst (λ k. k < start.shelves) (sym same) low;
+        held = (let one : holds_bay (n % start.shelves) (at, OfShelf f) ≡ 1 = ap (λ b. holds_bay b (at, OfShelf f)) same ∙ here at (OfShelf f) in
+            let all : times (n % start.shelves) v ≡ holds_bay (n % start.shelves) (start.shelves, OfDesk d) +
+            (holds_bay (n % start.shelves) (at, OfShelf f) + 0) = ap (total (holds_bay (n % start.shelves))) bays in omega (arith, one, all));
+        bare = bare;
+      };
       few = λ m fits. (let h : AllFit start m ((start.shelves, OfDesk d) ∷ (at, OfShelf f) ∷ []) = subst (AllFit start m) bays fits in
           let one = own_at start at (4096 / start.shelves) divides m f h.1.0.1 n same in
           let most = count_most (λ k. number_of start.hash_of k == n) f.items in omega (arith, one, most, small));
     }
+
+-- ---- how many keys have a number whose shelf is held
+
+module _ (start : Beginning) (divides : 4096 / start.shelves * start.shelves ≡ 4096) (n : ℕ) (inside : n % start.shelves < start.shelves) (m m' : Plain) where
+  of_bay : (b : ℕ) (x : Content) → n % start.shelves ≡ b → Fits start m b x → Fits start m' b x → keys_with start.hash_of n m.items ≡ keys_with start.hash_of n m'.items
+  of_bay b (OfShelf f) is fits fits' = own_at start b (4096 / start.shelves) divides m f fits.1 n is ∙ sym (own_at start b (4096 / start.shelves) divides m' f fits'.1 n is)
+  of_bay b (OfDesk d) is fits fits' = absurd (let e = fits.0 in omega (arith, inside, is, e))
+
+  -- as many in each state that what is held fits
+  pub keys_alike : (bays : List (ℕ × Content)) → 1 ≤ total (holds_bay (n % start.shelves)) bays → AllFit start m bays → AllFit start m' bays
+      → keys_with start.hash_of n m.items ≡ keys_with start.hash_of n m'.items
+  keys_alike [] some fits fits' = absurd (omega (arith, some))
+  keys_alike ((b, x) ∷ bays) some fits fits' = dite (ℕ_discrete (n % start.shelves) b)
+      (λ e. of_bay b x e fits.0 fits'.0)
+      (λ ne. let none = elsewhere b (n % start.shelves) x ne in keys_alike bays (omega (arith, some, none)) fits.1 fits'.1)

@@ -1,6 +1,6 @@
 -- By how much the keys of each number change where many go at once.
 use Rattle.std.proofs.Common.{◌≡◌, ◌≢◌, ◌==◌, ℕ, suc, ◌+◌, ◌-◌, ◌*◌, ◌/◌, ◌%◌, ◌≤◌, ◌<◌, Bool, true, false, not, ◌||◌, cond, eqb, if◌then◌else◌, Option, Some, None, is_some, List, [], ◌∷◌}
-use Rattle.std.proofs.Common.{length, slice_get, refl, sym, ap, ◌∙◌, subst, arith, mod-lt}
+use Rattle.std.proofs.Common.{length, slice_get, slice_index, refl, sym, ap, ◌∙◌, subst, arith, mod-lt}
 use Rattle.std.proofs.lemmas.Option.{none-some}
 use mathlib.Core.Logic.{dite}
 use native.Mathlib.Decide.{ℕ_discrete}
@@ -17,16 +17,20 @@ use Rattle.mc_shared.specs.Sums.{total}
 use Rattle.mc_shared.specs.Bays.{Content, OfShelf, OfDesk}
 use Rattle.mc_shared.specs.Presence.{word_of}
 use Rattle.mc_shared.specs.Spread.{spread, keys_in}
-use Rattle.mc_shared.specs.History.{Beginning, Operation, Purged, Stepped, shelf_in, next}
+use Rattle.mc_shared.specs.History.{Beginning, Operation, Purged, Stepped, shelf_in, next, after}
 use Rattle.mc_shared.specs.View.{SeatView}
 use Rattle.mc_shared.specs.Rule.{AllFit, holds_bay, times, named}
-use Rattle.mc_shared.specs.Steps.{Counts}
-use Rattle.mc_shared.specs.Stacks.{stacked}
+use Rattle.mc_shared.specs.Past.{Past}
+use Rattle.mc_shared.specs.Counted.{AreKeyCounts, AreKeyCountsAt, AreCountsBy}
+use Rattle.mc_shared.specs.Steps.{Mine, Counts, MayCount, Fitted}
+use Rattle.mc_shared.specs.Stacks.{stacked, holds_all}
+use Rattle.mc_shared.specs.Store.{holds_one}
+use Rattle.mc_shared.proofs.WordLemmas.{number_inside}
 use Rattle.mc_shared.proofs.StockedKept.{here}
 use Rattle.mc_shared.proofs.NumberLemmas.{count_most, count_none}
 use Rattle.mc_shared.proofs.NumberSteps.{of_shelf, own_at, own_before, own_after, others_stay}
 use Rattle.mc_shared.proofs.SpreadLemmas.{AreApart, spread_names, spread_within}
-use Rattle.mc_shared.proofs.Stacked.{parts_held, has_on}
+use Rattle.mc_shared.proofs.Stacked.{parts_held, has_on, all_fit}
 
 -- ---- what stands in one map stands in another
 
@@ -211,3 +215,45 @@ counts_flushed start divides apart xs ys d d' delay now before all some same cou
     let is = parts_counted start divides (flushed delay m now) ys d' (parts m old) n in
     let less = fewer (λ key. number_of start.hash_of key == n) m.items (flushed delay m now).items (flushed_within delay now m) in
     omega (arith, was, is, less))
+
+-- ---- all shelves are held, and the words are read
+
+pub may_count_all : (start : Beginning) → 4096 / start.shelves * start.shelves ≡ 4096 → (p : Past) (xs : List ShelfState) (me : Mine)
+    → me ≡ holds_all p xs → length xs ≡ start.shelves → (n : ℕ) → n < 4096 → MayCount start me.0 n
+may_count_all start divides p xs me is all n low =
+    let at : ℕ = n % start.shelves in
+    let inside = number_inside start.shelves n divides in
+    let one = has_on 0 at xs [] (omega arith) (omega (arith, inside, all)) in
+    let same : times at me.0 ≡ total (holds_bay at) (stacked xs) = ap (λ (m : Mine). total (holds_bay at) m.0.bays) is in
+    record { below = low; inside = inside; held = omega (arith, one, same); bare = ap (λ (m : Mine). m.0.surplus) is }
+
+-- what they told is so of each state whose parts the shelves are
+pub words_counted : (start : Beginning) (p : Past) (xs : List ShelfState) (d : DeskState) (me : Mine) (counts : List ℕ) → me ≡ holds_all p xs → AreKeyCounts start me.0 counts
+    → (m : Plain) → ArePartsOf start.hash_of m xs start.shelves d → (n : ℕ) → n < 4096 → slice_index counts n ≡ keys_with start.hash_of n m.items
+words_counted start p xs d me counts is keys m parts n low =
+    let all = parts.number in
+    keys.counted n low m (subst (AllFit start m) (sym (ap (λ (z : Mine). z.0.bays) is))
+    (all_fit start m 0 xs [] (omega (arith, all))
+    (λ at x e. let same : at ≡ 0 + at = omega arith in subst (λ k. IsShelfOf start.hash_of start.shelves m k x.content) same (parts.each at x e)) tt))
+
+-- ---- one shelf is held, and the words of its numbers are read
+
+pub may_count_one : (start : Beginning) → 4096 / start.shelves * start.shelves ≡ 4096 → (p : Past) (at : ℕ) (x : Content) (me : Mine)
+    → me ≡ holds_one p at x → (n : ℕ) → n < 4096 → n % start.shelves ≡ at → MayCount start me.0 n
+may_count_one start divides p at x me is n low own =
+    let all : times (n % start.shelves) me.0 ≡ holds_bay (n % start.shelves) (at, x) + 0 = ap (λ (m : Mine). total (holds_bay (n % start.shelves)) m.0.bays) is in
+    let one : holds_bay (n % start.shelves) (at, x) ≡ 1 = ap (λ b. holds_bay b (at, x)) own ∙ here at x in
+    record { below = low; inside = number_inside start.shelves n divides; held = omega (arith, all, one); bare = ap (λ (m : Mine). m.0.surplus) is }
+
+pub shelf_counted : (start : Beginning) → 4096 / start.shelves * start.shelves ≡ 4096 → (p : Past) (at : ℕ) (f : ShelfContent) (me : Mine) (counts : List ℕ)
+    → me ≡ holds_one p at (OfShelf f) → Fitted start me.0 → AreKeyCountsAt start me.0 at counts → AreCountsBy start.hash_of f counts
+shelf_counted start divides p at f me counts is fitted keys =
+    let m : Plain = after start start.plain fitted.log in
+    let fit : AllFit start m ((at, OfShelf f) ∷ []) = subst (AllFit start m) (ap (λ (z : Mine). z.0.bays) is) fitted.fits in
+    let part = fit.0.1 in
+    record {
+      many = keys.many;
+      counted = λ n low. dite (ℕ_discrete (n % start.shelves) at)
+          (λ own. keys.counted n low own m fitted.fits ∙ own_at start at (4096 / start.shelves) divides m f part n own)
+          (λ other. keys.none n low other ∙ sym (off_shelf start at divides 0 f f m part n other));
+    }

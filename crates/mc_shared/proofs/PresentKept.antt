@@ -1,5 +1,5 @@
 -- What keeps the presence words in step with the keys.
-use Rattle.std.proofs.Common.{◌≡◌, ◌≢◌, ℕ, ◌+◌, ◌%◌, ◌≤◌, ◌<◌, List, [], ◌∷◌, ◌++◌, length, get_or, set, cond, eqb, sym, refl, ap, ◌∙◌, subst, ⊎_elim, arith, get_or-set_other}
+use Rattle.std.proofs.Common.{◌≡◌, ◌≢◌, ℕ, ◌+◌, ◌%◌, ◌≤◌, ◌<◌, List, [], ◌∷◌, ◌++◌, length, replicate, get_or, set, cond, eqb, sym, refl, ap, ◌∙◌, subst, ⊎_elim, arith, get_or-set_other}
 use Rattle.std.proofs.Common.{get_or-set_same, eq-eqb, ne_eqb}
 use mathlib.Core.Logic.{dite}
 use mathlib.Core.Option.{some}
@@ -20,6 +20,7 @@ use Rattle.mc_shared.specs.Rule.{holds_bay, times, named, IsHeldWord, Present, S
 use Rattle.mc_shared.proofs.Sums.{sum_set, sum_two, total-append}
 use Rattle.mc_shared.proofs.NamedKept.{total_zero, total_one, alone}
 use Rattle.mc_shared.proofs.WordLemmas.{words_apart, word_behind}
+use Rattle.mc_shared.proofs.NumberSteps.{named_so, named_not}
 
 -- who holds no bay names no word
 pub names_none : (start : Beginning) (m : Plain) (words : List ℕ) (views : List SeatView) (id : ℕ) (v : SeatView) (word : ℕ) → Present start m words views
@@ -151,14 +152,16 @@ present_raised start m words views id n v w p at inside low holds bays more = le
     (λ e. record { number = n; below = low; is = e; held = (let a = alike (n % start.shelves) in omega (arith, a, holds)) })
     (λ ne. held_more start v w x (λ c. let a = alike c in omega (arith, a)) (p.owned id v x at (let g = grows x in let o = none_else x word ne in omega (arith, g, o, has)))))
 
--- one fewer is named, and the word is one less
-pub present_lowered : (start : Beginning) (m : Plain) (words : List ℕ) (views : List SeatView) (id n d : ℕ) (v w : SeatView) → Present start m words views
+-- so many fewer are named, and the word is so much less
+pub present_lowered : (start : Beginning) (m : Plain) (words : List ℕ) (views : List SeatView) (id n k d : ℕ) (v w : SeatView) → Present start m words views
     → get_elem? views id ≡ some v → n < 4096 → word_of start.shelves n < length words
-    → w.bays ≡ v.bays → v.surplus ≡ word_of start.shelves n ∷ w.surplus → get_or words (word_of start.shelves n) 0 ≡ d + 1 → Present start m (set words (word_of start.shelves n) d) (set views id w)
-present_lowered start m words views id n d v w p at low inside bays less was = let word : ℕ = word_of start.shelves n in
-    let shrinks : (x : ℕ) → named x v ≡ cond (eqb x word) 1 0 + named x w = λ x. ap (total (λ y. cond (eqb x y) 1 0)) less in
+    → w.bays ≡ v.bays → v.surplus ≡ replicate k (word_of start.shelves n) ++ w.surplus → get_or words (word_of start.shelves n) 0 ≡ d + k
+    → Present start m (set words (word_of start.shelves n) d) (set views id w)
+present_lowered start m words views id n k d v w p at low inside bays less was = let word : ℕ = word_of start.shelves n in
+    let shrinks : (x : ℕ) → named x v ≡ total (λ y. cond (eqb x y) 1 0) (replicate k word) + named x w = λ x.
+    ap (total (λ y. cond (eqb x y) 1 0)) less ∙ total-append (λ y. cond (eqb x y) 1 0) (replicate k word) w.surplus in
     let alike : (c : ℕ) → times c w ≡ times c v = λ c. ap (total (holds_bay c)) bays in
     present_word start m words views id n d v w p at low inside
-    (let g = shrinks word in let o = one_here word in omega (arith, g, o, was))
-    (λ x ne. let g = shrinks x in let o = none_else x word ne in omega (arith, g, o))
+    (let g = shrinks word in let o = named_so word k in omega (arith, g, o, was))
+    (λ x ne. let g = shrinks x in let o = named_not x word k ne in omega (arith, g, o))
     (λ x has. held_more start v w x (λ c. let a = alike c in omega (arith, a)) (p.owned id v x at (let g = shrinks x in omega (arith, g, has))))

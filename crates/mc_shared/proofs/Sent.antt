@@ -43,7 +43,7 @@ shelf_send : IsSend shelf.the_row
 shelf_send = search (chunks_send, crossing.crosses, sendable) depth 60 fits 20000
 
 desk_send : IsSend desk.the_row
-desk_send = search (chunks_send, crossing.crosses, sendable) depth 60 fits 20000
+desk_send = search (shelf_send, chunks_send, crossing.crosses, sendable) depth 60 fits 20000
 
 bay_send : IsSend bay.the_row
 bay_send = search (shelf_send, desk_send, boxed.the_send, sendable) depth 60 fits 20000

@@ -68,7 +68,7 @@ each_fits began m n (y ∷ xs) below h zero x e = let f = (below_fit began m (n 
 each_fits began m n (y ∷ xs) below h (suc at) x e = let next = each_fits began m (n + 1) xs ((n, OfShelf y.content) ∷ below) h at x e in
     let same : n + 1 + at ≡ n + suc at = omega arith in subst (λ k. IsShelfOf began.hash_of began.shelves m k x.content) same next
 
-all_fit : (began : Beginning) (m : Plain) (n : ℕ) (xs : List ShelfState) (below : List (ℕ × Content)) → n + length xs ≤ began.shelves
+pub all_fit : (began : Beginning) (m : Plain) (n : ℕ) (xs : List ShelfState) (below : List (ℕ × Content)) → n + length xs ≤ began.shelves
     → ((at : ℕ) (x : ShelfState) → slice_get xs at ≡ Some x → IsShelfOf began.hash_of began.shelves m (n + at) x.content) → AllFit began m below → AllFit began m (stacked_on n xs below)
 all_fit began m n [] below l fits h = h
 all_fit began m n (x ∷ xs) below l fits h =

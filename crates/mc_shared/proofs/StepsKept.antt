@@ -1,5 +1,5 @@
 -- Each atomic step keeps the rule.
-use Rattle.std.proofs.Common.{◌≡◌, ◌≢◌, ◌==◌, ℕ, zero, suc, ◌+◌, ◌-◌, ◌%◌, ◌^◌, ◌≤◌, ◌<◌, true, cond, eq-eqb, ◌∙◌, None, Some, List, [], ◌∷◌, ◌++◌, length, get_or, set, eqb, sym}
+use Rattle.std.proofs.Common.{◌≡◌, ◌≢◌, ◌==◌, ℕ, zero, suc, ◌+◌, ◌-◌, ◌%◌, ◌^◌, ◌≤◌, ◌<◌, true, cond, eq-eqb, ◌∙◌, None, Some, List, [], ◌∷◌, ◌++◌, length, drop, replicate, get_or, set, eqb, sym}
 use Rattle.std.proofs.Common.{refl, ap, subst, inl, inr, ⊎_elim, arith}
 use mathlib.Core.Logic.{dite}
 use native.Mathlib.Decide.{ℕ_discrete}
@@ -12,7 +12,7 @@ use Rattle.std.specs.FinMap.{get}
 use Rattle.mc_command.specs.Plain.{Plain, Items, Answered, alive, changed, plain, row_of, without_dead}
 use Rattle.mc_command.specs.declared.step.KeyStep.TheVariants.{Read}
 use Rattle.mc_command.specs.declared.reply.Reply.TheVariants.{Miss}
-use Rattle.mc_shared.proofs.Sums.{sum_one}
+use Rattle.mc_shared.proofs.Sums.{sum_one, total-append}
 use Rattle.atomic_table.specs.Table.{State, Act, keeps, takes, gives, step, stepped, carried_after, Valid, Allows, Splits, Joins, rest}
 use Rattle.atomic_table.proofs.Lists.{at_set, set_here, set_again, exchanged}
 use Rattle.mc_shared.specs.declared.bay.Bay.{Bay}
@@ -23,8 +23,8 @@ use Rattle.mc_shared.specs.History.{Beginning, HistoryEntry, Operation, Stepped,
 use Rattle.mc_shared.specs.Past.{name_of, Lives, Whole}
 use Rattle.mc_shared.specs.View.{SeatView}
 use Rattle.mc_shared.specs.Rule.{Fits, AllFit, holds_bay, times, named, Story, Named, Stocked, Present, Kept}
-use Rattle.mc_shared.specs.Steps.{Slot, Mine, IsAt, holding, entry_of, without, decided_by, called, tail, Agrees, took, gave, decided, reloaded, added, lowered, sought, Shows}
-use Rattle.mc_shared.specs.Steps.{MayAdd, Decides, Counts, next_name, maker, newcomer, met, gone}
+use Rattle.mc_shared.specs.Steps.{Slot, Mine, IsAt, holding, entry_of, without, decided_by, called, Agrees, took, gave, decided, reloaded, added, lowered, counted, sought, Shows}
+use Rattle.mc_shared.specs.Steps.{MayAdd, MayCount, Decides, Counts, next_name, maker, newcomer, met, gone}
 use Rattle.mc_shelf.specs.Numbers.{number_of, keys_with}
 use Rattle.mc_shared.specs.Presence.{word_of}
 use Rattle.mc_shared.proofs.StoryKept.{after_snoc, story_same, story_call, story_made, story_both}
@@ -33,6 +33,7 @@ use Rattle.mc_shared.proofs.StockedKept.{stocked_take, stocked_give, stocked_sam
 use Rattle.mc_shared.proofs.WordLemmas.{word_behind, word_inside}
 use Rattle.mc_shared.proofs.PresentKept.{bare_names, present_take, present_give, present_same, present_snoc, present_gone, present_raised, present_lowered, named_here, named_by_none}
 use Rattle.mc_shared.proofs.NumberLemmas.{nothing_out, none_counted}
+use Rattle.mc_shared.proofs.NumberSteps.{named_so, keys_alike}
 
 pub at_home : (began : Beginning) (m : Plain) (b : ℕ) (x : Bay) → Fits began m b (content_of x) → IsAt began.shelves b x
 at_home began m b (Shelf f) h = h.0
@@ -208,10 +209,11 @@ pub adds_one : (began : Beginning) (slots id n : ℕ) (me : Mine) → MayAdd beg
 adds_one began slots id n me may s k deep at small = let v : SeatView = me.0 in let m : Plain = after began began.plain k.log in let word : ℕ =
     word_of began.shelves n in let c : ℕ = get_or s.words word 0 in
     let w : SeatView = record v { surplus = word ∷ v.surplus } in
-    let counts = k.present.counts n may.below in
+    let own = may.own in
+    let counts = k.present.counts n own.below in
     let few = may.few m (k.stocked.out id v at) in
-    let here : total (named word) s.views ≡ named word v = named_here began m s.words s.homes s.views id v n k.present k.stocked at may.below may.inside may.held in
-    let bare : named word v ≡ 0 = bare_names v word may.bare in
+    let here : total (named word) s.views ≡ named word v = named_here began m s.words s.homes s.views id v n k.present k.stocked at own.below own.inside own.held in
+    let bare : named word v ≡ 0 = bare_names v word own.bare in
     let more : c + 1 ≡ (c + 1) % 18446744073709551616 = omega (arith, counts, few, here, bare) in (
       w,
       keeps,
@@ -223,47 +225,65 @@ adds_one began slots id n me may s k deep at small = let v : SeatView = me.0 in 
         stocked = stocked_word began m (set s.views id w) s.homes s.words word (c + 1) (word_behind began.shelves n) (stocked_same began m s.words s.homes s.views id v w k.stocked at refl);
         present =
             present_raised began m s.words s.views id n v w k.present at (let wide = k.stocked.wide in
-            let low = word_inside began.shelves n k.present.divides may.below in omega (arith, wide, low)) may.below may.held refl refl;
+            let low = word_inside began.shelves n k.present.divides own.below in omega (arith, wide, low)) own.below own.held refl refl;
       },
       refl,
     )
 
--- one is taken from the word that is named first
-pub takes_one : (began : Beginning) (slots id word : ℕ) (more : List ℕ) (me : Mine) → me.0.surplus ≡ word ∷ more
-    → Allows (Kept began) slots id me word (λ k. (k + (2 ^ 64 - 1)) % 2 ^ 64) (lowered (step slots word 1 0 none) me)
-takes_one began slots id word more me is s k deep at small = let v : SeatView = me.0 in let m : Plain = after began began.plain k.log in let c : ℕ = get_or s.words word 0 in
-    let w : SeatView = record v { surplus = tail v.surplus } in
-    let own =
-    k.present.owned id v word at
-    (subst (λ (xs : List ℕ). 1 ≤ total (λ x. cond (eqb word x) 1 0) xs) (sym is)
-    (let o : ◌≡◌ {A = ℕ} (cond (eqb word word) 1 0) 1 = ap (λ t. cond t 1 0) (eq-eqb word word refl) in omega (arith, o))) in
+-- so many are taken from the word that is named first as often
+drop_front : (k word : ℕ) (more : List ℕ) → drop k (replicate k word ++ more) ≡ more
+drop_front zero word more = refl
+drop_front (suc k) word more = drop_front k word more
+
+pub takes_many : (began : Beginning) (slots id word k : ℕ) (more : List ℕ) (me : Mine) → 0 < k → me.0.surplus ≡ replicate k word ++ more
+    → Allows (Kept began) slots id me word (λ n. (n + (2 ^ 64 - k)) % 2 ^ 64) (lowered (step slots word k 0 none) me)
+takes_many began slots id word k more me positive is s kept deep at small = let v : SeatView = me.0 in let m : Plain = after began began.plain kept.log in let c : ℕ = get_or s.words word 0 in
+    let w : SeatView = record v { surplus = drop k v.surplus } in
+    let mine : named word v ≡ k + total (λ x. cond (eqb word x) 1 0) more =
+    ap (total (λ x. cond (eqb word x) 1 0)) is
+    ∙ (total-append (λ x. cond (eqb word x) 1 0) (replicate k word) more ∙ ap (λ (j : ℕ). j + total (λ x. cond (eqb word x) 1 0) more) (named_so word k)) in
+    let own = kept.present.owned id v word at (omega (arith, mine, positive)) in
     let n : ℕ = own.number in let is_word : word ≡ word_of began.shelves n = own.is in
-    let less : v.surplus ≡ word_of began.shelves n ∷ tail v.surplus = is ∙ (λ i. is_word i ∷ tail (sym is i)) in
-    let counts : get_or s.words (word_of began.shelves n) 0 ≡ keys_with began.hash_of n m.items + total (named (word_of began.shelves n)) s.views = k.present.counts n own.below in
-    let one : 1 ≤ named (word_of began.shelves n) v =
-    subst (λ (x : ℕ). 1 ≤ named x v) is_word
-    (subst (λ (xs : List ℕ). 1 ≤ total (λ x. cond (eqb word x) 1 0) xs) (sym is)
-    (let o : ◌≡◌ {A = ℕ} (cond (eqb word word) 1 0) 1 = ap (λ t. cond t 1 0) (eq-eqb word word refl) in omega (arith, o))) in
-    let mine = sum_one (named (word_of began.shelves n)) s.views id v at in
+    let less : v.surplus ≡ replicate k (word_of began.shelves n) ++ drop k v.surplus =
+    is ∙ (λ i. replicate k (is_word i) ++ (sym (drop_front k word more) ∙ ap (drop k) (sym is)) i) in
+    let counts : c ≡ keys_with began.hash_of n m.items + total (named word) s.views =
+    subst (λ (x : ℕ). get_or s.words x 0 ≡ keys_with began.hash_of n m.items + total (named x) s.views) (sym is_word) (kept.present.counts n own.below) in
+    let all = sum_one (named word) s.views id v at in
     let same : get_or s.words (word_of began.shelves n) 0 ≡ c = ap (λ (x : ℕ). get_or s.words x 0) (sym is_word) in
     let fits : c < 18446744073709551616 = small in
-    let some_there : 1 ≤ c = omega (arith, counts, one, mine, same) in
-    let fewer : c - 1 ≡ (c + 18446744073709551615) % 18446744073709551616 = omega (arith, fits, some_there) in (
+    let there : k ≤ c = omega (arith, counts, mine, all) in
+    let fewer : c - k ≡ (c + (18446744073709551616 - k)) % 18446744073709551616 = omega (arith, fits, there, positive) in (
       w,
       keeps,
       tt,
       subst (λ (z : ℕ). Kept began (stepped s word z id me.1 w keeps)) fewer record {
-        log = k.log;
-        story = story_same began k.log s.views id v w k.story at refl;
-        named = named_same k.log s.views id v w k.named at refl (k.named.idle id v at);
+        log = kept.log;
+        story = story_same began kept.log s.views id v w kept.story at refl;
+        named = named_same kept.log s.views id v w kept.named at refl (kept.named.idle id v at);
         stocked =
-            stocked_word began m (set s.views id w) s.homes s.words word (c - 1) (let behind = word_behind began.shelves n in omega (arith, is_word, behind))
-            (stocked_same began m s.words s.homes s.views id v w k.stocked at refl);
-        present = subst (λ (x : ℕ). Present began m (set s.words x (c - 1)) (set s.views id w)) (sym is_word)
-            (present_lowered began m s.words s.views id n (c - 1) v w k.present at own.below (let wide = k.stocked.wide in
-            let low = word_inside began.shelves n k.present.divides own.below in omega (arith, wide, low)) refl less (omega (arith, same, some_there)));
+            stocked_word began m (set s.views id w) s.homes s.words word (c - k) (let behind = word_behind began.shelves n in omega (arith, is_word, behind))
+            (stocked_same began m s.words s.homes s.views id v w kept.stocked at refl);
+        present = subst (λ (x : ℕ). Present began m (set s.words x (c - k)) (set s.views id w)) (sym is_word)
+            (present_lowered began m s.words s.views id n k (c - k) v w kept.present at own.below (let wide = kept.stocked.wide in
+            let low = word_inside began.shelves n kept.present.divides own.below in omega (arith, wide, low)) refl less (omega (arith, same, there)));
       },
       refl,
+    )
+
+-- the word of a number whose shelf is held is read
+pub counts_keys : (began : Beginning) (slots id n : ℕ) (me : Mine) → MayCount began me.0 n
+    → Allows (Kept began) slots id me (word_of began.shelves n) (λ k. k) (counted began n (step slots (word_of began.shelves n) 0 0 none) me)
+counts_keys began slots id n me may s k deep at small = let v : SeatView = me.0 in let m : Plain = after began began.plain k.log in let word : ℕ =
+    word_of began.shelves n in let c : ℕ = get_or s.words word 0 in
+    let counts : c ≡ keys_with began.hash_of n m.items + total (named word) s.views = k.present.counts n may.below in
+    let here : total (named word) s.views ≡ named word v = named_here began m s.words s.homes s.views id v n k.present k.stocked at may.below may.inside may.held in
+    let bare : named word v ≡ 0 = bare_names v word may.bare in
+    let is : c ≡ keys_with began.hash_of n m.items = omega (arith, counts, here, bare) in (
+      v,
+      keeps,
+      tt,
+      subst (λ (z : List ℕ × List SeatView). Kept began record { words = z.0; homes = s.homes; views = z.1 }) (λ i. (sym (set-get_or s.words word 0) i, sym (set_again s.views id v at) i)) k,
+      (refl, λ other fits. is ∙ keys_alike began k.present.divides n may.inside m other v.bays may.held (k.stocked.out id v at) fits),
     )
 
 -- a key is sought by its number's word

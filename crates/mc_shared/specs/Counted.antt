@@ -1,9 +1,12 @@
 -- How many keys of each number were counted.
-use Rattle.std.specs.Prelude.{◌≡◌, ℕ, ◌*◌, ◌/◌, ◌<◌, List, length, slice_index}
-use Rattle.mc_command.specs.Plain.{Plain}
+use Rattle.std.specs.Prelude.{◌≡◌, ◌≢◌, ℕ, ◌*◌, ◌/◌, ◌%◌, ◌<◌, List, length, slice_index}
+use Rattle.mc_command.specs.Plain.{Plain, flushed}
 use Rattle.mc_shelf.specs.States.{ShelfContent, ShelfState, DeskState}
 use Rattle.mc_shelf.specs.Numbers.{AreHashes, keys_with}
 use Rattle.mc_shelf.specs.Parts.{ArePartsOf}
+use Rattle.mc_shared.specs.History.{Beginning}
+use Rattle.mc_shared.specs.Steps.{AreKeys}
+use Rattle.mc_shared.specs.View.{SeatView}
 
 -- a place for each number, and 0 there
 pub record AreNone (counts : List ℕ) : Type 0 where
@@ -30,3 +33,33 @@ pub record AreCountsOfAll (shelves : List ShelfState) (counts : List ℕ) : Type
   pub counted : (hash_of : List ℕ → ℕ) (state : Plain) → AreAllOf hash_of state shelves
       → (number : ℕ) → number < 4096
       → slice_index counts number ≡ keys_with hash_of number state.items
+
+-- at the place of each number how many keys have it, whatever the state is, if what a seat holds
+-- fits it
+pub record AreKeyCounts (start : Beginning) (v : SeatView) (counts : List ℕ) : Type 0 where
+  pub many : length counts ≡ 4096
+  pub counted : (number : ℕ) → number < 4096 → AreKeys start v number (slice_index counts number)
+
+-- the same at the places of one shelf's numbers, and 0 at the others
+pub record AreKeyCountsAt (start : Beginning) (v : SeatView) (at : ℕ) (counts : List ℕ) : Type 0
+  where
+    pub many : length counts ≡ 4096
+    pub counted : (number : ℕ) → number < 4096 → number % start.shelves ≡ at
+        → AreKeys start v number (slice_index counts number)
+    pub none : (number : ℕ) → number < 4096 → number % start.shelves ≢ at
+        → slice_index counts number ≡ 0
+
+-- at the place of each number how many keys of a shelf have it, by one hash of keys
+pub record AreCountsBy (hash_of : List ℕ → ℕ) (shelf : ShelfContent) (counts : List ℕ) : Type 0
+  where
+    pub many : length counts ≡ 4096
+    pub counted : (number : ℕ) → number < 4096
+        → slice_index counts number ≡ keys_with hash_of number shelf.items
+
+-- at the place of each number how many keys of it a flush after a delay left, of whatever state the
+-- shelves are then all parts
+pub record AreCountsLeft (delay : ℕ) (shelves : List ShelfState) (counts : List ℕ) : Type 0 where
+  pub many : length counts ≡ 4096
+  pub counted : (hash_of : List ℕ → ℕ) (state : Plain) (now : ℕ)
+      → AreAllOf hash_of (flushed delay state now) shelves → (number : ℕ) → number < 4096
+      → slice_index counts number ≡ keys_with hash_of number (flushed delay state now).items

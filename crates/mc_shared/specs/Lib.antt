@@ -19,3 +19,4 @@ pub mod Asking
 pub mod Laws
 pub mod Together
 pub mod Telling
+pub mod Emptied

@@ -1,5 +1,5 @@
 -- What each atomic step tells.
-use Rattle.std.specs.Prelude.{◌≡◌, ◌≢◌, ℕ, ◌+◌, ◌%◌, ◌^◌, ◌<◌, ◌≤◌, List, [], ◌∷◌, Option, Some, None}
+use Rattle.std.specs.Prelude.{◌≡◌, ◌≢◌, ℕ, ◌+◌, ◌%◌, ◌^◌, ◌<◌, ◌≤◌, List, [], ◌∷◌, drop, Option, Some, None}
 use Rattle.mc_command.specs.Plain.{Plain, opening}
 use Rattle.mc_command.specs.declared.step.KeyStep.TheVariants.{Read}
 use Rattle.mc_command.specs.declared.reply.Reply.TheVariants.{Miss}
@@ -133,25 +133,36 @@ pub record Counts (start : Beginning) (v : SeatView) (what : Operation) (w : Sea
       + named (word_of start.shelves number) w
   pub owned : (word : ℕ) → 1 ≤ named word w → IsHeldWord start w word
 
--- A seat may add one to a number's word, if none shows too many: it holds the number's shelf, and
--- whatever the state is, if what is held fits it, fewer keys have the number than a word can count.
-pub record MayAdd (start : Beginning) (v : SeatView) (number : ℕ) : Type 0 where
+-- A seat holds a number's shelf, and no word shows too many: so the number's word is the count of its
+-- keys, and stays so.
+pub record MayCount (start : Beginning) (v : SeatView) (number : ℕ) : Type 0 where
   pub below : number < 4096
   pub inside : number % start.shelves < start.shelves
   pub held : 1 ≤ times (number % start.shelves) v
   pub bare : v.surplus ≡ []
+
+-- It may add one to the word: whatever the state is, if what is held fits it, fewer keys have the
+-- number than a word can count.
+pub record MayAdd (start : Beginning) (v : SeatView) (number : ℕ) : Type 0 where
+  pub own : MayCount start v number
   pub few : (m : Plain) → AllFit start m v.bays → keys_with start.hash_of number m.items + 1 < 2 ^ 64
 
--- one was added to the word, or taken from the one that was named first
+-- so many keys have the number, whatever the state is, if what is held fits it
+abbrev pub AreKeys : Beginning → SeatView → (number count : ℕ) → Type 0
+AreKeys began v number count =
+    (m : Plain) → AllFit began m v.bays → count ≡ keys_with began.hash_of number m.items
+
+-- one was added to the word
 abbrev pub added : Step Slot → Mine → ℕ → Mine → Type 0
 added st m n m' = m' ≡ loaded m (st.word ∷ m.0.surplus)
 
-abbrev pub tail : List ℕ → List ℕ
-tail [] = []
-tail (x ∷ xs) = xs
-
+-- so many were taken from the word, which was named first so often
 abbrev pub lowered : Step Slot → Mine → ℕ → Mine → Type 0
-lowered st m n m' = m' ≡ loaded m (tail m.0.surplus)
+lowered st m n m' = m' ≡ loaded m (drop st.first m.0.surplus)
+
+-- the word of a number was read, and is how many keys have it
+abbrev pub counted : Beginning → (number : ℕ) → Step Slot → Mine → ℕ → Mine → Type 0
+counted began number st m n m' = (m' ≡ m) × AreKeys began m.0 number n
 
 -- What a number's word tells a seat: after some legal history that keeps its past, no key has the
 -- number where the word is 0; and where the past is whole and the seat holds nothing, the word is 0

@@ -1,6 +1,8 @@
 //! A value on the heap.
 ghost use Rattle.std.specs.Prelude.{◌≡◌, IfOk};
 ghost use Rattle.mc_shelf.specs.Numbers.{HasPlaces, AreCounted};
+ghost use Rattle.mc_shelf.specs.Bare.{IsBare};
+ghost use Rattle.mc_shelf.specs.States.{nothing_held};
 ghost use Rattle.mc_shelf.specs.Sweeps.{AreOut, GivesFor};
 ghost use Rattle.mc_shelf.specs.Unions.{IsFlushed};
 
@@ -56,6 +58,15 @@ impl Boxed<Shelf> {
         ensures desk { GivesFor self.old.content.items self.new.content.items desk.old desk.new }
     {
         self.inner.flush(delay, now, desk);
+    }
+
+    /// Puts a shelf of no items in its place, as its own `emptied_by` does.
+    pub(crate) fn emptied_by(&mut self, bare: Shelf) -> Shelf
+        requires { IsBare bare }
+        ensures before { result ≡ self.old }
+        ensures bare { self.new.content ≡ nothing_held self.old.content.greatest }
+    {
+        self.inner.emptied_by(bare)
     }
 
     /// Counts the shelf's keys of each number, as its own `count_numbers` does.

@@ -1,16 +1,18 @@
 //! How many keys of each number shelves hold, and the presence words of many numbers at once.
-ghost use Rattle.std.specs.Prelude.{◌≡◌, ◌-◌, ◌<◌, ◌++◌, ℕ, List, [], length, replicate};
+ghost use Rattle.std.specs.Prelude.{◌≡◌, ◌-◌, ◌%◌, ◌<◌, ◌++◌, ℕ, List, [], length, replicate};
 ghost use Rattle.std.specs.Prelude.{slice_index};
-ghost use Rattle.mc_command.specs.Plain.{Plain};
+ghost use Rattle.mc_command.specs.Plain.{Plain, flushed};
 ghost use Rattle.mc_shared.specs.Counted.{AreNone, AreCountsOf, AreAllOf, AreCountsOfAll};
+ghost use Rattle.mc_shared.specs.Counted.{AreKeyCounts, AreKeyCountsAt, AreCountsLeft};
+ghost use Rattle.mc_shared.specs.History.{start_of};
 ghost use Rattle.mc_shared.specs.Presence.{word_of};
 ghost use Rattle.mc_shared.specs.Seats.{SameSeat, IsSeatOf};
 ghost use Rattle.mc_shared.specs.Spread.{spread};
-ghost use Rattle.mc_shared.specs.Steps.{loaded};
+ghost use Rattle.mc_shared.specs.Steps.{loaded, MayCount};
 
 use crate::boxed::Boxed;
 use crate::rule::{Board, Seat};
-use crate::steps::{NUMBERS, lower_all, word_at};
+use crate::steps::{NUMBERS, count, lower_all, word_at};
 use mc_hop::KeyHash;
 use mc_shelf::Shelf;
 
@@ -55,7 +57,70 @@ pub(crate) fn count_boxes(shelves: &[Boxed<Shelf>]) -> [u64; NUMBERS]
     counts
 }
 
-/// Lowers the word of a number so often as it is named first.
+/// Counts the keys of each number that a flush after this delay left. Where it was one at once there
+/// are none, and no item is looked at; else the cost is that of one pass over all items.
+pub(crate) fn count_left(shelves: &[Boxed<Shelf>], delay: u64) -> [u64; NUMBERS]
+    requires { (hash_of : List ℕ → ℕ) × (state : Plain) × (now : ℕ)
+        × AreAllOf hash_of (flushed delay state now) shelves.now }
+    ensures { AreCountsLeft delay shelves.now result }
+{
+    if delay == 0 {
+        return no_counts();
+    }
+    count_boxes(shelves)
+}
+
+/// Reads off its word how many keys have each number. All shelves are held. The cost is that of 4096
+/// loads, whatever stands.
+pub(crate) fn count_words<K: KeyHash + Drop>(
+    board: &Board<K>,
+    seat: &mut Seat,
+    shelves: usize,
+) -> [u64; NUMBERS]
+    requires seat { IsSeatOf board.now.shared.table_id board.now.shared.key.value seat.old }
+    requires shelves { shelves ≡ board.now.shared.key.value.settings.shelves }
+    requires may { (number : ℕ) → number < 4096 → MayCount
+        (start_of K.hash_of board.now.shared.key.value) seat.old.me.0 number }
+    ensures seat { SameSeat seat.old seat.new }
+    ensures same { seat.new.me ≡ seat.old.me }
+    ensures keys { AreKeyCounts (start_of K.hash_of board.now.shared.key.value) seat.old.me.0
+        result }
+{
+    let mut counts = no_counts();
+    for number in 0..NUMBERS {
+        let word = word_at(board, shelves, number);
+        counts[number] = count(board, seat, word, number);
+    }
+    counts
+}
+
+/// Reads the same of one shelf's numbers alone. The shelf is held.
+pub(crate) fn count_words_at<K: KeyHash + Drop>(
+    board: &Board<K>,
+    seat: &mut Seat,
+    shelves: usize,
+    at: usize,
+) -> [u64; NUMBERS]
+    requires seat { IsSeatOf board.now.shared.table_id board.now.shared.key.value seat.old }
+    requires shelves { shelves ≡ board.now.shared.key.value.settings.shelves }
+    requires inside { at < shelves }
+    requires may { (number : ℕ) → number < 4096 → number % shelves ≡ at → MayCount
+        (start_of K.hash_of board.now.shared.key.value) seat.old.me.0 number }
+    ensures seat { SameSeat seat.old seat.new }
+    ensures same { seat.new.me ≡ seat.old.me }
+    ensures keys { AreKeyCountsAt (start_of K.hash_of board.now.shared.key.value) seat.old.me.0 at
+        result }
+{
+    let mut counts = no_counts();
+    for row in 0..NUMBERS / shelves {
+        let number = row * shelves + at;
+        let word = word_at(board, shelves, number);
+        counts[number] = count(board, seat, word, number);
+    }
+    counts
+}
+
+/// Lowers the word of a number by as many as it is named first, in one step.
 fn lower_number<K: KeyHash + Drop>(
     board: &Board<K>,
     seat: &mut Seat,
@@ -80,7 +145,7 @@ fn lower_number<K: KeyHash + Drop>(
 }
 
 /// Lowers the words of all numbers whose keys went, each by as many as did. The cost is a look at
-/// each number, and a step in the table for each key that went.
+/// each number, and a step in the table for each of which keys went, however many did.
 pub(crate) fn lower_words<K: KeyHash + Drop>(
     board: &Board<K>,
     seat: &mut Seat,

@@ -1,10 +1,13 @@
 //! All shelves are held at once.
 ghost use Rattle.std.specs.Prelude.{ℕ, List, ◌≡◌, ◌<◌, ◌≤◌, []};
-ghost use Rattle.std.specs.Prelude.{vec_len, vec_capacity, IfOk, OnErr};
+ghost use Rattle.std.specs.Prelude.{length, vec_len, vec_capacity, IfOk, IfSome, OnErr};
+ghost use Rattle.std.specs.List.{All};
 ghost use Rattle.mc_command.specs.declared.step.KeyStep.{KeyStep as Step};
 ghost use Rattle.mc_command.specs.declared.reply.Reply.{Reply as Told};
 ghost use Rattle.mc_command.specs.Plain.{Plain, flushed};
+ghost use Rattle.mc_shelf.specs.Bare.{IsBare};
 ghost use Rattle.mc_shelf.specs.Parts.{ArePartsOf};
+ghost use Rattle.mc_shared.specs.Emptied.{AreEmptied};
 ghost use Rattle.mc_shared.specs.History.{start_of};
 ghost use Rattle.mc_shared.specs.Steps.{Agrees};
 ghost use Rattle.mc_shared.specs.Store.{resting, with_call, HasCalled};
@@ -13,7 +16,7 @@ ghost use Rattle.mc_shared.specs.Stacks.{holds_all};
 
 use crate::bay::Bay;
 use crate::boxed::Boxed;
-use crate::count::{count_boxes, lower_words};
+use crate::count::{count_left, count_words, lower_words};
 use crate::decision::Decision;
 use crate::hold::{desk_from, shelf_from};
 use crate::patience::take_waiting;
@@ -79,8 +82,90 @@ fn flush_boxes(shelves: &mut [Boxed<Shelf>], desk: &mut Desk, delay: u64, now: M
     }
 }
 
-/// Flushes shelves that are with the desk the parts of a state.
-fn flush_held(held: &mut Vec<Boxed<Shelf>>, desk: &mut Desk, delay: u64, now: Moment)
+/// Shelves of no items, and room for those in whose places they come.
+#[derive(Drop)]
+struct Fresh {
+    shelves: Vec<Shelf>,
+    aside: Vec<Shelf>,
+}
+
+/// How many times as many shelves as a store has may lie aside.
+const TIMES: usize = 4;
+
+/// Makes so many shelves of no items. The one error is a refused allocation.
+fn bare_shelves(alloc: Global, count: usize, greatest: u64) -> Result<Vec<Shelf>, AllocError>
+    requires { greatest ≤ 8388608 }
+    ensures { IfOk result (λ list. (vec_len list ≡ count) × All IsBare list.items) }
+{
+    let mut list = Vec::with_capacity(alloc, count)?;
+    for _ in 0..count {
+        list.push(Shelf::new(alloc, greatest)?)?;
+    }
+    Ok(list)
+}
+
+/// Makes what a flush at once puts in the places of so many shelves, and nothing for a later one. The
+/// one error is a refused allocation.
+fn fresh_for(
+    alloc: Global,
+    delay: u64,
+    count: usize,
+    greatest: u64,
+) -> Result<Option<Fresh>, AllocError>
+    requires greatest { greatest ≤ 8388608 }
+    requires count { count ≤ 256 }
+    ensures fresh { IfOk result (λ made. IfSome made (λ fresh.
+        (count ≤ vec_len fresh.shelves) × All IsBare fresh.shelves.items
+        × (fresh.aside.items ≡ []) × (count ≤ vec_capacity fresh.aside))) }
+    ensures at_once { IfOk result (λ made. IfSome made (λ _. delay ≡ 0)) }
+{
+    if delay != 0 {
+        return Ok(None);
+    }
+    let shelves = bare_shelves(alloc, count, greatest)?;
+    let aside = Vec::with_capacity(alloc, TIMES * count)?;
+    Ok(Some(Fresh { shelves, aside }))
+}
+
+/// Puts shelves of no items in the places of others, and answers these, in their order.
+fn empty_boxes(shelves: &mut [Boxed<Shelf>], fresh: Fresh) -> Vec<Shelf>
+    requires many { length shelves.old ≤ vec_len fresh.shelves }
+    requires bare { All IsBare fresh.shelves.items }
+    requires room { (fresh.aside.items ≡ []) × (length shelves.old ≤ vec_capacity fresh.aside) }
+    ensures emptied { AreEmptied shelves.old shelves.new }
+    ensures aside { result.items ≡ shelves.old }
+{
+    let Fresh {
+        shelves: mut bare,
+        mut aside,
+    } = fresh;
+    for shelf in shelves.iter_mut() {
+        let bare = bare.pop().unwrap();
+        aside.push_reserved(shelf.emptied_by(bare));
+    }
+    aside
+}
+
+/// Flushes shelves that are with the desk the parts of a state at once: the desk lays them aside, and
+/// the cost doesn't grow with their items.
+fn flush_at_once(held: &mut Vec<Boxed<Shelf>>, desk: &mut Desk, fresh: Fresh)
+    requires parts { (hash_of : List ℕ → ℕ) × (state : Plain) × (count : ℕ)
+        × ArePartsOf hash_of state held.old.items count desk.old }
+    requires many { vec_len held.old ≤ vec_len fresh.shelves }
+    requires bare { All IsBare fresh.shelves.items }
+    requires room { (fresh.aside.items ≡ []) × (vec_len held.old ≤ vec_capacity fresh.aside) }
+    ensures count { vec_len held.new ≡ vec_len held.old }
+    ensures parts { (hash_of : List ℕ → ℕ) (state : Plain) (count now : ℕ) →
+        ArePartsOf hash_of state held.old.items count desk.old →
+        ArePartsOf hash_of (flushed 0 state now) held.new.items count desk.new }
+{
+    counts_follow();
+    let aside = empty_boxes(held.as_mut_slice(), fresh);
+    desk.lay_aside(aside);
+}
+
+/// Flushes shelves that are with the desk the parts of a state, after a delay.
+fn flush_later(held: &mut Vec<Boxed<Shelf>>, desk: &mut Desk, delay: u64, now: Moment)
     requires { (hash_of : List ℕ → ℕ) × (state : Plain) × (count : ℕ)
         × ArePartsOf hash_of state held.old.items count desk.old }
     ensures count { vec_len held.new ≡ vec_len held.old }
@@ -91,10 +176,37 @@ fn flush_held(held: &mut Vec<Boxed<Shelf>>, desk: &mut Desk, delay: u64, now: Mo
     flush_boxes(held.as_mut_slice(), desk, delay, now);
 }
 
-/// Room for the shelves that a flush holds: as many as the store has.
+/// Flushes shelves that are with the desk the parts of a state.
+fn flush_held(
+    held: &mut Vec<Boxed<Shelf>>,
+    desk: &mut Desk,
+    fresh: Option<Fresh>,
+    delay: u64,
+    now: Moment,
+)
+    requires parts { (hash_of : List ℕ → ℕ) × (state : Plain) × (count : ℕ)
+        × ArePartsOf hash_of state held.old.items count desk.old }
+    requires fresh { IfSome fresh (λ fresh.
+        (vec_len held.old ≤ vec_len fresh.shelves) × All IsBare fresh.shelves.items
+        × (fresh.aside.items ≡ []) × (vec_len held.old ≤ vec_capacity fresh.aside)) }
+    requires at_once { IfSome fresh (λ _. delay ≡ 0) }
+    ensures count { vec_len held.new ≡ vec_len held.old }
+    ensures parts { (hash_of : List ℕ → ℕ) (state : Plain) (count : ℕ) →
+        ArePartsOf hash_of state held.old.items count desk.old →
+        ArePartsOf hash_of (flushed delay state now) held.new.items count desk.new }
+{
+    match fresh {
+        Some(fresh) => flush_at_once(held, desk, fresh),
+        None => flush_later(held, desk, delay, now),
+    }
+}
+
+/// Room for the shelves that a flush holds: as many as the store has; and where it is at once, what
+/// comes in their places.
 struct Room {
     held: Vec<Boxed<Shelf>>,
     count: usize,
+    fresh: Option<Fresh>,
 }
 
 /// A flush, for which all shelves and the desk are held at once. The words of the keys that went are
@@ -111,16 +223,20 @@ fn flush_by<K: KeyHash + Drop, R: Wait>(
     requires count { room.count ≡ board.now.shared.key.value.settings.shelves }
     requires some { 0 < room.count }
     requires room { (room.held.items ≡ []) × (room.count ≤ vec_capacity room.held) }
+    requires fresh { IfSome room.fresh (λ fresh.
+        (room.count ≤ vec_len fresh.shelves) × All IsBare fresh.shelves.items
+        × (fresh.aside.items ≡ []) × (room.count ≤ vec_capacity fresh.aside)) }
+    requires at_once { IfSome room.fresh (λ _. delay ≡ 0) }
     ensures seat { SameSeat seat.old seat.new }
     ensures done { (seat.new.me ≡ resting
         (with_call seat.old.me.0.past (Step.Flush delay) now Told.Flushed))
         × Agrees (start_of K.hash_of board.now.shared.key.value) seat.new.me.0.past }
 {
-    let Room { held, count } = room;
+    let Room { held, count, fresh } = room;
     let mut held = hold_all(rt, board, seat, held, count);
+    let before = count_words(board, seat, count);
     let mut desk = desk_from(take_waiting(rt, board, seat, count), count);
-    let before = count_boxes(held.as_slice());
-    flush_held(&mut held, &mut *desk, delay, now);
+    flush_held(&mut held, &mut *desk, fresh, delay, now);
     let decision = Decision::Flushed {
         delay,
         moment: now,
@@ -129,7 +245,7 @@ fn flush_by<K: KeyHash + Drop, R: Wait>(
     };
     let value = Bay::Desk(Boxed::of(desk));
     decide(board, seat, count, value, &decision);
-    let after = count_boxes(held.as_slice());
+    let after = count_left(held.as_slice(), delay);
     lower_words(board, seat, count, &before, &after);
     give_all(board, seat, held);
 }
@@ -137,9 +253,15 @@ fn flush_by<K: KeyHash + Drop, R: Wait>(
 impl<K: KeyHash + Drop> Shared<K> {
     /// Flushes, all items at once or what stands by then after a delay in seconds, which is read as
     /// an exptime is. It waits for what others hold: all shelves are held in their order, and then
-    /// the desk, so the flush is one step. It takes memory for as many pointers as there are shelves.
-    /// The one error is a refused allocation, and the caller's past then stays. The cost is that of
-    /// three passes over all items.
+    /// the desk, so the flush is one step. It takes memory for as many pointers as there are shelves,
+    /// and one at once for as many empty shelves, each with room for 64 items, before it holds any.
+    /// The one error is a refused allocation, and the caller's past then stays. The cost of one at
+    /// once doesn't grow with the items: they are laid aside whole, and their chunks are collected
+    /// later, a few with each write. One with a delay passes once over all items, and once more where
+    /// some may be dead. The presence words are read and lowered in at most two steps for each of
+    /// 4096 numbers, however many keys go.
+    // Its counts are of a size that each call of a caller it is inlined into would make room for.
+    #[inline(never)]
     pub fn flush<R: Wait>(
         &self,
         rt: &R,
@@ -155,7 +277,7 @@ impl<K: KeyHash + Drop> Shared<K> {
         ensures err { OnErr result (caller.new.past ≡ caller.old.past) }
         ensures agrees { Agrees (start_of K.hash_of self.now.began) caller.new.past }
     {
-        match self.room(alloc) {
+        match self.room(alloc, delay) {
             Ok(room) => {
                 flush_by(rt, &self.board, &mut caller.seat, room, delay, now);
                 Ok(Reply::Flushed)
@@ -167,13 +289,19 @@ impl<K: KeyHash + Drop> Shared<K> {
         }
     }
 
-    /// Makes room for all shelves, in their boxes.
-    fn room(&self, alloc: Global) -> Result<Room, AllocError>
-        ensures { IfOk result (λ room. (room.count ≡ self.now.began.settings.shelves)
+    /// Makes room for all shelves, in their boxes, and where a flush is at once, what comes in their
+    /// places. The one error is a refused allocation.
+    fn room(&self, alloc: Global, delay: u64) -> Result<Room, AllocError>
+        ensures room { IfOk result (λ room. (room.count ≡ self.now.began.settings.shelves)
             × (room.held.items ≡ []) × (room.count ≤ vec_capacity room.held)) }
+        ensures fresh { IfOk result (λ room. IfSome room.fresh (λ fresh.
+            (room.count ≤ vec_len fresh.shelves) × All IsBare fresh.shelves.items
+            × (fresh.aside.items ≡ []) × (room.count ≤ vec_capacity fresh.aside))) }
+        ensures at_once { IfOk result (λ room. IfSome room.fresh (λ _. delay ≡ 0)) }
     {
         let count = self.settings.shelves as usize;
         let held = Vec::with_capacity(alloc, count)?;
-        Ok(Room { held, count })
+        let fresh = fresh_for(alloc, delay, count, self.settings.greatest)?;
+        Ok(Room { held, count, fresh })
     }
 }

@@ -9,18 +9,18 @@ use crate::rule::{Board, Seat};
 use crate::steps::{place_of, take};
 use mc_hop::KeyHash;
 use std::convert::Infallible;
+use std::hint;
 use std::sync::Wait;
 use std::time::Duration;
-use std::{hint, thread};
 
-/// How often a bay that is held is looked at before another thread has its turn.
+/// How often a bay that is held is looked at before one that waits for it sleeps.
 const LOOKS: u32 = 10;
 
 /// The most that pauses double between two looks: 64 pauses are the longest.
 const DOUBLINGS: u32 = 6;
 
-/// How often other threads have their turns before one that waits sleeps.
-const TURNS: u32 = 64;
+/// How often one that waits sleeps for a short time, before it sleeps for longer.
+const SHORT_TURNS: u32 = 64;
 
 /// What is called once while a step's shelf is held.
 pub trait Gate {
@@ -166,20 +166,21 @@ fn take_spinning<K: KeyHash + Drop>(board: &Board<K>, seat: &mut Seat, bay: usiz
     None
 }
 
-/// Lets other threads have their turn, and after many turns sleeps a millisecond at most, so that a
-/// bay which is held for long, as in a flush, costs no core.
+/// Sleeps for 50 microseconds at most, and where it waits for long for a millisecond, so that a bay which
+/// is held for long, as in a flush, costs no core.
+// One that lets others have their turn by `yield_now` is back when they have used it up, which takes
+// milliseconds where threads are more than processors; one that slept runs at once.
 fn stand_aside<K: KeyHash + Drop, R: Wait>(rt: &R, board: &Board<K>, bay: usize, turns: u32)
     requires table { IsTableOf board.now.shared.table_id board.now.shared.key.value }
     requires bay { bay ≤ board.now.shared.key.value.settings.shelves }
 {
-    if turns < TURNS {
-        thread::yield_now();
+    let longest = if turns < SHORT_TURNS {
+        Duration::from_micros(50)
     } else {
-        let place = place_of(board, bay);
-        board
-            .shared
-            .park_timeout(rt, place, 1, Duration::from_millis(1));
-    }
+        Duration::from_millis(1)
+    };
+    let place = place_of(board, bay);
+    board.shared.park_timeout(rt, place, 1, longest);
 }
 
 /// Takes a bay, and tries again until it is free.

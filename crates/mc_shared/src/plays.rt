@@ -69,6 +69,24 @@ impl Seeks for Brand {
     ghost moment = { 0 };
 }
 
+/// A number whose keys are counted, and what the store began with. Each call of a step picks it.
+pub trait Counts {
+    ghost use Rattle.std.specs.Prelude.{ℕ};
+    ghost use Rattle.mc_shared.specs.History.{Beginning};
+
+    ghost start: { Beginning };
+
+    ghost number: { ℕ };
+}
+
+impl Counts for Brand {
+    ghost use Rattle.mc_shared.specs.Steps.{nothing_began};
+
+    ghost start = { nothing_began };
+
+    ghost number = { 0 };
+}
+
 /// What the store began with, and which bay is taken. Each call that takes one picks it.
 pub trait Takes {
     ghost use Rattle.std.specs.Prelude.{ℕ};
@@ -141,6 +159,16 @@ impl Play<Option<Bay>, View> for Lower {
     ghost use Rattle.mc_shared.specs.Steps.{lowered};
 
     ghost then = { lowered };
+}
+
+pub struct Count<C> {
+    counts: PhantomData<C>,
+}
+
+impl<C: Counts> Play<Option<Bay>, View> for Count<C> {
+    ghost use Rattle.mc_shared.specs.Steps.{counted};
+
+    ghost then = { counted C.start C.number };
 }
 
 pub struct Seek<S> {

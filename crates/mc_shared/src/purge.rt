@@ -4,11 +4,11 @@ ghost use Rattle.mc_shared.specs.History.{start_of, Purged};
 ghost use Rattle.mc_shared.specs.Past.{call};
 ghost use Rattle.mc_shared.specs.Steps.{entry_of, Agrees};
 ghost use Rattle.mc_shared.specs.Holds.{HasPurged, caller_of};
-ghost use Rattle.mc_shared.specs.Counted.{AreCountsOf};
+ghost use Rattle.mc_shared.specs.Counted.{AreCountsBy};
 
 use crate::bay::Bay;
 use crate::boxed::Boxed;
-use crate::count::{count_shelf, lower_words};
+use crate::count::{count_shelf, count_words_at, lower_words};
 use crate::decision::Decision;
 use crate::hold::{AtBoth, AtShelf};
 use crate::patience::{NoGate, Waiting};
@@ -42,11 +42,15 @@ impl<'a, K: KeyHash + Drop> AtShelf<'a, K> {
         Ok(Caller { seat, grows })
     }
 
-    /// Counts the shelf's keys of each number.
-    fn counts(&self) -> [u64; NUMBERS]
-        ensures { AreCountsOf self.now.shelf.content result }
+    /// Counts the shelf's keys of each number, by the numbers' words.
+    fn counts(&mut self) -> [u64; NUMBERS]
+        ensures same { self.new ≡ self.old }
+        ensures counts { AreCountsBy (K.hash_of self.old.shared.began.hasher)
+            self.old.shelf.content result }
     {
-        count_shelf(&*self.shelf)
+        let shared = self.shared;
+        let count = shared.settings.shelves as usize;
+        count_words_at(&shared.board, &mut self.seat, count, self.at as usize)
     }
 
     /// Moves up to `n` entries of the shelf's old table, and answers how many it moved.
@@ -63,7 +67,7 @@ impl<'a, K: KeyHash + Drop> AtBoth<'a, K> {
     /// with the decision, then the words of the keys that went are lowered, and then the shelf goes
     /// back.
     fn purge(self, now: Moment, before: &[u64]) -> Caller
-        requires { AreCountsOf self.shelf.content before.now }
+        requires { AreCountsBy (K.hash_of self.shared.began.hasher) self.shelf.content before.now }
         ensures { HasPurged K.hash_of self.entry.shared self.entry.past self.entry.at now result }
     {
         let AtBoth {
@@ -106,7 +110,7 @@ fn tidy_for<K: KeyHash + Drop, R: Wait>(
     let (shared, rt, at, now) = asked;
     match shared.wait_for_shelf(rt, caller, at).purge_alone(*now) {
         Ok(caller) => (caller, ()),
-        Err(hold) => {
+        Err(mut hold) => {
             let before = hold.counts();
             (hold.wait_for_desk(rt).purge(*now, &before), ())
         }
@@ -132,8 +136,10 @@ fn grow_for<K: KeyHash + Drop, R: Wait>(
 
 impl<K: KeyHash + Drop> Shared<K> {
     /// Drops the items of a shelf that are dead at a moment. It waits for the shelf, and where an
-    /// item in it may be dead for the desk, and takes no memory. The cost is that of three passes
+    /// item in it may be dead for the desk, and takes no memory. The cost is that of two passes
     /// over the shelf's items, and where none may be dead it walks none.
+    // Its counts are of a size that each call of a caller it is inlined into would make room for.
+    #[inline(never)]
     pub fn tidy<R: Wait>(&self, rt: &R, caller: &mut Caller, shelf: u32, now: Moment)
         requires own { caller.old.table ≡ self.now.table }
         requires shelf { shelf < self.now.began.settings.shelves }

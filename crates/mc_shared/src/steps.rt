@@ -1,5 +1,5 @@
 //! A bay is taken and given back, and a presence word is changed and asked.
-ghost use Rattle.std.specs.Prelude.{◌≡◌, ◌≢◌, ◌*◌, ◌/◌, ◌%◌, ◌<◌, ◌≤◌, [], ◌∷◌, ℕ, List, ◌++◌, true, IfOk, IfErr, replicate};
+ghost use Rattle.std.specs.Prelude.{◌≡◌, ◌≢◌, ◌*◌, ◌/◌, ◌%◌, ◌<◌, ◌≤◌, [], ◌∷◌, ℕ, List, ◌++◌, true, IfOk, IfErr, drop, replicate};
 ghost use Rattle.mc_command.specs.declared.step.KeyStep.{KeyStep as Step};
 ghost use Rattle.mc_command.specs.declared.reply.Reply.{Reply as Told};
 ghost use Rattle.mc_shelf.specs.Numbers.{number_of};
@@ -7,15 +7,16 @@ ghost use Rattle.mc_shared.specs.History.{start_of, Stepped};
 ghost use Rattle.mc_shared.specs.Bays.{content_of, place};
 ghost use Rattle.mc_shared.specs.Decisions.{operation_of, still_of, surplus_of};
 ghost use Rattle.mc_shared.specs.Presence.{word_of, words_with};
-ghost use Rattle.mc_shared.specs.Steps.{without, maker, newcomer, met, called, loaded, tail};
-ghost use Rattle.mc_shared.specs.Steps.{MayAdd, Shows, Agrees, Fitted};
+ghost use Rattle.mc_shared.specs.Steps.{without, maker, newcomer, met, called, loaded};
+ghost use Rattle.mc_shared.specs.Steps.{MayAdd, MayCount, AreKeys, Shows, Agrees, Fitted};
 ghost use Rattle.mc_shared.specs.Steps.{HoldsThis, HasTaken, HasDecided, IsBusy};
 ghost use Rattle.mc_shared.specs.Seats.{SameSeat, IsTableOf, IsSeatOf, IsAlive, MayDecide};
 
 use crate::bay::Bay;
 use crate::decision::Decision;
 use crate::plays::{
-    Begins, Decide, Fork, Give, Lower, Meet, Raise, Reload, Says, Seek, Seeks, Take, Takes,
+    Begins, Count, Counts, Decide, Fork, Give, Lower, Meet, Raise, Reload, Says, Seek, Seeks, Take,
+    Takes,
 };
 use crate::rule::{Board, Seat};
 use mc_hop::KeyHash;
@@ -259,18 +260,19 @@ pub(crate) fn raise_for<K: KeyHash + Drop>(
     (word, raise_if(board, seat, number, word, comes))
 }
 
-/// Takes one from the word that is named first as one that shows too many.
-pub fn lower<K: KeyHash + Drop>(board: &Board<K>, seat: &mut Seat, word: usize)
+/// Takes so many from the word that is named first as often, in one step.
+pub fn lower<K: KeyHash + Drop>(board: &Board<K>, seat: &mut Seat, word: usize, count: u64)
     requires seat { IsSeatOf board.now.shared.table_id board.now.shared.key.value seat.old }
     requires word { word < board.now.shared.table_id.words }
-    requires named { (more : List ℕ) × (seat.old.me.0.surplus ≡ word ∷ more) }
+    requires some { 0 < count }
+    requires named { (more : List ℕ) × (seat.old.me.0.surplus ≡ replicate count word ++ more) }
     ensures seat { SameSeat seat.old seat.new }
-    ensures view { seat.new.me ≡ loaded seat.old.me (tail seat.old.me.0.surplus) }
+    ensures view { seat.new.me ≡ loaded seat.old.me (drop count seat.old.me.0.surplus) }
 {
-    board.shared.fetch_sub::<Lower>(seat, word, 1);
+    board.shared.fetch_sub::<Lower>(seat, word, count);
 }
 
-/// Takes so many from the word that is named first as often.
+/// Takes so many from the word that is named first as often: one step, and none where it is 0.
 pub fn lower_all<K: KeyHash + Drop>(board: &Board<K>, seat: &mut Seat, word: usize, count: usize)
     requires seat { IsSeatOf board.now.shared.table_id board.now.shared.key.value seat.old }
     requires word { word < board.now.shared.table_id.words }
@@ -279,11 +281,44 @@ pub fn lower_all<K: KeyHash + Drop>(board: &Board<K>, seat: &mut Seat, word: usi
     ensures view { (more : List ℕ) → seat.old.me.0.surplus ≡ replicate count word ++ more
         → seat.new.me ≡ loaded seat.old.me more }
 {
-    let mut left = count;
-    while left > 0 {
-        lower(board, seat, word);
-        left -= 1;
+    if count > 0 {
+        lower(board, seat, word, count as u64);
     }
+}
+
+fn count_as<C: Counts, K: KeyHash + Drop>(
+    board: &Board<K>,
+    seat: &mut Seat,
+    word: usize,
+    _number: usize,
+) -> u64
+    requires began { C.start ≡ start_of K.hash_of board.now.shared.key.value }
+    requires seat { IsSeatOf board.now.shared.table_id board.now.shared.key.value seat.old }
+    requires word { word ≡ word_of C.start.shelves C.number }
+    requires may { MayCount C.start seat.old.me.0 C.number }
+    ensures seat { SameSeat seat.old seat.new }
+    ensures same { seat.new.me ≡ seat.old.me }
+    ensures keys { AreKeys C.start seat.old.me.0 C.number result }
+{
+    board.shared.load::<Count<C>>(seat, word)
+}
+
+/// Reads off the word of a number, whose shelf is held, how many keys have it.
+pub fn count<K: KeyHash + Drop>(
+    board: &Board<K>,
+    seat: &mut Seat,
+    word: usize,
+    number: usize,
+) -> u64
+    requires seat { IsSeatOf board.now.shared.table_id board.now.shared.key.value seat.old }
+    requires word { word ≡ word_of board.now.shared.key.value.settings.shelves number }
+    requires may { MayCount (start_of K.hash_of board.now.shared.key.value) seat.old.me.0 number }
+    ensures seat { SameSeat seat.old seat.new }
+    ensures same { seat.new.me ≡ seat.old.me }
+    ensures keys { AreKeys (start_of K.hash_of board.now.shared.key.value) seat.old.me.0 number
+        result }
+{
+    count_as::<Brand, K>(board, seat, word, number)
 }
 
 fn seek_as<S: Seeks, K: KeyHash + Drop>(

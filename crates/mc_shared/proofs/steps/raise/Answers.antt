@@ -14,7 +14,7 @@ fetch_add-requires g c =
     let began = start_of g.K.KeyHash.hash_of store in
     let fit = c.requires.seat.fit in (
       c.requires.seat.own,
-      (let wide = fit.wide in let is = c.requires.word in let low = word_inside store.settings.shelves c.args.number fit.divides c.requires.may.below in omega (arith, wide, is, low)),
+      (let wide = fit.wide in let is = c.requires.word in let low = word_inside store.settings.shelves c.args.number fit.divides c.requires.may.own.below in omega (arith, wide, is, low)),
       subst (λ (x : ℕ). Allows (Kept began) c.args.board.now.shared.table_id.slots c.args.seat.now.id c.args.seat.now.me x (λ k. (k + 1) % 2 ^ 64)
           (added (step c.args.board.now.shared.table_id.slots x 1 0 none) c.args.seat.now.me))
           (sym c.requires.word) (adds_one began _ _ c.args.number c.args.seat.now.me c.requires.may),

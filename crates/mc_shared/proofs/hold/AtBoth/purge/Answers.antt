@@ -3,7 +3,7 @@ use Rattle.mc_command.specs.Plain.{Plain}
 use Rattle.mc_shelf.specs.Numbers.{AreHashes, keys_with}
 use Rattle.mc_shelf.specs.States.{ShelfState, DeskState}
 use Rattle.mc_shared.specs.Bays.{Content, OfShelf, OfDesk}
-use Rattle.mc_shared.specs.Counted.{AreCountsOf}
+use Rattle.mc_shared.specs.Counted.{AreCountsOf, AreCountsBy}
 use Rattle.mc_shared.specs.History.{start_of, after, Purged}
 use Rattle.mc_shared.specs.Rule.{AllFit}
 use Rattle.mc_shared.specs.Seats.{MayDecide}
@@ -45,7 +45,8 @@ decide-requires g c =
     let some : Plain = after began began.plain here.fits.log in
     let bays : List (ℕ × Content) = (began.shelves, OfDesk from) ∷ (at, OfShelf old) ∷ [] in
     let fit : AllFit began some bays = subst (AllFit began some) (ap (λ (m : Mine). m.0.bays) here.held) here.fits.fits in
-    let counted = subst (λ (s : ShelfState). AreCountsOf s.content c.args.before.now) (sym (c.deref_mut.ensures.value ∙ ap (λ h. h.shelf) c.self.view_is)) c.requires in
+    let counted = subst (λ (t : SharedState g.row.K.Denot × ShelfState). AreCountsBy (hash_of t.0.began.hasher) t.1.content c.args.before.now)
+    (λ i. (sym (c.shared.view_is ∙ ap (λ h. h.shared) c.self.view_is) i, sym (c.deref_mut.ensures.value ∙ ap (λ h. h.shelf) c.self.view_is) i)) c.requires in
     record {
       may = subst (λ (t : DeskState × ShelfState). MayDecide board.table_id board.key.value seat c.shared.inside.settings.shelves began (OfDesk t.0) what ((at, OfShelf t.1.content) ∷ [])
           (spread began.shelves (λ n. slice_index c.args.before.now n - keys_with began.hash_of n t.1.content.items) 0 4096)) (λ i. (sym c.of.ensures i, sym c.deref.ensures i))
@@ -55,7 +56,7 @@ decide-requires g c =
           (applies began at old new from to what (λ m part desk. tt)
           (λ m part desk. c.purge_part.ensures began.hash_of began.shelves at m part desk))
           (counts_swept began at inv.0.divides c.args.now old new (λ n k low high. words_apart began.shelves n k inv.0.divides low high)
-          (λ n. slice_index c.args.before.now n) (λ n low. counted.counted began.hash_of fit.1.0.1.hashes n low) _ _ [] refl refl refl some fit
+          (λ n. slice_index c.args.before.now n) counted.counted _ _ [] refl refl refl some fit
           (λ m fits. (fits.1.0.1, (to, c.purge_part.ensures began.hash_of began.shelves at m fits.1.0.1 fits.0.1)))));
     }
 

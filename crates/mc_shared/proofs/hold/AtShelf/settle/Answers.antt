@@ -33,7 +33,7 @@ decide-requires g c =
     let own = asked.own ∙ sym (ap (λ h. h.at) c.self.view_is ∙ c.requires.at) in
     let plan = subst (λ (s : ShelfState). IsPlan c.args.plan s.content step ask.moment) (sym (here ∙ ap (λ h. h.shelf) c.self.view_is)) c.requires.plan.is_plan in
     let settled : IsSettled step ask.moment (began.hash_of (key_of step)) old reply new =
-    subst (λ h. IsSettled step ask.moment h old reply new) (c.requires.plan.hashed ∙ asked.hashed) (c.settle-reply.ensures step ask.moment plan) in
+    subst (λ h. IsSettled step ask.moment h old reply new) (c.requires.plan.hashed ∙ asked.hashed) (c.settle-reply.ensures.told step ask.moment plan) in
     let what = Stepped step ask.moment reply in
     let held = holds_one c.self.inside.seat.me.0.past at (OfShelf old) in
     let alone =

@@ -1,0 +1,65 @@
+//! Items that a flush lays aside: their chunks are free at once, and a page goes to a class only where too few are. Where an
+//! allocation is refused the steps are asked again.
+
+use crate::tests::Trial;
+use mc_shelf::Settings;
+use mc_testing::{Ask, Row, Want, filled, first_unlike, set};
+use std::test::*;
+
+/// A block that makes a page with a key of one byte.
+const ONE: usize = 1_048_527;
+
+/// How a store of three pages is set up, of which its first two items have one.
+const THREE: Settings = Settings {
+    pages: 3,
+    greatest: Settings::GREATEST,
+    shelves: 4,
+};
+
+const FLUSH: Row<'static> = (1000, b"", Ask::Flush(0), Want::Told("flushed"));
+
+const MISS: Row<'static> = (1000, b"b", Ask::Get, Want::Told("miss"));
+
+/// Two items of a page each fill the store, and after a flush two others do.
+#[test]
+fn a_flush_frees_all_chunks(rt: HostRuntime) -> Result<(), Fail> {
+    let alloc = rt.alloc();
+    let page = filled(alloc, ONE)?;
+    let page = page.as_slice();
+    let mut trial = Trial::open_so(&rt, alloc, THREE)?;
+    let rows: [Row<'_>; 9] = [
+        set(1000, b"b", 0, page, "stored"),
+        set(1000, b"c", 0, page, "stored"),
+        set(1000, b"d", 0, page, "no chunk"),
+        FLUSH,
+        MISS,
+        set(1000, b"d", 0, page, "stored"),
+        set(1000, b"a", 0, b"y", "stored"),
+        set(1000, b"e", 0, page, "stored"),
+        set(1000, b"f", 0, page, "no chunk"),
+    ];
+    assert_eq!(rt; first_unlike(&mut trial, alloc, &rows)?, None);
+    Ok(())
+}
+
+/// The same holds after flush upon flush.
+#[test]
+fn each_flush_frees_all_chunks(rt: HostRuntime) -> Result<(), Fail> {
+    let alloc = rt.alloc();
+    let page = filled(alloc, ONE)?;
+    let page = page.as_slice();
+    let mut trial = Trial::open_so(&rt, alloc, THREE)?;
+    let rows: [Row<'_>; 9] = [
+        set(1000, b"b", 0, page, "stored"),
+        FLUSH,
+        set(1000, b"c", 0, page, "stored"),
+        FLUSH,
+        FLUSH,
+        set(1000, b"d", 0, page, "stored"),
+        set(1000, b"e", 0, page, "stored"),
+        set(1000, b"f", 0, page, "no chunk"),
+        MISS,
+    ];
+    assert_eq!(rt; first_unlike(&mut trial, alloc, &rows)?, None);
+    Ok(())
+}
