@@ -10,3 +10,11 @@ pub record BufferState : Type 0 where
 pub record IsHalfFull (kept taken : ℕ) (buffer : List ℕ) (capacity : ℕ) : Type 0 where
   pub half : taken + taken ≤ length buffer
   pub small : length buffer ≡ 0 → capacity ≤ kept
+
+-- how many bytes of memory what is empty keeps where nothing is to come soon
+abbrev pub first_piece : ℕ
+first_piece = 2048
+
+-- how many bytes of memory the unread bytes of a feed keep where there are none
+abbrev pub kept_in_feed : ℕ
+kept_in_feed = 65536

@@ -1,4 +1,4 @@
-ghost use Rattle.std.specs.Prelude.{◌≡◌, ℕ, List, None};
+ghost use Rattle.std.specs.Prelude.{◌≡◌, ℕ, List, [], None};
 ghost use Rattle.mc_parse.specs.Peeks.{unit_of, FindsSpelled, MissesNone, StaysWhole};
 ghost use Rattle.mc_parse.specs.Cursors.{IsFirstCursor};
 ghost use Rattle.mc_parse.specs.Aheads.{Knew, Knows, HasNoFeed};
@@ -36,7 +36,9 @@ impl Ahead {
     }
 
     /// Counts the bytes of the unit, where its line announces a block; else none.
-    pub fn announced(&self) -> usize {
+    pub fn announced(&self) -> usize
+        ensures { (greatest : ℕ) → Knows greatest self.now [] → result ≡ 0 }
+    {
         match self {
             Ahead::Line(note) => note.announced(),
             Ahead::Searched(_) => 0,

@@ -5,6 +5,12 @@ use crate::source::Source;
 use std::alloc::{AllocError, Global};
 use std::marker::Model;
 
+/// A piece of memory with more bytes than this is one of the system's own, which is made small before it is given back.
+const LARGE: usize = 4_194_304;
+
+/// To how many bytes.
+const SMALL: usize = 4096;
+
 /// Bytes, and room behind them that is lent to sources. Contracts see the bytes, and how much memory is reserved.
 #[derive(Drop)]
 pub struct Buffer {
@@ -139,8 +145,18 @@ impl Buffer {
         ensures small { length self.new.items ≡ 0 → self.new.capacity ≤ kept }
     {
         if self.filled == 0 && self.all.capacity() > kept {
+            make_small(&mut self.all);
             self.all = Vec::new(alloc);
         }
+    }
+}
+
+/// Gives all but a little of a large piece of memory back, whose bytes are no longer wanted. The C library keeps pieces of
+/// the size of the largest that was given back whole and alone, and twice as many bytes for each thread.
+fn make_small(all: &mut Vec<u8>) {
+    if all.capacity() > LARGE {
+        all.clear();
+        all.shrink_to(SMALL);
     }
 }
 

@@ -38,6 +38,7 @@ impl Feed {
     ghost use Rattle.mc_parse.specs.Cursors.{IsCursor};
     ghost use Rattle.mc_parse.specs.Feeds.{pushed, read, TakesPiece, IsSettled, HasNoUnit, HasUnit, ReadsUnit};
     ghost use Rattle.mc_parse.specs.Feeds.{Finds, FindsAny, FindsLeft, FindsAnyLeft};
+    ghost use Rattle.mc_parse.specs.Queues.{first_piece, kept_in_feed};
 
     /// Makes a feed of no bytes, whose storage commands may charge at most `greatest` bytes. It takes no memory.
     pub fn new(alloc: Global, greatest: u64) -> Feed
@@ -182,6 +183,32 @@ impl Feed {
         ensures passing { 0 < self.now.passed → result ≡ 0 }
     {
         self.unread.filled()
+    }
+
+    /// Counts the bytes of memory that are reserved, filled or not: at most 65536 where no byte is unread.
+    pub fn reserved(&self) -> usize
+        ensures filled { length self.now.bytes ≤ result }
+        ensures empty { self.now.bytes ≡ [] → result ≤ kept_in_feed }
+    {
+        self.unread.capacity()
+    }
+
+    /// Gives back the memory that is kept beyond that of a first piece, where no byte is unread, and counts the bytes that
+    /// are reserved then.
+    pub fn rest(&mut self) -> usize
+        ensures same { self.new ≡ self.old }
+        ensures filled { length self.new.bytes ≤ result }
+        ensures empty { self.new.bytes ≡ [] → result ≤ first_piece }
+    {
+        self.unread.rest()
+    }
+
+    /// Counts the bytes of the unit that the unread bytes begin with, where its line announces a block, whether or not they
+    /// came; else none.
+    pub fn announced(&self) -> usize
+        ensures { self.now.bytes ≡ [] → result ≡ 0 }
+    {
+        self.ahead.announced()
     }
 
     /// Finds what `peek` finds. What else is said there follows from the two clauses.

@@ -27,7 +27,7 @@ pub use line_laws::{keys_of_a_line_are_keys, words_hold_no_space_or_feed};
 pub use name::{NAMES, Name};
 pub use note::{KeySpan, Noted, Span, lend};
 pub use peek::{Peek, peek_at};
-pub use queue::Queue;
+pub use queue::{FIRST_PIECE, Queue};
 pub use source::Source;
 
 #[cfg(test)]

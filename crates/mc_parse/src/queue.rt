@@ -4,6 +4,9 @@ use crate::source::Source;
 use std::alloc::{AllocError, Global};
 use std::marker::Model;
 
+/// How many bytes of memory what is empty keeps where nothing is to come soon: those of the first piece of a stream.
+pub const FIRST_PIECE: usize = 2048;
+
 /// Of how many parts of a text one is to be there before room is made for all of it.
 const SHARE: usize = 16;
 
@@ -34,6 +37,7 @@ impl<const KEPT: usize> Model for Queue<KEPT> {
 impl<const KEPT: usize> Queue<KEPT> {
     ghost use Rattle.std.specs.Prelude.{◌≡◌, ◌↔◌, ◌*◌, ◌≤◌, [], ◌++◌, drop, length, IsTrue, OnOk, OnErr, IfOk};
     ghost use Rattle.mc_parse.specs.Sources.{Brings};
+    ghost use Rattle.mc_parse.specs.Queues.{first_piece};
 
     /// Makes a queue of no bytes. It takes no memory.
     pub fn new(alloc: Global) -> Queue<KEPT>
@@ -82,6 +86,17 @@ impl<const KEPT: usize> Queue<KEPT> {
         ensures filled { length self.now ≤ result }
         ensures empty { self.now ≡ [] → result ≤ KEPT }
     {
+        self.buffer.capacity()
+    }
+
+    /// Gives back the memory that an empty queue keeps beyond that of a first piece, and counts the bytes that are reserved
+    /// then.
+    pub fn rest(&mut self) -> usize
+        ensures same { self.new ≡ self.old }
+        ensures filled { length self.new ≤ result }
+        ensures empty { self.new ≡ [] → result ≤ first_piece }
+    {
+        self.buffer.give_back(FIRST_PIECE.min(KEPT), self.alloc);
         self.buffer.capacity()
     }
 

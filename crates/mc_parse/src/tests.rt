@@ -154,6 +154,18 @@ fn a_large_queue_gives_its_memory_back(rt: HostRuntime) -> Result<(), AllocError
 }
 
 #[test]
+fn a_queue_that_rests_keeps_a_first_piece(rt: HostRuntime) -> Result<(), AllocError> {
+    let mut queue: Queue<65536> = Queue::new(rt.alloc());
+    queue.push(&[b'x'; 8192])?;
+    assert!(rt; queue.rest() >= 8192);
+    queue.clear();
+    assert!(rt; queue.capacity() >= 8192);
+    assert!(rt; queue.rest() <= FIRST_PIECE && queue.is_empty());
+    assert!(rt; queue.capacity() <= FIRST_PIECE);
+    Ok(())
+}
+
+#[test]
 fn room_is_made_at_once_for_a_text_that_has_begun(rt: HostRuntime) -> Result<(), AllocError> {
     let mut queue: Queue<64> = Queue::new(rt.alloc());
     queue.push_part(&[b'x'; 99], 1600)?;
@@ -373,6 +385,22 @@ fn what_is_passed_over_of_a_source_is_never_held(rt: HostRuntime) -> Result<(), 
 }
 
 /// A block of 1000000 bytes in pieces of 16384, of which the last is shorter.
+#[test]
+fn a_block_is_announced_by_its_line(rt: HostRuntime) -> Result<(), AllocError> {
+    let mut feed = Feed::new(rt.alloc(), GREATEST);
+    assert_eq!(rt; feed.announced(), 0);
+    feed.push(b"set a 0 0 100000\r\n")?;
+    assert_eq!(rt; feed.announced(), 100020);
+    for _ in 0..2 {
+        feed.push(&[b'x'; 8192])?;
+    }
+    assert!(rt; feed.reserved() >= 100020 && feed.rest() >= 100020);
+    feed.clear();
+    assert_eq!(rt; feed.announced(), 0);
+    assert!(rt; feed.rest() <= FIRST_PIECE && feed.reserved() <= FIRST_PIECE);
+    Ok(())
+}
+
 #[test]
 fn a_block_comes_from_a_source(rt: HostRuntime) -> Result<(), AllocError> {
     let mut feed = Feed::new(rt.alloc(), GREATEST);

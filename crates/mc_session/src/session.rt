@@ -1,11 +1,12 @@
-ghost use Rattle.std.specs.Prelude.{◌≡◌, ◌↔◌, IsTrue};
+ghost use Rattle.std.specs.Prelude.{◌≡◌, ◌≤◌, ◌↔◌, length, IsTrue, IfSome};
+ghost use Rattle.mc_command.specs.Commands.{HasShortKeys, longest_key};
 ghost use Rattle.mc_parse.specs.Peeks.{unit_of};
 ghost use Rattle.mc_session.specs.Turns.{SessionState};
 
 use crate::after_turn::AfterTurn;
 use crate::answer::answer;
 use crate::text::Output;
-use mc_command::Steps;
+use mc_command::{Command, Steps, step_at, steps_of};
 use mc_parse::{Feed, Peek, Source, no_spelling_begins_another};
 use mc_time::Moment;
 use std::alloc::{AllocError, Global};
@@ -69,11 +70,13 @@ impl Model for Session {
 }
 
 impl Session {
-    ghost use Rattle.std.specs.Prelude.{◌≡◌, ◌≤◌, ◌*◌, ◌↔◌, length, IsTrue, IsFalse, OnOk, OnErr, IfOk, IfErr, Ok};
+    ghost use Rattle.std.specs.Prelude.{◌≡◌, ◌≤◌, ◌*◌, ◌↔◌, [], length, IsTrue, IsFalse, OnOk, OnErr, IfOk, IfErr, Ok, None, IfSome};
+    ghost use Rattle.mc_command.specs.Commands.{longest_key};
     ghost use Rattle.mc_parse.specs.Sources.{Brings};
     ghost use Rattle.mc_session.specs.Turns.{TakesTurn, FindsNoTurn, FindsClosed, TurnIsDue, NoTurnDue};
     ghost use Rattle.mc_session.specs.Turns.{DecidesStep, opened, closed, fed, FedPiece, sent};
     ghost use Rattle.mc_session.specs.Answers.{gone_on, MayGoOn};
+    ghost use Rattle.mc_session.specs.Resting.{resting, kept_empty};
 
     /// Makes a session that was fed nothing, whose storage commands may charge at most `greatest`
     /// bytes. It takes no memory.
@@ -212,6 +215,45 @@ impl Session {
         self.out.filled()
     }
 
+    /// Counts the bytes of memory that are reserved for what is unread and for the output, filled or
+    /// not: at most 196608 where there is neither.
+    pub fn reserved(&self) -> usize
+        ensures unread { length self.now.unread.bytes ≤ result }
+        ensures out { length self.now.out ≤ result }
+        ensures empty { self.now.unread.bytes ≡ [] → self.now.out ≡ [] → result ≤ kept_empty }
+    {
+        self.feed.reserved().saturating_add(self.out.capacity())
+    }
+
+    /// Gives back the memory that is kept beyond that of two first pieces, where nothing is unread
+    /// and no output waits, and counts the bytes that are reserved then.
+    pub fn rest(&mut self) -> usize
+        ensures same { self.new ≡ self.old }
+        ensures empty { self.new.unread.bytes ≡ [] → self.new.out ≡ [] → result ≤ resting }
+    {
+        let unread = self.feed.rest();
+        unread.saturating_add(self.out.rest())
+    }
+
+    /// Counts the bytes of the unit that the unread bytes begin with, where its line announces a
+    /// block, whether or not they came; else none.
+    pub fn announced(&self) -> usize
+        ensures { self.now.unread.bytes ≡ [] → result ≡ 0 }
+    {
+        self.feed.announced()
+    }
+
+    /// Lends the key of the next turn, where that is one of a retrieval.
+    pub fn key(&self) -> Option<&[u8]>
+        ensures none { NoTurnDue self.now → result ≡ None }
+        ensures short { IfSome result (λ key. length key.now ≤ longest_key) }
+    {
+        match self.feed.peek_after(self.taken) {
+            Peek::Whole(command, _len) => key_of(&command),
+            Peek::More | Peek::Bad(..) | Peek::TooLong => None,
+        }
+    }
+
     /// Lends the output that is to be written.
     pub fn out(&self) -> &[u8]
         ensures { result.now ≡ self.now.out }
@@ -236,6 +278,19 @@ impl Session {
         self.is_open = false;
         self.taken = 0;
         self.feed.clear();
+    }
+}
+
+/// Lends the key of a retrieval's first step, and none of another command.
+fn key_of<'a>(command: &Command<'a>) -> Option<&'a [u8]>
+    requires { HasShortKeys command.now }
+    ensures { IfSome result (λ key. length key.now ≤ longest_key) }
+{
+    match command {
+        Command::Get { .. } | Command::GetTouch { .. } if steps_of(command) > 0 => {
+            Some(step_at(command, 0).key())
+        }
+        _ => None,
     }
 }
 

@@ -251,6 +251,36 @@ fn keys_of_a_get_take_a_turn_each(rt: HostRuntime) -> Result<(), Fail> {
     Ok(())
 }
 
+/// A get of a block of 9000 bytes, which needs no more than was asked for when it was told and sent.
+fn rests(rt: &impl Abort, alloc: Global) -> Result<(), AllocError> {
+    let mut store = PlainStore::new(alloc, 64, PAGE)?;
+    let mut session = Session::new(alloc, PAGE);
+    assert!(rt; session.key().is_none());
+    turns(rt, alloc, &mut session, &mut store, "set a 0 0 9000\r\n", 0)?;
+    assert_eq!(rt; session.announced(), 9018);
+    session.feed(&[b'x'; 9000])?;
+    turns(rt, alloc, &mut session, &mut store, "\r\n", 1)?;
+    assert_eq!(rt; session.out().len(), 8);
+    session.sent(8);
+    assert!(rt; session.announced() == 0 && session.reserved() >= 9000);
+    session.feed(b"get a b\r\n")?;
+    assert_eq!(rt; session.key(), Some(b"a".as_slice()));
+    turns(rt, alloc, &mut session, &mut store, "", 2)?;
+    assert_eq!(rt; session.out().len(), 9023);
+    assert!(rt; session.rest() >= 9023);
+    session.sent(9023);
+    assert!(rt; session.rest() <= 4096 && session.reserved() <= 4096);
+    Ok(())
+}
+
+#[test]
+fn a_session_that_rests_keeps_two_first_pieces(rt: HostRuntime) -> Result<(), Fail> {
+    if rests(&rt, rt.alloc()).is_err() {
+        rests(&rt, rt.alloc())?;
+    }
+    Ok(())
+}
+
 /// What `get a` answers before the steps.
 const BEFORE: &str = "VALUE a 0 1\r\n1\r\nEND\r\n";
 
