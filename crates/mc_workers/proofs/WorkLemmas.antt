@@ -1,6 +1,6 @@
 -- What a round does to the store that it is lent, and to a caller's past.
 use Rattle.std.specs.Prelude.{MatchOption, slice_get}
-use Rattle.std.proofs.Common.{◌≡◌, inl, inr, ℕ, List, Option, Some, None, refl, sym, ap, ◌∙◌, subst}
+use Rattle.std.proofs.Common.{◌≡◌, inl, inr, ℕ, zero, ◌<◌, ◌%◌, arith, List, Option, Some, None, refl, sym, ap, ◌∙◌, subst}
 use Rattle.mc_command.specs.Commands.{steps}
 use Rattle.mc_command.specs.Commands.{Command}
 use Rattle.mc_command.specs.declared.step.KeyStep.{KeyStep}
@@ -13,7 +13,8 @@ use Rattle.mc_shared.specs.Past.{Past}
 use Rattle.mc_shared.specs.Asking.{AskingState, AsksOnce, moment_of, Further, nothing, more, GoesFurther}
 use Rattle.mc_workers.specs.Tending.{Tidied, none, and_one}
 use Rattle.mc_workers.specs.Guests.{GuestState}
-use Rattle.mc_workers.specs.Visits.{Does, Visited, GoesRound, nobody, next}
+use Rattle.mc_workers.specs.Visits.{Does, Visited}
+use Rattle.mc_workers.specs.Asks.{MayAsk, AsksAndVisits, IsKeptWaiting, MakesRound, nobody, asks, visits}
 use Rattle.mc_workers.specs.declared.guest.Visit.{Visit}
 use Rattle.mc_workers.specs.declared.guest.Visit.TheVariants.{Wrote, Turned, Read, Later, Served, Broken, Refused}
 
@@ -61,11 +62,17 @@ module _ {S : Type 0} (relations : Relations S) (now : ℕ) (Keeps : S → S →
   visit_keeps answer old new a b (inl ended) = stays a b ended.store
   visit_keeps answer old new a b (inr due) = does_keep answer old new a b due.does
 
-  pub round_keeps : (both : (a b c : S) → Keeps a b → Keeps b c → Keeps a c) (olds news : List GuestState) (a b : S)
-      → GoesRound relations now olds news a b → Keeps a b
-  round_keeps both olds news a b nobody = none a
-  round_keeps both olds news a c (next {old = old} {new = new} {between = b} goes answer visit) =
-      both a b c (round_keeps both _ _ a b goes) (visit_keeps answer old new b c visit)
+  ask_keeps : (a b : S) → MayAsk relations now a b → Keeps a b
+  ask_keeps a b (inl e) = stays a b e
+  ask_keeps a b (inr r) = elim r [ inl e ↦ alike a b e | inr t ↦ one a t.step t.reply b t.took_it ]
+
+  pub round_keeps : (both : (a b c : S) → Keeps a b → Keeps b c → Keeps a c) (a b : S)
+      → MakesRound relations now a b → Keeps a b
+  round_keeps both a b nobody = none a
+  round_keeps both a c (asks {between = b} goes asked) =
+      both a b c (round_keeps both a b goes) (ask_keeps b c asked)
+  round_keeps both a c (visits {between = b} {answer = answer} {old = old} {new = new} goes visit) =
+      both a b c (round_keeps both a b goes) (visit_keeps answer old new b c visit)
 
 module _ (may_give : ℕ → Type 0) where
   further_both : (p q r : Past) → Further may_give p q → Further may_give q r → Further may_give p r
@@ -84,10 +91,10 @@ module _ (may_give : ℕ → Type 0) where
 
   pub goes_once : {K : Type 0} (start : Beginning) (what : Operation) (old new : AskingState K)
       → may_give (moment_of what) → AsksOnce start what old new → GoesFurther may_give old new
-  goes_once {K} start what old new gives asks = record {
-    began = ap (λ (s : AskingState K). s.began) asks.past;
-    table = ap (λ (s : AskingState K). s.table) asks.past;
-    calls = subst (λ (s : AskingState K). Further may_give old.past s.past) (sym asks.past) (more what gives nothing);
+  goes_once {K} start what old new gives call = record {
+    began = ap (λ (s : AskingState K). s.began) call.past;
+    table = ap (λ (s : AskingState K). s.table) call.past;
+    calls = subst (λ (s : AskingState K). Further may_give old.past s.past) (sym call.past) (more what gives nothing);
   }
 
   pub goes_same : {K : Type 0} (a b : AskingState K) → b ≡ a → GoesFurther may_give a b
@@ -95,11 +102,19 @@ module _ (may_give : ℕ → Type 0) where
 
   -- purges are further calls
   pub goes_tidied : {K : Type 0} (hash_of : K → List ℕ → ℕ) (now : ℕ) → may_give now
-      → (n : ℕ) (old new : AskingState K) → Tidied hash_of now n old new → GoesFurther may_give old new
-  goes_tidied hash_of now gives total old new none = goes_none old
-  goes_tidied hash_of now gives total old new (and_one {n = n} {between = between} shelf tidied asks) =
-      goes_both old between new (goes_tidied hash_of now gives n old between tidied)
-      (goes_once _ (Purged shelf now) between new gives asks)
+      → (n turn next : ℕ) (old new : AskingState K) → Tidied hash_of now n turn next old new → GoesFurther may_give old new
+  goes_tidied hash_of now gives total turn next old new none = goes_none old
+  goes_tidied hash_of now gives total turn next old new (and_one {n = n} {shelf = shelf} {between = between} tidied call) =
+      goes_both old between new (goes_tidied hash_of now gives n turn shelf old between tidied)
+      (goes_once _ (Purged shelf now) between new gives call)
+
+-- no shelf had its turn yet
+pub tidies_none : {K : Type 0} (hash_of : K → List ℕ → ℕ) (now turn shelves : ℕ) (s : AskingState K) → shelves ≡ s.began.settings.shelves → 0 < shelves
+    → Tidied hash_of now zero (turn % s.began.settings.shelves) (turn % shelves) s s × (turn % shelves < s.began.settings.shelves)
+tidies_none {K} hash_of now turn shelves s is some = (
+  subst (λ (n : ℕ). Tidied hash_of now zero (turn % n) (turn % shelves) s s) is none,
+  subst (λ (n : ℕ). turn % shelves < n) is (omega arith),
+)
 
 -- calls at one moment are calls at moments that may be given, where this one is
 module _ (may_give : ℕ → Type 0) (now : ℕ) (gives : may_give now) where

@@ -115,9 +115,3 @@ module _ {S : Type 0} (relations : Relations S) (now : ℕ) where
         → GoesRound olds news before between
         → (answer : Visit) → Visited answer old new between after
         → GoesRound (olds ++ old ∷ []) (news ++ new ∷ []) before after
-
-  -- some guests had a round, which took the store so far
-  pub record MakesRound (before after : S) : Type 0 where
-    pub olds : List GuestState
-    pub news : List GuestState
-    pub goes : GoesRound olds news before after

@@ -1,6 +1,6 @@
 //! Steps of which a tally hears.
 
-ghost use Rattle.std.specs.Prelude.{◌≡◌};
+ghost use Rattle.std.specs.Prelude.{◌≡◌, ◌%◌};
 ghost use Rattle.mc_workers.specs.Tending.{tidied_at_once, Tidied};
 
 use crate::tally::{Outcome, Tally};
@@ -66,12 +66,12 @@ impl<'a, S: Steps + Drop, T: Tally> Counting<'a, S, T> {
 }
 
 impl<'a, 'b, R: Wait, K: KeyHash + Drop, G: Gate, T: Tally> Counting<'a, Tending<'b, R, K, G>, T> {
-    /// Drops the dead items of the next shelves in turn. The tally doesn't hear of it.
-    pub fn tidy(&mut self, now: Moment)
+    /// Drops the dead items of the next shelves in turn, as `Tending::tidy` does. The tally doesn't hear of it.
+    pub fn tidy(&mut self, turn: u32, now: Moment) -> u32
         ensures { Tidied K.hash_of now (tidied_at_once self.old.began.settings.shelves)
-            self.old self.new }
+            (turn % self.old.began.settings.shelves) result self.old self.new }
     {
-        self.steps.tidy(now);
+        self.steps.tidy(turn, now)
     }
 }
 

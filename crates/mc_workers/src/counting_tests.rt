@@ -206,6 +206,7 @@ fn heard_of_link<R: Wait>(
         tally: &heard,
         clock: &clock,
         first: 0,
+        share: usize::MAX,
     };
     let _ = worker.work(rt, alloc, &shared, caller, &mut links);
     Ok(heard.hearing.get())

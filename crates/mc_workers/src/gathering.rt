@@ -1,5 +1,6 @@
 //! Few large writes in the place of many small ones.
-ghost use Rattle.std.specs.Prelude.{◌≡◌, ◌↔◌, ◌-◌, ◌^◌, ◌++◌, [], Ok, IsTrue, IsFalse, true, false};
+ghost use Rattle.mc_parse.specs.Queues.{first_piece};
+ghost use Rattle.std.specs.Prelude.{◌≡◌, ◌≤◌, ◌↔◌, ◌-◌, ◌^◌, ◌++◌, [], Ok, IsTrue, IsFalse, true, false};
 ghost use Rattle.mc_workers.specs.Links.{Gives, Takes};
 ghost use Rattle.mc_workers.specs.Gathered.{over, whole, turned, IsFront, Flushes, Gathers, AfterAll};
 ghost use Rattle.mc_workers.specs.Gathered.{WaitsBelow};
@@ -19,15 +20,11 @@ const HANDED_ON: usize = 32_768;
 /// How many bytes are handed on at once at most beside those, so that others needn't wait for long.
 const LONGEST: usize = 131_072;
 
-/// How much memory is kept for them while the link below gives nothing.
-const KEPT: usize = 16_384;
-
 /// A link over a link, for which what is written is gathered: it is handed on before the next read, or
 /// when there is much of it. Contracts see the link below and what is gathered. A fault of the link below
 /// is told, and leaves gathered what that link didn't take.
 #[derive(Drop)]
 pub struct Gathering<L: Link + Drop> {
-    alloc: Global,
     link: L,
     gathered: Queue<65536>,
     /// Whether its last call was a read.
@@ -55,7 +52,6 @@ impl<L: Link + Drop> Gathering<L> {
         ensures { result ≡ over (L.shown link) }
     {
         Gathering {
-            alloc,
             link,
             gathered: Queue::new(alloc),
             was_read: false,
@@ -154,13 +150,13 @@ impl<L: Link + Drop> Gathering<L> {
         got
     }
 
-    /// Gives back much memory, where nothing is gathered.
-    fn rest(&mut self)
-        ensures { self.new ≡ self.old }
+    /// Gives back the memory that is kept beyond that of a first piece, where nothing is gathered, and counts
+    /// the bytes that are reserved then.
+    fn rest(&mut self) -> usize
+        ensures same { self.new ≡ self.old }
+        ensures empty { self.new.gathered ≡ [] → result ≤ first_piece }
     {
-        if self.gathered.is_empty() && self.gathered.capacity() > KEPT {
-            self.gathered = Queue::new(self.alloc);
-        }
+        self.gathered.rest()
     }
 }
 
@@ -211,6 +207,10 @@ impl<L: Link + Drop> Link for Gathering<L> {
 
     fn faults(&self) -> u64 {
         self.link.faults()
+    }
+
+    fn reserved(&self) -> usize {
+        self.gathered.capacity()
     }
 }
 

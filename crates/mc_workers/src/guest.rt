@@ -1,11 +1,14 @@
 //! Guests: sessions with their links.
-ghost use Rattle.std.specs.Prelude.{◌≡◌, ◌⊎◌, ◌<◌, ◌≤◌, length, IfOk, Some, None, [], IsTrue, IsFalse};
+ghost use Rattle.std.specs.Prelude.{◌≡◌, ◌⊎◌, ◌<◌, ◌≤◌, length, IfOk, IfSome, Some, None, [], IsTrue, IsFalse};
+ghost use Rattle.mc_command.specs.Commands.{longest_key};
+ghost use Rattle.mc_session.specs.Resting.{resting};
 ghost use Rattle.mc_workers.specs.Guests.{welcomed, has_ended, ends, IsWaiting};
 ghost use Rattle.mc_workers.specs.Visits.{Visited, Does, Writes, Reads};
 
 use crate::link::{Got, Link, LinkFault, Took};
 use crate::tap::Tap;
 use mc_command::Steps;
+use mc_parse::FIRST_PIECE;
 use mc_session::{Session, Turn};
 use mc_time::Moment;
 use std::alloc::{AllocError, Global};
@@ -29,9 +32,6 @@ pub enum Visit {
     /// Memory ran out. The guest has ended.
     Refused,
 }
-
-/// How many bytes are read at once at first: the session of a link that is idle keeps room for so many.
-const FIRST_PIECE: usize = 2048;
 
 /// How many bytes are read at once at most, once a read filled the first piece.
 const LONGEST_PIECE: usize = 16384;
@@ -91,6 +91,65 @@ impl<L: Link + Drop> Guest<L> {
         };
         self.last = Some(answer);
         answer
+    }
+
+    /// Counts the bytes of memory that are reserved for its session, and for what its link has still to hand on.
+    pub(crate) fn reserved(&self) -> usize
+        ensures unread { length self.now.session.unread.bytes ≤ result }
+        ensures out { length self.now.session.out ≤ result }
+    {
+        let link = self.tap.link.reserved();
+        self.session.reserved().saturating_add(link)
+    }
+
+    /// Gives back the memory that is kept for its session beyond that of two first pieces, where nothing is
+    /// unread and no output waits, and counts the bytes that are reserved for it then.
+    pub fn rest(&mut self) -> usize
+        ensures same { self.new ≡ self.old }
+        ensures empty { self.new.session.unread.bytes ≡ [] → self.new.session.out ≡ [] →
+            result ≤ resting }
+    {
+        self.session.rest()
+    }
+
+    /// Drops what is unread and the output, and gives their memory back.
+    pub(crate) fn give_up(&mut self) {
+        self.session.close();
+        let waiting = self.session.out().len();
+        self.session.sent(waiting);
+    }
+
+    /// Counts the bytes of the unit that is read now, where its line announces a block, whether or not they came.
+    pub(crate) fn unit(&self) -> usize
+        ensures { self.now.session.unread.bytes ≡ [] → result ≡ 0 }
+    {
+        self.session.announced()
+    }
+
+    /// Counts the bytes of the unit whose block is to be read next, whether or not they came; none where
+    /// output is to be written first.
+    pub(crate) fn announced(&self) -> usize
+        ensures unread { self.now.session.unread.bytes ≡ [] → result ≡ 0 }
+        ensures out { (self.now.session.out ≡ [] → ⊥) → result ≡ 0 }
+    {
+        if self.session.out().is_empty() {
+            self.session.announced()
+        } else {
+            0
+        }
+    }
+
+    /// Lends the key of the turn that is next, where that is one of a retrieval; none where output is to be
+    /// written first.
+    pub(crate) fn key(&self) -> Option<&[u8]>
+        ensures out { (self.now.session.out ≡ [] → ⊥) → result ≡ None }
+        ensures short { IfSome result (λ key. length key.now ≤ longest_key) }
+    {
+        if self.session.out().is_empty() {
+            self.session.key()
+        } else {
+            None
+        }
     }
 
     /// Says what ended it.

@@ -2,7 +2,7 @@
 
 use crate::calls::{Call, Calls};
 use crate::link::{Got, Link, LinkFault, Took};
-use crate::worker::{Links, Next};
+use crate::links::{Links, Next};
 use std::alloc::Global;
 use std::marker::Model;
 use std::sync::atomic::{AtomicU64, Ordering};

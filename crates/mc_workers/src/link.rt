@@ -59,4 +59,9 @@ pub trait Link {
     /// Counts how often it failed.
     fn faults(&self) -> u64
         ensures { result ≡ (shown self.now).faults };
+
+    /// Counts the bytes of memory that are reserved for what it took and has still to hand on.
+    fn reserved(&self) -> usize {
+        0
+    }
 }

@@ -1,10 +1,10 @@
 //! Steps with the growth that follows them.
-ghost use Rattle.std.specs.Prelude.{◌≡◌, ◌<◌, ◌≤◌, ℕ, length, Err, IfOk, OnErr};
+ghost use Rattle.std.specs.Prelude.{◌≡◌, ◌<◌, ◌≤◌, ◌%◌, length, Err, IfOk, OnErr};
 ghost use Rattle.mc_command.specs.Commands.{key_of};
 ghost use Rattle.mc_shared.specs.Asking.{AsksOnce, AsksStep, AsksInVain};
 ghost use Rattle.mc_shared.specs.History.{start_of, Purged};
 ghost use Rattle.mc_shared.specs.Steps.{Agrees};
-ghost use Rattle.mc_workers.specs.Tending.{asked_by, tidied_at_once, Tidied};
+ghost use Rattle.mc_workers.specs.Tending.{asked_by, in_turn, tidied_at_once, Tidied};
 
 use mc_command::{Answer, KeyStep, Reply, StepFault, Steps, Unanswered};
 use mc_hop::KeyHash;
@@ -25,12 +25,12 @@ const TIDYINGS: u32 = 64;
 #[derive(Drop)]
 pub struct Tending<'a, R: Wait, K: KeyHash + Drop, G: Gate> {
     asking: Asking<'a, R, K, G>,
-    /// The shelf that is tidied next.
-    shelf: u32,
+    /// How many shelves the store has.
+    shelves: u32,
 }
 
 impl<'a, R: Wait, K: KeyHash + Drop, G: Gate> Model for Tending<'a, R, K, G> {
-    ghost use Rattle.std.specs.Prelude.{◌<◌};
+    ghost use Rattle.std.specs.Prelude.{◌≡◌, ◌<◌};
     ghost use Rattle.mc_shared.specs.Asking.{AskingState, coded_asking};
 
     ghost Value = { AskingState K };
@@ -39,24 +39,23 @@ impl<'a, R: Wait, K: KeyHash + Drop, G: Gate> Model for Tending<'a, R, K, G> {
 
     ghost view = { λ t. t.asking };
 
-    ghost invariant = { λ t. t.shelf < t.asking.began.settings.shelves };
+    ghost invariant = { λ t. (t.shelves ≡ t.asking.began.settings.shelves) × (0 < t.shelves) };
 }
 
 impl<'a, R: Wait, K: KeyHash + Drop, G: Gate> Tending<'a, R, K, G> {
-    /// Takes a caller of this store, who tidies first the shelf of this number, modulo their number.
+    /// Takes a caller of this store.
     pub fn new(
         rt: &'a R,
         shared: &'a Shared<K>,
         caller: Caller,
         gate: &'a G,
-        first: u32,
     ) -> Tending<'a, R, K, G>
         requires own { caller.table ≡ shared.now.table }
         ensures { result ≡ asked_by shared.now.began caller }
     {
         Tending {
             asking: Asking::new(rt, shared, caller, gate),
-            shelf: first % shared.shelves(),
+            shelves: shared.shelves(),
         }
     }
 
@@ -70,15 +69,17 @@ impl<'a, R: Wait, K: KeyHash + Drop, G: Gate> Tending<'a, R, K, G> {
         asking.into_caller()
     }
 
-    /// Drops the dead items of the next shelf in turn; of more than 64 shelves those of so many that
-    /// 64 calls come to all.
-    pub fn tidy(&mut self, now: Moment)
+    /// Drops the dead items of the shelf whose turn it is, modulo their number; of more than 64 shelves those of
+    /// so many in turn that 64 calls come to all. Returns the shelf whose turn is next.
+    pub fn tidy(&mut self, turn: u32, now: Moment) -> u32
         ensures { Tidied K.hash_of now (tidied_at_once self.old.began.settings.shelves)
-            self.old self.new }
+            (turn % self.old.began.settings.shelves) result self.old self.new }
     {
+        let mut shelf = turn % self.shelves;
         for _ in 0..self.at_once() {
-            self.tidy_next(now);
+            shelf = self.tidy_one(shelf, now);
         }
+        shelf
     }
 
     /// Tells how many shelves are tidied at once.
@@ -88,18 +89,16 @@ impl<'a, R: Wait, K: KeyHash + Drop, G: Gate> Tending<'a, R, K, G> {
         self.asking.shelves().div_ceil(TIDYINGS)
     }
 
-    /// Drops the dead items of the next shelf in turn.
-    fn tidy_next(&mut self, now: Moment)
-        ensures { (shelf : ℕ) ×
-            AsksOnce (start_of K.hash_of self.old.began) (Purged shelf now) self.old self.new }
+    /// Drops the dead items of a shelf, and returns the one whose turn is next.
+    fn tidy_one(&mut self, shelf: u32, now: Moment) -> u32
+        requires { shelf < self.old.began.settings.shelves }
+        ensures next { result ≡ in_turn self.old.began.settings.shelves shelf }
+        ensures within { result < self.new.began.settings.shelves }
+        ensures purged { AsksOnce (start_of K.hash_of self.old.began) (Purged shelf now) self.old
+            self.new }
     {
-        let shelf = self.shelf;
-        self.shelf = if shelf < self.asking.shelves() - 1 {
-            shelf + 1
-        } else {
-            0
-        };
         self.asking.tidy(shelf, now);
+        next_in_turn(shelf, self.shelves)
     }
 
     /// Moves some entries of the last step's shelf, where some are left to move. A flush is on no
@@ -109,6 +108,15 @@ impl<'a, R: Wait, K: KeyHash + Drop, G: Gate> Tending<'a, R, K, G> {
     {
         self.asking.grow_after(MOVED);
     }
+}
+
+/// Tells which shelf's turn is next: the first one's behind the last.
+fn next_in_turn(shelf: u32, shelves: u32) -> u32
+    requires { shelf < shelves }
+    ensures next { result ≡ in_turn shelves shelf }
+    ensures within { result < shelves }
+{
+    if shelf < shelves - 1 { shelf + 1 } else { 0 }
 }
 
 impl<'a, R: Wait, K: KeyHash + Drop, G: Gate> Steps for Tending<'a, R, K, G> {

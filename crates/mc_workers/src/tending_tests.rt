@@ -62,11 +62,12 @@ fn told_after<R: Wait>(
     let set_b = step_of(b"b", Ask::Store(Verb::Set, 10, large.as_slice()));
     let set_c = step_of(b"c", Ask::Store(Verb::Set, 0, large.as_slice()));
     let (shared, caller) = Shared::new(alloc, settings, Fnv)?;
-    let mut tending = Tending::new(rt, &shared, caller, &NoGate, first);
+    let mut tending = Tending::new(rt, &shared, caller, &NoGate);
     let _ = tending.step(alloc, &set_b, Moment::from_seconds_at_most(1000));
     let now = Moment::from_seconds_at_most(1010);
+    let mut turn = first;
     for _ in 0..tidyings {
-        tending.tidy(now);
+        turn = tending.tidy(turn, now);
     }
     Ok(told_of(&tending.step(alloc, &set_c, now)))
 }

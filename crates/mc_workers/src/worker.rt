@@ -1,12 +1,16 @@
 //! A worker's loop.
-ghost use Rattle.std.specs.Prelude.{◌≡◌, ◌<◌, ◌≤◌};
+ghost use Rattle.std.specs.Prelude.{◌≡◌};
 ghost use Rattle.mc_shared.specs.Asking.{GoesFurther, Further};
 ghost use Rattle.mc_shared.specs.History.{start_of};
 ghost use Rattle.mc_shared.specs.Steps.{Agrees};
+ghost use Rattle.mc_workers.specs.Rounds.{VisitsAndTidies, WorksToEnd};
 
+use crate::budget::Budget;
 use crate::counting::Counting;
+use crate::door::Door;
 use crate::guests::{Guests, WorkEnd};
 use crate::link::Link;
+use crate::links::Links;
 use crate::tally::{NoTally, Tally};
 use crate::tending::Tending;
 use mc_hop::KeyHash;
@@ -14,29 +18,6 @@ use mc_shared::{Caller, Gate, Shared};
 use mc_time::{Clock, Moment};
 use std::alloc::Global;
 use std::sync::Wait;
-
-/// What came next of links.
-#[derive(Drop)]
-pub enum Next<L> {
-    Link(L),
-    /// None now.
-    Later,
-    /// None any more.
-    Closed,
-}
-
-/// Where links come from. The links that `next` gave are numbered in their order, from 0.
-pub trait Links<L> {
-    /// Gives the next link, if one came. It doesn't wait.
-    fn next(&mut self) -> Next<L>;
-
-    /// Names a link that may give or take more, and none when there is no further one. It doesn't
-    /// wait. A link that answered `Later` isn't asked again until it is named.
-    fn ready(&mut self) -> Option<u64>;
-
-    /// Passes some time where there is nothing to do.
-    fn rest(&mut self);
-}
 
 /// How a worker works beside serving: what it calls, what hears of it, by which clock it goes, and where
 /// it begins to tidy.
@@ -49,6 +30,10 @@ pub struct Worker<'a, G: Gate, T: Tally, C: Clock> {
     pub clock: &'a C,
     /// The shelf that is tidied first, modulo their number: workers that begin apart don't meet.
     pub first: u32,
+    /// How many bytes its guests are meant to hold of what they were sent and what they are to be told. Beyond
+    /// that one waits who wants more than 131072, until others hold less; and whoever holds most, and whose link
+    /// was quiet for 5 seconds, makes room for those who wait.
+    pub share: usize,
 }
 
 impl<'a, G: Gate, T: Tally, C: Clock> Worker<'a, G, T, C> {
@@ -73,25 +58,27 @@ impl<'a, G: Gate, T: Tally, C: Clock> Worker<'a, G, T, C> {
         ensures same { result.0.table ≡ caller.table }
         ensures calls { Further (C.may_give self.now.clock.now) caller.past result.0.past }
         ensures kept { Agrees (start_of K.hash_of shared.now.began) result.0.past }
+        ensures works { WorksToEnd K.hash_of (C.may_give self.now.clock.now) self.now.first shared.now.began
+            caller result }
     {
-        let tending = Tending::new(rt, shared, caller, self.gate, self.first);
+        let tending = Tending::new(rt, shared, caller, self.gate);
         let mut counting = Counting::new(tending, self.tally);
-        let mut door = Door {
-            greatest: shared.greatest(),
-            opened: 0,
-        };
-        let mut guests = Guests::new(alloc);
+        let mut door = Door::new(shared.greatest());
+        let mut guests = Guests::new(alloc, Budget::new(self.share, shared.greatest()));
         let mut end = WorkEnd {
             served: 0,
             broken: 0,
             refused: 0,
         };
         let mut before = self.clock.now();
+        let mut turn = self.first;
         for _ in rt.forever() {
             let now = self.clock.now();
-            make_round(alloc, &mut guests, &mut counting, before, now);
+            turn = make_round(alloc, &mut guests, &mut counting, turn, before, now);
             guests.settle(&mut end);
-            if let Came::Closed = door.open(alloc, links, &mut guests, &mut end) {
+            make_room(&mut guests, links, before, now);
+            let is_quiet = guests.is_quiet();
+            if !door.open(alloc, links, &mut guests, &mut end, is_quiet) {
                 return (counting.into_steps().into_caller(), end);
             }
             before = now;
@@ -114,89 +101,66 @@ pub fn work<R: Wait, K: KeyHash + Drop, L: Link + Drop, Q: Links<L>, G: Gate, C:
     ensures same { result.0.table ≡ caller.table }
     ensures calls { Further (C.may_give clock.now) caller.past result.0.past }
     ensures kept { Agrees (start_of K.hash_of shared.now.began) result.0.past }
+    ensures works { WorksToEnd K.hash_of (C.may_give clock.now) 0 shared.now.began caller result }
 {
     let worker = Worker {
         gate,
         tally: &NoTally,
         clock,
         first: 0,
+        share: usize::MAX,
     };
     worker.work(rt, alloc, shared, caller, links)
 }
 
 /// Makes a round of those that are awake, and drops the dead items of the next shelves where the clock
-/// has risen, all at one moment.
+/// has risen, all at one moment. Returns the shelf whose turn is next.
 fn make_round<R: Wait, K: KeyHash + Drop, L: Link + Drop, G: Gate, T: Tally>(
     alloc: Global,
     guests: &mut Guests<L>,
     counting: &mut Counting<'_, Tending<'_, R, K, G>, T>,
+    turn: u32,
     before: Moment,
     now: Moment,
-)
-    ensures { GoesFurther (λ moment. moment ≡ now) counting.old counting.new }
+) -> u32
+    ensures further { GoesFurther (λ moment. moment ≡ now) counting.old counting.new }
+    ensures round { VisitsAndTidies K.hash_of before now turn result counting.old counting.new
+        guests.old guests.new }
 {
     guests.visit_all(alloc, counting, now);
     if before.seconds() < now.seconds() {
-        counting.tidy(now);
+        counting.tidy(turn, now)
+    } else {
+        turn
     }
 }
 
-/// Whether more can come.
-#[derive(Clone, Copy, Debug, PartialEq, Eq)]
-enum Came {
-    More,
-    Closed,
-}
+/// How many links are let end at most where the clock has risen.
+const ENDED: usize = 16;
 
-/// How guests are let in.
-#[derive(Drop)]
-struct Door {
-    /// What storage commands may charge at most.
-    greatest: u64,
-    /// How many links were handed out.
-    opened: u64,
-}
-
-impl Door {
-    /// Asks for the next link once, and wakes the guests whose links are named; rests where there is
-    /// nothing to do.
-    fn open<L: Link + Drop, Q: Links<L>>(
-        &mut self,
-        alloc: Global,
-        links: &mut Q,
-        guests: &mut Guests<L>,
-        end: &mut WorkEnd,
-    ) -> Came {
-        let is_quiet = guests.is_quiet();
-        match links.next() {
-            Next::Link(link) => {
-                if !guests.welcome(alloc, link, self.greatest, self.opened) {
-                    end.refused = end.refused.saturating_add(1);
-                }
-                self.opened = self.opened.wrapping_add(1);
-                wake_named(links, guests);
-            }
-            Next::Closed if guests.is_empty() => return Came::Closed,
-            Next::Later | Next::Closed => {
-                if !wake_named(links, guests) && is_quiet {
-                    links.rest();
-                }
-            }
-        }
-        Came::More
+/// Lets links end whose guests are to make room for those that are kept waiting, where the clock has risen: no
+/// more than these are.
+fn make_room<L: Link + Drop, Q: Links<L>>(
+    guests: &mut Guests<L>,
+    links: &mut Q,
+    before: Moment,
+    now: Moment,
+)
+    ensures { guests.new ≡ guests.old }
+{
+    if before.seconds() < now.seconds() {
+        end_hoarders(guests, links, now);
     }
 }
 
-/// How many names are asked for at most between two rounds.
-const NAMES: usize = 1024;
-
-/// Wakes the guests whose links are named, and says whether one was named.
-fn wake_named<L: Link + Drop, Q: Links<L>>(links: &mut Q, guests: &mut Guests<L>) -> bool {
-    for named in 0..NAMES {
-        match links.ready() {
-            Some(number) => guests.wake(number),
-            None => return named > 0,
+/// Lets links end whose guests hoard most, as many as are kept waiting.
+fn end_hoarders<L: Link + Drop, Q: Links<L>>(guests: &mut Guests<L>, links: &mut Q, now: Moment)
+    ensures { guests.new ≡ guests.old }
+{
+    for _one in 0..guests.waiting().min(ENDED) {
+        match guests.hoarder(now) {
+            Some(number) => links.end(number),
+            None => return,
         }
     }
-    true
 }

@@ -1,8 +1,18 @@
-use Rattle.mc_workers.specs.Tending.{none, and_one}
+use Rattle.std.proofs.Common.{ℕ, ◌+◌, ◌%◌, sym, ap, ◌∙◌, subst}
+use Rattle.mc_shared.specs.Asking.{AskingState}
+use Rattle.mc_workers.specs.Tending.{Tidied, and_one}
+use Rattle.mc_workers.proofs.WorkLemmas.{tidies_none}
 use Rattle.mc_workers.proofs.tending.Tending.tidy.Goals as goal
 
 pub loop-init : goal.loop-init
-loop-init g c = none
+loop-init g c =
+    tidies_none g.K.KeyHash.hash_of c.args.now c.args.turn c.self.inside.shelves c.args.self.now
+    (c.self.invariant.0 ∙ ap (λ (a : AskingState g.row.K.Denot). a.began.settings.shelves) c.self.view_is) c.self.invariant.1
 
 pub loop-preserved : goal.loop-preserved
-loop-preserved g c = and_one c.tidy_next.ensures.0 c.loop.invariant c.tidy_next.ensures.1
+loop-preserved g c = (
+  subst
+      (λ (n : ℕ). Tidied g.K.KeyHash.hash_of c.args.now (c.loop.counter + 1) (c.args.turn % c.args.self.now.began.settings.shelves) n c.args.self.now c.tidy_one-shelf.new.self)
+      (sym c.tidy_one-shelf.ensures.next) (and_one c.loop.invariant.0 c.tidy_one-shelf.ensures.purged),
+  c.tidy_one-shelf.ensures.within,
+)

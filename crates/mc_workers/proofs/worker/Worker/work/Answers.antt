@@ -1,17 +1,40 @@
 use Rattle.std.proofs.Common.{sym, ap, ◌∙◌, subst}
 use Rattle.mc_shared.specs.Asking.{AskingState, Further}
 use Rattle.mc_shared.specs.Past.{Past}
+use Rattle.mc_workers.specs.Books.{BooksState, SettlesFrom}
 use Rattle.mc_workers.proofs.WorkLemmas.{goes_same, goes_both, goes_at}
+use Rattle.mc_workers.proofs.WorksLemmas.{works_from, works_on, works_over}
 use Rattle.mc_workers.proofs.worker.Worker.work.Goals as goal
 
 pub loop-init : goal.loop-init
-loop-init g c = goes_same _ _ _ (c.new-counting.ensures ∙ c.new-tending.ensures)
+loop-init g c = (
+  goes_same _ _ _ (c.new-counting.ensures ∙ c.new-tending.ensures),
+  works_from g.K.KeyHash.hash_of (g.C.Clock.may_give c.args.self.now.clock.now) c.args.self.now.first c.args.shared.now.began c.args.caller c.now-before.result _
+      c.new-counting.result c.new-guests.result c.new-door.result c.now-before.ensures (c.new-counting.ensures ∙ c.new-tending.ensures)
+      c.new-guests.ensures c.greatest.result c.new-door.ensures c.greatest.ensures,
+)
 
 pub loop-preserved : goal.loop-preserved
-loop-preserved g c = goes_both _ _ _ _ c.loop.invariant (goes_at _ _ c.now-now.ensures _ _ c.make_round.ensures)
+loop-preserved g c = (
+  goes_both _ _ _ _ c.loop.invariant.0 (goes_at _ _ c.now-now.ensures _ _ c.make_round-turn.ensures.further),
+  works_on g.K.KeyHash.hash_of (g.C.Clock.may_give c.args.self.now.clock.now) c.args.self.now.first c.args.shared.now.began c.args.caller _
+      (record { asking = c.make_round-turn.new.counting; books = c.open.new.guests; door = c.open.new.self; end = c.open.new.end; turn = c.make_round-turn.result; moment = c.now-now.result })
+      c.make_round-turn.new.guests c.make_room.new.guests c.settle.new.end c.is_quiet-is_quiet.result c.open.result c.loop.invariant.1 c.now-now.ensures
+      c.make_round-turn.ensures.round
+      (subst (λ (b : BooksState). SettlesFrom 0 c.make_round-turn.new.guests b c.loop.end c.settle.new.end) (sym c.make_room.ensures) c.settle.ensures) c.is_quiet-is_quiet.ensures c.open.ensures (cc),
+)
 
-pub returns-in-Closed-clause-calls : goal.returns-in-Closed-clause-calls
-returns-in-Closed-clause-calls g c =
+pub returns-then-not-open-clause-calls : goal.returns-then-not-open-clause-calls
+returns-then-not-open-clause-calls g c =
     subst (λ (p : Past). Further (g.C.Clock.may_give c.args.self.now.clock.now) c.args.caller.past p)
     (sym (c.into_caller.ensures.same.1 ∙ ap (λ (s : AskingState g.row.K.Denot). s.past) c.into_steps.ensures))
-    (goes_both _ _ _ _ c.loop.invariant (goes_at _ _ c.now-now.ensures _ _ c.make_round.ensures)).calls
+    (goes_both _ _ _ _ c.loop.invariant.0 (goes_at _ _ c.now-now.ensures _ _ c.make_round-turn.ensures.further)).calls
+
+pub returns-then-not-open-clause-works : goal.returns-then-not-open-clause-works
+returns-then-not-open-clause-works g c =
+    works_over g.K.KeyHash.hash_of (g.C.Clock.may_give c.args.self.now.clock.now) c.args.self.now.first c.args.shared.now.began c.args.caller _
+    (record { asking = c.make_round-turn.new.counting; books = c.open.new.guests; door = c.open.new.self; end = c.open.new.end; turn = c.make_round-turn.result; moment = c.now-now.result })
+    c.make_round-turn.new.guests c.make_room.new.guests c.settle.new.end c.is_quiet-is_quiet.result c.open.result _ c.loop.invariant.1 c.now-now.ensures
+    c.make_round-turn.ensures.round
+    (subst (λ (b : BooksState). SettlesFrom 0 c.make_round-turn.new.guests b c.loop.end c.settle.new.end) (sym c.make_room.ensures) c.settle.ensures) c.is_quiet-is_quiet.ensures c.open.ensures (cc)
+    (c.into_caller.ensures.same.1 ∙ ap (λ (s : AskingState g.row.K.Denot). s.past) c.into_steps.ensures)

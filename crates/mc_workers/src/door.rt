@@ -1,0 +1,93 @@
+//! How guests are let in.
+ghost use Rattle.std.specs.Prelude.{◌≡◌, IsTrue, IsFalse};
+ghost use Rattle.mc_workers.specs.Books.{one_more};
+ghost use Rattle.mc_workers.specs.Doors.{shut, counted_in, LetsIn, Opens};
+
+use crate::guests::{Guests, WorkEnd};
+use crate::link::Link;
+use crate::links::{Links, Next};
+use crate::talk::Talk;
+use std::alloc::Global;
+
+/// How guests are let in.
+#[derive(Clone, Copy, Debug, PartialEq, Eq)]
+pub(crate) struct Door {
+    /// What storage commands may charge at most.
+    pub greatest: u64,
+    /// How many links were handed out, modulo 2^64.
+    pub opened: u64,
+    /// What links were asked since the last round.
+    pub talk: Talk,
+}
+
+impl Door {
+    /// Has let no guest in, of whom storage commands may charge so many bytes at most.
+    pub fn new(greatest: u64) -> Door
+        ensures { result ≡ shut greatest }
+    {
+        Door {
+            greatest,
+            opened: 0,
+            talk: Talk::new(),
+        }
+    }
+
+    /// Asks for the next link once, and wakes the guests whose links are named; rests where there is
+    /// nothing to do. Returns whether more can come: not where no link comes any more and there is no guest.
+    pub fn open<L: Link + Drop, Q: Links<L>>(
+        &mut self,
+        alloc: Global,
+        links: &mut Q,
+        guests: &mut Guests<L>,
+        end: &mut WorkEnd,
+        is_quiet: bool,
+    ) -> bool
+        ensures { Opens is_quiet self.old self.new guests.old guests.new end.old end.new result }
+    {
+        self.talk = Talk::new();
+        match self.talk.next(links) {
+            Next::Link(link) => {
+                self.let_in(alloc, link, guests, end);
+                self.talk.wake_named(links, guests);
+                true
+            }
+            Next::Later => {
+                self.talk.wait(links, guests, is_quiet);
+                true
+            }
+            Next::Closed if guests.is_empty() => false,
+            Next::Closed => {
+                self.talk.wait(links, guests, is_quiet);
+                true
+            }
+        }
+    }
+
+    /// Makes a guest of a link, or counts it as refused.
+    fn let_in<L: Link + Drop>(
+        &mut self,
+        alloc: Global,
+        link: L,
+        guests: &mut Guests<L>,
+        end: &mut WorkEnd,
+    )
+        ensures lets { LetsIn self.old.greatest self.old.opened guests.old guests.new end.old
+            end.new }
+        ensures counts { self.new ≡ counted_in self.old }
+    {
+        let came = guests.welcome(alloc, link, self.greatest, self.opened);
+        count_refused(end, came);
+        self.opened = self.opened.wrapping_add(1);
+    }
+}
+
+/// Counts a link as refused that is no guest.
+fn count_refused(end: &mut WorkEnd, came: bool)
+    ensures came { IsTrue came → end.new ≡ end.old }
+    ensures refused { IsFalse came →
+        end.new ≡ record end.old { refused = one_more end.old.refused } }
+{
+    if !came {
+        end.refused = end.refused.saturating_add(1);
+    }
+}

@@ -1,0 +1,28 @@
+//! Where links come from.
+
+/// What came next of links.
+#[derive(Drop)]
+pub enum Next<L> {
+    Link(L),
+    /// None now.
+    Later,
+    /// None any more.
+    Closed,
+}
+
+/// Where links come from. The links that `next` gave are numbered in their order, from 0.
+pub trait Links<L> {
+    /// Gives the next link, if one came. It doesn't wait.
+    fn next(&mut self) -> Next<L>;
+
+    /// Names a link that may give or take more, and none when there is no further one. It doesn't
+    /// wait. A link that answered `Later` isn't asked again until it is named.
+    fn ready(&mut self) -> Option<u64>;
+
+    /// Passes some time where there is nothing to do.
+    fn rest(&mut self);
+
+    /// Lets a link end whose guest holds much and was quiet, to make room for others. It is named then. By
+    /// itself it does nothing.
+    fn end(&mut self, _number: u64) {}
+}
