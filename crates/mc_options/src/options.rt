@@ -34,6 +34,12 @@ const LONGEST_TIMEOUT: u32 = 2_592_000;
 /// The connections that may be open at once where the command line says nothing of them.
 const CONNECTIONS: u32 = 1024;
 
+/// The most MiB that connections may be meant to hold together.
+const MOST_BUFFERS: u32 = 65536;
+
+/// The MiB that connections are meant to hold together where the command line says nothing of them.
+const BUFFERS: u32 = 64;
+
 /// The workers where the command line says nothing of them.
 const WORKERS: u32 = 4;
 
@@ -85,6 +91,8 @@ pub struct Asked {
     pub connections: Option<u32>,
     /// The seconds of `--idle-timeout`.
     pub idle_timeout: Option<u32>,
+    /// The MiB of `--buffer-limit`.
+    pub buffers: Option<u32>,
     /// The place of `--metrics`.
     pub scrapes: Option<AskedPlace>,
     /// `--allow-quit` is there.
@@ -117,6 +125,8 @@ pub struct Options {
     pub connections: u32,
     /// After how many seconds a connection that is idle is closed, at most 2592000; with 0 never.
     pub idle_timeout: u32,
+    /// How many MiB connections are meant to hold together of what they send and are told, 1 to 65536.
+    pub buffers: u32,
     /// Where scrapes are answered; nowhere where that isn't asked for.
     pub scrapes: Option<Endpoint>,
     /// Peers of this machine may end it, where scrapes are answered.
@@ -161,7 +171,7 @@ impl Asked {
 impl Options {
     /// Makes options of what `clap` found, and of the settings and the endpoints of it. Where they aren't
     /// asked for there are 4 workers, at most 1024 connections are open at once, none is closed for being
-    /// idle, and scrapes are answered nowhere, or at 127.0.0.1. What is out of range, which is refused
+    /// idle, they are meant to hold 64 MiB together, and scrapes are answered nowhere, or at 127.0.0.1. What is out of range, which is refused
     /// before, is brought into it.
     pub fn new(asked: Asked, settings: Settings, endpoints: Endpoints) -> Options
         ensures stdin { result.stdin ≡ asked.stdin }
@@ -171,6 +181,7 @@ impl Options {
         ensures workers { IsAskedFor asked.workers 4 64 result.workers }
         ensures connections { IsAskedFor asked.connections 1024 65536 result.connections }
         ensures idle_timeout { IsTimeoutFor asked.idle_timeout 2592000 result.idle_timeout }
+        ensures buffers { IsAskedFor asked.buffers 64 65536 result.buffers }
         ensures scrapes { IsScrapePlaceFor asked.scrapes result.scrapes }
         ensures may_quit { result.may_quit ≡ asked.may_quit }
         ensures verbose { result.verbose ≡ asked.verbose }
@@ -183,6 +194,7 @@ impl Options {
             workers: taken(asked.workers, WORKERS, MOST_WORKERS),
             connections: taken(asked.connections, CONNECTIONS, MOST_CONNECTIONS),
             idle_timeout: timeout(asked.idle_timeout, LONGEST_TIMEOUT),
+            buffers: taken(asked.buffers, BUFFERS, MOST_BUFFERS),
             scrapes: scrape_place(asked.scrapes),
             may_quit: asked.may_quit,
             verbose: asked.verbose,
@@ -242,6 +254,7 @@ pub fn parsed(alloc: Global, words: &[String]) -> Result<Options, Unfit>
     ensures connections { IfOk result (λ options.
         1 ≤ options.connections × options.connections ≤ 65536) }
     ensures idle_timeout { IfOk result (λ options. options.idle_timeout ≤ 2592000) }
+    ensures buffers { IfOk result (λ options. 1 ≤ options.buffers × options.buffers ≤ 65536) }
 {
     let mut command = command(alloc)?;
     let matches = command.try_get_matches_from_mut(words)?;
@@ -258,6 +271,7 @@ pub fn parsed(alloc: Global, words: &[String]) -> Result<Options, Unfit>
         workers: matches.get_one::<u32>("workers"),
         connections: matches.get_one::<u32>("connections"),
         idle_timeout: matches.get_one::<u32>("idle-timeout"),
+        buffers: matches.get_one::<u32>("buffer-limit"),
         scrapes,
         may_quit: matches.get_flag("allow-quit"),
         verbose: matches.get_count("verbose") > 0,
@@ -489,7 +503,13 @@ fn with_connection_options<'a>(
         .help(
             "Close connections that are idle for so long, 1 to 2592000; with 0 none [default: 0]",
         );
-    command.arg(connections)?.arg(idle_timeout)
+    let buffers = Arg::new(alloc, "buffer-limit")
+        .long("buffer-limit")
+        .value_name("N")
+        .action(ArgAction::Set)
+        .value_parser(value_parser!(u32).range(1..=i64::from(MOST_BUFFERS)))
+        .help("Hold N MiB of what connections send and are told, 1 to 65536 [default: 64]");
+    command.arg(connections)?.arg(idle_timeout)?.arg(buffers)
 }
 
 /// Adds the options of what is told, and to whom, and of who may end the program.

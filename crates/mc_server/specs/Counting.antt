@@ -58,3 +58,4 @@ parting_place parting.WriteFault = 5
 parting_place parting.SessionOver = 6
 parting_place parting.Idle = 7
 parting_place parting.ListenerFailed = 8
+parting_place parting.Hoarding = 9

@@ -85,7 +85,7 @@ impl<'a> Asker<'a> {
     }
 
     /// Serves links until none comes any more and all sessions have ended. The tally hears of each step, and
-    /// the shelf of the number `first` is tidied first.
+    /// the shelf of the number `first` is tidied first. Its guests are meant to hold `share` bytes.
     pub fn work<R: Wait + time::Clock, T: Tally, C: Clock>(
         self,
         rt: &R,
@@ -94,6 +94,7 @@ impl<'a> Asker<'a> {
         tally: &T,
         clock: &C,
         first: u32,
+        share: usize,
     ) {
         let Asker { shared, caller } = self;
         let worker = Worker {
@@ -101,6 +102,7 @@ impl<'a> Asker<'a> {
             tally,
             clock,
             first,
+            share,
         };
         let _ = worker.work(rt, alloc, shared, caller, links);
     }

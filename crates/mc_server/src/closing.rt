@@ -46,4 +46,8 @@ impl<'a, R: Wait + Clock> Links<SocketLink> for ClosingLinks<'a, R> {
     fn rest(&mut self) {
         self.links.rest()
     }
+
+    fn end(&mut self, number: u64) {
+        self.links.end(number)
+    }
 }

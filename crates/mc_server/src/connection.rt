@@ -32,10 +32,12 @@ pub enum Parting {
     Idle,
     /// The listener has failed, and the program ends.
     ListenerFailed,
+    /// It held much and was quiet while others were kept waiting for memory.
+    Hoarding,
 }
 
 /// How many reasons there are for which a connection is closed.
-pub const PARTINGS: usize = 9;
+pub const PARTINGS: usize = 10;
 
 impl Parting {
     ghost use Rattle.std.specs.Prelude.{◌≡◌};
@@ -60,6 +62,7 @@ impl Parting {
             Parting::SessionOver => "quit, a line too long, or out of memory",
             Parting::Idle => "nothing was heard of it for as long as --idle-timeout allows",
             Parting::ListenerFailed => "the listener failed",
+            Parting::Hoarding => "it held much and was quiet while others waited for memory",
         }
     }
 }

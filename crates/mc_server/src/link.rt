@@ -47,6 +47,10 @@ impl Link for SocketLink {
     fn faults(&self) -> u64 {
         self.gathering.faults()
     }
+
+    fn reserved(&self) -> usize {
+        self.gathering.reserved()
+    }
 }
 
 impl Drop for SocketLink {

@@ -289,4 +289,12 @@ impl<'a, R: Wait + Clock> Links<SocketLink> for SocketLinks<'a, R> {
         self.wait_for_events(time);
         self.arrivals.end_rest(&self.share);
     }
+
+    fn end(&mut self, number: u64) {
+        for place in self.places.iter_mut() {
+            if place.is_of(number) {
+                place.end(Parting::Hoarding, &mut self.named);
+            }
+        }
+    }
 }

@@ -41,6 +41,8 @@ struct Post {
     idle_timeout: u32,
     /// The shelf that its worker tidies first.
     first: u32,
+    /// How many bytes its worker's guests are meant to hold.
+    held: usize,
     /// What its links count, and what its steps do.
     moved: Arc<Counts>,
     counts: Arc<Counts>,
@@ -210,6 +212,7 @@ fn make_posts<R: Net>(rt: &R, alloc: Global, options: &Options) -> Result<Posts,
             events,
             idle_timeout: options.idle_timeout,
             first: first_shelf(options, worker),
+            held: held_of(options),
             moved: counts.clone().map_err(|_| AllocError)?,
             counts,
         };
@@ -231,6 +234,13 @@ fn make_posts<R: Net>(rt: &R, alloc: Global, options: &Options) -> Result<Posts,
 /// Gives the shelf that a worker tidies first, so that workers begin far from each other.
 fn first_shelf(options: &Options, worker: u32) -> u32 {
     worker.saturating_mul(options.settings.shelves) / options.workers.max(1)
+}
+
+/// Gives how many bytes the guests of a worker are meant to hold: an equal part of seven eighths of what all are.
+/// The rest is for what the C library keeps between their pieces.
+fn held_of(options: &Options) -> usize {
+    let bytes = (options.buffers as usize).saturating_mul(1 << 20);
+    bytes / 8 * 7 / options.workers.max(1) as usize
 }
 
 /// Makes what a worker counts. The one error is a refused allocation.
@@ -337,6 +347,7 @@ fn man<R: AllocGlobal + Wait + time::Clock, C: Clock>(
         events,
         idle_timeout,
         first,
+        held,
         moved,
         counts,
     } = post;
@@ -349,5 +360,5 @@ fn man<R: AllocGlobal + Wait + time::Clock, C: Clock>(
         counts: &counts,
         refusals: Refusals::new(log),
     };
-    asker.work(rt, alloc, &mut links, &heard, clock, first);
+    asker.work(rt, alloc, &mut links, &heard, clock, first, held);
 }

@@ -28,6 +28,11 @@ impl Place {
         }
     }
 
+    /// Says whether it is the place of the link with this number.
+    pub fn is_of(&self, number: u64) -> bool {
+        self.number == number
+    }
+
     /// Notes what an event says of the link, and names it where it waits. Says whether the link is gone.
     pub fn note(&mut self, event: &Event, named: &mut VecDeque<u64>) -> bool {
         self.waits_since = None;

@@ -54,7 +54,7 @@ where
     let links = SocketLinks::new(rt, alloc, &arrivals, Share::new(0), poll, events, counts);
     let mut links = ClosingLinks::new(links, &arrivals);
     let clock = Fixed(Moment::from_seconds_at_most(1000));
-    Asker::new(&shared, caller).work(rt, alloc, &mut links, &NoTally, &clock, 0);
+    Asker::new(&shared, caller).work(rt, alloc, &mut links, &NoTally, &clock, 0, usize::MAX);
     let mut answer = Vec::new(alloc);
     client.read_to_end(&mut answer)?;
     Ok(answer)

@@ -44,6 +44,7 @@ fn served(
         workers: None,
         connections: None,
         idle_timeout: None,
+        buffers: None,
         scrapes: None,
         may_quit: false,
         verbose: false,

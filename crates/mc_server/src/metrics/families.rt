@@ -63,6 +63,7 @@ const REASONS: &[(&str, Figure)] = &[
         r#"{reason="listener_failed"}"#,
         Closed(Parting::ListenerFailed as usize),
     ),
+    (r#"{reason="hoarding"}"#, Closed(Parting::Hoarding as usize)),
 ];
 
 /// What is told, in this order.
