@@ -23,11 +23,10 @@ MINUTES ?= 30
 .PHONY: build bench-build run test check crate rows history fmt bench bench-tcp bench-waiting clean
 .PHONY: docs docs-check where test-clients test-scaling test-metrics soak man install uninstall deb is-built
 
-# Proves the program and what is below it, and builds it. rt run runs it too: --help ends it at once. What it says goes to standard
-# error, so that `make run` writes what the program writes alone. Beside the program it notes what it was built of.
+# Proves the program and what is below it, and builds it (build.py tells how far it is). It is run once, for --help, which ends it at once. What is
+# said goes to standard error, so that `make run` writes what the program writes alone. Beside the program it notes what it was built of.
 build:
-	@test -x $(PROGRAM) || echo "The first build proves every crate: 35 to 50 minutes on 4 cores." >&2
-	@cd crates/mc_server && rt run -- --help < /dev/null > /dev/null
+	@JOBS=$(JOBS) python3 build.py
 	@printf 'commit %s\ntoolchain %s\n' "$$(git describe --always --dirty 2> /dev/null)" "$$(rt version)" > $(dir $(PROGRAM))BUILD
 	@echo "$(PROGRAM) is proved and built" >&2
 
