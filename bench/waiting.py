@@ -235,7 +235,7 @@ def rows(quick):
         Row("lines", "8 that ask for 3,000 keys a line", [(repeats, (line, b"END\r\n"))] * 8, many_keys),
         Row("misses", "8 that ask for 6,000 missing keys a line", [(repeats, (long_line, b"END\r\n"))] * 8),
         Row("sets", "8 that set 1 MB", [(repeats, (set_large, b"STORED\r\n"))] * 8),
-        Row("flush", f"one flush of {items:,} items", [(flushes, ())], filled),
+        Row("flush", f"one flush of {items:,} items", [(flushes, ())], filled, verb="set"),
         Row("tidy", f"{items:,} items expire", [], expiring, seconds=15 if quick else 70, verb="set"),
         Row("growth", "one that stores new keys", [(grows, ())], seconds=8, verb="set"),
         Row("joins", "4 that append 50 KB to items of up to 950 KB", joining(50_000), verb="set"),

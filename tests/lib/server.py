@@ -179,9 +179,12 @@ class Server(Started):
 
 
 class StillServer(Server):
-    """A running server whose clock stands, and whose items have at most so many bytes with key and header."""
+    """A running server whose clock stands, and whose items have at most so many bytes with key and header.
 
-    def __init__(self, now=MOMENT, connections=MOST, greatest=GREATEST, **options):
+    With `buffers` its connections may hold so many MiB together: who holds much for long isn't closed by a clock that stands."""
+
+    def __init__(self, now=MOMENT, connections=MOST, greatest=GREATEST, buffers=None, **options):
         clock = [] if is_memcached(settings.program()) else ["--now", str(now)]
         largest = [] if greatest == GREATEST else ["-I", str(greatest)]
-        super().__init__(args=["-c", str(connections), *largest, *clock], **options)
+        held = ["--buffer-limit", str(buffers)] if buffers else []
+        super().__init__(args=["-c", str(connections), *largest, *held, *clock], **options)

@@ -17,7 +17,8 @@ class Readers(ProgramCase):
         """100 clients ask for 64 MB of answers each, by large blocks or by small ones, and read nothing for long."""
         count, small = 100, b"s" * 1000
         many = b"get" + b" small" * 60 + b"\r\n", b"VALUE small 0 1000\r\n%s\r\n" % small * 60 + b"END\r\n"
-        with abused(kept_of(count)) as server:
+        # (room for a block of each: no one waits for another's)
+        with abused(kept_of(count), buffers=4 * count) as server:
             large = b"get large\r\n", store_large(server.port)
             with Peer(server.port) as peer:
                 peer.asks(b"set small 0 0 1000\r\n%s\r\n" % small, b"STORED\r\n")

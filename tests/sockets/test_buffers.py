@@ -1,0 +1,65 @@
+"""What connections hold of what they send and are told is bounded by --buffer-limit, and comes back."""
+import time
+
+from tests.lib.abuse import LITTLE, MB, Beside, costs, sent_as_far
+from tests.lib.case import ProgramCase
+from tests.lib.peer import Peer, clients
+from tests.lib.server import Server
+from tests.lib.wait import until
+
+# What all may hold, in MiB.
+LIMIT = 32
+# How large items may be, and the block of one, each with how many clients that misuse it.
+ONES = [("1m", 1_000_000, 300), ("8m", 8_000_000, 24)]
+# In so many seconds a large block gets through: who is quiet makes room for others after 5, and so does who comes then.
+LET_ON = 60
+# What an idle one may cost.
+IDLE = 8192
+
+
+def limited(most):
+    """A server with that limit, whose clock goes."""
+    return Server(args=["-I", most, "--buffer-limit", str(LIMIT), "-c", "2000"])
+
+
+class Buffers(ProgramCase):
+    def others_are_served(self, server, block):
+        """Fails unless a large block comes through both ways."""
+        with Peer(server.port, LET_ON) as peer:
+            peer.asks(b"set whole 0 0 %d\r\n%s\r\n" % (len(block), block), b"STORED\r\n")
+            peer.asks(b"get whole\r\n", b"VALUE whole 0 %d\r\n%s\r\nEND\r\n" % (len(block), block))
+
+    def test_blocks_that_do_not_come(self):
+        """Many clients send most of a large block each: as many are read as there is room for, and the others wait."""
+        for most, length, count in ONES:
+            with self.subTest(most), limited(most) as server, Beside(server.port):
+                self.others_are_served(server, b"w" * length)
+                before = server.memory()
+                with clients(server.port, count) as peers:
+                    sent_as_far(peers, b"set half 0 0 %d\r\n" % length + b"h" * (length - 100), 2)
+                    self.others_are_served(server, b"w" * length)
+                    costs(server, before, LIMIT * MB + LITTLE)
+
+    def test_answers_that_nobody_reads(self):
+        """Many clients ask for twenty large blocks each, and read nothing."""
+        for most, length, count in ONES:
+            with self.subTest(most), limited(most) as server, Beside(server.port):
+                self.others_are_served(server, b"w" * length)
+                before = server.memory()
+                with clients(server.port, count, receives=4096) as peers:
+                    for peer in peers:
+                        peer.send(b"get whole\r\n" * 20)
+                    time.sleep(1)
+                    self.others_are_served(server, b"w" * length)
+                    costs(server, before, LIMIT * MB + LITTLE)
+
+    def test_idle_ones_hold_little(self):
+        """Clients set and get 60 KB each, and 120 KB, and are idle: what they needed comes back while they are there."""
+        with limited("1m") as server, Beside(server.port), clients(server.port, 1000) as peers:
+            before = server.memory()
+            for length in (60_000, 120_000):
+                block = b"b" * length
+                for peer in peers:
+                    peer.asks(b"set block 0 0 %d\r\n%s\r\nget block\r\n" % (length, block), b"STORED\r\nVALUE block 0 %d\r\n%s\r\nEND\r\n" % (length, block))
+            had = until(lambda: server.memory() <= before + LITTLE + len(peers) * IDLE, 3)
+            self.assertTrue(had, f"{len(peers)} idle ones have {server.memory() - before >> 10} kB more")
