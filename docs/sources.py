@@ -151,7 +151,7 @@ def read_code(crate, file):
             doc = []
         elif line == "}":
             owner, inside, doc = "", "", []
-        elif stripped:
+        elif stripped and not stripped.startswith("//"):
             doc = []
         doc = [] if doc is None else doc
         at += 1
