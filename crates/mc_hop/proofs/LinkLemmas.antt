@@ -140,20 +140,8 @@ module _ {X : Type 0} (ats : List ℕ) (items : List X) (places : List ℕ) (ite
 
   case_of : (b : ℕ) → (get_or now b 0 ≤ length places_new) × (0 < get_or now b 0 → get_or places_new (get_or now b 0 - 1) 0 ≡ b)
   case_of b =
-      grind (
-        arith,
-        cases_eq b at,
-        cases_eq (get_or ats b 0) (length places),
-        number_at,
-        number_mover b,
-        number_other b,
-        moved_is,
-        links.within b,
-        links.back b,
-        places_swapped.shorter,
-        places_swapped.others (get_or ats b 0 - 1) 0,
-        its_place,
-      )
+      let others = places_swapped.others (get_or ats b 0 - 1) 0 in
+      grind (arith, cases_eq b at, cases_eq (get_or ats b 0) (length places), number_at, number_mover b, number_other b, moved_is, links.within b, links.back b, others, its_place)
 
   IsLinked-take : IsLinked now items_new places_new item_room place_room
   IsLinked-take = record {
@@ -177,28 +165,13 @@ module _ {X : Type 0} (ats : List ℕ) (items : List X) (places : List ℕ) (ite
   moved = get-swapped items items_new p items_swapped
 
   items-take : map (item_of items_new) now ≡ set (map (item_of items) ats) at None
-  items-take = ext_get_or None _ _ (grind (arith, reads, length-map, same_length)) (λ b below.
-      grind (
-        arith,
-        reads,
-        length-map,
-        same_length,
-        cases_eq b at,
-        cases_eq (get_or ats b 0) (length places),
-        item_at items_new now b,
-        item_at items ats b,
-        number_at,
-        number_mover b,
-        number_other b,
-        moved,
-        kept (get_or ats b 0),
-        links.within b,
-        links.same_length,
-        items_swapped.shorter,
-        places_swapped.shorter,
-        its_place,
-        links.back b,
-      ))
+  items-take = ext_get_or None _ _ (grind (arith, reads, length-map, same_length)) same where
+    same : (b : ℕ) → b < length (map (item_of items_new) now) → get_or (map (item_of items_new) now) b None ≡ get_or (set (map (item_of items) ats) at None) b None
+    same b below =
+        let seen_now = item_at items_new now b in
+        let seen = item_at items ats b in
+        let last = cases_eq (get_or ats b 0) (length places) in
+        grind (arith, reads, length-map, same_length, cases_eq b at, number_at, number_mover b, number_other b, moved, kept (get_or ats b 0), links.within b, its_place, links.back b)
 
 module _ {X : Type 0} (ats : List ℕ) (items : List X) (places : List ℕ) (item_room place_room : ℕ) (links : IsLinked ats items places item_room place_room) (old : List (Option X)) (at : ℕ) where
   pub take_linked : {p number item_room_new place_room_new : ℕ} {items_new : List X} {places_new ats_cleared ats_new : List ℕ} → map (item_of items) ats ≡ old
