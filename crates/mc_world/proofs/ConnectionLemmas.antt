@@ -206,23 +206,24 @@ due_of c s (inr next) due = next
 pub rest_due : (g : Grammar) (c : Connection) (s : SessionState) → IsRest c s → (NoTurnDue s → ⊥) → (unit : ProtocolUnit) × (at : ℕ) × IsNext c unit at
 rest_due g c s rest due = due_of c s (due_or_not g c s rest) due
 
--- a connection has one next turn
-pub one_next : (g : Grammar) (c : Connection) (u v : ProtocolUnit) (at to : ℕ) → IsNext c u at → IsNext c v to → let one : ProtocolUnit × ℕ = (u, at) in
-    let other : ProtocolUnit × ℕ = (v, to) in one ≡ other
-one_next g c u v at to x y =
-    let same = g.same c.greatest c.passed c.stream x.units y.units x.are y.are in
-    let one : Option (ProtocolUnit × ℕ) = Some (u, at) in
-    let other : Option (ProtocolUnit × ℕ) = Some (v, to) in
-    let both : one ≡ other = sym x.next ∙ ap (λ us. slice_get (turns us) c.taken) same ∙ y.next in
-    cc
+-- the next turn of a connection, or that it has none, is one thing
+pub next_in : (g : Grammar) → Connection → Option (ProtocolUnit × ℕ)
+next_in g c = slice_get (turns (g.some c.greatest c.passed c.stream).0) c.taken
 
--- or none
-pub no_next : (g : Grammar) (c : Connection) (u : ProtocolUnit) (at : ℕ) → IsNext c u at → HasNoNext c → ⊥
-no_next g c u at x y =
-    let same = g.same c.greatest c.passed c.stream x.units y.units x.are y.are in
-    let one : Option (ProtocolUnit × ℕ) = Some (u, at) in
-    let both : one ≡ None = sym x.next ∙ ap (λ us. slice_get (turns us) c.taken) same ∙ y.none in
-    cc
+units_one : (g : Grammar) (c : Connection) (units : List ProtocolUnit) → AreUnits c.greatest c.passed c.stream units → next_in g c ≡ slice_get (turns units) c.taken
+unfolding next_in
+units_one g c units are = let some = g.some c.greatest c.passed c.stream in ap (λ us. slice_get (turns us) c.taken) (g.same c.greatest c.passed c.stream some.0 units some.1 are)
+
+pub next_is : (g : Grammar) (c : Connection) (unit : ProtocolUnit) (at : ℕ) → IsNext c unit at → next_in g c ≡ Some (unit, at)
+next_is g c unit at next = units_one g c next.units next.are ∙ next.next
+
+pub none_is : (g : Grammar) (c : Connection) → HasNoNext c → next_in g c ≡ None
+none_is g c none = units_one g c none.units none.are ∙ none.none
+
+pub no_next : (g : Grammar) (c : Connection) (unit : ProtocolUnit) (at : ℕ) → IsNext c unit at → HasNoNext c → ⊥
+no_next g c unit at next none =
+    let one : Option (ProtocolUnit × ℕ) = Some (unit, at) in
+    let both : one ≡ None = sym (next_is g c unit at next) ∙ none_is g c none in cc
 
 idle_of : (g : Grammar) (c : Connection) (s : SessionState) → DueOrNot c s → HasNoNext c → NoTurnDue s
 idle_of g c s (inl none) h = none

@@ -8,23 +8,9 @@ use Rattle.mc_world.specs.declared.event.Event.{Event}
 use Rattle.mc_world.specs.declared.event.Event.TheVariants.{Open, Close}
 use Rattle.mc_world.specs.declared.event.Refused.{Refused}
 use Rattle.mc_world.proofs.ConnectionLemmas.{stands_one}
+use Rattle.mc_world.proofs.ToldLemmas.{until_only}
 
 module _ {K : Type 0} (hash_of : K → List ℕ → ℕ) where
-  -- it is the one that is refused
-  from_only : (old new : WorldState K) (first : PlainWorld) (at : ℕ) (decided : Bool) (e event : Event) → slice_get (e ∷ []) at ≡ Some event
-      → RunsUntil hash_of old first (take at (e ∷ [])) decided event new → Refuses hash_of first decided e new
-  from_only old new first zero decided e event here (mid, runs, refuses) =
-      let it : event ≡ e = cc in
-      subst (λ (w : PlainWorld). Refuses hash_of w decided e new) runs (subst (λ (x : Event). Refuses hash_of mid decided x new) it refuses)
-  from_only old new first (suc at) decided e event here until = let none : None ≡ Some event = here in absurd (cc)
-
-  pub until_only : (refused : Refused) (old new : WorldState K) (e : Event) → ToldUntil hash_of refused old (e ∷ []) new → ToldRefused hash_of refused.decided old e new
-  until_only refused old new e until = record {
-    settings = until.settings;
-    hasher = until.hasher;
-    told = λ first stands. from_only old new first refused.at refused.decided e until.event until.here (until.told first stands);
-  }
-
   -- an opening isn't done, and a close is
   open_given : (decided : Bool) (first last : PlainWorld) → GivesUp decided first Open last → last ≡ first
   open_given true first last (state, nothing, is) = absurd nothing
@@ -36,7 +22,7 @@ module _ {K : Type 0} (hash_of : K → List ℕ → ℕ) where
 
   pub open_refused : (grammar : Grammar) (refused : Refused) (old new : WorldState K) → CanStand old → ToldUntil hash_of refused old (Open ∷ []) new → new ≡ old
   open_refused grammar refused old new can until =
-      let only = (until_only refused old new Open until).told can.plain can.stands in
+      let only = (until_only until).told can.plain can.stands in
       stands_one grammar can.plain old new can.stands (subst (λ (p : PlainWorld). StandsAs p new) (open_given refused.decided can.plain only.0 only.1) only.2) until.settings until.hasher
 
   close_refused : (n : ℕ) (refused : Refused) (old new : WorldState K) → ToldUntil hash_of refused old (Close n ∷ []) new → Told hash_of old (Close n ∷ []) new
@@ -44,7 +30,7 @@ module _ {K : Type 0} (hash_of : K → List ℕ → ℕ) where
     settings = until.settings;
     hasher = until.hasher;
     told = λ first stands.
-        let only = (until_only refused old new (Close n) until).told first stands in
+        let only = (until_only until).told first stands in
         (only.0, (only.0, close_given refused.decided n first only.0 only.1, refl), only.2);
   }
 

@@ -21,6 +21,7 @@ use Rattle.mc_world.specs.declared.event.Event.{Event}
 use Rattle.mc_world.specs.declared.event.Event.TheVariants.{Open, Piece, Turn, Clock, Grow, Purge, Close}
 use Rattle.mc_world.specs.declared.event.Refused.{Refused}
 use Rattle.mc_world.proofs.ConnectionLemmas.{rest_fed, rest_closed, rest_idle, rest_due, next_of, is_next, stands_after}
+use Rattle.mc_world.proofs.ToldLemmas.{moment_stands}
 use Rattle.mc_world.proofs.StandLemmas.{AreOpen, Opens, stand_length, stand_open, stand_put, stand_more, stand_changed, stand_out, less}
 
 -- a session that was just opened is what is left of a fresh connection
@@ -295,11 +296,8 @@ sent_stands old number n can = record {
 }
 
 -- at another moment
-pub moment_stands : {K : Type 0} (old : WorldState K) (now : ℕ) → CanStand old → CanStand (record old { moment = now })
-moment_stands old now can = record {
-  plain = record can.plain { now = now };
-  stands = record { greatest = can.stands.greatest; state = can.stands.state; now = refl; sessions = can.stands.sessions };
-}
+pub can_move : {K : Type 0} (old : WorldState K) (now : ℕ) → CanStand old → CanStand (record old { moment = now })
+can_move old now can = record { plain = record can.plain { now = now }; stands = moment_stands {old = old} now can.stands }
 
 -- a world of no sessions stands
 pub new_stands : {K : Type 0} (world : WorldState K) → world.sessions ≡ [] → CanStand world
@@ -307,60 +305,3 @@ new_stands world none = record {
   plain = record { greatest = world.settings.greatest; state = world.state; now = world.moment; connections = [] };
   stands = record { greatest = refl; state = refl; now = refl; sessions = subst (StandAll []) (sym none) tt };
 }
-
--- What is told of some events and then of others, and of one that is refused behind some.
-module _ {K : Type 0} (hash_of : K → List ℕ → ℕ) where
-  pub runs_join : (hash : List ℕ → ℕ) (shelves : ℕ) (events more : List Event) (first mid last : PlainWorld) → Runs hash shelves first events mid
-      → Runs hash shelves mid more last → Runs hash shelves first (events ++ more) last
-  runs_join hash shelves [] more first mid last runs after = subst (λ (w : PlainWorld). Runs hash shelves w more last) runs after
-  runs_join hash shelves (e ∷ events) more first mid last runs after = (runs.0, runs.1, runs_join hash shelves events more runs.0 mid last runs.2 after)
-
-  -- with the hasher and settings that a world still has
-  pub runs_still : (old mid : WorldState K) → mid.settings ≡ old.settings → mid.hasher ≡ old.hasher
-      → (first : PlainWorld) (events : List Event) (last : PlainWorld) → RunsIn hash_of mid first events last → RunsIn hash_of old first events last
-  runs_still old mid settings hasher first events last runs =
-      subst (λ (s : Settings). Runs (hash_of old.hasher) s.shelves first events last) settings
-      (subst (λ (h : K). Runs (hash_of h) mid.settings.shelves first events last) hasher runs)
-
-  -- no event
-  pub told_none : (world : WorldState K) → Told hash_of world [] world
-  told_none world = record { settings = refl; hasher = refl; told = λ first stands. (first, refl, stands) }
-
-  pub told_join : (old mid new : WorldState K) (events more : List Event) → Told hash_of old events mid → Told hash_of mid more new → Told hash_of old (events ++ more) new
-  told_join old mid new events more told after = record {
-    settings = after.settings ∙ told.settings;
-    hasher = after.hasher ∙ told.hasher;
-    told = λ first stands.
-        let so_far = told.told first stands in
-        let next = after.told so_far.0 so_far.2 in (
-          next.0,
-          runs_join (hash_of old.hasher) old.settings.shelves events more first so_far.0 next.0 so_far.1 (runs_still old mid told.settings told.hasher so_far.0 more next.0 next.1),
-          next.2,
-        );
-  }
-
-  -- one event more of a list
-  pub told_on : (old mid new : WorldState K) (events : List Event) (at : ℕ) (event : Event) → event ≡ get_or events at event → at < length events
-      → Told hash_of old (take at events) mid → Told hash_of mid (event ∷ []) new → Told hash_of old (take (at + 1) events) new
-  told_on old mid new events at event here inside told after =
-      let more : take at events ++ event ∷ [] ≡ take (at + 1) events = ap (λ (e : Event). take at events ++ e ∷ []) here ∙ sym (take_more events at event inside) in
-      subst (λ (es : List Event). Told hash_of old es new) more (told_join old mid new (take at events) (event ∷ []) told after)
-
-  -- what is told of the events before a refused one, and of it
-  pub told_until : (old mid new : WorldState K) (events : List Event) (event : Event) (refused : Refused) → Told hash_of old (take refused.at events) mid
-      → slice_get events refused.at ≡ Some event → refused.session ≡ named event
-      → ToldRefused hash_of refused.decided mid event new → ToldUntil hash_of refused old events new
-  told_until old mid new events event refused told here session after = record {
-    settings = after.settings ∙ told.settings;
-    hasher = after.hasher ∙ told.hasher;
-    event = event;
-    here = here;
-    session = session;
-    told = λ first stands. let so_far = told.told first stands in (so_far.0, so_far.1, after.told so_far.0 so_far.2);
-  }
-
-  -- the one event is refused
-  pub told_refused : (old new : WorldState K) (event : Event) (refused : Refused) → refused.at ≡ 0 → refused.session ≡ named event
-      → ToldRefused hash_of refused.decided old event new → ToldUntil hash_of refused old (event ∷ []) new
-  told_refused old new event refused first session after =
-      told_until old old new (event ∷ []) event refused (subst (λ (k : ℕ). Told hash_of old (take k (event ∷ [])) old) (sym first) (told_none old)) (ap (slice_get (event ∷ [])) first) session after

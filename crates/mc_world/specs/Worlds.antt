@@ -14,6 +14,7 @@ use Rattle.mc_session.specs.Turns.{SessionState, Answers, NoTurnDue}
 use Rattle.mc_shelf.specs.Stores.{coded_settings}
 use Rattle.mc_shelf.specs.declared.settings.Settings.{Settings}
 use Rattle.mc_command.specs.Purge.{purged}
+use Rattle.mc_world.specs.Chains.{Chain}
 use Rattle.mc_world.specs.Connections.{Connection, IsNext, HasNoNext, Stands, fresh, with_piece, after_turn, ended}
 use Rattle.mc_world.specs.declared.event.Event.{Event}
 use Rattle.mc_world.specs.declared.event.Event.TheVariants.{Open, Piece, Turn, Clock, Grow, Purge, Close}
@@ -165,8 +166,7 @@ module _ (hash : List ℕ → ℕ) (shelves : ℕ) where
 
   -- events, one after another
   abbrev pub Runs : PlainWorld → List Event → PlainWorld → Type 0
-  Runs old [] new = new ≡ old
-  Runs old (event ∷ events) new = (mid : PlainWorld) × Happens old event mid × Runs mid events new
+  Runs old events new = Chain Happens old events new
 
 -- the sessions are what is left of the connections
 abbrev pub StandAll : List Connection → List SessionState → Type 0
