@@ -1,8 +1,6 @@
 -- A session's connection follows from its own events and from what its steps are answered.
 use Rattle.std.proofs.Common.{◌≡◌, ◌⊎◌, inl, inr, ℕ, zero, suc, ◌==◌, Bool, true, false, List, [], ◌∷◌, ◌++◌, length, Option, Some, None, nat_lt, refl, sym, ap, ◌∙◌, subst, if◌then◌else◌}
-use Rattle.std.specs.List.{slice_get}
-use Rattle.std.specs.Bool.{MatchBool}
-use Rattle.std.specs.Option.{MatchOption, option_map}
+use Rattle.std.proofs.Common.{slice_get, MatchBool, MatchOption, option_map}
 use Rattle.std.proofs.lemmas.Bool.{eqb-true, eqb-false}
 use Rattle.mc_command.specs.Commands.{steps, Command}
 use Rattle.mc_command.specs.Plain.{Plain, plain}
@@ -16,9 +14,9 @@ use Rattle.mc_world.specs.Laws.{Grammar, step_of, Answer, Replied, NumbersSpent,
 use Rattle.mc_world.specs.declared.event.Event.{Event}
 use Rattle.mc_world.specs.declared.event.Event.TheVariants.{Open, Piece, Turn, Clock, Grow, Purge, Close}
 use Rattle.mc_world.proofs.ConnectionLemmas.{next_in, next_is, none_is, no_next}
-use Rattle.mc_world.proofs.EventLemmas.{opens, change, found_apart, found_changed, does}
+use Rattle.mc_world.proofs.EventLemmas.{opens, changed_open, found_apart, does}
 use Rattle.mc_world.proofs.FrontLemmas.{grown}
-use Rattle.mc_world.proofs.UpdateLemmas.{if_opened, put_get, number_more}
+use Rattle.mc_world.proofs.UpdateLemmas.{if_opened, number_found, put_get, number_more}
 
 -- the text of a turn that is answered by the first of these answers, if it has a step, and the other answers
 abbrev step_told : Command → ℕ → Option KeyStep → List Answer → List ℕ × List Answer
@@ -100,36 +98,33 @@ module _ (g : Grammar) where
 
     turn_becomes : (b : Bool) → c.is_open ≡ b → MatchOption (if b then Some c else None) (new ≡ old) (λ c. Turns old n c new)
         → MatchOption (if b then Some c else None) (some ≡ []) (λ c. AnswersNext old c some) → Becomes (if b then turned (next_in g c) c (some ++ others) else (c, some ++ others))
-    turn_becomes false is h answers = left (ap (λ (w : PlainWorld). numbered n w.connections) h) answers
-    turn_becomes true is (inl h) answers = rw (none_is g c h.0) (left (ap (λ (w : PlainWorld). numbered n w.connections) h.1) (no_answers h.0 answers))
+    turn_becomes false is h answers = left (λ i. numbered n (h i).connections) answers
+    turn_becomes true is (inl h) answers = rw (none_is g c h.0) (left (λ i. numbered n (h.1 i).connections) (no_answers h.0 answers))
     turn_becomes true is (inr (state, turn, same)) answers = (
       after_turn turn.unit turn.text c,
-      ap (λ (w : PlainWorld). numbered n w.connections) same ∙ put_get old.connections n c (after_turn turn.unit turn.text c) here,
+      (λ i. numbered n (same i).connections) ∙ put_get old.connections n c (after_turn turn.unit turn.text c) here,
       ap (λ o. turned o c (some ++ others)) (next_is g c turn.unit turn.at turn.next)
           ∙ ap (λ (text : List ℕ × List Answer). (after_turn turn.unit text.0 c, text.1))
           (ap (λ (l : List Answer). told turn.unit turn.at (l ++ others)) (next_answers turn.unit turn.at turn.next answers) ∙ told_is old turn.unit turn.at state turn.text others turn.answers),
     )
 
-    changed_becomes : (k : ℕ) (f : Connection → Connection) → numbered n new.connections ≡ numbered n (change k old.connections f) → some ≡ []
-        → Becomes (if k == n then (if_opened opens f c, some ++ others) else (c, some ++ others))
+    changed_by : (f : Connection → Connection) (b : Bool) → numbered n new.connections ≡ (if b then option_map (if_opened opens f) (numbered n old.connections) else numbered n old.connections)
+        → some ≡ [] → Becomes (if b then (if_opened opens f c, some ++ others) else (c, some ++ others))
+    changed_by f true is none = (if_opened opens f c, is ∙ ap (option_map (if_opened opens f)) here, ap (λ (l : List Answer). (if_opened opens f c, l ++ others)) none)
+    changed_by f false is none = left is none
+
+    changed_becomes : (k : ℕ) (f : Connection → Connection) → new ≡ at_connection old k f → some ≡ [] → Becomes (if k == n then (if_opened opens f c, some ++ others) else (c, some ++ others))
     changed_becomes k f is none =
-        elim (k == n) as (λ b. (k == n) ≡ b → Becomes (if b then (if_opened opens f c, some ++ others) else (c, some ++ others))) [
-          | true ↦ λ mine. (
-            if_opened opens f c,
-            is ∙ ap (λ (j : ℕ). numbered n (change j old.connections f)) (eqb-true k n mine) ∙ found_changed n old.connections f ∙ ap (option_map (if_opened opens f)) here,
-            ap (λ (l : List Answer). (if_opened opens f c, l ++ others)) none,
-          )
-          | false ↦ λ other. left (is ∙ found_apart k n old.connections f (eqb-false k n other)) none
-        ] refl
+        changed_by f (k == n) ((λ i. numbered n (is i).connections) ∙ ap (numbered n) (changed_open k old.connections f) ∙ number_found old.connections k n (if_opened opens f)) none
 
     grown_keeps : (b : Bool) → numbered n (grown b old).connections ≡ numbered n old.connections
     grown_keeps true = number_more old.connections (fresh old.greatest ∷ []) n c here ∙ sym here
     grown_keeps false = refl
 
     becomes : (event : Event) → Happens hash shelves old event new → AnswersOf n old event some → Becomes (if_own (is_number n (named event)) event c (some ++ others))
-    becomes Open h none = left (ap (λ (w : PlainWorld). numbered n w.connections) h ∙ grown_keeps (nat_lt (length old.connections) 65535)) none
-    becomes (Piece k piece) h none = changed_becomes k (with_piece piece) (ap (λ (w : PlainWorld). numbered n w.connections) h) none
-    becomes (Close k) h none = changed_becomes k ended (ap (λ (w : PlainWorld). numbered n w.connections) h) none
+    becomes Open h none = left ((λ i. numbered n (h i).connections) ∙ grown_keeps (nat_lt (length old.connections) 65535)) none
+    becomes (Piece k piece) h none = changed_becomes k (with_piece piece) h none
+    becomes (Close k) h none = changed_becomes k ended h none
     becomes (Turn k) h answers =
         elim (k == n) as (λ b. (k == n) ≡ b → MatchBool b (MatchOption (open_connection n old.connections) (some ≡ []) (λ c. AnswersNext old c some)) (some ≡ [])
         → Becomes (if_own b (Turn k) c (some ++ others))) [
@@ -140,14 +135,14 @@ module _ (g : Grammar) where
               (subst (λ (o : Option Connection). MatchOption o (some ≡ []) (λ c. AnswersNext old c some)) (open_is c.is_open refl) said)
           | false ↦ λ other none.
               let d = does hash shelves old new (Turn k) (λ e. cc) h in
-              left (ap (λ (w : PlainWorld). numbered n w.connections) d.is ∙ found_apart k n old.connections d.by (eqb-false k n other)) none
+              left ((λ i. numbered n (d.is i).connections) ∙ found_apart k n old.connections d.by (λ e. absurd (eqb-false k n other e))) none
         ] refl answers
-    becomes event h none = left (ap (λ (w : PlainWorld). numbered n w.connections) h) none
+    becomes event h none = left (λ i. numbered n (h i).connections) none
 
   -- a run makes of a session's connection what its own events make
   lives : (hash : List ℕ → ℕ) (shelves n : ℕ) (c : Connection) (old new : PlainWorld) (events : List Event) (answers : List Answer) → numbered n old.connections ≡ Some c
       → RunsAnswering hash shelves n old events answers new → numbered n new.connections ≡ Some (owns (events_of n events) c answers)
-  lives hash shelves n c old new [] answers here (same, none) = ap (λ (w : PlainWorld). numbered n w.connections) same ∙ here
+  lives hash shelves n c old new [] answers here (same, none) = (λ i. numbered n (same i).connections) ∙ here
   lives hash shelves n c old new (event ∷ events) answers here (mid, some, others, happens, said, runs, parts) =
       let (d, there, is) = becomes hash shelves n old mid c here some others event happens said in
       lives hash shelves n d mid new events others there runs
@@ -163,7 +158,8 @@ module _ (g : Grammar) where
 
 -- each run has answers
 module _ (hash : List ℕ → ℕ) (shelves n : ℕ) where
-  next_answered : (old new : PlainWorld) (o : Option Connection) → MatchOption o (new ≡ old) (λ c. Turns old n c new) → (answers : List Answer) × MatchOption o (answers ≡ []) (λ c. AnswersNext old c answers)
+  next_answered : (old new : PlainWorld) (o : Option Connection) → MatchOption o (new ≡ old) (λ c. Turns old n c new)
+      → (answers : List Answer) × MatchOption o (answers ≡ []) (λ c. AnswersNext old c answers)
   next_answered old new None h = ([], refl)
   next_answered old new (Some x) (inl h) = ([], inl (h.0, refl))
   next_answered old new (Some x) (inr (state, turn, is)) = (answers_in old (step_of turn.unit turn.at), inr (turn.unit, turn.at, turn.next, refl))

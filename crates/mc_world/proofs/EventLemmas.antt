@@ -1,8 +1,7 @@
 -- What an event does to a world: it changes the open connection that it names, and the rest of the world by what that
 -- connection and the rest are.
 use Rattle.std.proofs.Common.{◌≡◌, ◌⊎◌, inl, inr, ℕ, zero, suc, ◌==◌, Bool, true, false, List, [], ◌∷◌, ◌++◌, length, Option, Some, None, refl, sym, ap, ◌∙◌, subst, append_assoc, if◌then◌else◌}
-use Rattle.std.specs.Option.{MatchOption, option_map}
-use Rattle.std.proofs.lemmas.Bool.{eqb-true, eqb-false}
+use Rattle.std.proofs.Common.{MatchOption, option_map}
 use Rattle.mc_command.specs.Plain.{Plain}
 use Rattle.mc_command.specs.Purge.{purged}
 use Rattle.mc_parse.specs.Units.{ProtocolUnit}
@@ -12,7 +11,7 @@ use Rattle.mc_world.specs.Worlds.{PlainWorld, in_plain, numbered, if_open, put, 
 use Rattle.mc_world.specs.Serving.{in_front}
 use Rattle.mc_world.specs.declared.event.Event.{Event}
 use Rattle.mc_world.specs.declared.event.Event.TheVariants.{Open, Piece, Turn, Clock, Grow, Purge, Close}
-use Rattle.mc_world.proofs.UpdateLemmas.{at_number, if_opened, changed_is, changed_opened, number_swap, number_twice, number_nothing, number_get, number_else}
+use Rattle.mc_world.proofs.UpdateLemmas.{at_number, if_opened, changed_opened, number_swap, number_twice, number_nothing, number_else}
 
 abbrev pub opens : Connection → Bool
 opens c = c.is_open
@@ -33,15 +32,12 @@ pub change_twice : (n : ℕ) (cs : List Connection) (f g h : Connection → Conn
 change_twice n cs f g h same = simp changed_open (number_twice cs n (if_opened opens f) (if_opened opens g) (if_opened opens h) same)
 
 -- changes of two connections may change places
-pub change_apart : (m n : ℕ) (cs : List Connection) (f g : Connection → Connection) → (m ≡ n → ⊥) → change n (change m cs f) g ≡ change m (change n cs g) f
-change_apart m n cs f g apart = simp changed_open (number_swap cs n m (if_opened opens g) (if_opened opens f) (λ e. absurd (apart (sym e))))
+pub change_apart : (m n : ℕ) (cs : List Connection) (f g : Connection → Connection) → (m ≡ n → m ≡ 0) → change n (change m cs f) g ≡ change m (change n cs g) f
+change_apart m n cs f g apart = simp changed_open (number_swap cs n m (if_opened opens g) (if_opened opens f) (λ e some. absurd (some (e ∙ apart (sym e)))))
 
--- what is found of another, and of the one
-pub found_apart : (m n : ℕ) (cs : List Connection) (f : Connection → Connection) → (m ≡ n → ⊥) → numbered n (change m cs f) ≡ numbered n cs
+-- what is found of another
+pub found_apart : (m n : ℕ) (cs : List Connection) (f : Connection → Connection) → (m ≡ n → m ≡ 0) → numbered n (change m cs f) ≡ numbered n cs
 found_apart m n cs f apart = ap (numbered n) (changed_open m cs f) ∙ number_else cs m n (if_opened opens f) apart
-
-pub found_changed : (n : ℕ) (cs : List Connection) (f : Connection → Connection) → numbered n (change n cs f) ≡ option_map (if_opened opens f) (numbered n cs)
-found_changed n cs f = ap (numbered n) (changed_open n cs f) ∙ number_get cs n (if_opened opens f)
 
 unchanged_by : (c : Connection) (b : Bool) → (if b then c else c) ≡ c
 unchanged_by c true = refl
@@ -50,21 +46,21 @@ unchanged_by c false = refl
 pub unchanged : (n : ℕ) (cs : List Connection) → change n cs (λ c. c) ≡ cs
 unchanged n cs = changed_open n cs (λ c. c) ∙ number_nothing cs n (if_opened opens (λ c. c)) (λ c. unchanged_by c c.is_open)
 
--- the open connection that is named, if one is, is changed
-abbrev pub change_named : Option ℕ → List Connection → (Connection → Connection) → List Connection
-change_named None cs f = cs
-change_named (Some n) cs f = change n cs f
+-- the number that is named, and 0, which no connection has, where none is named
+abbrev pub number : Option ℕ → ℕ
+number None = 0
+number (Some n) = n
 
--- a connection but for its output, and what is open under a name in two lists is one but for that
+pub number_apart : (o : Option ℕ) (n : ℕ) → (o ≡ Some n → ⊥) → number o ≡ n → number o ≡ 0
+number_apart None n other e = refl
+number_apart (Some k) n other e = absurd (other (ap (λ (j : ℕ). Some j) e))
+
+-- a connection but for its output, and two that are one but for that
 abbrev pub silent : Connection → Connection
 silent c = record c { out = [] }
 
 abbrev pub Alike : Option Connection → Option Connection → Type 0
 Alike o p = option_map silent o ≡ option_map silent p
-
-abbrev pub AlikeAt : Option ℕ → List Connection → List Connection → Type 0
-AlikeAt None cs ds = Unit {0}
-AlikeAt (Some n) cs ds = Alike (open_connection n cs) (open_connection n ds)
 
 -- bytes in front of a connection's output stay there
 abbrev pub KeepsFront : (Connection → Connection) → Type 0
@@ -95,13 +91,8 @@ TurnOrNot old n new =
 by_open : (old new : PlainWorld) (n : ℕ) (o : Option Connection) → open_connection n old.connections ≡ o → MatchOption o (new ≡ old) (λ c. Turns old n c new) → TurnOrNot old n new
 by_open old new n None here h = inl (rw here tt, h)
 by_open old new n (Some c) here (inl h) = inl (rw here h.0, h.1)
-by_open old new n (Some c) here (inr (state, turn, is)) = inr (
-  c,
-  here,
-  state,
-  turn,
-  is ∙ ap (λ (o : Option Connection). let w : PlainWorld = record old { state = state; connections = changed n old.connections (after_turn turn.unit turn.text) o } in w) (sym here),
-)
+by_open old new n (Some c) here (inr (state, turn, is)) =
+    inr (c, here, state, turn, is ∙ λ i. record old { state = state; connections = changed n old.connections (after_turn turn.unit turn.text) (sym here i) })
 
 pub turn_or_not : (old new : PlainWorld) (n : ℕ) → MatchOption (open_connection n old.connections) (new ≡ old) (λ c. Turns old n c new) → TurnOrNot old n new
 turn_or_not old new n h = by_open old new n (open_connection n old.connections) refl h
@@ -123,11 +114,9 @@ pub turn_again : {old : PlainWorld} {c : Connection} {state : Plain} (turn : Nex
     → let new : PlainWorld = record w { state = after; connections = change n w.connections (after_turn turn.unit turn.text) } in MatchOption p (new ≡ w) (λ d. Turns w n d new)
 turn_again turn w after n None answers alike here = absurd (cc)
 turn_again {c = c} turn w after n (Some d) answers alike here =
-    let same : silent c ≡ silent d = cc in inr (
-      after,
-      record { unit = turn.unit; at = turn.at; text = turn.text; next = next_alike c d turn.unit turn.at same turn.next; answers = answers },
-      ap (λ (o : Option Connection). let new : PlainWorld = record w { state = after; connections = changed n w.connections (after_turn turn.unit turn.text) o } in new) here,
-    )
+    let same : silent c ≡ silent d = cc in
+    let next : NextTurn w d after = record { unit = turn.unit; at = turn.at; text = turn.text; next = next_alike c d turn.unit turn.at same turn.next; answers = answers } in
+    inr (after, next, λ i. record w { state = after; connections = changed n w.connections (after_turn turn.unit turn.text) (here i) })
 
 -- The event takes the world by this change of its connection to this state and moment; and where other connections stand,
 -- and its own is one but for its output, it does the same.
@@ -136,10 +125,10 @@ module _ (hash : List ℕ → ℕ) (shelves : ℕ) where
     pub by : Connection → Connection
     pub state : Plain
     pub now : ℕ
-    pub is : new ≡ record old { connections = change_named (named event) old.connections by; state = state; now = now }
+    pub is : new ≡ record old { connections = change (number (named event)) old.connections by; state = state; now = now }
     pub keeps : KeepsFront by
-    pub again : (cs : List Connection) → AlikeAt (named event) cs old.connections
-        → Happens hash shelves (with_connections old cs) event (record old { connections = change_named (named event) cs by; state = state; now = now })
+    pub again : (cs : List Connection) → Alike (open_connection (number (named event)) cs) (open_connection (number (named event)) old.connections)
+        → Happens hash shelves (with_connections old cs) event (record old { connections = change (number (named event)) cs by; state = state; now = now })
 
   turn_does : (old new : PlainWorld) (n : ℕ) → TurnOrNot old n new → Does old (Turn n) new
   turn_does old new n (inl (still, is)) = record {
@@ -157,7 +146,7 @@ module _ (hash : List ℕ → ℕ) (shelves : ℕ) where
         state = state;
         now = old.now;
         is = is;
-        keeps = λ bytes c. ap (λ (o : List ℕ). let d : Connection = record (by c) { out = o } in d) (append_assoc bytes c.out turn.text);
+        keeps = λ bytes c i. record (by c) { out = append_assoc bytes c.out turn.text i };
         again = λ cs alike. turn_again turn (with_connections old cs) state n (open_connection n cs) turn.answers (alike ∙ ap (option_map silent) here) refl;
       }
 

@@ -1,6 +1,6 @@
 -- Events that may be added, taken out or cut, or change places.
-use Rattle.std.proofs.Common.{◌≡◌, inl, inr, ℕ, Bool, true, false, List, [], ◌∷◌, ◌++◌, Option, Some, None, IfSome, refl, sym, ap, ◌∙◌, subst, append_assoc, if◌then◌else◌, ◌↔◌}
-use Rattle.std.specs.Option.{MatchOption, option_map}
+use Rattle.std.proofs.Common.{◌≡◌, inl, inr, ℕ, Bool, true, false, List, [], ◌∷◌, ◌++◌, Option, Some, None, IfSome, MatchOption, option_map}
+use Rattle.std.proofs.Common.{refl, sym, ap, ◌∙◌, subst, append_assoc, if◌then◌else◌, ◌↔◌}
 use Rattle.mc_command.specs.Plain.{Plain}
 use Rattle.mc_command.specs.declared.step.KeyStep.{KeyStep}
 use Rattle.mc_parse.specs.Units.{ProtocolUnit, Request, Fault, LongLine}
@@ -12,49 +12,29 @@ use Rattle.mc_world.specs.Laws.{step_of, NextHasNoStep, DecidesNoStep, IsApart}
 use Rattle.mc_world.specs.declared.event.Event.{Event}
 use Rattle.mc_world.specs.declared.event.Event.TheVariants.{Open, Piece, Turn, Clock, Grow, Purge, Close}
 use Rattle.mc_world.proofs.ChainLemmas as chain
-use Rattle.mc_world.proofs.EventLemmas.{opens, change, with_connections, change_twice, change_apart, found_apart, unchanged, change_named, silent, AlikeAt, TurnOrNot, turn_or_not, still_again, turn_again, Does, does}
+use Rattle.mc_world.proofs.EventLemmas.{opens, change, with_connections, change_twice, change_apart, found_apart, unchanged, number, number_apart, silent, TurnOrNot, turn_or_not}
+use Rattle.mc_world.proofs.EventLemmas.{still_again, turn_again, does}
 use Rattle.mc_world.proofs.UpdateLemmas.{if_opened}
 
 -- two pieces one after another
 twice_by : (piece more : List ℕ) (c : Connection) (b : Bool) → c.is_open ≡ b → if_opened opens (with_piece more) (if b then with_piece piece c else c) ≡ (if b then with_piece (piece ++ more) c else c)
 twice_by piece more c true is = ap (λ (b : Bool). if b then with_piece more (with_piece piece c) else with_piece piece c) is
-    ∙ ap (λ (s : List ℕ). let e : Connection = record c { stream = s } in e) (append_assoc c.stream piece more)
+    ∙ λ i. record c { stream = append_assoc c.stream piece more i }
 twice_by piece more c false is = ap (λ (b : Bool). if b then with_piece more c else c) is
 
 joined : (w : PlainWorld) (n : ℕ) (piece more : List ℕ) → at_connection (at_connection w n (with_piece piece)) n (with_piece more) ≡ at_connection w n (with_piece (piece ++ more))
 joined w n piece more = ap (with_connections w) (change_twice n w.connections (with_piece more) (with_piece piece) (with_piece (piece ++ more)) (λ c. twice_by piece more c c.is_open refl))
 
 -- an open connection of one number over a change of another's
-open_apart : (m n : ℕ) (cs : List Connection) (f : Connection → Connection) → (m ≡ n → ⊥) → open_connection n (change m cs f) ≡ open_connection n cs
+open_apart : (m n : ℕ) (cs : List Connection) (f : Connection → Connection) → (m ≡ n → m ≡ 0) → open_connection n (change m cs f) ≡ open_connection n cs
 open_apart m n cs f apart = ap (if_open opens) (found_apart m n cs f apart)
-
-abbrev IsElse : Option ℕ → ℕ → Type 0
-IsElse o n = o ≡ Some n → ⊥
-
-else_apart : (k n : ℕ) → IsElse (Some k) n → k ≡ n → ⊥
-else_apart k n other e = other (ap (λ (j : ℕ). Some j) e)
-
-named_apart : (o : Option ℕ) (n : ℕ) (cs : List Connection) (f : Connection → Connection) → IsElse o n → open_connection n (change_named o cs f) ≡ open_connection n cs
-named_apart None n cs f other = refl
-named_apart (Some k) n cs f other = open_apart k n cs f (else_apart k n other)
-
-alike_apart : (o : Option ℕ) (n : ℕ) (cs : List Connection) (f : Connection → Connection) → IsElse o n → AlikeAt o (change n cs f) cs
-alike_apart None n cs f other = tt
-alike_apart (Some k) n cs f other = ap (option_map silent) (open_apart n k cs f (λ e. else_apart k n other (sym e)))
-
-alike_back : (o : Option ℕ) (cs ds : List Connection) → AlikeAt o cs ds → AlikeAt o ds cs
-alike_back None cs ds alike = tt
-alike_back (Some k) cs ds alike = sym alike
-
-named_change : (o : Option ℕ) (n : ℕ) (cs : List Connection) (f g : Connection → Connection) → IsElse o n → change_named o (change n cs g) f ≡ change n (change_named o cs f) g
-named_change None n cs f g other = refl
-named_change (Some k) n cs f g other = change_apart n k cs g f (λ e. else_apart k n other (sym e))
 
 -- a turn that has no step is taken by whatever the store and the moment are
 still_unit : (unit : ProtocolUnit) (at now m : ℕ) (before after other : Plain) (text : List ℕ) → step_of unit at ≡ None
     → Answers in_plain unit at now before after text → (after ≡ before) × Answers in_plain unit at m other other text
 still_unit (Request command) at now m before after other text none h =
-    let told : MatchOption (let no : Option KeyStep = None in no) ((text ≡ plain_text command) × (after ≡ before)) (λ step. AnswersStep in_plain command at step now before after text) = rw none at h in
+    let no : Option KeyStep = None in
+    let told : MatchOption no ((text ≡ plain_text command) × (after ≡ before)) (λ step. AnswersStep in_plain command at step now before after text) = rw none at h in
     (told.1, rw none (told.0, refl))
 still_unit (Fault fault) at now m before after other text none h = (h.1, (h.0, refl))
 still_unit LongLine at now m before after other text none h = (h.1, (h.0, refl))
@@ -89,7 +69,7 @@ module _ (hash : List ℕ → ℕ) (shelves : ℕ) where
       let stays = λ (w : PlainWorld). still_unit turn.unit turn.at old.now w.now old.state state w.state turn.text (no_step turn.unit turn.at turn.next) turn.answers in
       let by = after_turn turn.unit turn.text in (
         by,
-        is ∙ ap (λ (s : Plain). let w : PlainWorld = record old { state = s; connections = change n old.connections by } in w) (stays old).0,
+        is ∙ λ i. record old { state = (stays old).0 i; connections = change n old.connections by },
         λ w there. turn_again turn w w.state n (open_connection n w.connections) (stays w).1 (ap (option_map silent) (there ∙ here)) refl,
       )
 
@@ -107,43 +87,51 @@ module _ (hash : List ℕ → ℕ) (shelves : ℕ) where
   still_there w v event n same is = is
 
   -- an event apart from a session does the same whatever the session's connection is, and leaves that
-  passes : (f : Connection → Connection) (old new : PlainWorld) (event : Event) (n : ℕ) → IsApart event n → Happens hash shelves old event new
-      → Happens hash shelves (at_connection old n f) event (at_connection new n f)
-  passes f old new event n apart h =
-      let d = does hash shelves old new event apart.0 h in
-      subst (Happens hash shelves (at_connection old n f) event)
-      (ap (λ (cs : List Connection). let w : PlainWorld = record old { connections = cs; state = d.state; now = d.now } in w) (named_change (named event) n old.connections d.by f apart.1)
-      ∙ sym (ap (λ (w : PlainWorld). at_connection w n f) d.is))
-      (d.again (change n old.connections f) (alike_apart (named event) n old.connections f apart.1))
+  module _ (f : Connection → Connection) (event : Event) (n : ℕ) (apart : IsApart event n) where
+    abbrev k : ℕ
+    k = number (named event)
 
-  passes_back : (f : Connection → Connection) (old last : PlainWorld) (event : Event) (n : ℕ) → IsApart event n → Happens hash shelves (at_connection old n f) event last
-      → (between : PlainWorld) × Happens hash shelves old event between × (last ≡ at_connection between n f)
-  passes_back f old last event n apart h =
-      let d = does hash shelves (at_connection old n f) last event apart.0 h in (
-        record old { connections = change_named (named event) old.connections d.by; state = d.state; now = d.now },
-        d.again old.connections (alike_back (named event) (change n old.connections f) old.connections (alike_apart (named event) n old.connections f apart.1)),
-        d.is
-            ∙ ap (λ (cs : List Connection). let w : PlainWorld = record old { connections = cs; state = d.state; now = d.now } in w) (named_change (named event) n old.connections d.by f apart.1),
-      )
+    distinct : k ≡ n → k ≡ 0
+    distinct = number_apart (named event) n apart.1
 
-  leaves : (old new : PlainWorld) (event : Event) (n : ℕ) → IsApart event n → Happens hash shelves old event new → open_connection n new.connections ≡ open_connection n old.connections
-  leaves old new event n apart h =
-      let d = does hash shelves old new event apart.0 h in
-      ap (λ (w : PlainWorld). open_connection n w.connections) d.is ∙ named_apart (named event) n old.connections d.by apart.1
+    either : (old : PlainWorld) (state : Plain) (now : ℕ) (by : Connection → Connection) → let w : PlainWorld = record old { connections = change k old.connections by; state = state; now = now } in
+        (record old { connections = change k (change n old.connections f) by; state = state; now = now }) ≡ at_connection w n f
+    either old state now by = λ i. record old { connections = change_apart n k old.connections f by (λ e. e ∙ distinct (sym e)) i; state = state; now = now }
+
+    alike : (cs : List Connection) → open_connection k (change n cs f) ≡ open_connection k cs
+    alike cs = open_apart n k cs f (λ e. e ∙ distinct (sym e))
+
+    passes : (old new : PlainWorld) → Happens hash shelves old event new → Happens hash shelves (at_connection old n f) event (at_connection new n f)
+    passes old new h =
+        let d = does hash shelves old new event apart.0 h in
+        subst (Happens hash shelves (at_connection old n f) event) (either old d.state d.now d.by ∙ sym (ap (λ (w : PlainWorld). at_connection w n f) d.is))
+        (d.again (change n old.connections f) (ap (option_map silent) (alike old.connections)))
+
+    passes_back : (old last : PlainWorld) → Happens hash shelves (at_connection old n f) event last
+        → (between : PlainWorld) × Happens hash shelves old event between × (last ≡ at_connection between n f)
+    passes_back old last h =
+        let d = does hash shelves (at_connection old n f) last event apart.0 h in (
+          record old { connections = change k old.connections d.by; state = d.state; now = d.now },
+          d.again old.connections (ap (option_map silent) (sym (alike old.connections))),
+          d.is ∙ either old d.state d.now d.by,
+        )
+
+    leaves : (old new : PlainWorld) → Happens hash shelves old event new → open_connection n new.connections ≡ open_connection n old.connections
+    leaves old new h = let d = does hash shelves old new event apart.0 h in (λ i. open_connection n (d.is i).connections) ∙ open_apart k n old.connections d.by distinct
 
   later : (old new : PlainWorld) (still other : Event) (rest : List Event) (n : ℕ) → DecidesNoStep old still n → IsApart other n
       → Runs hash shelves old (still ∷ other ∷ rest) new → Runs hash shelves old (other ∷ still ∷ rest) new
   later old new still other rest n decides apart (mid, first, (last, second, runs)) =
       let (by, is, again) = still_event old mid still n decides first in
-      let (between, goes, ends) = passes_back by old last other n apart (subst (λ (w : PlainWorld). Happens hash shelves w other last) is second) in
-      (between, goes, (last, subst (Happens hash shelves between still) (sym ends) (again between (leaves old between other n apart goes)), runs))
+      let (between, goes, ends) = passes_back by other n apart old last (subst (λ (w : PlainWorld). Happens hash shelves w other last) is second) in
+      (between, goes, (last, subst (Happens hash shelves between still) (sym ends) (again between (leaves by other n apart old between goes)), runs))
 
   sooner : (old new : PlainWorld) (still other : Event) (rest : List Event) (n : ℕ) → DecidesNoStep old still n → IsApart other n
       → Runs hash shelves old (other ∷ still ∷ rest) new → Runs hash shelves old (still ∷ other ∷ rest) new
   sooner old new still other rest n decides apart (between, first, (last, second, runs)) =
-      let same = leaves old between other n apart first in
+      let same = leaves (λ c. c) other n apart old between first in
       let (by, is, again) = still_event between last still n (still_there old between still n same decides) second in
-      (at_connection old n by, again old (sym same), (last, subst (Happens hash shelves (at_connection old n by) other) (sym is) (passes by old between other n apart first), runs))
+      (at_connection old n by, again old (sym same), (last, subst (Happens hash shelves (at_connection old n by) other) (sym is) (passes by other n apart old between first), runs))
 
   pub places_change : (n : ℕ) (still other : Event) (old new : PlainWorld) (front rest : List Event) → ((world : PlainWorld) → Runs hash shelves old front world → DecidesNoStep world still n)
       → IsApart other n → Runs hash shelves old (front ++ still ∷ other ∷ rest) new ↔ Runs hash shelves old (front ++ other ∷ still ∷ rest) new

@@ -1,5 +1,5 @@
 -- What was served of a session until memory ran out, and the close of it.
-use Rattle.std.proofs.Common.{◌≡◌, ◌⊎◌, inl, inr, ℕ, ◌+◌, ◌^◌, ◌<◌, ◌≤◌, Bool, true, false, List, [], ◌∷◌, ◌++◌, length, Option, Some, None, Result, Ok, Err, OnOk, refl, sym, ap, ◌∙◌, subst, arith, if◌then◌else◌}
+use Rattle.std.proofs.Common.{◌≡◌, ◌⊎◌, inl, inr, ℕ, ◌+◌, ◌^◌, ◌<◌, ◌≤◌, Bool, true, false, List, [], ◌∷◌, ◌++◌, length, Option, Some, Result, Ok, Err, OnOk, refl, sym, ap, ◌∙◌, subst, arith, if◌then◌else◌}
 use Rattle.std.specs.Io.KnownBytes.{Appends, Consumes, IsAtEnd}
 use Rattle.std.proofs.KnownBytes.{Appends-nil, Appends-trans, Consumes-trans}
 use Rattle.mc_session.specs.Exchanges as exchanges
@@ -49,7 +49,8 @@ module _ {K : Type 0} (hash_of : K → List ℕ → ℕ) where
     until_join {old = old} {mid = mid} {events = events} told each plain stands =
         let (first, runs, there) = told.told plain stands in
         let (last, others, refuses) = each first there in
-        (last, chain.join (Happens (hash_of old.hasher) old.settings.shelves) events before plain first last runs (runs_still hash_of old mid told.settings told.hasher first before last others), refuses)
+        let still = runs_still hash_of old mid told.settings told.hasher first before last others in
+        (last, chain.join (Happens (hash_of old.hasher) old.settings.shelves) events before plain first last runs still, refuses)
 
     until_written : (old new : WorldState K) (n : ℕ) (bytes : List ℕ) → NoneOpens before → TellsUntil old before decided event new
         → TellsUntil (with_written n bytes old) before decided event (with_written n bytes new)
@@ -102,18 +103,14 @@ module _ {K : Type 0} (hash_of : K → List ℕ → ℕ) where
       λ plain stands. (plain, refl, (until_only told).told plain stands),
     )
 
--- A whole run: the worlds before it, after the rounds and after the close, and the seat after the rounds.
+-- A whole run: the worlds before it, after the opening, after the rounds and after the close, and the seat after the rounds.
 pub record Ran {K : Type 0} (hash_of : K → List ℕ → ℕ) (may_give : ℕ → Type 0) (w0 w2 w3 : WorldState K) (s : Seat) (r0 r1 o0 o1 : Option (List ℕ)) : Type 0 where
-  pub turns : ℕ
-  pub read : List ℕ
-  pub written : List ℕ
-  pub few : turns ≤ most_turns
-  pub at : s ≡ seat (next_session w0) turns
-  pub served : HasServed hash_of may_give (next_session w0) w0 turns read written w2
+  pub w1 : WorldState K
+  pub run : Exchanges (in_world hash_of) may_give (2 ^ 40) (exchanges.scene (seat (next_session w0) 0) w1 r0 o0) (exchanges.scene s w2 r1 o1)
+  pub at : s ≡ seat (next_session w0) run.turns
+  pub served : HasServed hash_of may_give (next_session w0) w0 run.turns run.read run.written w2
   pub inside : (1 ≤ next_session w0) × (next_session w0 ≤ length w2.sessions)
   pub closes : Told hash_of w2 (Close (next_session w0) ∷ []) w3
-  pub consumes : Consumes r0 r1 read
-  pub appends : Appends o0 o1 written
 
 module _ {K : Type 0} {hash_of : K → List ℕ → ℕ} {may_give : ℕ → Type 0} {w0 w2 w3 : WorldState K} {s : Seat} {r0 r1 o0 o1 : Option (List ℕ)} where
   pub ran_of : {n : ℕ} {w1 : WorldState K} → Begins hash_of n w0 w1 → Told hash_of w2 (Close n ∷ []) w3
@@ -123,18 +120,7 @@ module _ {K : Type 0} {hash_of : K → List ℕ → ℕ} {may_give : ℕ → Typ
       subst (λ (n : ℕ). Begins hash_of n w0 w1 × Told hash_of w2 (Close n ∷ []) w3
       × Exchanges (in_world hash_of) may_give (2 ^ 40) (exchanges.scene (seat n 0) w1 r0 o0) (exchanges.scene s w2 r1 o1)) begins.number (begins, closes, run) in
       let (is, served) = served_by ran.exchange ran.few (served_nothing begun) in
-      record {
-        turns = ran.turns;
-        read = ran.read;
-        written = ran.written;
-        few = ran.few;
-        at = is;
-        served = served;
-        inside = served_inside begun served;
-        closes = closed;
-        consumes = ran.consumes;
-        appends = ran.appends;
-      }
+      record { w1 = w1; run = ran; at = is; served = served; inside = served_inside begun served; closes = closed }
 
   pub ran_short : {n : ℕ} {w1 : WorldState K} → Begins hash_of n w0 w1 → Told hash_of w2 (Close n ∷ []) w3
       → FallsShort (in_world hash_of) may_give (exchanges.scene (seat n 0) w1 r0 o0) (exchanges.scene s w2 r1 o1)
@@ -176,28 +162,28 @@ module _ {K : Type 0} {hash_of : K → List ℕ → ℕ} {may_give : ℕ → Typ
         record {
           came = record {
             events = ran.served.events;
-            read = ran.read;
-            written = ran.written ++ wrote.written;
-            turns = ran.turns;
+            read = ran.run.read;
+            written = ran.run.written ++ wrote.written;
+            turns = ran.run.turns;
             service = write wrote.written ran.served.service;
-            few = ran.few;
-            consumes = ran.consumes;
-            appends = Appends-trans o0 o1 o2 ran.written wrote.written ran.appends wrote.appends;
+            few = ran.run.few;
+            consumes = ran.run.consumes;
+            appends = Appends-trans o0 o1 o2 ran.run.written wrote.written ran.run.appends wrote.appends;
           };
           told = subst (λ (v : WorldState K). Told hash_of w0 (ran.served.events ++ Close n ∷ []) v)
-              (ap (with_written n ran.written) parts ∙ written_twice n ran.written wrote.written w4) (told_behind ran.served tt ran.closes);
+              (ap (with_written n ran.run.written) parts ∙ written_twice n ran.run.written wrote.written w4) (told_behind ran.served tt ran.closes);
         }
 
-    run_ended : HasEnded (in_world hash_of) (seat (next_session w0) ran.turns) w2 r1
-        → let end = numbered (next_session w0) (with_written (next_session w0) ran.written w2).sessions in IsClosed end ⊎ (IsIdle end × IsAtEnd r1)
-    run_ended (inl none) = inl (closed_written (next_session w0) ran.written w2 ran.inside.0 ran.inside.1 none)
-    run_ended (inr (idle, end)) = inr (idle_written (next_session w0) ran.written w2 idle, end)
+    run_ended : HasEnded (in_world hash_of) (seat (next_session w0) ran.run.turns) w2 r1
+        → let end = numbered (next_session w0) (with_written (next_session w0) ran.run.written w2).sessions in IsClosed end ⊎ (IsIdle end × IsAtEnd r1)
+    run_ended (inl none) = inl (closed_written (next_session w0) ran.run.written w2 ran.inside.0 ran.inside.1 none)
+    run_ended (inr (idle, end)) = inr (idle_written (next_session w0) ran.run.written w2 idle, end)
 
     pub ran_whole : HasEnded (in_world hash_of) s w2 r1 → output_of (numbered last.number w4.sessions) ≡ [] → ServedAll hash_of may_give (scene w0 r0 o0) (scene w4 r1 o2)
     ran_whole ended all = record {
       served = ran_and_wrote;
       written = subst (λ (t : Seat). output_of (numbered t.number w4.sessions) ≡ []) ((was_written wrote.writes).0 ∙ ran.at) all;
-      last = with_written (next_session w0) ran.written w2;
+      last = with_written (next_session w0) ran.run.written w2;
       until = ran.served.told;
       ended = run_ended (subst (λ (t : Seat). HasEnded (in_world hash_of) t w2 r1) ran.at ended);
     }

@@ -1,7 +1,7 @@
 -- One element of a list is changed, by its number.
-use Rattle.std.proofs.Common.{◌≡◌, ℕ, zero, suc, ◌-◌, ◌≤◌, Bool, true, false, List, [], ◌∷◌, ◌++◌, length, Option, Some, None, slice_set, refl, sym, ap, ◌∙◌, arith, if◌then◌else◌}
-use Rattle.std.specs.List.{slice_get}
-use Rattle.std.specs.Option.{option_map}
+use Rattle.std.proofs.Common.{◌≡◌, ℕ, zero, suc, ◌-◌, ◌≤◌, ◌==◌, Bool, true, false, List, [], ◌∷◌, ◌++◌, length, Option, Some, None, slice_get, slice_set, option_map}
+use Rattle.std.proofs.Common.{refl, sym, ap, ◌∙◌, subst, arith, if◌then◌else◌}
+use Rattle.std.proofs.lemmas.Bool.{eqb-true, eqb-false}
 use Rattle.std.proofs.lemmas.List.{length-set}
 use Rattle.mc_world.specs.Worlds.{numbered, if_open, put, changed}
 
@@ -42,14 +42,15 @@ pub changed_is : {A : Type 0} (n : ℕ) (xs : List A) (f : A → A) → changed 
 changed_is n xs f = ap (changed n xs f) (all_open (numbered n xs)) ∙ changed_opened (λ _. true) n xs f
 
 -- changes that may change places with one another where they are of the same element do so anywhere
-pub number_swap : {A : Type 0} (xs : List A) (m n : ℕ) (f g : A → A) → (m ≡ n → (x : A) → f (g x) ≡ g (f x)) → at_number (at_number xs n g) m f ≡ at_number (at_number xs m f) n g
+pub number_swap : {A : Type 0} (xs : List A) (m n : ℕ) (f g : A → A) → (m ≡ n → (m ≡ 0 → ⊥) → (x : A) → f (g x) ≡ g (f x))
+    → at_number (at_number xs n g) m f ≡ at_number (at_number xs m f) n g
 number_swap xs zero n f g same = refl
 number_swap xs (suc m) zero f g same = refl
 number_swap [] (suc m) (suc n) f g same = refl
-number_swap (x ∷ xs) (suc zero) (suc zero) f g same = ap (λ y. y ∷ xs) (same refl x)
+number_swap (x ∷ xs) (suc zero) (suc zero) f g same = ap (λ y. y ∷ xs) (same refl (λ none. omega (arith, none)) x)
 number_swap (x ∷ xs) (suc zero) (suc (suc n)) f g same = refl
 number_swap (x ∷ xs) (suc (suc m)) (suc zero) f g same = refl
-number_swap (x ∷ xs) (suc (suc m)) (suc (suc n)) f g same = ap (λ l. x ∷ l) (number_swap xs (suc m) (suc n) f g (λ e. same (ap suc e)))
+number_swap (x ∷ xs) (suc (suc m)) (suc (suc n)) f g same = ap (λ l. x ∷ l) (number_swap xs (suc m) (suc n) f g (λ e some. same (ap suc e) (λ none. omega (arith, none))))
 
 -- two changes of the same element
 pub number_twice : {A : Type 0} (xs : List A) (n : ℕ) (f g h : A → A) → ((x : A) → f (g x) ≡ h x) → at_number (at_number xs n g) n f ≡ at_number xs n h
@@ -83,19 +84,24 @@ number_get [] (suc n) f = refl
 number_get (x ∷ xs) (suc zero) f = refl
 number_get (x ∷ xs) (suc (suc n)) f = number_get xs (suc n) f
 
-pub number_else : {A : Type 0} (xs : List A) (m n : ℕ) (f : A → A) → (m ≡ n → ⊥) → numbered n (at_number xs m f) ≡ numbered n xs
+pub number_else : {A : Type 0} (xs : List A) (m n : ℕ) (f : A → A) → (m ≡ n → m ≡ 0) → numbered n (at_number xs m f) ≡ numbered n xs
 number_else xs zero n f apart = refl
 number_else xs (suc m) zero f apart = refl
 number_else [] (suc m) (suc n) f apart = refl
-number_else (x ∷ xs) (suc zero) (suc zero) f apart = absurd (apart refl)
+number_else (x ∷ xs) (suc zero) (suc zero) f apart = let none : suc zero ≡ 0 = apart refl in absurd (omega (arith, none))
 number_else (x ∷ xs) (suc zero) (suc (suc n)) f apart = refl
 number_else (x ∷ xs) (suc (suc m)) (suc zero) f apart = refl
-number_else (x ∷ xs) (suc (suc m)) (suc (suc n)) f apart = number_else xs (suc m) (suc n) f (λ e. apart (ap suc e))
+number_else (x ∷ xs) (suc (suc m)) (suc (suc n)) f apart = number_else xs (suc m) (suc n) f (λ e. let none : suc (suc m) ≡ 0 = apart (ap suc e) in absurd (omega (arith, none)))
+
+pub number_found : {A : Type 0} (xs : List A) (m n : ℕ) (f : A → A) → numbered n (at_number xs m f) ≡ (if m == n then option_map f (numbered n xs) else numbered n xs)
+number_found xs m n f =
+    elim (m == n) as (λ b. (m == n) ≡ b → numbered n (at_number xs m f) ≡ (if b then option_map f (numbered n xs) else numbered n xs)) [
+      | true ↦ λ same. subst (λ (k : ℕ). numbered k (at_number xs m f) ≡ option_map f (numbered k xs)) (eqb-true m n same) (number_get xs m f)
+      | false ↦ λ other. number_else xs m n f (λ e. absurd (eqb-false m n other e))
+    ] refl
 
 pub put_get : {A : Type 0} (xs : List A) (n : ℕ) (x y : A) → numbered n xs ≡ Some x → numbered n (put n xs y) ≡ Some y
-put_get xs n x y here =
-    ap (λ o. numbered n (changed n xs (λ _. y) o)) (sym here) ∙ ap (numbered n) (changed_is n xs (λ _. y))
-    ∙ number_get xs n (λ _. y) ∙ ap (option_map (λ _. y)) here
+put_get xs n x y here = ap (λ o. numbered n (changed n xs (λ _. y) o)) (sym here) ∙ ap (numbered n) (changed_is n xs (λ _. y)) ∙ number_get xs n (λ _. y) ∙ ap (option_map (λ _. y)) here
 
 pub number_more : {A : Type 0} (xs ys : List A) (n : ℕ) (x : A) → numbered n xs ≡ Some x → numbered n (xs ++ ys) ≡ Some x
 number_more xs ys zero x here = cc

@@ -12,6 +12,7 @@ use Rattle.mc_world.specs.Serving.{with_written, in_front, with_front}
 use Rattle.mc_world.specs.Rounds.{in_world, with_sent}
 use Rattle.mc_world.specs.declared.event.Event.{Event}
 use Rattle.mc_world.specs.declared.seat.Seat.{Seat}
+use Rattle.mc_world.proofs.ConnectionLemmas.{StandsIf}
 use Rattle.mc_world.proofs.EventLemmas.{with_connections}
 use Rattle.mc_world.proofs.FrontLemmas.{NoneOpens, runs_passed}
 use Rattle.mc_world.proofs.StandLemmas.{stand_out}
@@ -30,10 +31,10 @@ pub put_on : {K : Type 0} (n : ℕ) (bytes : List ℕ) (p : PlainWorld) (w : Wor
 put_on n bytes p w stands = record { greatest = stands.greatest; state = stands.state; now = stands.now; sessions = stand_out (λ o. bytes ++ o) p.connections w.sessions n stands.sessions }
 
 -- what stands with bytes in front is something that stands without, with the bytes in front
-part_by : (bytes : List ℕ) (c : Connection) (s : SessionState) (b : Bool) → MatchBool b ((s.is_open ≡ true) × IsRest c (before bytes s)) (before bytes s ≡ shut c)
-    → let d : Connection = record c { out = s.out } in MatchBool b ((s.is_open ≡ true) × IsRest d s) (s ≡ shut d) × (bytes ++ s.out ≡ c.out)
+part_by : (bytes : List ℕ) (c : Connection) (s : SessionState) (b : Bool) → StandsIf b c (before bytes s)
+    → let d : Connection = record c { out = s.out } in StandsIf b d s × (bytes ++ s.out ≡ c.out)
 part_by bytes c s true (opens, rest) = ((opens, record { read = rest.read; follows = rest.follows; taken = rest.taken; among = rest.among; out = refl }), rest.out)
-part_by bytes c s false same = (ap (λ (x : SessionState). let t : SessionState = record x { out = s.out } in t) same, ap (λ (x : SessionState). x.out) same)
+part_by bytes c s false same = (λ i. record (same i) { out = s.out }, λ i. (same i).out)
 
 parts : (bytes : List ℕ) (n : ℕ) (cs : List Connection) (ss : List SessionState) → StandAll cs (at_number ss n (before bytes))
     → (ds : List Connection) × StandAll ds ss × (at_number ds n (in_front bytes) ≡ cs)
@@ -45,7 +46,7 @@ parts bytes (suc (suc n)) [] (s ∷ ss) all = absurd all
 parts bytes (suc zero) (c ∷ cs) (s ∷ ss) all =
     let part = part_by bytes c s c.is_open all.0 in
     let d : Connection = record c { out = s.out } in
-    (d ∷ cs, (part.0, all.1), ap (λ (o : List ℕ). (let e : Connection = record c { out = o } in e) ∷ cs) part.1)
+    (d ∷ cs, (part.0, all.1), λ i. record c { out = part.1 i } ∷ cs)
 parts bytes (suc (suc n)) (c ∷ cs) (s ∷ ss) all =
     let (ds, stand, is) = parts bytes (suc n) cs ss all.1 in
     (c ∷ ds, (all.0, stand), ap (λ (l : List Connection). c ∷ l) is)
@@ -65,7 +66,8 @@ told_written {hash_of = hash_of} n bytes {events = events} {old = old} {new = ne
   told = λ p stands.
       let (q, is, there) = fronts n bytes p old stands in
       let (last, runs, ends) = told.told q there in
-      (with_front n bytes last, subst (λ (v : PlainWorld). RunsIn hash_of old v events (with_front n bytes last)) is (runs_passed (hash_of old.hasher) old.settings.shelves n bytes events q last none runs), put_on n bytes last new ends);
+      let passed = runs_passed (hash_of old.hasher) old.settings.shelves n bytes events q last none runs in
+      (with_front n bytes last, subst (λ (v : PlainWorld). RunsIn hash_of old v events (with_front n bytes last)) is passed, put_on n bytes last new ends);
 }
 
 -- no bytes, and bytes in front of bytes
@@ -75,13 +77,13 @@ written_nothing n w = ap (with_sessions w) (changed_is n w.sessions (before []) 
 pub written_twice : {K : Type 0} (n : ℕ) (a b : List ℕ) (w : WorldState K) → with_written n a (with_written n b w) ≡ with_written n (a ++ b) w
 written_twice n a b w =
     ap (with_sessions w)
-    (simp changed_is (number_twice w.sessions n (before a) (before b) (before (a ++ b)) (λ s. ap (λ (o : List ℕ). let t : SessionState = record s { out = o } in t) (sym (append_assoc a b s.out)))))
+    (simp changed_is (number_twice w.sessions n (before a) (before b) (before (a ++ b)) (λ s i. record s { out = sym (append_assoc a b s.out) i })))
 
 -- bytes that are sent and then put in front
 sent_number : (k n : ℕ) (ss : List SessionState) → at_number (at_number ss n (λ s. sent s k)) n (before (take k (output_of (numbered n ss)))) ≡ ss
 sent_number k zero ss = refl
 sent_number k (suc n) [] = refl
-sent_number k (suc zero) (s ∷ ss) = ap (λ (o : List ℕ). (let t : SessionState = record s { out = o } in t) ∷ ss) (take-append-drop k s.out)
+sent_number k (suc zero) (s ∷ ss) = λ i. record s { out = take-append-drop k s.out i } ∷ ss
 sent_number k (suc (suc n)) (s ∷ ss) = ap (λ (l : List SessionState). s ∷ l) (sent_number k (suc n) ss)
 
 written_sent : {K : Type 0} (n k : ℕ) (w : WorldState K) → with_written n (take k (output_of (numbered n w.sessions))) (with_sent n k w) ≡ w
