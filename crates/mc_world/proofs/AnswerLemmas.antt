@@ -14,8 +14,7 @@ use Rattle.mc_world.specs.Laws.{Grammar, step_of, Answer, Replied, NumbersSpent,
 use Rattle.mc_world.specs.declared.event.Event.{Event}
 use Rattle.mc_world.specs.declared.event.Event.TheVariants.{Open, Piece, Turn, Clock, Grow, Purge, Close}
 use Rattle.mc_world.proofs.ConnectionLemmas.{next_in, next_is, none_is, no_next}
-use Rattle.mc_world.proofs.EventLemmas.{opens, changed_open, found_apart, does}
-use Rattle.mc_world.proofs.FrontLemmas.{grown}
+use Rattle.mc_world.proofs.EventLemmas.{opens, changed_open, found_apart, does, grown}
 use Rattle.mc_world.proofs.UpdateLemmas.{if_opened, number_found, put_get, number_more}
 
 -- the text of a turn that is answered by the first of these answers, if it has a step, and the other answers

@@ -1,6 +1,6 @@
 -- Events that may be added, taken out or cut, or change places.
-use Rattle.std.proofs.Common.{◌≡◌, inl, inr, ℕ, Bool, true, false, List, [], ◌∷◌, ◌++◌, Option, Some, None, IfSome, MatchOption, option_map}
-use Rattle.std.proofs.Common.{refl, sym, ap, ◌∙◌, subst, append_assoc, if◌then◌else◌, ◌↔◌}
+use Rattle.std.proofs.Common.{◌≡◌, inl, inr, ℕ, Bool, true, false, List, [], ◌∷◌, ◌++◌, Option, Some, None, IfSome, MatchOption, option_map, refl, sym, ap, ◌∙◌, subst, append_assoc, if◌then◌else◌}
+use Rattle.std.proofs.Common.{◌↔◌}
 use Rattle.mc_command.specs.Plain.{Plain}
 use Rattle.mc_command.specs.declared.step.KeyStep.{KeyStep}
 use Rattle.mc_parse.specs.Units.{ProtocolUnit, Request, Fault, LongLine}
@@ -12,8 +12,8 @@ use Rattle.mc_world.specs.Laws.{step_of, NextHasNoStep, DecidesNoStep, IsApart}
 use Rattle.mc_world.specs.declared.event.Event.{Event}
 use Rattle.mc_world.specs.declared.event.Event.TheVariants.{Open, Piece, Turn, Clock, Grow, Purge, Close}
 use Rattle.mc_world.proofs.ChainLemmas as chain
-use Rattle.mc_world.proofs.EventLemmas.{opens, change, with_connections, change_twice, change_apart, found_apart, unchanged, number, number_apart, silent, TurnOrNot, turn_or_not}
-use Rattle.mc_world.proofs.EventLemmas.{still_again, turn_again, does}
+use Rattle.mc_world.proofs.EventLemmas.{opens, change, with_connections, change_twice, change_apart, found_apart, unchanged, number, number_apart, silent, TurnOrNot, turn_or_not, still_again}
+use Rattle.mc_world.proofs.EventLemmas.{turn_again, does}
 use Rattle.mc_world.proofs.UpdateLemmas.{if_opened}
 
 -- two pieces one after another

@@ -1,6 +1,6 @@
 -- What one event makes of the sessions is what it makes of the connections.
-use Rattle.std.proofs.Common.{◌≡◌, inl, inr, ℕ, Bool, true, false, List, [], ◌∷◌, ◌++◌, length, drop, Option, Some, None, Result, Ok, Err, MatchOption, OnOk, IfErr, nat_lt, refl, sym, ap}
-use Rattle.std.proofs.Common.{◌∙◌, subst, arith, if◌then◌else◌}
+use Rattle.std.proofs.Common.{◌≡◌, inl, inr, ℕ, Bool, true, false, List, [], ◌∷◌, ◌++◌, length, drop, Option, Some, None, Result, Ok, Err, MatchOption, OnOk, IfErr, nat_lt, refl, sym, ap, ◌∙◌}
+use Rattle.std.proofs.Common.{subst, arith, if◌then◌else◌}
 use Rattle.std.proofs.lemmas.Option.{slice_get_within}
 use Rattle.mc_command.specs.Commands.{steps}
 use Rattle.mc_command.specs.Plain.{Plain}
@@ -9,16 +9,15 @@ use Rattle.mc_session.specs.declared.session.TurnFault.{TurnFault}
 use Rattle.mc_session.specs.Turns.{SessionState, DecidesStep, NoTurnDue, opened, fed, closed, sent}
 use Rattle.mc_shelf.specs.declared.settings.Settings.{Settings}
 use Rattle.mc_world.specs.Connections.{Connection, IsNext, IsRest, Stands, at_start, fresh, with_piece, after_turn, ended}
-use Rattle.mc_world.specs.Worlds.{PlainWorld, WorldState, in_plain, put, changed, numbered, CanStand, open_connection, open_session, NextTurn, NextStep}
-use Rattle.mc_world.specs.Worlds.{Turns, Happens, Runs, StandAll, StandsAs, Told, named, with_end, Decides, TakesMemory, GivesUp, Refuses, ToldRefused}
+use Rattle.mc_world.specs.Worlds.{PlainWorld, WorldState, in_plain, put, changed, numbered, CanStand, open_connection, open_session, NextTurn, NextStep, Turns, Happens, Runs, StandAll, StandsAs}
+use Rattle.mc_world.specs.Worlds.{Told, named, with_end, Decides, TakesMemory, GivesUp, Refuses, ToldRefused}
 use Rattle.mc_world.specs.Laws.{Grammar}
 use Rattle.mc_world.specs.Sessions.{at_session, TurnBy, Done, sessions_ended, DecidedIn, Takes, Undone}
 use Rattle.mc_world.specs.declared.event.Event.{Event}
 use Rattle.mc_world.specs.declared.event.Event.TheVariants.{Open, Piece, Turn, Close}
-use Rattle.mc_world.proofs.ConnectionLemmas.{rest_fed, rest_closed, rest_idle, rest_due, next_of, is_next, stands_after}
-use Rattle.mc_world.proofs.EventLemmas.{change, number}
-use Rattle.mc_world.proofs.FrontLemmas.{grown}
-use Rattle.mc_world.proofs.StandLemmas.{AreOpen, Opens, stand_length, stand_open, stand_put, stand_more, stand_changed, stand_out, less}
+use Rattle.mc_world.proofs.ConnectionLemmas.{rest_fed, rest_closed, rest_idle, rest_due, next_of, is_next, stands_after, AreOpen, Opens, stand_length, stand_open, stand_put, stand_more}
+use Rattle.mc_world.proofs.ConnectionLemmas.{stand_changed, stand_out, less}
+use Rattle.mc_world.proofs.EventLemmas.{change, number, grown}
 use Rattle.mc_world.proofs.ToldLemmas.{moment_stands}
 
 -- the plain world of these connections that stands as a world

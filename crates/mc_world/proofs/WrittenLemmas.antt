@@ -1,8 +1,6 @@
 -- What was written of a session, in front of its output and of its connection's.
 use Rattle.std.proofs.Common.{◌≡◌, ℕ, zero, suc, ◌≤◌, Bool, true, false, List, [], ◌∷◌, ◌++◌, length, take, Option, Some, None, refl, sym, ap, ◌∙◌, subst, arith, append_assoc, if◌then◌else◌}
-use Rattle.std.specs.Bool.{MatchBool}
-use Rattle.std.specs.List.{slice_get}
-use Rattle.std.specs.Option.{option_map}
+use Rattle.std.proofs.Common.{MatchBool, slice_get, option_map}
 use Rattle.std.proofs.lemmas.List.{take-append-drop}
 use Rattle.mc_session.specs.Turns.{SessionState, sent}
 use Rattle.mc_session.specs.Exchanges.{Writes, nothing, front}
@@ -12,10 +10,8 @@ use Rattle.mc_world.specs.Serving.{with_written, in_front, with_front}
 use Rattle.mc_world.specs.Rounds.{in_world, with_sent}
 use Rattle.mc_world.specs.declared.event.Event.{Event}
 use Rattle.mc_world.specs.declared.seat.Seat.{Seat}
-use Rattle.mc_world.proofs.ConnectionLemmas.{StandsIf}
-use Rattle.mc_world.proofs.EventLemmas.{with_connections}
-use Rattle.mc_world.proofs.FrontLemmas.{NoneOpens, runs_passed}
-use Rattle.mc_world.proofs.StandLemmas.{stand_out}
+use Rattle.mc_world.proofs.ConnectionLemmas.{StandsIf, stand_out}
+use Rattle.mc_world.proofs.EventLemmas.{with_connections, NoneOpens, runs_passed}
 use Rattle.mc_world.proofs.UpdateLemmas.{at_number, changed_is, number_twice, number_nothing, number_get}
 
 -- bytes in front of a session's output

@@ -57,6 +57,7 @@ pub fn a_session_follows_its_own_answers()
 
 /// States that a plain world stands as one state only, of those with the same settings and hasher:
 /// so what is told of a world pins it.
+#[tactic(auto, using(crate::proofs::ConnectionLemmas::stand_rules))]
 pub fn a_plain_world_stands_one_way<K: KeyHash>()
     ensures { (plain : PlainWorld) (one other : WorldState K) →
         StandsAs plain one → StandsAs plain other →

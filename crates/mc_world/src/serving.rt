@@ -63,6 +63,7 @@ pub fn serve_one<R: Read, W: Write, K: KeyHash + Drop, C: Clock>(
 
 /// States that what stands in front of a session's output never shows in what comes: with it in
 /// front or without, events do the same. So what was written of a session makes no difference.
+#[tactic(auto, using(crate::proofs::EventLemmas::front_rules))]
 pub fn written_output_never_shows()
     ensures { (hash : List ℕ → ℕ) (shelves n : ℕ) (bytes : List ℕ) (old new : PlainWorld)
         (events : List Event) → 1 ≤ n → n ≤ length old.connections →

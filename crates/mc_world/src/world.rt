@@ -129,6 +129,7 @@ impl<K: KeyHash + Drop> World<K> {
     /// Takes a session's next turn, if one is due, as `run` of that one event does. It answers
     /// `Did` where a turn was due, `Idle` where the session is open and none was, and `Closed`
     /// where it isn't open. Refused, the session is closed. The session's next unit is parsed once.
+    #[tactic(auto, using(crate::proofs::ToldLemmas::told_rules))]
     pub fn turn(&mut self, alloc: Global, session: u32) -> Result<Turn, Refused>
         ensures ok { OnOk result (Told K.hash_of self.old (Event.Turn session ∷ []) self.new) }
         ensures did { result ≡ Ok Turn.Did → IsDue session self.old.sessions }

@@ -1,5 +1,5 @@
 use Rattle.std.proofs.Common.{refl}
-use Rattle.mc_world.proofs.OnlyLemmas.{open_refused}
+use Rattle.mc_world.proofs.ToldLemmas.{open_refused}
 use Rattle.mc_world.proofs.serving.begin.Goals as goal
 
 pub returns-in-Err-clause-err : goal.returns-in-Err-clause-err

@@ -1,4 +1,4 @@
-use Rattle.mc_world.proofs.OnlyLemmas.{closes}
+use Rattle.mc_world.proofs.ToldLemmas.{closes}
 use Rattle.mc_world.proofs.serving.end.Goals as goal
 
 pub returns : goal.returns

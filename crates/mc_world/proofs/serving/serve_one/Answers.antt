@@ -1,5 +1,5 @@
 use Rattle.std.proofs.Common.{inr}
-use Rattle.mc_world.proofs.RefusedLemmas.{all_follows, ran_of, ran_served, ran_and_wrote, ran_whole, ran_short}
+use Rattle.mc_world.proofs.ServeLemmas.{all_follows, ran_of, ran_served, ran_and_wrote, ran_whole, ran_short}
 use Rattle.mc_world.proofs.serving.serve_one.Goals as goal
 
 pub returns-in-Ok-ended-clause-ok : goal.returns-in-Ok-ended-clause-ok

@@ -1,7 +1,7 @@
 use Rattle.std.proofs.Common.{◌∙◌, List, subst, slice_set}
 use Rattle.mc_session.specs.Turns.{SessionState}
 use Rattle.mc_world.specs.Sessions.{IsOpenAt, TurnGiven}
-use Rattle.mc_world.proofs.SessionLemmas.{given}
+use Rattle.mc_world.proofs.TurnLemmas.{given}
 use Rattle.mc_world.proofs.sessions.Sessions.turn.Goals as goal
 
 pub returns : goal.returns

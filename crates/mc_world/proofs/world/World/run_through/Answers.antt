@@ -3,7 +3,7 @@ use Rattle.std.proofs.lemmas.List.{take_all}
 use Rattle.mc_world.specs.Worlds.{Told}
 use Rattle.mc_world.specs.Refusals.{ToldThrough}
 use Rattle.mc_world.specs.declared.event.Event.{Event}
-use Rattle.mc_world.proofs.ThroughLemmas.{through_none, through_next, told_whole}
+use Rattle.mc_world.proofs.ToldLemmas.{through_none, through_next, told_whole}
 use Rattle.mc_world.proofs.world.World.run_through.Goals as goal
 use Rattle.mc_world.proofs.world.World.run_through.Goals.{then-is_err, else-is_err}
 
