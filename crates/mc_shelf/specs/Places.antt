@@ -35,7 +35,7 @@ abbrev pub IsKeyFound : IndexState EntryState → (key : List ℕ) → Option Pl
 IsKeyFound index key None = get (items_of index) key ≡ None
 IsKeyFound index key (Some place) = IsKeyAt index key place
 
--- the entry that is lent is the key's, and none is where no entry has the key
+-- the entry that is lent is the key's, and none is if no entry has the key
 pub record IsEntryOf (index : IndexState EntryState) (key : List ℕ) (entry : Option (Bor EntryState)) : Type 0 where
   pub item : standing_in (λ e. e.item) entry ≡ get (items_of index) key
   pub same_key : IfSome entry (λ e. e.now.key ≡ key)

@@ -39,8 +39,8 @@ impl Shelf {
         self.index.is_empty()
     }
 
-    /// Takes an entry off: the first whose number is at or above `at`, or the first of all where none is. `at` becomes its
-    /// number, so that a walk looks at each number about once.
+    /// Takes an entry off: the first whose number is at or above `at`, or the first of all if none
+    /// is. `at` becomes its number, so that a walk looks at each number about once.
     fn take_next(&mut self, at: &mut usize) -> Option<Entry>
         ensures some { IfSome result (IsOff self.old.content self.new.content) }
         ensures none { result ≡ None → self.old.content.items ≡ empty }
@@ -51,8 +51,8 @@ impl Shelf {
     }
 }
 
-/// Takes an item off the last shelf that has one, from `at` on, and answers its chunks. Shelves behind it are dropped, as they
-/// have none; where no shelf has an item, all are.
+/// Takes an item off the last shelf that has one, from `at` on, and answers its chunks. Shelves
+/// behind it are dropped, as they have none; if no shelf has an item, all are.
 pub(crate) fn next_chunks(aside: &mut Vec<Shelf>, at: &mut usize) -> Option<Chunks>
     ensures off { IfSome result (AreOff aside.old.items aside.new.items) }
     ensures none { result ≡ None → aside.new.items ≡ [] }

@@ -94,8 +94,9 @@ impl Collector {
         self.take_all_with(alloc, need, None)
     }
 
-    /// Takes the chunks of a need, as a slab does with pages that are brought. Where its class has too few unused chunks, those
-    /// aside are collected first, until it has enough or none of the class lies aside.
+    /// Takes the chunks of a need, as a slab does with pages that are brought. If its class has too
+    /// few unused chunks, those aside are collected first, until it has enough or none of the class
+    /// lies aside.
     pub(crate) fn take_all_with(
         &mut self,
         alloc: Global,
@@ -109,6 +110,7 @@ impl Collector {
         collect_for(&mut self.slab, &mut self.aside, &mut self.at, need, 0, out);
         match self.slab.take_all_with(alloc, need, pages) {
             Ok(chunks) => {
+                // what holds of every slab, for the proof
                 let _most = self.slab.account(need.class());
                 self.out[place] = out + need.count();
                 Ok(chunks)
@@ -117,8 +119,9 @@ impl Collector {
         }
     }
 
-    /// Gives the class of a need the pages that it will want, as a slab does with pages that are brought. Where it has too few
-    /// unused chunks, those aside are collected first, until it has enough or none of the class lies aside.
+    /// Gives the class of a need the pages that it will want, as a slab does with pages that are
+    /// brought. If it has too few unused chunks, those aside are collected first, until it has
+    /// enough or none of the class lies aside.
     pub(crate) fn ready_with(
         &mut self,
         alloc: Global,
@@ -152,7 +155,7 @@ impl Collector {
         self.out[place_of(need.class())] -= need.count();
     }
 
-    /// Collects a few items of the shelves aside, where there are some.
+    /// Collects a few items of the shelves aside, if there are some.
     pub(crate) fn collect(&mut self)
         ensures { self.new ≡ self.old }
     {
@@ -183,7 +186,7 @@ fn place_of(class: Class) -> usize
     usize::from(class.number()) - 1
 }
 
-/// Collects one item of the shelves aside. Answers whether there was one; where there was none, no shelf is left.
+/// Collects one item of the shelves aside. Returns whether there was one; if not, no shelf is left.
 fn collect_one(slab: &mut Slab, aside: &mut Vec<Shelf>, at: &mut usize) -> bool
     requires { (out : List ℕ) × LieAside slab.old out aside.old.items }
     ensures collected { AreCollected slab.old slab.new aside.old.items aside.new.items }

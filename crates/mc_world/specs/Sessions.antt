@@ -10,7 +10,7 @@ use Rattle.mc_world.specs.declared.event.Event.{Event}
 use Rattle.mc_world.specs.declared.event.Event.TheVariants.{Open, Piece, Turn, Clock, Grow, Purge, Close}
 use Rattle.mc_world.specs.declared.parts.Parts.{Parts}
 
--- the open session of that number is changed, and nothing where none is
+-- the open session of that number is changed, and nothing if none is
 abbrev pub at_session : List SessionState → ℕ → (SessionState → SessionState) → List SessionState
 at_session sessions n change = changed n sessions change (open_session n sessions)
 
@@ -100,7 +100,7 @@ Takes old (Grow shelf) = ⊥
 Takes old (Purge shelf) = ⊥
 Takes old (Close n) = ⊥
 
--- what is left where memory ran out in an event
+-- what is left when memory ran out in an event
 pub record Undone {K : Type 0} (decided : Bool) (old : WorldState K) (event : Event)
     (new : WorldState K) : Type 0 where
   pub settings : new.settings ≡ old.settings

@@ -83,7 +83,7 @@ abbrev pub numbered : {A : Type 0} → ℕ → List A → Option A
 numbered zero xs = None
 numbered (suc n) xs = slice_get xs n
 
--- it, where it is open
+-- it, if it is open
 abbrev pub if_open : {A : Type 0} → (A → Bool) → Option A → Option A
 if_open is_open None = None
 if_open is_open (Some x) = if is_open x then Some x else None
@@ -92,7 +92,7 @@ if_open is_open (Some x) = if is_open x then Some x else None
 abbrev pub put : {A : Type 0} → ℕ → List A → A → List A
 put n xs x = slice_set xs (n - 1) x
 
--- the open one of that number is changed, and nothing where none is
+-- the open one of that number is changed, and nothing if none is
 abbrev pub changed : {A : Type 0} → ℕ → List A → (A → A) → Option A → List A
 changed n xs change None = xs
 changed n xs change (Some x) = put n xs (change x)

@@ -32,7 +32,7 @@ impl Model for Sessions {
     ghost view = { λ s. s.list.items };
 }
 
-/// The place of the session of that number, where it is open.
+/// The place of the session of that number, if it is open.
 fn open_place(sessions: &[Session], number: u32) -> Option<usize>
     ensures none { result ≡ None → open_session number sessions.now ≡ None }
     ensures some { IfSome result (λ at. IsOpenAt sessions.now number at) }
