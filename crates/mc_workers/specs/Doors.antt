@@ -49,7 +49,8 @@ pub record LetsIn (greatest number : ℕ) (old new : BooksState) (before after :
   pub either : ((new ≡ let_in (welcomed greatest link) number old) × (after ≡ before))
       ⊎ ((new ≡ old) × (after ≡ record before { refused = one_more before.refused }))
 
--- nothing came, and those woke whose links were named; it rests where nobody was awake and none was named
+-- nothing came, and those woke whose links were named; it rests if nobody was awake and none was
+-- named
 pub record ComesNothing (is_quiet : Bool) (talk : Talk) (old : BooksState) (later : Talk) (new : BooksState) : Type 0 where
   pub last : Talk
   pub wakes : WakesAllNamed talk old last new

@@ -37,13 +37,15 @@ begins first began caller may_try moment = record {
 }
 
 module _ {K : Type 0} (hash_of : K → List ℕ → ℕ) where
-  -- the dead items of the next shelves in turn are dropped where the clock has risen, and else none are
+  -- the dead items of the next shelves in turn are dropped when the clock has risen, and else none
+  -- are
   pub record TidiesWhereRisen (before now turn next : ℕ) (old new : AskingState K) : Type 0 where
     pub risen : before < now
         → Tidied hash_of now (tidied_at_once old.began.settings.shelves) (turn % old.began.settings.shelves) next old new
     pub stands : now ≤ before → (new ≡ old) × (next ≡ turn)
 
-  -- those that were awake were visited, and then dead items were dropped where the clock had risen, at one moment
+  -- those that were awake were visited, and then dead items were dropped when the clock had risen,
+  -- at one moment
   pub record VisitsAndTidies (before now turn next : ℕ) (old new : AskingState K) (books later : BooksState) : Type 0 where
     pub between : AskingState K
     pub visits : VisitsAll (as_caller hash_of) now books later old between

@@ -32,8 +32,9 @@ impl Door {
         }
     }
 
-    /// Asks for the next link once, and wakes the guests whose links are named; rests where there is
-    /// nothing to do. Returns whether more can come: not where no link comes any more and there is no guest.
+    /// Asks for the next link once, and wakes the guests whose links are named; rests if there is
+    /// nothing to do. Returns whether more can come: not if no link comes any more and there is no
+    /// guest.
     pub fn open<L: Link + Drop, Q: Links<L>>(
         &mut self,
         alloc: Global,

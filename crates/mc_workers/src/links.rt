@@ -19,7 +19,7 @@ pub trait Links<L> {
     /// wait. A link that answered `Later` isn't asked again until it is named.
     fn ready(&mut self) -> Option<u64>;
 
-    /// Passes some time where there is nothing to do.
+    /// Passes some time if there is nothing to do.
     fn rest(&mut self);
 
     /// Lets a link end whose guest holds much and was quiet, to make room for others. It is named then. By

@@ -23,7 +23,7 @@ pub(crate) struct Talk {
     pub came: Option<Came>,
     /// How many were named.
     pub names: usize,
-    /// Which one was named last, and none where there was no further one.
+    /// Which one was named last, and none if there was no further one.
     pub named: Option<u64>,
     pub has_rested: bool,
 }
@@ -95,7 +95,7 @@ impl Talk {
         }
     }
 
-    /// Wakes the guests whose links are named, and rests where nobody was awake and none was named.
+    /// Wakes the guests whose links are named, and rests if nobody was awake and none was named.
     pub fn wait<L: Link + Drop, Q: Links<L>>(
         &mut self,
         links: &mut Q,
@@ -109,7 +109,7 @@ impl Talk {
         self.rest_if(links, is_quiet);
     }
 
-    /// Rests where nobody was awake and none was named.
+    /// Rests if nobody was awake and none was named.
     fn rest_if<L: Link + Drop, Q: Links<L>>(&mut self, links: &mut Q, is_quiet: bool)
         ensures { self.new ≡ record self.old { has_rested = is_quiet && self.old.names == 0 } }
     {
