@@ -23,7 +23,7 @@ pub const WAKER: Token = Token(0);
 /// How many events one poll tells at most.
 pub const EVENTS: usize = 1024;
 
-/// After how many rounds the system is asked for events, where there is always something to do.
+/// After how many rounds the system is asked for events, if there is always something to do.
 const ROUNDS: u32 = 16;
 
 /// After how many bytes that were moved it is asked for them too.
@@ -85,7 +85,7 @@ pub struct SocketLinks<'a, R: Wait + Clock> {
     given: u64,
     /// How many rounds went by since the system was asked for events.
     rounds: u32,
-    /// Looks for connections that are idle; none where they may be for ever.
+    /// Looks for connections that are idle; none if they may be for ever.
     watch: Option<Watch>,
     counts: Arc<Counts>,
 }
@@ -145,8 +145,8 @@ impl<'a, R: Wait + Clock> SocketLinks<'a, R> {
         }
     }
 
-    /// Notes what the events say, and counts them. Where there are fewer than one poll may tell, there were
-    /// no others.
+    /// Notes what the events say, and counts them. If there are fewer than one poll may tell, there
+    /// were no others.
     fn note_events(&mut self) -> usize {
         let mut told = 0usize;
         for event in &self.events {
@@ -188,7 +188,7 @@ impl<'a, R: Wait + Clock> SocketLinks<'a, R> {
     /// closed.
     fn open(&mut self, connection: Connection) -> Option<SocketLink> {
         let mut connection = connection;
-        // an answer is sent at once; where that can't be set it comes later
+        // an answer is sent at once; if that can't be set it comes later
         let _ = connection.stream.set_nodelay(true);
         let readiness = Rc::new(self.alloc, Cell::new(Readiness::NEW)).ok()?;
         let counts = self.counts.clone().ok()?;
@@ -242,7 +242,7 @@ impl<'a, R: Wait + Clock> SocketLinks<'a, R> {
         Some(common)
     }
 
-    /// Says whether it is time to ask the system for events.
+    /// Returns whether it is time to ask the system for events.
     fn is_due(&self) -> bool {
         let moved = match &self.common {
             Some(common) => common.moved.get(),
