@@ -1,10 +1,9 @@
 -- What shelves that were laid aside hold of the chunks that are out of a slab.
-use Rattle.std.proofs.Common.{◌≡◌, ℕ, ◌+◌, ◌-◌, ◌*◌, ◌<◌, ◌≤◌, ◌⊎◌, inl, inr, ⊎_elim, Bool, true, false, true≢false, eqb, eqb-true, if◌then◌else◌, zero, suc, leb, le-leb, List, [], ◌∷◌, ◌++◌, length, length-set, replicate, get_or, set}
-use Rattle.std.proofs.Common.{cond, not, ltb, ltb-true, le-ltb, Option, Some, None, slice_get, take, Ok, Err, Result, refl, sym, ap, subst, ◌∙◌, arith}
-use Rattle.std.specs.Prelude.{IfErr}
+use Rattle.std.proofs.Common.{◌≡◌, ℕ, ◌+◌, ◌-◌, ◌*◌, ◌<◌, ◌≤◌, ◌⊎◌, inl, inr, ⊎_elim, true, false, true≢false, eqb, eqb-true, if◌then◌else◌, leb, le-leb, List, [], ◌∷◌, ◌++◌, length, length-set, replicate, get_or, set}
+use Rattle.std.proofs.Common.{Option, Ok, Err, Result, refl, sym, ap, subst, ◌∙◌, arith}
 use Rattle.std.proofs.lemmas.List.{get_or-replicate}
 use Rattle.std.proofs.lemmas.List.Sums.{sum_by-set}
-use Rattle.std.specs.FinMap.{empty, get, remove}
+use Rattle.std.specs.FinMap.{empty, get}
 use Rattle.mc_slab.specs.Classes.{IsClass, chunks_a_page}
 use Rattle.mc_slab.specs.Chunks.{ChunksState, need_in}
 use Rattle.mc_slab.specs.Needs.{NeedState, IsNeed}
@@ -12,13 +11,12 @@ use Rattle.mc_slab.specs.Slabs as slabs
 use Rattle.mc_slab.specs.Slabs.{SlabState, IsSlab, IsFull, Readies, Takes, TellsFull, WantsPages, full_fault, given, has_room_with, made_ready, out_of, pages_of, pages_wanted, taken, unused}
 use Rattle.mc_slab.specs.declared.slab.TakeFault.{TakeFault}
 use Rattle.mc_slab.specs.declared.slab.TakeFault.TheVariants.{Full, NoMemory}
-use Rattle.mc_command.specs.Plain.{Entry, Items, Plain, chunks_in, count_of, item_need}
+use Rattle.mc_command.specs.Plain.{Entry, Items, chunks_in, count_of, item_need}
 use Rattle.mc_command.specs.Laws.{of_class}
-use Rattle.mc_shelf.specs.States.{DeskState, EntryState, ShelfContent, ShelfState}
-use Rattle.mc_shelf.specs.Asides.{AreCollected, AreOff, IsOff, LieAside, Suffices, all_out, count_in, none_out, seen}
-use Rattle.mc_shelf.specs.Parts.{ArePartsOf, shelf_of}
-use Rattle.mc_shelf.proofs.PartLemmas.{PartsLaw}
-use Rattle.mc_shelf.proofs.StandLemmas.{RemoveCounts, out-given, out-taken, weight, weight_here}
+use Rattle.mc_command.proofs.CountLemmas.{count-empty, count-remove}
+use Rattle.mc_shelf.specs.States.{EntryState, ShelfState}
+use Rattle.mc_shelf.specs.Asides.{AreCollected, AreOff, IsOff, LieAside, Suffices, all_out, count_in, seen}
+use Rattle.mc_shelf.proofs.StandLemmas.{out-given, out-taken, weight, weight_here}
 
 -- ---- shelves one after another
 
@@ -31,14 +29,14 @@ pub count_in-last : (xs : List ShelfState) (x : ShelfState) (class : ℕ) → co
 count_in-last xs x class = omega (arith, count_in-join xs (x ∷ []) class)
 
 -- an entry was taken off the last one
-pub off_last : RemoveCounts → (all rest after : List ShelfState) (old new : ShelfState) (entry : EntryState) (chunks : ChunksState) → all ≡ rest ++ old ∷ [] → after ≡ rest ++ new ∷ []
+pub off_last : (all rest after : List ShelfState) (old new : ShelfState) (entry : EntryState) (chunks : ChunksState) → all ≡ rest ++ old ∷ [] → after ≡ rest ++ new ∷ []
     → IsOff old.content new.content entry → need_in chunks ≡ item_need entry.key entry.item → IsNeed (item_need entry.key entry.item) → AreOff all after chunks
-off_last law all rest after old new entry chunks all_is after_is off need_is is_need = record {
+off_last all rest after old new entry chunks all_is after_is off need_is is_need = record {
   is_need = subst IsNeed (sym need_is) is_need;
   counts = λ class.
       let before = ap (λ l. count_in l class) all_is ∙ count_in-last rest old class in
       let behind = ap (λ l. count_in l class) after_is ∙ count_in-last rest new class in
-      let gone = law old.content.items entry.key class in
+      let gone = count-remove class old.content.items entry.key in
       let less = ap (λ (m : Items). count_of m class) off.items in
       let one : of_class entry.key (get old.content.items entry.key) class ≡ chunks_in (item_need entry.key entry.item) class = ap (λ (o : Option Entry). of_class entry.key o class) off.found in
       let same : chunks_in (need_in chunks) class ≡ chunks_in (item_need entry.key entry.item) class = ap (λ (n : NeedState). chunks_in n class) need_is in
@@ -46,11 +44,11 @@ off_last law all rest after old new entry chunks all_is after_is off need_is is_
 }
 
 -- the last one has no items
-pub none_last : ((class : ℕ) → count_of empty class ≡ 0) → (all rest : List ShelfState) (last : ShelfState) → all ≡ rest ++ last ∷ [] → last.content.items ≡ empty → (class : ℕ)
+pub none_last : (all rest : List ShelfState) (last : ShelfState) → all ≡ rest ++ last ∷ [] → last.content.items ≡ empty → (class : ℕ)
     → count_in all class ≡ count_in rest class
-none_last law all rest last all_is none class =
+none_last all rest last all_is none class =
     let before = ap (λ l. count_in l class) all_is ∙ count_in-last rest last class in
-    let nothing = ap (λ (m : Items). count_of m class) none ∙ law class in
+    let nothing = ap (λ (m : Items). count_of m class) none ∙ count-empty class in
     omega (arith, before, nothing)
 
 -- ---- a slab as it is seen

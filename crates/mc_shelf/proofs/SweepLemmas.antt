@@ -15,6 +15,7 @@ use Rattle.mc_slab.specs.Chunks.{ChunksState, need_in}
 use Rattle.mc_slab.specs.Slabs.{IsSlab, out_of, given}
 use Rattle.mc_command.specs.Plain.{Items, Entry, alive, count_of, item_need, living}
 use Rattle.mc_command.specs.Laws.{of_class}
+use Rattle.mc_command.proofs.CountLemmas.{count-remove}
 use Rattle.mc_grow.specs.Indexes.{IndexState, IsFirstFrom, IsNext, KeepsLower, cells, count_from, entry_at}
 use Rattle.mc_grow.specs.declared.index.Place.{Place}
 use Rattle.mc_shelf.specs.States.{EntryState, Hashes, ShelfContent, DeskState}
@@ -28,7 +29,7 @@ use Rattle.mc_shelf.proofs.KeyLemmas.{order, same_key, same_maps, get_kept, get_
 use Rattle.mc_shelf.proofs.KeyMapLemmas.{hash_absent, item_held}
 use Rattle.mc_shelf.proofs.IndexLemmas.{numbered}
 use Rattle.mc_shelf.proofs.ShelfLemmas.{content_of}
-use Rattle.mc_shelf.proofs.StandLemmas.{RemoveCounts, out-given, weight, weight_here}
+use Rattle.mc_shelf.proofs.StandLemmas.{out-given, weight, weight_here}
 
 -- ---- the desk
 
@@ -46,13 +47,13 @@ gives_both a b c d e f one two = record {
   next_unique = two.next_unique ∙ one.next_unique;
 }
 
-module _ (remove_counts : RemoveCounts) (items : Items) (desk : DeskState) (key : List ℕ) (item : Entry) (found : get items key ≡ Some item)
+module _ (items : Items) (desk : DeskState) (key : List ℕ) (item : Entry) (found : get items key ≡ Some item)
     (are : (class : ℕ) → IsClass class → count_of items class ≤ out_of desk.slab class) where
   -- the chunks of an item that stands are out
   pub out_held : IsClass (item_need key item).class → (item_need key item).count ≤ out_of desk.slab (item_need key item).class
   out_held is_class =
       let need = item_need key item in
-      let gone : count_of (remove items key) need.class + of_class key (get items key) need.class ≡ count_of items need.class = remove_counts items key need.class in
+      let gone = count-remove need.class items key in
       let one : of_class key (get items key) need.class ≡ weight need.class need.count need.class = ap (λ (o : Option Entry). of_class key o need.class) found in
       let here : weight need.class need.count need.class ≡ need.count = weight_here need.class need.count in
       let out = are need.class is_class in
@@ -65,7 +66,7 @@ module _ (remove_counts : RemoveCounts) (items : Items) (desk : DeskState) (key 
       subst (λ (m : Items). GivesFor items m desk desk') (sym new_is) (subst (λ (d : DeskState). GivesFor items (remove items key) desk d) (sym desk_is) (record {
         out = λ class is_other.
             let need = item_need key item in
-            let gone : count_of (remove items key) class + of_class key (get items key) class ≡ count_of items class = remove_counts items key class in
+            let gone = count-remove class items key in
             let one : of_class key (get items key) class ≡ weight need.class need.count class = ap (λ (o : Option Entry). of_class key o class) found in
             let less : out_of (given desk.slab need.class need.count) class ≡ out_of desk.slab class - weight need.class need.count class =
             out-given desk.slab need.class is_class is.out need.count class is_other in
@@ -186,18 +187,18 @@ kept_by was new key removed other item there =
       ap (λ (m : Hashes). get m other) removed.hashes ∙ get_gone_other (hashes_of was) key other apart,
     )
 
-module _ (remove_counts : RemoveCounts) (greatest : ℕ) (cut : Option ℕ) (was new : IndexState EntryState) (entry : EntryState)
+module _ (greatest : ℕ) (cut : Option ℕ) (was new : IndexState EntryState) (entry : EntryState)
     (found : get (items_of was) entry.key ≡ Some entry.item) (removed : KeyGoes was new entry.key)
     (desk desk' : DeskState) (chunks : ChunksState) (need_is : need_in chunks ≡ item_need entry.key entry.item) (is_need : IsNeed (item_need entry.key entry.item))
     (are : (class : ℕ) → IsClass class → count_of (items_of was) class ≤ out_of desk.slab class) where
   -- its chunks are out
   pub entry_out : chunks.count ≤ out_of desk.slab chunks.class
-  entry_out = subst (λ (n : NeedState). n.count ≤ out_of desk.slab n.class) (sym need_is) (out_held remove_counts (items_of was) desk entry.key entry.item found are is_need.is_class)
+  entry_out = subst (λ (n : NeedState). n.count ≤ out_of desk.slab n.class) (sym need_is) (out_held (items_of was) desk entry.key entry.item found are is_need.is_class)
 
   -- and goes back
   pub entry_gives : desk' ≡ record desk { slab = given desk.slab chunks.class chunks.count } → IsSlab desk.slab → GivesFor (items_of was) (items_of new) desk desk'
   entry_gives back is =
-      gives_one remove_counts (items_of was) desk entry.key entry.item found are (items_of new) desk' removed.items
+      gives_one (items_of was) desk entry.key entry.item found are (items_of new) desk' removed.items
       (back ∙ ap (λ (n : NeedState). record desk { slab = given desk.slab n.class n.count }) need_is) is is_need.is_class
 
   -- a dead item is swept

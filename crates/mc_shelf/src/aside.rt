@@ -8,7 +8,6 @@ ghost use Rattle.mc_shelf.specs.States.{nothing_held};
 
 use crate::entry::Entry;
 use crate::shelf::Shelf;
-use mc_command::counts_follow;
 use mc_slab::Chunks;
 use std::mem;
 
@@ -58,7 +57,6 @@ pub(crate) fn next_chunks(aside: &mut Vec<Shelf>, at: &mut usize) -> Option<Chun
     ensures none { result ≡ None → aside.new.items ≡ [] }
     ensures all { result ≡ None → (class : ℕ) → count_in aside.old.items class ≡ 0 }
 {
-    counts_follow();
     while let Some(mut shelf) = aside.pop() {
         if let Some(entry) = shelf.take_next(at) {
             aside.push_reserved(shelf);
@@ -75,7 +73,6 @@ pub(crate) fn join(shelves: Vec<Shelf>, others: &mut Vec<Shelf>) -> Vec<Shelf>
     ensures { (class : ℕ) → count_in result.items class
         ≡ count_in shelves.items class + count_in others.old.items class }
 {
-    counts_follow();
     let mut joined = shelves;
     while let Some(shelf) = others.pop() {
         if !shelf.holds_none() {

@@ -53,7 +53,7 @@ use crate::index::{Index, Place};
 use crate::plan::{Next, Plan, is_gone, next_of};
 use crate::soonest::Soonest;
 use crate::write::{Write, dead_chunks, gives_way};
-use mc_command::{Bytes, KeyStep, Reply, StepFault, counts_follow};
+use mc_command::{Bytes, KeyStep, Reply, StepFault};
 use mc_slab::{Need, Pages, need_of};
 use mc_time::{Expiry, Moment};
 use std::alloc::{AllocError, Global};
@@ -174,7 +174,6 @@ impl Shelf {
         ensures moves { MovesFew 9 (counts_of self.old) (counts_of self.new) }
     {
         let plan = self.plan(alloc, step, hash, now)?;
-        counts_follow();
         self.make_room(alloc, &plan, desk)?;
         self.apply(alloc, plan, step, desk)
     }
@@ -214,7 +213,6 @@ impl Shelf {
             IsSettled step now plan.entry.hash self.old.content result self.new.content }
         ensures table { KeepsTable 0 (counts_of self.old) (counts_of self.new) }
     {
-        counts_follow();
         let Plan {
             key,
             hash,
@@ -332,7 +330,6 @@ impl Shelf {
         ensures err { OnErr result
             ((self.new.content ≡ self.old.content) × (desk.new ≡ desk.old)) }
     {
-        counts_follow();
         match plan.next {
             Next::Answer(_) => Ok(Begun::Done),
             Next::Expire(expiry, _) => {
@@ -364,7 +361,6 @@ impl Shelf {
         ensures desk { GivesFor self.old.content.items self.new.content.items desk.old desk.new }
         ensures table { DropsAlone (counts_of self.old) (counts_of self.new) }
     {
-        counts_follow();
         if !self.index.may_have_dead(self.cut, now) {
             return;
         }
@@ -392,7 +388,6 @@ impl Shelf {
         ensures desk { GivesFor self.old.content.items self.new.content.items desk.old desk.new }
         ensures table { DropsAlone (counts_of self.old) (counts_of self.new) }
     {
-        counts_follow();
         if self.index.is_empty() {
             return;
         }

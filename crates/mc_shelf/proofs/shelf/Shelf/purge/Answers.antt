@@ -25,7 +25,7 @@ give-requires c =
     let inside = c.loop-number.self-inside in
     let first = c.in-Some.ensures.next in
     let are = out_after c.args.self.now.content.items (content_of inside.greatest inside.cut inside.index).items c.args.desk.now c.loop-number.desk c.loop-number.invariant.swept.gives c.requires in
-    entry_out c.counts_follow.ensures.remove inside.greatest inside.cut inside.index c.remove-entry.new.self c.remove-entry.result c.remove-entry.ensures.item c.remove-entry.ensures.removed
+    entry_out inside.greatest inside.cut inside.index c.remove-entry.new.self c.remove-entry.result c.remove-entry.ensures.item c.remove-entry.ensures.removed
     c.loop-number.desk c.loop-number.desk c.into_chunks.result c.into_chunks.ensures.need c.into_chunks.ensures.is_need are
 
 pub loop-number-smaller-then-is_gone : goal.loop-number-smaller-then-is_gone
@@ -45,7 +45,7 @@ loop-number-preserved-then-is_gone c =
       most = held.most;
       swept = swept_both c.args.now c.args.self.now.content (content_of inside.greatest inside.cut inside.index) (content_of inside.greatest inside.cut c.remove-entry.new.self) c.args.desk.now
           c.loop-number.desk c.give.new.self held.swept
-          (swept_one c.counts_follow.ensures.remove inside.greatest inside.cut inside.index c.remove-entry.new.self c.remove-entry.result c.remove-entry.ensures.item c.remove-entry.ensures.removed
+          (swept_one inside.greatest inside.cut inside.index c.remove-entry.new.self c.remove-entry.result c.remove-entry.ensures.item c.remove-entry.ensures.removed
           c.loop-number.desk c.give.new.self c.into_chunks.result c.into_chunks.ensures.need c.into_chunks.ensures.is_need are c.args.now gone c.give.ensures.given c.give.ensures.slab);
       table = drops_one (counts_of c.args.self.now) (counts_in inside.index) (counts_in c.remove-entry.new.self) held.table c.remove-entry.ensures.table
           (one_less (items_of inside.index) (items_of c.remove-entry.new.self) c.remove-entry.result.key c.remove-entry.result.item c.remove-entry.ensures.item c.remove-entry.ensures.removed.items);
