@@ -1,5 +1,8 @@
 //! What the shelves of a store share.
 
+#[cfg(test)]
+mod tests;
+
 ghost use Rattle.std.specs.Prelude.{◌≡◌, ◌+◌, ◌-◌, ◌^◌, ◌<◌, ◌≤◌, true, false, None, IfOk, IfErr, IfSome, OnOk, OnErr};
 ghost use Rattle.std.specs.Prelude.{ℕ, List};
 ghost use Rattle.mc_slab.specs.Needs.{IsNeed};
@@ -100,8 +103,8 @@ impl Desk {
         self.next_unique() == u64::MAX
     }
 
-    /// Draws the next number, where they are not spent. Of shelves that lie aside a few items are collected, as each write draws
-    /// a number.
+    /// Draws the next number, where they are not spent. Of shelves that lie aside an item is collected, as each write draws a
+    /// number.
     pub(crate) fn draw(&mut self) -> u64
         requires { self.old.next_unique < 2 ^ 64 - 1 }
         ensures number { result ≡ self.old.next_unique }
@@ -257,8 +260,8 @@ impl Desk {
     }
 
     /// Lays aside shelves that are with this desk the parts of a state: no chunk is out then. It takes no memory. The cost
-    /// doesn't grow with their items: the chunks of these are free, and are collected later, a few with each write, and as many as
-    /// it takes before a class gets a page. Of shelves that lie aside already those with items stay so as far as the vector has
+    /// doesn't grow with their items: the chunks of these are free, and are collected later, one item's with each write, and as
+    /// many of a class as it takes before that gets a page. Of shelves that lie aside already those with items stay so as far as the vector has
     /// room for them; for want of room items are collected at once.
     pub fn lay_aside(&mut self, shelves: Vec<Shelf>)
         requires { (hash_of : List ℕ → ℕ) × (state : Plain) × (count : ℕ)

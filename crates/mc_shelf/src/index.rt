@@ -16,6 +16,7 @@ ghost use Rattle.mc_shelf.specs.Places.{
   IsEntryOf,
   IsKeyAt,
   IsKeyFound,
+  IsOfClass,
   KeyGoes,
   KeyComes,
   entries_of,
@@ -31,6 +32,7 @@ use mc_command::Standing;
 pub(crate) use mc_grow::Place;
 use mc_hop::Keyed;
 use mc_item::Parts;
+use mc_slab::Class;
 use mc_time::{Expiry, Moment};
 use std::alloc::{AllocError, Global};
 use std::marker::Model;
@@ -271,6 +273,29 @@ impl Index {
             Some(found) => Some(found),
             None => self.filled_from(0),
         }
+    }
+
+    /// Finds the first entry in chunks of a class whose number is at or above `at`. Answers the number and the place. It reads the
+    /// index, and no item's memory but where the chunks are pages.
+    pub(crate) fn of_class_from(&self, class: Class, at: usize) -> Option<(usize, Place)>
+        ensures { IfSome result (λ found. IsOfClass self.now class found.1) }
+    {
+        let mut at = at;
+        while let Some((number, place)) = self.filled_from(at) {
+            if self.is_of_class(place, class) {
+                return Some((number, place));
+            }
+            at = number + 1;
+        }
+        None
+    }
+
+    /// Returns whether the entry at a place lies in chunks of a class.
+    fn is_of_class(&self, place: Place, class: Class) -> bool
+        requires { IsFilled self.now place }
+        ensures { result ≡ true → IsOfClass self.now class place }
+    {
+        self.entries.get(place).unwrap().need().class() == class
     }
 
     /// Gives the hash of the entry at a place.
