@@ -257,9 +257,9 @@ impl<K: KeyHash + Drop> Shared<K> {
     /// and one at once for as many empty shelves, each with room for 64 items, before it holds any.
     /// The one error is a refused allocation, and the caller's past then stays. The cost of one at
     /// once doesn't grow with the items: they are laid aside whole, and their chunks are collected
-    /// later, one with each write. One with a delay passes once over all items, and once more where
-    /// some may be dead. The presence words are read and lowered in at most two steps for each of
-    /// 4096 numbers, however many keys go.
+    /// later, an item's with each write. One with a delay passes once over all items, and once more
+    /// where some may be dead. The presence words are read and lowered in at most two steps for each
+    /// of 4096 numbers, however many keys go.
     // Its counts are of a size that each call of a caller it is inlined into would make room for.
     #[inline(never)]
     pub fn flush<R: Wait>(

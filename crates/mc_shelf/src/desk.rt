@@ -260,9 +260,9 @@ impl Desk {
     }
 
     /// Lays aside shelves that are with this desk the parts of a state: no chunk is out then. It takes no memory. The cost
-    /// doesn't grow with their items: the chunks of these are free, and are collected later, one item's with each write, and as
-    /// many of a class as it takes before that gets a page. Of shelves that lie aside already those with items stay so as far as the vector has
-    /// room for them; for want of room items are collected at once.
+    /// doesn't grow with their items: the chunks of these are free, and are collected later, an item's with each write, and as
+    /// many of a class as it takes before that gets a page. Of shelves that lie aside already those with items stay so as far as
+    /// the vector has room for them; for want of room items are collected at once.
     pub fn lay_aside(&mut self, shelves: Vec<Shelf>)
         requires { (hash_of : List ℕ → ℕ) × (state : Plain) × (count : ℕ)
             × ArePartsOf hash_of state shelves.items count self.old }
