@@ -142,7 +142,7 @@ def main(words):
         crate, said = build.failed
         print(f"{said}build.py: {crate} is not proved", file=sys.stderr)
         return 1
-    last = subprocess.run(["rt", "run", "--", "--help"], cwd=f"{ROOT}/crates/{top}", stdin=subprocess.DEVNULL, stdout=subprocess.DEVNULL)
+    last = subprocess.run(["rt", "run", "--jobs", str(build.jobs), "--", "--help"], cwd=f"{ROOT}/crates/{top}", stdin=subprocess.DEVNULL, stdout=subprocess.DEVNULL)
     return 1 if last.returncode else 0
 
 

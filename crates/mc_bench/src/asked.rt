@@ -3,13 +3,13 @@ ghost use Rattle.std.specs.Prelude.{◌≢◌, IsNone, length};
 
 use mc_shelf::Settings;
 
-/// How many calls each caller makes where the command line doesn't say.
+/// How many calls each caller makes if the command line doesn't say.
 const CALLS: u32 = 25_000;
 
 /// How many pages stores of which steps are taken have.
 const PAGES: u32 = 64;
 
-/// How many shelves they have where the command line doesn't say.
+/// How many shelves they have if the command line doesn't say.
 const SHELVES: u32 = 64;
 
 /// A run.

@@ -199,7 +199,8 @@ impl Call {
         }
     }
 
-    /// Whether the record has a line of it. While the clock stands, no reply tells of tidying, nor of a flush that is to come.
+    /// Returns whether the record has a line of it. While the clock stands, no reply tells of
+    /// tidying, nor of a flush that is to come.
     pub fn has_line(&self) -> bool {
         match self.word {
             Word::Tidy => false,

@@ -26,7 +26,7 @@ pub trait Search {
     /// Ends each growth that runs.
     fn settle(&mut self);
 
-    /// Reads the flags of a key's item, which are 0, where it has one. The hash is the key's.
+    /// Reads the flags of a key's item, which are 0, if it has one. The hash is the key's.
     fn flags(&mut self, alloc: Global, key: &[u8; 32], hash: u64) -> Option<u32>;
 }
 

@@ -58,7 +58,7 @@ fn written(slab: &mut Slab, alloc: Global, key: &[u8; 32]) -> Result<Entry, Allo
     })
 }
 
-/// Puts an item in, where none has its hash and key, and lets the index grow on.
+/// Puts an item in, if none has its hash and key, and lets the index grow on.
 fn put(index: &mut Index<Entry>, alloc: Global, entry: Entry) -> Result<(), AllocError> {
     index.reserve(alloc)?;
     if index.find(entry.hash(), entry.key()).is_none() {

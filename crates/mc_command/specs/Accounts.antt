@@ -11,7 +11,7 @@ pub record AreCounted (greatest limit in_use : ℕ) (pages : List ℕ) : Type 0 
   pub counted : in_use ≡ sum pages
   pub within : sum pages ≤ limit
 
--- a key's dead item, where none stands
+-- a key's dead item, if none stands
 abbrev pub dead_item : Option Entry → List ℕ → Plain → Option Entry
 dead_item None key old = get old.items key
 dead_item (Some item) key old = None

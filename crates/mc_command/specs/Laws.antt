@@ -63,7 +63,7 @@ LacksChunk old (Some charge) =
     (charge ≤ old.greatest) × (old.next_unique ≢ 2 ^ 64 - 1)
     × (has_room old (need_for charge) ≡ false)
 
--- how many chunks of the class an item has, and 0 where there is none
+-- how many chunks of the class an item has, and 0 if there is none
 abbrev pub of_class : List ℕ → Option Entry → ℕ → ℕ
 of_class key None class = 0
 of_class key (Some item) class = chunks_in (item_need key item) class

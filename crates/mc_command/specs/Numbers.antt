@@ -8,7 +8,7 @@ use Rattle.mc_command.specs.Words.{is_nonempty}
 abbrev pub is_numeral : List ℕ → Bool
 is_numeral word = is_nonempty word && all_ascii_digits word
 
--- the number that the digits write, where it is at most the limit
+-- the number that the digits write, if it is at most the limit
 abbrev pub number_up_to : ℕ → List ℕ → Option ℕ
 number_up_to limit word =
     let value = digits_value 10 word in

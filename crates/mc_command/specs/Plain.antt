@@ -117,7 +117,7 @@ has_room old need =
     nat_le need.count
     (unused old need.class + (old.limit - sum old.pages) * chunks_a_page need.class)
 
--- the pages more for its class that a need wants, where too few chunks have no item
+-- the pages more for its class that a need wants, if too few chunks have no item
 abbrev pub with_chunk : Plain → NeedState → Plain
 with_chunk old need = record old {
   pages = slice_set old.pages (need.class - 1)
@@ -223,7 +223,7 @@ write_reply Appended = Stored
 write_reply Prepended = Stored
 write_reply (Counted number) = Number number
 
--- the block that a step brings that is seen so, and none where it brings none
+-- the block that a step brings that is seen so, and none if it brings none
 abbrev pub block_seen : View → List ℕ
 block_seen (OnKey key block) = block
 block_seen (OnAll delay) = []
@@ -242,7 +242,7 @@ written_block Prepended block None = block
 written_block Prepended block (Some old) = block ++ old.block
 written_block (Counted number) block item = decimal number
 
--- a number that an item was counted to stays in its chunks where it needs the same
+-- a number that an item was counted to stays in its chunks if it needs the same
 abbrev pub keeps_chunk : Body → List ℕ → Option Entry → Bool
 keeps_chunk Given key item = false
 keeps_chunk Appended key item = false
@@ -264,7 +264,7 @@ standing old key now = alive old.cut now (get old.items key)
 abbrev pub living : Items → Option ℕ → ℕ → Items
 living items cut now = retain_keys items (λ key. is_some (alive cut now (get items key)))
 
--- where no item stands under the key, a dead one is dropped
+-- if no item stands under the key, a dead one is dropped
 abbrev pub without_dead : Option Entry → List ℕ → Plain → Plain
 without_dead None key old = record old { items = remove old.items key }
 without_dead (Some item) key old = old
@@ -302,7 +302,7 @@ expiring None key expiry old = old
 expiring (Some item) key expiry old =
     record old { items = insert old.items key (record item { expiry = expiry }) }
 
--- the same where an expiry is given
+-- the same if an expiry is given
 abbrev pub perhaps_expiring : Option Entry → List ℕ → Option Expiry → Plain → Plain
 perhaps_expiring item key None old = old
 perhaps_expiring item key (Some expiry) old = expiring item key expiry old

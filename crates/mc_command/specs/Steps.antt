@@ -16,7 +16,7 @@ use Rattle.mc_command.specs.declared.plain.write.Next.{Next}
 use Rattle.mc_command.specs.declared.plain.write.Next.TheVariants.{Answer, Rewrite, Place}
 use Rattle.mc_command.specs.Plain.{Plain, Entry, Outcome, Answered, Spent, MayFail, CopiesBlock, block_need, item_need, has_room, pages_of, with_chunk, standing, without_dead, written, wrote, changed, hit_of, perhaps_expiring, keeps_chunk, write_reply, written_block}
 
--- a step ends as the plain machine says, and where it isn't taken nothing changes
+-- a step ends as the plain machine says, and if it isn't taken nothing changes
 pub record Ends (outcome : Outcome) (result : Result Reply StepFault) (old new : Plain)
     : Type 0 where
   pub took : IfOk result (λ reply. outcome ≡ Answered reply new)
@@ -47,7 +47,7 @@ abbrev pub placed : Written → List ℕ → Plain → ℕ → Plain
 placed w key old now =
     rewritten w key (with_chunk (found key old now) (block_need key w.block)) now
 
--- an item needs this, where there is one
+-- an item needs this, if there is one
 abbrev pub needs_this : List ℕ → Option Entry → NeedState → Bool
 needs_this key None need = false
 needs_this key (Some item) need = same_need (item_need key item) need
@@ -62,14 +62,14 @@ same_needs (Some one) (Some other) = same_need one other
 abbrev pub StaysIn : Plain → (key : List ℕ) → Written → ℕ → Type 0
 StaysIn old key w now = IsTrue (needs_this key (standing old key now) (block_need key w.block))
 
--- the number that a body counts to, and 0 where it counts none
+-- the number that a body counts to, and 0 if it counts none
 abbrev pub number_in : Body → ℕ
 number_in Given = 0
 number_in Appended = 0
 number_in Prepended = 0
 number_in (Counted number) = number
 
--- the block of an item, and no bytes where there is none
+-- the block of an item, and no bytes if there is none
 abbrev pub block_in : Option Entry → List ℕ
 block_in None = []
 block_in (Some item) = item.block

@@ -57,7 +57,7 @@ pub enum CommandOf<K, L, B> {
         by: u64,
         quiet: bool,
     },
-    /// flush_all, with a delay of 0 where none is given
+    /// flush_all, with a delay of 0 if none is given
     FlushAll {
         delay: u64,
         quiet: bool,
@@ -113,6 +113,7 @@ pub fn step_at<'a>(command: &Command<'a>, at: usize) -> KeyStep<'a>
     }
 }
 
+/// Lends key `at` of a retrieval, counted from 0, which it has.
 fn key_at<'a>(keys: &Keys<'a>, at: usize) -> Bytes<'a>
     requires { at < length keys.now }
     ensures { slice_get keys.now at ≡ Some result }

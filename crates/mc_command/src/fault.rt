@@ -1,4 +1,4 @@
-/// What is wrong with a line, or with the block behind it. Where several are, the first of these is
+/// What is wrong with a line, or with the block behind it. If several are, the first of these is
 /// told.
 #[derive(Clone, Copy, Debug, PartialEq, Eq)]
 pub enum LineFault {

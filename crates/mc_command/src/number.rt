@@ -5,8 +5,8 @@ ghost use Rattle.mc_command.specs.Words.{is_space};
 ghost use Rattle.mc_command.specs.Numbers.{number_up_to};
 ghost use Rattle.mc_command.specs.Plain.{number_of, counted};
 
-/// Reads the number that one or more decimal digits write; none where another byte is there, or
-/// where the number is above `limit`. Leading zeros are allowed. The cost grows with the length.
+/// Reads the number that one or more decimal digits write; none if another byte is there, or
+/// if the number is above `limit`. Leading zeros are allowed. The cost grows with the length.
 pub fn number_up_to(limit: u64, word: &[u8]) -> Option<u64>
     ensures { result ≡ number_up_to limit word.now }
 {
@@ -45,7 +45,7 @@ fn digits_len(text: &[u8]) -> usize
     text.iter().take_while(|byte| byte.is_ascii_digit()).count()
 }
 
-/// Tells whether a text has nothing but spaces.
+/// Returns whether a text has nothing but spaces.
 fn is_blank(text: &[u8]) -> bool
     ensures { result ≡ list_all is_space text.now }
 {

@@ -61,7 +61,7 @@ impl Model for PlainStore {
 
 impl PlainStore {
     /// Makes a store of no items, with at most that many pages, 1 to 65536, and that greatest
-    /// charge of an item in bytes, at most 8388608. Refused where memory is.
+    /// charge of an item in bytes, at most 8388608. Refused if memory is.
     pub fn new(alloc: Global, pages: u32, greatest: u64) -> Result<PlainStore, AllocError>
         requires pages { (1 ≤ pages) × (pages ≤ 65536) }
         requires greatest { greatest ≤ 8388608 }
@@ -228,6 +228,7 @@ impl PlainStore {
         }
     }
 
+    /// Drops all items, or, with a delay, the dead ones, and notes when the others are flushed.
     fn flush(&mut self, delay: u64, now: Moment) -> Reply
         ensures { plain self.old (KeyStep.Flush delay) now ≡ Answered result self.new }
     {

@@ -78,7 +78,7 @@ pub struct Draft {
 pub enum Row {
     /// Answers so, and leaves the item.
     Refuses(Refusal),
-    /// Answers with the item, and sets its expiry where one is given.
+    /// Answers with the item, and sets its expiry if one is given.
     Reads(Option<Expiry>),
     /// Sets the item's expiry.
     Touches(Expiry),
@@ -108,7 +108,7 @@ pub trait Standing {
     fn unique(&self) -> u64
         ensures { result ≡ (entry_of self.now).unique };
 
-    /// Reads the number that its block is, as [`number_of`] does; none where it is none. The cost
+    /// Reads the number that its block is, as [`number_of`] does; none if it is none. The cost
     /// grows with the block's length.
     fn number(&self) -> Option<u64>
         ensures { result ≡ number_of (entry_of self.now).block };
@@ -198,7 +198,7 @@ fn cas_row<T: Standing>(flags: u32, expiry: Expiry, unique: u64, item: Option<&T
     }
 }
 
-/// Finds the row of a retrieval, which sets the item's expiry where one is given.
+/// Finds the row of a retrieval, which sets the item's expiry if one is given.
 fn read_row<T: Standing>(expiry: Option<Expiry>, item: Option<&T>) -> Row
     ensures { result ≡ machine.read_row expiry (standing_in T.entry_of item.entry) }
 {

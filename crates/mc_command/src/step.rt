@@ -15,9 +15,9 @@ use thiserror::Error;
 pub enum Verb {
     /// In any case.
     Set,
-    /// Only where no item stands.
+    /// Only if no item stands.
     Add,
-    /// Only where an item stands.
+    /// Only if an item stands.
     Replace,
     /// The block after the standing item's.
     Append,
@@ -83,7 +83,7 @@ impl<'a> KeyStep<'a> {
         }
     }
 
-    /// Lends the block that the step brings, and no bytes where it brings none.
+    /// Lends the block that the step brings, and no bytes if it brings none.
     pub fn block(&self) -> &'a [u8]
         ensures { result.now ≡ block_of self.now }
     {
@@ -136,7 +136,7 @@ pub trait Steps {
     /// though how may differ.
     ghost same: { Self → Self → Type 0 };
 
-    /// Takes one step on one key. Where it isn't taken, what the store holds is the same.
+    /// Takes one step on one key. If it isn't taken, what the store holds is the same.
     fn step(&mut self, alloc: Global, step: &KeyStep<'_>, now: Moment) -> Result<Reply, StepFault>
         requires { length (key_of step.now) ≤ longest_key }
         ensures took { IfOk result (λ reply. took self.old step.now now reply self.new) }
@@ -144,7 +144,7 @@ pub trait Steps {
         ensures err { OnErr result (same self.old self.new) };
 
     /// Takes one step on one key, and has its reply told. A hit is told while its item stands where
-    /// it is, before the step is decided. Where the step isn't taken, what the store holds is the
+    /// it is, before the step is decided. If the step isn't taken, what the store holds is the
     /// same.
     fn step_telling<A: Answer>(
         &mut self,

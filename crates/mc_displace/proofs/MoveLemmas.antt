@@ -5,9 +5,7 @@ use Rattle.std.specs.Int.{bit_at}
 use Rattle.mc_hop.specs.Tables.{HopState, NoneFree, home_in, homed}
 use Rattle.mc_displace.specs.Moves.{IsMovable, IsStuck}
 use Rattle.mc_hop.specs.Contents.{content}
-
-same_Some : {X : Type 0} (x y : X) → Some x ≡ Some y → x ≡ y
-same_Some x y e = cc
+use Rattle.mc_hop.proofs.ListLemmas.{same_Some}
 
 -- an entry of the home is in reach of the empty bucket
 pub within_reach : {X : Type 0} (hash_of : X → ℕ) (k : ℕ) (items : List (Option X)) (free at : ℕ) (x : X) (home : ℕ) → IsMovable hash_of k items free at

@@ -44,7 +44,7 @@ fn shift<T: Keyed + Drop>(hop: &mut Hop<T>, home: usize, at: usize, free: usize)
 }
 
 /// Brings an empty bucket within 31 of a home by moving entries. The content is as it was. An error
-/// is the empty bucket where no entry can be moved into it.
+/// is the empty bucket into which no entry can be moved.
 pub fn bring_near<T: Keyed + Drop>(
     hop: &mut Hop<T>,
     home: usize,

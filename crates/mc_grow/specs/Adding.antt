@@ -25,7 +25,7 @@ pub record Side (X : Type 0) : Type 0 where
 abbrev pub cells_of : {X : Type 0} → Side X → List (Option X)
 cells_of side = side.items ++ map Some side.strays
 
--- an entry has come into the table, where a bucket could be had near its home
+-- an entry has come into the table, if a bucket could be had near its home
 pub record IsPlaced {X : Type 0} (hash_of : X → ℕ) (key_of : X → List ℕ) (k : ℕ) (entry : X) (old new : Side X) : Type 0 where
   pub had : IsFull hash_of k old.items (home_in k (hash_of entry)) → ⊥
   pub placed : content hash_of key_of new.items
@@ -40,8 +40,8 @@ pub record IsStrayed {X : Type 0} (hash_of : X → ℕ) (key_of : X → List ℕ
   pub full : IsFull hash_of k new.items (home_in k (hash_of entry))
   pub strays : new.strays ≡ old.strays ++ (entry ∷ [])
 
--- An entry was added by the rule. Where an empty bucket is near its home it comes into the table, where none can be had it comes
--- among the strays, and else as the moves of other entries end.
+-- An entry was added by the rule. If an empty bucket is near its home it comes into the table, if
+-- none can be had it comes among the strays, and else as the moves of other entries end.
 abbrev pub IsAdded : {X : Type 0} → (X → ℕ) → (X → List ℕ) → ℕ → X → (old new : Side X) → Type 0
 IsAdded hash_of key_of k entry old new =
     IsPlaced hash_of key_of k entry old new ⊎ IsStrayed hash_of key_of k entry old new
@@ -79,7 +79,8 @@ pub record AreTaken {X : Type 0} (hash_of : X → ℕ) (key_of : X → List ℕ)
   pub taken : content hash_of key_of (map Some entries ++ drained_new) ≡ content hash_of key_of drained_old
   pub added : AreAdded hash_of key_of k entries old new
 
--- So many entries were moved. Where no growth runs all stands where it stood. When the old table is empty it is gone, the strays are tried once more, and the growth is over.
+-- So many entries were moved. If no growth runs all stands where it stood. When the old table is
+-- empty it is gone, the strays are tried once more, and the growth is over.
 pub record AreMoved {X : Type 0} (hash_of : X → ℕ) (key_of : X → List ℕ) (n : ℕ) (old new : IndexState X) : Type 0 where
   pub same_k : new.k ≡ old.k
   pub idle : old.growing ≡ false → new ≡ old

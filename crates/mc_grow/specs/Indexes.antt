@@ -138,8 +138,9 @@ pub record KeepsLower {X : Type 0} (old new : IndexState X) (number : ℕ) : Typ
   pub lower : (k : ℕ) → k < number → slice_index_or (cells new) k None ≡ slice_index_or (cells old) k None
   pub count : count_from old number ≡ count_from new number + 1
 
--- What stands where once a number's entry is gone. Where it stood in a table its bucket is empty, and all others stand as they stood.
--- Where it was a stray, the last stray has its number, and all others stand as they stood.
+-- What stands where once a number's entry is gone. If it stood in a table its bucket is empty, and
+-- all others stand as they stood. If it was a stray, the last stray has its number, and all others
+-- stand as they stood.
 pub record OthersStay {X : Type 0} (entry : X) (number : ℕ) (old new : IndexState X) : Type 0 where
   pub of_tables : number < length old.draining + length old.table → (cells new ≡ slice_set (cells old) number None) × (new.strays ≡ old.strays)
   pub of_strays : length old.draining + length old.table ≤ number → (new.draining ≡ old.draining) × (new.table ≡ old.table) × (new.strays ≡ swap_remove old.strays (number - (length old.draining + length old.table)) entry)
@@ -157,7 +158,7 @@ pub record IsRemoved {X : Type 0} (hash_of : X → ℕ) (key_of : X → List ℕ
   pub same_k : new.k ≡ old.k
   pub same_growing : new.growing ≡ old.growing
 
--- all stands where it stood
+-- the same entries in the same places, though there may be other room
 abbrev pub StandsAs : {X : Type 0} → (old new : IndexState X) → Type 0
 StandsAs old new = new ≡ record old { spare = new.spare }
 

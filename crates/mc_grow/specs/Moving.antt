@@ -36,8 +36,8 @@ pub record IsTaken {X : Type 0} (hash_of : X → ℕ) (key_of : X → List ℕ) 
   pub taken : content hash_of key_of drained_old ≡ insert (content hash_of key_of drained_new) (hash_of entry ∷ key_of entry) entry
   pub added : IsAdded hash_of key_of k entry old new
 
--- what a try of a stray brings: the stray goes to the table, where a bucket could be had near its home, and the last stray takes its
--- place, or it stays, as no bucket was near and none can be had
+-- what a try of a stray brings: the stray goes to the table, if a bucket could be had near its
+-- home, and the last stray takes its place, or it stays, as no bucket was near and none can be had
 abbrev pub IsOutcome : {X : Type 0} → (X → ℕ) → (X → List ℕ) → ℕ → (at : ℕ) → X → Bool → (old new : Side X) → Type 0
 IsOutcome hash_of key_of k at entry true old new =
     (content hash_of key_of new.items ≡ insert (content hash_of key_of old.items) (hash_of entry ∷ key_of entry) entry)

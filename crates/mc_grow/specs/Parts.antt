@@ -4,7 +4,7 @@ use Rattle.mc_hop.specs.Cells.{filled}
 use Rattle.mc_hop.specs.Tables.{AreApart, HopState}
 use Rattle.mc_grow.specs.declared.parts.Spot.{Spot}
 
--- the buckets of an old table, and none where there is none
+-- the buckets of an old table, and none if there is none
 abbrev pub drained_items : {X : Type 0} → Option (HopState X) → List (Option X)
 drained_items None = []
 drained_items (Some table) = table.items

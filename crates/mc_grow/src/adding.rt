@@ -30,6 +30,7 @@ pub(crate) fn add<T: Keyed + Drop>(table: &mut Hop<T>, entry: T) -> Result<usize
         × IsFull T.hash_of table.new.k table.new.items (home_in table.new.k (T.hash_of entry))) }
 {
     content_has_each_entry::<T>();
+    // how many buckets there are, for the proof
     let _buckets = table.buckets();
     let home = table.home_of(entry.hash());
     let Some(free) = table.free_from(home) else {

@@ -41,7 +41,7 @@ fn a_place_is_found_again_after_moves(rt: HostRuntime) -> Result<(), Fail> {
     Ok(())
 }
 
-/// Whether two places are one, or both none.
+/// Returns whether two places are one, or both none.
 fn is_same(one: Option<Place>, other: Option<Place>) -> bool {
     match (one, other) {
         (None, None) => true,

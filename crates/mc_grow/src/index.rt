@@ -110,12 +110,13 @@ impl<T: Keyed + Drop> Index<T> {
         }
     }
 
-    /// Finds the place as `find` does, whatever the place is that it is given: it looks there first, which is one read where
-    /// the entry was found there and has not moved since.
+    /// Finds the place as `find` does, whatever the place is that it is given: it looks there
+    /// first, which is one read if the entry was found there and has not moved since.
     pub fn find_again(&self, place: Place, hash: u64, key: &[u8]) -> Option<Place>
         ensures { IsFound T.hash_of T.key_of self.now hash key.now result }
     {
         content_has_each_entry::<T>();
+        // what holds of every index, for the proof
         let _ = &self.table;
         match self.get(place) {
             Some(entry) if entry.hash() == hash && entry.key() == key => Some(place),
@@ -169,7 +170,7 @@ impl<T: Keyed + Drop> Index<T> {
         }
     }
 
-    /// Lends the entry at a place, where one stands there.
+    /// Lends the entry at a place, if one stands there.
     pub fn get(&self, place: Place) -> Option<&T>
         ensures { option_copied result ≡ entry_at self.now place }
     {
@@ -258,9 +259,10 @@ impl<T: Keyed + Drop> Index<T> {
         self.is_growing() && entries > 3 * homes
     }
 
-    /// Finds the first entry whose number is at or above `at`, for a sweep over all entries: each place has one number, and a
-    /// removal changes no lower one. A sweep goes on at the number after it, and where it removed the entry, at the number
-    /// itself. The cost grows with the empty buckets that are passed.
+    /// Finds the first entry whose number is at or above `at`, for a sweep over all entries: each
+    /// place has one number, and a removal changes no lower one. A sweep goes on at the number
+    /// after it, and if it removed the entry, at the number itself. The cost grows with the empty
+    /// buckets that are passed.
     pub fn filled_from(&self, at: usize) -> Option<(usize, Place)>
         ensures { IsNext self.now at result }
     {
@@ -283,9 +285,10 @@ impl<T: Keyed + Drop> Index<T> {
         }
     }
 
-    /// Makes room for one entry more, and begins a growth where one is due: a table of twice the homes, to which the entries of
-    /// the old one come by `move_some`. Room is made for all of them among the strays, so that no move takes memory. The content
-    /// is as it was; refused, all stands where it stood. The one error is a refused allocation.
+    /// Makes room for one entry more, and begins a growth if one is due: a table of twice the
+    /// homes, to which the entries of the old one come by `move_some`. Room is made for all of them
+    /// among the strays, so that no move takes memory. The content is as it was; refused, all
+    /// stands where it stood. The one error is a refused allocation.
     pub fn reserve(&mut self, alloc: Global) -> Result<(), AllocError>
         ensures room { OnOk result (1 ≤ self.new.spare) }
         ensures begins { OnOk result (is_due self.old ≡ true → HasBegun self.old self.new) }
@@ -302,9 +305,10 @@ impl<T: Keyed + Drop> Index<T> {
         }
     }
 
-    /// Puts in an entry of a new hash and key, for which there is room, and answers its place: in a bucket of the table near its home,
-    /// or among the strays where none can be had. It takes no memory. A stray costs a move of 8 bytes for each that stands behind it
-    /// in the order of hashes and keys.
+    /// Puts in an entry of a new hash and key, for which there is room, and answers its place: in a
+    /// bucket of the table near its home, or among the strays if none can be had. It takes no
+    /// memory. A stray costs a move of 8 bytes for each that stands behind it in the order of
+    /// hashes and keys.
     pub fn insert_reserved(&mut self, entry: T) -> Place
         requires new { get (holds T.hash_of T.key_of self.old) (T.hash_of entry ∷ T.key_of entry)
             ≡ None }
@@ -325,9 +329,10 @@ impl<T: Keyed + Drop> Index<T> {
         }
     }
 
-    /// Moves up to `n` entries of the old table, and answers how many it moved: as many as are left, where they are fewer. When
-    /// none is left the old table is dropped, each stray is tried once in the table, and the growth is over. The content stays,
-    /// and no memory is taken. The cost grows with `n`, and at a growth's end with the strays.
+    /// Moves up to `n` entries of the old table, and answers how many it moved: as many as are
+    /// left, if they are fewer. When none is left the old table is dropped, each stray is tried
+    /// once in the table, and the growth is over. The content stays, and no memory is taken. The
+    /// cost grows with `n`, and at a growth's end with the strays.
     pub fn move_some(&mut self, n: usize) -> usize
         ensures moved { result ≡ min n (left self.old) }
         ensures left { left self.new ≡ left self.old - result }
@@ -349,7 +354,7 @@ impl<T: Keyed + Drop> Index<T> {
         moved
     }
 
-    /// Gives back the room among the strays that a growth left, where none runs and no stray stands.
+    /// Gives back the room among the strays that a growth left, if none runs and no stray stands.
     fn give_back_room(&mut self, alloc: Global)
         ensures { StandsAs self.old self.new }
     {
@@ -358,7 +363,7 @@ impl<T: Keyed + Drop> Index<T> {
         }
     }
 
-    /// Answers whether a growth is due before one entry more comes.
+    /// Returns whether a growth is due before one entry more comes.
     fn is_due(&self) -> bool
         ensures { result ≡ is_due self.now }
     {
@@ -381,6 +386,7 @@ impl<T: Keyed + Drop> Index<T> {
     {
         content_laws::<T>();
         let table = Hop::new(alloc, self.table.exponent() + 1)?;
+        // how many buckets the old table has, for the proof
         let _buckets = self.table.buckets();
         self.strays.reserve(self.table.len() + 1)?;
         table.entries_are_apart();

@@ -1,4 +1,4 @@
-//! A growth that is moved on only where it lags, as a shelf does that is given no other turn.
+//! A growth that is moved on only if it lags, as a shelf does that is given no other turn.
 
 ghost use Rattle.std.specs.Prelude.{◌≡◌};
 
@@ -29,7 +29,7 @@ impl Keyed for Mark {
     }
 }
 
-/// An index of 64 homes, asked for again where memory is refused.
+/// An index of 64 homes, asked for again if memory is refused.
 fn opened(alloc: Global) -> Result<Index<Mark>, AllocError> {
     match Index::new(alloc, 6) {
         Err(_) => Index::new(alloc, 6),
@@ -37,8 +37,8 @@ fn opened(alloc: Global) -> Result<Index<Mark>, AllocError> {
     }
 }
 
-/// Puts in an entry of that hash, where none has it, and answers how many entries the search for it read. A growth that lags moves
-/// 8 entries first.
+/// Puts in an entry of that hash, if none has it, and answers how many entries the search for it
+/// read. A growth that lags moves 8 entries first.
 fn add(index: &mut Index<Mark>, alloc: Global, hash: u64) -> Result<u64, AllocError> {
     if index.lags() {
         let _ = index.move_some(8);

@@ -7,7 +7,7 @@ use mc_hop::Keyed;
 use mc_testing::Mark;
 use std::alloc::{AllocError, Global};
 
-/// Makes an index of 64 homes, asked for again where memory is refused.
+/// Makes an index of 64 homes, asked for again if memory is refused.
 pub(crate) fn opened(alloc: Global) -> Result<Index<Mark>, AllocError> {
     match Index::new(alloc, 6) {
         Err(_) => Index::new(alloc, 6),
@@ -15,7 +15,8 @@ pub(crate) fn opened(alloc: Global) -> Result<Index<Mark>, AllocError> {
     }
 }
 
-/// Puts in a mark, where none has its hash and key, and tells whether it did. Room is asked for again where memory is refused.
+/// Puts in a mark, if none has its hash and key, and returns whether it did. Room is asked for
+/// again if memory is refused.
 pub(crate) fn add(
     index: &mut Index<Mark>,
     alloc: Global,
@@ -38,7 +39,7 @@ pub(crate) fn add(
     Ok(true)
 }
 
-/// Takes the mark of that hash and key out, and tells whether there was one.
+/// Takes the mark of that hash and key out, and returns whether there was one.
 pub(crate) fn take(index: &mut Index<Mark>, hash: u64, key: [u8; 2]) -> bool {
     match index.find(hash, &key) {
         Some(place) => {
@@ -63,7 +64,7 @@ pub(crate) fn counted(mark: Mark) -> (Mark, u64)
     (more, hash)
 }
 
-/// Counts the mark of that hash and key once more, and tells whether there was one.
+/// Counts the mark of that hash and key once more, and returns whether there was one.
 pub(crate) fn count_more(index: &mut Index<Mark>, hash: u64, key: [u8; 2]) -> bool {
     match index.find(hash, &key) {
         Some(place) => {

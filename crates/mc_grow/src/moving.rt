@@ -83,8 +83,8 @@ fn move_one<T: Keyed + Drop>(
     place(table, strays, entry);
 }
 
-/// Moves up to so many entries of an old table, and answers how many it moved: as many as there are, where they are fewer. It takes
-/// no memory, and costs as much as it moves.
+/// Moves up to so many entries of an old table, and answers how many it moved: as many as there
+/// are, if they are fewer. It takes no memory, and costs as much as it moves.
 pub(crate) fn move_entries<T: Keyed + Drop>(
     draining: &mut Hop<T>,
     table: &mut Hop<T>,

@@ -17,7 +17,7 @@ pub(crate) enum Spot {
     Stray(usize),
 }
 
-/// Counts the buckets of an old table: at most 2^24 + 255, and none where there is no table.
+/// Counts the buckets of an old table: at most 2^24 + 255, and none if there is no table.
 pub(crate) fn drained_buckets<T: Keyed + Drop>(draining: &Option<Hop<T>>) -> usize
     ensures value { result ≡ length (drained_items draining.now) }
     ensures most { result ≤ 2 ^ 24 + 255 }
@@ -59,7 +59,7 @@ pub(crate) fn find_drained<T: Keyed + Drop, C: Counts>(
     }
 }
 
-/// Lends the entry of a bucket of an old table, where it has one.
+/// Lends the entry of a bucket of an old table, if it has one.
 pub(crate) fn drained_entry<T: Keyed + Drop>(draining: &Option<Hop<T>>, at: usize) -> Option<&T>
     requires { at < length (drained_items draining.now) }
     ensures { option_copied result ≡ slice_index_or (drained_items draining.now) at None }

@@ -1,5 +1,6 @@
-//! An index beside std's map: the same steps, drawn at random while tables grow, with hashes that are well spread, of eight values,
-//! of one home, and all one. Where memory is refused a step asks again.
+//! An index beside std's map: the same steps, drawn at random while tables grow, with hashes that
+//! are well spread, of eight values, of one home, and all one. If memory is refused a step asks
+//! again.
 
 use super::*;
 use crate::marked::{add, count_at, count_more, opened, take};
@@ -79,7 +80,8 @@ impl Pair {
         self.index.find(self.hashes.of(key), &key)
     }
 
-    /// Takes a step in both, and tells whether they had an entry of the key before, or had none, alike.
+    /// Takes a step in both, and returns whether they had an entry of the key before, or had none,
+    /// alike.
     fn step(&mut self, alloc: Global, act: Act, key: u16) -> Result<bool, AllocError> {
         let bytes = key.to_be_bytes();
         let hash = self.hashes.of(bytes);
@@ -110,7 +112,8 @@ impl Pair {
         }
     }
 
-    /// Tells whether a key has the same count in both, or none, and is found so from the place that was kept.
+    /// Returns whether a key has the same count in both, or none, and is found so from the place
+    /// that was kept.
     fn is_alike(&self, key: u16) -> bool {
         let found = self.find(key);
         let bytes = key.to_be_bytes();
@@ -131,7 +134,7 @@ impl Pair {
     }
 }
 
-/// Puts a key with the count 0 into the map, again where memory is refused.
+/// Puts a key with the count 0 into the map, again if memory is refused.
 fn put(map: &mut BTreeMap<u16, u32>, key: u16) -> Result<(), AllocError> {
     if map.insert(key, 0).is_err() {
         map.insert(key, 0)?;

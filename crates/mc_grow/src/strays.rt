@@ -159,15 +159,15 @@ impl<T: Keyed + Drop> Strays<T> {
         }
     }
 
-    /// Lends a stray, where there is one of that number.
+    /// Lends a stray, if there is one of that number.
     pub(crate) fn get(&self, at: usize) -> Option<&T>
         ensures { option_copied result ≡ slice_index_or (map Some self.now.items) at None }
     {
         self.items.get(at)
     }
 
-    /// Makes room for so many strays more. Those that are there stay, and so does the room where it is refused. The one error is
-    /// a refused allocation.
+    /// Makes room for so many strays more. Those that are there stay, and so does the room if it is
+    /// refused. The one error is a refused allocation.
     pub(crate) fn reserve(&mut self, more: usize) -> Result<(), AllocError>
         ensures items { self.new.items ≡ self.old.items }
         ensures ok { OnOk result (length self.new.items + more ≤ self.new.room) }
@@ -233,8 +233,8 @@ impl<T: Keyed + Drop> Strays<T> {
         update_stray(&mut self.items, at, change)
     }
 
-    /// Tries the stray of a number in a table, and answers whether it went there. The last stray has its number then. It takes
-    /// no memory.
+    /// Tries the stray of a number in a table, and returns whether it went there. The last stray
+    /// has its number then. It takes no memory.
     pub(crate) fn try_in(&mut self, table: &mut Hop<T>, at: usize) -> bool
         requires inside { at < length self.old.items }
         requires apart { AreApart T.hash_of T.key_of (cells_of (beside table.old self.old.items)) }

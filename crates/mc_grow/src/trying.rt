@@ -10,7 +10,8 @@ use crate::adding::add;
 use crate::moving::content_laws;
 use mc_hop::{Hop, Keyed};
 
-/// Tries the stray of a number in the table, and answers whether it went there. The last stray has its number then.
+/// Tries the stray of a number in the table, and returns whether it went there. The last stray has
+/// its number then.
 pub(crate) fn try_item<T: Keyed + Drop>(table: &mut Hop<T>, strays: &mut Vec<T>, at: usize) -> bool
     requires inside { at < vec_len strays.old }
     requires apart { AreApart T.hash_of T.key_of (cells_of (beside table.old strays.old.items)) }

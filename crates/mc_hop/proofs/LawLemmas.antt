@@ -2,19 +2,15 @@
 use Rattle.std.proofs.Common.{◌≡◌, ℕ, zero, suc, ◌+◌, ◌<◌, ◌↔◌, ◌⊎◌, inl, inr, Bool, true, false, cond, List, [], ◌∷◌, ◌++◌, Option, Some, None, is_some, length, get_or, set, refl}
 use Rattle.std.proofs.Common.{sym, ap, ◌∙◌, arith, ⊎_elim}
 use Rattle.std.proofs.lemmas.Option.{none-some}
-use Rattle.std.proofs.lemmas.List.{get_or_append_left, get_or-append-add}
-use Rattle.std.proofs.lemmas.Cmp.{eq_by_cmp_equiv}
 use Rattle.std.specs.Option.{option_or}
 use Rattle.std.specs.Cmp.Lexicographic.{nat_list_cmp_total}
-use Rattle.std.specs.FinMap.{FinMap, get, insert, remove, len, len-empty, len-insert, from_entries, get-insert, get-from_entries, same_map, nat_cmp-IsAntisymmetric, slice_cmp-IsAntisymmetric}
+use Rattle.std.specs.FinMap.{get, insert, len, len-empty, len-insert, from_entries}
 use Rattle.mc_hop.specs.Cells.{filled}
 use Rattle.mc_hop.specs.Tables.{AreApart, HasEntry, IsAbsent}
 use Rattle.mc_hop.specs.Contents.{AreDisjoint, rows, content}
-use Rattle.mc_hop.proofs.TableLemmas.{filled_inside}
-use Rattle.mc_hop.proofs.ContentLemmas.{order, same, same_Some, same_key, head_of, tail_of, key, found, not_found, rest_none, content-put, content-remove, content-back, content-over}
-
-same_self : (q : List ℕ) → same q q ≡ true
-same_self q = (eq_by_cmp_equiv nat_list_cmp_total).refl q
+use Rattle.mc_hop.proofs.ListLemmas.{filled_inside, in_first, in_second, in_one, same_Some}
+use Rattle.mc_hop.proofs.ContentLemmas.{Map, after_insert, alike, found, get_content, head_of, key, not_found, order, rest_none, same, same_key, same_self, tail_of}
+use Rattle.mc_hop.proofs.ContentLemmas.{content-put, content-remove, content-back, content-over}
 
 -- a test under which an option or another is looked at first
 or_test : {X : Type 0} (b : Bool) (a o p : Option X) → option_or (cond b a o) p ≡ cond b (option_or a p) (option_or o p)
@@ -26,17 +22,11 @@ or_test_second true a o p none = ap (λ r. option_or r a) (none refl)
 or_test_second false a o p none = refl
 
 module _ {X : Type 0} (hash_of : X → ℕ) (key_of : X → List ℕ) where
-  abbrev map_of : List (Option X) → FinMap order X
+  abbrev map_of : List (Option X) → Map X
   map_of = content hash_of key_of
 
   abbrev at_key : List ℕ → List (Option X) → Option X
   at_key = found hash_of key_of
-
-  get_content : (items : List (Option X)) (q : List ℕ) → get (map_of items) q ≡ at_key q items
-  get_content items q = get-from_entries nat_list_cmp_total (rows hash_of key_of items) q
-
-  alike : (m n : FinMap order X) → ((q : List ℕ) → get m q ≡ get n q) → m ≡ n
-  alike = same_map nat_list_cmp_total (slice_cmp-IsAntisymmetric nat_cmp-IsAntisymmetric)
 
   there_by : (items : List (Option X)) (q : List ℕ) (x : X) → at_key q items ≡ Some x → (q ≡ key hash_of key_of x) × HasEntry items x
   there_by [] q x e = absurd (none-some x e)
@@ -63,26 +53,26 @@ module _ {X : Type 0} (hash_of : X → ℕ) (key_of : X → List ℕ) where
         | None ↦ λ e. absurd (some_by items has.0 x has.1 e)
         | Some y ↦ λ e.
             let r = there_by items (key hash_of key_of x) y e in
-            let one : has.0 ≡ r.1.0 = apart has.0 r.1.0 x y has.1 r.1.1 (ap head_of r.0) (ap tail_of r.0) in
+            let one : has.0 ≡ r.1.0 = apart has.0 r.1.0 x y has.1 r.1.1 (head_of r.0) (tail_of r.0) in
             sym r.1.1 ∙ ap (λ (n : ℕ). get_or items n None) (sym one) ∙ has.1
       ] refl
 
   pub entry_found : (items : List (Option X)) (x : X) → AreApart hash_of key_of items → HasEntry items x → get (map_of items) (hash_of x ∷ key_of x) ≡ Some x
-  entry_found items x apart has = get_content items (key hash_of key_of x) ∙ found_by items x apart has
+  entry_found items x apart has = get_content hash_of key_of items (key hash_of key_of x) ∙ found_by items x apart has
 
   pub entry_there : (items : List (Option X)) (q : List ℕ) (x : X) → get (map_of items) q ≡ Some x → (q ≡ hash_of x ∷ key_of x) × HasEntry items x
-  entry_there items q x e = there_by items q x (sym (get_content items q) ∙ e)
+  entry_there items q x e = there_by items q x (sym (get_content hash_of key_of items q) ∙ e)
 
   pub absent_of : (items : List (Option X)) (hash : ℕ) (k : List ℕ) → get (map_of items) (hash ∷ k) ≡ None → IsAbsent hash_of key_of items hash k
   absent_of items hash k e at is =
-      some_by items at is.entry is.there (ap (λ (q : List ℕ). at_key q items) (λ i. is.same_hash i ∷ is.same_key i) ∙ sym (get_content items (hash ∷ k)) ∙ e)
+      some_by items at is.entry is.there (ap (λ (q : List ℕ). at_key q items) (λ i. is.same_hash i ∷ is.same_key i) ∙ sym (get_content hash_of key_of items (hash ∷ k)) ∙ e)
 
   pub entry_absent : (items : List (Option X)) (hash : ℕ) (k : List ℕ) → IsAbsent hash_of key_of items hash k ↔ (get (map_of items) (hash ∷ k) ≡ None)
-  entry_absent items hash k = (λ absent. get_content items (hash ∷ k) ∙ not_found hash_of key_of items hash k absent, absent_of items hash k)
+  entry_absent items hash k = (λ absent. get_content hash_of key_of items (hash ∷ k) ∙ not_found hash_of key_of items hash k absent, absent_of items hash k)
 
   pub same_entries : (items others : List (Option X)) → AreApart hash_of key_of items → AreApart hash_of key_of others → ((x : X) → HasEntry items x ↔ HasEntry others x) → map_of items ≡ map_of others
   same_entries items others apart apart_others both =
-      alike (map_of items) (map_of others) (λ q. get_content items q ∙ one q ∙ sym (get_content others q)) where
+      alike (map_of items) (map_of others) (λ q. get_content hash_of key_of items q ∙ one q ∙ sym (get_content hash_of key_of others q)) where
         one : (q : List ℕ) → at_key q items ≡ at_key q others
         one q =
             elim (at_key q items) as (λ o. at_key q items ≡ o → o ≡ at_key q others) [
@@ -115,30 +105,15 @@ module _ {X : Type 0} (hash_of : X → ℕ) (key_of : X → List ℕ) where
   many_entries (Some x ∷ items) apart =
       let fresh : IsAbsent hash_of key_of items (hash_of x) (key_of x) = λ at is. omega (arith, apart zero (suc at) x is.entry refl is.there (sym is.same_hash) (sym is.same_key)) in
       len-insert nat_list_cmp_total (map_of items) (key hash_of key_of x) x
-      ∙ ap (λ (o : Option X). cond (is_some o) (len (map_of items)) (len (map_of items) + 1)) (get_content items (key hash_of key_of x) ∙ not_found hash_of key_of items (hash_of x) (key_of x) fresh)
+      ∙ ap (λ (o : Option X). cond (is_some o) (len (map_of items)) (len (map_of items) + 1))
+      (get_content hash_of key_of items (key hash_of key_of x) ∙ not_found hash_of key_of items (hash_of x) (key_of x) fresh)
       ∙ ap (λ (n : ℕ). n + 1) (many_entries items (apart_rest (Some x) items apart))
 
   -- ---- a change of one bucket
 
-  alone : (items : List (Option X)) (at : ℕ) (x : X) → AreApart hash_of key_of items → get_or items at None ≡ Some x → (other : ℕ) (y : X)
-      → get_or items other None ≡ Some y → hash_of y ≡ hash_of x → key_of y ≡ key_of x → other ≡ at
-  alone items at x apart there other y elsewhere hashes keys = apart other at y x elsewhere there hashes keys
-
   pub change_put : (items : List (Option X)) (at : ℕ) (x : X) → at < length items → get_or items at None ≡ None
       → get (map_of items) (hash_of x ∷ key_of x) ≡ None → map_of (set items at (Some x)) ≡ insert (map_of items) (hash_of x ∷ key_of x) x
   change_put items at x l e none = content-put hash_of key_of items at x l e (absent_of items (hash_of x) (key_of x) none)
-
-  pub change_taken : (items : List (Option X)) (at : ℕ) (x : X) → AreApart hash_of key_of items → get_or items at None ≡ Some x
-      → map_of (set items at None) ≡ remove (map_of items) (hash_of x ∷ key_of x)
-  change_taken items at x apart e = content-remove hash_of key_of items at x e (alone items at x apart e) (filled_inside items at x e)
-
-  pub change_back : (items : List (Option X)) (at : ℕ) (x : X) → AreApart hash_of key_of items → get_or items at None ≡ Some x
-      → map_of items ≡ insert (map_of (set items at None)) (hash_of x ∷ key_of x) x
-  change_back items at x apart e = content-back hash_of key_of items at x e (alone items at x apart e) (filled_inside items at x e)
-
-  pub change_replaced : (items : List (Option X)) (at : ℕ) (x y : X) → AreApart hash_of key_of items → get_or items at None ≡ Some x → hash_of y ≡ hash_of x
-      → key_of y ≡ key_of x → map_of (set items at (Some y)) ≡ insert (map_of items) (hash_of x ∷ key_of x) y
-  change_replaced items at x y apart e hashes keys = content-over hash_of key_of items at x y e hashes keys (alone items at x apart e) (filled_inside items at x e)
 
   -- ---- two lists, one after the other
 
@@ -150,7 +125,7 @@ module _ {X : Type 0} (hash_of : X → ℕ) (key_of : X → List ℕ) where
       ∙ sym (or_test (same q (key hash_of key_of x)) (Some x) (at_key q xs) (at_key q ys))
 
   pub get_joined : (xs ys : List (Option X)) (q : List ℕ) → get (map_of (xs ++ ys)) q ≡ option_or (get (map_of xs) q) (get (map_of ys) q)
-  get_joined xs ys q = get_content (xs ++ ys) q ∙ found-joined xs ys q ∙ sym (λ i. option_or (get_content xs q i) (get_content ys q i))
+  get_joined xs ys q = get_content hash_of key_of (xs ++ ys) q ∙ found-joined xs ys q ∙ sym (λ i. option_or (get_content hash_of key_of xs q i) (get_content hash_of key_of ys q i))
 
   pub joined_parts : (xs ys zs others : List (Option X)) → map_of xs ≡ map_of zs → map_of ys ≡ map_of others → map_of (xs ++ ys) ≡ map_of (zs ++ others)
   joined_parts xs ys zs others first second =
@@ -160,30 +135,19 @@ module _ {X : Type 0} (hash_of : X → ℕ) (key_of : X → List ℕ) where
   joined_first xs ys zs p x put =
       alike (map_of (zs ++ ys)) (insert (map_of (xs ++ ys)) p x) (λ q.
       get_joined zs ys q
-      ∙ ap (λ (o : Option X). option_or o (get (map_of ys) q)) (ap (λ (m : FinMap order X). get m q) put ∙ get-insert nat_list_cmp_total (map_of xs) p x q)
+      ∙ ap (λ (o : Option X). option_or o (get (map_of ys) q)) (ap (λ (m : Map X). get m q) put ∙ after_insert (map_of xs) p x q)
       ∙ or_test (same q p) (Some x) (get (map_of xs) q) (get (map_of ys) q)
       ∙ ap (cond (same q p) (Some x)) (sym (get_joined xs ys q))
-      ∙ sym (get-insert nat_list_cmp_total (map_of (xs ++ ys)) p x q))
+      ∙ sym (after_insert (map_of (xs ++ ys)) p x q))
 
   pub joined_second : (xs ys zs : List (Option X)) (p : List ℕ) (x : X) → get (map_of xs) p ≡ None → map_of zs ≡ insert (map_of ys) p x → map_of (xs ++ zs) ≡ insert (map_of (xs ++ ys)) p x
   joined_second xs ys zs p x none put =
       alike (map_of (xs ++ zs)) (insert (map_of (xs ++ ys)) p x) (λ q.
       get_joined xs zs q
-      ∙ ap (option_or (get (map_of xs) q)) (ap (λ (m : FinMap order X). get m q) put ∙ get-insert nat_list_cmp_total (map_of ys) p x q)
+      ∙ ap (option_or (get (map_of xs) q)) (ap (λ (m : Map X). get m q) put ∙ after_insert (map_of ys) p x q)
       ∙ or_test_second (same q p) (Some x) (get (map_of xs) q) (get (map_of ys) q) (λ t. ap (get (map_of xs)) (same_key q p t) ∙ none)
       ∙ ap (cond (same q p) (Some x)) (sym (get_joined xs ys q))
-      ∙ sym (get-insert nat_list_cmp_total (map_of (xs ++ ys)) p x q))
-
-  in_first : (xs ys : List (Option X)) (at : ℕ) (x : X) → get_or xs at None ≡ Some x → get_or (xs ++ ys) at None ≡ Some x
-  in_first xs ys at x e = get_or_append_left xs ys None at (filled_inside xs at x e) ∙ e
-
-  in_second : (xs ys : List (Option X)) (at : ℕ) (x : X) → get_or ys at None ≡ Some x → get_or (xs ++ ys) (length xs + at) None ≡ Some x
-  in_second xs ys at x e = get_or-append-add xs ys at None ∙ e
-
-  in_one : (xs ys : List (Option X)) (at : ℕ) (x : X) → get_or (xs ++ ys) at None ≡ Some x → (get_or xs at None ≡ Some x) ⊎ ((other : ℕ) × (at ≡ length xs + other) × (get_or ys other None ≡ Some x))
-  in_one [] ys at x e = inr (at, omega arith, e)
-  in_one (o ∷ xs) ys zero x e = inl e
-  in_one (o ∷ xs) ys (suc at) x e = ⊎_elim inl (λ r. inr (r.0, omega (arith, r.1), r.2)) (in_one xs ys at x e)
+      ∙ sym (after_insert (map_of (xs ++ ys)) p x q))
 
   pub apart_parts : (xs ys : List (Option X)) → AreApart hash_of key_of (xs ++ ys) → AreApart hash_of key_of xs × AreApart hash_of key_of ys × AreDisjoint (map_of xs) (map_of ys)
   apart_parts xs ys apart = (
@@ -196,27 +160,24 @@ module _ {X : Type 0} (hash_of : X → ℕ) (key_of : X → List ℕ) where
           arith,
           filled_inside xs r.1.0 x r.1.1,
           apart r.1.0 (length xs + s.1.0) x y (in_first xs ys r.1.0 x r.1.1) (in_second xs ys s.1.0 y s.1.1)
-              (ap head_of (sym r.0 ∙ s.0)) (ap tail_of (sym r.0 ∙ s.0)),
+              (head_of (sym r.0 ∙ s.0)) (tail_of (sym r.0 ∙ s.0)),
         ),
   )
 
   pub apart_joined : (xs ys : List (Option X)) → AreApart hash_of key_of xs × AreApart hash_of key_of ys × AreDisjoint (map_of xs) (map_of ys) → AreApart hash_of key_of (xs ++ ys)
   apart_joined xs ys parts at other x y e f hashes keys =
-      ⊎_elim
-      (λ (e : get_or xs at None ≡ Some x).
-      ⊎_elim
-      (λ (f : get_or xs other None ≡ Some y). parts.0 at other x y e f hashes keys)
-      (λ (f : (n : ℕ) × (other ≡ length xs + n) × (get_or ys n None ≡ Some y)).
-      absurd (parts.2 (key hash_of key_of x) x y (entry_found xs x parts.0 (at, e)) (ap (get (map_of ys)) (λ i. hashes i ∷ keys i) ∙ entry_found ys y parts.1 (f.0, f.2))))
-      (in_one xs ys other y f))
-      (λ (e : (m : ℕ) × (at ≡ length xs + m) × (get_or ys m None ≡ Some x)).
-      ⊎_elim
-      (λ (f : get_or xs other None ≡ Some y).
-      absurd (parts.2 (key hash_of key_of y) y x (entry_found xs y parts.0 (other, f)) (ap (get (map_of ys)) (sym (λ i. hashes i ∷ keys i)) ∙ entry_found ys x parts.1 (e.0, e.2))))
-      (λ (f : (n : ℕ) × (other ≡ length xs + n) × (get_or ys n None ≡ Some y)).
-      omega (arith, e.1, f.1, parts.1 e.0 f.0 x y e.2 f.2 hashes keys))
-      (in_one xs ys other y f))
-      (in_one xs ys at x e)
+      elim (in_one xs ys at x e) [
+        | (inl e) ↦
+            elim (in_one xs ys other y f) [
+              | (inl f) ↦ parts.0 at other x y e f hashes keys
+              | (inr f) ↦ absurd (parts.2 (key hash_of key_of x) x y (entry_found xs x parts.0 (at, e)) (ap (get (map_of ys)) (λ i. hashes i ∷ keys i) ∙ entry_found ys y parts.1 (f.0, f.2)))
+            ]
+        | (inr e) ↦
+            elim (in_one xs ys other y f) [
+              | (inl f) ↦ absurd (parts.2 (key hash_of key_of y) y x (entry_found xs y parts.0 (other, f)) (ap (get (map_of ys)) (sym (λ i. hashes i ∷ keys i)) ∙ entry_found ys x parts.1 (e.0, e.2)))
+              | (inr f) ↦ omega (arith, e.1, f.1, parts.1 e.0 f.0 x y e.2 f.2 hashes keys)
+            ]
+      ]
 
   pub are_apart : (xs ys : List (Option X)) → AreApart hash_of key_of (xs ++ ys) ↔ (AreApart hash_of key_of xs × AreApart hash_of key_of ys × AreDisjoint (map_of xs) (map_of ys))
   are_apart xs ys = (apart_parts xs ys, apart_joined xs ys)
@@ -224,6 +185,6 @@ module _ {X : Type 0} (hash_of : X → ℕ) (key_of : X → List ℕ) where
 -- the clauses of the laws, but for those that go both ways
 pub ruleset entry_rules = (entry_found, entry_there, same_entries, no_entries)
 
-pub ruleset change_rules = (change_put, change_taken, change_back, change_replaced)
+pub ruleset change_rules = (change_put, content-remove, content-back, content-over)
 
 pub ruleset list_rules = (get_joined, joined_parts, joined_first, joined_second)

@@ -1,3 +1,4 @@
+pub mod ListLemmas
 pub mod LinkLemmas
 pub mod TableLemmas
 pub mod ContentLemmas

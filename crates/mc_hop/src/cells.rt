@@ -10,8 +10,9 @@ use std::marker::Model;
 /// How many numbers a bucket can have. Its tag stands above their 25 bits.
 const NUMBERS: u32 = 1 << 25;
 
-/// A bucket: its word, and its number below its tag. The number is one more than the place of its value
-/// among the values, or 0 where it has none. The tag is what a search compares before it reads the value.
+/// A bucket: its word, and its number below its tag. The number is one more than the place of its
+/// value among the values, or 0 if it has none. The tag is what a search compares before it reads
+/// the value.
 #[derive(Clone, Copy)]
 struct Cell {
     word: u32,
@@ -161,8 +162,8 @@ impl<T: Drop> Cells<T> {
         self.items.len()
     }
 
-    /// Finds a bucket that has a value, if one has: the one to which a value came last, where none was taken out since. It costs
-    /// the same however many are empty.
+    /// Finds a bucket that has a value, if one has: the one to which a value came last, if none was
+    /// taken out since. It costs the same however many are empty.
     pub fn last_filled(&self) -> Option<usize>
         ensures found { IfSome result (λ at.
             is_some (slice_index_or self.now.items at None) ≡ true) }
@@ -191,7 +192,7 @@ impl<T: Drop> Cells<T> {
         set_word_in(&mut self.cells, at, word);
     }
 
-    /// Tells whether a bucket has no value.
+    /// Returns whether a bucket has no value.
     pub fn is_empty(&self, at: usize) -> bool
         requires { at < length self.now.items }
         ensures yes { result ≡ true → slice_index_or self.now.items at None ≡ None }
@@ -200,7 +201,7 @@ impl<T: Drop> Cells<T> {
         number_of(&self.cells, at) == 0
     }
 
-    /// Tells whether a bucket has that tag.
+    /// Returns whether a bucket has that tag.
     pub fn has_tag(&self, at: usize, tag: u32) -> bool
         requires { at < length self.now.items }
         ensures yes { slice_index_or self.now.tags at 0 ≡ tag → result ≡ true }

@@ -121,8 +121,8 @@ impl<T: Keyed + Drop> Hop<T> {
         self.cells.get(at)
     }
 
-    /// Tells whether a bucket holds the entry of that hash and key. It is the one read of a bucket that
-    /// a walk makes, and reads the entry only where the bucket has the tag of the hash.
+    /// Returns whether a bucket holds the entry of that hash and key. It is the one read of a
+    /// bucket that a walk makes, and reads the entry only if the bucket has the tag of the hash.
     fn holds<C: Counts>(&self, at: usize, hash: u64, key: &[u8], reads: &mut C) -> bool
         requires { at < length self.now.items }
         ensures reads { C.count reads.new ≤ C.count reads.old + 1 }
@@ -155,6 +155,7 @@ impl<T: Keyed + Drop> Hop<T> {
         ensures none { IsNone result → IsAbsent T.hash_of T.key_of self.now.items hash key.now }
         ensures reads { C.count reads.new ≤ C.count reads.old + 32 }
     {
+        // what holds of every table, for the proof
         let _ = &self.k;
         let home = self.home_of(hash);
         let mut word = self.word(home);
@@ -178,6 +179,7 @@ impl<T: Keyed + Drop> Hop<T> {
         ensures found { IfSome result (IsFirstFree self.now.items home) }
         ensures none { IsNone result → NoneFree self.now.items home (home + 256) }
     {
+        // how many buckets there are, for the proof
         let _size = self.buckets();
         for at in home..home + 256 {
             if self.cells.is_empty(at) {

@@ -63,7 +63,7 @@ fn put_words(table: &mut Hop<Word>) {
     }
 }
 
-/// A table of 64 homes with the words, asked for again where memory is refused.
+/// A table of 64 homes with the words, asked for again if memory is refused.
 fn opened(alloc: Global) -> Result<Hop<Word>, AllocError> {
     let mut table = match Hop::new(alloc, 6) {
         Err(_) => Hop::new(alloc, 6)?,

@@ -48,7 +48,7 @@ pub fn bound<R: Net>(rt: &R, address: SocketAddr) -> io::Result<TcpListener> {
     Ok(listener)
 }
 
-/// Binds a listener at each endpoint. The program ends where it can't, or memory runs out.
+/// Binds a listener at each endpoint. The program ends if it can't, or memory runs out.
 pub fn bound_all<R: Net>(rt: &R, alloc: Global, endpoints: &Endpoints) -> Result<Listeners, End>
     ensures each { IfOk result (λ listeners.
         length listeners.others.items ≡ length endpoints.now.others.items) }
@@ -71,7 +71,7 @@ pub fn bound_all<R: Net>(rt: &R, alloc: Global, endpoints: &Endpoints) -> Result
     Ok(Listeners { first, others })
 }
 
-/// Binds a listener at an endpoint. The program ends where it can't, or memory runs out.
+/// Binds a listener at an endpoint. The program ends if it can't, or memory runs out.
 fn bound_at<R: Net>(rt: &R, endpoint: Endpoint) -> Result<TcpListener, End>
     ensures { IfErr result (EndsUnboundAt endpoint) }
 {
@@ -81,8 +81,8 @@ fn bound_at<R: Net>(rt: &R, endpoint: Endpoint) -> Result<TcpListener, End>
     }
 }
 
-/// Gives the listeners' sockets as ones that can be shut down. It fails where the system has no descriptor
-/// for one, or memory runs out.
+/// Gives the listeners' sockets as ones that can be shut down. It fails if the system has no
+/// descriptor for one, or memory runs out.
 pub fn sockets_of(alloc: Global, listeners: &Listeners) -> Result<Vec<TcpStream>, Wanting>
     ensures { IfOk result (λ sockets.
         length sockets.items ≡ length listeners.now.others.items + 1) }
@@ -102,8 +102,8 @@ fn socket_of(listener: &TcpListener) -> io::Result<TcpStream> {
     Ok(TcpStream::from(OwnedFd::from(listener.try_clone()?)))
 }
 
-/// Fails where the system hasn't a descriptor for one connection, and the ones that are kept spare, one a
-/// listener; or where memory runs out.
+/// Fails if the system hasn't a descriptor for one connection, and the ones that are kept spare,
+/// one a listener; or if memory runs out.
 pub fn look_for_descriptors(alloc: Global, listeners: &Listeners) -> Result<(), Wanting> {
     let _connection = listeners.first.try_clone()?;
     let _spare = listeners.first.try_clone()?;

@@ -3,13 +3,13 @@ ghost use Rattle.mc_host.specs.Clocks.{moments};
 
 use mc_time::{Clock, Moment};
 
-/// The clock that the command line asks for: it stands at the moment of `--now`, and is the system's
-/// where there is none.
+/// The clock that the command line asks for: it stands at the moment of `--now`, and is the
+/// system's if there is none.
 #[derive(Clone, Copy)]
 pub struct AskedClock<S: Clock> {
     /// Where it stands.
     pub asked: Option<Moment>,
-    /// The clock that is read where it doesn't stand.
+    /// The clock that is read if it doesn't stand.
     pub system: S,
 }
 

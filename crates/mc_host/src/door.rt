@@ -11,7 +11,7 @@ use std::net::{Net, SocketAddr, TcpStream};
 use std::time::{Clock, Duration};
 use std::{io, thread};
 
-/// How long it waits where the system can't tell of connections, in milliseconds.
+/// How long it waits if the system can't tell of connections, in milliseconds.
 const PAUSE: u64 = 10;
 
 /// A listener for scrapes, and what tells of connections there.
@@ -22,7 +22,7 @@ pub struct Door {
     events: Events,
 }
 
-/// Listens at the place that is asked for; nowhere where none is. The program ends where it can't, or
+/// Listens at the place that is asked for; nowhere if none is. The program ends if it can't, or
 /// memory runs out.
 pub fn opened<R: Net>(rt: &R, alloc: Global, asked: Option<Endpoint>) -> Result<Option<Door>, End>
     ensures { IfErr result (EndsWithoutDoor asked) }

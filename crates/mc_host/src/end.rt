@@ -180,7 +180,7 @@ impl End {
     }
 
     /// Gives the status that the shell is told, and what is said on standard error, which is empty
-    /// where there is nothing to say. Of an end that can't listen the address and the reason stand
+    /// if there is nothing to say. Of an end that can't listen the address and the reason stand
     /// behind it. It takes no memory.
     pub fn ending(&self) -> (u8, &'static str)
         ensures status { result.0 ≡ status_of self.now }

@@ -63,7 +63,8 @@ length-with_part at part old within =
 -- the header's bytes
 abbrev pub header_bytes : (hash flags expires moment unique updated key_length block_length : ℕ) → List ℕ
 header_bytes hash flags expires moment unique updated key_length block_length =
-    (((((((number_bytes 8 hash ++ number_bytes 4 flags) ++ number_bytes 4 expires) ++ number_bytes 8 moment) ++ number_bytes 8 unique) ++ number_bytes 8 updated) ++ number_bytes 4 key_length) ++ number_bytes 4 block_length)
+    (((((((number_bytes 8 hash ++ number_bytes 4 flags) ++ number_bytes 4 expires) ++ number_bytes 8 moment)
+    ++ number_bytes 8 unique) ++ number_bytes 8 updated) ++ number_bytes 4 key_length) ++ number_bytes 4 block_length)
 
 -- bytes in which those numbers stand
 pub record Reads (hash flags expires moment unique updated key_length block_length : ℕ) (bytes : List ℕ) : Type 0 where

@@ -6,7 +6,7 @@
 --   offset   bytes   number
 --        0       8   the key's hash
 --        8       4   flags
---       12       4   0 where the item never expires
+--       12       4   0 if the item never expires
 --       16       8   otherwise the second at which it expires
 --       24       8   unique
 --       32       8   the second at which it was updated

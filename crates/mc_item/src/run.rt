@@ -37,6 +37,7 @@ pub(crate) fn length_in(chunks: &Chunks, count: usize) -> u32
     requires { count ≤ length chunks.now.bytes }
     ensures { result ≡ count }
 {
+    // what holds of all chunks, for the proof
     let _ = chunks.first();
     count as u32
 }
@@ -55,7 +56,7 @@ fn put(chunks: &mut Chunks, offset: usize, source: &[u8])
     chunks.write_at(offset, source);
 }
 
-/// Copies a source that is mostly empty to the offset, and looks at nothing where it is.
+/// Copies a source that is mostly empty to the offset, and looks at nothing if it is.
 fn put_more(chunks: &mut Chunks, offset: usize, source: &[u8])
     requires { offset + length source.now ≤ length chunks.old.bytes }
     ensures before { take (offset + length source.now) chunks.new.bytes
@@ -67,6 +68,7 @@ fn put_more(chunks: &mut Chunks, offset: usize, source: &[u8])
     ensures are { AreChunks chunks.new }
 {
     if source.is_empty() {
+        // what holds of all chunks, for the proof
         let _need = chunks.need();
         return;
     }

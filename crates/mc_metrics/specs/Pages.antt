@@ -23,7 +23,7 @@ abbrev pub or_zero : Option ℕ → ℕ
 or_zero (Some n) = n
 or_zero None = 0
 
--- the number at a place, and 0 where there is none
+-- the number at a place, and 0 if there is none
 abbrev pub number_at : List ℕ → (place : ℕ) → ℕ
 number_at numbers place = or_zero (slice_get numbers place)
 

@@ -20,7 +20,7 @@ page_at target =
 abbrev pub is_post : (method : List ℕ) → Bool
 is_post method = bytes_eq method (codes "POST")
 
--- how a request is answered for the path by which a server ends, where there is one
+-- how a request is answered for the path by which a server ends, if there is one
 abbrev pub quit_answer : QuitAccess → (method : List ℕ) → Answer
 quit_answer Unoffered method = NotFound
 quit_answer Refused method = if is_post method then Forbidden else NotPosted

@@ -5,7 +5,7 @@ ghost use Rattle.mc_metrics.specs.Scrapes.{response_text, status_line_of, fields
 use itoa::Buffer;
 use std::alloc::{AllocError, Global};
 
-/// What is answered where there is no memory for an answer.
+/// What is answered if there is no memory for an answer.
 pub const NO_MEMORY: &[u8] =
     b"HTTP/1.1 503 Service Unavailable\r\nConnection: close\r\nContent-Length: 0\r\n\r\n";
 

@@ -78,7 +78,8 @@ impl Counts {
         }
     }
 
-    /// Gives how many were counted at this place among all, modulo 2^64; 0 where there is no such place.
+    /// Gives how many were counted at this place among all, modulo 2^64; 0 if there is no such
+    /// place.
     pub fn at(&self, place: usize) -> u64 {
         match self.cells.get(place) {
             Some(cell) => cell.load(Ordering::SeqCst),

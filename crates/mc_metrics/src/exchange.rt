@@ -29,7 +29,7 @@ impl Limit {
         })
     }
 
-    /// Gives what is left of it, a millisecond at least, and nothing where none is.
+    /// Gives what is left of it, a millisecond at least, and nothing if none is.
     fn left<R: Clock>(&self, rt: &R) -> Option<Duration> {
         let time = self.since.elapsed(rt).ok()?;
         let left = Duration::from_millis(LIMIT).checked_sub(time)?;
@@ -40,8 +40,8 @@ impl Limit {
     }
 }
 
-/// Reads a request of a peer that may ask so much, and says how it is answered; not at all where nothing
-/// comes any more.
+/// Reads a request of a peer that may ask so much, and says how it is answered; not at all if
+/// nothing comes any more.
 pub fn request_of<R: Clock>(
     rt: &R,
     stream: &mut TcpStream,

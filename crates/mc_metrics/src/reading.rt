@@ -228,7 +228,7 @@ pub fn bytes_of(slabs: &[SlabReading]) -> u64
     bytes
 }
 
-/// Gives the number at a place, and 0 where there is none.
+/// Gives the number at a place, and 0 if there is none.
 pub fn number_at(numbers: &[u64], place: usize) -> u64
     ensures { result ≡ number_at numbers.now place }
 {

@@ -32,8 +32,9 @@ impl QuitAccess {
     ghost use Rattle.std.specs.Prelude.{◌≡◌, ◌↔◌, true, false};
     ghost use Rattle.std.specs.Net.Addr.{MatchIp, IsLoopbackV4, IsLoopbackV6};
 
-    /// Gives whether a peer at this address may, which is in its canonical form, where the path is there or
-    /// isn't: it may where the path is there and the address is of this machine's loopback.
+    /// Finds what a peer at this address may, which is in its canonical form: nothing is offered to
+    /// anybody if the path isn't there; else a peer may if its address is of this machine's
+    /// loopback.
     pub fn of(is_offered: bool, peer: IpAddr) -> QuitAccess
         ensures unoffered { result ≡ QuitAccess.Unoffered ↔ is_offered ≡ false }
         ensures granted { result ≡ QuitAccess.Granted
@@ -50,9 +51,9 @@ impl QuitAccess {
     }
 }
 
-/// Says how the request is answered with which the bytes begin, of a peer that may ask so much; nothing
-/// where it isn't whole yet. One that is none, whatever bytes follow, and one of more than 64 fields, are
-/// bad.
+/// Says how the request is answered with which the bytes begin, of a peer that may ask so much;
+/// nothing if it isn't whole yet. One that is none, whatever bytes follow, and one of more than 64
+/// fields, are bad.
 pub fn asked(bytes: &[u8], access: QuitAccess) -> Option<Answer>
     ensures found { (head : RequestHead) (rest : List ℕ) → ReadsRequest bytes.now head rest
         → length head.fields ≤ most_fields
@@ -100,7 +101,7 @@ fn quit_answer(access: QuitAccess, method: &[u8]) -> Answer
     }
 }
 
-/// Gives the answer where the method is `POST`, and that it has to be where it isn't.
+/// Gives the answer if the method is `POST`, and that it has to be if it isn't.
 fn posted_or(method: &[u8], answer: Answer) -> Answer
     ensures { result ≡ if is_post method.now then answer else Answer.NotPosted }
 {

@@ -12,22 +12,22 @@ use Rattle.mc_options.specs.declared.endpoints.Endpoints.{Endpoints}
 abbrev pub IsUpTo : (most taken : ℕ) → Type 0
 IsUpTo most taken = 1 ≤ taken × taken ≤ most
 
--- the number that is asked for, where it is in range; another number in range where it isn't, and
--- where nothing is asked for the usual one
+-- the number that is asked for, if it is in range; another number in range if it isn't, and
+-- if nothing is asked for the usual one
 pub record IsAskedFor (asked : Option ℕ) (usual most taken : ℕ) : Type 0 where
   pub unasked : asked ≡ None → taken ≡ usual
   pub asked_for : (n : ℕ) → asked ≡ Some n → 1 ≤ n → n ≤ most → taken ≡ n
   pub range : IsUpTo most taken
 
--- the number that is asked for, where it is at most the most; another such number where it isn't, and 0
--- where nothing is asked for
+-- the number that is asked for, if it is at most the most; another such number if it isn't, and 0
+-- if nothing is asked for
 pub record IsTimeoutFor (asked : Option ℕ) (most taken : ℕ) : Type 0 where
   pub unasked : asked ≡ None → taken ≡ 0
   pub asked_for : (n : ℕ) → asked ≡ Some n → n ≤ most → taken ≡ n
   pub range : taken ≤ most
 
--- the greatest charge of an item that is asked for, where it is that of 1 to 8 pages; another such where it
--- isn't, and that of a page where nothing is asked for
+-- the greatest charge of an item that is asked for, if it is that of 1 to 8 pages; another such if
+-- it isn't, and that of a page if nothing is asked for
 pub record IsGreatestFor (asked : Option ℕ) (taken : ℕ) : Type 0 where
   pub unasked : asked ≡ None → taken ≡ 1048576
   pub asked_for : (n : ℕ) → asked ≡ Some n → IsGreatestCharge n → taken ≡ n
@@ -37,7 +37,7 @@ pub record IsGreatestFor (asked : Option ℕ) (taken : ℕ) : Type 0 where
 abbrev pub AsksNoShelfCount : (asked : Option ℕ) → Type 0
 AsksNoShelfCount asked = (n : ℕ) × (asked ≡ Some n) × ¬ IsShelfCount n
 
--- the address that is asked for, and 127.0.0.1 where none is
+-- the address that is asked for, and 127.0.0.1 if none is
 pub record IsAddressFor (asked : Option IpAddr) (taken : IpAddr) : Type 0 where
   pub unasked : asked ≡ None → IsV4And taken (λ ip. ipv4_octets ip ≡ 127 ∷ 0 ∷ 0 ∷ 1 ∷ [])
   pub asked_for : (address : IpAddr) → asked ≡ Some address → taken ≡ address
@@ -52,21 +52,21 @@ port_for None None = 11211
 abbrev pub endpoint_for : (port : Option ℕ) → AskedAddress → Endpoint
 endpoint_for port asked = record { address = asked.address; port = port_for asked.port port }
 
--- the addresses that are asked for, each at its port, in their order; this machine's own where none is
+-- the addresses that are asked for, each at its port, in their order; this machine's own if none is
 abbrev pub IsEndpointsFor : (port : Option ℕ) → List AskedAddress → Endpoints → Type 0
 IsEndpointsFor port [] taken =
     IsAddressFor None taken.first.address × (taken.first.port ≡ port_for None port) × (taken.others.items ≡ [])
 IsEndpointsFor port (asked ∷ more) taken =
     (taken.first ≡ endpoint_for port asked) × (taken.others.items ≡ map (endpoint_for port) more)
 
--- the place that is asked for, where its port is in range, and else the first port; without an address it is
--- this machine's own
+-- the place that is asked for, if its port is in range, and else the first port; without an address
+-- it is this machine's own
 pub record IsPlaceFor (asked : AskedPlace) (taken : Endpoint) : Type 0 where
   pub address : IsAddressFor asked.address taken.address
   pub port : 1 ≤ asked.port → taken.port ≡ asked.port
   pub range : 1 ≤ taken.port
 
--- the place that is asked for, and none where none is
+-- the place that is asked for, and none if none is
 abbrev pub IsScrapePlaceFor : (asked : Option AskedPlace) → (taken : Option Endpoint) → Type 0
 IsScrapePlaceFor None None = Unit {0}
 IsScrapePlaceFor (Some asked) (Some taken) = IsPlaceFor asked taken

@@ -6,7 +6,7 @@ use std::alloc::{AllocError, Global};
 use std::fmt::{self, Display, Formatter};
 use std::net::{IpAddr, Ipv4Addr, Ipv6Addr, SocketAddr};
 
-/// The port where the command line says nothing of it.
+/// The port if the command line says nothing of it.
 const PORT: u16 = 11211;
 
 /// An address at which to listen, as it is asked for.
@@ -68,9 +68,9 @@ fn bracketed(text: &str) -> Option<&str> {
 }
 
 impl Endpoints {
-    /// Makes one endpoint of each address that is asked for, in their order, and one at 127.0.0.1 where
-    /// none is. Its port is the one behind the address, else the one that is asked for beside, else
-    /// 11211; for 0, which is refused before, it is 1. The one error is a refused allocation.
+    /// Makes one endpoint of each address that is asked for, in their order, and one at 127.0.0.1
+    /// if none is. Its port is the one behind the address, else the one that is asked for beside,
+    /// else 11211; for 0, which is refused before, it is 1. The one error is a refused allocation.
     pub fn new(
         alloc: Global,
         asked: &[AskedAddress],
@@ -113,7 +113,7 @@ impl Display for Endpoints {
     }
 }
 
-/// Gives the endpoint of this machine where no address is asked for.
+/// Gives the endpoint of this machine if no address is asked for.
 fn own_endpoint(port: Option<u16>) -> Endpoint
     ensures address { IsAddressFor None result.address }
     ensures port { result.port ≡ port_for None port }
@@ -144,7 +144,7 @@ fn port_of(behind: Option<u16>, asked: Option<u16>) -> u16
     }
 }
 
-/// Gives the address that is asked for, and 127.0.0.1 where none is.
+/// Gives the address that is asked for, and 127.0.0.1 if none is.
 pub fn address_of(asked: Option<IpAddr>) -> IpAddr
     ensures { IsAddressFor asked result }
 {

@@ -31,22 +31,22 @@ const MOST_CONNECTIONS: u32 = 65536;
 /// The longest time after which a connection that is idle may be closed, in seconds: 30 days.
 const LONGEST_TIMEOUT: u32 = 2_592_000;
 
-/// The connections that may be open at once where the command line says nothing of them.
+/// The connections that may be open at once if the command line says nothing of them.
 const CONNECTIONS: u32 = 1024;
 
 /// The most MiB that connections may be meant to hold together.
 const MOST_BUFFERS: u32 = 65536;
 
-/// The MiB that connections are meant to hold together where the command line says nothing of them.
+/// The MiB that connections are meant to hold together if the command line says nothing of them.
 const BUFFERS: u32 = 64;
 
-/// The workers where the command line says nothing of them.
+/// The workers if the command line says nothing of them.
 const WORKERS: u32 = 4;
 
-/// The pages of a store where the command line says nothing of them.
+/// The pages of a store if the command line says nothing of them.
 const PAGES: u32 = 64;
 
-/// The shelves of a store where the command line says nothing of them.
+/// The shelves of a store if the command line says nothing of them.
 const SHELVES: u32 = 64;
 
 /// What is said of a UDP port.
@@ -61,7 +61,7 @@ const NO_ADDRESS: &str =
     "invalid IP address syntax; names aren't looked up, and a port may follow, \
 as in 10.0.0.5, ::1, 10.0.0.5:11211 and [::1]:11211";
 
-/// What is said of the greatest charge of an item where it is none.
+/// What is said of the greatest charge of an item if it is none.
 const NO_SIZE: &str = "1048576 to 8388608 bytes, as in 2097152, 2048k and 2m";
 
 /// What stands below the options in the help.
@@ -127,7 +127,7 @@ pub struct Options {
     pub idle_timeout: u32,
     /// How many MiB connections are meant to hold together of what they send and are told, 1 to 65536.
     pub buffers: u32,
-    /// Where scrapes are answered; nowhere where that isn't asked for.
+    /// Where scrapes are answered; nowhere if that isn't asked for.
     pub scrapes: Option<Endpoint>,
     /// Peers of this machine may end it, where scrapes are answered.
     pub may_quit: bool,
@@ -151,9 +151,10 @@ impl From<Error> for Unfit {
 }
 
 impl Asked {
-    /// Gives the settings of the store that is asked for. Where nothing is asked for it has 64 pages, items
-    /// of at most 1048576 bytes, and 64 shelves. What is out of range, which is refused before, is brought into it. There are none where
-    /// the number of shelves that is asked for is no power of two.
+    /// Gives the settings of the store that is asked for. If nothing is asked for it has 64 pages,
+    /// items of at most 1048576 bytes, and 64 shelves. What is out of range, which is refused
+    /// before, is brought into it. There are none if the number of shelves that is asked for is no
+    /// power of two.
     pub fn settings(self) -> Option<Settings>
         ensures pages { IfSome result (λ settings. IsAskedFor self.pages 64 65536 settings.pages) }
         ensures greatest { IfSome result (λ settings.
@@ -202,8 +203,8 @@ impl Options {
     }
 }
 
-/// Gives where scrapes are answered, by the place that is asked for: nowhere where none is, and at
-/// 127.0.0.1 where it has no address.
+/// Gives where scrapes are answered, by the place that is asked for: nowhere if none is, and at
+/// 127.0.0.1 if it has no address.
 fn scrape_place(asked: Option<AskedPlace>) -> Option<Endpoint>
     ensures { IsScrapePlaceFor asked result }
 {
@@ -216,7 +217,7 @@ fn scrape_place(asked: Option<AskedPlace>) -> Option<Endpoint>
     }
 }
 
-/// Gives the number that is asked for, brought into 1 to `most`, and the usual one where none is.
+/// Gives the number that is asked for, brought into 1 to `most`, and the usual one if none is.
 fn taken(asked: Option<u32>, usual: u32, most: u32) -> u32
     requires { IsUpTo most usual }
     ensures { IsAskedFor asked usual most result }
@@ -227,8 +228,8 @@ fn taken(asked: Option<u32>, usual: u32, most: u32) -> u32
     }
 }
 
-/// Gives the greatest charge of an item that is asked for, brought into 1 to 8 pages, and 1 page where none
-/// is.
+/// Gives the greatest charge of an item that is asked for, brought into 1 to 8 pages, and 1 page if
+/// none is.
 fn greatest_of(asked: Option<u64>) -> u64
     ensures { IsGreatestFor asked result }
 {
@@ -238,7 +239,7 @@ fn greatest_of(asked: Option<u64>) -> u64
     }
 }
 
-/// Gives the seconds that are asked for, at most so many, and 0 where none are.
+/// Gives the seconds that are asked for, at most so many, and 0 if none are.
 fn timeout(asked: Option<u32>, longest: u32) -> u32
     ensures { IsTimeoutFor asked longest result }
 {
@@ -365,7 +366,7 @@ fn greatest_in(
     }
 }
 
-/// Reads a number of bytes, or of KiB or MiB, where it ends with `k` or `m`: `2097152`, `2048k`, `2m`.
+/// Reads a number of bytes, or of KiB or MiB, if it ends with `k` or `m`: `2097152`, `2048k`, `2m`.
 fn bytes_of(text: &str) -> Option<u64> {
     if let Some(number) = text.strip_suffix('k').or(text.strip_suffix('K')) {
         return number.parse::<u64>().ok()?.checked_mul(1 << 10);

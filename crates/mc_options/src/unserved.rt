@@ -7,7 +7,7 @@ use std::alloc::{AllocError, Global};
 #[derive(Clone, Copy)]
 pub struct Unserved<'a> {
     pub short: char,
-    /// Its long name, or one of this program's own where memcached has none.
+    /// Its long name, or one of this program's own if memcached has none.
     pub long: &'a str,
     /// A word follows it.
     pub takes_value: bool,

@@ -22,7 +22,7 @@ settled u = record { greatest = u.greatest; passed = u.passed - length u.bytes; 
 abbrev pub pushed : Unread → List ℕ → Unread
 pushed u piece = settled (record u { bytes = u.bytes ++ piece })
 
--- the feed took a piece, and is as it was where the piece has no bytes
+-- the feed took a piece, and is as it was if the piece has no bytes
 abbrev pub TakesPiece : (old new : Unread) → List ℕ → Type 0
 TakesPiece old new piece = (new ≡ pushed old piece) × (piece ≡ [] → new ≡ old)
 

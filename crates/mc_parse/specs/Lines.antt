@@ -148,7 +148,7 @@ flush_line (delay ∷ word ∷ rest) = do
   quiet ← ending (word ∷ rest)
   delayed delay quiet
 
--- nothing more
+-- a command that is its name alone
 abbrev pub lone_line : Lone → List (List ℕ) → Result Line LineFault
 lone_line lone [] = Ok (LoneCommand lone)
 lone_line lone (word ∷ args) = Err Unknown

@@ -26,7 +26,7 @@ pub record BeginsWithNone (greatest : ℕ) (bytes : List ℕ) : Type 0 where
 abbrev pub FindsSpelled : (greatest : ℕ) → Option (ProtocolUnit × ℕ) → List ℕ → Type 0
 FindsSpelled greatest found bytes = IfSome found (λ f. IsSpelled greatest f bytes)
 
--- nothing is found only where no front spells anything
+-- nothing is found only if no front spells anything
 abbrev pub MissesNone : (greatest : ℕ) → Option (ProtocolUnit × ℕ) → List ℕ → Type 0
 MissesNone greatest found bytes = found ≡ None → BeginsWithNone greatest bytes
 

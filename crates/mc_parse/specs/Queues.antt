@@ -15,6 +15,6 @@ pub record IsHalfFull (kept taken : ℕ) (buffer : List ℕ) (capacity : ℕ) : 
 abbrev pub first_piece : ℕ
 first_piece = 2048
 
--- how many bytes of memory the unread bytes of a feed keep where there are none
+-- how many bytes of memory the unread bytes of a feed keep if there are none
 abbrev pub kept_in_feed : ℕ
 kept_in_feed = 65536

@@ -39,8 +39,9 @@ passed_after (Request command) = 0
 passed_after (Fault fault) = fault_passes fault
 passed_after LongLine = 0
 
--- These are the units of a stream of which so many bytes are still to be passed over: a front of the rest spells the
--- first, and what comes after it has the others; after the last unit nothing is read. There are none where no front spells anything.
+-- These are the units of a stream of which so many bytes are still to be passed over: a front of
+-- the rest spells the first, and what comes after it has the others; after the last unit nothing is
+-- read. There are none if no front spells anything.
 abbrev pub AreUnits : (greatest passed : ℕ) → List ℕ → List ProtocolUnit → Type 0
 AreUnits greatest passed bytes [] = BeginsWithNone greatest (drop passed bytes)
 AreUnits greatest passed bytes (unit ∷ units) =

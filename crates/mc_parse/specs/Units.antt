@@ -25,11 +25,11 @@ pub record IsLine (line text : List ℕ) : Type 0 where
 abbrev pub HasLine : (end : ℕ) → List ℕ → Type 0
 HasLine end bytes = (end < length bytes) × IsLine (take (end + 1) bytes) (take end bytes)
 
--- the command that a line and its block make, where one follows it
+-- the command that a line and its block make, if one follows it
 abbrev pub with_block : Line → List ℕ → Command
 with_block line block = mapped (λ key. key) (λ keys. keys) (λ _. block) line
 
--- the same, or the fault where the block isn't followed by CR LF
+-- the same, or the fault if the block isn't followed by CR LF
 abbrev pub stored : Line → (block end : List ℕ) → ProtocolUnit
 stored line block end = if bytes_eq end (13 ∷ 10 ∷ []) then Request (with_block line block) else Fault BadChunk
 

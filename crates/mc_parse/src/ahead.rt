@@ -35,7 +35,7 @@ impl Ahead {
         }
     }
 
-    /// Counts the bytes of the unit, where its line announces a block; else none.
+    /// Counts the bytes of the unit, if its line announces a block; else none.
     pub fn announced(&self) -> usize
         ensures { (greatest : ℕ) → Knows greatest self.now [] → result ≡ 0 }
     {
@@ -60,13 +60,13 @@ impl Ahead {
         }
     }
 
-    /// Gives the cursor before the first turn of the retrieval that the bytes begin with. There is none where they begin
+    /// Gives the cursor before the first turn of the retrieval that the bytes begin with. There is none if they begin
     /// with something else.
     pub fn cursor(&self, unread: &[u8]) -> Option<Cursor>
         requires { (greatest : ℕ) × Knows greatest self.now unread.now }
         ensures some { (greatest : ℕ) →
             Knows greatest self.now unread.now → IsFirstCursor greatest result unread.now }
-        // Where there is none a unit is whole after any turns.
+        // If there is none a unit is whole after any turns.
         ensures none { (greatest taken : ℕ) → Knows greatest self.now unread.now →
             result ≡ None → StaysWhole greatest taken unread.now }
     {

@@ -113,7 +113,7 @@ impl Buffer {
         }
     }
 
-    /// Reserves memory for so many more bytes, where there is some.
+    /// Reserves memory for so many more bytes, if there is some.
     pub fn reserve(&mut self, more: usize)
         ensures { self.new.items ≡ self.old.items }
     {
@@ -121,7 +121,7 @@ impl Buffer {
         let _ = self.all.reserve(more.saturating_sub(room));
     }
 
-    /// Drops a front, where what is left is no longer than the front.
+    /// Drops a front, if what is left is no longer than the front.
     pub fn drop_front(&mut self, front: usize)
         requires inside { front ≤ length self.old.items }
         requires half { length self.old.items - front ≤ front }
@@ -139,7 +139,7 @@ impl Buffer {
         self.filled = 0;
     }
 
-    /// Gives the memory back, where there are no bytes and more than `kept` bytes of it.
+    /// Gives the memory back, if there are no bytes and more than `kept` bytes of it.
     pub fn give_back(&mut self, kept: usize, alloc: Global)
         ensures same { self.new.items ≡ self.old.items }
         ensures small { length self.new.items ≡ 0 → self.new.capacity ≤ kept }

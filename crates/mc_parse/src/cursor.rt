@@ -92,8 +92,8 @@ impl Cursor {
     }
 }
 
-/// Moves to the cursor after `taken` turns, from the `known` one where it isn't beyond, or from the `first` one. There is
-/// none where there is no first.
+/// Moves to the cursor after `taken` turns, from the `known` one if it isn't beyond, or from the `first` one. There is
+/// none if there is no first.
 pub fn cursor_after(
     known: Option<Cursor>,
     first: Option<Cursor>,

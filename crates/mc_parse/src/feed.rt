@@ -108,7 +108,7 @@ impl Feed {
     }
 
     /// Finds what is left of the first unit after `taken` of its turns: of a retrieval, the retrieval of the keys that are
-    /// left. Where `mark` was told of these turns it looks at no key, and else at those that they took.
+    /// left. If `mark` was told of these turns it looks at no key, and else at those that they took.
     #[inline]
     pub fn peek_after(&self, taken: usize) -> Peek<'_>
         ensures found { FindsLeft self.now taken (unit_of result) }
@@ -185,7 +185,7 @@ impl Feed {
         self.unread.filled()
     }
 
-    /// Counts the bytes of memory that are reserved, filled or not: at most 65536 where no byte is unread.
+    /// Counts the bytes of memory that are reserved, filled or not: at most 65536 if no byte is unread.
     pub fn reserved(&self) -> usize
         ensures filled { length self.now.bytes ≤ result }
         ensures empty { self.now.bytes ≡ [] → result ≤ kept_in_feed }
@@ -193,7 +193,7 @@ impl Feed {
         self.unread.capacity()
     }
 
-    /// Gives back the memory that is kept beyond that of a first piece, where no byte is unread, and counts the bytes that
+    /// Gives back the memory that is kept beyond that of a first piece, if no byte is unread, and counts the bytes that
     /// are reserved then.
     pub fn rest(&mut self) -> usize
         ensures same { self.new ≡ self.old }
@@ -203,7 +203,7 @@ impl Feed {
         self.unread.rest()
     }
 
-    /// Counts the bytes of the unit that the unread bytes begin with, where its line announces a block, whether or not they
+    /// Counts the bytes of the unit that the unread bytes begin with, if its line announces a block, whether or not they
     /// came; else none.
     pub fn announced(&self) -> usize
         ensures { self.now.bytes ≡ [] → result ≡ 0 }
@@ -238,12 +238,12 @@ impl Feed {
         }
     }
 
-    /// Moves to the cursor after `taken` turns of the retrieval that the unread bytes begin with. There is none where they
+    /// Moves to the cursor after `taken` turns of the retrieval that the unread bytes begin with. There is none if they
     /// begin with something else.
     fn cursor_at(&self, taken: usize) -> Option<Cursor>
         ensures some { IsCursor self.now.greatest result self.now.bytes }
         ensures taken { IfSome result (λ cursor. cursor.taken ≡ taken) }
-        // Where there is none a unit is whole after any turns.
+        // If there is none a unit is whole after any turns.
         ensures none { result ≡ None → StaysWhole self.now.greatest taken self.now.bytes }
     {
         let unread = self.unread.as_slice();

@@ -57,6 +57,7 @@ pub fn line_of(greatest: u64, text: &[u8]) -> Result<Noted, LineFault>
     }
 }
 
+/// Reads `<key> <flags> <exptime> <bytes> [noreply]`.
 fn store_line(greatest: u64, verb: Verb, text: &[u8], args: &[u8]) -> Result<Noted, LineFault>
     requires { EndsIn text.now args.now }
     ensures said { said text.now result ≡ store_line greatest verb (words args.now) }
@@ -81,6 +82,7 @@ fn store_line(greatest: u64, verb: Verb, text: &[u8], args: &[u8]) -> Result<Not
     })
 }
 
+/// Reads `<key> <flags> <exptime> <bytes> <cas unique> [noreply]`.
 fn cas_line(greatest: u64, text: &[u8], args: &[u8]) -> Result<Noted, LineFault>
     requires { EndsIn text.now args.now }
     ensures said { said text.now result ≡ cas_line greatest (words args.now) }
@@ -107,6 +109,7 @@ fn cas_line(greatest: u64, text: &[u8], args: &[u8]) -> Result<Noted, LineFault>
     })
 }
 
+/// Reads `<key>*`, at least one.
 fn get_line(with_unique: bool, text: &[u8], args: &[u8]) -> Result<Noted, LineFault>
     requires { EndsIn text.now args.now }
     ensures said { said text.now result ≡ get_line with_unique (words args.now) }
@@ -116,6 +119,7 @@ fn get_line(with_unique: bool, text: &[u8], args: &[u8]) -> Result<Noted, LineFa
     Ok(CommandOf::Get { keys, with_unique })
 }
 
+/// Reads `<exptime> <key>*`, at least one key.
 fn get_touch_line(with_unique: bool, text: &[u8], args: &[u8]) -> Result<Noted, LineFault>
     requires { EndsIn text.now args.now }
     ensures said { said text.now result ≡ get_touch_line with_unique (words args.now) }
@@ -131,6 +135,7 @@ fn get_touch_line(with_unique: bool, text: &[u8], args: &[u8]) -> Result<Noted, 
     })
 }
 
+/// Reads `<key> <exptime> [noreply]`.
 fn touch_line(text: &[u8], args: &[u8]) -> Result<Noted, LineFault>
     requires { EndsIn text.now args.now }
     ensures said { said text.now result ≡ touch_line (words args.now) }
@@ -148,6 +153,7 @@ fn touch_line(text: &[u8], args: &[u8]) -> Result<Noted, LineFault>
     })
 }
 
+/// Reads `<key> [0] [noreply]`.
 fn delete_line(text: &[u8], args: &[u8]) -> Result<Noted, LineFault>
     requires { EndsIn text.now args.now }
     ensures said { said text.now result ≡ delete_line (words args.now) }
@@ -159,6 +165,7 @@ fn delete_line(text: &[u8], args: &[u8]) -> Result<Noted, LineFault>
     Ok(CommandOf::Delete { key, quiet })
 }
 
+/// Reads `<key> <value> [noreply]`.
 fn count_line(up: bool, text: &[u8], args: &[u8]) -> Result<Noted, LineFault>
     requires { EndsIn text.now args.now }
     ensures said { said text.now result ≡ count_line up (words args.now) }
@@ -172,6 +179,7 @@ fn count_line(up: bool, text: &[u8], args: &[u8]) -> Result<Noted, LineFault>
     Ok(CommandOf::Count { key, up, by, quiet })
 }
 
+/// Reads `[delay] [noreply]`.
 fn flush_line(args: &[u8]) -> Result<Noted, LineFault>
     ensures said { (text : List ℕ) → said text result ≡ flush_line (words args.now) }
     ensures fits { (text : List ℕ) → IfOk result (λ noted. Fits noted text) }
@@ -223,7 +231,7 @@ fn next_key(text: &[u8]) -> Result<(&[u8], &[u8]), LineFault>
     first_key(text).ok_or(LineFault::Unknown)
 }
 
-/// Reads the end of a line: nothing, or `noreply`, which makes the command quiet.
+/// Reads the end of a line, and returns whether it makes the command quiet: `noreply` does, and nothing doesn't.
 fn ending(args: &[u8]) -> Result<bool, LineFault>
     ensures { result ≡ ending (words args.now) }
 {
@@ -233,7 +241,7 @@ fn ending(args: &[u8]) -> Result<bool, LineFault>
     }
 }
 
-/// Reads the end of a delete's line, which may have a 0 before the `noreply`.
+/// Reads the end of a delete's line as `ending` does; it may have a 0 before the `noreply`.
 fn delete_ending(args: &[u8]) -> Result<bool, LineFault>
     ensures { result ≡ delete_ending (words args.now) }
 {
@@ -244,7 +252,7 @@ fn delete_ending(args: &[u8]) -> Result<bool, LineFault>
     }
 }
 
-/// Reads the end of a line that goes on with a word, which has to be `noreply` and the last.
+/// Reads the last word, which must be `noreply`.
 fn noreply(word: &[u8], rest: &[u8]) -> Result<bool, LineFault>
     ensures { result ≡ ending (word.now ∷ words rest.now) }
 {
@@ -311,13 +319,14 @@ fn keys_formed(text: &[u8]) -> Result<Keys<'_>, LineFault>
     Ok(Keys::counted(text, count))
 }
 
-/// Says whether a word is a key. A word of a line holds no space and no line feed, so its length is all that is asked.
+/// Returns whether a word is a key. A word of a line holds no space and no line feed, so its length is all that is asked.
 fn is_key(word: &[u8]) -> bool
     ensures { result ≡ is_key word.now }
 {
     !word.is_empty() && word.len() <= LONGEST_KEY
 }
 
+/// Reads flags, a number below 2^32.
 fn flags_formed(word: &[u8]) -> Result<u32, LineFault>
     ensures { result ≡ formed BadFormat (number_up_to (2 ^ 32 - 1) word.now) }
 {
@@ -337,6 +346,7 @@ fn bytes_formed(word: &[u8]) -> Result<u32, LineFault>
     }
 }
 
+/// Reads an exptime.
 fn exptime_formed(word: &[u8]) -> Result<i64, LineFault>
     ensures { result ≡ formed BadFormat (exptime_of word.now) }
 {

@@ -68,7 +68,7 @@ impl KeySpan {
 /// A command as it is noted of a line: where its keys stand, and how long its block is.
 pub type Noted = CommandOf<Span, KeySpan, u32>;
 
-/// Lends the command that was noted of a line's text, with its block, where it has one.
+/// Lends the command that was noted of a line's text, with its block, if it has one.
 #[inline]
 pub fn lend<'a>(noted: &Noted, text: &'a [u8], block: &'a [u8]) -> Command<'a>
     requires { Fits noted.now text.now }
@@ -194,7 +194,7 @@ impl Note {
         }
     }
 
-    /// Counts the bytes of the line and of the block that it announces; none where it announces no block.
+    /// Counts the bytes of the line and of the block that it announces; none if it announces no block.
     pub fn announced(&self) -> usize {
         match self.said {
             Ok(noted) => match announced(&noted) {
@@ -224,13 +224,13 @@ impl Note {
         }
     }
 
-    /// Gives the cursor before the first turn of the retrieval that the line says. There is none where it says
+    /// Gives the cursor before the first turn of the retrieval that the line says. There is none if it says
     /// something else.
     pub fn cursor(&self, unread: &[u8]) -> Option<Cursor>
         requires { (greatest : ℕ) × IsNoted greatest self.now unread.now }
         ensures some { (greatest : ℕ) →
             IsNoted greatest self.now unread.now → IsFirstCursor greatest result unread.now }
-        // Where there is none a unit is whole after any turns.
+        // If there is none a unit is whole after any turns.
         ensures none { (greatest taken : ℕ) → IsNoted greatest self.now unread.now →
             result ≡ None → StaysWhole greatest taken unread.now }
     {

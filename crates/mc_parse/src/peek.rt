@@ -32,7 +32,7 @@ pub const LONGEST: usize = 65536;
 pub fn peek_at(greatest: u64, unread: &[u8]) -> Peek<'_>
     // What it finds is spelled by the front that it counts.
     ensures found { FindsSpelled greatest (unit_of result) unread.now }
-    // It finds nothing only where no front spells anything.
+    // It finds nothing only if no front spells anything.
     ensures none { MissesNone greatest (unit_of result) unread.now }
     // Whatever a front spells is what it finds.
     ensures only { FindsWhatever greatest (unit_of result) unread.now }

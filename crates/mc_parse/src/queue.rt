@@ -4,7 +4,7 @@ use crate::source::Source;
 use std::alloc::{AllocError, Global};
 use std::marker::Model;
 
-/// How many bytes of memory what is empty keeps where nothing is to come soon: those of the first piece of a stream.
+/// How many bytes of memory what is empty keeps if nothing is to come soon: those of the first piece of a stream.
 pub const FIRST_PIECE: usize = 2048;
 
 /// Of how many parts of a text one is to be there before room is made for all of it.
@@ -112,7 +112,7 @@ impl<const KEPT: usize> Queue<KEPT> {
 
     /// Appends bytes of a text that has `whole` bytes, more than `KEPT`, of which the first ones are there. Once a sixteenth of
     /// it is, room is made for all of it in one, and nothing is moved from then on; so for what is announced and never comes no
-    /// more is reserved than sixteen times what came, and 16384 bytes. Where memory for that is refused, the queue grows as
+    /// more is reserved than sixteen times what came, and 16384 bytes. If memory for that is refused, the queue grows as
     /// bytes come. Refused, it is as it was.
     pub fn push_part(&mut self, bytes: &[u8], whole: usize) -> Result<(), AllocError>
         ensures ok { OnOk result (self.new ≡ self.old ++ bytes.now) }
@@ -141,7 +141,7 @@ impl<const KEPT: usize> Queue<KEPT> {
         result
     }
 
-    /// Makes room for `whole` bytes, where a sixteenth of them is there, and for some that come with the last of them.
+    /// Makes room for `whole` bytes, if a sixteenth of them is there, and for some that come with the last of them.
     fn make_room(&mut self, whole: usize)
         ensures { self.new ≡ self.old }
     {
@@ -164,7 +164,7 @@ impl<const KEPT: usize> Queue<KEPT> {
         result
     }
 
-    /// Takes the first `n` bytes away. What is left is moved to the front where it is no longer than what was taken, so
+    /// Takes the first `n` bytes away. What is left is moved to the front if it is no longer than what was taken, so
     /// that each byte that is taken pays for one that is moved.
     pub fn consume(&mut self, n: usize)
         requires { n ≤ length self.old }

@@ -17,7 +17,7 @@ fn long_line(alloc: Global, len: usize) -> Result<Vec<u8>, AllocError> {
     Ok(line)
 }
 
-/// Whether it is a gats with exptime 60 that has so many keys left, and this one first if any.
+/// Returns whether it is a gats with exptime 60 that has so many keys left, and this one first if any.
 fn is_gats_60(peek: Peek<'_>, left: usize, first: &[u8]) -> bool {
     let Peek::Whole(command, 25) = peek else {
         return false;
@@ -53,7 +53,7 @@ fn pass_unit(feed: &mut Feed) -> Option<usize> {
     Some(len)
 }
 
-/// Pushes a piece. Says whether the feed was as before where that was refused, and pushes it then.
+/// Pushes a piece. Returns whether the feed was as before if that was refused, and pushes it then.
 fn push_at_last(feed: &mut Feed, piece: &[u8]) -> Result<bool, AllocError> {
     let held = feed.held();
     let found = len_of(feed.peek());
@@ -99,7 +99,7 @@ impl Source for Well {
     }
 }
 
-/// Takes a piece from a source. Says whether the feed and the source were as before where that was refused, and takes it
+/// Takes a piece from a source. Returns whether the feed and the source were as before if that was refused, and takes it
 /// then.
 fn take_at_last(feed: &mut Feed, well: &mut Well, room: usize) -> Result<bool, AllocError> {
     let held = feed.held();
@@ -112,7 +112,7 @@ fn take_at_last(feed: &mut Feed, well: &mut Well, room: usize) -> Result<bool, A
     Ok(is_same)
 }
 
-/// Takes up to `n` bytes away. Says whether what is left is this, and what is held at most twice as much.
+/// Takes up to `n` bytes away. Returns whether what is left is this, and what is held at most twice as much.
 fn consume_to(queue: &mut Queue<65536>, n: usize, left: &[u8]) -> bool {
     queue.consume(queue.len().min(n));
     queue.as_slice() == left && queue.len() == left.len() && queue.filled() <= 2 * left.len()
@@ -218,7 +218,7 @@ fn room_that_is_lent_again_is_kept(rt: HostRuntime) -> Result<(), AllocError> {
     Ok(())
 }
 
-/// Takes so many pieces of 16384 bytes of a text of 1048576. Says whether it lies where it lay.
+/// Takes so many pieces of 16384 bytes of a text of 1048576. Returns whether it lies where it lay.
 fn stays_for(queue: &mut Queue<65536>, pieces: usize) -> Result<bool, AllocError> {
     let reserved = queue.capacity();
     let mut well = Well { left: usize::MAX };

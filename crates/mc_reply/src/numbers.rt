@@ -56,6 +56,7 @@ impl Numbers {
         self.put_space();
     }
 
+    /// Puts a space before the text.
     fn put_space(&mut self)
         requires room { length self.old + 1 ≤ 65 }
         ensures { self.new ≡ codes " " ++ self.old }

@@ -72,7 +72,7 @@ pub(crate) fn write_found(
     result
 }
 
-/// Returns `END` where `at` is the last of `count`.
+/// Returns `END` if `at` is the last of `count`.
 fn end_of(count: usize, at: usize) -> &'static [u8]
     requires { at < count }
     ensures { result.now ≡ end_text count at }

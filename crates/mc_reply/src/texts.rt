@@ -10,7 +10,7 @@ use mc_command::{Bytes, Command, LineFault, Lone, Reply, is_quiet};
 use std::alloc::AllocError;
 
 /// Appends the text of the reply to step `at`, with `END` after the last key of a retrieval, and
-/// nothing where the command is quiet. It is refused only where the vector has no room for the
+/// nothing if the command is quiet. It is refused only if the vector has no room for the
 /// text, and leaves the vector unchanged then. A hit costs what finding its key costs, and the
 /// copying of the key and the block.
 pub fn write(
@@ -154,7 +154,7 @@ pub fn write_too_long(out: &mut Vec<u8>) -> Result<(), AllocError>
     out.extend_from_slice(b"CLIENT_ERROR line too long\r\n")
 }
 
-/// Appends the text of a step whose unique numbers are spent, and nothing where the command is
+/// Appends the text of a step whose unique numbers are spent, and nothing if the command is
 /// quiet. It is refused as `write` is.
 pub fn write_spent(command: &Command<'_>, out: &mut Vec<u8>) -> Result<(), AllocError>
     ensures ok { OnOk result (out.new.items ≡ out.old.items ++ spent_text command.now) }

@@ -8,7 +8,7 @@ use std::sync::{Arc, Wait};
 use std::time::{Clock, Duration, Instant};
 use std::{io, thread};
 
-/// How long it waits where the system has no room for a connection, in milliseconds.
+/// How long it waits if the system has no room for a connection, in milliseconds.
 const PAUSE: u64 = 10;
 
 /// For how long it waits until all connections are closed, in seconds.
@@ -43,9 +43,9 @@ enum Came {
     Stop(Stop),
 }
 
-/// A listener, with a descriptor that is let go where there are none left: the connection that waits
-/// is then accepted in its place and closed, and not left in the listener's queue, where each further
-/// accept would fail at once.
+/// A listener, with a descriptor that is let go if there are none left: the connection that waits
+/// is then accepted in its place and closed, and not left in the listener's queue, where each
+/// further accept would fail at once.
 #[derive(Drop)]
 struct Door {
     listener: TcpListener,
@@ -53,8 +53,8 @@ struct Door {
     crowd: Arc<Crowd>,
 }
 
-/// Accepts connections until the listener fails or the program is asked to end, and deals them to the workers
-/// turn about. One more than the crowd may have is told so, and closed. Where the
+/// Accepts connections until the listener fails or the program is asked to end, and deals them to
+/// the workers turn about. One more than the crowd may have is told so, and closed. When the
 /// program is asked to end, those that are open have 5 seconds at most to be closed.
 pub fn accept_all<R: Wait + Clock>(
     rt: &R,
@@ -69,8 +69,8 @@ pub fn accept_all<R: Wait + Clock>(
     arrivals.end();
 }
 
-/// Does the same at another listener, beside the one who accepts all there, and deals the first connection to
-/// the worker with this number. Where the program is asked to end it waits for nobody.
+/// Does the same at another listener, beside the one who accepts all there, and deals the first
+/// connection to the worker with this number. When the program is asked to end it waits for nobody.
 pub fn accept_beside<R: Wait + Clock>(
     rt: &R,
     listener: TcpListener,
@@ -110,7 +110,8 @@ impl Door {
         Stop::Failed
     }
 
-    /// Waits for the next connection. The one that comes where the program is asked to end is closed.
+    /// Waits for the next connection. The one that comes when the program is asked to end is
+    /// closed.
     fn accept<R: Clock>(&mut self, rt: &R, arrivals: &Arrivals) -> Came {
         let accepted = self.listener.accept();
         if arrivals.begins_to_close() {
@@ -129,7 +130,7 @@ impl Door {
         }
     }
 
-    /// Lets the spare descriptor go for the next connection, which is closed where there is still no
+    /// Lets the spare descriptor go for the next connection, which is closed if there is still no
     /// other.
     fn accept_by_spare(&mut self) -> Came {
         self.spare = None;
@@ -187,7 +188,7 @@ impl Door {
     }
 }
 
-/// Says whether it has waited for as long as it waits from this moment on, where that is known.
+/// Returns whether it has waited for as long as it waits from this moment on, if that is known.
 fn is_past<R: Clock>(rt: &R, began: Option<Instant>) -> bool {
     match began {
         Some(began) => match began.elapsed(rt) {
@@ -198,7 +199,7 @@ fn is_past<R: Clock>(rt: &R, began: Option<Instant>) -> bool {
     }
 }
 
-/// Says whether the system's error has one of these numbers.
+/// Returns whether the system's error has one of these numbers.
 fn is_one_of(error: &io::Error, numbers: &[i32]) -> bool {
     match error.raw_os_error() {
         Some(number) => numbers.contains(&number),

@@ -12,14 +12,14 @@ use std::time::{Clock, Duration, Instant};
 /// How long a worker rests at most, in milliseconds: what is to be done once a second is done in time.
 const REST: u64 = 500;
 
-/// The same where the program is about to end.
+/// The same when the program is about to end.
 const SHORT_REST: u64 = 20;
 
 /// How long a connection waits for a worker that is busy until another takes it, in milliseconds.
 const PATIENCE: u64 = 10;
 
-/// The same where the worker was called and the system doesn't let it run: it will soon, and where others
-/// took its connections meanwhile, they would have more to do than it from then on.
+/// The same when the worker was called and the system doesn't let it run: it will soon, and if
+/// others took its connections meanwhile, they would have more to do than it from then on.
 const LONG_PATIENCE: u64 = 250;
 
 /// What becomes of connections that come: they are accepted; they are, and whoever accepts is asked to
@@ -74,7 +74,7 @@ impl Inbox {
         Some(connection)
     }
 
-    /// Says whether one of the first so many waits.
+    /// Returns whether one of the first so many waits.
     fn has_of(&self, dealt: u64) -> bool {
         self.taken.load(Ordering::SeqCst) < dealt
     }
@@ -88,25 +88,25 @@ impl Inbox {
         }
     }
 
-    /// Says whether one waits.
+    /// Returns whether one waits.
     fn waits(&self) -> bool {
         self.has_of(self.dealt.load(Ordering::SeqCst))
     }
 
-    /// Calls the worker if it rests or is about to, and says whether it does.
+    /// Calls the worker if it rests or is about to, and returns whether it does.
     fn ring(&self) -> bool {
         let rests = self.rests.load(Ordering::SeqCst);
         if rests {
-            // where that fails the worker looks by itself, within its rest
+            // if that fails the worker looks by itself, within its rest
             let _ = self.waker.wake();
         }
         rests
     }
 }
 
-/// Connections that wait for a worker. They are dealt to the workers turn about. A worker takes those that
-/// were dealt to it, and, where one has waited too long since the worker that it was dealt to is busy,
-/// that one too.
+/// Connections that wait for a worker. They are dealt to the workers turn about. A worker takes
+/// those that were dealt to it, and, if one has waited too long since the worker that it was dealt
+/// to is busy, that one too.
 ///
 /// No call is lost: a worker tells that it rests before it looks for the last time whether one waits,
 /// and the acceptor looks who rests after it let one wait. A worker that doesn't rest looks in each
@@ -130,8 +130,8 @@ impl Arrivals {
         }
     }
 
-    /// Deals a connection to the worker whose turn it is, calls that one, or another one that rests where
-    /// it doesn't, and says whose turn is next.
+    /// Deals a connection to the worker whose turn it is, calls that one, or another one that rests
+    /// if it doesn't, and says whose turn is next.
     pub fn deal<R: Wait>(&self, rt: &R, connection: Connection, turn: usize) -> usize {
         let turn = if turn < self.inboxes.len() { turn } else { 0 };
         if let Some(inbox) = self.inboxes.get(turn) {
@@ -152,7 +152,7 @@ impl Arrivals {
         }
     }
 
-    /// Gives a connection that waits, where one was dealt to this worker, or has waited too long.
+    /// Gives a connection that waits, if one was dealt to this worker, or has waited too long.
     pub fn pop<R: Wait + Clock>(&self, rt: &R, share: &mut Share) -> Option<Connection> {
         let own = self.inboxes.get(share.worker)?;
         if own.waits() {
@@ -170,8 +170,8 @@ impl Arrivals {
         None
     }
 
-    /// Tells that a worker is about to rest, and says for how long it may: not at all where one waits
-    /// that was dealt to it, and shortly where others wait.
+    /// Tells that a worker is about to rest, and says for how long it may: not at all if one waits
+    /// that was dealt to it, and shortly if others wait.
     pub fn begin_rest<R: Clock>(&self, rt: &R, share: &mut Share) -> Duration {
         let Some(own) = self.inboxes.get(share.worker) else {
             return self.longest_rest();
@@ -201,7 +201,7 @@ impl Arrivals {
         }
     }
 
-    /// Says whether one that a worker saw waiting does so still.
+    /// Returns whether one that a worker saw waiting does so still.
     fn is_still_there(&self, seen: Option<Seen>) -> bool {
         match seen {
             Some(seen) => match self.inboxes.get(seen.worker) {
@@ -230,8 +230,8 @@ impl Arrivals {
         None
     }
 
-    /// Asks whoever accepts to stop, and returns whether that is so. Where nobody can be woken, all stays as
-    /// it was.
+    /// Asks whoever accepts to stop, and returns whether that is so. If nobody can be woken, all
+    /// stays as it was.
     pub fn ask_to_close(&self) -> bool {
         self.turn(OPEN, ASKED);
         self.wake_acceptors() || !self.turn(ASKED, OPEN)
@@ -256,8 +256,8 @@ impl Arrivals {
         self.call_all();
     }
 
-    /// Ends the calls in which those wait who accept, and all that they would make. Says whether that could
-    /// be done for one at least.
+    /// Ends the calls in which those wait who accept, and all that they would make. Returns whether
+    /// that could be done for one at least.
     fn wake_acceptors(&self) -> bool {
         let mut woken = false;
         for socket in &self.sockets {
@@ -316,7 +316,7 @@ struct Seen {
 }
 
 impl Seen {
-    /// Says whether they were seen so many milliseconds ago.
+    /// Returns whether they were seen so many milliseconds ago.
     fn is_past<R: Clock>(&self, rt: &R, patience: u64) -> bool {
         match self.since.elapsed(rt) {
             Ok(time) => time >= Duration::from_millis(patience),

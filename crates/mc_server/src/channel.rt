@@ -92,7 +92,7 @@ impl Channel {
         }
     }
 
-    /// Says whether nothing more is to be sent: it failed, or is to end.
+    /// Returns whether nothing more is to be sent: it failed, or is to end.
     pub fn is_over(&self) -> bool {
         self.faults > 0 || self.wire.readiness.get().ends.is_some()
     }
@@ -122,7 +122,7 @@ impl Wire {
         self.receive(piece, known)
     }
 
-    /// Reads into the piece where there may be something.
+    /// Reads into the piece, of a connection that may have something to read.
     fn receive(&mut self, piece: &mut [u8], known: Readiness) -> io::Result<usize>
         ensures { ReadsAtMost result piece.new }
     {
@@ -134,7 +134,7 @@ impl Wire {
             }
             Ok(count) => {
                 self.count(Counted::Received, count);
-                // where the other end has closed, its last bytes and the end came as one event
+                // if the other end has closed, its last bytes and the end came as one event
                 if count < wanted && !known.is_final && !known.is_marked {
                     self.readiness.set(Readiness {
                         reads: false,
@@ -211,8 +211,8 @@ impl Wire {
         self.counts.add(counted, bytes as u64);
     }
 
-    /// The error of a call that would block, after which the link is named at the next event. Where
-    /// the connection is to end, there is no next.
+    /// Returns `WouldBlock`, and has the link named at the next event; or `ConnectionAborted` if
+    /// the connection is to end.
     fn later(&mut self) -> io::Error {
         let known = self.readiness.get();
         if let Some(parting) = known.ends {
@@ -281,7 +281,7 @@ impl Link for Channel {
     }
 }
 
-/// Says whether a call would have had to wait.
+/// Returns whether a call would have had to wait.
 fn is_later(error: &io::Error) -> bool {
     error.kind() == ErrorKind::WouldBlock
 }

@@ -1,4 +1,4 @@
-//! How a worker's connections end where the program is asked to.
+//! How a worker's connections end when the program is asked to.
 
 use crate::arrivals::Arrivals;
 use crate::link::SocketLink;

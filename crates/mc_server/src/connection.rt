@@ -1,4 +1,4 @@
-//! Connections, which are counted while they are open, and told of where that is asked for.
+//! Connections, which are counted while they are open, and told of if that is asked for.
 
 use crate::lines::Line;
 use crate::logger::Log;
@@ -10,7 +10,7 @@ use std::net::SocketAddr;
 use std::sync::Arc;
 use std::sync::atomic::{AtomicU32, AtomicU64, Ordering};
 
-/// What is said to a connection where there are as many as there may be.
+/// What is said to a connection if there are as many as there may be.
 const TOO_MANY: &[u8] = b"ERROR Too many open connections\r\n";
 
 /// Why a connection is closed.
@@ -77,7 +77,7 @@ pub struct Crowd {
     accepted: AtomicU64,
     /// How many were closed for each reason.
     closed: [AtomicU64; PARTINGS],
-    /// Where each is told of; none where that isn't asked for.
+    /// Where each is told of; none if that isn't asked for.
     told: Option<Arc<Log>>,
 }
 
@@ -126,7 +126,7 @@ impl Crowd {
         number
     }
 
-    /// Counts a connection that is open, and says whether there were as many as there may be.
+    /// Counts a connection that is open, and returns whether it exceeds the limit of connections.
     fn open_one(&self) -> bool {
         self.open.fetch_add(1, Ordering::SeqCst) >= self.most
     }
@@ -168,7 +168,7 @@ impl Connection {
         }
     }
 
-    /// Says whether there were as many before it as there may be.
+    /// Returns whether it exceeds the limit of connections.
     pub fn is_one_too_many(&self) -> bool {
         matches!(self.parting, Parting::OneTooMany)
     }

@@ -69,7 +69,7 @@ impl Shortage {
         }
     }
 
-    /// Notes a step that was refused, and says whether it is to be told of.
+    /// Notes a step that was refused, and returns whether it is to be told of.
     pub fn note(&self, step: &KeyStep<'_>) -> bool {
         if self.word.load(Ordering::SeqCst) != NOTHING {
             return false;
@@ -125,8 +125,8 @@ pub struct Stock {
     pub account: Account,
 }
 
-/// That the store is full: what was wanted, where that is known, how many pages the store has in all, and how
-/// many an item may take.
+/// That the store is full: what was wanted, if that is known, how many pages the store has in all,
+/// and how many an item may take.
 #[derive(Clone, Copy)]
 pub struct Full {
     pub stock: Option<Stock>,

@@ -1,14 +1,14 @@
-//! Whose turn it is to be looked at, where connections may not be idle for ever.
+//! Whose turn it is to be looked at, if connections may not be idle for ever.
 
 use std::time::{Duration, Instant};
 
 /// How long it is at least from one look to the next, in milliseconds.
 const BETWEEN: u64 = 125;
 
-/// In which time each place is looked at once, in milliseconds, where the worker isn't held up.
+/// In which time each place is looked at once, in milliseconds, if the worker isn't held up.
 const ROUND: u64 = 1000;
 
-/// How many places one look takes at least, where there are as many.
+/// How many places one look takes at least, if there are as many.
 const LEAST: usize = 256;
 
 /// How long a connection may be idle, and which places were looked at. What a look costs is for the time
@@ -40,8 +40,8 @@ impl Watch {
         self.limit
     }
 
-    /// Says how many of so many places are to be looked at, at this moment: none shortly after the last
-    /// look, and all where that was a second ago or more.
+    /// Says how many of so many places are to be looked at, at this moment: none shortly after the
+    /// last look, and all if that was a second ago or more.
     pub fn due(&mut self, places: usize, now: Instant) -> usize {
         let time = match self.looked {
             Some(looked) => now.duration_since(looked),

@@ -60,7 +60,7 @@ impl Slot {
     }
 }
 
-/// Lines that wait to be written, so many at most: where there is no place for one it is dropped, and
+/// Lines that wait to be written, so many at most: if there is no place for one it is dropped, and
 /// counted. No call waits for another thread, so any may be made where a value is dropped.
 ///
 /// Who finds as many places taken as there are takes none. So at most as many turns are under way as
@@ -93,7 +93,7 @@ impl Lines {
         })
     }
 
-    /// Lets a line wait, or drops it where there is no place.
+    /// Lets a line wait, or drops it if there is no place.
     pub fn push(&self, line: Line) {
         let most = self.slots.len() as u64;
         if self.taken.fetch_add(1, Ordering::SeqCst) >= most {

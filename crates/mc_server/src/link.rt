@@ -7,8 +7,8 @@ use std::alloc::Global;
 use std::cell::RefCell;
 use std::rc::Rc;
 
-/// A link over a socket, for which output is gathered. Where it is dropped, what the system doesn't take at
-/// once of its output is left in the yard.
+/// A link over a socket, for which output is gathered. When it is dropped, what the system doesn't
+/// take at once of its output is left in the yard.
 pub struct SocketLink {
     gathering: Gathering<Channel>,
     place: usize,
@@ -56,7 +56,7 @@ impl Link for SocketLink {
 impl Drop for SocketLink {
     fn drop(mut self) {
         if self.gathering.faults() == 0 {
-            // where that fails, nobody reads any more
+            // if that fails, nobody reads any more
             let _ = self.gathering.flush();
         }
         let SocketLink {

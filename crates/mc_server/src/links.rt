@@ -23,8 +23,9 @@ pub const WAKER: Token = Token(0);
 /// How many events one poll tells at most.
 pub const EVENTS: usize = 1024;
 
-/// After how many rounds the system is asked for events, where there is always something to do.
-const ROUNDS: u32 = 16;
+/// After how many questions for a link the system is asked for events, if there is always something to
+/// do. A worker asks once between two rounds, and once more behind each link that comes.
+const ASKED: u32 = 16;
 
 /// After how many bytes that were moved it is asked for them too.
 const MOVED: usize = 262_144;
@@ -83,9 +84,9 @@ pub struct SocketLinks<'a, R: Wait + Clock> {
     named: VecDeque<u64>,
     /// How many links were handed out.
     given: u64,
-    /// How many rounds went by since the system was asked for events.
-    rounds: u32,
-    /// Looks for connections that are idle; none where they may be for ever.
+    /// How often a link was asked for since the system was asked for events.
+    asked: u32,
+    /// Looks for connections that are idle; none if they may be for ever.
     watch: Option<Watch>,
     counts: Arc<Counts>,
 }
@@ -112,7 +113,7 @@ impl<'a, R: Wait + Clock> SocketLinks<'a, R> {
             common: None,
             named: VecDeque::new(alloc),
             given: 0,
-            rounds: 0,
+            asked: 0,
             watch: None,
             counts,
         }
@@ -125,7 +126,7 @@ impl<'a, R: Wait + Clock> SocketLinks<'a, R> {
 
     /// Asks the system for events, and waits so long for the first.
     fn wait_for_events(&mut self, timeout: Duration) {
-        self.rounds = 0;
+        self.asked = 0;
         if let Some(common) = &self.common {
             common.moved.set(0);
         }
@@ -145,8 +146,8 @@ impl<'a, R: Wait + Clock> SocketLinks<'a, R> {
         }
     }
 
-    /// Notes what the events say, and counts them. Where there are fewer than one poll may tell, there were
-    /// no others.
+    /// Notes what the events say, and counts them. If there are fewer than one poll may tell, there
+    /// were no others.
     fn note_events(&mut self) -> usize {
         let mut told = 0usize;
         for event in &self.events {
@@ -188,7 +189,7 @@ impl<'a, R: Wait + Clock> SocketLinks<'a, R> {
     /// closed.
     fn open(&mut self, connection: Connection) -> Option<SocketLink> {
         let mut connection = connection;
-        // an answer is sent at once; where that can't be set it comes later
+        // an answer is sent at once; if that can't be set it comes later
         let _ = connection.stream.set_nodelay(true);
         let readiness = Rc::new(self.alloc, Cell::new(Readiness::NEW)).ok()?;
         let counts = self.counts.clone().ok()?;
@@ -242,13 +243,13 @@ impl<'a, R: Wait + Clock> SocketLinks<'a, R> {
         Some(common)
     }
 
-    /// Says whether it is time to ask the system for events.
+    /// Returns whether it is time to ask the system for events.
     fn is_due(&self) -> bool {
         let moved = match &self.common {
             Some(common) => common.moved.get(),
             None => 0,
         };
-        self.rounds >= ROUNDS || moved >= MOVED
+        self.asked >= ASKED || moved >= MOVED
     }
 
     /// Ends all connections.
@@ -261,7 +262,7 @@ impl<'a, R: Wait + Clock> SocketLinks<'a, R> {
 
 impl<'a, R: Wait + Clock> Links<SocketLink> for SocketLinks<'a, R> {
     fn next(&mut self) -> Next<SocketLink> {
-        self.rounds = self.rounds.saturating_add(1);
+        self.asked = self.asked.saturating_add(1);
         if self.is_due() {
             self.wait_for_events(Duration::ZERO);
         }

@@ -73,10 +73,10 @@ const LARGE: usize = 5_242_880;
 /// The name of the thread that writes to standard error.
 const LOGGER: &str = "logger";
 
-/// Listens at the endpoints of the options, and serves the connections, so many at once, by so
-/// many workers over one store, by the clock that is asked for, until a listener fails or, where that may
-/// be, it is asked to end; where scrapes are to be answered it does that, too. It ends at once where it can't
-/// listen at one of them, or memory runs out.
+/// Listens at the endpoints of the options, and serves the connections, so many at once, by so many
+/// workers over one store, by the clock that is asked for, until a listener fails or, if that may
+/// be, it is asked to end; if scrapes are to be answered it does that, too. It ends at once if it
+/// can't listen at one of them, or memory runs out.
 pub fn listen<R, S>(rt: &R, stderr: Stderr, options: Options, clock: &AskedClock<S>) -> End
 where
     R: Net + Files + AllocGlobal + Wait + Threads + time::Clock + Sync,
@@ -154,8 +154,8 @@ where
     }
 }
 
-/// Has no connections yet, of which the log is told where that is asked for. The one error is a refused
-/// allocation.
+/// Has no connections yet, of which the log is told if that is asked for. The one error is a
+/// refused allocation.
 fn crowd_of(alloc: Global, options: &Options, log: &Arc<Log>) -> Result<Arc<Crowd>, AllocError> {
     let told = if options.verbose {
         Some(log.clone().map_err(|_| AllocError)?)

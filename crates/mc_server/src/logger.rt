@@ -27,12 +27,12 @@ const QUIET: u64 = 60;
 pub struct Notice<'a> {
     pub stderr: Stderr,
     pub options: &'a Options,
-    /// How many descriptors it may have, where the system tells.
+    /// How many descriptors it may have, if the system tells.
     pub descriptors: Option<u64>,
 }
 
-/// What the threads that serve have to say, and what calls the one that writes it. That one alone waits
-/// where standard error takes nothing.
+/// What the threads that serve have to say, and what calls the one that writes it. That one alone
+/// waits if standard error takes nothing.
 #[derive(Drop)]
 pub struct Log {
     lines: Lines,
@@ -66,13 +66,13 @@ impl Log {
         self.logger.unpark();
     }
 
-    /// Has a line written, or dropped where too many wait. It doesn't wait.
+    /// Has a line written, or dropped if too many wait. It doesn't wait.
     pub fn say(&self, line: Line) {
         self.lines.push(line);
         self.logger.unpark();
     }
 
-    /// Notes a step that was refused as no chunk is left, and has that told where it is the first in a
+    /// Notes a step that was refused as no chunk is left, and has that told if it is the first in a
     /// while.
     pub fn note_refused(&self, step: &KeyStep<'_>) {
         if self.shortage.note(step) {
@@ -81,8 +81,9 @@ impl Log {
     }
 }
 
-/// Says that it serves, and then what the log is given, until nobody has anything more to say. It sleeps
-/// where there is nothing, and a minute after it said that the store is full it wakes once by itself.
+/// Says that it serves, and then what the log is given, until nobody has anything more to say. It
+/// sleeps if there is nothing, and a minute after it said that the store is full it wakes once by
+/// itself.
 pub fn write_lines<R: Wait + Clock>(rt: &R, log: &Log, notice: Notice<'_>, asker: Asker<'_>) {
     let mut logger = Logger {
         log,
@@ -117,13 +118,13 @@ struct Logger<'a> {
     asker: Asker<'a>,
     /// Which line is the next.
     turn: u64,
-    /// When it said that the store is full; nothing where it may say so.
+    /// When it said that the store is full; nothing if it may say so.
     told_full: Option<Instant>,
 }
 
 impl Logger<'_> {
-    /// Writes the next line, behind what was dropped before it, and says whether there was one. One that
-    /// can't be written is dropped.
+    /// Writes the next line, behind what was dropped before it, and returns whether there was one.
+    /// One that can't be written is dropped.
     fn write_next(&mut self) -> bool {
         let (log, turn) = (self.log, self.turn);
         let Some(Waiting { line, dropped }) = log.lines.take(turn) else {
@@ -138,7 +139,7 @@ impl Logger<'_> {
         true
     }
 
-    /// Says how many lines were dropped, where some were.
+    /// Says how many lines were dropped, if some were.
     fn tell_dropped(&self, count: u64) {
         let stderr = self.stderr;
         if count > 0 {
@@ -148,7 +149,7 @@ impl Logger<'_> {
         }
     }
 
-    /// Says that the store is full, where a step was refused for that which is to be told of.
+    /// Says that the store is full, if a step was refused for that which is to be told of.
     fn tell_full<R: Wait + Clock>(&mut self, rt: &R) {
         let Some(asked) = self.log.shortage.take() else {
             return;
@@ -163,7 +164,7 @@ impl Logger<'_> {
         let _ = eprintln!(stderr; "mcserver: full: {full} (told once a minute)");
     }
 
-    /// Gives what the class has that a chunk was asked of, where that is known.
+    /// Gives what the class has that a chunk was asked of, if that is known.
     fn stock<R: Wait>(&mut self, rt: &R, asked: Asked) -> Option<Stock> {
         let need = match asked {
             Asked::Size(size) => need_of(size)?,
@@ -193,7 +194,7 @@ impl Logger<'_> {
     }
 }
 
-/// Gives how many pages an item of so many bytes takes at most, 1 where it is less than one.
+/// Gives how many pages an item of so many bytes takes at most, 1 if it is less than one.
 fn pages_of(bytes: u64) -> u32 {
     match need_of(bytes) {
         Some(need) => need.count(),
@@ -214,7 +215,7 @@ fn written(stderr: Stderr, line: Line) -> io::Result<()> {
     }
 }
 
-/// Warns on standard error where others than this machine can reach the address.
+/// Warns on standard error if others than this machine can reach the address.
 fn warn(stderr: Stderr, address: IpAddr) {
     if !address.to_canonical().is_loopback() {
         let _ = eprintln!(stderr;
@@ -223,8 +224,8 @@ fn warn(stderr: Stderr, address: IpAddr) {
     }
 }
 
-/// Says on standard error where it listens, and what it has; and warns where others than this machine can
-/// reach it, and where more connections are asked for than there can be descriptors.
+/// Says on standard error where it listens, and what it has; and warns if others than this machine
+/// can reach it, and if more connections are asked for than there can be descriptors.
 fn say(notice: Notice<'_>) {
     let Notice {
         stderr,
@@ -235,7 +236,7 @@ fn say(notice: Notice<'_>) {
     let pages = options.settings.pages;
     let Endpoints { first, others } = &options.endpoints;
     let places = &options.endpoints;
-    // where standard error is closed it serves all the same
+    // if standard error is closed it serves all the same
     let _ = eprintln!(stderr; "mcserver: listening on {places}, {pages} pages, {workers} workers");
     warn(stderr, first.address);
     for other in others {

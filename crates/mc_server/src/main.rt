@@ -1,4 +1,26 @@
 //! `mcserver`: a cache server that speaks memcached's text protocol.
+//!
+//! What a client is told is decided and proved in the crates below: the grammar in `mc_parse`, the
+//! protocol's table in `mc_command`, the store for many threads in `mc_shared`, the loop of a
+//! worker in `mc_workers`. This crate joins them to a process with sockets and threads. With
+//! `--stdin` it serves one session over standard input and output (`serving.rt`); else it listens
+//! (`listening.rt`).
+//!
+//! A connection goes this way: accepted and counted (`accepting.rt`, `connection.rt`), dealt to a
+//! worker (`arrivals.rt`), made a link (`links.rt`, `link.rt`) over a socket that never blocks
+//! (`channel.rt`), whose events wake its guest (`place.rt`, `idle.rt`); what isn't sent when its
+//! session ends is sent later (`yard.rt`). Each listener has a thread that accepts, the first one
+//! the program's own; each worker has one (`asker.rt`); and one writes to standard error, so that
+//! none of the others waits for that (`logger.rt`, `lines.rt`); with `--metrics` one answers
+//! scrapes (`metrics/scrape.rt`). `closing.rt` is how all of it ends when it is asked to.
+//!
+//! Nobody can know a socket's bytes, nor when a thread runs, so contracts say here what a program
+//! can promise all the same: that a socket is a link as `mc_workers` asks for one; that `run` does
+//! what the options say, and with `--stdin` serves a session of a new world; that a step counts as
+//! a table says; and that the status is that of the end. The rest is tested over sockets
+//! (tests/sockets), and docs/PROMISES.md says which is which.
+//!
+//! Begin with `running.rt`, `serving.rt` and `listening.rt`.
 #![tactic(auto)]
 
 ghost use Rattle.std.specs.Prelude.{◌≡◌};
@@ -79,7 +101,7 @@ fn said(rt: &HostRuntime, end: &End) -> ExitCode
     ensures { exit_status result ≡ status_of end.now }
 {
     let (status, text) = end.ending();
-    // where standard error is closed too, the status alone tells
+    // if standard error is closed too, the status alone tells
     let _ = if let End::CannotListen(refusal) = end {
         let Refusal { endpoint, why } = *refusal;
         let reason = why.reason();

@@ -14,7 +14,7 @@ pub struct Place {
     /// The number by which it is named.
     number: u64,
     readiness: Rc<Cell<Readiness>>,
-    /// When it was first seen to wait, since the last event; nothing where nobody looked.
+    /// When it was first seen to wait, since the last event; nothing if nobody looked.
     waits_since: Option<Instant>,
 }
 
@@ -28,12 +28,13 @@ impl Place {
         }
     }
 
-    /// Says whether it is the place of the link with this number.
+    /// Returns whether it is the place of the link with this number.
     pub fn is_of(&self, number: u64) -> bool {
         self.number == number
     }
 
-    /// Notes what an event says of the link, and names it where it waits. Says whether the link is gone.
+    /// Notes what an event says of the link, and names it if it waits. Returns whether the link is
+    /// gone.
     pub fn note(&mut self, event: &Event, named: &mut VecDeque<u64>) -> bool {
         self.waits_since = None;
         let known = self.readiness.get();
@@ -53,7 +54,7 @@ impl Place {
         known.leaves
     }
 
-    /// Lets the connection end, for this, and names its link. Says whether the link is gone.
+    /// Lets the connection end, for this, and names its link. Returns whether the link is gone.
     pub fn end(&mut self, parting: Parting, named: &mut VecDeque<u64>) -> bool {
         self.waits_since = None;
         let known = self.readiness.get();
@@ -66,8 +67,8 @@ impl Place {
         known.leaves
     }
 
-    /// Says whether it was first seen to wait so long before the one moment, with no event since. Where it
-    /// waits and wasn't seen to before, it is seen now.
+    /// Returns whether it was first seen to wait so long before the one moment, with no event
+    /// since. If it waits and wasn't seen to before, it is seen now.
     pub fn has_waited(&mut self, limit: Duration, before: Instant, now: Instant) -> bool {
         if !self.readiness.get().waits {
             return false;

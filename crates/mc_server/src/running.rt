@@ -17,9 +17,10 @@ use std::sync::Wait;
 use std::thread::Threads;
 use std::time;
 
-/// Does what the command line asks for: with `--stdin` it serves one session over the reader and the
-/// writer, by the clock that is asked for; without, it listens at the endpoints by that clock,
-/// answers scrapes where that is asked for, and ends where it may be asked to and is, and neither reads nor writes here.
+/// Does what the command line asks for: with `--stdin` it serves one session over the reader and
+/// the writer, by the clock that is asked for; without, it listens at the endpoints by that clock,
+/// answers scrapes if that is asked for, and ends if it may be asked to and is, and neither reads
+/// nor writes here.
 pub fn run<H, R, W>(rt: &H, stderr: Stderr, options: Options, reader: &mut R, writer: &mut W) -> End
 where
     H: Net + Files + AllocGlobal + Wait + Threads + time::Clock + Sync,

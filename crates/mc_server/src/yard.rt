@@ -27,8 +27,8 @@ impl Yard {
         self.free.pop()
     }
 
-    /// Takes what is gathered for the channel of a link that is gone, and closes it where there is nothing
-    /// more to do, or no memory. Without memory the place may not be used again.
+    /// Takes what is gathered for the channel of a link that is gone, and closes it if there is
+    /// nothing more to do, or no memory. Without memory the place may not be used again.
     pub fn take_in(&mut self, place: usize, gathering: Gathering<Channel>) {
         if is_done(&gathering) {
             drop(gathering);
@@ -41,8 +41,8 @@ impl Yard {
         }
     }
 
-    /// Sends what the link at this place has left, where there may be room, and closes the connection where
-    /// all was sent, nothing is read any more, or it is to end.
+    /// Sends what the link at this place has left, if there may be room, and closes the connection
+    /// if all was sent, nothing is read any more, or it is to end.
     pub fn send_rest(&mut self, place: usize) {
         if self.is_done_sending(place) {
             let _ = self.leaving.remove(&place);
@@ -50,8 +50,8 @@ impl Yard {
         }
     }
 
-    /// Sends what is left of one, and says whether that was all that there is to do. Where none is leaving
-    /// there is nothing to do.
+    /// Sends what is left of one, and returns whether that was all that there is to do: not if none
+    /// is leaving at this place.
     fn is_done_sending(&mut self, place: usize) -> bool {
         let Some(gathering) = self.leaving.get_mut(&place) else {
             return false;
@@ -61,7 +61,7 @@ impl Yard {
     }
 }
 
-/// Says whether there is nothing more to do: all was sent, or the channel failed or is to end.
+/// Returns whether there is nothing more to do: all was sent, or the channel failed or is to end.
 fn is_done(gathering: &Gathering<Channel>) -> bool {
     gathering.is_empty() || gathering.link().is_over()
 }

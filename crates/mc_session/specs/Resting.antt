@@ -7,6 +7,6 @@ use Rattle.mc_parse.specs.Queues.{first_piece, kept_in_feed}
 abbrev pub resting : ℕ
 resting = first_piece + first_piece
 
--- how many it keeps at most for these two where there is neither, whatever is to come
+-- how many it keeps at most for these two if there is neither, whatever is to come
 abbrev pub kept_empty : ℕ
 kept_empty = kept_in_feed + 131072

@@ -28,7 +28,7 @@ module _ {E S : Type 0} (relations : Relations E S) (may_give : ℕ → Type 0) 
     pub goes : (most : ℕ) (first : Scene E S) → Exchanges relations may_give most first old
         → Exchanges relations may_give (most + 1) first new
 
-  -- the same where the round was refused memory
+  -- the same if the round was refused memory
   pub record IsRefused (old new : Scene E S) : Type 0 where
     pub goes : (most : ℕ) (first : Scene E S) → most < 2 ^ 40
         → Exchanges relations may_give most first old → FallsShort relations may_give first new

@@ -76,7 +76,7 @@ closed s = record (opened s.unread.greatest) { out = s.out; is_open = false }
 abbrev pub fed : SessionState → List ℕ → SessionState
 fed s piece = if s.is_open then record s { unread = pushed s.unread piece } else s
 
--- the session was fed a piece, and is as it was where the piece has no bytes
+-- the session was fed a piece, and is as it was if the piece has no bytes
 abbrev pub FedPiece : (old new : SessionState) → List ℕ → Type 0
 FedPiece old new piece = (new ≡ fed old piece) × (piece ≡ [] → new ≡ old)
 

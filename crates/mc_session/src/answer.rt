@@ -17,7 +17,7 @@ use mc_parse::Peek;
 use mc_time::Moment;
 use std::alloc::Global;
 
-/// Takes the first turn of what was found, and appends its text. Does nothing where nothing was
+/// Takes the first turn of what was found, and appends its text. Does nothing if nothing was
 /// found. Refused, the output is as it was, and the fault tells whether the step stands in the
 /// store.
 pub fn answer<S: Steps>(

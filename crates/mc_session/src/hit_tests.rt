@@ -87,7 +87,7 @@ fn tell<A: Answer>(reply: &Reply, telling: Telling, answer: &mut A) -> Result<()
     }
 }
 
-/// Tells a hit, with a block that is cut in three where it lies in parts: the middle one is empty.
+/// Tells a hit, with a block that is cut in three if it lies in parts: the middle one is empty.
 fn tell_hit<A: Answer>(
     flags: u32,
     unique: u64,
@@ -164,7 +164,7 @@ fn session_is_told(
     is_told(rt, alloc, &mut store, input, output)
 }
 
-/// Sessions are answered as from replies, where hits are told so.
+/// Sessions are answered as from replies, if hits are told so.
 fn sessions_are_told(rt: &impl Abort, alloc: Global, telling: Telling) -> Result<(), TurnFault> {
     for (input, output) in &SESSIONS {
         if session_is_told(rt, alloc, telling, input, output).is_err() {
@@ -184,7 +184,7 @@ fn sessions_are_answered_from_parts_as_from_replies(rt: HostRuntime) -> Result<(
     Ok(sessions_are_told(&rt, rt.alloc(), Telling::InParts)?)
 }
 
-/// A hit is asked for behind another turn. Where its text is refused memory the session closes with
+/// A hit is asked for behind another turn. If its text is refused memory the session closes with
 /// the text of the other, nothing is decided, and the store answers another session as before.
 fn hit_is_told(rt: &impl Abort, alloc: Global, telling: Telling) -> Result<(), TurnFault> {
     let mut store = new_store(alloc, Telling::Whole)?;

@@ -18,7 +18,7 @@ const TURNS: u64 = 1 << 40;
 /// The most bytes that are read at once.
 const PIECE: usize = 16384;
 
-/// Where so many bytes of output wait, they are written before the next turn.
+/// Once so many bytes of output wait, they are written before the next turn.
 pub const WRITE_AT: usize = 65536;
 
 /// Makes a buffer for pieces of 16384 bytes. The one fault is want of memory.
@@ -37,8 +37,8 @@ pub fn piece_buffer(alloc: Global) -> Result<Vec<u8>, ServeFault>
 /// no turn is due, and before a turn once `WRITE_AT` bytes of it wait. At the end some of it may
 /// still be waiting.
 ///
-/// It fails with `Read` where the reader fails and after 2^40 turns, with `Write` where the writer
-/// fails or takes nothing, and with `NoMemory` where memory is refused for a piece or for a turn.
+/// It fails with `Read` if the reader fails and after 2^40 turns, with `Write` if the writer
+/// fails or takes nothing, and with `NoMemory` if memory is refused for a piece or for a turn.
 pub fn serve_endpoint<R: Read, W: Write, S, E: Endpoint<S>, C: Clock>(
     alloc: Global,
     reader: &mut R,
@@ -105,7 +105,7 @@ fn round<R: Read, W: Write, S, E: Endpoint<S>, C: Clock>(
     }
 }
 
-/// Writes the output, where `WRITE_AT` bytes or more of it wait. At a failure what was not written
+/// Writes the output, if `WRITE_AT` bytes or more of it wait. At a failure what was not written
 /// is left.
 fn write_much<W: Write, S, E: Endpoint<S>>(
     writer: &mut W,
@@ -124,14 +124,14 @@ fn write_much<W: Write, S, E: Endpoint<S>>(
     }
 }
 
-/// Says whether so much output is waiting that it is written before the next turn.
+/// Returns whether the output must be written before the next turn.
 fn is_full<S, E: Endpoint<S>>(endpoint: &E, store: &S) -> bool
     ensures { IsFalse result → length (E.waits endpoint.now store.now) < WRITE_AT }
 {
     endpoint.output(store).len() >= WRITE_AT
 }
 
-/// Writes an endpoint's output. It fails with `Write` where the writer fails or takes nothing; then
+/// Writes an endpoint's output. It fails with `Write` if the writer fails or takes nothing; then
 /// what was not written is left. A write that was interrupted is tried again.
 pub fn write_out<W: Write, S, E: Endpoint<S>>(
     writer: &mut W,

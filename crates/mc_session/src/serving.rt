@@ -27,8 +27,8 @@ pub enum ServeFault {
 /// until the input ends or the session closes. The output is written when no turn is due, at the
 /// end, and once `WRITE_AT` bytes of it wait.
 ///
-/// It fails with `Read` where the reader fails and after 2^40 calls of `Session::turn`, with
-/// `Write` where the writer fails or takes nothing, and with `NoMemory` where memory is refused for
+/// It fails with `Read` if the reader fails and after 2^40 calls of `Session::turn`, with
+/// `Write` if the writer fails or takes nothing, and with `NoMemory` if memory is refused for
 /// the buffer, for a piece or for a turn. A failure leaves a beginning of the run: what was read is
 /// answered by what was written and by output that is dropped.
 pub fn serve<R: Read, W: Write, S: Steps, C: Clock>(

@@ -91,7 +91,7 @@ impl Session {
         }
     }
 
-    /// Takes the next piece of the stream, and none of it where the session is closed. Refused, the
+    /// Takes the next piece of the stream, and none of it if the session is closed. Refused, the
     /// session is as it was.
     pub fn feed(&mut self, piece: &[u8]) -> Result<(), AllocError>
         ensures ok { OnOk result (self.new ≡ fed self.old piece.now) }
@@ -136,7 +136,7 @@ impl Session {
         ensures closed { result ≡ Ok Turn.Closed →
             FindsClosed self.old self.new store.old store.new }
         ensures err { OnErr result (self.new ≡ closed self.old) }
-        // Memory runs out only where a turn is due.
+        // Memory runs out only if a turn is due.
         ensures due { OnErr result (TurnIsDue self.old) }
         // What was not decided left the store with what it held; what was decided is the step of
         // the turn, whose text alone is missing.
@@ -215,8 +215,8 @@ impl Session {
         self.out.filled()
     }
 
-    /// Counts the bytes of memory that are reserved for what is unread and for the output, filled or
-    /// not: at most 196608 where there is neither.
+    /// Counts the bytes of memory that are reserved for what is unread and for the output, filled
+    /// or not: at most 196608 if there is neither.
     pub fn reserved(&self) -> usize
         ensures unread { length self.now.unread.bytes ≤ result }
         ensures out { length self.now.out ≤ result }
@@ -225,7 +225,7 @@ impl Session {
         self.feed.reserved().saturating_add(self.out.capacity())
     }
 
-    /// Gives back the memory that is kept beyond that of two first pieces, where nothing is unread
+    /// Gives back the memory that is kept beyond that of two first pieces, if nothing is unread
     /// and no output waits, and counts the bytes that are reserved then.
     pub fn rest(&mut self) -> usize
         ensures same { self.new ≡ self.old }
@@ -235,7 +235,7 @@ impl Session {
         unread.saturating_add(self.out.rest())
     }
 
-    /// Counts the bytes of the unit that the unread bytes begin with, where its line announces a
+    /// Counts the bytes of the unit that the unread bytes begin with, if its line announces a
     /// block, whether or not they came; else none.
     pub fn announced(&self) -> usize
         ensures { self.now.unread.bytes ≡ [] → result ≡ 0 }
@@ -243,7 +243,7 @@ impl Session {
         self.feed.announced()
     }
 
-    /// Lends the key of the next turn, where that is one of a retrieval.
+    /// Lends the key of the next turn, if that is one of a retrieval.
     pub fn key(&self) -> Option<&[u8]>
         ensures none { NoTurnDue self.now → result ≡ None }
         ensures short { IfSome result (λ key. length key.now ≤ longest_key) }
@@ -262,7 +262,7 @@ impl Session {
     }
 
     /// Drops the first `n` bytes of the output, which were written. What is left is moved only
-    /// where it is no longer than what was written, so that each byte that is written pays for one
+    /// if it is no longer than what was written, so that each byte that is written pays for one
     /// that is moved.
     pub fn sent(&mut self, n: usize)
         requires { n ≤ length self.old.out }
@@ -294,7 +294,7 @@ fn key_of<'a>(command: &Command<'a>) -> Option<&'a [u8]>
     }
 }
 
-/// Says whether a peek found nothing.
+/// Returns whether a peek found nothing.
 fn is_more(found: &Peek<'_>) -> bool
     ensures { IsTrue result ↔ (unit_of found.now ≡ None) }
 {

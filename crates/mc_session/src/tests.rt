@@ -45,7 +45,7 @@ fn run(
     Ok((ended, writer.into_taken()))
 }
 
-/// The same where a growth may be refused before the run: at most one is in a test.
+/// The same if a growth may be refused before the run: at most one is in a test.
 fn run_once(
     alloc: Global,
     input: &[u8],
@@ -58,7 +58,7 @@ fn run_once(
     run(alloc, input, reads, writes)
 }
 
-/// What a run that is well writes. Where a growth was refused, what was written is a beginning of
+/// What a run that is well writes. If a growth was refused, what was written is a beginning of
 /// that.
 fn written(rt: &impl Abort, alloc: Global, input: &[u8]) -> Result<Vec<u8>, Fail> {
     let (ended, part) = run_once(alloc, input, NEVER, NEVER)?;
@@ -323,7 +323,7 @@ fn asks(
     Ok(())
 }
 
-/// Takes a step behind another turn. Where its turn is refused the session closes with the text of
+/// Takes a step behind another turn. If its turn is refused the session closes with the text of
 /// the other, and the step stands exactly where the fault says so. An error is a growth that was
 /// refused elsewhere.
 fn step_is_taken(

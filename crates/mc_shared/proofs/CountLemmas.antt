@@ -1,5 +1,6 @@
 -- The keys of each number are counted, shelf by shelf.
-use Rattle.std.proofs.Common.{◌≡◌, ◌≢◌, ℕ, zero, suc, ◌+◌, ◌*◌, ◌/◌, ◌%◌, ◌≤◌, ◌<◌, List, [], ◌∷◌, length, Some, get_or, slice_get, slice_index, set, replicate, refl, sym, ap, ◌∙◌, subst, arith, mod-lt, div-add-mod', ◌==◌, get_or-set_same, get_or-set_other}
+use Rattle.std.proofs.Common.{◌≡◌, ◌≢◌, ℕ, zero, suc, ◌+◌, ◌*◌, ◌/◌, ◌%◌, ◌≤◌, ◌<◌, List, [], ◌∷◌, length, Some, get_or}
+use Rattle.std.proofs.Common.{slice_get, slice_index, set, replicate, refl, sym, ap, ◌∙◌, subst, arith, mod-lt, div-add-mod', ◌==◌, get_or-set_same, get_or-set_other}
 use Rattle.std.proofs.lemmas.Nat.{same_from_place, mul-add-lt, div_below, mod_below}
 use Rattle.std.proofs.lemmas.Option.{none-some}
 use mathlib.Core.Logic.{dite}

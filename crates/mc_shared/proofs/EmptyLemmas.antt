@@ -1,5 +1,6 @@
 -- Shelves to whose places others of no items came are the parts of the state that a flush at once leaves.
-use Rattle.std.proofs.Common.{◌≡◌, ◌≢◌, ◌≤◌, ◌<◌, ℕ, zero, suc, ◌+◌, ◌-◌, List, [], ◌∷◌, ◌++◌, length, length-set, get_or, take, Some, None, slice_get, slice_set, refl, sym, ap, subst, ◌∙◌, arith, ⊎_elim}
+use Rattle.std.proofs.Common.{◌≡◌, ◌≢◌, ◌≤◌, ◌<◌, ℕ, zero, suc, ◌+◌, ◌-◌, List, [], ◌∷◌, ◌++◌, length, length-set}
+use Rattle.std.proofs.Common.{get_or, take, Some, None, slice_get, slice_set, refl, sym, ap, subst, ◌∙◌, arith, ⊎_elim}
 use Rattle.std.proofs.lemmas.List.{get_or-replicate, take_more}
 use Rattle.std.proofs.lemmas.Option.{get_or_from_slice_get, none-some, slice_get_within}
 use Rattle.std.specs.Prelude.{Option, option_to_list}
@@ -52,7 +53,8 @@ pub record AreEmptiedTo (old : List ShelfState) (at : ℕ) (new aside : List She
 pub emptied_none : (old : List ShelfState) {aside : List ShelfState} → aside ≡ [] → AreEmptiedTo old 0 old aside
 emptied_none old is = record { number = refl; gone = λ k shelf less there. absurd (omega (arith, less)); still = λ k from. refl; aside_is = is }
 
-pub emptied_more : {old : List ShelfState} {at : ℕ} {new aside : List ShelfState} → AreEmptiedTo old at new aside → {was : ShelfState} (bare : ShelfState) {more : List ShelfState} → slice_get new at ≡ Some was
+pub emptied_more : {old : List ShelfState} {at : ℕ} {new aside : List ShelfState} → AreEmptiedTo old at new aside
+    → {was : ShelfState} (bare : ShelfState) {more : List ShelfState} → slice_get new at ≡ Some was
     → bare.content ≡ nothing_held was.content.greatest → more ≡ aside ++ was ∷ [] → AreEmptiedTo old (at + 1) (slice_set new at bare) more
 emptied_more {old} {at} {new} {aside} to {was} bare {more} here holds more_is =
     let there : slice_get old at ≡ Some was = sym (to.still at (omega arith)) ∙ here in

@@ -34,9 +34,9 @@ still_of (Purged at moment shelf before) = (at, OfShelf shelf.now.content) ∷ [
 still_of (NoneDead at moment) = []
 still_of (Flushed delay moment shelves before) = stacked shelves.now.items
 
--- the words that show too many from then on: that of the step's number, as often as the shelf counted
--- more items than it has when the step is finished; and where many went, each number's, as often as
--- more of it were counted than are left
+-- the words that show too many from then on: that of the step's number, as often as the shelf
+-- counted more items than it has when the step is finished; and if many went, each number's, as
+-- often as more of it were counted than are left
 abbrev pub surplus_of : Beginning → Decision → List ℕ
 surplus_of start (Settled step moment reply) = []
 surplus_of start (Read step moment shelf) = []

@@ -155,7 +155,7 @@ pub record ReadsWrite (began : Beginning) (log : List HistoryEntry) (now : ℕ) 
       ⊎ ((other : HistoryEntry) × StandsIn places.between other
       × MayChange began (key_of step) other.what)
 
--- a step that, where it is answered Stored, stores an item as it was given: a set, an add, a replace
+-- a step that, if it is answered Stored, stores an item as it was given: a set, an add, a replace
 -- or a cas
 abbrev pub StoresAsGiven : KeyStep → (now : ℕ) → Type 0
 StoresAsGiven step now = (unique : ℕ) → (item : Item) × (item_given step now unique ≡ Some item)
@@ -199,7 +199,7 @@ IsHit key found (Stepped (Read other) now reply) = (other ≡ key) × (reply ≡
 IsHit key found (Stepped (ReadTouch other exptime) now reply) = (other ≡ key) × (reply ≡ hit found)
 IsHit key found what = ⊥
 
--- what is found is no older than what was: its unique number is no smaller, and where that is the
+-- what is found is no older than what was: its unique number is no smaller, and if that is the
 -- same, so are the flags and the block
 abbrev pub IsNoOlder : (was is : Found) → Type 0
 IsNoOlder was is = (was.unique ≤ is.unique) × (is.unique ≡ was.unique → is ≡ was)

@@ -77,7 +77,7 @@ pub record Fitted (start : Beginning) (v : SeatView) : Type 0 where
   pub limits : KeepsLimits start (after start start.plain log)
   pub fits : AllFit start (after start start.plain log) v.bays
 
--- the bay is held by another, as its word was 1: not by this seat, nor by any where its past is
+-- the bay is held by another, as its word was 1: not by this seat, nor by any if its past is
 -- whole
 abbrev pub IsBusy : Beginning → Mine → ℕ → (word : ℕ) → Mine → Type 0
 IsBusy began m b word m' =
@@ -165,8 +165,8 @@ abbrev pub counted : Beginning → (number : ℕ) → Step Slot → Mine → ℕ
 counted began number st m n m' = (m' ≡ m) × AreKeys began m.0 number n
 
 -- What a number's word tells a seat: after some legal history that keeps its past, no key has the
--- number where the word is 0; and where the past is whole and the seat holds nothing, the word is 0
--- where no key has it.
+-- number if the word is 0; and if the past is whole and the seat holds nothing, the word is 0
+-- if no key has it.
 pub record Shows (start : Beginning) (v : SeatView) (number word : ℕ) : Type 0 where
   pub log : List HistoryEntry
   pub legal : IsLegal start start.plain log
@@ -175,7 +175,7 @@ pub record Shows (start : Beginning) (v : SeatView) (number word : ℕ) : Type 0
   pub zero : Whole v.past → v.bays ≡ []
       → keys_with start.hash_of number (after start start.plain log).items ≡ 0 → word ≡ 0
 
--- a key was sought by its number's word: where that is 0, it is decided that the key isn't there
+-- a key was sought by its number's word: if that is 0, it is decided that the key isn't there
 abbrev pub sought : Beginning → List ℕ → (now number : ℕ) → Step Slot → Mine → ℕ → Mine → Type 0
 sought began key now number st m n m' =
     (n ≡ 0 → (m' ≡ called m (Stepped (Read key) now Miss)) × Agrees began m'.0.past)

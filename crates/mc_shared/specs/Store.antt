@@ -61,8 +61,8 @@ pub record IsPlanned (plan : Plan) (shelf : ShelfState) (step : KeyStep) (hash n
     pub room : HasRoom plan shelf step
     pub most : shelf.content.greatest ≤ 8388608
 
--- Why a step was tried and not taken. A bay is busy only where its word was 1, which it is not
--- where the past is whole, and is the key's shelf or the desk.
+-- Why a step was tried and not taken. A bay is busy only if its word was 1, which it is not
+-- if the past is whole, and is the key's shelf or the desk.
 abbrev pub May : Beginning → Past → KeyStep → ℕ → TryFault → Type 0
 May began p step now (Busy bay word) =
     (word ≡ 1) × (Whole p → ⊥)
@@ -76,8 +76,8 @@ HasNone start m key =
     (other : List ℕ) → number_of start.hash_of other ≡ number_of start.hash_of key
     → get m.items other ≡ None
 
--- What a caller is told of a key by its number's word, after some legal history that keeps its past:
--- no key has the number where the answer is true; and where the past is whole it is true exactly
+-- What a caller is told of a key by its number's word, after some legal history that keeps its
+-- past: no key has the number if the answer is true; and if the past is whole it is true exactly
 -- where none has.
 pub record IsShown (start : Beginning) (p : Past) (key : List ℕ) (answer : Bool) : Type 0 where
   pub log : List HistoryEntry

@@ -23,7 +23,7 @@ use Rattle.mc_shared.specs.declared.telling.Sought.TheVariants.{Told, Nothing, D
 abbrev pub Stands : ShelfContent → KeyStep → (now : ℕ) → Type 0
 Stands shelf step now = (item : Entry) × (stood shelf step now ≡ Some item)
 
--- What was told of the item of a read that was sought in a shelf: a hit of it where it stands. Where
+-- What was told of the item of a read that was sought in a shelf: a hit of it where it stands. If
 -- the key has none, or a dead one, nothing was told; only a dead one is deferred.
 abbrev pub IsSought
     : {A : Type 0} → (told : A → Reply → A → Type 0) → ShelfContent → KeyStep → (now : ℕ)
@@ -46,10 +46,10 @@ CameOfRead told start old step now before Nothing new after =
     HasCalled start old step now Miss new × (after ≡ before)
 CameOfRead told start old step now before Deferred new after = (new ≡ old) × (after ≡ before)
 
--- How a step that was to be told came out for a caller. Told, its past has it as one call more, with
--- the reply that was told; where the telling alone was refused, with some reply. Else the past
--- stays, as memory was refused or the unique numbers are spent, after some legal history. What takes
--- the reply is as it was where it wasn't told. A legal history keeps the past in any case.
+-- How a step that was to be told came out for a caller. Told, its past has it as one call more,
+-- with the reply that was told; if the telling alone was refused, with some reply. Else the past
+-- stays, as memory was refused or the unique numbers are spent, after some legal history. What
+-- takes the reply is as it was if it wasn't told. A legal history keeps the past in any case.
 pub record IsTold {A : Type 0} (told : A → Reply → A → Type 0) (start : Beginning)
     (old : CallerState) (step : KeyStep) (now : ℕ) (before : A)
     (result : Result (Unit {0}) Unanswered) (new : CallerState) (after : A) : Type 0 where

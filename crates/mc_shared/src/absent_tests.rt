@@ -1,4 +1,4 @@
-//! Keys that are absent, as one caller is told. Where an allocation is refused it asks again.
+//! Keys that are absent, as one caller is told. If an allocation is refused it asks again.
 
 use crate::store::{Caller, Shared};
 use crate::tests::{MANY, ONE, SOME};
@@ -76,7 +76,7 @@ impl<'a, R: Wait, K: KeyHash + Drop> Model for Sole<'a, R, K> {
 }
 
 impl<'a, R: Wait, K: KeyHash + Drop> Sole<'a, R, K> {
-    /// Makes an empty store that is set up so, with the second hasher where memory is refused.
+    /// Makes an empty store that is set up so, with the second hasher if memory is refused.
     pub(crate) fn open(
         rt: &'a R,
         alloc: Global,
@@ -91,7 +91,7 @@ impl<'a, R: Wait, K: KeyHash + Drop> Sole<'a, R, K> {
         Ok(Sole { rt, shared, caller })
     }
 
-    /// Takes a step, once more where memory is refused.
+    /// Takes a step, once more if memory is refused.
     fn taken(
         &mut self,
         alloc: Global,
@@ -121,7 +121,7 @@ impl<'a, R: Wait, K: KeyHash + Drop> Sole<'a, R, K> {
         told_of(&self.taken(alloc, key, Ask::Store(Verb::Set, 0, block), now))
     }
 
-    /// Tells whether a row is told as it says.
+    /// Returns whether a row is told as it says.
     fn is_told(&mut self, alloc: Global, row: &Row) -> bool {
         let (seconds, key, act) = *row;
         let now = Moment::from_seconds_at_most(seconds);

@@ -17,8 +17,8 @@ pub(crate) struct Ask<'a> {
 pub(crate) enum Looked<'a> {
     /// What comes next at its key.
     Planned(Plan<'a>),
-    /// A write that was refused room for its key's entry. Whether the step can be taken is known at
-    /// the desk alone, where it is looked up again.
+    /// Memory for a write's entry was refused. Whether the write can succeed is known only at the
+    /// desk, where it is looked up again.
     AskAgainAtDesk,
 }
 

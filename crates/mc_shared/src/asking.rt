@@ -116,7 +116,7 @@ impl<'a, R: Wait, K: KeyHash + Drop, G: Gate> Asking<'a, R, K, G> {
         self.shared.grow(self.rt, &mut self.caller, shelf, n)
     }
 
-    /// Does what `grow` does at the shelf of the last step. Where that step left none of the shelf's
+    /// Does what `grow` does at the shelf of the last step. If that step left none of the shelf's
     /// entries to move, no shelf is taken.
     pub fn grow_after(&mut self, n: usize) -> usize
         ensures same { self.new ≡ self.old }

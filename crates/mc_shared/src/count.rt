@@ -57,7 +57,7 @@ pub(crate) fn count_boxes(shelves: &[Boxed<Shelf>]) -> [u64; NUMBERS]
     counts
 }
 
-/// Counts the keys of each number that a flush after this delay left. Where it was one at once there
+/// Counts the keys of each number that a flush after this delay left. If it was one at once there
 /// are none, and no item is looked at; else the cost is that of one pass over all items.
 pub(crate) fn count_left(shelves: &[Boxed<Shelf>], delay: u64) -> [u64; NUMBERS]
     requires { (hash_of : List ℕ → ℕ) × (state : Plain) × (now : ℕ)

@@ -201,7 +201,7 @@ fn flush_held(
     }
 }
 
-/// Room for the shelves that a flush holds: as many as the store has; and where it is at once, what
+/// Room for the shelves that a flush holds: as many as the store has; and if it is at once, what
 /// comes in their places.
 struct Room {
     held: Vec<Boxed<Shelf>>,
@@ -253,13 +253,13 @@ fn flush_by<K: KeyHash + Drop, R: Wait>(
 impl<K: KeyHash + Drop> Shared<K> {
     /// Flushes, all items at once or what stands by then after a delay in seconds, which is read as
     /// an exptime is. It waits for what others hold: all shelves are held in their order, and then
-    /// the desk, so the flush is one step. It takes memory for as many pointers as there are shelves,
-    /// and one at once for as many empty shelves, each with room for 64 items, before it holds any.
-    /// The one error is a refused allocation, and the caller's past then stays. The cost of one at
-    /// once doesn't grow with the items: they are laid aside whole, and their chunks are collected
-    /// later, a few with each write. One with a delay passes once over all items, and once more where
-    /// some may be dead. The presence words are read and lowered in at most two steps for each of
-    /// 4096 numbers, however many keys go.
+    /// the desk, so the flush is one step. It takes memory for as many pointers as there are
+    /// shelves, and one at once for as many empty shelves, each with room for 64 items, before it
+    /// holds any. The one error is a refused allocation, and the caller's past then stays. The cost
+    /// of one at once doesn't grow with the items: they are laid aside whole, and their chunks are
+    /// collected later, an item's with each write. One with a delay passes once over all items, and
+    /// once more if some may be dead. The presence words are read and lowered in at most two steps
+    /// for each of 4096 numbers, however many keys go.
     // Its counts are of a size that each call of a caller it is inlined into would make room for.
     #[inline(never)]
     pub fn flush<R: Wait>(
@@ -277,6 +277,7 @@ impl<K: KeyHash + Drop> Shared<K> {
         ensures err { OnErr result (caller.new.past ≡ caller.old.past) }
         ensures agrees { Agrees (start_of K.hash_of self.now.began) caller.new.past }
     {
+        // Not inlined: its counts are of a size that each call of a caller would make room for.
         match self.room(alloc, delay) {
             Ok(room) => {
                 flush_by(rt, &self.board, &mut caller.seat, room, delay, now);
@@ -289,7 +290,7 @@ impl<K: KeyHash + Drop> Shared<K> {
         }
     }
 
-    /// Makes room for all shelves, in their boxes, and where a flush is at once, what comes in their
+    /// Makes room for all shelves, in their boxes, and if a flush is at once, what comes in their
     /// places. The one error is a refused allocation.
     fn room(&self, alloc: Global, delay: u64) -> Result<Room, AllocError>
         ensures room { IfOk result (λ room. (room.count ≡ self.now.began.settings.shelves)

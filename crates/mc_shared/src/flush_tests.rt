@@ -1,5 +1,5 @@
-//! Items that a flush lays aside: their chunks are free at once, and a page goes to a class only where too few are. Where an
-//! allocation is refused the steps are asked again.
+//! Items that a flush lays aside: their chunks are free at once, and a page goes to a class only if
+//! too few are. If an allocation is refused the steps are asked again.
 
 use crate::tests::Trial;
 use mc_shelf::Settings;

@@ -74,7 +74,7 @@ impl<'a, K: KeyHash + Drop> Model for AtBoth<'a, K> {
 }
 
 impl<K: KeyHash + Drop> Shared<K> {
-    /// Takes a shelf for a caller, who comes back where another holds it.
+    /// Takes a shelf for a caller, who comes back if another holds it.
     pub(crate) fn hold_shelf<B: Drop, P: Patience<B>>(
         &self,
         patience: &P,
@@ -136,7 +136,7 @@ impl<'a, K: KeyHash + Drop> AtShelf<'a, K> {
         Caller { seat, grows }
     }
 
-    /// Takes the desk, too. The shelf stays held where another holds the desk.
+    /// Takes the desk, too. The shelf stays held if another holds the desk.
     pub(crate) fn take_desk<B: Drop, P: Patience<B>>(
         self,
         patience: &P,

@@ -36,7 +36,7 @@ use mc_command::other_keys_stay;
 /// list too; once all callers are joined it has exactly their calls. A store that is closed has the
 /// state in which such a list leaves the plain machine.
 ///
-/// So where the first caller made another, each made its calls, and they were joined, there is one
+/// So if the first caller made another, each made its calls, and they were joined, there is one
 /// mix of the two, in which the calls of each stand in their order, that the plain machine answers
 /// so.
 pub fn callers_share_a_plain_store()
@@ -66,8 +66,8 @@ pub fn calls_keep_their_order()
 {}
 
 /// States that a history has of a caller what the past that holds it has, and nothing else: no
-/// entry stands twice, each entry of a caller that a past holds is held by that past, and where the
-/// past is whole each entry at all. So a step takes effect once, and where it isn't taken, never.
+/// entry stands twice, each entry of a caller that a past holds is held by that past, and if the
+/// past is whole each entry at all. So a step takes effect once, and if it isn't taken, never.
 pub fn a_history_has_nothing_else()
     ensures once { (log : List HistoryEntry) (p : Past) (first second : HistoryEntry) →
         KeptBy log p → StandsBefore log first second → first.by ≡ second.by →
@@ -79,7 +79,7 @@ pub fn a_history_has_nothing_else()
 {}
 
 /// States that a caller reads what it knows to be stored: its own writes, those of its maker before
-/// it was made, and those of callers that were joined into it. Where a write was answered Stored, a
+/// it was made, and those of callers that were joined into it. If a write was answered Stored, a
 /// read of its key that follows is told what that write left, or a miss once that is dead; or else
 /// another entry stands between the two that may have changed the key's item: a step on that key,
 /// a flush, or a purge of the key's shelf.
@@ -95,12 +95,13 @@ pub fn a_known_write_is_read()
     other_keys_stay();
 }
 
-/// States what a caller knows that was told of a key that it is absent, by `Shared::absent`. What is
-/// absent was not there: at that moment of a history that keeps all that the caller knew, its key had
-/// no item. So a key that has an item in each such history is never absent to that caller. And a key
-/// that the caller stored, or knows to be stored (by its maker before it was made, or by a caller that
-/// was joined into it), is absent to it only where another entry of that history, behind the write,
-/// may have changed the key's item: a step on that key, a flush, or a purge of the key's shelf.
+/// States what a caller knows that was told of a key that it is absent, by `Shared::absent`. What
+/// is absent was not there: at that moment of a history that keeps all that the caller knew, its
+/// key had no item. So a key that has an item in each such history is never absent to that caller.
+/// And a key that the caller stored, or knows to be stored (by its maker before it was made, or by
+/// a caller that was joined into it), is absent to it only if another entry of that history, behind
+/// the write, may have changed the key's item: a step on that key, a flush, or a purge of the key's
+/// shelf.
 pub fn what_is_absent_is_not_there()
     ensures gone { (began : Beginning) (p : Past) (key : List ℕ) → IsShown began p key true →
         (log : List HistoryEntry) × IsLegal began began.plain log × KeptBy log p
@@ -146,11 +147,11 @@ pub fn a_caller_reads_what_it_knows()
     other_keys_stay();
 }
 
-/// States that no read goes back. Where a get or a gat hits, and its caller knows of an earlier hit
+/// States that no read goes back. If a get or a gat hits, and its caller knows of an earlier hit
 /// of the key (its own, one that its maker had before it made it, or one of a caller that was
-/// joined into it), it is told no smaller unique number; and where it is told the same number, the
+/// joined into it), it is told no smaller unique number; and if it is told the same number, the
 /// same flags and the same block. That holds of any two hits of a key in the history, whoever made
-/// them; and the same number twice says that no entry between them wrote the key. It holds where
+/// them; and the same number twice says that no entry between them wrote the key. It holds if
 /// the number of each item was drawn, which it was in a new store, and stays so.
 pub fn no_read_goes_back()
     ensures known { (began : Beginning) (p : Past) (first second : HistoryEntry) (key : List ℕ)
@@ -199,7 +200,7 @@ pub fn nothing_is_made_up()
 }
 
 /// States what a cas is for: one that was answered Stored wrote over the very item that a retrieval
-/// told with the cas's unique number: no entry between the two wrote the key. That holds where the
+/// told with the cas's unique number: no entry between the two wrote the key. That holds if the
 /// number of each item was drawn, which it was in a new store, and stays so.
 pub fn a_cas_is_of_what_was_read()
     ensures new { (pages greatest : ℕ) → HasDrawnNumbers (opening pages greatest) }
@@ -219,7 +220,7 @@ pub fn a_cas_is_of_what_was_read()
     other_keys_stay();
 }
 
-/// States that no count is lost. Where a key's item is a number, and from then on each entry that
+/// States that no count is lost. If a key's item is a number, and from then on each entry that
 /// may change it is an incr that was told a number, it grows by what they counted, each count once,
 /// and wraps at 2^64. So once all callers are joined it is the first number and all their counts.
 pub fn no_count_is_lost()

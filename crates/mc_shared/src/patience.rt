@@ -22,7 +22,7 @@ const DOUBLINGS: u32 = 6;
 /// How often one that waits sleeps for a short time, before it sleeps for longer.
 const SHORT_TURNS: u32 = 64;
 
-/// What is called once while a step's shelf is held.
+/// A hook for tests, called once while a step holds its shelf. The program has none: [`NoGate`].
 pub trait Gate {
     /// Runs while a step's shelf, counted from 0, is held: others who want the shelf wait for it.
     fn inside(&self, shelf: u32);
@@ -166,10 +166,10 @@ fn take_spinning<K: KeyHash + Drop>(board: &Board<K>, seat: &mut Seat, bay: usiz
     None
 }
 
-/// Sleeps for 50 microseconds at most, and where it waits for long for a millisecond, so that a bay which
-/// is held for long, as in a flush, costs no core.
-// One that lets others have their turn by `yield_now` is back when they have used it up, which takes
-// milliseconds where threads are more than processors; one that slept runs at once.
+/// Sleeps for 50 microseconds at most, and if it waits for long, for a millisecond, so that a bay
+/// which is held for long, as in a flush, costs no core.
+// One that lets others have their turn by `yield_now` is back when they have used it up, which
+// takes milliseconds if threads are more than processors; one that slept runs at once.
 fn stand_aside<K: KeyHash + Drop, R: Wait>(rt: &R, board: &Board<K>, bay: usize, turns: u32)
     requires table { IsTableOf board.now.shared.table_id board.now.shared.key.value }
     requires bay { bay ≤ board.now.shared.key.value.settings.shelves }

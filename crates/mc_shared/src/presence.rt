@@ -11,9 +11,9 @@ use mc_hop::KeyHash;
 use mc_time::Moment;
 
 impl<K: KeyHash + Drop> Shared<K> {
-    /// Answers whether no key stands that has the key's number, its hash modulo 4096. If so the key
-    /// isn't there, and a read of it is decided, told as a miss; else nothing is decided. It waits for
-    /// nobody, holds nothing and takes no memory. The cost is the key's hash and one load.
+    /// Returns whether no key stands that has the key's number, its hash modulo 4096. If so the key
+    /// isn't there, and a read of it is decided, told as a miss; else nothing is decided. It waits
+    /// for nobody, holds nothing and takes no memory. The cost is the key's hash and one load.
     pub fn absent(&self, caller: &mut Caller, key: &[u8], now: Moment) -> bool
         requires own { caller.old.table ≡ self.now.table }
         ensures same { caller.new.table ≡ caller.old.table }

@@ -1,4 +1,4 @@
-//! Which keys one caller is told to be absent, after steps, purges and flushes. Where an allocation is
+//! Which keys one caller is told to be absent, after steps, purges and flushes. If an allocation is
 //! refused it asks again.
 
 use crate::tests::Trial;
@@ -81,18 +81,20 @@ const AT_ONCE: [Play; 11] = [
     (1000, b"a", Act::Absent(false)),
 ];
 
+/// Returns whether the key is told to be absent.
 fn absent<R: Wait>(trial: &mut Trial<'_, R>, key: &[u8], now: Moment) -> bool {
     let Trial { shared, caller, .. } = trial;
     shared.absent(caller, key, now)
 }
 
+/// Drops the dead of the key's shelf.
 fn tidy<R: Wait>(trial: &mut Trial<'_, R>, key: &[u8], now: Moment) {
     let Trial { rt, shared, caller } = trial;
     let shelf = shared.shelf_of(key);
     shared.tidy(*rt, caller, shelf, now);
 }
 
-/// Takes a step, again where memory is refused, and tells whether that is its answer.
+/// Takes a step, again if memory is refused, and returns whether that is its answer.
 fn is_told<R: Wait>(
     trial: &mut Trial<'_, R>,
     alloc: Global,
@@ -108,7 +110,7 @@ fn is_told<R: Wait>(
     told_of(&asked(trial, alloc, &step, now)) == want
 }
 
-/// Does what a play says, and tells whether that came of it.
+/// Does what a play says, and returns whether that came of it.
 fn is_right<R: Wait>(trial: &mut Trial<'_, R>, alloc: Global, play: &Play) -> bool {
     let (seconds, key, act) = *play;
     let now = Moment::from_seconds_at_most(seconds);
@@ -156,7 +158,7 @@ fn a_key_flushed_at_once_is_absent(rt: HostRuntime) -> Result<(), Fail> {
     Ok(())
 }
 
-/// Flushes, again where memory is refused, and tells whether `a` was there until it was flushed.
+/// Flushes, again if memory is refused, and returns whether `a` was there until it was flushed.
 fn stays_until_flushed<R: Wait>(trial: &mut Trial<'_, R>, alloc: Global) -> bool {
     let now = Moment::from_seconds_at_most(1000);
     let Trial { rt, shared, caller } = trial;

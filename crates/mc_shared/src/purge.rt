@@ -96,7 +96,7 @@ impl<'a, K: KeyHash + Drop> AtBoth<'a, K> {
     }
 }
 
-/// Purges a shelf for a caller, who comes back. Where nothing in it may be dead, no key is counted
+/// Purges a shelf for a caller, who comes back. If nothing in it may be dead, no key is counted
 /// and the desk isn't taken.
 fn tidy_for<K: KeyHash + Drop, R: Wait>(
     caller: Caller,
@@ -135,10 +135,9 @@ fn grow_for<K: KeyHash + Drop, R: Wait>(
 }
 
 impl<K: KeyHash + Drop> Shared<K> {
-    /// Drops the items of a shelf that are dead at a moment. It waits for the shelf, and where an
-    /// item in it may be dead for the desk, and takes no memory. The cost is that of two passes
-    /// over the shelf's items, and where none may be dead it walks none.
-    // Its counts are of a size that each call of a caller it is inlined into would make room for.
+    /// Drops the items of a shelf that are dead at a moment. It waits for the shelf, and if an
+    /// item in it may be dead, for the desk, and takes no memory. The cost is that of two passes
+    /// over the shelf's items, and if none may be dead it walks none.
     #[inline(never)]
     pub fn tidy<R: Wait>(&self, rt: &R, caller: &mut Caller, shelf: u32, now: Moment)
         requires own { caller.old.table ≡ self.now.table }
@@ -148,6 +147,7 @@ impl<K: KeyHash + Drop> Shared<K> {
             (entry_of caller.old.past (Purged shelf now)))
             × Agrees (start_of K.hash_of self.now.began) caller.new.past }
     {
+        // Not inlined: its counts are of a size that each call of a caller would make room for.
         replace_with(caller, (self, rt, shelf, &now), tidy_for);
     }
 
@@ -163,7 +163,7 @@ impl<K: KeyHash + Drop> Shared<K> {
         replace_with(caller, (self, rt, shelf, n), grow_for)
     }
 
-    /// Does what `grow` does at the shelf of the caller's last step. Where that step left none of the
+    /// Does what `grow` does at the shelf of the caller's last step. If that step left none of the
     /// shelf's entries to move, or it was done since, no shelf is taken.
     pub fn grow_after<R: Wait>(&self, rt: &R, caller: &mut Caller, n: usize) -> usize
         requires own { caller.old.table ≡ self.now.table }

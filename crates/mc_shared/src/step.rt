@@ -1,4 +1,4 @@
-//! A step on a key: at its shelf, and where it is needed at the desk.
+//! A step on a key: at its shelf, and at the desk if that is needed.
 ghost use Rattle.std.specs.Prelude.{◌≡◌, ◌≤◌, length, is_some, true, false, Err, IfOk, IfErr, IfSome, OnErr};
 ghost use Rattle.std.specs.FinMap.{get};
 ghost use Rattle.mc_command.specs.Commands.{key_of};
@@ -87,10 +87,11 @@ impl<'a, K: KeyHash + Drop> AtShelf<'a, K> {
         (Caller { seat, grows }, reply)
     }
 
-    /// Takes the desk for a step, with pages where the step wants some. They are made, up to 8 MiB that
-    /// are written, while nobody waits for the desk: it goes back, and is taken again with the pages in
-    /// hand. Where memory for them is refused, or the desk is tried but once, there are none: the step
-    /// finds out at the desk. Others may have changed what is wanted by then, so they are a hint alone.
+    /// Takes the desk for a step, with pages if the step wants some. They are made, up to 8 MiB
+    /// that are written, while nobody waits for the desk: it goes back, and is taken again with the
+    /// pages in hand. If memory for them is refused, or the desk is tried but once, there are none:
+    /// the step finds out at the desk. Others may have changed what is wanted by then, so they are
+    /// a hint alone.
     fn take_desk_for<B: Drop, P: Patience<B>>(
         self,
         patience: &P,
@@ -134,9 +135,9 @@ impl<'a, K: KeyHash + Drop> AtBoth<'a, K> {
         }
     }
 
-    /// Takes a step that the desk decides, with pages if some were made for it. The desk goes back with
-    /// the decision, and the shelf when the step's block is copied; both as they were where it isn't
-    /// taken.
+    /// Takes a step that the desk decides, with pages if some were made for it. The desk goes back
+    /// with the decision, and the shelf when the step's block is copied; both as they were if it
+    /// isn't taken.
     fn take_step(
         self,
         alloc: Global,
@@ -208,8 +209,8 @@ fn may_come(looked: &Looked<'_>, shelf: &Shelf, ask: &Ask<'_>) -> bool
     }
 }
 
-/// Begins a step at a shelf and the desk, by its plan. With none it is looked up again, and memory is
-/// asked for only where a number and the chunks that are needed are to be had.
+/// Begins a step at a shelf and the desk, by its plan. With none it is looked up again, and memory
+/// is asked for only if a number and the chunks that are needed are to be had.
 fn begin_step<'k>(
     alloc: Global,
     shelf: &mut Shelf,
@@ -236,6 +237,7 @@ fn begin_step<'k>(
         ((shelf.new.content ≡ shelf.old.content) × (desk.new ≡ desk.old)) }
 {
     refusals_are_plain();
+    // what holds of every desk, for the proof
     let _number = desk.next_unique();
     match looked {
         Looked::Planned(plan) => match shelf.begin(alloc, &plan, ask.step, desk, pages) {
@@ -401,8 +403,8 @@ impl<K: KeyHash + Drop> Shared<K> {
         }
     }
 
-    /// Tries a step on one key, and waits for nobody. The key's shelf and, where the step needs it,
-    /// the desk are held while it is taken. Where it isn't taken, the caller's past stays, nothing
+    /// Tries a step on one key, and waits for nobody. The key's shelf and, if the step needs it,
+    /// the desk are held while it is taken. If it isn't taken, the caller's past stays, nothing
     /// is decided and no bay is held.
     pub fn try_step(
         &self,
@@ -422,7 +424,7 @@ impl<K: KeyHash + Drop> Shared<K> {
         }
     }
 
-    /// Takes a step. It waits for what others hold. Where it isn't taken, nothing is decided and no
+    /// Takes a step. It waits for what others hold. If it isn't taken, nothing is decided and no
     /// bay is held.
     pub fn step<R: Wait>(
         &self,
@@ -439,8 +441,8 @@ impl<K: KeyHash + Drop> Shared<K> {
         self.step_at(rt, alloc, caller, step, now, &NoGate)
     }
 
-    /// Takes a step. It waits for what others hold, and calls the gate once while the key's shelf is
-    /// held; a flush calls no gate. Where it isn't taken, nothing is decided and no bay is held.
+    /// Takes a step. It waits for what others hold, and calls the gate once while the key's shelf
+    /// is held; a flush calls no gate. If it isn't taken, nothing is decided and no bay is held.
     pub fn step_at<R: Wait, G: Gate>(
         &self,
         rt: &R,

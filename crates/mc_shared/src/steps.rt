@@ -36,6 +36,7 @@ pub(crate) fn place_of<K: KeyHash + Drop>(board: &Board<K>, bay: usize) -> usize
     ensures place { result ≡ place bay }
     ensures inside { result < board.now.shared.table_id.words }
 {
+    // how many words the table has, for the proof
     let _words = board.word_count();
     bay * APART
 }
@@ -61,6 +62,7 @@ pub(crate) fn word_in(shelves: usize, number: usize) -> usize
     (shelves + 1) * APART + number % shelves * (NUMBERS / shelves + APART) + number / shelves
 }
 
+/// Does what `take` does, for a store that began as `B` says.
 fn take_as<B: Takes, K: KeyHash + Drop>(
     board: &Board<K>,
     seat: &mut Seat,
@@ -98,6 +100,7 @@ pub fn take<K: KeyHash + Drop>(board: &Board<K>, seat: &mut Seat, bay: usize) ->
     take_as::<Brand, K>(board, seat, bay)
 }
 
+/// Does what `give` does, for a store that began as `B` says.
 fn give_as<B: Begins, K: KeyHash + Drop>(board: &Board<K>, seat: &mut Seat, bay: usize, value: Bay)
     requires began { B.start ≡ start_of K.hash_of board.now.shared.key.value }
     requires seat { IsSeatOf board.now.shared.table_id board.now.shared.key.value seat.old }
@@ -123,6 +126,7 @@ pub fn give<K: KeyHash + Drop>(board: &Board<K>, seat: &mut Seat, bay: usize, va
     give_as::<Brand, K>(board, seat, bay, value);
 }
 
+/// Does what `decide` does, of what `D` says. The decision is read by contracts alone.
 fn decide_as<D: Says, K: KeyHash + Drop>(
     board: &Board<K>,
     seat: &mut Seat,
@@ -185,6 +189,7 @@ pub fn meet<K: KeyHash + Drop>(board: &Board<K>, seat: &mut Seat, other: Seat)
     board.shared.join_seat::<Meet>(seat, other);
 }
 
+/// Does what `reload` does, for a store that began as `B` says.
 fn reload_as<B: Begins, K: KeyHash + Drop>(board: &Board<K>, seat: &mut Seat)
     requires began { B.start ≡ start_of K.hash_of board.now.shared.key.value }
     requires seat { IsSeatOf board.now.shared.table_id board.now.shared.key.value seat.old }
@@ -215,7 +220,7 @@ pub fn raise<K: KeyHash + Drop>(board: &Board<K>, seat: &mut Seat, number: usize
     board.shared.fetch_add::<Raise>(seat, word, 1);
 }
 
-/// Adds one to the word of a number where a key of it comes, and answers how many were added.
+/// Adds one to the word of a number when a key of it comes, and answers how many were added.
 pub fn raise_if<K: KeyHash + Drop>(
     board: &Board<K>,
     seat: &mut Seat,
@@ -237,7 +242,7 @@ pub fn raise_if<K: KeyHash + Drop>(
     0
 }
 
-/// Adds one to the word of a key where the key comes. Answers the word, and how many were added.
+/// Adds one to the word of a key if the key comes. Answers the word, and how many were added.
 pub(crate) fn raise_for<K: KeyHash + Drop>(
     board: &Board<K>,
     seat: &mut Seat,
@@ -272,7 +277,7 @@ pub fn lower<K: KeyHash + Drop>(board: &Board<K>, seat: &mut Seat, word: usize, 
     board.shared.fetch_sub::<Lower>(seat, word, count);
 }
 
-/// Takes so many from the word that is named first as often: one step, and none where it is 0.
+/// Takes so many from the word that is named first as often: one step, and none if it is 0.
 pub fn lower_all<K: KeyHash + Drop>(board: &Board<K>, seat: &mut Seat, word: usize, count: usize)
     requires seat { IsSeatOf board.now.shared.table_id board.now.shared.key.value seat.old }
     requires word { word < board.now.shared.table_id.words }
@@ -286,6 +291,7 @@ pub fn lower_all<K: KeyHash + Drop>(board: &Board<K>, seat: &mut Seat, word: usi
     }
 }
 
+/// Does what `count` does, of the number that `C` picks. `_number` is read by contracts alone.
 fn count_as<C: Counts, K: KeyHash + Drop>(
     board: &Board<K>,
     seat: &mut Seat,
@@ -321,6 +327,7 @@ pub fn count<K: KeyHash + Drop>(
     count_as::<Brand, K>(board, seat, word, number)
 }
 
+/// Does what `seek` does, of the key that `S` picks. `_key` and `_now` are read by contracts alone.
 fn seek_as<S: Seeks, K: KeyHash + Drop>(
     board: &Board<K>,
     seat: &mut Seat,
@@ -341,7 +348,7 @@ fn seek_as<S: Seeks, K: KeyHash + Drop>(
     board.shared.load::<Seek<S>>(seat, word)
 }
 
-/// Loads the word of a key's number. Where it is 0, it is decided that the key isn't there.
+/// Loads the word of a key's number. If it is 0, it is decided that the key isn't there.
 pub fn seek<K: KeyHash + Drop>(
     board: &Board<K>,
     seat: &mut Seat,

@@ -57,7 +57,7 @@ impl<K: KeyHash + Drop> Model for Shared<K> {
 #[derive(Drop)]
 pub struct Caller {
     pub(crate) seat: Seat,
-    /// The shelf of its last step, where entries of it may be left to move.
+    /// The shelf of its last step, if entries of it may be left to move.
     pub(crate) grows: Option<u32>,
 }
 

@@ -33,6 +33,7 @@ impl<'a, K: KeyHash + Drop> AtBoth<'a, K> {
         } }
         ensures within { result.out ≤ result.pages * chunks_a_page class }
     {
+        // what holds of every class and of every desk, for the proof
         let _laws = (class.number(), self.desk.next_unique());
         self.desk.account(class)
     }
@@ -66,6 +67,7 @@ fn account_for<K: KeyHash + Drop, R: Wait>(
     ensures agrees { Agrees (start_of K.hash_of asked.entry.0.now.began) caller.past }
 {
     let (shared, rt, class) = asked;
+    // that there is a first shelf, for the proof
     let _shelves = shared.shelves();
     let hold = shared.wait_for_shelf(rt, caller, 0).wait_for_desk(rt);
     let account = hold.account(*class);

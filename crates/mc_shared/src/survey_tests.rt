@@ -1,4 +1,4 @@
-//! What a store tells of its shelves and of its classes. Where an allocation is refused it asks again.
+//! What a store tells of its shelves and of its classes. If an allocation is refused it asks again.
 
 ghost use Rattle.std.specs.Prelude.{◌≡◌};
 
@@ -96,7 +96,8 @@ fn told<R: Wait>(sole: &mut Sole<'_, R, Fnv>) -> Told {
     (items, accounts)
 }
 
-/// What is told of three items, and then when the first of them is dropped; nothing where one isn't stored.
+/// What is told of three items, and then when the first of them is dropped; nothing if one isn't
+/// stored.
 fn told_twice<R: Wait>(
     sole: &mut Sole<'_, R, Fnv>,
     alloc: Global,

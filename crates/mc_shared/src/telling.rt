@@ -179,9 +179,9 @@ impl<K: KeyHash + Drop> Shared<K> {
         decide(&self.board, seat, ask.at as usize, value, &decision);
     }
 
-    /// Takes a read at its shelf: a hit is told there, before it is decided, and of a miss nothing is told.
-    /// Where the item is dead the read isn't taken, nor where the telling is refused. The gate is called
-    /// once while the shelf is held.
+    /// Takes a read at its shelf: a hit is told there, before it is decided, and of a miss nothing
+    /// is told. If the item is dead the read isn't taken, nor if the telling is refused. The gate
+    /// is called once while the shelf is held.
     fn read_telling<R: Wait, G: Gate, A: Answer>(
         &self,
         patience: &Waiting<'_, R, G>,
@@ -246,9 +246,9 @@ impl<K: KeyHash + Drop> Shared<K> {
         }
     }
 
-    /// Takes a step as `step_unless_absent` does, and has its reply told. A hit of a read is told while its
-    /// shelf is held and before it is decided: where the telling is refused it isn't taken. Any other
-    /// reply is told when the step is taken.
+    /// Takes a step as `step_unless_absent` does, and has its reply told. A hit of a read is told
+    /// while its shelf is held and before it is decided: if the telling is refused it isn't taken.
+    /// Any other reply is told when the step is taken.
     pub(crate) fn step_telling<R: Wait, G: Gate, A: Answer>(
         &self,
         patience: &Waiting<'_, R, G>,
@@ -284,7 +284,7 @@ impl<K: KeyHash + Drop> Shared<K> {
     }
 }
 
-/// Names a shelf where entries of it are left to move.
+/// Names a shelf if entries of it are left to move.
 fn growing(shelf: &Shelf, at: u32) -> Option<u32> {
     if shelf.left() == 0 { None } else { Some(at) }
 }

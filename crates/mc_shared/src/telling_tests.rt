@@ -1,4 +1,4 @@
-//! Replies that are told, as one caller hears them. Where an allocation is refused it asks again.
+//! Replies that are told, as one caller hears them. If an allocation is refused it asks again.
 
 use crate::tests::{LARGE, Trial};
 use mc_command::{Answer, Block, Bytes, KeyStep, Reply, StepFault, Steps, Unanswered, Verb};

@@ -1,9 +1,11 @@
 -- What shelves that were laid aside hold of the chunks that are out of a slab.
-use Rattle.std.proofs.Common.{◌≡◌, ℕ, ◌+◌, ◌-◌, ◌*◌, ◌<◌, ◌≤◌, ◌⊎◌, inl, inr, ⊎_elim, Bool, true, false, true≢false, eqb, eqb-true, if◌then◌else◌, zero, suc, leb, le-leb, List, [], ◌∷◌, ◌++◌, length, length-set, replicate, get_or, set}
+use Rattle.std.proofs.Common.{◌≡◌, ℕ, ◌+◌, ◌-◌, ◌*◌, ◌<◌, ◌≤◌, ◌⊎◌, inl, inr, ⊎_elim, Bool, true, false, true≢false, eqb}
+use Rattle.std.proofs.Common.{eqb-true, if◌then◌else◌, zero, suc, leb, le-leb, List, [], ◌∷◌, ◌++◌, length, length-set, replicate, get_or, set}
 use Rattle.std.proofs.Common.{cond, not, ltb, ltb-true, le-ltb, Option, Some, None, slice_get, take, Ok, Err, Result, refl, sym, ap, subst, ◌∙◌, arith}
 use Rattle.std.specs.Prelude.{IfErr}
 use Rattle.std.proofs.lemmas.List.{get_or-replicate}
 use Rattle.std.proofs.lemmas.List.Sums.{sum_by-set}
+use Rattle.std.proofs.lemmas.Option.{same_Some}
 use Rattle.std.specs.FinMap.{empty, get, remove}
 use Rattle.mc_slab.specs.Classes.{IsClass, chunks_a_page}
 use Rattle.mc_slab.specs.Chunks.{ChunksState, need_in}
@@ -15,7 +17,7 @@ use Rattle.mc_slab.specs.declared.slab.TakeFault.TheVariants.{Full, NoMemory}
 use Rattle.mc_command.specs.Plain.{Entry, Items, Plain, chunks_in, count_of, item_need}
 use Rattle.mc_command.specs.Laws.{of_class}
 use Rattle.mc_shelf.specs.States.{DeskState, EntryState, ShelfContent, ShelfState}
-use Rattle.mc_shelf.specs.Asides.{AreCollected, AreOff, IsOff, LieAside, Suffices, all_out, count_in, none_out, seen}
+use Rattle.mc_shelf.specs.Asides.{AreCollected, AreOff, GivesOwn, IsOff, LieAside, Suffices, all_out, count_in, none_out, seen}
 use Rattle.mc_shelf.specs.Parts.{ArePartsOf, shelf_of}
 use Rattle.mc_shelf.proofs.PartLemmas.{PartsLaw}
 use Rattle.mc_shelf.proofs.StandLemmas.{RemoveCounts, out-given, out-taken, weight, weight_here}
@@ -44,6 +46,36 @@ off_last law all rest after old new entry chunks all_is after_is off need_is is_
       let same : chunks_in (need_in chunks) class ≡ chunks_in (item_need entry.key entry.item) class = ap (λ (n : NeedState). chunks_in n class) need_is in
       omega (arith, before, behind, gone, less, one, same);
 }
+
+-- one of them has changed
+pub count_in-set : (xs : List ShelfState) (at : ℕ) (old new : ShelfState) (class : ℕ) → slice_get xs at ≡ Some old
+    → count_in (set xs at new) class + count_of old.content.items class ≡ count_in xs class + count_of new.content.items class
+count_in-set [] at old new class here = cc
+count_in-set (x ∷ xs) zero old new class here =
+    let same = ap (λ (s : ShelfState). count_of s.content.items class) (same_Some x old here) in
+    omega (arith, same)
+count_in-set (x ∷ xs) (suc at) old new class here = omega (arith, count_in-set xs at old new class here)
+
+-- an entry was taken off one of them
+pub off_at : RemoveCounts → (all after : List ShelfState) (at : ℕ) (old new : ShelfState) (entry : EntryState) (chunks : ChunksState) → slice_get all at ≡ Some old → after ≡ set all at new
+    → IsOff old.content new.content entry → need_in chunks ≡ item_need entry.key entry.item → IsNeed (item_need entry.key entry.item) → AreOff all after chunks
+off_at law all after at old new entry chunks here after_is off need_is is_need = record {
+  is_need = subst IsNeed (sym need_is) is_need;
+  counts = λ class.
+      let moved = count_in-set all at old new class here in
+      let behind = ap (λ l. count_in l class) after_is in
+      let gone = law old.content.items entry.key class in
+      let less = ap (λ (m : Items). count_of m class) off.items in
+      let one : of_class entry.key (get old.content.items entry.key) class ≡ chunks_in (item_need entry.key entry.item) class = ap (λ (o : Option Entry). of_class entry.key o class) off.found in
+      let same : chunks_in (need_in chunks) class ≡ chunks_in (item_need entry.key entry.item) class = ap (λ (n : NeedState). chunks_in n class) need_is in
+      omega (arith, moved, behind, gone, less, one, same);
+}
+
+-- none has changed
+pub set_same : (xs : List ShelfState) (at : ℕ) (old new : ShelfState) → slice_get xs at ≡ Some old → new ≡ old → set xs at new ≡ xs
+set_same [] at old new here same = cc
+set_same (x ∷ xs) zero old new here same = ap (λ s. s ∷ xs) (same ∙ sym (same_Some x old here))
+set_same (x ∷ xs) (suc at) old new here same = ap (λ l. x ∷ l) (set_same xs at old new here same)
 
 -- the last one has no items
 pub none_last : ((class : ℕ) → count_of empty class ≡ 0) → (all rest : List ShelfState) (last : ShelfState) → all ≡ rest ++ last ∷ [] → last.content.items ≡ empty → (class : ℕ)
@@ -98,6 +130,26 @@ fewer_out slab chunks {new} fits is within new_is =
     let less : all_out (given slab chunks.class chunks.count) + out_of slab chunks.class ≡ all_out slab + (out_of slab chunks.class - chunks.count) = moved in
     let fewer : all_out (given slab chunks.class chunks.count) < all_out slab = omega (arith, less, within, is.some) in
     subst (λ (s : SlabState). all_out s < all_out slab) (sym new_is) fewer
+
+-- the chunks of one item of a class are given to the slab
+pub gives_own : {slab new : SlabState} {out : List ℕ} {shelves after : List ShelfState} {chunks : ChunksState} → LieAside slab out shelves → AreOff shelves after chunks
+    → (class : ℕ) → chunks.class ≡ class
+    → new ≡ given slab chunks.class chunks.count → GivesOwn class slab new
+gives_own {slab} {new} {out} {shelves} {after} {chunks} lie off class same new_is = record {
+  is_class = subst IsClass same off.is_need.is_class;
+  count = chunks.count;
+  some = off.is_need.some;
+  within = subst (λ (k : ℕ). chunks.count ≤ out_of slab k) same (off_out lie off);
+  back = new_is ∙ ap (λ (k : ℕ). given slab k chunks.count) same;
+}
+
+pub fewer_own : {slab new : SlabState} {class : ℕ} → IsSlab slab → GivesOwn class slab new → all_out new < all_out slab
+fewer_own {slab} {new} {class} fits own =
+    let place : class - 1 < length slab.out = omega (arith, fits.out, own.is_class.0, own.is_class.1) in
+    let moved = sum_by-set (λ (n : ℕ). n) slab.out (class - 1) (out_of slab class - own.count) 0 place in
+    let less : all_out (given slab class own.count) + out_of slab class ≡ all_out slab + (out_of slab class - own.count) = moved in
+    let fewer : all_out (given slab class own.count) < all_out slab = omega (arith, less, own.within, own.some) in
+    subst (λ (s : SlabState). all_out s < all_out slab) (sym own.back) fewer
 
 -- ---- collecting
 

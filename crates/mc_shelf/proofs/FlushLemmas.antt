@@ -267,9 +267,11 @@ module _ (hash_of : List ℕ → ℕ) (count delay now : ℕ) (state : Plain) wh
       (λ k s there. subst (λ n. IsShelfOf hash_of count state n s.content) (omega arith) (each (suc k) s there)) in
       omega (arith, one, behind)
 
-  pub counted_all : PartsLaw → ((class : ℕ) → count_of maps.empty class ≡ 0) → {list : List ShelfState} {desk : DeskState} → ArePartsOf hash_of state list count desk → (class : ℕ) → IsClass class → out_of desk.slab class ≡ count_in list class
+  pub counted_all : PartsLaw → ((class : ℕ) → count_of maps.empty class ≡ 0) → {list : List ShelfState} {desk : DeskState} → ArePartsOf hash_of state list count desk
+      → (class : ℕ) → IsClass class → out_of desk.slab class ≡ count_in list class
   counted_all law none_of {list} parts class is =
-      let all = counted_from law parts.some_shelf class 0 list (omega (arith, parts.number)) (λ k shelf there. (let same : k ≡ 0 + k = omega arith in subst (λ n. IsShelfOf hash_of count state n shelf.content) same (parts.each k shelf there))) in
+      let all = counted_from law parts.some_shelf class 0 list (omega (arith, parts.number))
+      (λ k shelf there. (let same : k ≡ 0 + k = omega arith in subst (λ n. IsShelfOf hash_of count state n shelf.content) same (parts.each k shelf there))) in
       let none : count_of (below place 0 state.items) class ≡ 0 = ap (λ (m : Items). count_of m class) (none_below state.items) ∙ none_of class in
       omega (arith, all, none, parts.account.out class is)
 

@@ -6,7 +6,7 @@ use Rattle.std.specs.FinMap.{get, remove}
 use Rattle.mc_slab.specs.Classes.{IsClass}
 use Rattle.mc_slab.specs.Needs.{NeedState, IsNeed}
 use Rattle.mc_slab.specs.Chunks.{ChunksState, need_in}
-use Rattle.mc_slab.specs.Slabs.{SlabState, IsSlab, out_of, unused}
+use Rattle.mc_slab.specs.Slabs.{SlabState, IsSlab, given, out_of, unused}
 use Rattle.mc_command.specs.Plain.{chunks_in, count_of}
 use Rattle.mc_shelf.specs.States.{EntryState, ShelfContent, ShelfState}
 
@@ -55,3 +55,11 @@ pub record AreCollected (old new : SlabState) (before after : List ShelfState) :
 abbrev pub Suffices : SlabState → (need : NeedState) → (back out : ℕ) → Type 0
 Suffices slab need back out =
     (need.count ≤ unused slab need.class + back) ⊎ (out_of slab need.class ≡ out)
+
+-- Chunks of a class that were out were given to the slab, and no others.
+pub record GivesOwn (class : ℕ) (old new : SlabState) : Type 0 where
+  pub is_class : IsClass class
+  pub count : ℕ
+  pub some : 1 ≤ count
+  pub within : count ≤ out_of old class
+  pub back : new ≡ given old class count

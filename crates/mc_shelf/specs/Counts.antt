@@ -59,8 +59,8 @@ pub record GoesOn (most : ℕ) (old new : ShelfCounts) : Type 0 where
 abbrev pub IsLoaded : ShelfCounts → Type 0
 IsLoaded counts = 3 * counts.homes < 4 * (counts.items + 1)
 
--- A growth is due before one item more comes: by that load, or where none runs, an item is a stray, and there is one for every
--- four homes.
+-- A growth is due before one item more comes: by that load, or if none runs, an item is a stray,
+-- and there is one for every four homes.
 abbrev pub IsDue : ShelfCounts → Type 0
 IsDue counts =
     IsLoaded counts
@@ -79,7 +79,8 @@ pub record Begins (old new : ShelfCounts) : Type 0 where
 abbrev pub MovesFew : (most : ℕ) → (old new : ShelfCounts) → Type 0
 MovesFew most old new = GoesOn most old new ⊎ Begins old new
 
--- 8 entries were moved at most. A growth that was ended so was lagging; where none ran, all counts are as they were.
+-- 8 entries were moved at most. A growth that was ended so was lagging; if none ran, all counts are
+-- as they were.
 pub record CaughtUp (old new : ShelfCounts) : Type 0 where
   pub items : new.items ≡ old.items
   pub goes : GoesOn 8 old new

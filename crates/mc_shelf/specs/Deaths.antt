@@ -5,7 +5,8 @@ use Rattle.mc_time.specs.Death.{is_dead}
 use Rattle.mc_command.specs.Plain.{Items, Entry}
 use Rattle.mc_shelf.specs.declared.soonest.Soonest.{Soonest}
 
--- the item is dead only where one of that expiry and that moment of a write is, whatever flush there is
+-- the item is dead only if one of that expiry and that moment of a write is, whatever flush there
+-- is
 abbrev pub DiesNoSooner : Soonest → Entry → Type 0
 DiesNoSooner soonest item =
     (cut : Option ℕ) (now : ℕ) → is_dead item.expiry item.updated cut now ≡ true

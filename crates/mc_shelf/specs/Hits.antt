@@ -14,7 +14,7 @@ is_read (Read key) = true
 is_read (ReadTouch key exptime) = true
 is_read step = false
 
--- the expiry that a read sets, where it sets one
+-- the expiry that a read sets, if it sets one
 abbrev pub read_expiry : KeyStep → (now : ℕ) → Option Expiry
 read_expiry (ReadTouch key exptime) now = Some (expiry_of exptime now)
 read_expiry step now = None

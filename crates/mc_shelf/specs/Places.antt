@@ -2,9 +2,9 @@
 use Rattle.std.specs.Prelude.{◌≡◌, ℕ, List, Option, Some, None, IfSome}
 use Rattle.std.specs.FinMap.{get, insert, remove}
 use Rattle.std.specs.Borrow.{Bor}
-use Rattle.mc_grow.specs.Indexes.{IndexState, entry_at, holds, left}
+use Rattle.mc_grow.specs.Indexes.{IndexState, IsFilled, entry_at, holds, left}
 use Rattle.mc_grow.specs.declared.index.Place.{Place}
-use Rattle.mc_command.specs.Plain.{Items, Entry}
+use Rattle.mc_command.specs.Plain.{Items, Entry, item_need}
 use Rattle.mc_command.specs.Rows.{standing_in}
 use Rattle.mc_shelf.specs.States.{EntryState, Hashes}
 use Rattle.mc_shelf.specs.KeyMaps.{EntryMap, StandsIn, hash_in, key_in, hashes_in, items_in}
@@ -35,7 +35,12 @@ abbrev pub IsKeyFound : IndexState EntryState → (key : List ℕ) → Option Pl
 IsKeyFound index key None = get (items_of index) key ≡ None
 IsKeyFound index key (Some place) = IsKeyAt index key place
 
--- the entry that is lent is the key's, and none is where no entry has the key
+-- the entry at the place lies in chunks of the class
+pub record IsOfClass (index : IndexState EntryState) (class : ℕ) (place : Place) : Type 0 where
+  pub filled : IsFilled index place
+  pub own : (entry : EntryState) → entry_at index place ≡ Some entry → (item_need entry.key entry.item).class ≡ class
+
+-- the entry that is lent is the key's, and none is if no entry has the key
 pub record IsEntryOf (index : IndexState EntryState) (key : List ℕ) (entry : Option (Bor EntryState)) : Type 0 where
   pub item : standing_in (λ e. e.item) entry ≡ get (items_of index) key
   pub same_key : IfSome entry (λ e. e.now.key ≡ key)

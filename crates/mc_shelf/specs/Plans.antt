@@ -39,7 +39,7 @@ abbrev pub answered : (dead : Bool) → Reply → Next
 answered true reply = Discard reply
 answered false reply = Answer reply
 
--- the block of an item, and no bytes where there is none
+-- the block of an item, and no bytes if there is none
 abbrev pub block_in : Option Entry → List ℕ
 block_in None = []
 block_in (Some item) = item.block
@@ -55,7 +55,7 @@ made_block (Counted number) block old = decimal number
 abbrev pub charge_of : KeyStep → Option Entry → Draft → ℕ
 charge_of step item draft = charge (key_of step) (written_block draft.body (block_of step) item)
 
--- what comes next of a row: a write is too large where its charge is above the greatest
+-- what comes next of a row: a write is too large if its charge is above the greatest
 abbrev pub next_by : (dead : Bool) → (greatest : ℕ) → KeyStep → Option Entry → Row → Next
 next_by dead greatest step item (Refuses refusal) = answered dead (refusal_reply refusal)
 next_by dead greatest step item (Reads None) = answered dead (hit_of item)
@@ -102,7 +102,7 @@ writes (Expire expiry reply) = false
 writes (Discard reply) = false
 writes (Write size draft) = true
 
--- what is known of a key: its hash, where the shelf has the key, and by a place that it has
+-- what is known of a key: its hash, if the shelf has the key, and by a place that it has
 pub record IsKnown (shelf : ShelfContent) (key : List ℕ) (own : ℕ) (found : Option Place) : Type 0 where
   pub hash : IsHash shelf key own
   pub place : is_some found ≡ is_some (get shelf.items key)
@@ -126,7 +126,7 @@ abbrev pub has_need : (key : List ℕ) → Option Entry → NeedState → Bool
 has_need key None need = false
 has_need key (Some item) need = same_need (item_need key item) need
 
--- how many chunks of a class come back where the item that is found is dropped for being dead
+-- how many chunks of a class come back if the item that is found is dropped for being dead
 abbrev pub dead_chunks : (cut : Option ℕ) → (now : ℕ) → (key : List ℕ) → Option Entry → (class : ℕ) → ℕ
 dead_chunks cut now key found class = if is_gone cut now found then of_class key found class else 0
 
@@ -135,7 +135,7 @@ abbrev pub gives_way : (cut : Option ℕ) → (now : ℕ) → (key : List ℕ) �
 gives_way cut now key found need =
     not (has_need key found need) && nat_lt 0 (dead_chunks cut now key found need.class)
 
--- how many chunks of a need's class come back where a key's item is dropped for being dead
+-- how many chunks of a need's class come back if a key's item is dropped for being dead
 abbrev pub back_at : ShelfContent → (key : List ℕ) → (now : ℕ) → NeedState → ℕ
 back_at shelf key now need = dead_chunks shelf.cut now key (get shelf.items key) need.class
 
@@ -263,7 +263,8 @@ abbrev pub left_item : Writing → Unwritten → KeyStep → ShelfContent → En
 left_item write rest step shelf =
     drafted write.draft (block_beside shelf step write.draft) rest.unique write.moment
 
--- a shelf after this item came under a key: with a hash where chunks wait for the item, and else into those of the key's item
+-- a shelf after this item came under a key: with a hash if chunks wait for the item, and else into
+-- those of the key's item
 abbrev pub with_item : Option ChunksState → (key : List ℕ) → (own : ℕ) → Entry → ShelfContent → ShelfContent
 with_item None key own item shelf = record shelf { items = insert shelf.items key item }
 with_item (Some chunks) key own item shelf = record shelf {
@@ -341,8 +342,8 @@ abbrev pub IsReady : Option ChunksState → (key block : List ℕ) → ShelfStat
 IsReady None key block shelf = LiesInNeed key block shelf
 IsReady (Some chunks) key block shelf = AreChunksFor chunks key block shelf
 
--- what is known of a key that may have lost its item since it was looked up: its hash, where the shelf has the key, and by a
--- place where it may be
+-- what is known of a key that may have lost its item since it was looked up: its hash, if the shelf
+-- has the key, and by a place where it may be
 pub record IsSought (shelf : ShelfContent) (key : List ℕ) (own : ℕ) (found : Option Place) : Type 0 where
   pub hash : IsHash shelf key own
   pub none : found ≡ None → get shelf.items key ≡ None

@@ -2,6 +2,7 @@
 
 ghost use Rattle.std.specs.Prelude.{◌≡◌, ◌+◌, ◌≤◌, ℕ, None, true, IfSome, [], vec_len, vec_capacity};
 ghost use Rattle.std.specs.FinMap.{empty};
+ghost use Rattle.mc_command.specs.Plain.{item_need};
 ghost use Rattle.mc_shelf.specs.Asides.{AreOff, IsOff, count_in};
 ghost use Rattle.mc_shelf.specs.Bare.{IsBare};
 ghost use Rattle.mc_shelf.specs.States.{nothing_held};
@@ -9,7 +10,7 @@ ghost use Rattle.mc_shelf.specs.States.{nothing_held};
 use crate::entry::Entry;
 use crate::shelf::Shelf;
 use mc_command::counts_follow;
-use mc_slab::Chunks;
+use mc_slab::{Chunks, Class};
 use std::mem;
 
 impl Shelf {
@@ -39,8 +40,8 @@ impl Shelf {
         self.index.is_empty()
     }
 
-    /// Takes an entry off: the first whose number is at or above `at`, or the first of all where none is. `at` becomes its
-    /// number, so that a walk looks at each number about once.
+    /// Takes an entry off: the first whose number is at or above `at`, or the first of all if none
+    /// is. `at` becomes its number, so that a walk looks at each number about once.
     fn take_next(&mut self, at: &mut usize) -> Option<Entry>
         ensures some { IfSome result (IsOff self.old.content self.new.content) }
         ensures none { result ≡ None → self.old.content.items ≡ empty }
@@ -49,10 +50,56 @@ impl Shelf {
         *at = number;
         Some(self.index.remove(place))
     }
+
+    /// Takes the first entry off that lies in chunks of a class and whose number is at or above `at`, which becomes its number.
+    fn take_of(&mut self, class: Class, at: &mut usize) -> Option<Entry>
+        ensures some { IfSome result (IsOff self.old.content self.new.content) }
+        ensures class { IfSome result (λ entry. (item_need entry.key entry.item).class ≡ class) }
+        ensures none { result ≡ None → self.new ≡ self.old }
+    {
+        let (number, place) = self.index.of_class_from(class, *at)?;
+        *at = number;
+        Some(self.index.remove(place))
+    }
 }
 
-/// Takes an item off the last shelf that has one, from `at` on, and answers its chunks. Shelves behind it are dropped, as they
-/// have none; where no shelf has an item, all are.
+/// A place of shelves aside, from which a search over them goes on.
+#[derive(Clone, Copy)]
+pub(crate) struct Seek {
+    /// Which of the shelves.
+    shelf: usize,
+    /// The number of the entry.
+    at: usize,
+}
+
+impl Seek {
+    /// The first place of all.
+    pub(crate) const START: Seek = Seek { shelf: 0, at: 0 };
+}
+
+/// Takes an item in chunks of a class off the shelves aside, the first from a place on, and answers its chunks. All others stay. The
+/// place becomes the item's; where none was found, the first of all.
+pub(crate) fn chunks_of(aside: &mut Vec<Shelf>, class: Class, from: &mut Seek) -> Option<Chunks>
+    ensures off { IfSome result (AreOff aside.old.items aside.new.items) }
+    ensures class { IfSome result (λ chunks. chunks.class ≡ class) }
+    ensures none { result ≡ None → aside.new.items ≡ aside.old.items }
+{
+    counts_follow();
+    let Seek { mut shelf, mut at } = *from;
+    while shelf < aside.len() {
+        if let Some(entry) = aside[shelf].take_of(class, &mut at) {
+            *from = Seek { shelf, at };
+            return Some(entry.into_chunks());
+        }
+        shelf += 1;
+        at = 0;
+    }
+    *from = Seek::START;
+    None
+}
+
+/// Takes an item off the last shelf that has one, from `at` on, and answers its chunks. Shelves
+/// behind it are dropped, as they have none; if no shelf has an item, all are.
 pub(crate) fn next_chunks(aside: &mut Vec<Shelf>, at: &mut usize) -> Option<Chunks>
     ensures off { IfSome result (AreOff aside.old.items aside.new.items) }
     ensures none { result ≡ None → aside.new.items ≡ [] }

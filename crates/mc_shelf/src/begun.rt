@@ -59,9 +59,9 @@ impl Begun {
 }
 
 impl Shelf {
-    /// Does what is left of a plan's step that was begun at this shelf, with no other step between, and answers it; the plan
-    /// has no answer then. Copies the step's block where that is left to be written, and takes no memory. No entry of an
-    /// old table is moved.
+    /// Does what is left of a plan's step that was begun at this shelf, with no other step between,
+    /// and answers it; the plan has no answer then. Copies the step's block if that is left to be
+    /// written, and takes no memory. No entry of an old table is moved.
     #[tactic(auto, using(crate::proofs::CountLemmas::table_rules))]
     pub fn finish(&mut self, plan: &mut Plan<'_>, begun: Begun, step: &KeyStep<'_>) -> Reply
         requires { CanFinish plan.old begun step.now self.old }

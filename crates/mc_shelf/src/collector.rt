@@ -1,5 +1,8 @@
 //! The slab of a desk, some of whose free chunks are collected later.
 
+#[cfg(test)]
+pub(crate) mod tests;
+
 ghost use Rattle.std.specs.Prelude.{◌≡◌, ◌+◌, ◌-◌, ◌<◌, ◌≤◌, ℕ, List, [], true, false, slice_index, vec_len, IfOk};
 ghost use Rattle.mc_slab.specs.Classes.{IsClass};
 ghost use Rattle.mc_slab.specs.Slabs.{
@@ -12,19 +15,19 @@ ghost use Rattle.mc_slab.specs.Slabs.{
   pages_of,
   untouched,
 };
-ghost use Rattle.mc_shelf.specs.Asides.{AreCollected, LieAside, Suffices, all_out, count_in, none_out};
+ghost use Rattle.mc_shelf.specs.Asides.{AreCollected, GivesOwn, LieAside, Suffices, all_out, count_in, none_out};
 
-use crate::aside::{join, next_chunks};
+use crate::aside::{Seek, chunks_of, join, next_chunks};
 use crate::shelf::Shelf;
 use mc_slab::{Account, Chunks, Class, Need, Pages, Slab, TakeFault};
 use std::alloc::{AllocError, Global};
 use std::marker::Model;
 
 /// How many items a write collects of the shelves aside.
-const FEW: u32 = 8;
+const FEW: u32 = 1;
 
-/// A slab, and shelves that were laid aside whole. The chunks of their items are free at once: they are collected one by one, a
-/// few with each write, and as many as it takes before a class gets a page.
+/// A slab, and shelves that were laid aside whole. The chunks of their items are free at once: they are collected one with each
+/// write, and where a class has too few unused chunks its own are, as many as it takes, before it gets a page.
 ///
 /// Contracts see the slab as if all of them were collected.
 #[derive(Drop)]
@@ -36,6 +39,9 @@ pub(crate) struct Collector {
     aside: Vec<Shelf>,
     /// Where the walk over the last one goes on.
     at: usize,
+    /// Of each class, class 1 first, where the search for its chunks aside goes on. None of them lies before it, but for one of a
+    /// stray that took the place of another.
+    sought: [Seek; 40],
 }
 
 impl Model for Collector {
@@ -63,6 +69,7 @@ impl Collector {
             out: [0; 40],
             aside: Vec::new(alloc),
             at: 0,
+            sought: [Seek::START; 40],
         })
     }
 
@@ -94,8 +101,9 @@ impl Collector {
         self.take_all_with(alloc, need, None)
     }
 
-    /// Takes the chunks of a need, as a slab does with pages that are brought. Where its class has too few unused chunks, those
-    /// aside are collected first, until it has enough or none of the class lies aside.
+    /// Takes the chunks of a need, as a slab does with pages that are brought. If its class has too
+    /// few unused chunks, its own aside are collected first, until it has enough or none of the class
+    /// lies aside.
     pub(crate) fn take_all_with(
         &mut self,
         alloc: Global,
@@ -106,9 +114,18 @@ impl Collector {
     {
         let place = place_of(need.class());
         let out = self.out[place];
-        collect_for(&mut self.slab, &mut self.aside, &mut self.at, need, 0, out);
+        collect_for(
+            &mut self.slab,
+            &mut self.aside,
+            &mut self.at,
+            &mut self.sought,
+            need,
+            0,
+            out,
+        );
         match self.slab.take_all_with(alloc, need, pages) {
             Ok(chunks) => {
+                // what holds of every slab, for the proof
                 let _most = self.slab.account(need.class());
                 self.out[place] = out + need.count();
                 Ok(chunks)
@@ -117,8 +134,9 @@ impl Collector {
         }
     }
 
-    /// Gives the class of a need the pages that it will want, as a slab does with pages that are brought. Where it has too few
-    /// unused chunks, those aside are collected first, until it has enough or none of the class lies aside.
+    /// Gives the class of a need the pages that it will want, as a slab does with pages that are
+    /// brought. If it has too few unused chunks, its own aside are collected first, until it has
+    /// enough or none of the class lies aside.
     pub(crate) fn ready_with(
         &mut self,
         alloc: Global,
@@ -134,6 +152,7 @@ impl Collector {
             &mut self.slab,
             &mut self.aside,
             &mut self.at,
+            &mut self.sought,
             need,
             back,
             out,
@@ -152,7 +171,7 @@ impl Collector {
         self.out[place_of(need.class())] -= need.count();
     }
 
-    /// Collects a few items of the shelves aside, where there are some.
+    /// Collects a few items of the shelves aside, if there are some.
     pub(crate) fn collect(&mut self)
         ensures { self.new ≡ self.old }
     {
@@ -171,6 +190,7 @@ impl Collector {
         make_room(&mut self.slab, &mut self.aside, &mut self.at, room);
         self.aside = join(shelves, &mut self.aside);
         self.at = 0;
+        self.sought = [Seek::START; 40];
         self.out = [0; 40];
     }
 }
@@ -183,7 +203,7 @@ fn place_of(class: Class) -> usize
     usize::from(class.number()) - 1
 }
 
-/// Collects one item of the shelves aside. Answers whether there was one; where there was none, no shelf is left.
+/// Collects one item of the shelves aside. Returns whether there was one; if not, no shelf is left.
 fn collect_one(slab: &mut Slab, aside: &mut Vec<Shelf>, at: &mut usize) -> bool
     requires { (out : List ℕ) × LieAside slab.old out aside.old.items }
     ensures collected { AreCollected slab.old slab.new aside.old.items aside.new.items }
@@ -239,12 +259,59 @@ fn lacks(slab: &Slab, need: Need, back: u64, out: u32) -> bool
     chunks - u64::from(account.out) + back < u64::from(need.count())
 }
 
+/// Collects an item in chunks of a class, the first that a search finds. Answers whether it found one. Chunks of other classes stay
+/// where they are.
+fn collect_of(
+    slab: &mut Slab,
+    aside: &mut Vec<Shelf>,
+    sought: &mut [Seek; 40],
+    class: Class,
+) -> bool
+    requires { (out : List ℕ) × LieAside slab.old out aside.old.items }
+    ensures collected { AreCollected slab.old slab.new aside.old.items aside.new.items }
+    ensures own { result ≡ true → GivesOwn class slab.old slab.new }
+    ensures none { result ≡ false → slab.new ≡ slab.old }
+{
+    let place = place_of(class);
+    let mut from = sought[place];
+    let found = chunks_of(aside, class, &mut from);
+    sought[place] = from;
+    match found {
+        Some(chunks) => {
+            slab.give_all(chunks);
+            true
+        }
+        None => false,
+    }
+}
+
+/// Collects an item for a class: one in its chunks, and where the search finds none the first of all. The search begins anew then,
+/// so it finds what a stray that went took to a place behind it. Answers whether there was one.
+fn collect_next(
+    slab: &mut Slab,
+    aside: &mut Vec<Shelf>,
+    at: &mut usize,
+    sought: &mut [Seek; 40],
+    class: Class,
+) -> bool
+    requires { (out : List ℕ) × LieAside slab.old out aside.old.items }
+    ensures collected { AreCollected slab.old slab.new aside.old.items aside.new.items }
+    ensures fewer { result ≡ true → all_out slab.new < all_out slab.old }
+    ensures none { result ≡ false → aside.new.items ≡ [] }
+{
+    if collect_of(slab, aside, sought, class) {
+        return true;
+    }
+    collect_one(slab, aside, at)
+}
+
 /// Collects items until a need's class has unused chunks enough, once so many that are out came back, or none of it lies aside.
 /// `out` is how many chunks of it are out beside those.
 fn collect_for(
     slab: &mut Slab,
     aside: &mut Vec<Shelf>,
     at: &mut usize,
+    sought: &mut [Seek; 40],
     need: Need,
     back: u64,
     out: u32,
@@ -256,7 +323,7 @@ fn collect_for(
     ensures enough { Suffices slab.new need back out }
 {
     while lacks(slab, need, back, out) {
-        if !collect_one(slab, aside, at) {
+        if !collect_next(slab, aside, at, sought, need.class()) {
             return;
         }
     }

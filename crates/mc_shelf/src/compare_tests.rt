@@ -1,6 +1,6 @@
 //! The store by shelves beside the plain store: the same steps, drawn at random, are answered
-//! alike, while tables grow and the dead are purged between them, and the clock goes back at times. Where an allocation is refused, a store takes the step
-//! when it is asked again.
+//! alike, while tables grow and the dead are purged between them, and the clock goes back at times.
+//! If an allocation is refused, a store takes the step when it is asked again.
 
 ghost use Rattle.std.specs.Prelude.{◌<◌, ◌≤◌, length};
 ghost use Rattle.mc_command.specs.Commands.{key_of};
@@ -122,7 +122,7 @@ fn step_with<'a>(
     }
 }
 
-/// Takes a step in both stores, and compares the replies.
+/// Takes a step in both stores, and returns whether the replies are alike.
 fn is_answered_alike<K: KeyHash + Drop>(
     alloc: Global,
     store: &mut Store<K>,
@@ -205,8 +205,8 @@ impl<K: KeyHash + Drop> Pair<K> {
     }
 
     /// Takes 4000 steps in both, each up to 11 seconds after a moment that rises, so that many come
-    /// before the last one's. After each one entry of the first shelf's old table is moved, and after
-    /// some the dead of another such moment are dropped. Answers whether any entry was moved.
+    /// before the last one's. After each one entry of the first shelf's old table is moved, and
+    /// after some the dead of another such moment are dropped. Returns whether any entry was moved.
     fn compare(&mut self, rt: &impl Abort, alloc: Global) -> Result<bool, Fail> {
         let mut dice = Dice::new(1);
         let mut moved = false;

@@ -1,5 +1,8 @@
 //! What the shelves of a store share.
 
+#[cfg(test)]
+mod tests;
+
 ghost use Rattle.std.specs.Prelude.{◌≡◌, ◌+◌, ◌-◌, ◌^◌, ◌<◌, ◌≤◌, true, false, None, IfOk, IfErr, IfSome, OnOk, OnErr};
 ghost use Rattle.std.specs.Prelude.{ℕ, List};
 ghost use Rattle.mc_slab.specs.Needs.{IsNeed};
@@ -83,7 +86,7 @@ impl Desk {
         self.slab.account(class)
     }
 
-    /// Tells the number that the next write draws; 2^64 - 1 where they are spent.
+    /// Tells the number that the next write draws; 2^64 - 1 if they are spent.
     pub fn next_unique(&self) -> u64
         ensures value { result ≡ self.now.next_unique }
         ensures slab { IsSlab self.now.slab }
@@ -91,7 +94,7 @@ impl Desk {
         self.next_unique
     }
 
-    /// Answers whether the unique numbers are spent.
+    /// Returns whether the unique numbers are spent.
     pub(crate) fn is_spent(&self) -> bool
         ensures spent { result ≡ true → self.now.next_unique ≡ 2 ^ 64 - 1 }
         ensures left { result ≡ false → self.now.next_unique < 2 ^ 64 - 1 }
@@ -100,8 +103,8 @@ impl Desk {
         self.next_unique() == u64::MAX
     }
 
-    /// Draws the next number, where they are not spent. Of shelves that lie aside a few items are collected, as each write draws
-    /// a number.
+    /// Draws the next number, if they are not spent. Of shelves that lie aside an item is
+    /// collected, as each write draws a number.
     pub(crate) fn draw(&mut self) -> u64
         requires { self.old.next_unique < 2 ^ 64 - 1 }
         ensures number { result ≡ self.old.next_unique }
@@ -160,8 +163,8 @@ impl Desk {
         u64::from(need.count()).saturating_sub(at_hand) as u32
     }
 
-    /// Tells which pages a need asks for, once so many chunks of its class came back; none where it asks for none, or can't
-    /// be had.
+    /// Tells which pages a need asks for, once so many chunks of its class came back; none if it
+    /// asks for none, or can't be had.
     pub(crate) fn wanted(&self, need: Need, back: u64) -> Option<Wanted>
         requires { back ≤ 8 }
         ensures wanted { IfSome result (λ wanted. WantsPages self.now.slab need back
@@ -182,8 +185,9 @@ impl Desk {
         })
     }
 
-    /// Takes the chunks of a need, of any content, where they can be had. Pages that its class wants for them are all that takes
-    /// memory; they are those that are brought, where so many of its class are. Refused, the desk is as it was.
+    /// Takes the chunks of a need, of any content, if they can be had. Pages that its class wants
+    /// for them are all that takes memory; they are those that are brought, if so many of its class
+    /// are. Refused, the desk is as it was.
     pub(crate) fn take(
         &mut self,
         alloc: Global,
@@ -205,8 +209,9 @@ impl Desk {
         }
     }
 
-    /// Gives a need's class the pages that it wants for it once so many of its chunks, which are out, come back, where the need
-    /// can be had then. They are those that are brought, where so many of its class are. Refused, the desk is as it was.
+    /// Gives a need's class the pages that it wants for it once so many of its chunks, which are
+    /// out, come back, if the need can be had then. They are those that are brought, if so many of
+    /// its class are. Refused, the desk is as it was.
     pub(crate) fn ready(
         &mut self,
         alloc: Global,
@@ -224,6 +229,7 @@ impl Desk {
         ensures is_need { IsNeed need }
         ensures slab { IsSlab self.old.slab }
     {
+        // what holds of every slab, for the proof
         let _account = self.slab.account(need.class());
         match self.slab.ready_with(alloc, need, back, pages) {
             Ok(()) => Ok(()),
@@ -231,7 +237,8 @@ impl Desk {
         }
     }
 
-    /// Takes the chunks of a need, of any content, where so many of its class are unused. It takes no memory.
+    /// Takes the chunks of a need, of any content, if so many of its class are unused. It takes no
+    /// memory.
     pub(crate) fn take_unused(&mut self, alloc: Global, need: Need) -> Chunks
         requires { need.count ≤ unused self.old.slab need.class }
         ensures chunks { AreChunksOf need result }
@@ -257,9 +264,9 @@ impl Desk {
     }
 
     /// Lays aside shelves that are with this desk the parts of a state: no chunk is out then. It takes no memory. The cost
-    /// doesn't grow with their items: the chunks of these are free, and are collected later, a few with each write, and as many as
-    /// it takes before a class gets a page. Of shelves that lie aside already those with items stay so as far as the vector has
-    /// room for them; for want of room items are collected at once.
+    /// doesn't grow with their items: the chunks of these are free, and are collected later, an item's with each write, and as
+    /// many of a class as it takes before that gets a page. Of shelves that lie aside already those with items stay so as far as
+    /// the vector has room for them; for want of room items are collected at once.
     pub fn lay_aside(&mut self, shelves: Vec<Shelf>)
         requires { (hash_of : List ℕ → ℕ) × (state : Plain) × (count : ℕ)
             × ArePartsOf hash_of state shelves.items count self.old }

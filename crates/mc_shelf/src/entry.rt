@@ -285,7 +285,7 @@ impl Standing for Entry {
         self.item.unique()
     }
 
-    /// Reads the number that its block is, where it is one.
+    /// Reads the number that its block is, if it is one.
     fn number(&self) -> Option<u64>
         ensures value { result ≡ number_of self.now.item.block }
     {

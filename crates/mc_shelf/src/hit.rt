@@ -56,8 +56,8 @@ impl<'a> Hit<'a> {
         self.entry.block_len()
     }
 
-    /// Counts the parts in which the item's block lies, 1 to 8: more than one only where the block, the key and 48 bytes are
-    /// more than 1048576.
+    /// Counts the parts in which the item's block lies, 1 to 8: more than one only if the block,
+    /// the key and 48 bytes are more than 1048576.
     pub fn parts(&self) -> usize
         ensures value { result ≡ (item_need self.now.key self.now.item).count }
         ensures joined { concat (parts_of self.now.key self.now.item) ≡ self.now.item.block }
@@ -94,8 +94,8 @@ pub enum Found<'a> {
 }
 
 impl Shelf {
-    /// Finds what stands under a key at a moment. `hash` is the hash that the shelf has with the key, where it has the key. It
-    /// takes no memory.
+    /// Finds what stands under a key at a moment. `hash` is the hash that the shelf has with the
+    /// key, if it has the key. It takes no memory.
     pub fn find(&self, key: &[u8], hash: u64, now: Moment) -> Found<'_>
         requires { IsHash self.now.content key.now hash }
         ensures { result
@@ -113,9 +113,10 @@ impl Shelf {
         Found::Standing(Hit { entry, place })
     }
 
-    /// Takes a read of a key that has no dead item: sets the new expiry of the item, where the read gives one. `place` is where
-    /// `find` found the item, and none where it found nothing; another place costs a search, and no more. The answer is a hit of
-    /// the item as it stood, and no block is copied for it. It takes no memory.
+    /// Takes a read of a key that has no dead item: sets the new expiry of the item, if the read
+    /// gives one. `place` is where `find` found the item, and none if it found nothing; another
+    /// place costs a search, and no more. The answer is a hit of the item as it stood, and no block
+    /// is copied for it. It takes no memory.
     pub fn settle_read(&mut self, step: &KeyStep<'_>, hash: u64, now: Moment, place: Option<Place>)
         requires read { is_read step.now ≡ true }
         requires known { IsKnown self.old.content (key_of step.now) hash place }
@@ -133,7 +134,7 @@ impl Shelf {
     }
 }
 
-/// Finds the expiry that a read sets, where it sets one.
+/// Finds the expiry that a read sets, if it sets one.
 fn read_expiry(step: &KeyStep<'_>, now: Moment) -> Option<Expiry>
     ensures { result ≡ read_expiry step.now now }
 {

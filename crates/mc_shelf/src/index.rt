@@ -16,6 +16,7 @@ ghost use Rattle.mc_shelf.specs.Places.{
   IsEntryOf,
   IsKeyAt,
   IsKeyFound,
+  IsOfClass,
   KeyGoes,
   KeyComes,
   entries_of,
@@ -31,6 +32,7 @@ use mc_command::Standing;
 pub(crate) use mc_grow::Place;
 use mc_hop::Keyed;
 use mc_item::Parts;
+use mc_slab::Class;
 use mc_time::{Expiry, Moment};
 use std::alloc::{AllocError, Global};
 use std::marker::Model;
@@ -48,7 +50,7 @@ const CATCH_UP: usize = 8;
 #[derive(Drop)]
 pub(crate) struct Index {
     entries: mc_grow::Index<Entry>,
-    /// No entry's item is dead where an item of these two moments isn't.
+    /// No entry's item is dead if an item of these two moments isn't.
     soonest: Soonest,
 }
 
@@ -85,7 +87,8 @@ impl Index {
         })
     }
 
-    /// Finds the place of a key. `hash` is the hash that the index has with the key, where it has the key.
+    /// Finds the place of a key. `hash` is the hash that the index has with the key, if it has the
+    /// key.
     pub(crate) fn find(&self, hash: u64, key: &[u8]) -> Option<Place>
         requires { IsHashOf (entries_of self.now) key.now hash }
         ensures { IsKeyFound self.now key.now result }
@@ -93,9 +96,9 @@ impl Index {
         self.entries.find(hash, key)
     }
 
-    /// Finds the place of a key that was looked for before: `found` is what was found, and none only where no entry has the
-    /// key. Whatever the place is, the answer is right: it looks there first, which is all the cost where the entry was found
-    /// there and has not moved since.
+    /// Finds the place of a key that was looked for before: `found` is what was found, and none
+    /// only if no entry has the key. Whatever the place is, the answer is right: it looks there
+    /// first, which is all the cost if the entry was found there and has not moved since.
     pub(crate) fn find_again(&self, found: Option<Place>, hash: u64, key: &[u8]) -> Option<Place>
         requires hash { IsHashOf (entries_of self.now) key.now hash }
         requires none { found ≡ None → get (items_of self.now) key.now ≡ None }
@@ -111,15 +114,15 @@ impl Index {
         self.get(found?)
     }
 
-    /// Lends the entry at a place, where one stands there.
+    /// Lends the entry at a place, if one stands there.
     pub(crate) fn get(&self, place: Place) -> Option<&Entry>
         ensures { option_copied result ≡ entry_at self.now place }
     {
         self.entries.get(place)
     }
 
-    /// Makes room for one entry more, and begins a growth where one is due. A growth that lags moves 8 entries first. The
-    /// entries are as before, refused or not.
+    /// Makes room for one entry more, and begins a growth if one is due. A growth that lags moves 8
+    /// entries first. The entries are as before, refused or not.
     pub(crate) fn reserve(&mut self, alloc: Global) -> Result<(), AllocError>
         ensures entries { entries_of self.new ≡ entries_of self.old }
         ensures room { OnOk result (1 ≤ self.new.spare) }
@@ -129,8 +132,8 @@ impl Index {
         self.entries.reserve(alloc)
     }
 
-    /// Moves entries of the old table where a growth lags, so that it ends before the new table is full, also where no other
-    /// moves come. It takes no memory.
+    /// Moves entries of the old table if a growth lags, so that it ends before the new table is
+    /// full, even if no other moves come. It takes no memory.
     fn catch_up(&mut self)
         ensures entries { entries_of self.new ≡ entries_of self.old }
         ensures count { len (items_of self.new) ≡ count self.new }
@@ -250,9 +253,9 @@ impl Index {
         self.entries.remove(place)
     }
 
-    /// Finds the first entry whose number is at or above `at`, for a sweep over all entries: each has one number, and a
-    /// removal changes no lower one. Answers the number and the place. A sweep goes on at the number after it, and where it
-    /// removed the entry, at the number itself.
+    /// Finds the first entry whose number is at or above `at`, for a sweep over all entries: each
+    /// has one number, and a removal changes no lower one. Answers the number and the place. A
+    /// sweep goes on at the number after it, and if it removed the entry, at the number itself.
     pub(crate) fn filled_from(&self, at: usize) -> Option<(usize, Place)>
         ensures next { IsNext self.now at result }
         ensures keyed { IsKeyed (entries_of self.now) }
@@ -261,8 +264,8 @@ impl Index {
         self.entries.filled_from(at)
     }
 
-    /// Finds an entry: the first whose number is at or above `at`, or the first of all where none is. Answers the number and the
-    /// place, and none only where no entry is there.
+    /// Finds an entry: the first whose number is at or above `at`, or the first of all if none is.
+    /// Answers the number and the place, and none only if no entry is there.
     pub(crate) fn any_from(&self, at: usize) -> Option<(usize, Place)>
         ensures filled { IfSome result (λ found. IsFilled self.now found.1) }
         ensures none { result ≡ None → items_of self.now ≡ empty }
@@ -271,6 +274,29 @@ impl Index {
             Some(found) => Some(found),
             None => self.filled_from(0),
         }
+    }
+
+    /// Finds the first entry in chunks of a class whose number is at or above `at`. Answers the number and the place. It reads the
+    /// index, and no item's memory but where the chunks are pages.
+    pub(crate) fn of_class_from(&self, class: Class, at: usize) -> Option<(usize, Place)>
+        ensures { IfSome result (λ found. IsOfClass self.now class found.1) }
+    {
+        let mut at = at;
+        while let Some((number, place)) = self.filled_from(at) {
+            if self.is_of_class(place, class) {
+                return Some((number, place));
+            }
+            at = number + 1;
+        }
+        None
+    }
+
+    /// Returns whether the entry at a place lies in chunks of a class.
+    fn is_of_class(&self, place: Place, class: Class) -> bool
+        requires { IsFilled self.now place }
+        ensures { result ≡ true → IsOfClass self.now class place }
+    {
+        self.entries.get(place).unwrap().need().class() == class
     }
 
     /// Gives the hash of the entry at a place.
@@ -313,7 +339,7 @@ impl Index {
         }
     }
 
-    /// Answers whether no entry is there.
+    /// Returns whether no entry is there.
     pub(crate) fn is_empty(&self) -> bool
         ensures items { result ≡ true → items_of self.now ≡ empty }
         ensures hashes { result ≡ true → hashes_of self.now ≡ empty }
@@ -322,7 +348,8 @@ impl Index {
         self.entries.len() == 0
     }
 
-    /// Answers whether an item may be dead at a moment, with a flush at `cut`: if not, none is. It walks no entry.
+    /// Returns whether an item may be dead at a moment, with a flush at `cut`: if not, none is. It
+    /// walks no entry.
     pub(crate) fn may_have_dead(&self, cut: Option<u64>, now: Moment) -> bool
         ensures none { result ≡ false → NoneIsDead now cut (items_of self.now) }
         ensures keyed { IsKeyed (entries_of self.now) }
@@ -338,9 +365,9 @@ impl Index {
         self.soonest = soonest;
     }
 
-    /// Moves up to `n` entries of an old table, and answers how many it moved: as many as are left, where they are fewer.
-    /// The entries stay, and no memory is taken. The cost grows with `n`, and at a growth's end with the entries that stand
-    /// in no table.
+    /// Moves up to `n` entries of an old table, and answers how many it moved: as many as are left,
+    /// if they are fewer. The entries stay, and no memory is taken. The cost grows with `n`, and at
+    /// a growth's end with the entries that stand in no table.
     pub(crate) fn move_some(&mut self, n: usize) -> usize
         ensures moved { result ≡ min n (left self.old) }
         ensures left { left self.new ≡ left self.old - result }

@@ -59,8 +59,8 @@ pub fn steps_change_one_shelf()
     pages_stay();
 }
 
-/// States where a step that writes is refused at the desk. With the unique numbers spent, the plain
-/// machine is out of numbers too, in each state that stands for the shelf and the desk; and where
+/// States when a step that writes is refused at the desk. With the unique numbers spent, the plain
+/// machine is out of numbers too, in each state that stands for the shelf and the desk; and if
 /// the write needs pages, its answer is one that memory may be refused for.
 pub fn refusals_are_plain()
     ensures spent { (step : KeyStep) (now : ℕ) (shelf : ShelfContent) (desk : DeskState) →
@@ -90,7 +90,7 @@ impl Shelf {
 
     /// Drops the items that are dead at a moment, of a shelf that is with this desk a part of a
     /// state, and gives their chunks back: the state goes to the one purged of that shelf's dead.
-    /// It takes no memory. The cost is that of one pass over the items, and where none may be dead
+    /// It takes no memory. The cost is that of one pass over the items, and if none may be dead
     /// it walks none.
     pub fn purge_part(&mut self, now: Moment, desk: &mut Desk)
         requires { (hash_of : List ℕ → ℕ) × (shelves : ℕ) × (at : ℕ) × (state : Plain)
@@ -105,10 +105,10 @@ impl Shelf {
         self.purge(now, desk);
     }
 
-    /// Flushes the shelf, whose items' chunks are out of this desk: all items go at once, or the dead
-    /// go and the others are flushed after a delay, which is read as an exptime is. It takes no memory.
-    /// The cost is that of one pass over the items, and with a delay it walks none where none may be
-    /// dead.
+    /// Flushes the shelf, whose items' chunks are out of this desk: all items go at once, or the
+    /// dead go and the others are flushed after a delay, which is read as an exptime is. It takes
+    /// no memory. The cost is that of one pass over the items, and with a delay it walks none if
+    /// none may be dead.
     pub fn flush(&mut self, delay: u64, now: Moment, desk: &mut Desk)
         requires { AreOut self.old.content desk.old }
         ensures shelf { IsFlushed delay now self.old.content self.new.content }
@@ -125,8 +125,8 @@ impl Shelf {
 
 /// Flushes a state by its parts, all its shelves in their order and the desk: all items go at once,
 /// or the dead go and the others are flushed after a delay, which is read as an exptime is. It
-/// takes no memory. The cost is that of one pass over the items of each shelf where one may be dead,
-/// or where all go at once, over all items.
+/// takes no memory. The cost is that of one pass over the items of each shelf where one may be
+/// dead, or, if all go at once, over all items.
 pub fn flush_parts(shelves: &mut [Shelf], desk: &mut Desk, delay: u64, now: Moment)
     requires { (hash_of : List ℕ → ℕ) × (state : Plain) × (count : ℕ)
         × ArePartsOf hash_of state shelves.old count desk.old }

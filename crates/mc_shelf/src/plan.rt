@@ -55,7 +55,7 @@ pub struct Plan<'a> {
     pub(crate) key: Bytes<'a>,
     /// The hash of the key.
     pub(crate) hash: u64,
-    /// Where the key's item was found, and none where the key has no item.
+    /// Where the key's item was found, and none if the key has no item.
     pub(crate) place: Option<Place>,
     /// What comes next.
     pub(crate) next: Next,
@@ -203,7 +203,7 @@ fn charge_of(step: &KeyStep<'_>, item: Option<&Entry>, draft: Draft) -> u64
     charge(step.key(), step.block(), block_len(item), draft.body)
 }
 
-/// Counts the bytes of an item's block, and none where there is no item.
+/// Counts the bytes of an item's block, and none if there is no item.
 pub(crate) fn block_len(item: Option<&Entry>) -> usize
     ensures value { result ≡ length (block_in (item_in item.entry)) }
     ensures most { result ≤ 8388560 }

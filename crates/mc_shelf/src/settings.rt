@@ -39,9 +39,9 @@ impl Settings {
     /// The most shelves that a store may have.
     pub const MOST_SHELVES: u32 = 256;
 
-    /// Makes settings of so many pages, 1 to 65536, the greatest charge of an item, 1048576 to 8388608
-    /// bytes, and so many shelves, a power of two from 1 to 256. Where one of them is out of its range it
-    /// makes none.
+    /// Makes settings of so many pages, 1 to 65536, the greatest charge of an item, 1048576 to
+    /// 8388608 bytes, and so many shelves, a power of two from 1 to 256. If one of them is out of
+    /// its range it makes none.
     pub fn new(pages: u32, greatest: u64, shelves: u32) -> Option<Settings>
         ensures some { IfSome result (λ settings. (settings.pages ≡ pages)
             × (settings.greatest ≡ greatest) × (settings.shelves ≡ shelves)) }

@@ -129,9 +129,10 @@ impl Shelf {
         self.index.len()
     }
 
-    /// Counts the keys of each number, the hash modulo 4096: sets the place of each number that a key has to how many keys have
-    /// it. It is asked with 4096 places, 0 at these; the others stay. It takes no memory. The cost is that of one pass over the
-    /// items, and where there are none it walks nothing.
+    /// Counts the keys of each number, the hash modulo 4096: sets the place of each number that a
+    /// key has to how many keys have it. It is asked with 4096 places, 0 at these; the others stay.
+    /// It takes no memory. The cost is that of one pass over the items, and if there are none it
+    /// walks nothing.
     pub fn count_numbers(&self, counts: &mut [u64])
         requires { HasPlaces self.now.content counts.old }
         ensures { AreCounted self.now.content counts.old counts.new }
@@ -146,9 +147,9 @@ impl Shelf {
         }
     }
 
-    /// Takes a step on one key at a moment: looks it up, and then settles it, or applies it at the desk. Refused, or with the
-    /// unique numbers spent, the shelf holds what it held, and the desk is as it was. `hash` is the hash that the shelf has
-    /// with the key, where it has the key.
+    /// Takes a step on one key at a moment: looks it up, and then settles it, or applies it at the
+    /// desk. Refused, or with the unique numbers spent, the shelf holds what it held, and the desk
+    /// is as it was. `hash` is the hash that the shelf has with the key, if it has the key.
     ///
     /// Numbers and room are asked before memory is: spent numbers, an item that is too large and one that finds no chunk are
     /// always answered so. A growth of its table may begin, and of an old table 8 entries are moved at most, beside the key's own,
@@ -179,9 +180,10 @@ impl Shelf {
         self.apply(alloc, plan, step, desk)
     }
 
-    /// Finds out what a step at a moment does. Copies the block of a hit, and makes room for an entry that a write puts in: of a
-    /// new key, or where a dead item gives way to it; nothing else takes memory. The shelf holds what it held, though a growth of
-    /// its table may begin, and one that lags moves 8 entries.
+    /// Finds out what a step at a moment does. Copies the block of a hit, and makes room for an
+    /// entry that a write puts in: of a new key, or if a dead item gives way to it; nothing else
+    /// takes memory. The shelf holds what it held, though a growth of its table may begin, and one
+    /// that lags moves 8 entries.
     pub fn look<'a>(
         &mut self,
         alloc: Global,
@@ -270,8 +272,8 @@ impl Shelf {
         }
     }
 
-    /// Tells which pages are asked for where the step of a plan is taken at the desk, and none where none are. Pages that are
-    /// made before the desk is held may be brought to `begin` then.
+    /// Returns the pages that the step of a plan asks for at the desk, if it asks for any. Pages
+    /// that are made before the desk is held may be brought to `begin` then.
     pub fn page_wanted(&self, plan: &Plan<'_>, desk: &Desk) -> Option<Wanted>
         requires { (step : Step) × (now : ℕ) × IsPlan plan.now self.now.content step now }
         ensures wanted { IfSome result (λ wanted. (needs : NeedsPages plan.now.next
@@ -303,9 +305,10 @@ impl Shelf {
     /// that the step brings is left to `finish` if it goes into the old item's chunks, or is large, so that the cost doesn't grow
     /// with it.
     ///
-    /// Pages that the slab gives to a class are all that take memory; they are those that are brought, where so many of that
-    /// class are. Refused, or with the unique numbers spent, the shelf holds what it held, and the desk is as it was. No entry of
-    /// an old table is moved, though the key's own may go.
+    /// Pages that the slab gives to a class are all that take memory; they are those that are
+    /// brought, if so many of that class are. Refused, or with the unique numbers spent, the shelf
+    /// holds what it held, and the desk is as it was. No entry of an old table is moved, though the
+    /// key's own may go.
     #[tactic(auto, using(crate::proofs::CountLemmas::table_rules))]
     pub fn begin(
         &mut self,
@@ -356,8 +359,9 @@ impl Shelf {
         }
     }
 
-    /// Drops the items that are dead at a moment, and gives their chunks back. It takes no memory. The cost is that of one
-    /// pass over the items, and where none may be dead it walks none. No entry is moved.
+    /// Drops the items that are dead at a moment, and gives their chunks back. It takes no memory.
+    /// The cost is that of one pass over the items, and if none may be dead it walks none. No entry
+    /// is moved.
     pub fn purge(&mut self, now: Moment, desk: &mut Desk)
         requires { AreOut self.old.content desk.old }
         ensures shelf { IsPurged now self.old.content self.new.content }
@@ -383,8 +387,8 @@ impl Shelf {
         self.index.keep_soonest(soonest);
     }
 
-    /// Drops all items, and gives their chunks back. It takes no memory. The cost is that of one pass over the items, and where
-    /// there are none it walks nothing. No entry is moved.
+    /// Drops all items, and gives their chunks back. It takes no memory. The cost is that of one
+    /// pass over the items, and if there are none it walks nothing. No entry is moved.
     pub fn clear(&mut self, desk: &mut Desk)
         requires { AreOut self.old.content desk.old }
         ensures shelf { self.new.content
@@ -412,8 +416,9 @@ impl Shelf {
         self.cut = cut;
     }
 
-    /// Moves up to `n` entries of an old table, and answers how many it moved: as many as are left, where they are fewer. The
-    /// shelf holds what it held, and no memory is taken. The cost grows with `n`.
+    /// Moves up to `n` entries of an old table, and answers how many it moved: as many as are left,
+    /// if they are fewer. The shelf holds what it held, and no memory is taken. The cost grows with
+    /// `n`.
     pub fn grow(&mut self, n: usize) -> usize
         ensures content { self.new.content ≡ self.old.content }
         ensures moved { result ≡ min n self.old.left }
@@ -432,8 +437,9 @@ impl Shelf {
         self.index.left()
     }
 
-    /// Counts the items, the homes of the table that new entries go to, the entries of an old table that are left to move, and
-    /// those that stand in no table, and tells whether the table grows. It walks nothing.
+    /// Counts the items, the homes of the table that new entries go to, the entries of an old table
+    /// that are left to move, and those that stand in no table, and says whether the table grows.
+    /// It walks nothing.
     pub fn counts(&self) -> ShelfCounts
         ensures value { result ≡ counts_of self.now }
         ensures fits { FitTogether result }
@@ -468,7 +474,7 @@ impl Shelf {
         })
     }
 
-    /// Lends the entry of a key, where it has the key.
+    /// Lends the entry of a key, if it has the key.
     pub(crate) fn entry(&self, place: Option<Place>, hash: u64, key: &[u8]) -> Option<&Entry>
         requires { IsKnown self.now.content key.now hash place }
         ensures item { item_in result ≡ get self.now.content.items key.now }
@@ -478,7 +484,7 @@ impl Shelf {
         self.index.found(found)
     }
 
-    /// Lends the entry of a plan's key, where it has the key.
+    /// Lends the entry of a plan's key, if it has the key.
     fn planned(&self, plan: &Plan<'_>) -> Option<&Entry>
         requires { (step : Step) × (now : ℕ) × IsPlan plan.now self.now.content step now }
         ensures item { item_in result ≡ get self.now.content.items plan.now.key }
@@ -503,7 +509,8 @@ impl Shelf {
         gives_way(self.planned(plan), need, self.cut, plan.moment)
     }
 
-    /// Counts the chunks of a need's class that come back where the key's item is dropped for being dead.
+    /// Counts the chunks of a need's class that come back if the key's item is dropped for being
+    /// dead.
     fn back(&self, plan: &Plan<'_>, need: Need) -> u64
         requires { (step : Step) × (now : ℕ) × IsPlan plan.now self.now.content step now }
         ensures value { result ≡ back_at self.now.content plan.now.key plan.now.moment need }
@@ -512,7 +519,7 @@ impl Shelf {
         dead_chunks(self.planned(plan), need, self.cut, plan.moment)
     }
 
-    /// Makes room for an entry, where a plan can be taken that puts it in.
+    /// Makes room for an entry, if a plan can be taken that puts it in.
     fn make_room(&mut self, alloc: Global, plan: &Plan<'_>, desk: &Desk) -> Result<(), AllocError>
         requires { (step : Step) × (now : ℕ) × IsPlan plan.now self.old.content step now }
         ensures content { self.new.content ≡ self.old.content }

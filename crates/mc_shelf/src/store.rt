@@ -149,7 +149,7 @@ impl<K: KeyHash + Drop> Store<K> {
     }
 
     /// Drops the dead items of a shelf, and no other. Of a shelf that isn't there it drops none. It
-    /// takes no memory. The cost is that of one pass over the shelf's items, and where none may be
+    /// takes no memory. The cost is that of one pass over the shelf's items, and if none may be
     /// dead it walks none.
     pub fn purge(&mut self, shelf: u32, now: Moment)
         ensures plain { self.new.plain ≡ shelf_purged (K.hash_of self.old.hasher)
@@ -164,7 +164,7 @@ impl<K: KeyHash + Drop> Store<K> {
     }
 
     /// Moves up to `n` entries of a shelf's old table, and answers how many it moved: as many as
-    /// are left, where they are fewer, and 0 of a shelf that isn't there. All else is as it was,
+    /// are left, if they are fewer, and 0 of a shelf that isn't there. All else is as it was,
     /// and no memory is taken. The cost grows with `n`.
     pub fn grow(&mut self, shelf: u32, n: usize) -> usize
         ensures moved { result ≡ min n (slice_index self.old.left shelf) }
@@ -179,7 +179,7 @@ impl<K: KeyHash + Drop> Store<K> {
         }
     }
 
-    /// Takes a step on one key, on the key's shelf. Where it isn't taken the store holds what it
+    /// Takes a step on one key, on the key's shelf. If it isn't taken the store holds what it
     /// held.
     fn step_on_key(
         &mut self,

@@ -66,7 +66,7 @@ const LARGE: usize = 4096;
 pub(crate) struct Write {
     /// The hash of the step's key.
     pub(crate) hash: u64,
-    /// Where the key's item was found, and none where the key has no item.
+    /// Where the key's item was found, and none if the key has no item.
     pub(crate) place: Option<Place>,
     /// The moment of the step.
     pub(crate) moment: Moment,
@@ -272,7 +272,7 @@ struct Fit {
     same: bool,
     /// And the write goes there in any case, since the item is dead, or a number that is counted.
     reused: bool,
-    /// Where it doesn't, how many of them a dead item gives back that are of the write's class.
+    /// If it doesn't, how many of them a dead item gives back that are of the write's class.
     back: u64,
 }
 
@@ -303,7 +303,8 @@ pub(crate) fn gives_way(found: Option<&Entry>, need: Need, cut: Option<u64>, now
     !has_need(found, need) && 0 < dead_chunks(found, need, cut, now)
 }
 
-/// Counts the chunks of a need's class that come back where the item that is found is dropped for being dead.
+/// Counts the chunks of a need's class that come back if the item that is found is dropped for
+/// being dead.
 pub(crate) fn dead_chunks(found: Option<&Entry>, need: Need, cut: Option<u64>, now: Moment) -> u64
     ensures value { (key : List ℕ) → IfSome found.entry (λ entry. entry.now.key ≡ key) →
         result ≡ plans.dead_chunks cut now key (item_in found.entry) need.class }

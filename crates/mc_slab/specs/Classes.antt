@@ -29,7 +29,7 @@ size_of class = slice_index chunk_sizes (class - 1)
 abbrev pub chunks_a_page : ℕ → ℕ
 chunks_a_page class = 1048576 / size_of class
 
--- the smallest class whose chunks hold the charge, where one does; 41 where none does
+-- the smallest class whose chunks hold the charge, if one does; 41 if none does
 abbrev pub class_holding : ℕ → ℕ
 class_holding charge = position_or_len (λ size. nat_le charge size) chunk_sizes + 1
 

@@ -21,7 +21,7 @@ need_for charge =
     if nat_le charge 1048576 then record { class = class_holding charge; count = 1 }
     else record { class = 40; count = (charge + 1048575) / 1048576 }
 
--- the same where it is at most eight pages
+-- the same if it is at most eight pages
 abbrev pub need_of : ℕ → Option NeedState
 need_of charge = if nat_le charge 8388608 then Some (need_for charge) else None
 

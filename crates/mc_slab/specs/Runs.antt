@@ -31,7 +31,7 @@ coded_pages =
     (λ p. record { class = p.0; count = p.1 })
     (λ _. refl)
 
--- how many chunks of the class a run has: as many as fit in 32768 bytes, and one where none does
+-- how many chunks of the class a run has: as many as fit in 32768 bytes, and one if none does
 abbrev pub chunks_a_run : ℕ → ℕ
 chunks_a_run class = max (32768 / size_of class) 1
 

@@ -57,7 +57,8 @@ has_room_with slab need back =
 abbrev pub has_room : SlabState → NeedState → Bool
 has_room slab need = has_room_with slab need 0
 
--- how many pages its class wants for a need, once so many chunks came back; a page gives one chunk where several are needed
+-- how many pages its class wants for a need, once so many chunks came back; a page gives one chunk
+-- if several are needed
 abbrev pub pages_wanted : SlabState → NeedState → ℕ → ℕ
 pages_wanted slab need back = need.count - (unused slab need.class + back)
 
@@ -112,8 +113,9 @@ TellsFull slab need back class pages out =
 abbrev pub full_fault : SlabState → NeedState → TakeFault
 full_fault slab need = Full need.class (pages_of slab need.class) (out_of slab need.class)
 
--- How the chunks of a need are asked for. They come all, and are out; or it is told that there is no room for them, exactly
--- where there is none, or that memory was refused, which is asked for nothing but pages. Not taken, the slab is as it was.
+-- How the chunks of a need are asked for. They come all, and are out; or it is told that there is
+-- no room for them, exactly if there is none, or that memory was refused, which is asked for
+-- nothing but pages. Not taken, the slab is as it was.
 pub record Takes (need : NeedState) (old : SlabState) (result : Result ChunksState TakeFault)
     (new : SlabState) : Type 0 where
   pub chunks : IfOk result (AreChunksOf need)

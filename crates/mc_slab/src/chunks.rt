@@ -17,7 +17,7 @@ use std::marker::Model;
 /// One chunk of a class, or two to eight chunks of a page each. Contracts see the class, the count,
 /// and the bytes of the chunks one after another. They are moved and never copied; chunks that are
 /// let go, and not given back to their slab, stay out in the slab's account for ever. The memory of
-/// a class below the last stays with the process until the process ends, also where its chunk or
+/// a class below the last stays with the process until the process ends, even if its chunk or
 /// its slab is dropped; that of a page is given back.
 #[derive(Drop)]
 pub struct Chunks {

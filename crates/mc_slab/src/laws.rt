@@ -36,7 +36,7 @@ pub fn table_of_classes()
 {}
 
 /// States that the pages that a class is given for a need are the fewest that serve it, and that so
-/// many are left where there is room. It does nothing.
+/// many are left if there is room. It does nothing.
 pub fn wanted_pages_are_least()
     ensures enough { (slab : SlabState) (need : NeedState) (back : ℕ) → IsNeed need
         → need.count ≤ unused slab need.class + back

@@ -103,7 +103,7 @@ pub fn need_of(charge: u64) -> Option<Need>
     }
 }
 
-/// As many pages as hold a charge of more than one, where at most eight do.
+/// As many pages as hold a charge of more than one, if at most eight do.
 fn pages_of(charge: u64) -> Option<Need>
     requires { 1048576 < charge }
     ensures value { result ≡ need_of charge }

@@ -11,7 +11,7 @@ use crate::class::{CLASSES, Class};
 use std::alloc::{AllocError, Global};
 use std::marker::Model;
 
-/// How many bytes a run has at most, where its chunks aren't larger.
+/// How many bytes a run has at most, if its chunks aren't larger.
 const RUN: u32 = 1 << 15;
 
 /// Memory that chunks are to be cut of. In that of a class below the last nothing is written before.
@@ -149,7 +149,8 @@ fn cut_bytes(mut bytes: Vec<u8>, class: Class, count: u32, chunks: &mut Vec<Chun
     }
 }
 
-/// Makes so many bytes of zeros, for which there is room. Where they are there already it writes nothing.
+/// Makes so many bytes of zeros, for which there is room. If they are there already it writes
+/// nothing.
 fn write_zeros(memory: &mut Vec<u8>, length: usize)
     requires { length ≤ vec_capacity memory.old }
     ensures length { vec_len memory.new ≡ length }
@@ -199,7 +200,7 @@ impl Runs {
     }
 
     /// Asks for the memory of so many chunks of the class, but for those of the pages that are
-    /// brought, where they are of the class. What isn't wanted of them is let go. Refused, all is
+    /// brought, if they are of the class. What isn't wanted of them is let go. Refused, all is
     /// let go.
     pub(crate) fn provided(
         alloc: Global,
@@ -293,7 +294,7 @@ impl Runs {
     }
 }
 
-/// The runs of the pages that are brought, where they are of the class.
+/// The runs of the pages that are brought, if they are of the class.
 fn brought(alloc: Global, class: Class, pages: Option<Pages>) -> Runs
     ensures { result.class ≡ class }
 {

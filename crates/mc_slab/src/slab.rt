@@ -36,7 +36,7 @@ pub enum TakeFault {
         class: Class,
         /// How many pages it has.
         pages: u32,
-        /// How many of their chunks are out: all, where one was asked for.
+        /// How many of their chunks are out: all, if one was asked for.
         out: u32,
     },
     /// The class needs pages, and memory for one was refused.
@@ -52,11 +52,12 @@ impl From<AllocError> for TakeFault {
     }
 }
 
-/// The memory of a store: pages of 1048576 bytes, which go to a class of chunks one by one and stay with it. The memory of a
-/// page is asked for at once, in runs of at most 32768 bytes or of one larger chunk, and each run is written, and cut into its
-/// chunks, when the first of them is taken. Runs that were cut are never given back: they stay with the process until it ends,
-/// also where the slab is dropped, and where all their chunks were given back. Contracts see the limit of pages, and of each
-/// class its pages and its chunks that are out.
+/// The memory of a store: pages of 1048576 bytes, which go to a class of chunks one by one and stay
+/// with it. The memory of a page is asked for at once, in runs of at most 32768 bytes or of one
+/// larger chunk, and each run is written, and cut into its chunks, when the first of them is taken.
+/// Runs that were cut are never given back: they stay with the process until it ends, even if the
+/// slab is dropped, or all their chunks were given back. Contracts see the limit of pages, and of
+/// each class its pages and its chunks that are out.
 #[derive(Drop)]
 pub struct Slab {
     pages_left: u32,
@@ -90,8 +91,8 @@ impl Slab {
     }
 
     /// Takes the chunks of a need, of any content, all or none. They are free ones that came back,
-    /// then those to be cut of the class's pages, and where too few are, just the pages that are
-    /// wanting go to the class first. Only that takes memory. Where too few pages are left for them,
+    /// then those to be cut of the class's pages, and if too few are, just the pages that are
+    /// wanting go to the class first. Only that takes memory. If too few pages are left for them,
     /// or memory for one is refused, the slab is as it was, and what was had of it is free again.
     pub fn take_all(&mut self, alloc: Global, need: Need) -> Result<Chunks, TakeFault>
         ensures { Takes need self.old result self.new }
@@ -115,8 +116,8 @@ impl Slab {
         Ok(stock.take(need.count()))
     }
 
-    /// Gives the class of a need just the pages that it will want once `back` of its chunks that are
-    /// out came back, all or none, so that the need is then taken without a page. Where too few
+    /// Gives the class of a need just the pages that it will want once `back` of its chunks that
+    /// are out came back, all or none, so that the need is then taken without a page. If too few
     /// pages are left, or memory for one is refused, the slab is as it was.
     pub fn ready(&mut self, alloc: Global, need: Need, back: u64) -> Result<(), TakeFault>
         requires { back ≤ out_of self.old need.class }

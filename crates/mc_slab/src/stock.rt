@@ -52,6 +52,7 @@ impl Stock {
     pub(crate) fn new(alloc: Global, class: Class) -> Stock
         ensures { result ≡ record { class = class; pages = 0; out = 0 } }
     {
+        // what holds of every class, for the proof
         let _ = class.number();
         Stock {
             class,
@@ -139,7 +140,7 @@ impl Stock {
     }
 }
 
-/// Takes so many of the free chunks, linked, and cuts others where too few are.
+/// Takes so many of the free chunks, linked, and cuts others if too few are.
 fn take_linked(free: &mut Vec<Chunks>, uncut: &mut Runs, count: u32) -> Chunks
     requires need { IsNeed (record { class = uncut.old.class; count = count }) }
     requires chunks { All (IsChunkOf uncut.old.class) free.old.items }
@@ -182,7 +183,7 @@ fn take_pages(free: &mut Vec<Chunks>, uncut: &mut Runs, count: u32) -> Chunks
     Chunks::in_front(one, others)
 }
 
-/// Takes one of the free chunks. Where none is, those of a run are cut first, for which there is room.
+/// Takes one of the free chunks. If none is, those of a run are cut first, for which there is room.
 fn take_free(free: &mut Vec<Chunks>, uncut: &mut Runs) -> Chunks
     requires chunks { All (IsChunkOf uncut.old.class) free.old.items }
     requires some { 0 < vec_len free.old + uncut.old.count }

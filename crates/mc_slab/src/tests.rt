@@ -89,7 +89,7 @@ fn mark(rt: &impl Abort, chunk: &mut Chunks, number: u32) {
     put(rt, chunk, size - 4, &number.to_le_bytes());
 }
 
-/// Whether the number stands at both ends of the chunk.
+/// Returns whether the number stands at both ends of the chunk.
 fn is_marked(chunk: &Chunks, number: u32) -> bool {
     let mark = number.to_le_bytes();
     chunk.first().starts_with(&mark) && chunk.first().ends_with(&mark)

@@ -27,7 +27,7 @@ impl Keyed for Mark {
     }
 }
 
-/// Makes a table of 64 homes, asked for again where memory is refused.
+/// Makes a table of 64 homes, asked for again if memory is refused.
 pub fn marks_table(alloc: Global) -> Result<Hop<Mark>, AllocError> {
     match Hop::new(alloc, 6) {
         Err(_) => Hop::new(alloc, 6),

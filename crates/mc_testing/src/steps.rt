@@ -138,7 +138,7 @@ pub fn is_wanted(taken: &Result<Reply, StepFault>, want: Want<'_>) -> bool {
     }
 }
 
-/// Tells whether a reply has these parts.
+/// Returns whether a reply has these parts.
 fn has(taken: &Result<Reply, StepFault>, wanted: (u32, u64, &[u8])) -> bool {
     match taken {
         Ok(reply) => parts(reply) == wanted,
@@ -146,7 +146,7 @@ fn has(taken: &Result<Reply, StepFault>, wanted: (u32, u64, &[u8])) -> bool {
     }
 }
 
-/// Takes a step, again where memory is refused.
+/// Takes a step, again if memory is refused.
 pub fn asked<S: Steps>(
     store: &mut S,
     alloc: Global,
@@ -161,7 +161,7 @@ pub fn asked<S: Steps>(
     }
 }
 
-/// Takes a step, again where memory is refused, and answers nothing where the refusal changed the
+/// Takes a step, again if memory is refused, and answers nothing if the refusal changed the
 /// key's item.
 fn taken<S: Steps>(
     store: &mut S,
@@ -212,7 +212,7 @@ pub fn first_unlike<S: Steps>(
     Ok(None)
 }
 
-/// Makes so many bytes, asked for again where memory is refused.
+/// Makes so many bytes, asked for again if memory is refused.
 pub fn filled(alloc: Global, len: usize) -> Result<Vec<u8>, AllocError> {
     match vec![in alloc; b'x'; len] {
         Err(_) => vec![in alloc; b'x'; len],

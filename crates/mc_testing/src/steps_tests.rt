@@ -1,5 +1,5 @@
 //! The plain store: the protocol's worked examples at their moments, and each kind of step once.
-//! Where an allocation is refused the store answers as before, and takes the step when it is asked
+//! If an allocation is refused the store answers as before, and takes the step when it is asked
 //! again.
 
 ghost use Rattle.std.specs.Prelude.{◌≤◌};
@@ -233,7 +233,7 @@ fn the_largest_item_takes_eight_pages(rt: HostRuntime) -> Result<(), Fail> {
     answers(&rt, rt.alloc(), 8, 8388608, &rows)
 }
 
-/// Makes a number of so many bytes: a 7, and spaces behind it. It is asked for again where memory
+/// Makes a number of so many bytes: a 7, and spaces behind it. It is asked for again if memory
 /// is refused.
 fn spaced(alloc: Global, len: usize) -> Result<Vec<u8>, AllocError> {
     let mut bytes = match vec![in alloc; b' '; len] {

@@ -22,6 +22,6 @@ abbrev pub is_flushed : ℕ → Option ℕ → ℕ → Bool
 is_flushed updated None now = false
 is_flushed updated (Some cut) now = nat_le cut now && nat_lt updated cut
 
--- an item is dead where its expiry has come, or a flush that it was updated before
+-- an item is dead if its expiry has come, or a flush that it was updated before
 abbrev pub is_dead : Expiry → ℕ → Option ℕ → ℕ → Bool
 is_dead expiry updated cut now = is_expired expiry now || is_flushed updated cut now

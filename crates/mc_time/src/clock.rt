@@ -27,7 +27,8 @@ impl Clock for Fixed {
     }
 }
 
-/// The system's clock in Unix seconds. It gives 0 before 1970 and where it can't be read, and the latest moment after that.
+/// The system's clock in Unix seconds. It gives 0 before 1970 and if it can't be read, and the
+/// latest moment after that.
 #[derive(Drop)]
 pub struct SystemClock<R: time::Clock + Drop> {
     rt: R,
@@ -51,7 +52,7 @@ impl<R: time::Clock + Drop> Clock for SystemClock<R> {
     }
 }
 
-/// The system's Unix seconds, 0 before 1970 and where they can't be read.
+/// The system's Unix seconds, 0 before 1970 and if they can't be read.
 fn unix_seconds(rt: &impl time::Clock) -> u64 {
     let Ok(time) = SystemTime::now(rt) else {
         return 0;

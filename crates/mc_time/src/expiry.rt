@@ -29,7 +29,7 @@ pub fn expiry_of(exptime: i64, now: Moment) -> Expiry
     }
 }
 
-/// Finds the moment of a flush with that delay, which is read as an exptime is. There is none where
+/// Finds the moment of a flush with that delay, which is read as an exptime is. There is none if
 /// the delay is 0.
 pub fn cut_after(delay: u64, now: Moment) -> Option<u64>
     ensures { result ≡ (if delay == 0 then None else Some (moment_named delay now)) }
@@ -49,6 +49,7 @@ pub fn is_dead(expiry: Expiry, updated: Moment, cut: Option<u64>, now: Moment) -
     is_expired(expiry, now) || is_flushed(updated, cut, now)
 }
 
+/// Returns whether an expiry has come.
 fn is_expired(expiry: Expiry, now: Moment) -> bool
     ensures { result ≡ is_expired expiry now }
 {
@@ -58,6 +59,7 @@ fn is_expired(expiry: Expiry, now: Moment) -> bool
     }
 }
 
+/// Returns whether a flush at `cut` has come that an item was updated before.
 fn is_flushed(updated: Moment, cut: Option<u64>, now: Moment) -> bool
     ensures { result ≡ is_flushed updated cut now }
 {
@@ -67,6 +69,8 @@ fn is_flushed(updated: Moment, cut: Option<u64>, now: Moment) -> bool
     }
 }
 
+/// Finds the seconds that a number above 0 names: up to 30 days it counts from now, and above that
+/// it is a Unix time.
 fn moment_named(number: u64, now: Moment) -> u64
     ensures { result ≡ moment_named number now }
 {

@@ -46,7 +46,7 @@ impl Moment {
         Moment { seconds }
     }
 
-    /// Makes the moment of that many seconds, or the latest where there are more.
+    /// Makes the moment of that many seconds, or the latest if there are more.
     pub fn from_seconds_at_most(seconds: u64) -> Moment
         ensures { result ≡ min seconds (2 ^ 62) }
     {

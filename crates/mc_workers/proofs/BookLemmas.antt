@@ -5,7 +5,8 @@ use Rattle.std.proofs.lemmas.Bool.{cases_lt}
 use Rattle.std.proofs.lemmas.List.{length-take-le}
 use Rattle.std.proofs.lemmas.List.Edits.{length-swap}
 use Rattle.mc_workers.specs.Guests.{has_ended}
-use Rattle.mc_workers.specs.Books.{RowState, BooksState, HasNumber, SleepsAt, Wakes, WakesOne, WakesNone, woken, put_behind, let_gone, LetsGo, is_over, IsFateOf, StaysOrSleeps, Settles, SettlesFrom, none, and_one, swapped, cut}
+use Rattle.mc_workers.specs.Books.{RowState, BooksState, HasNumber, SleepsAt, Wakes, WakesOne, WakesNone, woken, put_behind, let_gone, LetsGo}
+use Rattle.mc_workers.specs.Books.{is_over, IsFateOf, StaysOrSleeps, Settles, SettlesFrom, none, and_one, swapped, cut}
 use Rattle.mc_workers.specs.declared.guests.Fate.{Fate}
 use Rattle.mc_workers.specs.declared.guests.WorkEnd.{WorkEnd}
 
@@ -101,7 +102,8 @@ module _ (at awake end count : ℕ) (may_try later : Bool) (row second third fou
         let gone : length row.guests - 1 ≡ length third.guests - 1 = (let e = all_long in omega arith) in
         let a : swapped (awake - 1) (length row.guests - 1) (swapped at (awake - 1) row) ≡ third =
         ap (λ (n : ℕ). swapped (awake - 1) n (swapped at (awake - 1) row)) last ∙ ap (swapped (awake - 1) count) (sym swaps) ∙ sym swaps_end in
-        ap (λ (r : RowState). record { row = r; awake = awake - 1; may_try = later }) (ap (λ (n : ℕ). cut n (swapped (awake - 1) (length row.guests - 1) (swapped at (awake - 1) row))) gone ∙ ap (cut (length third.guests - 1)) a ∙ sym cuts)
+        ap (λ (r : RowState). record { row = r; awake = awake - 1; may_try = later })
+        (ap (λ (n : ℕ). cut n (swapped (awake - 1) (length row.guests - 1) (swapped at (awake - 1) row))) gone ∙ ap (cut (length third.guests - 1)) a ∙ sym cuts)
 
     pub goes_from : LetsGo at old (record { row = fourth; awake = awake - 1; may_try = later })
     goes_from = subst (λ (b : BooksState). record { row = fourth; awake = awake - 1; may_try = later } ≡ record (let_gone at b) { may_try = later }) is (sym here)

@@ -1,7 +1,8 @@
 -- What an opening of the door does, call by call.
-use Rattle.std.proofs.Common.{◌≡◌, ◌↔◌, ℕ, ◌+◌, Bool, true, false, length, Option, Some, refl, sym, ap, ◌∙◌, subst, IsTrue}
-use Rattle.mc_workers.specs.Books.{BooksState, Wakes}
+use Rattle.std.proofs.Common.{◌≡◌, ◌↔◌, ◌<◌, ℕ, ◌+◌, Bool, true, false, length, Option, Some, refl, sym, ap, ◌∙◌, subst, IsTrue}
+use Rattle.mc_workers.specs.Books.{BooksState, Wakes, quiet}
 use Rattle.mc_workers.specs.Doors.{unasked, came, heard, counted_in, WakesNamed, and_one, WakesAllNamed, LetsIn, ComesNothing, Opens, link, none_now, none_more, over}
+use Rattle.mc_workers.specs.Doors.{LinksCame, one_came, OpensForAll, then_none}
 use Rattle.mc_workers.specs.declared.door.Door.{Door}
 use Rattle.mc_workers.specs.declared.guests.WorkEnd.{WorkEnd}
 use Rattle.mc_workers.specs.declared.talk.Came.{Came}
@@ -42,3 +43,26 @@ module _ (is_quiet : Bool) (door : Door) (start asked : Talk) (begins : start �
   pub opens_over : (books : BooksState) (end : WorkEnd) → asked ≡ came Closed start → length books.row.guests ≡ 0
       → Opens is_quiet door (record door { talk = asked }) books books end end false
   opens_over books end is nobody = subst (λ (t : Talk). Opens is_quiet door (record door { talk = t }) books books end end false) (sym (asked_so Closed is)) (over nobody)
+
+-- more can come where a link came
+opens_on : {is_quiet : Bool} {door later : Door} {old new : BooksState} {before after : WorkEnd} {goes_on : Bool}
+    → Opens is_quiet door later old new before after goes_on → later.talk.came ≡ Some Link → goes_on ≡ true
+opens_on (link _ _) is = refl
+opens_on (none_now _) is = refl
+opens_on (none_more _ _) is = refl
+opens_on (over _) is = cc
+
+module _ (count : ℕ) (door last later : Door) (old between new : BooksState) (before mid after : WorkEnd) (is_quiet goes_on gave : Bool) where
+  pub came_one_more : LinksCame count door last old between before mid → is_quiet ≡ quiet between
+      → Opens is_quiet last later between new mid after goes_on → (IsTrue gave ↔ (later.talk.came ≡ Some Link)) → gave ≡ true
+      → LinksCame (count + 1) door later old new before after
+  came_one_more front is opens says gives = one_came front
+      (subst (λ (q : Bool). Opens q last later between new mid after true) is
+      (subst (Opens is_quiet last later between new mid after) (opens_on opens (says.0 gives)) opens))
+      (says.0 gives)
+
+  pub came_no_more : count < 32 → LinksCame count door last old between before mid → is_quiet ≡ quiet between
+      → Opens is_quiet last later between new mid after goes_on → (IsTrue gave ↔ (later.talk.came ≡ Some Link)) → gave ≡ false
+      → OpensForAll door later old new before after goes_on
+  came_no_more below front is opens says gives = then_none below front
+      (subst (λ (q : Bool). Opens q last later between new mid after goes_on) is opens) (fails gave says gives)

@@ -1,5 +1,6 @@
 -- The parts of a visit.
-use Rattle.std.proofs.Common.{◌≡◌, ℕ, ◌<◌, ◌≤◌, ◌+◌, List, [], ◌∷◌, ◌++◌, length, take, drop, refl, sym, ap, ◌∙◌, subst, arith, get_or, inl, inr, Option, Some, None, Bool, true, false, ◌⊎◌, IsTrue, IsFalse}
+use Rattle.std.proofs.Common.{◌≡◌, ℕ, ◌<◌, ◌≤◌, ◌+◌, List, [], ◌∷◌, ◌++◌, length, take, drop, refl, sym, ap, ◌∙◌}
+use Rattle.std.proofs.Common.{subst, arith, get_or, inl, inr, Option, Some, None, Bool, true, false, ◌⊎◌, IsTrue, IsFalse}
 use Rattle.std.proofs.Math.ListN.{set}
 use Rattle.std.proofs.lemmas.List.{take_more, take_more_set, get_or-drop, drop-set-lt}
 use Rattle.std.proofs.lemmas.Grind.{drop_more_same}
@@ -12,11 +13,13 @@ use Rattle.mc_workers.specs.Visits.{WritesFront, ReadsPiece, WaitsForLink, EndsS
 use Rattle.mc_workers.specs.declared.guest.Visit.{Visit}
 use Rattle.mc_workers.specs.declared.guest.Visit.TheVariants.{Wrote, Turned, Read, Later, Served, Broken, Refused}
 
-pub writes_front : (old new : GuestState) (n : ℕ) (bytes : List ℕ) → bytes ≡ old.session.out → 0 < n → n ≤ length bytes → new.session ≡ sent old.session n → new.link ≡ took (asked false old.link) (take n bytes) → WritesFront old new
+pub writes_front : (old new : GuestState) (n : ℕ) (bytes : List ℕ) → bytes ≡ old.session.out → 0 < n → n ≤ length bytes
+    → new.session ≡ sent old.session n → new.link ≡ took (asked false old.link) (take n bytes) → WritesFront old new
 writes_front old new n bytes is some low s l = record {
   part = take n bytes;
   some = let e = length-take-le n bytes low in subst (λ k. 0 < k) (sym e) some;
-  parts = subst (λ (t : SessionState). old.session.out ≡ take n bytes ++ t.out) (sym s) (subst (λ (b : List ℕ). old.session.out ≡ take n b ++ drop n old.session.out) (sym is) (sym (take-append-drop n old.session.out)));
+  parts = subst (λ (t : SessionState). old.session.out ≡ take n bytes ++ t.out) (sym s)
+      (subst (λ (b : List ℕ). old.session.out ≡ take n b ++ drop n old.session.out) (sym is) (sym (take-append-drop n old.session.out)));
   session = subst (λ (t : SessionState). t ≡ record old.session { out = t.out }) (sym s) refl;
   link = l;
 }

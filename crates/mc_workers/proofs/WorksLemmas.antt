@@ -3,8 +3,8 @@ use Rattle.std.proofs.Common.{◌≡◌, ℕ, List, Bool, true, false, refl, sym
 use Rattle.mc_shelf.specs.Stores.{StoreState}
 use Rattle.mc_shared.specs.Shown.{CallerState}
 use Rattle.mc_shared.specs.Asking.{AskingState}
-use Rattle.mc_workers.specs.Books.{BooksState, SettlesFrom, no_books, quiet}
-use Rattle.mc_workers.specs.Doors.{Opens, shut}
+use Rattle.mc_workers.specs.Books.{BooksState, SettlesFrom, no_books}
+use Rattle.mc_workers.specs.Doors.{OpensForAll, shut}
 use Rattle.mc_workers.specs.Tending.{asked_by}
 use Rattle.mc_workers.specs.Rounds.{VisitsAndTidies, WorkState, WorksRound, Works, nothing, and_round, begins, WorksSince, WorksToEnd}
 use Rattle.mc_workers.specs.declared.door.Door.{Door}
@@ -21,46 +21,46 @@ module _ {K : Type 0} (hash_of : K → List ℕ → ℕ) (may_give : ℕ → Typ
     rounds = subst (λ (s : WorkState K). Works hash_of may_give (begins first began caller may_try moment) s) (sym (
         ap (λ (a : AskingState K). record { asking = a; books = books; door = door; end = record { served = 0; broken = 0; refused = 0 }; turn = first; moment = moment }) asks
         ∙ ap (λ (b : BooksState). record { asking = asked_by began caller; books = b; door = door; end = record { served = 0; broken = 0; refused = 0 }; turn = first; moment = moment }) none
-        ∙ ap (λ (d : Door). record { asking = asked_by began caller; books = no_books may_try; door = d; end = record { served = 0; broken = 0; refused = 0 }; turn = first; moment = moment }) (closed ∙ ap shut is)
+        ∙ ap (λ (d : Door). record { asking = asked_by began caller; books = no_books may_try; door = d; end = record { served = 0; broken = 0; refused = 0 }; turn = first; moment = moment })
+        (closed ∙ ap shut is)
         )) nothing;
   }
 
   -- a round, by its calls
-  round_so : (old new : WorkState K) (visited settled : BooksState) (counted : WorkEnd) (is_quiet opened goes_on : Bool) → may_give new.moment
+  round_so : (old new : WorkState K) (visited settled : BooksState) (counted : WorkEnd) (opened goes_on : Bool) → may_give new.moment
       → VisitsAndTidies hash_of old.moment new.moment old.turn new.turn old.asking new.asking old.books visited → SettlesFrom 0 visited settled old.end counted
-      → is_quiet ≡ quiet settled → Opens is_quiet old.door new.door settled new.books counted new.end opened → opened ≡ goes_on
+      → OpensForAll old.door new.door settled new.books counted new.end opened → opened ≡ goes_on
       → WorksRound hash_of may_give old new goes_on
-  round_so old new visited settled counted is_quiet opened goes_on given visits settles is opens so = record {
+  round_so old new visited settled counted opened goes_on given visits settles opens so = record {
     given = given;
     visited = visited;
     settled = settled;
     counted = counted;
     visits = visits;
     settles = settles;
-    opens = subst (λ (q : Bool). Opens q old.door new.door settled new.books counted new.end goes_on) is
-        (subst (Opens is_quiet old.door new.door settled new.books counted new.end) so opens);
+    opens = subst (OpensForAll old.door new.door settled new.books counted new.end) so opens;
   }
 
-  pub works_on : (old new : WorkState K) (visited settled : BooksState) (counted : WorkEnd) (is_quiet opened : Bool) → WorksSince hash_of may_give first began caller old
+  pub works_on : (old new : WorkState K) (visited settled : BooksState) (counted : WorkEnd) (opened : Bool) → WorksSince hash_of may_give first began caller old
       → may_give new.moment → VisitsAndTidies hash_of old.moment new.moment old.turn new.turn old.asking new.asking old.books visited → SettlesFrom 0 visited settled old.end counted
-      → is_quiet ≡ quiet settled → Opens is_quiet old.door new.door settled new.books counted new.end opened → opened ≡ true
+      → OpensForAll old.door new.door settled new.books counted new.end opened → opened ≡ true
       → WorksSince hash_of may_give first began caller new
-  works_on old new visited settled counted is_quiet opened since given visits settles is opens so = record {
+  works_on old new visited settled counted opened since given visits settles opens so = record {
     moment = since.moment;
     given = since.given;
     may_try = since.may_try;
-    rounds = and_round since.rounds (round_so old new visited settled counted is_quiet opened true given visits settles is opens so);
+    rounds = and_round since.rounds (round_so old new visited settled counted opened true given visits settles opens so);
   }
 
-  pub works_over : (old new : WorkState K) (visited settled : BooksState) (counted : WorkEnd) (is_quiet opened : Bool) (back : CallerState) → WorksSince hash_of may_give first began caller old
+  pub works_over : (old new : WorkState K) (visited settled : BooksState) (counted : WorkEnd) (opened : Bool) (back : CallerState) → WorksSince hash_of may_give first began caller old
       → may_give new.moment → VisitsAndTidies hash_of old.moment new.moment old.turn new.turn old.asking new.asking old.books visited → SettlesFrom 0 visited settled old.end counted
-      → is_quiet ≡ quiet settled → Opens is_quiet old.door new.door settled new.books counted new.end opened → opened ≡ false
+      → OpensForAll old.door new.door settled new.books counted new.end opened → opened ≡ false
       → back.past ≡ new.asking.past → WorksToEnd hash_of may_give first began caller (back, new.end)
-  works_over old new visited settled counted is_quiet opened back since given visits settles is opens so past = record {
+  works_over old new visited settled counted opened back since given visits settles opens so past = record {
     last = old;
     final = new;
     rounds = since;
-    ends = round_so old new visited settled counted is_quiet opened false given visits settles is opens so;
+    ends = round_so old new visited settled counted opened false given visits settles opens so;
     past = past;
     end = refl;
   }

@@ -87,7 +87,7 @@ let_gone at books = record books {
   awake = books.awake - 1;
 }
 
--- the same, where one that is kept waiting may be tried again from now on
+-- the same, if one that is kept waiting may be tried again from now on
 abbrev pub LetsGo : ℕ → (old new : BooksState) → Type 0
 LetsGo at old new = new ≡ record (let_gone at old) { may_try = new.may_try }
 
@@ -101,7 +101,7 @@ pub record SleepsAt (at : ℕ) (books : BooksState) : Type 0 where
   pub stands : at < length books.row.guests
   pub behind : books.awake ≤ at
 
--- the guest whose link has this number wakes where it sleeps; else none does
+-- the guest whose link has this number wakes if it sleeps; else none does
 pub record WakesOne (number : ℕ) (old new : BooksState) : Type 0 where
   pub at : ℕ
   pub has_it : HasNumber old.row at number
@@ -113,7 +113,7 @@ pub record WakesNone (number : ℕ) (old new : BooksState) : Type 0 where
   pub awake : (at : ℕ) → HasNumber old.row at number → at < old.awake
   pub books : new ≡ old
 
--- the guest wakes whose link has this number, where it sleeps
+-- the guest wakes whose link has this number, if it sleeps
 abbrev pub Wakes : ℕ → (old new : BooksState) → Type 0
 Wakes number old new = WakesOne number old new ⊎ WakesNone number old new
 
@@ -135,7 +135,7 @@ is_over Waits = false
 is_over Sleeps = false
 is_over Ended = true
 
--- how the guest at a place goes on: it is to go where it has ended, which is counted
+-- how the guest at a place goes on: it is to go if it has ended, which is counted
 pub record IsFateOf (at : ℕ) (row : RowState) (fate : Fate) (before after : WorkEnd) : Type 0 where
   pub last : Option Visit
   pub answered : IsLastAt at row last
@@ -146,7 +146,7 @@ pub record IsFateOf (at : ℕ) (row : RowState) (fate : Fate) (before after : Wo
 abbrev pub StaysOrSleeps : ℕ → (old new : BooksState) → Type 0
 StaysOrSleeps at old new = (new ≡ old) ⊎ (new ≡ put_behind at old)
 
--- The guest at a place was settled: where it has ended it is gone, and counted.
+-- The guest at a place was settled: if it has ended it is gone, and counted.
 pub record Settles (at : ℕ) (old new : BooksState) (before after : WorkEnd) : Type 0 where
   pub last : Option Visit
   pub answered : IsLastAt at old.row last

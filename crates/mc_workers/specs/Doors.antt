@@ -1,8 +1,8 @@
 -- What a worker asks of its links between two rounds, and what becomes of its guests.
-use Rattle.std.specs.Prelude.{◌≡◌, ◌⊎◌, ◌↔◌, ◌+◌, ◌%◌, ◌^◌, ◌&&◌, ◌==◌, ℕ, Bool, true, false, length, Option, Some, None, IsTrue}
+use Rattle.std.specs.Prelude.{◌≡◌, ◌⊎◌, ◌↔◌, ◌<◌, ◌+◌, ◌%◌, ◌^◌, ◌&&◌, ◌==◌, ℕ, Bool, true, false, length, Option, Some, None, IsTrue}
 use Rattle.mc_workers.specs.Links.{LinkState}
 use Rattle.mc_workers.specs.Guests.{welcomed}
-use Rattle.mc_workers.specs.Books.{BooksState, Wakes, let_in, one_more}
+use Rattle.mc_workers.specs.Books.{BooksState, Wakes, let_in, one_more, quiet}
 use Rattle.mc_workers.specs.declared.guests.WorkEnd.{WorkEnd}
 use Rattle.mc_workers.specs.declared.talk.Came.{Came}
 use Rattle.mc_workers.specs.declared.talk.Came.TheVariants.{Link, Later, Closed}
@@ -49,7 +49,8 @@ pub record LetsIn (greatest number : ℕ) (old new : BooksState) (before after :
   pub either : ((new ≡ let_in (welcomed greatest link) number old) × (after ≡ before))
       ⊎ ((new ≡ old) × (after ≡ record before { refused = one_more before.refused }))
 
--- nothing came, and those woke whose links were named; it rests where nobody was awake and none was named
+-- nothing came, and those woke whose links were named; it rests if nobody was awake and none was
+-- named
 pub record ComesNothing (is_quiet : Bool) (talk : Talk) (old : BooksState) (later : Talk) (new : BooksState) : Type 0 where
   pub last : Talk
   pub wakes : WakesAllNamed talk old last new
@@ -81,3 +82,23 @@ pub data Opens (is_quiet : Bool) : (door later : Door) (old new : BooksState) (b
       → Opens is_quiet door (record door { talk = talk }) old new end end true
   over : {door : Door} {books : BooksState} {end : WorkEnd} → length books.row.guests ≡ 0
       → Opens is_quiet door (asks_next Closed door) books books end end false
+
+-- The door was opened so many times, and a link came each time. Whether the guests were quiet was
+-- seen anew before each.
+pub data LinksCame : (count : ℕ) (door later : Door) (old new : BooksState) (before after : WorkEnd) → Type 0 where
+  none_yet : {door : Door} {books : BooksState} {end : WorkEnd} → LinksCame 0 door door books books end end
+  one_came : {count : ℕ} {door last later : Door} {old between new : BooksState} {before mid after : WorkEnd}
+      → LinksCame count door last old between before mid
+      → Opens (quiet between) last later between new mid after true → later.talk.came ≡ Some Link
+      → LinksCame (count + 1) door later old new before after
+
+-- What the openings of the door between two rounds do: a link came at each, until 32 did, or until
+-- one more opening at which none came. That one says whether more can come.
+pub data OpensForAll : (door later : Door) (old new : BooksState) (before after : WorkEnd) (goes_on : Bool) → Type 0 where
+  as_many : {door later : Door} {old new : BooksState} {before after : WorkEnd}
+      → LinksCame 32 door later old new before after
+      → OpensForAll door later old new before after true
+  then_none : {count : ℕ} {door last later : Door} {old between new : BooksState} {before mid after : WorkEnd} {goes_on : Bool}
+      → count < 32 → LinksCame count door last old between before mid
+      → Opens (quiet between) last later between new mid after goes_on → (later.talk.came ≡ Some Link → ⊥)
+      → OpensForAll door later old new before after goes_on

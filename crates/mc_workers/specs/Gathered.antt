@@ -65,7 +65,8 @@ AfterAll (Ok GaveNone) gathered = Unit {0}
 AfterAll (Ok End) gathered = gathered ≡ []
 AfterAll (Err fault) gathered = Unit {0}
 
--- what holds it up: the link below was last asked to take what is gathered, or to give where nothing is
+-- what holds it up: the link below was last asked to take what is gathered, or to give if nothing
+-- is
 pub record WaitsBelow (state : GatheringState) : Type 0 where
   pub takes : (state.gathered ≡ [] → ⊥) → state.link.was_read ≡ false
   pub gives : state.gathered ≡ [] → state.link.was_read ≡ true

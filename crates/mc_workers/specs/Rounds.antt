@@ -4,8 +4,8 @@ use Rattle.mc_command.specs.declared.step.Steps.{Ghosts as Relations}
 use Rattle.mc_shelf.specs.Stores.{StoreState}
 use Rattle.mc_shared.specs.Shown.{CallerState}
 use Rattle.mc_shared.specs.Asking.{AskingState, AsksStep, AsksInVain}
-use Rattle.mc_workers.specs.Books.{BooksState, SettlesFrom, no_books, quiet}
-use Rattle.mc_workers.specs.Doors.{Opens, shut}
+use Rattle.mc_workers.specs.Books.{BooksState, SettlesFrom, no_books}
+use Rattle.mc_workers.specs.Doors.{OpensForAll, shut}
 use Rattle.mc_workers.specs.Turns.{VisitsAll}
 use Rattle.mc_workers.specs.Tending.{Tidied, asked_by, tidied_at_once}
 use Rattle.mc_workers.specs.declared.door.Door.{Door}
@@ -37,19 +37,22 @@ begins first began caller may_try moment = record {
 }
 
 module _ {K : Type 0} (hash_of : K → List ℕ → ℕ) where
-  -- the dead items of the next shelves in turn are dropped where the clock has risen, and else none are
+  -- the dead items of the next shelves in turn are dropped when the clock has risen, and else none
+  -- are
   pub record TidiesWhereRisen (before now turn next : ℕ) (old new : AskingState K) : Type 0 where
     pub risen : before < now
         → Tidied hash_of now (tidied_at_once old.began.settings.shelves) (turn % old.began.settings.shelves) next old new
     pub stands : now ≤ before → (new ≡ old) × (next ≡ turn)
 
-  -- those that were awake were visited, and then dead items were dropped where the clock had risen, at one moment
+  -- those that were awake were visited, and then dead items were dropped when the clock had risen,
+  -- at one moment
   pub record VisitsAndTidies (before now turn next : ℕ) (old new : AskingState K) (books later : BooksState) : Type 0 where
     pub between : AskingState K
     pub visits : VisitsAll (as_caller hash_of) now books later old between
     pub tidies : TidiesWhereRisen before now turn next between new
 
-  -- One round, at a moment that the clock may give: visits and tidying, those that ended go, and the door is opened.
+  -- One round, at a moment that the clock may give: visits and tidying, those that ended go, and the door is opened for those
+  -- that wait.
   pub record WorksRound (may_give : ℕ → Type 0) (old new : WorkState K) (goes_on : Bool) : Type 0 where
     pub given : may_give new.moment
     pub visited : BooksState
@@ -57,7 +60,7 @@ module _ {K : Type 0} (hash_of : K → List ℕ → ℕ) where
     pub counted : WorkEnd
     pub visits : VisitsAndTidies old.moment new.moment old.turn new.turn old.asking new.asking old.books visited
     pub settles : SettlesFrom 0 visited settled old.end counted
-    pub opens : Opens (quiet settled) old.door new.door settled new.books counted new.end goes_on
+    pub opens : OpensForAll old.door new.door settled new.books counted new.end goes_on
 
   -- rounds, one after another, each of which said that more can come
   pub data Works (may_give : ℕ → Type 0) : (old new : WorkState K) → Type 0 where

@@ -10,8 +10,8 @@ use Rattle.mc_workers.specs.declared.guest.Visit.{Visit}
 use Rattle.mc_workers.specs.declared.guest.Visit.TheVariants.{Wrote, Turned, Read}
 
 module _ {S : Type 0} (relations : Relations S) where
-  -- A turn that a session took at a moment, with a store. Its text is the one that answers it, by the
-  -- reply of its step where it takes one.
+  -- A turn that a session took at a moment, with a store. Its text is the one that answers it, by
+  -- the reply of its step if it takes one.
   pub record TakenTurn : Type 0 where
     pub now : ℕ
     pub old : SessionState

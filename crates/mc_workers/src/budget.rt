@@ -46,8 +46,8 @@ impl Budget {
         }
     }
 
-    /// Says whether there is room for one more who wants so many bytes. There is for a little, and for one who is
-    /// alone in wanting more.
+    /// Returns whether there is room for one more who wants so many bytes. There is for a little,
+    /// and for one who is alone in wanting more.
     pub fn fits(&self, wanted: usize) -> bool
         ensures no { IsFalse result → (little < wanted) × (self.now.share - self.now.held < wanted) }
         ensures over { little < wanted → self.now.share - self.now.held < wanted →
@@ -56,12 +56,12 @@ impl Budget {
         wanted <= LITTLE || wanted <= self.share.saturating_sub(self.held) || self.large == 0
     }
 
-    /// Says whether it may soon be over.
+    /// Returns whether it may soon be over.
     pub fn is_tight(&self) -> bool {
         self.waiting > 0 || self.held > self.tight
     }
 
-    /// Says whether one that is kept waiting may be tried again.
+    /// Returns whether one that is kept waiting may be tried again.
     pub fn may_try(&self) -> bool
         ensures { result ≡ may_try self.now }
     {

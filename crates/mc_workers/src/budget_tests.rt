@@ -107,7 +107,8 @@ fn there_is_room_for_a_little_and_for_one_alone(rt: HostRuntime) {
     assert!(rt; budget.fits(9_000_000) && !budget.is_tight());
 }
 
-/// Says whether a guest with this input is kept waiting while others hold all there is, and goes on when they don't.
+/// Returns whether a guest with this input is kept waiting while others hold all there is, and goes
+/// on when they don't.
 fn waits_for_others(alloc: Global, input: &[u8], length: usize) -> Result<bool, AllocError> {
     let mut store = store_with(alloc, length)?;
     let mut budget = Budget::new(1_048_576, GREATEST);

@@ -10,7 +10,7 @@ pub enum Call {
     GivesNone,
     /// No bytes come or go.
     IsEmpty,
-    /// One byte comes or goes, where there is one.
+    /// One byte comes or goes, if there is one.
     GoesOn,
 }
 

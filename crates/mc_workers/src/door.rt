@@ -1,13 +1,16 @@
 //! How guests are let in.
 ghost use Rattle.std.specs.Prelude.{◌≡◌, IsTrue, IsFalse};
 ghost use Rattle.mc_workers.specs.Books.{one_more};
-ghost use Rattle.mc_workers.specs.Doors.{shut, counted_in, LetsIn, Opens};
+ghost use Rattle.mc_workers.specs.Doors.{shut, counted_in, LetsIn, Opens, OpensForAll};
 
 use crate::guests::{Guests, WorkEnd};
 use crate::link::Link;
 use crate::links::{Links, Next};
 use crate::talk::Talk;
 use std::alloc::Global;
+
+/// How many links are let in at most between two rounds.
+const LINKS: usize = 32;
 
 /// How guests are let in.
 #[derive(Clone, Copy, Debug, PartialEq, Eq)]
@@ -32,9 +35,33 @@ impl Door {
         }
     }
 
-    /// Asks for the next link once, and wakes the guests whose links are named; rests where there is
-    /// nothing to do. Returns whether more can come: not where no link comes any more and there is no guest.
-    pub fn open<L: Link + Drop, Q: Links<L>>(
+    /// Opens for each link that waits, one opening after another until none comes, or 32 came. So
+    /// many newcomers wait few rounds, and guests wait for 32 newcomers at most. It rests in none
+    /// but the last opening, if nobody was let in before it and there is nothing to do. Returns
+    /// whether more can come.
+    pub fn open_for_all<L: Link + Drop, Q: Links<L>>(
+        &mut self,
+        alloc: Global,
+        links: &mut Q,
+        guests: &mut Guests<L>,
+        end: &mut WorkEnd,
+    ) -> bool
+        ensures { OpensForAll self.old self.new guests.old guests.new end.old end.new result }
+    {
+        for _ in 0..LINKS {
+            let is_quiet = guests.is_quiet();
+            let goes_on = self.open(alloc, links, guests, end, is_quiet);
+            if !self.talk.gave_link() {
+                return goes_on;
+            }
+        }
+        true
+    }
+
+    /// Asks for the next link once, and wakes the guests whose links are named; rests if there is
+    /// nothing to do. Returns whether more can come: not if no link comes any more and there is no
+    /// guest.
+    fn open<L: Link + Drop, Q: Links<L>>(
         &mut self,
         alloc: Global,
         links: &mut Q,

@@ -27,7 +27,7 @@ struct HoldsShelf<'a> {
     held: &'a AtomicU64,
     other: &'a Seen,
     wanted: u64,
-    /// 1 where the other link wasn't answered in time.
+    /// 1 if the other link wasn't answered in time.
     gave_up: &'a AtomicU64,
 }
 
@@ -174,7 +174,7 @@ fn a_held_step_leaves_other_shelves_free(rt: HostRuntime) -> Result<(), Fail> {
     Ok(())
 }
 
-/// So the test above fails where a step holds the whole store.
+/// So the test above fails if a step holds the whole store.
 #[test]
 fn a_held_step_holds_up_those_on_its_own_shelf(rt: HostRuntime) -> Result<(), Fail> {
     let (shared, me) = filled(&rt, rt.alloc())?;

@@ -72,8 +72,8 @@ impl<L: Link + Drop> Gathering<L> {
         self.gathered.is_empty()
     }
 
-    /// Hands on what is gathered, as far as the link below takes it. Where it took a part it is asked once
-    /// more, and says by its answer that it takes no more.
+    /// Hands on what is gathered, as far as the link below takes it. If it took a part it is asked
+    /// once more, and says by its answer that it takes no more.
     pub fn flush(&mut self) -> Result<(), LinkFault>
         ensures flushes { Flushes self.old result self.new }
         ensures asks { (self.new.gathered ≡ [] → ⊥) → self.new.link.was_read ≡ false }
@@ -102,7 +102,8 @@ impl<L: Link + Drop> Gathering<L> {
         }
     }
 
-    /// Gathers bytes where they are few, there is room, and memory for them, and returns whether it did.
+    /// Gathers bytes if they are few, and there is room and memory for them. Returns whether it
+    /// did.
     fn gather(&mut self, bytes: &[u8]) -> bool
         ensures yes { IsTrue result →
             self.new ≡ record self.old { gathered = self.old.gathered ++ bytes.now } }
@@ -150,8 +151,8 @@ impl<L: Link + Drop> Gathering<L> {
         got
     }
 
-    /// Gives back the memory that is kept beyond that of a first piece, where nothing is gathered, and counts
-    /// the bytes that are reserved then.
+    /// Gives back the memory that is kept beyond that of a first piece, if nothing is gathered, and
+    /// counts the bytes that are reserved then.
     fn rest(&mut self) -> usize
         ensures same { self.new ≡ self.old }
         ensures empty { self.new.gathered ≡ [] → result ≤ first_piece }
@@ -182,8 +183,8 @@ impl<L: Link + Drop> Link for Gathering<L> {
         }
     }
 
-    /// Gathers the bytes, or hands on what is gathered and then takes a front of them, where the link below
-    /// took all before it.
+    /// Gathers the bytes, or hands on what is gathered and then takes a front of them, if the link
+    /// below took all before it.
     fn try_write(&mut self, bytes: &[u8]) -> Result<Took, LinkFault>
         ensures takes { Takes (whole self.old) bytes.now result (whole self.new) }
         ensures full { self.old.link.faults ≡ 2 ^ 64 - 1 → result ≡ Ok Took.Later }
@@ -199,7 +200,7 @@ impl<L: Link + Drop> Link for Gathering<L> {
             return Ok(Took::Bytes(bytes.len()));
         }
         match self.send(bytes) {
-            // where a part was taken, it says by its next answer that it takes no more
+            // if a part was taken, it says by its next answer that it takes no more
             Ok(Took::Later) => self.send(bytes),
             answer => answer,
         }

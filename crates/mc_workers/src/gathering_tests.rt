@@ -116,7 +116,7 @@ fn write_once(gathering: &mut Gathering<Narrow>, bytes: &[u8], faults: &mut u64)
     }
 }
 
-/// Writes all of the bytes, and says whether they were taken.
+/// Writes all of the bytes, and returns whether they were taken.
 fn write_all(gathering: &mut Gathering<Narrow>, bytes: &[u8], faults: &mut u64) -> bool {
     let mut at = 0usize;
     for _try in 0..TRIES {
@@ -129,7 +129,7 @@ fn write_all(gathering: &mut Gathering<Narrow>, bytes: &[u8], faults: &mut u64) 
     false
 }
 
-/// Reads until the end comes, and says whether nothing was gathered then.
+/// Reads until the end comes, and returns whether nothing was gathered then.
 fn read_end(gathering: &mut Gathering<Narrow>, faults: &mut u64) -> bool {
     let mut piece: [u8; 1] = [0];
     for _try in 0..TRIES {
@@ -143,8 +143,8 @@ fn read_end(gathering: &mut Gathering<Narrow>, faults: &mut u64) -> bool {
     false
 }
 
-/// Writes the texts through a link that gathers, and says whether the link below took them all, each
-/// byte once and in its order, and each of its faults was told once.
+/// Writes the texts through a link that gathers, and returns whether the link below took them all,
+/// each byte once and in its order, and each of its faults was told once.
 fn goes_through(alloc: Global, width: usize, fails_at: u64) -> Result<bool, AllocError> {
     let text = text_of(alloc, ALL)?;
     let link = Narrow {

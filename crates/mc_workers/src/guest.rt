@@ -75,7 +75,7 @@ impl<L: Link + Drop> Guest<L> {
         self.last
     }
 
-    /// Does the one thing that is due: writes output where there is some, else takes a turn where
+    /// Does the one thing that is due: writes output if there is some, else takes a turn if
     /// one is due, else reads a piece of at most 16384 bytes, or ends. Of a guest that has ended it
     /// says what ended it, and does nothing.
     pub fn visit<S: Steps>(&mut self, alloc: Global, store: &mut S, now: Moment) -> Visit
@@ -102,8 +102,8 @@ impl<L: Link + Drop> Guest<L> {
         self.session.reserved().saturating_add(link)
     }
 
-    /// Gives back the memory that is kept for its session beyond that of two first pieces, where nothing is
-    /// unread and no output waits, and counts the bytes that are reserved for it then.
+    /// Gives back the memory that is kept for its session beyond that of two first pieces, if
+    /// nothing is unread and no output waits, and counts the bytes that are reserved for it then.
     pub fn rest(&mut self) -> usize
         ensures same { self.new ≡ self.old }
         ensures empty { self.new.session.unread.bytes ≡ [] → self.new.session.out ≡ [] →
@@ -119,15 +119,16 @@ impl<L: Link + Drop> Guest<L> {
         self.session.sent(waiting);
     }
 
-    /// Counts the bytes of the unit that is read now, where its line announces a block, whether or not they came.
+    /// Counts the bytes of the unit that is read now, if its line announces a block, whether or not
+    /// they came.
     pub(crate) fn unit(&self) -> usize
         ensures { self.now.session.unread.bytes ≡ [] → result ≡ 0 }
     {
         self.session.announced()
     }
 
-    /// Counts the bytes of the unit whose block is to be read next, whether or not they came; none where
-    /// output is to be written first.
+    /// Counts the bytes of the unit whose block is to be read next, whether or not they came; none
+    /// if output is to be written first.
     pub(crate) fn announced(&self) -> usize
         ensures unread { self.now.session.unread.bytes ≡ [] → result ≡ 0 }
         ensures out { (self.now.session.out ≡ [] → ⊥) → result ≡ 0 }
@@ -139,8 +140,8 @@ impl<L: Link + Drop> Guest<L> {
         }
     }
 
-    /// Lends the key of the turn that is next, where that is one of a retrieval; none where output is to be
-    /// written first.
+    /// Lends the key of the turn that is next, if that is one of a retrieval; none if output is to
+    /// be written first.
     pub(crate) fn key(&self) -> Option<&[u8]>
         ensures out { (self.now.session.out ≡ [] → ⊥) → result ≡ None }
         ensures short { IfSome result (λ key. length key.now ≤ longest_key) }
@@ -233,7 +234,7 @@ impl<L: Link + Drop> Guest<L> {
         }
     }
 
-    /// Has more bytes read at once where a read gave as many as it might.
+    /// Has more bytes read at once if a read gave as many as it might.
     fn widen(&mut self, given: usize)
         ensures { self.new ≡ self.old }
     {
@@ -244,7 +245,7 @@ impl<L: Link + Drop> Guest<L> {
 }
 
 impl Visit {
-    /// Says whether it is a guest's last answer.
+    /// Returns whether it is a guest's last answer.
     fn ends(self) -> bool
         ensures { result ≡ ends self }
     {

@@ -79,22 +79,22 @@ impl<L: Link + Drop> Guests<L> {
         }
     }
 
-    /// Says whether there are none.
+    /// Returns whether there are none.
     pub fn is_empty(&self) -> bool
         ensures { IsTrue result ↔ (length self.now.row.guests ≡ 0) }
     {
         self.row.len() == 0
     }
 
-    /// Says whether none is awake, and none that is kept waiting may be tried again.
+    /// Returns whether none is awake, and none that is kept waiting may be tried again.
     pub fn is_quiet(&self) -> bool
         ensures { result ≡ quiet self.now }
     {
         self.awake == 0 && !self.budget.may_try()
     }
 
-    /// Makes a guest of the link with this number, which is awake, and says whether there was memory
-    /// for it. Without, or where a guest's link has that number already, the link is dropped.
+    /// Makes a guest of the link with this number, which is awake, and returns whether there was
+    /// memory for it. Without, or if a guest's link has that number already, the link is dropped.
     pub fn welcome(&mut self, alloc: Global, link: L, greatest: u64, number: u64) -> bool
         ensures came { IsTrue result →
             self.new ≡ let_in (welcomed greatest (L.shown link)) number self.old }
@@ -111,7 +111,8 @@ impl<L: Link + Drop> Guests<L> {
         false
     }
 
-    /// Visits each that is awake once, and before them one that is kept waiting, where memory came back.
+    /// Visits each that is awake once, and before them one that is kept waiting, if memory came
+    /// back.
     pub fn visit_all<S: Steps>(&mut self, alloc: Global, store: &mut S, now: Moment)
         ensures round { MakesRound S.Steps now store.old store.new }
         ensures visits { VisitsAll S.Steps now self.old self.new store.old store.new }
@@ -129,8 +130,9 @@ impl<L: Link + Drop> Guests<L> {
         row.visit_front(alloc, self.awake, store, now, budget);
     }
 
-    /// Wakes one of those that are kept waiting, where memory came back: the oldest and the newest of them in
-    /// turn. So those whose blocks don't come keep nobody out, however many they are, and nobody waits for ever.
+    /// Wakes one of those that are kept waiting, if memory came back: the oldest and the newest of
+    /// them in turn. So those whose blocks don't come keep nobody out, however many they are, and
+    /// nobody waits for ever.
     fn let_on(&mut self)
         ensures { MayWake self.old self.new }
     {
@@ -150,7 +152,8 @@ impl<L: Link + Drop> Guests<L> {
         }
     }
 
-    /// Passes the turn from the oldest to the newest, and back, where the one whose turn it was went on.
+    /// Passes the turn from the oldest to the newest, and back, if the one whose turn it was went
+    /// on.
     fn pass_turn(&mut self)
         ensures { self.new ≡ self.old }
     {
@@ -180,7 +183,7 @@ impl<L: Link + Drop> Guests<L> {
         }
     }
 
-    /// Says whether the guest at a place is kept waiting, if there is one.
+    /// Returns whether the guest at a place is kept waiting, if there is one.
     fn waits_at(&self, at: usize) -> bool {
         at < self.row.len() && self.row.waits(at) != Waits::No
     }
@@ -199,7 +202,7 @@ impl<L: Link + Drop> Guests<L> {
     }
 
     /// Lets go of those that have ended, which are counted, and lets those sleep that answered
-    /// `Later`. The last comes first: where all behind a guest fall asleep too, none is moved.
+    /// `Later`. The last comes first: if all behind a guest fall asleep too, none is moved.
     pub fn settle(&mut self, end: &mut WorkEnd)
         ensures { SettlesFrom 0 self.old self.new end.old end.new }
     {
@@ -313,8 +316,8 @@ fn fate_of(last: Option<Visit>, end: &mut WorkEnd) -> Fate
     }
 }
 
-/// Says how a guest goes on that hasn't ended: it lines up where it is kept waiting from now on, and sleeps where
-/// it stands in the queue.
+/// Says how a guest goes on that hasn't ended: it lines up if it is kept waiting from now on, and
+/// sleeps if it stands in the queue.
 fn fate_in_line(waits: Waits, fate: Fate) -> Fate
     requires { IsFalse (is_over fate) }
     ensures { IsFalse (is_over result) }

@@ -102,7 +102,7 @@ impl<'a> HeldLink<'a> {
         self
     }
 
-    /// Says whether it gives nothing yet.
+    /// Returns whether it gives nothing yet.
     fn is_held_back(&self) -> bool {
         match self.gives {
             Some(gives) => gives.load(Ordering::SeqCst) == 0,
@@ -110,7 +110,7 @@ impl<'a> HeldLink<'a> {
         }
     }
 
-    /// Gives the next byte, where there is one.
+    /// Gives the next byte, if there is one.
     fn give(&mut self, piece: &mut [u8]) -> Result<Got, LinkFault>
         ensures { Gives self.old piece.new result self.new }
     {
@@ -127,7 +127,7 @@ impl<'a> HeldLink<'a> {
         Ok(Got::Bytes(1))
     }
 
-    /// Takes the first byte, where there is one.
+    /// Takes the first byte, if there is one.
     fn take(&mut self, bytes: &[u8]) -> Result<Took, LinkFault>
         ensures { Takes self.old bytes.now result self.new }
     {

@@ -13,11 +13,11 @@ use crate::guest::Visit;
 use mc_command::Steps;
 use mc_parse::no_spelling_begins_another;
 
-/// States that links take the texts of turns, in their order, and nothing else. What a link took and
-/// the output that waits for it, one behind the other, grow with each visit by the text of the turn
-/// that it took, and by nothing where it took none; so with visits one after another they grow by
-/// the texts of their turns. The text of a turn is the one that answers it, by the reply of its step
-/// where it takes one.
+/// States that links take the texts of turns, in their order, and nothing else. What a link took
+/// and the output that waits for it, one behind the other, grow with each visit by the text of the
+/// turn that it took, and by nothing if it took none; so with visits one after another they grow by
+/// the texts of their turns. The text of a turn is the one that answers it, by the reply of its
+/// step if it takes one.
 ///
 /// So what a link took since its guest was made is a front of the texts of all turns, and all of
 /// them once a visit has answered Served. Of a link whose bytes nobody can know nothing is said.

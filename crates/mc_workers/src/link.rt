@@ -24,8 +24,8 @@ pub enum Took {
 #[derive(Debug, Drop)]
 pub struct LinkFault;
 
-/// A stream in both directions, of which no call waits. A fault leaves the bytes that were given and
-/// taken as they were, and counts; where no more faults can be counted, both calls answer `Later`.
+/// A stream in both directions, of which no call waits. A fault leaves the bytes that were given
+/// and taken as they were, and counts; if no more faults can be counted, both calls answer `Later`.
 pub trait Link {
     ghost use Rattle.std.specs.Prelude.{◌≡◌, ◌-◌, ◌^◌, ◌++◌, Ok};
     ghost use Rattle.mc_workers.specs.Links.{LinkState, Gives, Takes};
@@ -34,17 +34,17 @@ pub trait Link {
     /// last asked to give and not to take.
     ghost shown: { Self → LinkState };
 
-    /// Gives bytes where there are any, at most as many as the piece is long.
+    /// Gives bytes if there are any, at most as many as the piece is long.
     fn try_read(&mut self, piece: &mut [u8]) -> Result<Got, LinkFault>
         ensures gives { Gives (shown self.old) piece.new result (shown self.new) }
         ensures full { (shown self.old).faults ≡ 2 ^ 64 - 1 → result ≡ Ok Got.Later };
 
-    /// Takes a front of these bytes where it has room.
+    /// Takes a front of these bytes if it has room.
     fn try_write(&mut self, bytes: &[u8]) -> Result<Took, LinkFault>
         ensures takes { Takes (shown self.old) bytes.now result (shown self.new) }
         ensures full { (shown self.old).faults ≡ 2 ^ 64 - 1 → result ≡ Ok Took.Later };
 
-    /// Takes a front of two texts, one behind the other, where it has room.
+    /// Takes a front of two texts, one behind the other, if it has room.
     fn try_write_both(&mut self, first: &[u8], second: &[u8]) -> Result<Took, LinkFault>
         ensures takes { Takes (shown self.old) (first.now ++ second.now) result (shown self.new) }
         ensures full { (shown self.old).faults ≡ 2 ^ 64 - 1 → result ≡ Ok Took.Later }

@@ -12,14 +12,15 @@ pub enum Next<L> {
 
 /// Where links come from. The links that `next` gave are numbered in their order, from 0.
 pub trait Links<L> {
-    /// Gives the next link, if one came. It doesn't wait.
+    /// Gives the next link, if one came. It doesn't wait. It is asked once between two rounds, and
+    /// once more behind each link that it gives, until 32 came.
     fn next(&mut self) -> Next<L>;
 
     /// Names a link that may give or take more, and none when there is no further one. It doesn't
     /// wait. A link that answered `Later` isn't asked again until it is named.
     fn ready(&mut self) -> Option<u64>;
 
-    /// Passes some time where there is nothing to do.
+    /// Passes some time if there is nothing to do.
     fn rest(&mut self);
 
     /// Lets a link end whose guest holds much and was quiet, to make room for others. It is named then. By

@@ -37,8 +37,8 @@ impl Numbers {
         }
     }
 
-    /// Puts a number behind the others, and says whether there was memory for it, and it didn't stand there
-    /// before. Else all stay as they were.
+    /// Puts a number behind the others. Returns whether it did: not if it stands there already, or
+    /// if memory is refused, and then all stay as they were.
     pub fn push(&mut self, number: u64) -> bool
         ensures pushed { IsTrue result → self.new ≡ self.old ++ number ∷ [] }
         ensures refused { IsFalse result → self.new ≡ self.old }
@@ -98,7 +98,7 @@ impl Numbers {
     }
 }
 
-/// Notes a place for a number, and says whether there was memory for it.
+/// Notes a place for a number, and returns whether there was memory for it.
 fn add_place(places: &mut HashMap<u64, usize>, number: u64, at: usize) -> bool
     ensures noted { IsTrue result → (other : ℕ) → get nat_eq places.new other
         ≡ cond (nat_eq number other) (Some at) (get nat_eq places.old other) }

@@ -52,8 +52,8 @@ impl<L: Link + Drop> Row<L> {
         self.guests.len()
     }
 
-    /// Puts a guest behind the others, whose link has this number, and says whether there was memory
-    /// for it. Without, or where a guest's link has that number already, the guest is dropped.
+    /// Puts a guest behind the others, whose link has this number, and returns whether there was
+    /// memory for it. Without, or if a guest's link has that number already, the guest is dropped.
     pub fn push(&mut self, guest: Guest<L>, number: u64) -> bool
         ensures pushed { IsTrue result → self.new ≡ joined guest number self.old }
         ensures refused { IsFalse result → self.new ≡ self.old }
@@ -88,7 +88,7 @@ impl<L: Link + Drop> Row<L> {
         self.guests[at].last()
     }
 
-    /// Says whether a guest is kept waiting until there is room.
+    /// Returns whether a guest is kept waiting until there is room, and how it waits.
     pub fn waits(&self, at: usize) -> Waits
         requires { at < length self.now.guests }
     {
@@ -178,7 +178,7 @@ impl<L: Link + Drop> Row<L> {
         round_within(alloc, front, store, now, budget);
     }
 
-    /// Swaps two guests. It does nothing where they are one.
+    /// Swaps two guests. It does nothing if they are one.
     pub fn swap(&mut self, one: usize, other: usize)
         requires one { one < length self.old.guests }
         requires other { other < length self.old.guests }
@@ -192,7 +192,7 @@ impl<L: Link + Drop> Row<L> {
     }
 }
 
-/// Puts a guest that holds nothing behind others, and says whether there was memory for it.
+/// Puts a guest that holds nothing behind others, and returns whether there was memory for it.
 fn push_behind<L: Link + Drop>(guests: &mut Vec<Weighed<L>>, guest: Guest<L>) -> bool
     ensures pushed { IsTrue result → guests.new.items ≡ guests.old.items ++ guest ∷ [] }
     ensures refused { IsFalse result → guests.new.items ≡ guests.old.items }
@@ -200,7 +200,7 @@ fn push_behind<L: Link + Drop>(guests: &mut Vec<Weighed<L>>, guest: Guest<L>) ->
     guests.push(Weighed::new(guest)).is_ok()
 }
 
-/// Lets go of a guest who doesn't come to stand in the row, and says so.
+/// Lets go of a guest who doesn't come to stand in the row, and returns false.
 fn turned_away<L: Link + Drop>(_guest: Guest<L>) -> bool
     ensures { result ≡ false }
 {

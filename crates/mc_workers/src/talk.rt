@@ -1,6 +1,7 @@
 //! What a worker asks of its links between two rounds.
-ghost use Rattle.std.specs.Prelude.{◌≡◌, ◌<◌, ◌&&◌, ◌==◌};
+ghost use Rattle.std.specs.Prelude.{◌≡◌, ◌↔◌, ◌<◌, ◌&&◌, ◌==◌, Some, IsTrue};
 ghost use Rattle.mc_workers.specs.Doors.{unasked, came, came_of, heard, WakesAllNamed, ComesNothing};
+ghost use Rattle.mc_workers.specs.declared.talk.Came.TheVariants.{Link as ALink};
 
 use crate::guests::Guests;
 use crate::link::Link;
@@ -23,7 +24,7 @@ pub(crate) struct Talk {
     pub came: Option<Came>,
     /// How many were named.
     pub names: usize,
-    /// Which one was named last, and none where there was no further one.
+    /// Which one was named last, and none if there was no further one.
     pub named: Option<u64>,
     pub has_rested: bool,
 }
@@ -64,6 +65,13 @@ impl Talk {
         }
     }
 
+    /// Returns whether a link came next.
+    pub fn gave_link(&self) -> bool
+        ensures { IsTrue result ↔ (self.now.came ≡ Some ALink) }
+    {
+        self.came == Some(Came::Link)
+    }
+
     /// Asks for the name of a link that may give or take more.
     fn ready<L: Link + Drop, Q: Links<L>>(&mut self, links: &mut Q) -> Option<u64>
         requires { self.old.names < 1024 }
@@ -95,7 +103,7 @@ impl Talk {
         }
     }
 
-    /// Wakes the guests whose links are named, and rests where nobody was awake and none was named.
+    /// Wakes the guests whose links are named, and rests if nobody was awake and none was named.
     pub fn wait<L: Link + Drop, Q: Links<L>>(
         &mut self,
         links: &mut Q,
@@ -109,7 +117,7 @@ impl Talk {
         self.rest_if(links, is_quiet);
     }
 
-    /// Rests where nobody was awake and none was named.
+    /// Rests if nobody was awake and none was named.
     fn rest_if<L: Link + Drop, Q: Links<L>>(&mut self, links: &mut Q, is_quiet: bool)
         ensures { self.new ≡ record self.old { has_rested = is_quiet && self.old.names == 0 } }
     {

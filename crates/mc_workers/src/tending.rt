@@ -101,7 +101,7 @@ impl<'a, R: Wait, K: KeyHash + Drop, G: Gate> Tending<'a, R, K, G> {
         next_in_turn(shelf, self.shelves)
     }
 
-    /// Moves some entries of the last step's shelf, where some are left to move. A flush is on no
+    /// Moves some entries of the last step's shelf, if some are left to move. A flush is on no
     /// shelf.
     fn grow_after(&mut self)
         ensures { self.new ≡ self.old }

@@ -157,8 +157,8 @@ fn served_with_fault<R: Wait>(rt: &R, alloc: Global, call: u64) -> Result<Faulty
     })
 }
 
-/// Says whether a fault ended the first session alone: the other took all of its output, what the
-/// first took is a beginning of its own, and a set that it was told of stands.
+/// Returns whether a fault ended the first session alone: the other took all of its output, what
+/// the first took is a beginning of its own, and a set that it was told of stands.
 fn ended_alone(was: &Faulty) -> bool {
     let (right, wrong) = was.first;
     let counts = was.end.served == 1 && was.end.broken == 1 && was.end.refused == 0;
@@ -171,7 +171,7 @@ fn ended_alone(was: &Faulty) -> bool {
     counts && other && wrong == 0 && read
 }
 
-/// Says whether no fault was met, and both took all of their output.
+/// Returns whether no fault was met, and both took all of their output.
 fn both_served(was: &Faulty) -> bool {
     let counts = was.end.served == 2 && was.end.broken == 0 && was.end.refused == 0;
     let all = was.first == (FIRST.1.len() as u64, 0) && was.second == (SECOND.1.len() as u64, 0);

@@ -121,8 +121,8 @@ const COURSES: [Course; 6] = [
     },
 ];
 
-/// Visits a guest once for each letter, and says whether each answered as its letter says, was the
-/// guest's last answer then, and moved one byte of output where it wrote, and none where it didn't.
+/// Visits a guest once for each letter, and returns whether each answered as its letter says, was
+/// the guest's last answer then, and moved one byte of output if it wrote, and none if it didn't.
 fn goes_as(alloc: Global, store: &mut Counting, course: &Course) -> Result<bool, AllocError> {
     let now = Moment::from_seconds_at_most(1000);
     let seen = Seen::nothing();

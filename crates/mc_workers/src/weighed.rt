@@ -1,4 +1,4 @@
-//! Guests with what they hold, which are kept waiting where they want much and there is no room.
+//! Guests with what they hold, which are kept waiting if they want much and there is no room.
 ghost use Rattle.std.specs.Prelude.{◌≡◌, ◌≤◌, length, IfSome, None};
 ghost use Rattle.mc_command.specs.Commands.{longest_key};
 ghost use Rattle.mc_workers.specs.Asks.{AsksAndVisits, IsKeptWaiting, MayAsk};
@@ -18,7 +18,7 @@ pub struct Weighed<L: Link + Drop> {
     guest: Guest<L>,
     /// For how many bytes it is counted.
     counted: usize,
-    /// How many bytes the unit has that it reads, where its line announces a block.
+    /// How many bytes the unit has that it reads, if its line announces a block.
     unit: usize,
     /// Whether it is let have all of the block that it reads.
     has_leave: bool,
@@ -69,7 +69,7 @@ impl<L: Link + Drop> Weighed<L> {
         self.guest.last()
     }
 
-    /// Says whether it is kept waiting until there is room.
+    /// Returns whether it is kept waiting until there is room, and how it waits.
     pub fn waits(&self) -> Waits {
         self.waits
     }
@@ -81,8 +81,8 @@ impl<L: Link + Drop> Weighed<L> {
         self.waits = waits;
     }
 
-    /// Multiplies the bytes for which it is counted by the seconds for which its link was quiet, where it holds
-    /// more than a little, goes on, and these are at least `QUIET`; else none.
+    /// Multiplies the bytes for which it is counted by the seconds for which its link was quiet, if
+    /// it holds more than a little, goes on, and these are at least `QUIET`; else none.
     pub fn hoards(&self, now: Moment) -> u64 {
         let quiet = now.seconds().saturating_sub(self.heard);
         if self.waits == Waits::No && self.counted > LITTLE && quiet >= QUIET {
@@ -106,8 +106,8 @@ impl<L: Link + Drop> Weighed<L> {
         budget.is_eased = true;
     }
 
-    /// Visits the guest. Where it wants more than a little and there is no room for that, it is kept waiting and
-    /// stays as it was.
+    /// Visits the guest. If it wants more than a little and there is no room for that, it is kept
+    /// waiting and stays as it was.
     pub fn visit<S: Steps>(
         &mut self,
         alloc: Global,
@@ -129,7 +129,7 @@ impl<L: Link + Drop> Weighed<L> {
         Some(answer)
     }
 
-    /// Says whether it may go on, wanting so many bytes; else it is kept waiting.
+    /// Returns whether it may go on, wanting so many bytes; else it is kept waiting.
     #[inline]
     fn may_go_on(&mut self, wanted: usize, now: Moment, budget: &mut Budget) -> bool
         ensures { self.new ≡ self.old }
@@ -141,7 +141,8 @@ impl<L: Link + Drop> Weighed<L> {
         self.finds_room(wanted, now, budget)
     }
 
-    /// Says whether there is room for it to go on, wanting so many bytes; else it is kept waiting.
+    /// Returns whether there is room for it to go on, wanting so many bytes; else it is kept
+    /// waiting.
     #[inline(never)]
     fn finds_room(&mut self, wanted: usize, now: Moment, budget: &mut Budget) -> bool
         ensures { self.new ≡ self.old }
@@ -162,7 +163,7 @@ impl<L: Link + Drop> Weighed<L> {
         true
     }
 
-    /// Counts the bytes that its next visit may have it hold, where they are many.
+    /// Counts the bytes that its next visit may have it hold, if they are many.
     fn wanted<S: Steps>(&self, alloc: Global, store: &mut S, now: Moment, budget: &Budget) -> usize
         ensures { MayAsk S.Steps now store.old store.new }
     {
@@ -181,8 +182,8 @@ impl<L: Link + Drop> Weighed<L> {
         }
     }
 
-    /// Says whether it may go on, wanting so many bytes: a little, or what it had leave for, or what fits, where
-    /// no other one came before it.
+    /// Returns whether it may go on, wanting so many bytes: a little, or what it had leave for, or
+    /// what fits, if no other one came before it.
     fn has_room(&self, wanted: usize, budget: &Budget) -> bool {
         let is_first = self.waits == Waits::Next || budget.waiting == 0;
         wanted <= LITTLE

@@ -37,11 +37,11 @@ pub struct Worker<'a, G: Gate, T: Tally, C: Clock> {
 }
 
 impl<'a, G: Gate, T: Tally, C: Clock> Worker<'a, G, T, C> {
-    /// Serves links until none comes any more and all sessions have ended: makes rounds of the guests
-    /// that are awake, and after each asks for the next link once. A step is followed by the growth of
-    /// its key's shelf by 8 entries; where the clock has risen, the dead items of the next shelf in turn
-    /// are dropped, and of more than 64 shelves those of so many that 64 risings come to all. The clock
-    /// is asked once a round, for all of its visits.
+    /// Serves links until none comes any more and all sessions have ended: makes rounds of the
+    /// guests that are awake, and after each asks for the next link until none comes, or 32 came. A
+    /// step is followed by the growth of its key's shelf by 8 entries; when the clock has risen, the
+    /// dead items of the next shelf in turn are dropped, and of more than 64 shelves those of so many
+    /// that 64 risings come to all. The clock is asked once a round, for all of its visits.
     ///
     /// The caller comes back under further calls alone, each at a moment that the clock may give, and
     /// there is a legal history that keeps its past. A fault of one link, and one session's want of
@@ -77,8 +77,7 @@ impl<'a, G: Gate, T: Tally, C: Clock> Worker<'a, G, T, C> {
             turn = make_round(alloc, &mut guests, &mut counting, turn, before, now);
             guests.settle(&mut end);
             make_room(&mut guests, links, before, now);
-            let is_quiet = guests.is_quiet();
-            if !door.open(alloc, links, &mut guests, &mut end, is_quiet) {
+            if !door.open_for_all(alloc, links, &mut guests, &mut end) {
                 return (counting.into_steps().into_caller(), end);
             }
             before = now;
@@ -113,8 +112,8 @@ pub fn work<R: Wait, K: KeyHash + Drop, L: Link + Drop, Q: Links<L>, G: Gate, C:
     worker.work(rt, alloc, shared, caller, links)
 }
 
-/// Makes a round of those that are awake, and drops the dead items of the next shelves where the clock
-/// has risen, all at one moment. Returns the shelf whose turn is next.
+/// Makes a round of those that are awake, and drops the dead items of the next shelves when the
+/// clock has risen, all at one moment. Returns the shelf whose turn is next.
 fn make_round<R: Wait, K: KeyHash + Drop, L: Link + Drop, G: Gate, T: Tally>(
     alloc: Global,
     guests: &mut Guests<L>,
@@ -135,11 +134,11 @@ fn make_round<R: Wait, K: KeyHash + Drop, L: Link + Drop, G: Gate, T: Tally>(
     }
 }
 
-/// How many links are let end at most where the clock has risen.
+/// How many links are let end at most when the clock has risen.
 const ENDED: usize = 16;
 
-/// Lets links end whose guests are to make room for those that are kept waiting, where the clock has risen: no
-/// more than these are.
+/// Lets links end whose guests are to make room for those that are kept waiting, when the clock has
+/// risen: no more than these are.
 fn make_room<L: Link + Drop, Q: Links<L>>(
     guests: &mut Guests<L>,
     links: &mut Q,

@@ -1,8 +1,6 @@
 -- What is left of a connection, over a piece, a turn and an end.
 use Rattle.std.proofs.Common.{◌≡◌, ◌⊎◌, inl, inr, ℕ, zero, suc, ◌+◌, ◌<◌, ◌==◌, ◌↔◌, Bool, true, false, not, List, [], ◌∷◌, ◌++◌, length, drop, Option, Some, None, refl, sym, ap}
-use Rattle.std.proofs.Common.{◌∙◌, subst, arith, length-append, length-drop, append_assoc, if◌then◌else◌}
-use Rattle.std.specs.List.{slice_get}
-use Rattle.std.specs.Bool.{MatchBool}
+use Rattle.std.proofs.Common.{◌∙◌, subst, arith, length-append, length-drop, append_assoc, if◌then◌else◌, slice_get, MatchBool}
 use Rattle.std.proofs.lemmas.Bool.{eqb-true, eqb-false}
 use Rattle.std.proofs.lemmas.List.{drop-append-le, append-nil, append_cancel_left}
 use Rattle.std.proofs.lemmas.Option.{slice_get_past}
@@ -11,8 +9,6 @@ use Rattle.mc_parse.specs.Units.{ProtocolUnit, Request, Fault, LongLine, Spells}
 use Rattle.mc_parse.specs.Streams.{AreUnits, is_last, passed_after}
 use Rattle.mc_parse.specs.Feeds.{Unread, settled, pushed}
 use Rattle.mc_session.specs.Turns.{SessionState, to_read, HasUnits, turn_count, turns_from, turns, nothing_unread, closed, fed, TakesTurn, NoTurnDue}
-use Rattle.mc_shelf.specs.declared.settings.Settings.{Settings}
-use Rattle.mc_command.specs.Plain.{Plain}
 use Rattle.mc_world.specs.Laws.{Grammar}
 use Rattle.mc_world.specs.Worlds.{StandAll, StandsAs, PlainWorld, WorldState}
 use Rattle.mc_world.specs.Connections.{Connection, IsNext, HasNoNext, Follows, IsAmong, at_start, inside, IsRest, shut, Stands, with_piece, after_turn, ended}
@@ -20,66 +16,53 @@ use Rattle.mc_world.specs.Connections.{Connection, IsNext, HasNoNext, Follows, I
 abbrev unread : ℕ → ℕ → List ℕ → Unread
 unread greatest passed bytes = record { greatest = greatest; passed = passed; bytes = bytes }
 
+-- so a connection stands, by whether it is open
+abbrev pub StandsIf : Bool → Connection → SessionState → Type 0
+StandsIf b c s = MatchBool b ((s.is_open ≡ true) × IsRest c s) (s ≡ shut c)
+
 -- a unit has so many turns
 turns_length : (unit : ProtocolUnit) (at n : ℕ) → length (turns_from unit at n) ≡ n
 turns_length unit at zero = refl
 turns_length unit at (suc n) = ap suc (turns_length unit (at + 1) n)
 
--- and this one is turn t
-turn_at : (unit : ProtocolUnit) (at n t : ℕ) → t < n → slice_get (turns_from unit at n) t ≡ Some (unit, at + t)
-turn_at unit at zero t less = absurd (omega arith)
-turn_at unit at (suc n) zero less = let e : at ≡ at + 0 = omega arith in ap (λ (k : ℕ). Some (unit, k)) e
-turn_at unit at (suc n) (suc t) less =
+-- turn t stands at place t, whatever comes behind
+turn_at : (unit : ProtocolUnit) (at n t : ℕ) (more : List (ProtocolUnit × ℕ)) → t < n → slice_get (turns_from unit at n ++ more) t ≡ Some (unit, at + t)
+turn_at unit at zero t more less = absurd (omega (arith, less))
+turn_at unit at (suc n) zero more less = let e : at ≡ at + 0 = omega arith in ap (λ (k : ℕ). Some (unit, k)) e
+turn_at unit at (suc n) (suc t) more less =
     let e : at + 1 + t ≡ at + suc t = omega arith in
-    turn_at unit (at + 1) n t (omega arith) ∙ ap (λ (k : ℕ). Some (unit, k)) e
+    turn_at unit (at + 1) n t more (omega (arith, less)) ∙ ap (λ (k : ℕ). Some (unit, k)) e
 
--- a place in the first of two lists
-get_before : {A : Type 0} (xs ys : List A) (k : ℕ) → k < length xs → slice_get (xs ++ ys) k ≡ slice_get xs k
-get_before [] ys k less = absurd (omega arith)
-get_before (x ∷ xs) ys zero less = refl
-get_before (x ∷ xs) ys (suc k) less = get_before xs ys k (omega arith)
-
--- and in the second
+-- a place in the second of two lists
 get_behind : {A : Type 0} (xs ys : List A) (k n : ℕ) → n ≡ length xs + k → slice_get (xs ++ ys) n ≡ slice_get ys k
-get_behind [] ys k n e = let same : n ≡ k = omega arith in ap (slice_get ys) same
-get_behind (x ∷ xs) ys k zero e = absurd (omega arith)
-get_behind (x ∷ xs) ys k (suc n) e = get_behind xs ys k n (omega arith)
+get_behind [] ys k n e = let same : n ≡ k = omega (arith, e) in ap (slice_get ys) same
+get_behind (x ∷ xs) ys k zero e = absurd (omega (arith, e))
+get_behind (x ∷ xs) ys k (suc n) e = get_behind xs ys k n (omega (arith, e))
 
--- the turns of two lists of units are those of the first and then those of the second
-turns_append : (us vs : List ProtocolUnit) → turns (us ++ vs) ≡ turns us ++ turns vs
-turns_append [] vs = refl
-turns_append (u ∷ us) vs = ap (λ l. turns_from u 0 (turn_count u) ++ l) (turns_append us vs) ∙ sym (append_assoc (turns_from u 0 (turn_count u)) (turns us) (turns vs))
+-- so many turns have units
+turns_first : (v : ProtocolUnit) (vs : List ProtocolUnit) → length (turns (v ∷ vs)) ≡ turn_count v + length (turns vs)
+turns_first v vs = length-append (turns_from v 0 (turn_count v)) (turns vs) ∙ ap (λ n. n + length (turns vs)) (turns_length v 0 (turn_count v))
 
--- one unit more has so many turns more
 turns_more : (us : List ProtocolUnit) (u : ProtocolUnit) → length (turns (us ++ u ∷ [])) ≡ length (turns us) + turn_count u
-turns_more us u =
-    ap length (turns_append us (u ∷ [])) ∙ length-append (turns us) (turns_from u 0 (turn_count u) ++ [])
-    ∙ ap (λ l. length (turns us) + length l) (append-nil (turns_from u 0 (turn_count u)))
-    ∙ ap (λ n. length (turns us) + n) (turns_length u 0 (turn_count u))
+turns_more [] u = omega (arith, turns_first u [])
+turns_more (v ∷ us) u = omega (arith, turns_first v (us ++ u ∷ []), turns_first v us, turns_more us u)
 
 -- turn t of the unit that stands behind some
 turn_behind : (read us : List ProtocolUnit) (unit : ProtocolUnit) (t taken : ℕ) → taken ≡ length (turns read) + t → t < turn_count unit → slice_get (turns (read ++ unit ∷ us)) taken ≡ Some (unit, t)
-turn_behind read us unit t taken is less =
+turn_behind [] us unit t taken is less =
+    let same : taken ≡ t = omega (arith, is) in
     let e : 0 + t ≡ t = omega arith in
-    ap (λ l. slice_get l taken) (turns_append read (unit ∷ us))
-    ∙ get_behind (turns read) (turns (unit ∷ us)) t taken is
-    ∙ get_before (turns_from unit 0 (turn_count unit)) (turns us) t (omega (arith, turns_length unit 0 (turn_count unit)))
-    ∙ turn_at unit 0 (turn_count unit) t less
-    ∙ ap (λ (k : ℕ). Some (unit, k)) e
+    ap (slice_get (turns (unit ∷ us))) same ∙ turn_at unit 0 (turn_count unit) t (turns us) less ∙ ap (λ (k : ℕ). Some (unit, k)) e
+turn_behind (u ∷ read) us unit t taken is less =
+    get_behind (turns_from u 0 (turn_count u)) (turns (read ++ unit ∷ us)) (length (turns read) + t) taken (omega (arith, is, turns_first u read, turns_length u 0 (turn_count u)))
+    ∙ turn_behind read us unit t (length (turns read) + t) refl less
 
 -- the units of a stream are those that were read and then those of what comes after them
 are_joined : (g : Grammar) (greatest passed : ℕ) (bytes : List ℕ) (read us : List ProtocolUnit) (rest : Unread) → Follows greatest passed bytes read rest
     → AreUnits rest.greatest rest.passed rest.bytes us → AreUnits greatest passed bytes (read ++ us)
 are_joined g greatest passed bytes [] us rest f h =
     (g.early_units (unread greatest passed bytes) us).0 (subst (λ (r : Unread). HasUnits r us) f h)
-are_joined g greatest passed bytes (u ∷ read) us rest f h = (
-  f.0,
-  f.1,
-  f.2,
-  f.3,
-  subst (λ (b : Bool). MatchBool b ((read ++ us) ≡ []) (AreUnits greatest (passed_after u) f.1 (read ++ us))) (sym f.4)
-      (are_joined g greatest (passed_after u) f.1 read us rest f.5 h),
-)
+are_joined g greatest passed bytes (u ∷ read) us rest f h = (f.0, f.1, f.2, f.3, rw f.4 (are_joined g greatest (passed_after u) f.1 read us rest f.5 h))
 
 -- what is left has the same greatest charge
 same_greatest : (greatest passed : ℕ) (bytes : List ℕ) (read : List ProtocolUnit) (rest : Unread) → Follows greatest passed bytes read rest → rest.greatest ≡ greatest
@@ -123,40 +106,31 @@ follows_more g greatest passed bytes (u ∷ read) rest unit front more f e spell
     (f.0, f.1, f.2, f.3, f.4, follows_more g greatest (passed_after u) f.1 read rest unit front more f.5 e spelled last)
 
 -- a first unit has others behind it
+others_behind : (g : Grammar) (last : Bool) (greatest passed : ℕ) (bytes : List ℕ) → (us : List ProtocolUnit) × MatchBool last (us ≡ []) (AreUnits greatest passed bytes us)
+others_behind g true greatest passed bytes = ([], refl)
+others_behind g false greatest passed bytes = g.some greatest passed bytes
+
 first_units : (g : Grammar) (greatest passed : ℕ) (bytes : List ℕ) (unit : ProtocolUnit) (front rest : List ℕ) → drop passed bytes ≡ front ++ rest
     → Spells greatest unit front → (us : List ProtocolUnit) × AreUnits greatest passed bytes (unit ∷ us)
 first_units g greatest passed bytes unit front rest e spelled =
-    let others = g.some greatest (passed_after unit) rest in
-    elim (is_last unit) as
-    (λ last.
-    ((us : List ProtocolUnit) → MatchBool last (us ≡ []) (AreUnits greatest (passed_after unit) rest us) → AreUnits greatest passed bytes (unit ∷ us))
-    → (us : List ProtocolUnit) × AreUnits greatest passed bytes (unit ∷ us)) [
-      | true ↦ λ first. ([], first [] refl)
-      | false ↦ λ first. (others.0, first others.0 others.1)
-    ] (λ us m. (front, rest, e, spelled, m))
+    let us = others_behind g (is_last unit) greatest (passed_after unit) rest in (us.0, (front, rest, e, spelled, us.1))
 
 -- a piece comes to an open session
-pub rest_fed : (g : Grammar) (c : Connection) (s : SessionState) (piece : List ℕ) → s.is_open ≡ true → IsRest c s → Stands c s → c.is_open ≡ true → Stands (with_piece piece c) (fed s piece)
-rest_fed g c s piece opens rest stands is_open =
-    let grown : SessionState = record s { unread = pushed s.unread piece } in
-    let same : fed s piece ≡ grown = ap (λ (b : Bool). if b then grown else s) opens in
-    let left : IsRest (with_piece piece c) grown = record {
+pub rest_fed : (g : Grammar) (c : Connection) (s : SessionState) (piece : List ℕ) → s.is_open ≡ true → IsRest c s → c.is_open ≡ true → Stands (with_piece piece c) (fed s piece)
+rest_fed g c s piece opens rest is_open =
+    let left : IsRest (with_piece piece c) (record s { unread = pushed s.unread piece }) = record {
       read = rest.read;
       follows = follows_piece g c.greatest c.passed c.stream piece rest.read s.unread rest.follows;
       taken = rest.taken;
       among = among_piece g piece rest.among;
       out = rest.out;
     } in
-    subst (λ (x : SessionState). Stands (with_piece piece c) x) (sym same)
-    (subst (λ (b : Bool). MatchBool b ((grown.is_open ≡ true) × IsRest (with_piece piece c) grown) (grown ≡ shut (with_piece piece c))) (sym is_open) (opens, left))
+    subst (λ (b : Bool). Stands (with_piece piece c) (if b then record s { unread = pushed s.unread piece } else s)) (sym opens)
+    (subst (λ (b : Bool). StandsIf b (with_piece piece c) (record s { unread = pushed s.unread piece })) (sym is_open) (opens, left))
 
 -- an open session closes
 pub rest_closed : (c : Connection) (s : SessionState) → IsRest c s → Stands (ended c) (closed s)
-rest_closed c s rest =
-    let same = same_greatest c.greatest c.passed c.stream rest.read s.unread rest.follows in
-    let told = rest.out in
-    ap (λ (g : ℕ). record { unread = nothing_unread g; taken = 0; out = s.out; is_open = false }) same
-    ∙ ap (λ (o : List ℕ). record { unread = nothing_unread c.greatest; taken = 0; out = o; is_open = false }) told
+rest_closed c s rest = rw (same_greatest c.greatest c.passed c.stream rest.read s.unread rest.follows, rest.out)
 
 -- where no turn of the session is due, none of the stream is
 pub rest_idle : (g : Grammar) (c : Connection) (s : SessionState) → IsRest c s → NoTurnDue s → HasNoNext c
@@ -188,52 +162,46 @@ some_left g unit front more at_start parts spelled = some_turns unit
 some_left g {u = u} {t = t} unit front more (inside other begin end e spells less) parts spelled =
     subst (λ (v : ProtocolUnit). t < turn_count v) (g.apart u.greatest other unit begin front end more spells spelled (sym e ∙ parts)).0 less
 
--- where no turn of the session is due, none of the stream is, and else one is
-abbrev DueOrNot : Connection → SessionState → Type 0
-DueOrNot c s = NoTurnDue s ⊎ ((unit : ProtocolUnit) × (at : ℕ) × IsNext c unit at)
+-- the turn that is next in a session is next in its connection
+first_next : (g : Grammar) (c : Connection) (s : SessionState) → IsRest c s → (unit : ProtocolUnit) (units : List ProtocolUnit) → HasUnits s.unread (unit ∷ units) → IsNext c unit s.taken
+first_next g c s rest unit units h = next_of g c s rest unit h.0 h.1 h.2 h.3 (some_left g unit h.0 h.1 rest.among h.2 h.3)
 
-due_by : (g : Grammar) (c : Connection) (s : SessionState) → IsRest c s → (units : List ProtocolUnit) → AreUnits s.unread.greatest s.unread.passed s.unread.bytes units → DueOrNot c s
-due_by g c s rest [] h = inl h
-due_by g c s rest (unit ∷ units) h = inr (unit, s.taken, next_of g c s rest unit h.0 h.1 h.2 h.3 (some_left g unit h.0 h.1 rest.among h.2 h.3))
-
-due_or_not : (g : Grammar) (c : Connection) (s : SessionState) → IsRest c s → DueOrNot c s
-due_or_not g c s rest = let units = g.some s.unread.greatest s.unread.passed s.unread.bytes in due_by g c s rest units.0 units.1
-
-due_of : (c : Connection) (s : SessionState) → DueOrNot c s → (NoTurnDue s → ⊥) → (unit : ProtocolUnit) × (at : ℕ) × IsNext c unit at
-due_of c s (inl none) due = absurd (due none)
-due_of c s (inr next) due = next
+due_by : (g : Grammar) (c : Connection) (s : SessionState) → IsRest c s → (units : List ProtocolUnit) → HasUnits s.unread units → (NoTurnDue s → ⊥)
+    → (unit : ProtocolUnit) × (at : ℕ) × IsNext c unit at
+due_by g c s rest [] h due = absurd (due h)
+due_by g c s rest (unit ∷ units) h due = (unit, s.taken, first_next g c s rest unit units h)
 
 pub rest_due : (g : Grammar) (c : Connection) (s : SessionState) → IsRest c s → (NoTurnDue s → ⊥) → (unit : ProtocolUnit) × (at : ℕ) × IsNext c unit at
-rest_due g c s rest due = due_of c s (due_or_not g c s rest) due
+rest_due g c s rest due = let units = g.some s.unread.greatest s.unread.passed s.unread.bytes in due_by g c s rest units.0 units.1 due
 
--- a connection has one next turn
-pub one_next : (g : Grammar) (c : Connection) (u v : ProtocolUnit) (at to : ℕ) → IsNext c u at → IsNext c v to → let one : ProtocolUnit × ℕ = (u, at) in
-    let other : ProtocolUnit × ℕ = (v, to) in one ≡ other
-one_next g c u v at to x y =
-    let same = g.same c.greatest c.passed c.stream x.units y.units x.are y.are in
-    let one : Option (ProtocolUnit × ℕ) = Some (u, at) in
-    let other : Option (ProtocolUnit × ℕ) = Some (v, to) in
-    let both : one ≡ other = sym x.next ∙ ap (λ us. slice_get (turns us) c.taken) same ∙ y.next in
-    cc
+-- the next turn of a connection, or that it has none, is one thing
+pub next_in : (g : Grammar) → Connection → Option (ProtocolUnit × ℕ)
+next_in g c = slice_get (turns (g.some c.greatest c.passed c.stream).0) c.taken
 
--- or none
-pub no_next : (g : Grammar) (c : Connection) (u : ProtocolUnit) (at : ℕ) → IsNext c u at → HasNoNext c → ⊥
-no_next g c u at x y =
-    let same = g.same c.greatest c.passed c.stream x.units y.units x.are y.are in
-    let one : Option (ProtocolUnit × ℕ) = Some (u, at) in
-    let both : one ≡ None = sym x.next ∙ ap (λ us. slice_get (turns us) c.taken) same ∙ y.none in
-    cc
+units_one : (g : Grammar) (c : Connection) (units : List ProtocolUnit) → AreUnits c.greatest c.passed c.stream units → next_in g c ≡ slice_get (turns units) c.taken
+unfolding next_in
+units_one g c units are = let some = g.some c.greatest c.passed c.stream in ap (λ us. slice_get (turns us) c.taken) (g.same c.greatest c.passed c.stream some.0 units some.1 are)
 
-idle_of : (g : Grammar) (c : Connection) (s : SessionState) → DueOrNot c s → HasNoNext c → NoTurnDue s
-idle_of g c s (inl none) h = none
-idle_of g c s (inr next) h = absurd (no_next g c next.0 next.1 next.2 h)
+pub next_is : (g : Grammar) (c : Connection) (unit : ProtocolUnit) (at : ℕ) → IsNext c unit at → next_in g c ≡ Some (unit, at)
+next_is g c unit at next = units_one g c next.units next.are ∙ next.next
 
-due_of_both : (g : Grammar) (c : Connection) (s : SessionState) (b : Bool) → b ≡ true → MatchBool b ((s.is_open ≡ true) × IsRest c s) (s ≡ shut c) → NoTurnDue s ↔ HasNoNext c
-due_of_both g c s true is h = (λ none. rest_idle g c s h.1 none, λ none. idle_of g c s (due_or_not g c s h.1) none)
-due_of_both g c s false is h = absurd (let e : true ≡ false = sym is in cc)
+pub none_is : (g : Grammar) (c : Connection) → HasNoNext c → next_in g c ≡ None
+none_is g c none = units_one g c none.units none.are ∙ none.none
+
+pub no_next : (g : Grammar) (c : Connection) (unit : ProtocolUnit) (at : ℕ) → IsNext c unit at → HasNoNext c → ⊥
+no_next g c unit at next none =
+    let one : Option (ProtocolUnit × ℕ) = Some (unit, at) in
+    let both : one ≡ None = sym (next_is g c unit at next) ∙ none_is g c none in cc
+
+idle_by : (g : Grammar) (c : Connection) (s : SessionState) → IsRest c s → (units : List ProtocolUnit) → HasUnits s.unread units → HasNoNext c → NoTurnDue s
+idle_by g c s rest [] h none = h
+idle_by g c s rest (unit ∷ units) h none = absurd (no_next g c unit s.taken (first_next g c s rest unit units h) none)
 
 pub due_both : (g : Grammar) (c : Connection) (s : SessionState) → Stands c s → c.is_open ≡ true → NoTurnDue s ↔ HasNoNext c
-due_both g c s stands is = due_of_both g c s c.is_open is stands
+due_both g c s stands is =
+    let rest : (s.is_open ≡ true) × IsRest c s = subst (λ (b : Bool). StandsIf b c s) is stands in
+    let units = g.some s.unread.greatest s.unread.passed s.unread.bytes in
+    (λ none. rest_idle g c s rest.1 none, λ none. idle_by g c s rest.1 units.0 units.1 none)
 
 -- A turn of an open session is the next turn of its connection's stream.
 module _ {S : Type 0} (relations : Relations S) (now : ℕ) (c : Connection) (s new : SessionState) (before after : S) (rest : IsRest c s) (takes : TakesTurn relations now s new before after) where
@@ -257,9 +225,7 @@ module _ {S : Type 0} (relations : Relations S) (now : ℕ) (c : Connection) (s 
   told_out = ap (λ o. o ++ takes.text) rest.out
 
   stands_by : (g : Grammar) (last whole : Bool) → s.is_open ≡ true → is_last takes.unit ≡ last → (s.taken + 1 == turn_count takes.unit) ≡ whole → Stands (after_by last) (moved_by last whole)
-  stands_by g true whole opens is counted =
-      ap (λ (g : ℕ). record { unread = nothing_unread g; taken = 0; out = told; is_open = false }) (same_greatest c.greatest c.passed c.stream rest.read s.unread rest.follows)
-      ∙ ap (λ (o : List ℕ). record { unread = nothing_unread c.greatest; taken = 0; out = o; is_open = false }) told_out
+  stands_by g true whole opens is counted = rw (same_greatest c.greatest c.passed c.stream rest.read s.unread rest.follows, rest.out)
   stands_by g false true opens is counted =
       let all : s.taken + 1 ≡ turn_count takes.unit = eqb-true _ _ counted in (
         opens,
@@ -287,17 +253,10 @@ module _ {S : Type 0} (relations : Relations S) (now : ℕ) (c : Connection) (s 
       subst (λ (x : SessionState). Stands (after_turn takes.unit takes.text c) x) (sym takes.moves) (stands_by g (is_last takes.unit) (s.taken + 1 == turn_count takes.unit) opens refl refl)
 
 -- What is left of a connection is one thing.
-turns_first : (v : ProtocolUnit) (vs : List ProtocolUnit) → length (turns (v ∷ vs)) ≡ turn_count v + length (turns vs)
-turns_first v vs = length-append (turns_from v 0 (turn_count v)) (turns vs) ∙ ap (λ n. n + length (turns vs)) (turns_length v 0 (turn_count v))
-
 few_turns : (g : Grammar) (greatest passed : ℕ) (bytes : List ℕ) (v : ProtocolUnit) (front more : List ℕ) (a : Unread) (t : ℕ)
     → a ≡ settled (unread greatest passed bytes) → drop passed bytes ≡ front ++ more → Spells greatest v front → IsAmong a t → t < turn_count v
-few_turns g greatest passed bytes v front more a t f e h at_start = some_turns v
-few_turns g greatest passed bytes v front more a t f e h (inside unit front' rest' parts spelled less) =
-    let same : a.greatest ≡ greatest = ap (λ (r : Unread). r.greatest) f in
-    let here : drop passed bytes ≡ drop a.passed a.bytes = sym (g.early (unread greatest passed bytes)) ∙ ap to_read (sym f) in
-    let one = g.apart greatest unit v front' front rest' more (subst (λ (m : ℕ). Spells m unit front') same spelled) h (sym parts ∙ sym here ∙ e) in
-    subst (λ (u : ProtocolUnit). t < turn_count u) one.0 less
+few_turns g greatest passed bytes v front more a t f e h among =
+    some_left g v front more among (ap to_read f ∙ g.early (unread greatest passed bytes) ∙ e) (subst (λ (m : ℕ). Spells m v front) (sym (ap (λ (r : Unread). r.greatest) f)) h)
 
 follow_one : (g : Grammar) (greatest passed : ℕ) (bytes : List ℕ) (us vs : List ProtocolUnit) (a b : Unread) (t k : ℕ) → Follows greatest passed bytes us a
     → Follows greatest passed bytes vs b → IsAmong a t → IsAmong b k → length (turns us) + t ≡ length (turns vs) + k → (a ≡ b) × (t ≡ k)
@@ -318,13 +277,9 @@ follow_one g greatest passed bytes (u ∷ us) (v ∷ vs) a b t k f h x y e =
 rest_one : (g : Grammar) (c : Connection) (s r : SessionState) → s.is_open ≡ true → r.is_open ≡ true → IsRest c s → IsRest c r → s ≡ r
 rest_one g c s r so ro x y =
     let one = follow_one g c.greatest c.passed c.stream x.read y.read s.unread r.unread s.taken r.taken x.follows y.follows x.among y.among (sym x.taken ∙ y.taken) in
-    ap (λ (u : Unread). record { unread = u; taken = s.taken; out = s.out; is_open = s.is_open }) one.0
-    ∙ ap (λ (n : ℕ). record { unread = r.unread; taken = n; out = s.out; is_open = s.is_open }) one.1
-    ∙ ap (λ (l : List ℕ). record { unread = r.unread; taken = r.taken; out = l; is_open = s.is_open }) (x.out ∙ sym y.out)
-    ∙ ap (λ (b : Bool). record { unread = r.unread; taken = r.taken; out = r.out; is_open = b }) (so ∙ sym ro)
+    λ i. record { unread = one.0 i; taken = one.1 i; out = (x.out ∙ sym y.out) i; is_open = (so ∙ sym ro) i }
 
-stand_one_at : (g : Grammar) (c : Connection) (s r : SessionState) (b : Bool) → MatchBool b ((s.is_open ≡ true) × IsRest c s) (s ≡ shut c)
-    → MatchBool b ((r.is_open ≡ true) × IsRest c r) (r ≡ shut c) → s ≡ r
+stand_one_at : (g : Grammar) (c : Connection) (s r : SessionState) (b : Bool) → StandsIf b c s → StandsIf b c r → s ≡ r
 stand_one_at g c s r true x y = rest_one g c s r x.0 y.0 x.1 y.1
 stand_one_at g c s r false x y = x ∙ sym y
 
@@ -338,10 +293,6 @@ all_one g (c ∷ cs) (s ∷ ss) (r ∷ rs) x y = ap (λ (z : SessionState). z �
 
 -- a plain world stands as one state only
 pub stands_one : {K : Type 0} (g : Grammar) (p : PlainWorld) (a b : WorldState K) → StandsAs p a → StandsAs p b → b.settings ≡ a.settings → b.hasher ≡ a.hasher → b ≡ a
-stands_one {K = K} g p a b x y settings hasher =
-    let set : WorldState K → Settings → K → Plain → ℕ → List SessionState → WorldState K = λ w s h p n ss. record { settings = s; hasher = h; state = p; moment = n; sessions = ss } in
-    ap (λ s. set a s b.hasher b.state b.moment b.sessions) settings
-    ∙ ap (λ h. set a a.settings h b.state b.moment b.sessions) hasher
-    ∙ ap (λ p. set a a.settings a.hasher p b.moment b.sessions) (y.state ∙ sym x.state)
-    ∙ ap (λ n. set a a.settings a.hasher a.state n b.sessions) (y.now ∙ sym x.now)
-    ∙ ap (λ ss. set a a.settings a.hasher a.state a.moment ss) (all_one g p.connections b.sessions a.sessions y.sessions x.sessions)
+stands_one g p a b x y settings hasher =
+    let same = all_one g p.connections b.sessions a.sessions y.sessions x.sessions in
+    λ i. record { settings = settings i; hasher = hasher i; state = (y.state ∙ sym x.state) i; moment = (y.now ∙ sym x.now) i; sessions = same i }

@@ -2,8 +2,11 @@ pub mod ConnectionLemmas
 pub mod StandLemmas
 pub mod SessionLemmas
 pub mod TurnLemmas
+pub mod ToldLemmas
 pub mod WorldLemmas
 pub mod ThroughLemmas
+pub mod ChainLemmas
+pub mod EventLemmas
 pub mod LawLemmas
 pub mod AnswerLemmas
 pub mod UpdateLemmas

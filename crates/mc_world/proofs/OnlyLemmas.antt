@@ -1,54 +1,35 @@
 -- A single event that is refused memory.
-use Rattle.std.proofs.Common.{◌≡◌, ℕ, zero, suc, Bool, true, false, List, [], ◌∷◌, take, Some, None, Result, Ok, Err, OnOk, IfErr, refl, subst}
-use Rattle.std.specs.List.{slice_get}
-use Rattle.mc_world.specs.Connections.{ended}
-use Rattle.mc_world.specs.Worlds.{PlainWorld, WorldState, at_connection, CanStand, StandsAs, Told, Refuses, RunsUntil, ToldRefused, ToldUntil, GivesUp}
+use Rattle.std.proofs.Common.{◌≡◌, ℕ, Bool, true, false, List, [], ◌∷◌, Result, Ok, Err, OnOk, IfErr, refl, subst}
+use Rattle.mc_command.specs.Plain.{Plain}
+use Rattle.mc_world.specs.Worlds.{PlainWorld, WorldState, CanStand, StandsAs, Told, ToldUntil, named, with_end, Decides, GivesUp}
 use Rattle.mc_world.specs.Laws.{Grammar}
 use Rattle.mc_world.specs.declared.event.Event.{Event}
 use Rattle.mc_world.specs.declared.event.Event.TheVariants.{Open, Close}
 use Rattle.mc_world.specs.declared.event.Refused.{Refused}
 use Rattle.mc_world.proofs.ConnectionLemmas.{stands_one}
+use Rattle.mc_world.proofs.ToldLemmas.{until_only}
+
+-- where no step is decided nothing is done
+nothing_done : (decided : Bool) (first last : PlainWorld) (event : Event) → ((state : Plain) → Decides first event state → ⊥) → GivesUp decided first event last
+    → last ≡ with_end (named event) first
+nothing_done true first last event none (state, decides, is) = absurd (none state decides)
+nothing_done false first last event none is = is
 
 module _ {K : Type 0} (hash_of : K → List ℕ → ℕ) where
-  -- it is the one that is refused
-  from_only : (old new : WorldState K) (first : PlainWorld) (at : ℕ) (decided : Bool) (e event : Event) → slice_get (e ∷ []) at ≡ Some event
-      → RunsUntil hash_of old first (take at (e ∷ [])) decided event new → Refuses hash_of first decided e new
-  from_only old new first zero decided e event here (mid, runs, refuses) =
-      let it : event ≡ e = cc in
-      subst (λ (w : PlainWorld). Refuses hash_of w decided e new) runs (subst (λ (x : Event). Refuses hash_of mid decided x new) it refuses)
-  from_only old new first (suc at) decided e event here until = let none : None ≡ Some event = here in absurd (cc)
-
-  pub until_only : (refused : Refused) (old new : WorldState K) (e : Event) → ToldUntil hash_of refused old (e ∷ []) new → ToldRefused hash_of refused.decided old e new
-  until_only refused old new e until = record {
-    settings = until.settings;
-    hasher = until.hasher;
-    told = λ first stands. from_only old new first refused.at refused.decided e until.event until.here (until.told first stands);
-  }
-
-  -- an opening isn't done, and a close is
-  open_given : (decided : Bool) (first last : PlainWorld) → GivesUp decided first Open last → last ≡ first
-  open_given true first last (state, nothing, is) = absurd nothing
-  open_given false first last is = is
-
-  close_given : (decided : Bool) (n : ℕ) (first last : PlainWorld) → GivesUp decided first (Close n) last → last ≡ at_connection first n ended
-  close_given true n first last (state, nothing, is) = absurd nothing
-  close_given false n first last is = is
-
   pub open_refused : (grammar : Grammar) (refused : Refused) (old new : WorldState K) → CanStand old → ToldUntil hash_of refused old (Open ∷ []) new → new ≡ old
   open_refused grammar refused old new can until =
-      let only = (until_only refused old new Open until).told can.plain can.stands in
-      stands_one grammar can.plain old new can.stands (subst (λ (p : PlainWorld). StandsAs p new) (open_given refused.decided can.plain only.0 only.1) only.2) until.settings until.hasher
+      let (last, gives, ends, takes) = (until_only until).told can.plain can.stands in
+      let same = nothing_done refused.decided can.plain last Open (λ state decides. decides) gives in
+      stands_one grammar can.plain old new can.stands (subst (λ (p : PlainWorld). StandsAs p new) same ends) until.settings until.hasher
 
-  close_refused : (n : ℕ) (refused : Refused) (old new : WorldState K) → ToldUntil hash_of refused old (Close n ∷ []) new → Told hash_of old (Close n ∷ []) new
-  close_refused n refused old new until = record {
-    settings = until.settings;
-    hasher = until.hasher;
-    told = λ first stands.
-        let only = (until_only refused old new (Close n) until).told first stands in
-        (only.0, (only.0, close_given refused.decided n first only.0 only.1, refl), only.2);
-  }
-
+  -- so a close is done
   pub closes : (n : ℕ) (r : Result (Unit {0}) Refused) (old new : WorldState K) → OnOk r (Told hash_of old (Close n ∷ []) new)
       → IfErr r (λ refused. ToldUntil hash_of refused old (Close n ∷ []) new) → Told hash_of old (Close n ∷ []) new
   closes n (Ok x) old new told until = told
-  closes n (Err refused) old new told until = close_refused n refused old new until
+  closes n (Err refused) old new told until = record {
+    settings = until.settings;
+    hasher = until.hasher;
+    told = λ first stands.
+        let (last, gives, ends, takes) = (until_only until).told first stands in
+        (last, (last, nothing_done refused.decided first last (Close n) (λ state decides. decides) gives, refl), ends);
+  }

@@ -1,125 +1,70 @@
 -- What was served of a session until now, and a turn, a write or a read more.
-use Rattle.std.proofs.Common.{◌≡◌, ℕ, ◌+◌, ◌<◌, ◌≤◌, Bool, true, List, [], ◌∷◌, ◌++◌, length, nat_lt, refl, sym, ap, ◌∙◌, subst, arith, length-append, if◌then◌else◌}
+use Rattle.std.proofs.Common.{◌≡◌, ℕ, ◌+◌, ◌<◌, ◌≤◌, Bool, List, [], ◌∷◌, ◌++◌, length, refl, sym, ap, ◌∙◌, subst, arith, length-append}
 use Rattle.std.proofs.Math.Nat.{mod-eq_of_lt}
 use Rattle.std.proofs.lemmas.Bool.{lt-ltb}
 use Rattle.mc_shelf.specs.declared.settings.Settings.{Settings}
-use Rattle.mc_world.specs.Connections.{fresh}
-use Rattle.mc_world.specs.Worlds.{PlainWorld, WorldState, numbered, IsIdle, Happens, Runs, RunsIn, StandsAs, Told}
 use Rattle.mc_session.specs.Exchanges as exchanges
 use Rattle.mc_session.specs.Exchanges.{Exchange}
+use Rattle.mc_session.specs.Turns.{SessionState}
+use Rattle.mc_world.specs.Connections.{fresh}
+use Rattle.mc_world.specs.Worlds.{PlainWorld, WorldState, numbered, IsIdle, Runs, RunsIn, Told}
 use Rattle.mc_world.specs.declared.seat.Seat.{Seat}
-use Rattle.mc_world.specs.Serving.{next_session, waiting, most_waiting, most_turns, with_written, with_front, shelf_of, turn_events, HasRoom, FindsIdle, IsService, starts, turn, piece, write}
+use Rattle.mc_world.specs.Serving.{next_session, waiting, most_waiting, most_turns, with_written, shelf_of, turn_events, IsService, starts, turn, piece, write}
 use Rattle.mc_world.specs.Rounds.{seat, one_more, in_world, Begins, HasServed}
 use Rattle.mc_world.specs.declared.event.Event.{Event}
-use Rattle.mc_world.specs.declared.event.Event.TheVariants.{Open, Piece, Turn}
+use Rattle.mc_world.specs.declared.event.Event.TheVariants.{Open, Piece}
+use Rattle.mc_world.proofs.FrontLemmas.{NoneOpens, grown, runs_inside}
 use Rattle.mc_world.proofs.StandLemmas.{stand_length}
-use Rattle.mc_world.proofs.WorldLemmas.{runs_join, runs_still}
-use Rattle.mc_world.proofs.FrontLemmas.{IsOpened, runs_grow, runs_fronted}
-use Rattle.mc_world.proofs.WrittenLemmas.{Fronts, fronts, put_on, written_nothing, written_twice, was_written}
+use Rattle.mc_world.proofs.ToldLemmas.{told_join}
+use Rattle.mc_world.proofs.UpdateLemmas.{changed_length}
+use Rattle.mc_world.proofs.WrittenLemmas.{before, told_written, written_nothing, written_twice, was_written}
 
 -- a service begins with an opening
-pub service_opens : {K : Type 0} {hash_of : K → List ℕ → ℕ} {may_give : ℕ
-    → Type 0} {n : ℕ} {old : WorldState K} {events : List Event} {read written : List ℕ} {turns : ℕ}
-    → IsService hash_of may_give n old events read written turns → (rest : List Event) × (events ≡ Open ∷ rest)
+abbrev BeginsOpen : List Event → Type 0
+BeginsOpen events = (rest : List Event) × (events ≡ Open ∷ rest)
+
+opens_more : (events more : List Event) → BeginsOpen events → BeginsOpen (events ++ more)
+opens_more events more (rest, is) = (rest ++ more, ap (λ (l : List Event). l ++ more) is)
+
+service_opens : {K : Type 0} {hash_of : K → List ℕ → ℕ} {may_give : ℕ → Type 0} {n : ℕ} {old : WorldState K} {events : List Event} {read written : List ℕ} {turns : ℕ}
+    → IsService hash_of may_give n old events read written turns → BeginsOpen events
 service_opens starts = ([], refl)
-service_opens {n = n} {old = old} (turn {turns = turns} now gives room service) =
-    let so_far = service_opens service in
-    (so_far.0 ++ turn_events n (shelf_of turns old.settings.shelves) now, ap (λ (l : List Event). l ++ turn_events n (shelf_of turns old.settings.shelves) now) so_far.1)
-service_opens {n = n} (piece bytes idle service) =
-    let so_far = service_opens service in
-    (so_far.0 ++ Piece n bytes ∷ [], ap (λ (l : List Event). l ++ Piece n bytes ∷ []) so_far.1)
+service_opens (turn now gives room service) = opens_more _ _ (service_opens service)
+service_opens (piece bytes idle service) = opens_more _ _ (service_opens service)
 service_opens (write bytes service) = service_opens service
 
-module _ (hash : List ℕ → ℕ) (shelves : ℕ) where
-  opened_by : (first : PlainWorld) (b : Bool) → b ≡ true
-      → length (if b then record first { connections = first.connections ++ fresh first.greatest ∷ [] } else first).connections ≡ length first.connections + 1
-  opened_by first b is =
-      ap (λ (k : Bool). length (if k then record first { connections = first.connections ++ fresh first.greatest ∷ [] } else first).connections) is
-      ∙ length-append first.connections (fresh first.greatest ∷ [])
-
-  opening_opens : {K : Type 0} (first mid : PlainWorld) (old : WorldState K) → StandsAs first old → length old.sessions < 65535
-      → Happens hash shelves first Open mid → length mid.connections ≡ next_session old
-  opening_opens first mid old stands room happens =
-      let as_many : length old.sessions ≡ length first.connections = stand_length first.connections old.sessions stands.sessions in
-      let few : length first.connections < 65535 = omega (arith, as_many, room) in
-      let grown : length mid.connections ≡ length first.connections + 1 =
-      ap (λ (w : PlainWorld). length w.connections) happens ∙ opened_by first (nat_lt (length first.connections) 65535) (lt-ltb (length first.connections) 65535 few) in
-      omega (arith, as_many, grown)
-
-  -- the session that was opened first is opened
-  opened_behind : {K : Type 0} (n : ℕ) (events rest : List Event) (first last : PlainWorld) (old : WorldState K) → StandsAs first old → n ≡ next_session old
-      → length old.sessions < 65535 → events ≡ Open ∷ rest → Runs hash shelves first events last → IsOpened n last.connections
-  opened_behind n events rest first last old stands number room is runs =
-      let opening : Runs hash shelves first (Open ∷ rest) last = subst (λ (es : List Event). Runs hash shelves first es last) is runs in
-      let many : length opening.0.connections ≡ next_session old = opening_opens first opening.0 old stands room opening.1 in
-      let grows : length opening.0.connections ≤ length last.connections = runs_grow hash shelves n [] rest opening.0 last opening.2 in
-      (omega (arith, number), omega (arith, number, many, grows))
-
--- where the run so far leaves a plain world, without what was written
-pub record IsAt {K : Type 0} (hash_of : K → List ℕ → ℕ) (n : ℕ) (old : WorldState K) (first : PlainWorld) (events : List Event) (written : List ℕ) (now : WorldState K) : Type 0 where
-  pub plain : PlainWorld
-  pub runs : RunsIn hash_of old first events (with_front n written plain)
-  pub stands : StandsAs plain now
-  pub opened : IsOpened n plain.connections
+-- one connection more is there behind an opening
+opened_behind : (hash : List ℕ → ℕ) (shelves : ℕ) (first last : PlainWorld) (rest : List Event) → length first.connections < 65535 → Runs hash shelves first (Open ∷ rest) last
+    → length first.connections + 1 ≤ length last.connections
+opened_behind hash shelves first last rest room (mid, happens, runs) =
+    let more : length mid.connections ≡ length first.connections + 1 =
+    ap (λ (w : PlainWorld). length w.connections) (happens ∙ ap (λ (b : Bool). grown b first) (lt-ltb (length first.connections) 65535 room))
+    ∙ length-append first.connections (fresh first.greatest ∷ []) in
+    runs_inside hash shelves (length first.connections + 1) [] rest mid last runs (omega (arith, more))
 
 module _ {K : Type 0} {hash_of : K → List ℕ → ℕ} {may_give : ℕ → Type 0} {n : ℕ} {first : WorldState K} where
-  -- so it is
-  pub is_at : {turns : ℕ} {read written : List ℕ} {now : WorldState K} (served : HasServed hash_of may_give n first turns read written now) (plain : PlainWorld)
-      → StandsAs plain first → IsAt hash_of n first plain served.events written now
-  is_at {written = written} {now = now} served plain stands =
-      let so_far = served.told.told plain stands in
-      let behind : Fronts n written so_far.0 now = fronts n written so_far.0 now so_far.2 in
-      let opens = service_opens served.service in
-      let opened : IsOpened n so_far.0.connections =
-      opened_behind (hash_of first.hasher) first.settings.shelves n served.events opens.0 plain so_far.0 first stands served.number served.opens opens.1 so_far.1 in
-      record {
-        plain = behind.plain;
-        runs = subst (λ (p : PlainWorld). RunsIn hash_of first plain served.events p) (sym behind.is) so_far.1;
-        stands = behind.stands;
-        opened = (opened.0, omega (arith, opened.1, behind.as_many));
-      }
-
-  -- more events from there, with the bytes in front
-  pub runs_behind : {turns : ℕ} {read written : List ℕ} {now : WorldState K} (served : HasServed hash_of may_give n first turns read written now)
-      (plain : PlainWorld) (here : IsAt hash_of n first plain served.events written now) (more : List Event) (last : PlainWorld)
-      → RunsIn hash_of now here.plain more last → RunsIn hash_of first plain (served.events ++ more) (with_front n written last)
-  runs_behind {written = written} {now = now} served plain here more last runs =
-      let hash = hash_of first.hasher in
-      let shelves = first.settings.shelves in
-      runs_join hash_of hash shelves served.events more plain (with_front n written here.plain) (with_front n written last) here.runs
-      (runs_fronted hash shelves n written more here.plain last here.opened (runs_still hash_of first now served.told.settings served.told.hasher here.plain more last runs))
-
-  pub told_behind : {turns : ℕ} {read written : List ℕ} {now : WorldState K} (served : HasServed hash_of may_give n first turns read written now)
-      (more : List Event) (new : WorldState K) → Told hash_of now more new → Told hash_of first (served.events ++ more) (with_written n written new)
-  told_behind {written = written} {now = now} served more new told = record {
-    settings = told.settings ∙ served.told.settings;
-    hasher = told.hasher ∙ served.told.hasher;
-    told = λ plain stands.
-        let here : IsAt hash_of n first plain served.events written now = is_at served plain stands in
-        let next = told.told here.plain here.stands in
-        (with_front n written next.0, runs_behind served plain here more next.0 next.1, put_on n written next.0 new next.2);
-  }
+  -- more events behind what was served
+  pub told_behind : {turns : ℕ} {read written : List ℕ} {now new : WorldState K} {more : List Event} (served : HasServed hash_of may_give n first turns read written now)
+      → NoneOpens more → Told hash_of now more new → Told hash_of first (served.events ++ more) (with_written n written new)
+  told_behind {written = written} served none told = told_join served.told (told_written n written none told)
 
   -- before the first round
   pub served_nothing : {new : WorldState K} → Begins hash_of n first new → HasServed hash_of may_give n first 0 [] [] new
-  served_nothing {new = new} begins = record {
-    number = begins.number;
-    stands = begins.stands;
-    opens = begins.room;
-    events = Open ∷ [];
-    service = starts;
-    told = subst (λ (w : WorldState K). Told hash_of first (Open ∷ []) w) (sym (written_nothing n new)) begins.told;
-  }
+  served_nothing {new = new} begins =
+      record { events = Open ∷ []; service = starts; told = subst (λ (w : WorldState K). Told hash_of first (Open ∷ []) w) (sym (written_nothing n new)) begins.told }
 
-  -- a turn may be taken where little waits
-  pub has_room : {turns : ℕ} {read written : List ℕ} {now : WorldState K} (served : HasServed hash_of may_give n first turns read written now)
-      → waiting n now < most_waiting → HasRoom hash_of may_give n first served.events written
-  has_room {now = now} served room = record { world = now; told = served.told; room = room }
-
-  -- a piece may come where no turn is due
-  pub finds_idle : {turns : ℕ} {read written : List ℕ} {now : WorldState K} (served : HasServed hash_of may_give n first turns read written now)
-      → IsIdle (numbered n now.sessions) → FindsIdle hash_of may_give n first served.events written
-  finds_idle {now = now} served idle = record { world = now; told = served.told; idle = idle }
+  -- the session was opened
+  pub served_inside : {start now : WorldState K} {turns : ℕ} {read written : List ℕ} → Begins hash_of n first start
+      → HasServed hash_of may_give n first turns read written now → (1 ≤ n) × (n ≤ length now.sessions)
+  served_inside {now = now} {written = written} begins served =
+      let (rest, opens) = service_opens served.service in
+      let (last, runs, ends) = served.told.told begins.stands.plain begins.stands.stands in
+      let few = stand_length begins.stands.plain.connections first.sessions begins.stands.stands.sessions in
+      let more = opened_behind (hash_of first.hasher) first.settings.shelves begins.stands.plain last rest (omega (arith, begins.room, few))
+      (subst (λ (es : List Event). RunsIn hash_of first begins.stands.plain es last) opens runs) in
+      let many = stand_length last.connections (with_written n written now).sessions ends.sessions in
+      let same = changed_length n now.sessions (before written) (numbered n now.sessions) in
+      (omega (arith, begins.number), omega (arith, begins.number, few, more, many, same))
 
   -- a turn
   then_turned : {turns : ℕ} {read written : List ℕ} {old new : WorldState K} (now : ℕ) → may_give now → waiting n old < most_waiting
@@ -128,22 +73,15 @@ module _ {K : Type 0} {hash_of : K → List ℕ → ℕ} {may_give : ℕ → Typ
   then_turned {turns = turns} {written = written} {old = old} {new = new} now gives room told served =
       let events : ℕ → List Event = λ shelves. turn_events n (shelf_of turns shelves) now in
       record {
-        number = served.number;
-        stands = served.stands;
-        opens = served.opens;
         events = served.events ++ events first.settings.shelves;
-        service = turn now gives (has_room served room) served.service;
-        told = subst (λ (s : Settings). Told hash_of first (served.events ++ events s.shelves) (with_written n written new)) served.told.settings
-            (told_behind served (events old.settings.shelves) new told);
+        service = turn now gives (record { world = old; told = served.told; room = room }) served.service;
+        told = subst (λ (s : Settings). Told hash_of first (served.events ++ events s.shelves) (with_written n written new)) served.told.settings (told_behind served tt told);
       }
 
   -- a write
   then_wrote : {turns : ℕ} {read written : List ℕ} {old new : WorldState K} (part : List ℕ) → old ≡ with_written n part new
       → HasServed hash_of may_give n first turns read written old → HasServed hash_of may_give n first turns read (written ++ part) new
   then_wrote {written = written} {new = new} part parts served = record {
-    number = served.number;
-    stands = served.stands;
-    opens = served.opens;
     events = served.events;
     service = write part served.service;
     told = subst (λ (w : WorldState K). Told hash_of first served.events w) (ap (with_written n written) parts ∙ written_twice n written part new) served.told;
@@ -152,13 +90,10 @@ module _ {K : Type 0} {hash_of : K → List ℕ → ℕ} {may_give : ℕ → Typ
   -- a read
   then_read : {turns : ℕ} {read written : List ℕ} {old new : WorldState K} (bytes : List ℕ) → IsIdle (numbered n old.sessions)
       → Told hash_of old (Piece n bytes ∷ []) new → HasServed hash_of may_give n first turns read written old → HasServed hash_of may_give n first turns (read ++ bytes) written new
-  then_read {new = new} bytes idle told served = record {
-    number = served.number;
-    stands = served.stands;
-    opens = served.opens;
+  then_read {old = old} bytes idle told served = record {
     events = served.events ++ Piece n bytes ∷ [];
-    service = piece bytes (finds_idle served idle) served.service;
-    told = told_behind served (Piece n bytes ∷ []) new told;
+    service = piece bytes (record { world = old; told = served.told; idle = idle }) served.service;
+    told = told_behind served tt told;
   }
 
   -- what was done with the session as an endpoint of its world
@@ -182,19 +117,3 @@ module _ {K : Type 0} {hash_of : K → List ℕ → ℕ} {may_give : ℕ → Typ
       let (is, served) = served_by exchange few begun in
       let wrote = was_written writes in
       (wrote.0 ∙ is, then_wrote bytes (subst (λ (s : Seat). between ≡ with_written s.number bytes after) is wrote.1) served)
-
--- the three events of a turn
-pub turn_told : {K : Type 0} (hash_of : K → List ℕ → ℕ) (n shelf now : ℕ) (old mid new last : WorldState K) → mid ≡ record old { moment = now }
-    → Told hash_of mid (Turn n ∷ []) new → last ≡ new → Told hash_of old (turn_events n shelf now) last
-turn_told {K = K} hash_of n shelf now old mid new last is told same =
-    let begun : WorldState K = record old { moment = now } in
-    let then_told : Told hash_of begun (Turn n ∷ []) new = subst (λ (w : WorldState K). Told hash_of w (Turn n ∷ []) new) is told in
-    subst (λ (w : WorldState K). Told hash_of old (turn_events n shelf now) w) (sym same)
-    (record {
-      settings = then_told.settings;
-      hasher = then_told.hasher;
-      told = λ first stands.
-          let moved : PlainWorld = record first { now = now } in
-          let next = then_told.told moved (record { greatest = stands.greatest; state = stands.state; now = refl; sessions = stands.sessions }) in
-          (next.0, (moved, refl, (next.1.0, next.1.1, (next.1.0, refl, next.1.2))), next.2);
-    })

@@ -64,7 +64,7 @@ shut connection =
       is_open = false;
     }
 
--- so the connection stands: what is left of it where it is open, and else its output alone
+-- so the connection stands: what is left of it if it is open, and else its output alone
 abbrev pub Stands : Connection → SessionState → Type 0
 Stands connection session = MatchBool connection.is_open
     ((session.is_open ≡ true) × IsRest connection session) (session ≡ shut connection)

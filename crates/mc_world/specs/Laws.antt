@@ -117,8 +117,8 @@ is_number n (Some k) = k == n
 abbrev pub events_of : ℕ → List Event → List Event
 events_of n events = filter (λ event. is_number n (named event)) events
 
--- A run of some world leaves the session with this last connection, where it has this first one,
--- where these are its own events, and where its steps are answered so.
+-- A run of some world leaves the session with this last connection, if it has this first one,
+-- if these are its own events, and if its steps are answered so.
 pub record Leaves (n : ℕ) (first : Connection) (own : List Event) (answers : List Answer)
     (last : Connection) : Type 0 where
   pub hash : List ℕ → ℕ

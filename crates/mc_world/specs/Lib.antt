@@ -1,3 +1,4 @@
+pub mod Chains
 pub mod Connections
 pub mod Worlds
 pub mod Refusals

@@ -17,7 +17,7 @@ refusals (was_refused decided ∷ outcomes) = suc (refusals outcomes)
 
 module _ (hash : List ℕ → ℕ) (shelves : ℕ) where
   -- An event that went so. One that was refused takes memory. In its place comes the step of its
-  -- turn without the text, where that was decided, and then the close of its session.
+  -- turn without the text, if that was decided, and then the close of its session.
   abbrev pub Goes : PlainWorld → Event → EventOutcome → PlainWorld → Type 0
   Goes old event was_done new = Happens hash shelves old event new
   Goes old event (was_refused decided) new = GivesUp decided old event new × TakesMemory old event

@@ -56,9 +56,6 @@ module _ {K : Type 0} (hash_of : K → List ℕ → ℕ) where
   -- until now so many turns were given, this was read and that was written
   pub record HasServed (may_give : ℕ → Type 0) (n : ℕ) (first : WorldState K) (turns : ℕ)
       (read written : List ℕ) (now : WorldState K) : Type 0 where
-    pub number : n ≡ next_session first
-    pub stands : CanStand first
-    pub opens : length first.sessions < 65535
     pub events : List Event
     pub service : IsService hash_of may_give n first events read written turns
     pub told : Told hash_of first events (with_written n written now)

@@ -91,7 +91,7 @@ module _ {K : Type 0} (hash_of : K → List ℕ → ℕ) (may_give : ℕ → Typ
         → IsService events read (written ++ bytes) turns
 
   -- The event that is refused memory, what comes just before it, the bytes that it brings, and how
-  -- many turns it is: a turn behind its clock, taken where less than 64 KiB wait, or a piece that
+  -- many turns it is: a turn behind its clock, taken if less than 64 KiB wait, or a piece that
   -- was read where no turn was due.
   pub data IsRefusal (events : List Event) (written : List ℕ) : List Event → Event
       → (brings : List ℕ) → (calls : ℕ) → Type 0 where

@@ -1,16 +1,19 @@
 -- What one event does to the sessions of a world.
-use Rattle.std.specs.Prelude.{◌≡◌, ◌⊎◌, ℕ, ◌+◌, ◌<◌, ◌%◌, ◌==◌, Bool, true, List, [], ◌∷◌, ◌++◌, length, Option, Some, None, slice_get, nat_lt, if◌then◌else◌, IsTrue, IsFalse}
-use Rattle.std.specs.Option.{MatchOption}
+use Rattle.std.specs.Prelude.{◌≡◌, ◌⊎◌, ℕ, ◌+◌, ◌<◌, ◌%◌, ◌==◌, Bool, true, List, [], ◌∷◌, ◌++◌, length, Option, Some, None, slice_get, nat_lt, if◌then◌else◌, IsTrue, IsFalse, Result, Ok, OnOk, OnErr, IfErr}
 use Rattle.mc_command.specs.Plain.{Plain}
 use Rattle.mc_command.specs.declared.step.Steps.{Ghosts as Relations}
-use Rattle.mc_session.specs.Turns.{SessionState, TakesTurn, DecidesStep, NoTurnDue, opened, fed, closed}
+use Rattle.mc_session.specs.Turns.{SessionState, TakesTurn, DecidesStep, NoTurnDue, opened, fed}
+use Rattle.mc_session.specs.Turns.{closed as ended}
+use Rattle.mc_session.specs.declared.session.Turn.{Turn as SessionTurn}
+use Rattle.mc_session.specs.declared.session.Turn.TheVariants.{Did, Idle, Closed}
+use Rattle.mc_session.specs.declared.session.TurnFault.{TurnFault}
 use Rattle.mc_command.specs.Purge.{purged}
-use Rattle.mc_world.specs.Worlds.{WorldState, put, changed, open_session, in_plain, named}
+use Rattle.mc_world.specs.Worlds.{WorldState, numbered, put, changed, open_session, IsIdle, in_plain, named}
 use Rattle.mc_world.specs.declared.event.Event.{Event}
 use Rattle.mc_world.specs.declared.event.Event.TheVariants.{Open, Piece, Turn, Clock, Grow, Purge, Close}
 use Rattle.mc_world.specs.declared.parts.Parts.{Parts}
 
--- the open session of that number is changed, and nothing where none is
+-- the open session of that number is changed, and nothing if none is
 abbrev pub at_session : List SessionState → ℕ → (SessionState → SessionState) → List SessionState
 at_session sessions n change = changed n sessions change (open_session n sessions)
 
@@ -24,13 +27,17 @@ abbrev pub IsOpened : ℕ → List SessionState → Type 0
 IsOpened n sessions = (session : SessionState) × (open_session n sessions ≡ Some session)
 
 module _ {S : Type 0} (relations : Relations S) where
-  -- the open session of that number takes its next turn, if one is due
-  abbrev pub TurnOf : ℕ → ℕ → (old new : List SessionState) → S → S → Type 0
-  TurnOf n now old new before after =
-      MatchOption (open_session n old) ((new ≡ old) × (after ≡ before)) (λ session.
+  -- the session of that number, if it is open, takes its next turn, if one is due
+  abbrev pub TurnBy : Option SessionState → ℕ → ℕ → (old new : List SessionState) → S → S → Type 0
+  TurnBy None n now old new before after = (new ≡ old) × (after ≡ before)
+  TurnBy (Some session) n now old new before after =
       (NoTurnDue session × (new ≡ old) × (after ≡ before))
       ⊎ ((next : SessionState) × TakesTurn relations now session next before after
-      × (new ≡ put n old next)))
+      × (new ≡ put n old next))
+
+  -- the open session of that number takes its next turn, if one is due
+  abbrev pub TurnOf : ℕ → ℕ → (old new : List SessionState) → S → S → Type 0
+  TurnOf n now old new before after = TurnBy (open_session n old) n now old new before after
 
 -- it decides the step of its next turn, whose text isn't told
 abbrev pub DecidedOf : {S : Type 0} (relations : Relations S) → ℕ → ℕ → List SessionState → S → S
@@ -50,6 +57,21 @@ pub record IsOpenAt (sessions : List SessionState) (n at : ℕ) : Type 0 where
   pub inside : at < length sessions
   pub here : slice_get sessions at ≡ Some session
   pub opens : session.is_open ≡ true
+
+-- What a turn that is given to session n does and answers. Want of memory closes the session; what
+-- was not decided leaves the store with what it held.
+pub record TurnGiven {S : Type 0} (relations : Relations S) (n now : ℕ)
+    (result : Result SessionTurn TurnFault) (old new : List SessionState) (before after : S)
+    : Type 0 where
+  pub ok : OnOk result (TurnOf relations n now old new before after)
+  pub did : result ≡ Ok Did → IsDue n old
+  pub idle : result ≡ Ok Idle → IsIdle (numbered n old) × (new ≡ old) × (after ≡ before)
+  pub closed : result ≡ Ok Closed → (open_session n old ≡ None) × (new ≡ old) × (after ≡ before)
+  pub err : OnErr result (new ≡ at_session old n ended)
+  pub due : OnErr result (IsDue n old)
+  pub undecided : IfErr result (λ fault. IsFalse fault.decided → relations.same before after)
+  pub decided : IfErr result (λ fault. IsTrue fault.decided →
+      DecidedOf relations n now old before after)
 
 -- what an event makes of a world, said of its sessions
 module _ {K : Type 0} (hash_of : K → List ℕ → ℕ) where
@@ -72,12 +94,12 @@ module _ {K : Type 0} (hash_of : K → List ℕ → ℕ) where
   Done old (Clock now) new = new ≡ record old { moment = now }
   Done old (Grow shelf) new = new ≡ old
   Done old (Purge shelf) new = new ≡ record old { state = without_dead shelf old }
-  Done old (Close n) new = new ≡ record old { sessions = at_session old.sessions n closed }
+  Done old (Close n) new = new ≡ record old { sessions = at_session old.sessions n ended }
 
 -- the session that an event names is closed
 abbrev pub sessions_ended : Option ℕ → List SessionState → List SessionState
 sessions_ended None sessions = sessions
-sessions_ended (Some n) sessions = at_session sessions n closed
+sessions_ended (Some n) sessions = at_session sessions n ended
 
 -- the open session that an event gives a turn decides its step
 abbrev pub DecidedIn : {K : Type 0} → WorldState K → Event → Plain → Type 0
@@ -100,7 +122,7 @@ Takes old (Grow shelf) = ⊥
 Takes old (Purge shelf) = ⊥
 Takes old (Close n) = ⊥
 
--- what is left where memory ran out in an event
+-- what is left when memory ran out in an event
 pub record Undone {K : Type 0} (decided : Bool) (old : WorldState K) (event : Event)
     (new : WorldState K) : Type 0 where
   pub settings : new.settings ≡ old.settings

@@ -14,6 +14,7 @@ use Rattle.mc_session.specs.Turns.{SessionState, Answers, NoTurnDue}
 use Rattle.mc_shelf.specs.Stores.{coded_settings}
 use Rattle.mc_shelf.specs.declared.settings.Settings.{Settings}
 use Rattle.mc_command.specs.Purge.{purged}
+use Rattle.mc_world.specs.Chains.{Chain}
 use Rattle.mc_world.specs.Connections.{Connection, IsNext, HasNoNext, Stands, fresh, with_piece, after_turn, ended}
 use Rattle.mc_world.specs.declared.event.Event.{Event}
 use Rattle.mc_world.specs.declared.event.Event.TheVariants.{Open, Piece, Turn, Clock, Grow, Purge, Close}
@@ -83,7 +84,7 @@ abbrev pub numbered : {A : Type 0} → ℕ → List A → Option A
 numbered zero xs = None
 numbered (suc n) xs = slice_get xs n
 
--- it, where it is open
+-- it, if it is open
 abbrev pub if_open : {A : Type 0} → (A → Bool) → Option A → Option A
 if_open is_open None = None
 if_open is_open (Some x) = if is_open x then Some x else None
@@ -92,7 +93,7 @@ if_open is_open (Some x) = if is_open x then Some x else None
 abbrev pub put : {A : Type 0} → ℕ → List A → A → List A
 put n xs x = slice_set xs (n - 1) x
 
--- the open one of that number is changed, and nothing where none is
+-- the open one of that number is changed, and nothing if none is
 abbrev pub changed : {A : Type 0} → ℕ → List A → (A → A) → Option A → List A
 changed n xs change None = xs
 changed n xs change (Some x) = put n xs (change x)
@@ -165,8 +166,7 @@ module _ (hash : List ℕ → ℕ) (shelves : ℕ) where
 
   -- events, one after another
   abbrev pub Runs : PlainWorld → List Event → PlainWorld → Type 0
-  Runs old [] new = new ≡ old
-  Runs old (event ∷ events) new = (mid : PlainWorld) × Happens old event mid × Runs mid events new
+  Runs old events new = Chain Happens old events new
 
 -- the sessions are what is left of the connections
 abbrev pub StandAll : List Connection → List SessionState → Type 0

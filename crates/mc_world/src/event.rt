@@ -43,7 +43,7 @@ impl<'a> Event<'a> {
     ghost use Rattle.std.specs.Prelude.{◌≡◌};
     ghost use Rattle.mc_world.specs.Worlds.{named};
 
-    /// Names the session that the event is of, if it is of one.
+    /// Returns the number of the event's session, if it has one.
     pub fn session(&self) -> Option<u32>
         ensures { result ≡ named self.now }
     {

@@ -1,5 +1,5 @@
 //! What peers may send who mean no good: one hash, bytes one by one, and so many writes that the
-//! unique numbers end. Where memory is refused a test ends early.
+//! unique numbers end. If memory is refused a test ends early.
 
 use crate::tests::{answers, answers_and_grows, is_told, opened, run, take_turns};
 use crate::{Event, World};
@@ -119,7 +119,7 @@ fn bring_each(alloc: Global, world: &mut World<Fnv>, input: &[u8]) -> Result<(),
     Ok(())
 }
 
-/// Takes the turns that are left, compares what session 1 is told in all, and tells whether it is
+/// Takes the turns that are left, compares what session 1 is told in all, and returns whether it is
 /// closed then.
 fn tells(
     rt: &impl Abort,
@@ -132,7 +132,7 @@ fn tells(
     Ok(world.is_closed(1))
 }
 
-/// Compares what a session is told that reads this whole, and tells whether it is closed then.
+/// Compares what a session is told that reads this whole, and returns whether it is closed then.
 fn tells_whole(rt: &impl Abort, alloc: Global, input: &[u8], output: &[u8]) -> Result<bool, Fail> {
     let mut world = opened(alloc, Fnv)?;
     bring(alloc, &mut world, input)?;

@@ -1,4 +1,4 @@
-//! Items of several pages, in worlds of stores of few. Where memory is refused a test ends early.
+//! Items of several pages, in worlds of stores of few. If memory is refused a test ends early.
 
 use crate::World;
 use crate::tests::{NO_CHUNK, ask, opened_with, tells};

@@ -18,7 +18,7 @@ use std::test::Fail;
 /// What a step is answered that finds no chunk.
 const NO_CHUNK: &[u8] = b"SERVER_ERROR out of memory storing object\r\n";
 
-/// A world at 1000 of so many pages, asked for again where memory is refused.
+/// A world at 1000 of so many pages, asked for again if memory is refused.
 fn world<K: KeyHash + Drop + Copy>(
     alloc: Global,
     hasher: K,
@@ -89,7 +89,7 @@ impl<K: KeyHash + Drop> Asker<K> {
         self.open_next(rt, alloc);
     }
 
-    /// Sends a command, and tells whether its step stands.
+    /// Sends a command, and returns whether its step stands.
     fn stands(&mut self, rt: &impl Abort, alloc: Global, command: &[u8], text: &[u8]) -> bool {
         match self.send(alloc, command) {
             Ok(()) => {
@@ -192,7 +192,8 @@ fn a_number_that_leaves_its_class_finds_no_chunk(rt: HostRuntime) -> Result<(), 
     are_answered(&rt, rt.alloc(), 1, &ROWS, READ)
 }
 
-/// Bytes of three parts, the middle one 600000 times a letter, asked for again where memory is refused.
+/// Bytes of three parts, the middle one 600000 times a letter, asked for again if memory is
+/// refused.
 fn around(alloc: Global, front: &[u8], letter: u8, behind: &[u8]) -> Result<Vec<u8>, AllocError> {
     match around_once(alloc, front, letter, behind) {
         Err(_) => around_once(alloc, front, letter, behind),

@@ -20,8 +20,8 @@ use std::io::{Read, Write};
 /// or the session closes. The output is written when no turn is due, at the end, and before a turn
 /// when 65536 bytes or more of it wait. Fewer than 65535 sessions were opened before.
 ///
-/// It fails with `Read` where the reader fails and after 2^40 turns, with `Write` where the writer
-/// fails or takes nothing, and with `NoMemory` where memory runs out: before the session is opened,
+/// It fails with `Read` if the reader fails and after 2^40 turns, with `Write` if the writer
+/// fails or takes nothing, and with `NoMemory` if memory runs out: before the session is opened,
 /// in a turn that was due, or in a piece that was read. A failure leaves a beginning of the run:
 /// the session is closed, what was not written stays in its output, and the world may serve
 /// another.

@@ -74,7 +74,7 @@ fn next_is_served(rt: &impl Abort, alloc: Global, world: &mut World<Fnv>) -> Res
     Ok(())
 }
 
-/// A session that went well is closed and has nothing to be written. Where a growth was refused it is
+/// A session that went well is closed and has nothing to be written. If a growth was refused it is
 /// closed, if it was opened, and the world serves the next one.
 fn is_left_well(
     rt: &impl Abort,
@@ -91,8 +91,8 @@ fn is_left_well(
     next_is_served(rt, alloc, world)
 }
 
-/// Whether the first run of a world went well, and what it wrote; nothing where the run has no reader
-/// or writer for want of memory.
+/// Returns whether the first run of a world went well, and what it wrote; nothing if the run has no
+/// reader or writer for want of memory.
 fn first_of(
     rt: &impl Abort,
     alloc: Global,
@@ -107,7 +107,7 @@ fn first_of(
     Ok(Some((is_whole, part)))
 }
 
-/// The same of a new world; nothing where there is none.
+/// The same of a new world; nothing if there is none.
 fn first(rt: &impl Abort, alloc: Global, input: &[u8]) -> Result<Option<(bool, Vec<u8>)>, Fail> {
     match world(alloc) {
         Ok(mut world) => first_of(rt, alloc, &mut world, input),
@@ -115,7 +115,7 @@ fn first(rt: &impl Abort, alloc: Global, input: &[u8]) -> Result<Option<(bool, V
     }
 }
 
-/// What a run of a new world that is well writes. Where a growth was refused, what was written is a
+/// What a run of a new world that is well writes. If a growth was refused, what was written is a
 /// beginning of that.
 fn written(rt: &impl Abort, alloc: Global, input: &[u8]) -> Result<Vec<u8>, Fail> {
     match first(rt, alloc, input)? {
@@ -181,7 +181,7 @@ fn written_until_read_fails(
     read_fails(rt, alloc, &mut world, input, reads)
 }
 
-/// A front of the input is answered where the read behind it fails.
+/// A front of the input is answered if the read behind it fails.
 fn front_is_answered(
     rt: &impl Abort,
     alloc: Global,

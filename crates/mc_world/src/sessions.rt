@@ -5,7 +5,7 @@ ghost use Rattle.mc_session.specs.Turns.{fed, closed, sent};
 ghost use Rattle.mc_world.specs.Worlds.{numbered, open_session, changed};
 ghost use Rattle.mc_world.specs.Worlds.{output_of, IsIdle, IsClosed};
 ghost use Rattle.mc_world.specs.Sessions.{with_opened, at_session, IsOpened, IsOpenAt};
-ghost use Rattle.mc_world.specs.Sessions.{TurnOf, DecidedOf, IsDue};
+ghost use Rattle.mc_world.specs.Sessions.{TurnGiven};
 
 use mc_command::Steps;
 use mc_session::{Session, Turn, TurnFault};
@@ -32,7 +32,7 @@ impl Model for Sessions {
     ghost view = { λ s. s.list.items };
 }
 
-/// The place of the session of that number, where it is open.
+/// The place of the session of that number, if it is open.
 fn open_place(sessions: &[Session], number: u32) -> Option<usize>
     ensures none { result ≡ None → open_session number sessions.now ≡ None }
     ensures some { IfSome result (λ at. IsOpenAt sessions.now number at) }
@@ -97,20 +97,7 @@ impl Sessions {
         store: &mut S,
         now: Moment,
     ) -> Result<Turn, TurnFault>
-        ensures ok { OnOk result
-            (TurnOf S.Steps number now self.old self.new store.old store.new) }
-        ensures did { result ≡ Ok Turn.Did → IsDue number self.old }
-        ensures idle { result ≡ Ok Turn.Idle →
-            IsIdle (numbered number self.old) × (self.new ≡ self.old) × (store.new ≡ store.old) }
-        ensures closed { result ≡ Ok Turn.Closed →
-            (open_session number self.old ≡ None)
-            × (self.new ≡ self.old) × (store.new ≡ store.old) }
-        ensures err { OnErr result (self.new ≡ at_session self.old number closed) }
-        ensures due { OnErr result (IsDue number self.old) }
-        ensures undecided { IfErr result (λ fault.
-            IsFalse fault.decided → S.same store.old store.new) }
-        ensures decided { IfErr result (λ fault. IsTrue fault.decided →
-            DecidedOf S.Steps number now self.old store.old store.new) }
+        ensures { TurnGiven S.Steps number now result self.old self.new store.old store.new }
     {
         let Some(at) = open_place(&self.list, number) else {
             return Ok(Turn::Closed);

@@ -1,4 +1,4 @@
-//! Lists of events, and what they make of the sessions' outputs. Where memory is refused a test
+//! Lists of events, and what they make of the sessions' outputs. If memory is refused a test
 //! ends early.
 //!
 //! Each function does little, and what owns a world does less: a proof takes about the square of a
@@ -103,7 +103,7 @@ pub(crate) fn opened_twice(alloc: Global) -> Result<World<Fnv>, AllocError> {
     Ok(world)
 }
 
-/// Takes all events, and tells that memory ran out where one was refused.
+/// Takes all events, and tells that memory ran out if one was refused.
 pub(crate) fn run<K: KeyHash + Drop>(
     world: &mut World<K>,
     alloc: Global,
@@ -712,7 +712,7 @@ fn a_dead_item_gives_its_chunk_to_its_own_key(rt: HostRuntime) -> Result<(), Fai
     room_is_made(&rt, rt.alloc(), SOME_SMALL, &[], 'b', "STORED\r\n")
 }
 
-/// What a session is told of `get a` where the set of `a` stands, and where it doesn't.
+/// What a session is told of `get a` if the set of `a` stands, and if it doesn't.
 pub(crate) const HIT: &[u8] = b"VALUE a 0 1\r\nx\r\nEND\r\n";
 
 pub(crate) const MISS: &[u8] = b"END\r\n";

@@ -1,4 +1,4 @@
-//! Runs that go on past refusals. A test that compares a whole run ends early where memory is
+//! Runs that go on past refusals. A test that compares a whole run ends early if memory is
 //! refused.
 
 use crate::tests::{
@@ -17,7 +17,7 @@ const SET: &[u8] = b"set a 0 0 1\r\nx\r\n";
 const GET: &[u8] = b"get a\r\n";
 
 /// Takes a turn of session 1 that sets `a`, compares what it is told, and gives what another one
-/// has to find: what was written, where a refusal says that the step was decided, and else nothing.
+/// has to find: what was written, if a refusal says that the step was decided, and else nothing.
 fn set_turn(rt: &impl Abort, alloc: Global, world: &mut World<Fnv>) -> &'static [u8] {
     let (told, found) = match world.run(alloc, &[Event::Turn(1)]) {
         Ok(()) => (b"STORED\r\n".as_slice(), HIT),
@@ -28,7 +28,7 @@ fn set_turn(rt: &impl Abort, alloc: Global, world: &mut World<Fnv>) -> &'static 
     found
 }
 
-/// Session 1 sets `a`, and another one finds it where that stands.
+/// Session 1 sets `a`, and another one finds it if that stands.
 fn second_finds_what_stands(
     rt: &impl Abort,
     alloc: Global,
@@ -39,7 +39,7 @@ fn second_finds_what_stands(
     second_finds(rt, alloc, world, found)
 }
 
-/// Where a refusal says that the step was decided, another session finds what it wrote, and else it
+/// If a refusal says that the step was decided, another session finds what it wrote, and else it
 /// finds nothing.
 #[test]
 fn a_decided_step_stands_where_it_was_refused(rt: HostRuntime) -> Result<(), Fail> {

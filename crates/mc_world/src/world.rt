@@ -87,7 +87,7 @@ impl<K: KeyHash + Drop> World<K> {
         })
     }
 
-    /// Takes the events in order. Where memory runs out in one, the events before it are done, the
+    /// Takes the events in order. If memory runs out in one, the events before it are done, the
     /// session that it names is closed, and no later one is run.
     ///
     /// What is told is told of every plain world that stands as the world did, and there is one.
@@ -108,13 +108,13 @@ impl<K: KeyHash + Drop> World<K> {
         Ok(())
     }
 
-    /// Takes every event in order. Where memory runs out in one, its session is closed, what its
+    /// Takes every event in order. If memory runs out in one, its session is closed, what its
     /// turn decided stands in the store and isn't told, and an opening opens nothing; then the next
     /// one is taken. The answer counts these refusals. Only an opening, a piece of an open session
     /// and a turn that is due are ever refused.
     pub fn run_through(&mut self, alloc: Global, events: &[Event<'_>]) -> Ended
         ensures told { ToldThrough K.hash_of result.refused self.old events.now self.new }
-        // Where no event was refused it does what `run` does.
+        // If no event was refused it does what `run` does.
         ensures none { result.refused ≡ 0 → Told K.hash_of self.old events.now self.new }
     {
         let mut refused = 0;
@@ -127,8 +127,8 @@ impl<K: KeyHash + Drop> World<K> {
     }
 
     /// Takes a session's next turn, if one is due, as `run` of that one event does. It answers
-    /// `Did` where a turn was due, `Idle` where the session is open and none was, and `Closed`
-    /// where it isn't open. Refused, the session is closed. The session's next unit is parsed once.
+    /// `Did` if a turn was due, `Idle` if the session is open and none was, and `Closed`
+    /// if it isn't open. Refused, the session is closed. The session's next unit is parsed once.
     pub fn turn(&mut self, alloc: Global, session: u32) -> Result<Turn, Refused>
         ensures ok { OnOk result (Told K.hash_of self.old (Event.Turn session ∷ []) self.new) }
         ensures did { result ≡ Ok Turn.Did → IsDue session self.old.sessions }

@@ -84,14 +84,14 @@ impl<'a> LentWrite<'a> {
         self.front.len() as u64 + self.back.len() as u64
     }
 
-    /// Finds its charge under that key in bytes, or 2^64 - 1 where it is above that.
+    /// Finds its charge under that key in bytes, or 2^64 - 1 if it is above that.
     pub(crate) fn charge(&self, key: &[u8]) -> u64
         ensures { result ≡ min (charge key.now self.now.block) (2 ^ 64 - 1) }
     {
         charge_of(key, self.len())
     }
 
-    /// Finds what it needs under that key; none where eight pages don't hold it.
+    /// Finds what it needs under that key; none if eight pages don't hold it.
     pub(crate) fn need(&self, key: &[u8]) -> Option<Need>
         ensures value { result ≡ need_of (charge key.now self.now.block) }
         ensures is_need { IfSome result IsNeed }
@@ -168,15 +168,15 @@ impl Item {
         }
     }
 
-    /// Tells whether it is dead at `now`, where `cut` is the moment of the flush that waits or has
-    /// come.
+    /// Returns whether it is dead at `now`, where `cut` is the moment of the flush that waits or
+    /// has come.
     pub(crate) fn is_dead(&self, cut: Option<u64>, now: Moment) -> bool
         ensures { result ≡ death.is_dead self.now.expiry self.now.updated cut now }
     {
         mc_time::is_dead(self.expiry, self.updated, cut, now)
     }
 
-    /// Finds what it needs under that key; none where eight pages don't hold it.
+    /// Finds what it needs under that key; none if eight pages don't hold it.
     pub(crate) fn need(&self, key: &[u8]) -> Option<Need>
         ensures value { result ≡ need_of (charge key.now self.now.block) }
         ensures is_need { IfSome result IsNeed }
@@ -240,7 +240,7 @@ impl Standing for Item {
     }
 }
 
-/// Finds the charge in bytes of an item of that key and a block so long, or 2^64 - 1 where it is
+/// Finds the charge in bytes of an item of that key and a block so long, or 2^64 - 1 if it is
 /// above that.
 fn charge_of(key: &[u8], block_len: u64) -> u64
     ensures { result ≡ min (chunk_head + length key.now + block_len) (2 ^ 64 - 1) }

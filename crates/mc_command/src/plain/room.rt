@@ -73,7 +73,7 @@ impl PlainStore {
         chunks_but(chunks, &self.items, class)
     }
 
-    /// Counts the chunks of the class that the key's dead item has, where no item stands under it.
+    /// Counts the chunks of the class that the key's dead item has, if no item stands under it.
     fn dead_chunks(&self, key: &[u8], class: Class, now: Moment) -> u64
         requires { IsClass class }
         ensures value { result ≡ of_class key.now

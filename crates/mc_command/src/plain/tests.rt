@@ -1,4 +1,4 @@
-//! A store whose unique numbers are spent answers at once, also where an allocation would be refused.
+//! A store whose unique numbers are spent answers at once, even if an allocation would be refused.
 //! What else it answers is tested in `mc_testing`, by the rows that any store can be held to.
 
 ghost use Rattle.std.specs.Prelude.{◌≤◌, length};

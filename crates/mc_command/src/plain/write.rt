@@ -53,7 +53,7 @@ impl PlainStore {
         self.finish(alloc, key, next, now)
     }
 
-    /// Finds what a write needs; none where its charge is above the greatest.
+    /// Finds what a write needs; none if its charge is above the greatest.
     fn need_for(&self, key: &[u8], write: &LentWrite<'_>) -> Option<Need>
         ensures value { result ≡ (if nat_lt self.now.greatest (charge key.now write.now.block)
             then None else Some (block_need key.now write.now.block)) }
@@ -65,14 +65,14 @@ impl PlainStore {
         write.need(key)
     }
 
-    /// Tells whether no unique number is left.
+    /// Returns whether no unique number is left.
     fn is_spent(&self) -> bool
         ensures { result ≡ (self.now.next_unique == 2 ^ 64 - 1) }
     {
         self.next_unique == u64::MAX
     }
 
-    /// Finds out what comes of a write, and makes its block where it can be made: its charge is not
+    /// Finds out what comes of a write, and makes its block if it can be made: its charge is not
     /// too large, a unique number is left, and it has chunks. A write that `stays` goes into those
     /// of the item that stands.
     pub(super) fn prepared(
@@ -104,7 +104,7 @@ impl PlainStore {
         Ok(Next::Place(reply, need, write.made(alloc)?))
     }
 
-    /// Does what comes of a write. Where nothing is written, the key's dead item is dropped.
+    /// Does what comes of a write. If nothing is written, the key's dead item is dropped.
     pub(super) fn finish(
         &mut self,
         alloc: Global,
@@ -181,7 +181,7 @@ impl PlainStore {
     }
 }
 
-/// Tells the number that a write counts its item to, and 0 where it counts none.
+/// Tells the number that a write counts its item to, and 0 if it counts none.
 fn number_in(body: Body) -> u64
     ensures { result ≡ number_in body }
 {
@@ -191,7 +191,7 @@ fn number_in(body: Body) -> u64
     }
 }
 
-/// Lends the block of what stands, and no bytes where nothing does.
+/// Lends the block of what stands, and no bytes if nothing does.
 fn block_in<'a>(item: Option<&'a Item>) -> &'a [u8]
     ensures { result.now ≡ block_in (option_copied item.entry) }
 {

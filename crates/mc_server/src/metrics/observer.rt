@@ -23,7 +23,7 @@ pub struct Observer<'a> {
     pub counts: Vec<Arc<Counts>>,
     /// How many pages items may take.
     pub pages: u32,
-    /// Since when it serves, where there was a clock.
+    /// Since when it serves, if there was a clock.
     pub since: Option<Instant>,
 }
 

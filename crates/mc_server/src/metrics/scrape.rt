@@ -71,7 +71,7 @@ impl Teller<'_> {
         }
         let _ = stream.shutdown(Shutdown::Write);
         if answer.may_leave_input() {
-            // where input is left the system would drop the answer with it
+            // if input is left the system would drop the answer with it
             pass_rest(rt, stream, self.buffer.as_mut_slice());
         }
     }

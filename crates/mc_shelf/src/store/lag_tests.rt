@@ -8,8 +8,8 @@ use mc_command::Verb;
 use mc_testing::{Ask, asked, filled, step_of};
 use std::test::*;
 
-/// Gives keys of each length another hash. All of them go to the first shelf, and each to a home of its own, where there are that
-/// many homes.
+/// Gives keys of each length another hash. All of them go to the first shelf, and each to a home of
+/// its own, if there are that many homes.
 #[derive(Clone, Copy, Drop)]
 struct ByLength;
 
@@ -23,7 +23,7 @@ impl KeyHash for ByLength {
     }
 }
 
-/// A store of 64 pages, asked for again where memory is refused.
+/// A store of 64 pages, asked for again if memory is refused.
 fn open(alloc: Global) -> Result<Store<ByLength>, AllocError> {
     let settings = Settings {
         pages: 64,

@@ -23,7 +23,7 @@ impl KeyHash for ByLength {
     }
 }
 
-/// A store of 64 pages, asked for again where memory is refused.
+/// A store of 64 pages, asked for again if memory is refused.
 fn open<K: KeyHash + Drop + Copy>(alloc: Global, hasher: K) -> Result<Store<K>, AllocError> {
     let settings = Settings {
         pages: 64,
@@ -56,7 +56,7 @@ fn keys<K: KeyHash + Drop>(store: &Store<K>, number: usize) -> u64 {
     }
 }
 
-/// Drops the dead of the first shelf, where that is asked.
+/// Drops the dead of the first shelf, if that is asked.
 fn purge_at(store: &mut Store<Constant>, seconds: u64, purges: bool) {
     if purges {
         store.purge(0, Moment::from_seconds_at_most(seconds));
@@ -66,7 +66,7 @@ fn purge_at(store: &mut Store<Constant>, seconds: u64, purges: bool) {
 /// Keys of one hash, of the first shelf and of the number 960. A dead item counts until a step on its key, or a purge, drops it.
 #[test]
 fn a_shelf_counts_its_items(rt: HostRuntime) -> Result<(), Fail> {
-    // After each row, and a purge at its second where there is one, how many items the shelf has.
+    // After each row, and a purge at its second if there is one, how many items the shelf has.
     let rows: [(Row<'_>, bool, usize); 16] = [
         ((1000, b"a", Ask::Get, Want::Told("miss")), false, 0),
         (set(1000, b"a", 0, b"x", "stored"), false, 1),

@@ -1,5 +1,6 @@
-//! Sets of keys that stand, whose items are written over, and what is appended to them: where their class has a free chunk, the new
-//! item goes into the chunk of the old one. Where an allocation is refused the store answers as before, and takes the step when it is asked again.
+//! Sets of keys that stand, whose items are written over, and what is appended to them: if their
+//! class has a free chunk, the new item goes into the chunk of the old one. If an allocation is
+//! refused the store answers as before, and takes the step when it is asked again.
 
 ghost use Rattle.std.specs.Prelude.{◌≤◌, length};
 
@@ -11,7 +12,7 @@ use mc_testing::{Ask, Row, Want, asked, filled, first_unlike, set};
 use std::process::Abort;
 use std::test::*;
 
-/// A store of that many pages, asked for again where memory is refused.
+/// A store of that many pages, asked for again if memory is refused.
 fn open(alloc: Global, pages: u32) -> Result<Store<Fnv>, AllocError>
     requires { (1 ≤ pages) × (pages ≤ 65536) }
 {
@@ -67,7 +68,7 @@ fn the_item_is_the_new_one(rt: HostRuntime) -> Result<(), Fail> {
     answers(&rt, rt.alloc(), &mut store, &rows)
 }
 
-/// Sets the key `k` with these flags.
+/// Sets the key `k` with these flags, and returns whether the step was taken.
 fn set_flags(store: &mut Store<Fnv>, alloc: Global, flags: u32) -> bool {
     let step = KeyStep::Store {
         verb: Verb::Set,
@@ -143,8 +144,8 @@ fn no_chunk_is_free_and_no_page_left(rt: HostRuntime) -> Result<(), Fail> {
     Ok(())
 }
 
-/// With a second page left the class takes that, where memory for it is to be had; a write that is refused it leaves the old item.
-/// From there on a chunk is free, and no page more is taken.
+/// With a second page left the class takes that, if memory for it is to be had; a write that is
+/// refused it leaves the old item. From there on a chunk is free, and no page more is taken.
 #[test]
 fn no_chunk_is_free_and_a_page_comes(rt: HostRuntime) -> Result<(), Fail> {
     let large = filled(rt.alloc(), 600_000)?;
@@ -218,7 +219,8 @@ fn a_join_is_of_its_moment(rt: HostRuntime) -> Result<(), Fail> {
     answers(&rt, rt.alloc(), &mut store, &rows)
 }
 
-/// Where no chunk is free and no page left, a join that would stay in the chunk is refused all the same.
+/// If no chunk is free and no page left, a join that would stay in the chunk is refused all the
+/// same.
 #[test]
 fn a_join_wants_a_free_chunk(rt: HostRuntime) -> Result<(), Fail> {
     let large = filled(rt.alloc(), 600_000)?;

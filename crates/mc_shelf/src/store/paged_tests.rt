@@ -18,7 +18,7 @@ const THREE: usize = 3_000_000;
 /// A block that makes a page with a key of one byte.
 const ONE: usize = 1_048_527;
 
-/// A store of that many pages, whose items may take eight, asked for again where memory is refused.
+/// A store of that many pages, whose items may take eight, asked for again if memory is refused.
 fn open(alloc: Global, pages: u32) -> Result<Store<Fnv>, AllocError>
     requires { (1 ≤ pages) × (pages ≤ 65536) }
 {
@@ -105,7 +105,7 @@ fn a_dead_one_gives_way_to_a_longer(rt: HostRuntime) -> Result<(), Fail> {
     answers(&rt, rt.alloc(), 3, &rows, (3, 3))
 }
 
-/// Where even its pages are too few the dead item goes all the same.
+/// The dead item goes even if its pages, too, are too few.
 #[test]
 fn a_dead_one_goes_where_no_room_is(rt: HostRuntime) -> Result<(), Fail> {
     let one = filled(rt.alloc(), ONE)?;

@@ -1,5 +1,5 @@
 //! Keys of different shelves over one desk: by Fnv `a` is on shelf 12 of 64, `b` on 37 and `k` on
-//! 10. Where an allocation is refused the store answers as before, and takes the step when it is
+//! 10. If an allocation is refused the store answers as before, and takes the step when it is
 //! asked again.
 
 ghost use Rattle.std.specs.Prelude.{◌≡◌, ◌≤◌, length, IfOk, OnErr};
@@ -16,7 +16,7 @@ use mc_testing::{Ask, Row, Want, asked, filled, first_unlike, is_wanted, set, st
 use std::process::Abort;
 use std::test::*;
 
-/// A store of that many pages, asked for again where memory is refused.
+/// A store of that many pages, asked for again if memory is refused.
 fn open(alloc: Global, pages: u32) -> Result<Store<Fnv>, AllocError>
     requires { (1 ≤ pages) × (pages ≤ 65536) }
 {
@@ -39,7 +39,7 @@ fn open_with<K: KeyHash + Drop + Copy>(
     set_up(alloc, settings, hasher)
 }
 
-/// A store that is set up so, asked for again where memory is refused.
+/// A store that is set up so, asked for again if memory is refused.
 fn set_up<K: KeyHash + Drop + Copy>(
     alloc: Global,
     settings: Settings,
@@ -70,7 +70,7 @@ const EACH: [Settings; 3] = [
     },
 ];
 
-/// A store of one page, of whose unique numbers one is left, asked for again where memory is
+/// A store of one page, of whose unique numbers one is left, asked for again if memory is
 /// refused.
 fn open_at_the_last(alloc: Global) -> Result<Store<Fnv>, AllocError> {
     let settings = Settings {
@@ -338,7 +338,7 @@ fn a_purge_drops_the_dead_of_one_shelf(rt: HostRuntime) -> Result<(), Fail> {
     answers(&rt, rt.alloc(), &mut store, &free)
 }
 
-/// Answers whether an item of one of the shelves may be dead.
+/// Returns whether an item of one of the shelves may be dead.
 fn may_have_dead(store: &Store<Fnv>, now: Moment) -> bool {
     store
         .parts
@@ -496,7 +496,7 @@ fn begin_and_finish<K: KeyHash + Drop>(
     step_in_parts(alloc, shelf, desk, step, hash, now)
 }
 
-/// Takes a step on one key in two parts, again where memory is refused. A flush is taken whole.
+/// Takes a step on one key in two parts, again if memory is refused. A flush is taken whole.
 fn asked_in_parts(
     store: &mut Store<Fnv>,
     alloc: Global,
@@ -514,7 +514,8 @@ fn asked_in_parts(
     }
 }
 
-/// Answers whether two desks have the same number next, and as many chunks of the two least classes out.
+/// Returns whether two desks have the same number next, and as many chunks of the two least classes
+/// out.
 fn are_alike(desk: &Desk, other: &Desk) -> bool {
     let mut alike = desk.next_unique() == other.next_unique();
     for charge in [96, 120] {
@@ -525,7 +526,8 @@ fn are_alike(desk: &Desk, other: &Desk) -> bool {
     alike
 }
 
-/// Answers whether a row is answered as it wants both whole and in two parts, and leaves the two stores' desks alike.
+/// Returns whether a row is answered as it wants both whole and in two parts, and leaves the two
+/// stores' desks alike.
 fn goes_alike(
     alloc: Global,
     whole: &mut Store<Fnv>,

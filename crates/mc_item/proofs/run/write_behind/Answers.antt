@@ -60,13 +60,15 @@ lies c =
 
 pub returns-clause-value : goal.returns-clause-value
 returns-clause-value c =
-    item_in-Lies (header c) (key_in c.args.chunks.now.bytes) (block_in c.args.chunks.now.bytes ++ c.args.more.now) c.put.new.chunks c.args.chunks.now (lies c) (c.put.ensures.need ∙ c.put_header.ensures.need)
+    item_in-Lies (header c) (key_in c.args.chunks.now.bytes) (block_in c.args.chunks.now.bytes ++ c.args.more.now) c.put.new.chunks c.args.chunks.now
+    (lies c) (c.put.ensures.need ∙ c.put_header.ensures.need)
 
 pub returns-clause-holds : goal.returns-clause-holds
 returns-clause-holds c =
     let key_size = length-key_in c.args.chunks.now c.requires.item in
     let block_size = length-block_in c.args.chunks.now c.requires.item in
-    let joined : length (block_in c.args.chunks.now.bytes ++ c.args.more.now) ≡ length (block_in c.args.chunks.now.bytes) + length c.args.more.now = length-append (block_in c.args.chunks.now.bytes) c.args.more.now in
+    let joined : length (block_in c.args.chunks.now.bytes ++ c.args.more.now) ≡ length (block_in c.args.chunks.now.bytes) + length c.args.more.now
+    = length-append (block_in c.args.chunks.now.bytes) c.args.more.now in
     let room = c.requires.room in
     HoldsItem-Lies (header c) (key_in c.args.chunks.now.bytes) (block_in c.args.chunks.now.bytes ++ c.args.more.now) c.put.new.chunks (lies c) c.put.ensures.are
     (omega (arith, key_size, c.requires.item.key)) (omega (arith, key_size, block_size, joined, room, c.put.ensures.size, c.put_header.ensures.size)) c.put_header.ensures.latest

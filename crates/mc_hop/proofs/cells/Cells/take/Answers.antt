@@ -1,9 +1,11 @@
 use Rattle.std.proofs.Common.{refl, ◌∙◌, arith}
-use Rattle.mc_hop.proofs.LinkLemmas.{take_small, take_linked, take_items, take_here, same_state, seen_items, seen_tags, seen_words, swapped}
+use Rattle.mc_hop.specs.Links.{ats_of}
+use Rattle.mc_hop.proofs.ListLemmas.{swapped}
+use Rattle.mc_hop.proofs.LinkLemmas.{used-le, take_linked, take_items, take_here, same_state, seen_items, seen_tags, seen_words}
 use Rattle.mc_hop.proofs.cells.Cells.take.Goals as goal
 
 pub renumber-requires-clause-small : goal.renumber-requires-clause-small
-renumber-requires-clause-small g c = omega (arith, take_small _ _ _ _ _ c.self.invariant _ c.args.at (seen_items c.self.view_is) c.requires, c.swap_remove.ensures.len, c.self.inside.places.ok.0)
+renumber-requires-clause-small g c = omega (arith, used-le (ats_of c.self.inside.cells.items))
 
 pub invariant_of-self : goal.invariant_of-self
 invariant_of-self g c =

@@ -20,7 +20,8 @@ pub loop-index-preserved : goal.loop-index-preserved
 loop-index-preserved c =
     let parts : List (List ℕ) = parts_of c.args.self.now in
     let done : List ℕ = concat (take c.loop-index.index parts) in
-    let more : concat (take (c.loop-index.index + 1) parts) ≡ done ++ c.part-in-loop-index.result.now = concat-more parts c.loop-index.index c.part-in-loop-index.result.now c.part-in-loop-index.ensures.value in
+    let more : concat (take (c.loop-index.index + 1) parts) ≡ done ++ c.part-in-loop-index.result.now
+    = concat-more parts c.loop-index.index c.part-in-loop-index.result.now c.part-in-loop-index.ensures.value in
     let room = c.loop-index.invariant.room in
     let kept = c.append_reserved-in-loop-index.ensures.room in
     record {

@@ -33,7 +33,8 @@ returns c key found =
     let there = subst (λ (s : IndexState EntryState). entry_at s c.args.place ≡ Some found.entry) (sym c.self.view_is) found.there in
     let held = subst (λ (s : IndexState EntryState). StandsIn (entries_of s) found.entry) (sym c.self.view_is) found.held in
     let is = c.update.ensures found.entry there in
-    let becomes : is.given ≡ record found.entry { item = drafted c.args.write.now.draft (found.entry.item.block ++ c.args.block.now) c.args.unique c.args.write.now.moment } = let met = is.called in search rules in
+    let becomes : is.given ≡ record found.entry { item = drafted c.args.write.now.draft (found.entry.item.block ++ c.args.block.now) c.args.unique c.args.write.now.moment }
+    = let met = is.called in search rules in
     let change = changed c.self.inside.entries c.update.new.self c.self.invariant.0 found.entry is.given held (ap (λ (e : EntryState). e.hash) becomes) (ap (λ (e : EntryState). e.key) becomes)
     is.content key found.same_key is.same_k is.same_growing is.same_spare is.same_left in
     subst (λ (i : Entry). IsChanged c.args.self.now c.update.new.self key i) (ap (λ (e : EntryState). e.item) becomes)

@@ -18,23 +18,37 @@ pub loop-preserved : goal.loop-preserved
 loop-preserved g c = (
   goes_both _ _ _ _ c.loop.invariant.0 (goes_at _ _ c.now-now.ensures _ _ c.make_round-turn.ensures.further),
   works_on g.K.KeyHash.hash_of (g.C.Clock.may_give c.args.self.now.clock.now) c.args.self.now.first c.args.shared.now.began c.args.caller _
-      (record { asking = c.make_round-turn.new.counting; books = c.open.new.guests; door = c.open.new.self; end = c.open.new.end; turn = c.make_round-turn.result; moment = c.now-now.result })
-      c.make_round-turn.new.guests c.make_room.new.guests c.settle.new.end c.is_quiet-is_quiet.result c.open.result c.loop.invariant.1 c.now-now.ensures
+      (record {
+        asking = c.make_round-turn.new.counting;
+        books = c.open_for_all.new.guests;
+        door = c.open_for_all.new.self;
+        end = c.open_for_all.new.end;
+        turn = c.make_round-turn.result;
+        moment = c.now-now.result;
+      })
+      c.make_round-turn.new.guests c.make_room.new.guests c.settle.new.end c.open_for_all.result c.loop.invariant.1 c.now-now.ensures
       c.make_round-turn.ensures.round
-      (subst (λ (b : BooksState). SettlesFrom 0 c.make_round-turn.new.guests b c.loop.end c.settle.new.end) (sym c.make_room.ensures) c.settle.ensures) c.is_quiet-is_quiet.ensures c.open.ensures (cc),
+      (subst (λ (b : BooksState). SettlesFrom 0 c.make_round-turn.new.guests b c.loop.end c.settle.new.end) (sym c.make_room.ensures) c.settle.ensures) c.open_for_all.ensures (cc),
 )
 
-pub returns-then-not-open-clause-calls : goal.returns-then-not-open-clause-calls
-returns-then-not-open-clause-calls g c =
+pub returns-then-not-open_for_all-clause-calls : goal.returns-then-not-open_for_all-clause-calls
+returns-then-not-open_for_all-clause-calls g c =
     subst (λ (p : Past). Further (g.C.Clock.may_give c.args.self.now.clock.now) c.args.caller.past p)
     (sym (c.into_caller.ensures.same.1 ∙ ap (λ (s : AskingState g.row.K.Denot). s.past) c.into_steps.ensures))
     (goes_both _ _ _ _ c.loop.invariant.0 (goes_at _ _ c.now-now.ensures _ _ c.make_round-turn.ensures.further)).calls
 
-pub returns-then-not-open-clause-works : goal.returns-then-not-open-clause-works
-returns-then-not-open-clause-works g c =
+pub returns-then-not-open_for_all-clause-works : goal.returns-then-not-open_for_all-clause-works
+returns-then-not-open_for_all-clause-works g c =
     works_over g.K.KeyHash.hash_of (g.C.Clock.may_give c.args.self.now.clock.now) c.args.self.now.first c.args.shared.now.began c.args.caller _
-    (record { asking = c.make_round-turn.new.counting; books = c.open.new.guests; door = c.open.new.self; end = c.open.new.end; turn = c.make_round-turn.result; moment = c.now-now.result })
-    c.make_round-turn.new.guests c.make_room.new.guests c.settle.new.end c.is_quiet-is_quiet.result c.open.result _ c.loop.invariant.1 c.now-now.ensures
+    (record {
+      asking = c.make_round-turn.new.counting;
+      books = c.open_for_all.new.guests;
+      door = c.open_for_all.new.self;
+      end = c.open_for_all.new.end;
+      turn = c.make_round-turn.result;
+      moment = c.now-now.result;
+    })
+    c.make_round-turn.new.guests c.make_room.new.guests c.settle.new.end c.open_for_all.result _ c.loop.invariant.1 c.now-now.ensures
     c.make_round-turn.ensures.round
-    (subst (λ (b : BooksState). SettlesFrom 0 c.make_round-turn.new.guests b c.loop.end c.settle.new.end) (sym c.make_room.ensures) c.settle.ensures) c.is_quiet-is_quiet.ensures c.open.ensures (cc)
+    (subst (λ (b : BooksState). SettlesFrom 0 c.make_round-turn.new.guests b c.loop.end c.settle.new.end) (sym c.make_room.ensures) c.settle.ensures) c.open_for_all.ensures (cc)
     (c.into_caller.ensures.same.1 ∙ ap (λ (s : AskingState g.row.K.Denot). s.past) c.into_steps.ensures)

@@ -1,5 +1,3 @@
-use Rattle.std.proofs.Common.{◌∷◌, [], OnOk, IfErr, subst}
-use Rattle.mc_world.specs.Worlds.{Told, ToldRefused}
 use Rattle.mc_world.specs.Sessions.{state_of}
 use Rattle.mc_world.specs.declared.event.Event.TheVariants.{Turn}
 use Rattle.mc_world.proofs.WorldLemmas.{result_stands, result_told, result_refused}
@@ -7,15 +5,15 @@ use Rattle.mc_world.proofs.world.World.give_turn.Goals as goal
 
 pub invariant_of-self : goal.invariant_of-self
 invariant_of-self g c =
-    result_stands c.grammar.ensures g.K.KeyHash.hash_of (state_of c.self.inside.parts) (state_of c.turn.new.self)
-    (Turn c.args.session) c.turn.result c.self.invariant c.turn.ensures.ok c.turn.ensures.err
+    result_stands c.grammar.ensures g.K.KeyHash.hash_of
+    (state_of c.self.inside.parts) (state_of c.turn.new.self) (Turn c.args.session) c.turn.result c.self.invariant c.turn.ensures.ok c.turn.ensures.err
 
 pub returns-clause-ok : goal.returns-clause-ok
 returns-clause-ok g c =
-    subst (λ w. OnOk c.turn.result (Told g.K.KeyHash.hash_of w (Turn c.args.session ∷ []) (state_of c.turn.new.self))) c.self.view_is
-    (result_told c.grammar.ensures g.K.KeyHash.hash_of (state_of c.self.inside.parts) (state_of c.turn.new.self) (Turn c.args.session) c.turn.result c.turn.ensures.ok)
+    result_told c.grammar.ensures g.K.KeyHash.hash_of
+    (state_of c.self.inside.parts) (state_of c.turn.new.self) c.args.self.now (Turn c.args.session) c.turn.result c.self.view_is c.turn.ensures.ok
 
 pub returns-clause-err : goal.returns-clause-err
 returns-clause-err g c =
-    subst (λ w. IfErr c.turn.result (λ fault. ToldRefused g.K.KeyHash.hash_of fault.decided w (Turn c.args.session) (state_of c.turn.new.self))) c.self.view_is
-    (result_refused c.grammar.ensures g.K.KeyHash.hash_of (state_of c.self.inside.parts) (state_of c.turn.new.self) (Turn c.args.session) c.turn.result c.turn.ensures.err)
+    result_refused c.grammar.ensures g.K.KeyHash.hash_of
+    (state_of c.self.inside.parts) (state_of c.turn.new.self) c.args.self.now (Turn c.args.session) c.turn.result c.self.view_is c.turn.ensures.err

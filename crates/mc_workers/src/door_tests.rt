@@ -1,0 +1,127 @@
+//! How many links are let in between two rounds.
+
+use crate::budget::Budget;
+use crate::door::Door;
+use crate::guests::{Guests, WorkEnd};
+use crate::link::{Got, Link, LinkFault, Took};
+use crate::links::{Links, Next};
+use std::alloc::Global;
+use std::test::*;
+
+/// A link that gives and takes nothing.
+#[derive(Drop)]
+struct Silent {
+    was_read: bool,
+}
+
+impl Link for Silent {
+    ghost use Rattle.std.specs.Prelude.{None, false};
+
+    ghost shown = { λ s. record { given = None; taken = None; faults = 0; is_ended = false; was_read = s.was_read } };
+
+    fn try_read(&mut self, _piece: &mut [u8]) -> Result<Got, LinkFault> {
+        self.was_read = true;
+        Ok(Got::Later)
+    }
+
+    fn try_write(&mut self, _bytes: &[u8]) -> Result<Took, LinkFault> {
+        self.was_read = false;
+        Ok(Took::Later)
+    }
+
+    fn faults(&self) -> u64 {
+        0
+    }
+}
+
+/// So many links wait, and no more come. It is seen how often it was rested.
+#[derive(Drop)]
+struct Crowd {
+    waiting: u64,
+    rests: u64,
+}
+
+impl Links<Silent> for Crowd {
+    fn next(&mut self) -> Next<Silent> {
+        if self.waiting == 0 {
+            return Next::Later;
+        }
+        self.waiting -= 1;
+        Next::Link(Silent { was_read: false })
+    }
+
+    fn ready(&mut self) -> Option<u64> {
+        None
+    }
+
+    fn rest(&mut self) {
+        self.rests = self.rests.saturating_add(1);
+    }
+}
+
+/// What came of a crowd before each of two rounds.
+#[derive(Clone, Copy, Debug, PartialEq, Eq)]
+struct Course {
+    waiting: u64,
+    /// How many were let in before the first round, and before the second.
+    first: u64,
+    second: u64,
+    rests: u64,
+}
+
+/// Lets a crowd in, so many as may be, as before two rounds.
+fn course_of(alloc: Global, waiting: u64) -> Course {
+    let mut crowd = Crowd { waiting, rests: 0 };
+    let mut door = Door::new(1048576);
+    let mut guests = Guests::new(alloc, Budget::new(usize::MAX, 1048576));
+    let mut end = WorkEnd {
+        served: 0,
+        broken: 0,
+        refused: 0,
+    };
+    door.open_for_all(alloc, &mut crowd, &mut guests, &mut end);
+    let first = door.opened;
+    door.open_for_all(alloc, &mut crowd, &mut guests, &mut end);
+    Course {
+        waiting,
+        first,
+        second: door.opened,
+        rests: crowd.rests,
+    }
+}
+
+/// Nobody is visited here, so those that were let in are awake, and it isn't rested beside them.
+const COURSES: [Course; 4] = [
+    Course {
+        waiting: 0,
+        first: 0,
+        second: 0,
+        rests: 2,
+    },
+    Course {
+        waiting: 3,
+        first: 3,
+        second: 3,
+        rests: 0,
+    },
+    Course {
+        waiting: 32,
+        first: 32,
+        second: 32,
+        rests: 0,
+    },
+    Course {
+        waiting: 33,
+        first: 32,
+        second: 33,
+        rests: 0,
+    },
+];
+
+#[test]
+fn all_that_wait_are_let_in_at_once(rt: HostRuntime) -> Result<(), Fail> {
+    for course in COURSES {
+        assert_eq!(rt; course_of(rt.alloc(), course.waiting), course);
+    }
+    Ok(())
+}
