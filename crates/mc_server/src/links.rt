@@ -13,6 +13,7 @@ use mio::{Events, Interest, Poll, Token};
 use std::alloc::Global;
 use std::cell::{Cell, RefCell};
 use std::collections::VecDeque;
+use std::mem;
 use std::rc::Rc;
 use std::sync::{Arc, Wait};
 use std::time::{Clock, Duration, Instant};
@@ -86,6 +87,8 @@ pub struct SocketLinks<'a, R: Wait + Clock> {
     given: u64,
     /// How often a link was asked for since the system was asked for events.
     asked: u32,
+    /// The last question for a link was answered with one.
+    gave: bool,
     /// Looks for connections that are idle; none if they may be for ever.
     watch: Option<Watch>,
     counts: Arc<Counts>,
@@ -114,6 +117,7 @@ impl<'a, R: Wait + Clock> SocketLinks<'a, R> {
             named: VecDeque::new(alloc),
             given: 0,
             asked: 0,
+            gave: false,
             watch: None,
             counts,
         }
@@ -252,11 +256,16 @@ impl<'a, R: Wait + Clock> SocketLinks<'a, R> {
         self.asked >= ASKED || moved >= MOVED
     }
 
-    /// Ends all connections.
-    fn end_all(&mut self) {
+    /// Ends all connections, and says that none comes any more. Behind one that has just come it says
+    /// `Later`, so that this one is visited before it ends.
+    fn close(&mut self, gave: bool) -> Next<SocketLink> {
+        if gave {
+            return Next::Later;
+        }
         for place in self.places.iter_mut() {
             place.end(Parting::ListenerFailed, &mut self.named);
         }
+        Next::Closed
     }
 }
 
@@ -266,15 +275,16 @@ impl<'a, R: Wait + Clock> Links<SocketLink> for SocketLinks<'a, R> {
         if self.is_due() {
             self.wait_for_events(Duration::ZERO);
         }
+        let gave = mem::replace(&mut self.gave, false);
         for _one in 0..PASSED {
             let Some(connection) = self.arrivals.pop(self.rt, &mut self.share) else {
                 if self.arrivals.is_over() {
-                    self.end_all();
-                    return Next::Closed;
+                    return self.close(gave);
                 }
                 return Next::Later;
             };
             if let Some(link) = self.open(connection) {
+                self.gave = true;
                 return Next::Link(link);
             }
         }
