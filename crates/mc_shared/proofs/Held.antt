@@ -1,10 +1,12 @@
 -- A seat that holds one bay, or two.
 use Rattle.std.proofs.Common.{◌≡◌, ℕ, zero, suc, List, [], ◌∷◌, ◌++◌, None, Result, Ok, Err, replicate, refl, sym, ap, ◌∙◌, subst}
 use Rattle.atomic_table.specs.Table.{rest}
-use Rattle.mc_shared.specs.Bays.{Content, place}
+use Rattle.mc_shared.specs.Bays.{Content, content_of, place}
 use Rattle.mc_shared.specs.Past.{Past, Lives, call}
 use Rattle.mc_shared.specs.View.{SeatView}
-use Rattle.mc_shared.specs.Steps.{Mine, HoldsLast, HoldsThis, holding, without, decided_by, entry_of, loaded, newcomer, met, next_name}
+use Rattle.mc_shared.specs.Steps.{Mine, Fitted, HasTaken, HoldsLast, HoldsThis, holding, without, decided_by, entry_of, loaded, newcomer, met, next_name}
+use Rattle.mc_shared.specs.declared.bay.Bay.{Bay}
+use Rattle.mc_shared.specs.declared.bay.Bay.TheVariants.{Desk}
 use Rattle.mc_shared.proofs.NamedKept.{lives_start, lives_both}
 use Rattle.mc_shared.specs.Store.{resting, holds_one, holds_two}
 use Rattle.std.proofs.Common.{◌<◌, ◌-◌, ◌%◌, ◌^◌, arith}
@@ -83,6 +85,31 @@ at_shelf {K} hash_of table began shared seat at f y what still surplus is fit ho
       held = one_held seat.me seat.me.0.past at (OfShelf f) h.held;
       right = subst (λ bays. Decides (start_of hash_of began) bays at y what still) (sym (ap (λ (m : Mine). m.0.bays) h.held)) (decides h.inside);
       counts = subst (λ (m : Mine). Counts (start_of hash_of began) m.0 what (decided_by m what still surplus).0) (sym h.held) counts;
+    }
+
+-- who holds a shelf lives
+pub alive_at : {K : Type 0} (hash_of : K → List ℕ → ℕ) (table : TableId) (began : StoreState K) (shared : SharedState K) (seat : Sitter) (at : ℕ) (f : ShelfContent)
+    → record { table = table; began = began } ≡ shared → IsTableOf table began → HoldsShelf hash_of shared seat at f → IsAlive table began seat
+alive_at {K} hash_of table began shared seat at f is fit holds =
+    let h = subst (λ (s : SharedState K). HoldsShelf hash_of s seat at f) (sym is) holds in
+    record { seated = record { own = h.own; fit = fit }; lives = h.lives }
+
+-- and with the desk, when it was taken, holds both
+pub takes_desk : {K : Type 0} (hash_of : K → List ℕ → ℕ) (table : TableId) (began : StoreState K) (shared : SharedState K) (old new : Sitter) (at n : ℕ) (f : ShelfContent) (d : DeskState) (x : Bay)
+    → record { table = table; began = began } ≡ shared → n ≡ began.settings.shelves → x ≡ Desk d → SameSeat old new → HasTaken (start_of hash_of began) old.me n x new.me
+    → HoldsShelf hash_of shared old at f → HoldsBoth hash_of shared new at f d
+takes_desk {K} hash_of table began shared old new at n f d x is count desk same taken holds =
+    let h = subst (λ (s : SharedState K). HoldsShelf hash_of s old at f) (sym is) holds in
+    let past : new.me.0.past ≡ old.me.0.past = ap (λ (m : Mine). m.0.past) taken.1 in
+    subst (λ (s : SharedState K). HoldsBoth hash_of s new at f d) is record {
+      own = same.0 ∙ h.own;
+      lives = subst Lives (sym past) h.lives;
+      inside = h.inside;
+      held = taken.1 ∙ ap (λ (m : Mine). (holding m.0 n (content_of x), (place n, None) ∷ m.1)) h.held
+          ∙ ap (λ (y : Content). holds_two old.me.0.past n y at (OfShelf f)) (ap content_of desk)
+          ∙ ap (λ (k : ℕ). holds_two old.me.0.past k (OfDesk d) at (OfShelf f)) count
+          ∙ ap (λ (p : Past). holds_two p began.settings.shelves (OfDesk d) at (OfShelf f)) (sym past);
+      fits = subst (λ (m : Mine). Fitted (start_of hash_of began) m.0) (sym taken.1) taken.2;
     }
 
 -- a hold of a shelf and the desk, where these words show too many, may decide what the desk decides

@@ -101,6 +101,7 @@ impl<K: KeyHash + Drop> Shared<K> {
             board,
             settings,
             hasher,
+            ..
         } = self;
         let Caller { mut seat, .. } = caller;
         match gather(&board, &mut seat, room, count) {

@@ -23,7 +23,7 @@ use crate::patience::take_waiting;
 use crate::rule::{Board, Seat};
 use crate::steps::{decide, give, reload};
 use crate::store::{Caller, Shared};
-use mc_command::{Reply, counts_follow};
+use mc_command::Reply;
 use mc_hop::KeyHash;
 use mc_shelf::{Desk, Shelf};
 use mc_time::Moment;
@@ -76,7 +76,6 @@ fn flush_boxes(shelves: &mut [Boxed<Shelf>], desk: &mut Desk, delay: u64, now: M
         ArePartsOf hash_of state shelves.old count desk.old →
         ArePartsOf hash_of (flushed delay state now) shelves.new count desk.new }
 {
-    counts_follow();
     for shelf in shelves.iter_mut() {
         shelf.flush(delay, now, desk);
     }
@@ -159,7 +158,6 @@ fn flush_at_once(held: &mut Vec<Boxed<Shelf>>, desk: &mut Desk, fresh: Fresh)
         ArePartsOf hash_of state held.old.items count desk.old →
         ArePartsOf hash_of (flushed 0 state now) held.new.items count desk.new }
 {
-    counts_follow();
     let aside = empty_boxes(held.as_mut_slice(), fresh);
     desk.lay_aside(aside);
 }

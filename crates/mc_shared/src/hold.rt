@@ -3,12 +3,13 @@
 ghost use Rattle.std.specs.Prelude.{◌≡◌, ◌<◌, ℕ, IfOk, IfErr};
 ghost use Rattle.mc_shared.specs.History.{start_of};
 ghost use Rattle.mc_shared.specs.Steps.{Agrees, IsAt};
-ghost use Rattle.mc_shared.specs.Holds.{caller_of, without_desk};
+ghost use Rattle.mc_shelf.specs.States.{ShelfContent};
+ghost use Rattle.mc_shared.specs.Holds.{HoldsBoth, HoldsShelf, caller_of, without_desk};
 ghost use Rattle.mc_shared.specs.declared.bay.Bay.{Bay as Held};
 
 use crate::bay::Bay;
 use crate::boxed::Boxed;
-use crate::patience::{NoGate, Patience, Waiting};
+use crate::patience::{NoGate, Patience, Waiting, take_waiting};
 use crate::rule::Seat;
 use crate::steps::give;
 use crate::store::{Caller, Shared};
@@ -111,6 +112,17 @@ impl<K: KeyHash + Drop> Shared<K> {
             Ok(hold) => hold,
             Err((_, never)) => match never {},
         }
+    }
+
+    /// Takes the desk for a seat that holds a shelf, and waits until it is free.
+    pub(crate) fn take_desk_for<R: Wait>(&self, rt: &R, seat: &mut Seat) -> Box<Desk>
+        requires { (at : ℕ) × (shelf : ShelfContent)
+            × HoldsShelf K.hash_of self.now seat.old at shelf }
+        ensures { (at : ℕ) (shelf : ShelfContent) → HoldsShelf K.hash_of self.now seat.old at shelf →
+            HoldsBoth K.hash_of self.now seat.new at shelf result.value }
+    {
+        let desk = self.settings.shelves as usize;
+        desk_from(take_waiting(rt, &self.board, seat, desk), desk)
     }
 }
 

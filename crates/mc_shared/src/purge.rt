@@ -10,8 +10,7 @@ use crate::bay::Bay;
 use crate::boxed::Boxed;
 use crate::count::{count_shelf, count_words_at, lower_words};
 use crate::decision::Decision;
-use crate::hold::{AtBoth, AtShelf};
-use crate::patience::{NoGate, Waiting};
+use crate::hold::AtShelf;
 use crate::steps::{NUMBERS, decide, give};
 use crate::store::{Caller, Shared};
 use core::mem::replace_with;
@@ -62,23 +61,25 @@ impl<'a, K: KeyHash + Drop> AtShelf<'a, K> {
     }
 }
 
-impl<'a, K: KeyHash + Drop> AtBoth<'a, K> {
-    /// Drops the shelf's dead items. It had so many keys of each number before. The desk goes back
-    /// with the decision, then the words of the keys that went are lowered, and then the shelf goes
-    /// back.
-    fn purge(self, now: Moment, before: &[u64]) -> Caller
+impl<'a, K: KeyHash + Drop> AtShelf<'a, K> {
+    /// Drops the shelf's dead items. It had so many keys of each number before. The items are taken
+    /// off with the shelf alone, and the desk, for which it waits then, has their chunks back in one
+    /// step. The desk goes back with the decision, then the words of the keys that went are lowered,
+    /// and then the shelf goes back.
+    fn purge<R: Wait>(self, rt: &R, now: Moment, before: &[u64]) -> Caller
         requires { AreCountsBy (K.hash_of self.shared.began.hasher) self.shelf.content before.now }
         ensures { HasPurged K.hash_of self.entry.shared self.entry.past self.entry.at now result }
     {
-        let AtBoth {
+        let AtShelf {
             shared,
             mut seat,
             grows,
             at,
             mut shelf,
-            mut desk,
         } = self;
-        shelf.purge_part(now, &mut *desk);
+        let purging = shelf.begin_purge(shared.alloc, now);
+        let mut desk = shared.take_desk_for(rt, &mut seat);
+        shelf.end_purge(purging, now, &mut *desk);
         let decision = Decision::Purged {
             at,
             moment: now,
@@ -112,7 +113,7 @@ fn tidy_for<K: KeyHash + Drop, R: Wait>(
         Ok(caller) => (caller, ()),
         Err(mut hold) => {
             let before = hold.counts();
-            (hold.wait_for_desk(rt).purge(*now, &before), ())
+            (hold.purge(rt, *now, &before), ())
         }
     }
 }
@@ -136,8 +137,10 @@ fn grow_for<K: KeyHash + Drop, R: Wait>(
 
 impl<K: KeyHash + Drop> Shared<K> {
     /// Drops the items of a shelf that are dead at a moment. It waits for the shelf, and if an
-    /// item in it may be dead, for the desk, and takes no memory. The cost is that of two passes
-    /// over the shelf's items, and if none may be dead it walks none.
+    /// item in it may be dead, for the desk. The cost is that of two passes over the shelf's items,
+    /// and if none may be dead it walks none. The desk is held for a few instructions for each item
+    /// that goes: the first pass, at the shelf alone, makes a list of their chunks, which has room
+    /// for one of each item. If that memory is refused the pass is made while the desk is held.
     #[inline(never)]
     pub fn tidy<R: Wait>(&self, rt: &R, caller: &mut Caller, shelf: u32, now: Moment)
         requires own { caller.old.table ≡ self.now.table }

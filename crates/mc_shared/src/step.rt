@@ -26,7 +26,7 @@ use crate::store::{Caller, Shared};
 use core::mem::replace_with;
 use mc_command::{KeyStep, Reply, StepFault};
 use mc_hop::KeyHash;
-use mc_shelf::{Begun, Desk, Plan, Shelf, Wanted, refusals_are_plain, steps_change_one_shelf};
+use mc_shelf::{Begun, Desk, Plan, Shelf, Wanted, refusals_are_plain};
 use mc_slab::Pages;
 use mc_time::Moment;
 use std::alloc::{AllocError, Global};
@@ -68,7 +68,6 @@ impl<'a, K: KeyHash + Drop> AtShelf<'a, K> {
         ensures called { HasCalled (start_of K.hash_of self.entry.shared.began) self.entry.past
             ask.now.step.now ask.now.moment result.1 result.0.past }
     {
-        steps_change_one_shelf();
         let AtShelf {
             shared,
             mut seat,
@@ -152,7 +151,6 @@ impl<'a, K: KeyHash + Drop> AtBoth<'a, K> {
             (caller_of self.entry.shared self.entry.past) ask.now.step.now ask.now.moment Refuses
             result.1 result.0 }
     {
-        steps_change_one_shelf();
         let AtBoth {
             shared,
             mut seat,

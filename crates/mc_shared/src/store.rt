@@ -29,6 +29,8 @@ pub struct Shared<K: KeyHash + Drop> {
     pub(crate) board: Board<K>,
     pub(crate) settings: Settings,
     pub(crate) hasher: K,
+    /// Where a purge has the memory for its list of chunks.
+    pub(crate) alloc: Global,
 }
 
 impl<K: KeyHash + Drop> Model for Shared<K> {
@@ -100,6 +102,7 @@ impl<K: KeyHash + Drop> Shared<K> {
                     board,
                     settings,
                     hasher,
+                    alloc,
                 };
                 Ok((shared, Caller { seat, grows: None }))
             }

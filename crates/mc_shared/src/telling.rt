@@ -29,7 +29,7 @@ use crate::steps::{decide, give};
 use crate::store::{Caller, Shared};
 use mc_command::{Answer, Bytes, KeyStep, Reply, StepFault, Unanswered};
 use mc_hop::KeyHash;
-use mc_shelf::{Found, Hit, Place, Shelf, steps_change_one_shelf};
+use mc_shelf::{Found, Hit, Place, Shelf};
 use mc_time::Moment;
 use std::alloc::{AllocError, Global};
 use std::snapshot::Snapshot;
@@ -166,7 +166,6 @@ impl<K: KeyHash + Drop> Shared<K> {
             (hit_of (stood shelf.value.content ask.now.step.now ask.now.moment))
             seat.new.me.0.past }
     {
-        steps_change_one_shelf();
         let mut shelf = shelf;
         let before = Snapshot::of(&*shelf);
         shelf.settle_read(ask.step, ask.hash, ask.moment, place);

@@ -14,13 +14,12 @@ use Rattle.mc_slab.specs.Slabs as slabs
 use Rattle.mc_slab.specs.Slabs.{SlabState, IsSlab, IsFull, Readies, Takes, TellsFull, WantsPages, full_fault, given, has_room_with, made_ready, out_of, pages_of, pages_wanted, taken, unused}
 use Rattle.mc_slab.specs.declared.slab.TakeFault.{TakeFault}
 use Rattle.mc_slab.specs.declared.slab.TakeFault.TheVariants.{Full, NoMemory}
-use Rattle.mc_command.specs.Plain.{Entry, Items, Plain, chunks_in, count_of, item_need}
+use Rattle.mc_command.specs.Plain.{Entry, Items, chunks_in, count_of, item_need}
 use Rattle.mc_command.specs.Laws.{of_class}
+use Rattle.mc_command.proofs.CountLemmas.{count-empty, count-remove}
 use Rattle.mc_shelf.specs.States.{DeskState, EntryState, ShelfContent, ShelfState}
 use Rattle.mc_shelf.specs.Asides.{AreCollected, AreOff, GivesOwn, IsOff, LieAside, Suffices, all_out, count_in, none_out, seen}
-use Rattle.mc_shelf.specs.Parts.{ArePartsOf, shelf_of}
-use Rattle.mc_shelf.proofs.PartLemmas.{PartsLaw}
-use Rattle.mc_shelf.proofs.StandLemmas.{RemoveCounts, out-given, out-taken, weight, weight_here}
+use Rattle.mc_shelf.proofs.StandLemmas.{out-given, out-taken, weight, weight_here}
 
 -- ---- shelves one after another
 
@@ -33,14 +32,14 @@ pub count_in-last : (xs : List ShelfState) (x : ShelfState) (class : ℕ) → co
 count_in-last xs x class = omega (arith, count_in-join xs (x ∷ []) class)
 
 -- an entry was taken off the last one
-pub off_last : RemoveCounts → (all rest after : List ShelfState) (old new : ShelfState) (entry : EntryState) (chunks : ChunksState) → all ≡ rest ++ old ∷ [] → after ≡ rest ++ new ∷ []
+pub off_last : (all rest after : List ShelfState) (old new : ShelfState) (entry : EntryState) (chunks : ChunksState) → all ≡ rest ++ old ∷ [] → after ≡ rest ++ new ∷ []
     → IsOff old.content new.content entry → need_in chunks ≡ item_need entry.key entry.item → IsNeed (item_need entry.key entry.item) → AreOff all after chunks
-off_last law all rest after old new entry chunks all_is after_is off need_is is_need = record {
+off_last all rest after old new entry chunks all_is after_is off need_is is_need = record {
   is_need = subst IsNeed (sym need_is) is_need;
   counts = λ class.
       let before = ap (λ l. count_in l class) all_is ∙ count_in-last rest old class in
       let behind = ap (λ l. count_in l class) after_is ∙ count_in-last rest new class in
-      let gone = law old.content.items entry.key class in
+      let gone = count-remove class old.content.items entry.key in
       let less = ap (λ (m : Items). count_of m class) off.items in
       let one : of_class entry.key (get old.content.items entry.key) class ≡ chunks_in (item_need entry.key entry.item) class = ap (λ (o : Option Entry). of_class entry.key o class) off.found in
       let same : chunks_in (need_in chunks) class ≡ chunks_in (item_need entry.key entry.item) class = ap (λ (n : NeedState). chunks_in n class) need_is in
@@ -57,14 +56,14 @@ count_in-set (x ∷ xs) zero old new class here =
 count_in-set (x ∷ xs) (suc at) old new class here = omega (arith, count_in-set xs at old new class here)
 
 -- an entry was taken off one of them
-pub off_at : RemoveCounts → (all after : List ShelfState) (at : ℕ) (old new : ShelfState) (entry : EntryState) (chunks : ChunksState) → slice_get all at ≡ Some old → after ≡ set all at new
+pub off_at : (all after : List ShelfState) (at : ℕ) (old new : ShelfState) (entry : EntryState) (chunks : ChunksState) → slice_get all at ≡ Some old → after ≡ set all at new
     → IsOff old.content new.content entry → need_in chunks ≡ item_need entry.key entry.item → IsNeed (item_need entry.key entry.item) → AreOff all after chunks
-off_at law all after at old new entry chunks here after_is off need_is is_need = record {
+off_at all after at old new entry chunks here after_is off need_is is_need = record {
   is_need = subst IsNeed (sym need_is) is_need;
   counts = λ class.
       let moved = count_in-set all at old new class here in
       let behind = ap (λ l. count_in l class) after_is in
-      let gone = law old.content.items entry.key class in
+      let gone = count-remove class old.content.items entry.key in
       let less = ap (λ (m : Items). count_of m class) off.items in
       let one : of_class entry.key (get old.content.items entry.key) class ≡ chunks_in (item_need entry.key entry.item) class = ap (λ (o : Option Entry). of_class entry.key o class) off.found in
       let same : chunks_in (need_in chunks) class ≡ chunks_in (item_need entry.key entry.item) class = ap (λ (n : NeedState). chunks_in n class) need_is in
@@ -78,11 +77,11 @@ set_same (x ∷ xs) zero old new here same = ap (λ s. s ∷ xs) (same ∙ sym (
 set_same (x ∷ xs) (suc at) old new here same = ap (λ l. x ∷ l) (set_same xs at old new here same)
 
 -- the last one has no items
-pub none_last : ((class : ℕ) → count_of empty class ≡ 0) → (all rest : List ShelfState) (last : ShelfState) → all ≡ rest ++ last ∷ [] → last.content.items ≡ empty → (class : ℕ)
+pub none_last : (all rest : List ShelfState) (last : ShelfState) → all ≡ rest ++ last ∷ [] → last.content.items ≡ empty → (class : ℕ)
     → count_in all class ≡ count_in rest class
-none_last law all rest last all_is none class =
+none_last all rest last all_is none class =
     let before = ap (λ l. count_in l class) all_is ∙ count_in-last rest last class in
-    let nothing = ap (λ (m : Items). count_of m class) none ∙ law class in
+    let nothing = ap (λ (m : Items). count_of m class) none ∙ count-empty class in
     omega (arith, before, nothing)
 
 -- ---- a slab as it is seen

@@ -10,6 +10,7 @@ use Rattle.mc_slab.specs.Classes.{IsClass}
 use Rattle.mc_slab.specs.Slabs.{out_of}
 use Rattle.mc_command.specs.Plain.{Entry, Items, Plain, alive, count_of, flushed, living}
 use Rattle.mc_command.specs.Purge.{purged}
+use Rattle.mc_command.proofs.CountLemmas.{count-empty, count-parted}
 use Rattle.mc_shelf.specs.States.{ShelfContent, ShelfState, DeskState}
 use Rattle.mc_shelf.specs.Sweeps.{AreOut, GivesFor, IsPurged}
 use Rattle.mc_shelf.specs.Deaths.{NoneIsDead}
@@ -18,7 +19,7 @@ use Rattle.mc_shelf.specs.Asides.{count_in}
 use Rattle.mc_shelf.specs.Unions.{IsFlushed, left_of_flush}
 use Rattle.std.proofs.Math.Seq.{take-append_seam}
 use Rattle.mc_shelf.proofs.KeyLemmas.{order, same_maps, get_kept}
-use Rattle.mc_shelf.proofs.PartLemmas.{PartsLaw, parted, own_items, shelf_kept, put_cases}
+use Rattle.mc_shelf.proofs.PartLemmas.{parted, own_items, shelf_kept, put_cases}
 
 -- where none of its items is dead, purging a shelf's part changes nothing
 pub nothing_purged : {hash_of : List ℕ → ℕ} {count at : ℕ} {state : Plain} {shelf : ShelfContent} (now : ℕ) → IsShelfOf hash_of count state at shelf
@@ -44,7 +45,7 @@ hash_kept : (kept : Bool) (o : Option ℕ) (stored : ℕ) → cond kept o None �
 hash_kept true o stored found = found
 hash_kept false o stored found = cc
 
-module _ {hash_of : List ℕ → ℕ} {count at : ℕ} {state : Plain} {shelf : ShelfContent} {desk : DeskState} (law : PartsLaw)
+module _ {hash_of : List ℕ → ℕ} {count at : ℕ} {state : Plain} {shelf : ShelfContent} {desk : DeskState}
     (fits : IsShelfOf hash_of count state at shelf) (account : IsDeskOf state desk) where
   abbrev mine : List ℕ → Bool
   mine q = eqb (shelf_of hash_of count q) at
@@ -53,7 +54,7 @@ module _ {hash_of : List ℕ → ℕ} {count at : ℕ} {state : Plain} {shelf : 
   rest = retain_keys state.items (λ q. not (mine q))
 
   split : (class : ℕ) → count_of state.items class ≡ count_of shelf.items class + count_of rest class
-  split = parted law state.items shelf.items rest mine (own_items fits) (get_kept state.items (λ q. not (mine q)))
+  split = parted state.items shelf.items rest mine (own_items fits) (get_kept state.items (λ q. not (mine q)))
 
   pub part_out : AreOut shelf desk
   part_out class is = omega (arith, split class, account.out class is)
@@ -98,7 +99,7 @@ module _ {hash_of : List ℕ → ℕ} {count at : ℕ} {state : Plain} {shelf : 
         limit = gives.limit ∙ account.limit;
         pages = gives.pages ∙ account.pages;
         out = λ class is.
-            let after = parted law new.items shelf'.items rest mine (own_items own) rest_new class in
+            let after = parted new.items shelf'.items rest mine (own_items own) rest_new class in
             omega (arith, split class, after, account.out class is, gives.out class is);
       };
       others = λ k still other part. record {
@@ -241,10 +242,10 @@ module _ (hash_of : List ℕ → ℕ) (count delay now : ℕ) (state : Plain) wh
   }
 
   -- the items of the shelves below the next place are those of the shelf here, and those below
-  more_below : PartsLaw → (at : ℕ) → {s : Plain} {part : ShelfContent} → IsShelfOf hash_of count s at part → (class : ℕ)
+  more_below : (at : ℕ) → {s : Plain} {part : ShelfContent} → IsShelfOf hash_of count s at part → (class : ℕ)
       → count_of (below place (at + 1) s.items) class ≡ count_of part.items class + count_of (below place at s.items) class
-  more_below law at {s} {part} is =
-      parted law (below place (at + 1) s.items) part.items (below place at s.items) (λ q. eqb (place q) at)
+  more_below at {s} {part} is =
+      parted (below place (at + 1) s.items) part.items (below place at s.items) (λ q. eqb (place q) at)
       (λ q.
       own_items is q ∙ is_own (get s.items q) (eqb (place q) at) (ltb (place q) at) (ltb (place q) (at + 1)) (below_next (place q) at)
       ∙ ap (λ o. cond (eqb (place q) at) o None) (sym (get_kept s.items (λ q. ltb (place q) (at + 1)) q)))
@@ -254,37 +255,37 @@ module _ (hash_of : List ℕ → ℕ) (count delay now : ℕ) (state : Plain) wh
       ∙ ap (λ o. cond (not (eqb (place q) at)) o None) (sym (get_kept s.items (λ q. ltb (place q) (at + 1)) q)))
 
   -- the items of all shelves have the chunks of all items
-  counted_from : PartsLaw → 0 < count → (class at : ℕ) (rest : List ShelfState) → at + length rest ≡ count
+  counted_from : 0 < count → (class at : ℕ) (rest : List ShelfState) → at + length rest ≡ count
       → ((k : ℕ) (shelf : ShelfState) → slice_get rest k ≡ Some shelf → IsShelfOf hash_of count state (at + k) shelf.content)
       → count_of (below place at state.items) class + count_in rest class ≡ count_of state.items class
-  counted_from law some class at [] long each =
+  counted_from some class at [] long each =
       let all : count_of (below place at state.items) class ≡ count_of state.items class = ap (λ (m : Items). count_of m class) (all_below at some (omega (arith, long)) state.items) in
       omega (arith, all)
-  counted_from law some class at (shelf ∷ rest) long each =
+  counted_from some class at (shelf ∷ rest) long each =
       let here : IsShelfOf hash_of count state at shelf.content = subst (λ n. IsShelfOf hash_of count state n shelf.content) (omega arith) (each 0 shelf refl) in
-      let one = more_below law at here class in
-      let behind = counted_from law some class (at + 1) rest (omega (arith, long))
+      let one = more_below at here class in
+      let behind = counted_from some class (at + 1) rest (omega (arith, long))
       (λ k s there. subst (λ n. IsShelfOf hash_of count state n s.content) (omega arith) (each (suc k) s there)) in
       omega (arith, one, behind)
 
-  pub counted_all : PartsLaw → ((class : ℕ) → count_of maps.empty class ≡ 0) → {list : List ShelfState} {desk : DeskState} → ArePartsOf hash_of state list count desk
+  pub counted_all : {list : List ShelfState} {desk : DeskState} → ArePartsOf hash_of state list count desk
       → (class : ℕ) → IsClass class → out_of desk.slab class ≡ count_in list class
-  counted_all law none_of {list} parts class is =
-      let all = counted_from law parts.some_shelf class 0 list (omega (arith, parts.number))
+  counted_all {list} parts class is =
+      let all = counted_from parts.some_shelf class 0 list (omega (arith, parts.number))
       (λ k shelf there. (let same : k ≡ 0 + k = omega arith in subst (λ n. IsShelfOf hash_of count state n shelf.content) same (parts.each k shelf there))) in
-      let none : count_of (below place 0 state.items) class ≡ 0 = ap (λ (m : Items). count_of m class) (none_below state.items) ∙ none_of class in
+      let none : count_of (below place 0 state.items) class ≡ 0 = ap (λ (m : Items). count_of m class) (none_below state.items) ∙ count-empty class in
       omega (arith, all, none, parts.account.out class is)
 
   -- one shelf more is flushed
-  module _ {at : ℕ} {list : List ShelfState} {desk : DeskState} {shelf : ShelfState} (law : PartsLaw)
+  module _ {at : ℕ} {list : List ShelfState} {desk : DeskState} {shelf : ShelfState}
       (swept : AreFlushedTo hash_of count delay now state at list desk) (here : slice_get list at ≡ Some shelf) where
     fits : IsShelfOf hash_of count state at shelf.content
     fits = subst (λ b. IsShelfOf hash_of count (cond b after state) at shelf.content) (le-ltb at at (omega arith)) (swept.each at shelf here)
 
     pub out_before : AreOut shelf.content desk
     out_before class is =
-        let all = law state.items (λ q. ltb (place q) (at + 1)) class in
-        omega (arith, all, more_below law at fits class, swept.out class is)
+        let all = count-parted class state.items (λ q. ltb (place q) (at + 1)) in
+        omega (arith, all, more_below at fits class, swept.out class is)
 
     module _ {desk' : DeskState} (shelf' : ShelfState) (flushes : IsFlushed delay now shelf.content shelf'.content) (gives : GivesFor shelf.content.items shelf'.content.items desk desk') where
       fits_after : IsShelfOf hash_of count after at shelf'.content
@@ -308,7 +309,7 @@ module _ (hash_of : List ℕ → ℕ) (count delay now : ℕ) (state : Plain) wh
         next_unique = gives.next_unique ∙ swept.next_unique;
         limit = gives.limit ∙ swept.limit;
         pages = gives.pages ∙ swept.pages;
-        out = λ class is. omega (arith, more_below law at fits class, more_below law at fits_after class, swept.out class is, gives.out class is);
+        out = λ class is. omega (arith, more_below at fits class, more_below at fits_after class, swept.out class is, gives.out class is);
       }
 
   pub flushed_all : {at : ℕ} {list : List ShelfState} {desk : DeskState} → count ≤ at → AreFlushedTo hash_of count delay now state at list desk → ArePartsOf hash_of after list count desk

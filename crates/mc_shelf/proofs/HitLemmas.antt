@@ -14,7 +14,6 @@ use Rattle.mc_shelf.specs.declared.plan.Next.TheVariants.{Answer, Expire}
 use Rattle.mc_shelf.specs.States.{ShelfContent}
 use Rattle.mc_shelf.specs.Plans.{IsKnown, IsPut, IsSettled, is_gone, next_by, next_of, stood}
 use Rattle.mc_shelf.specs.Hits.{is_read, read_expiry}
-use Rattle.mc_shelf.proofs.StandLemmas.{InsertCounts, RemoveCounts}
 use Rattle.mc_shelf.proofs.TakesLemmas.{others_same, takes_answer, takes_expire}
 
 -- ---- what comes next in a read
@@ -52,7 +51,7 @@ stands_found cut now item lives =
       | false ↦ λ e. refl
     ] lives
 
-module _ (insert_counts : InsertCounts) (remove_counts : RemoveCounts) (step : KeyStep) (now own : ℕ) (old : ShelfContent) (place : Option Place)
+module _ (step : KeyStep) (now own : ℕ) (old : ShelfContent) (place : Option Place)
     (read : is_read step ≡ true) (known : IsKnown old (key_of step) own place) (lives : is_gone old.cut now (get old.items (key_of step)) ≡ false) where
   abbrev stands : Option Entry
   stands = stood old step now
@@ -64,7 +63,7 @@ module _ (insert_counts : InsertCounts) (remove_counts : RemoveCounts) (step : K
 
   answers_so : reading (read_expiry step now) stands ≡ Answer (hit_of stands) → IsSettled step now own old (hit_of stands) old
   answers_so is = record {
-    takes = λ desk. takes_answer insert_counts remove_counts step now old desk (on_key step read) (hit_of stands) (sym (next_is ∙ is));
+    takes = λ desk. takes_answer step now old desk (on_key step read) (hit_of stands) (sym (next_is ∙ is));
     stands = refl;
     others = others_same (key_of step) old;
     hash = known.hash;
@@ -105,7 +104,7 @@ module _ (insert_counts : InsertCounts) (remove_counts : RemoveCounts) (step : K
       ap (λ (o : Option Entry). Expire expiry (hit_of o)) stood_is ∙ sym (next_is ∙ (λ i. reading (sets i) (stood_is i))) in
       let put = puts item there.1 in
       record {
-        takes = λ desk. takes_expire insert_counts remove_counts step now old desk (on_key step read) expiry (hit_of stands) own new puts next;
+        takes = λ desk. takes_expire step now old desk (on_key step read) expiry (hit_of stands) own new puts next;
         stands = ap is_some put.item ∙ sym (ap is_some there.1);
         others = put.others;
         hash = put.hash;

@@ -1,8 +1,8 @@
 -- How many items an index has.
-use Rattle.std.proofs.Common.{◌≡◌, ℕ, zero, suc, ◌+◌, ◌-◌, ◌≤◌, cond, List, [], ◌∷◌, Option, Some, None, is_some, sym, refl, ap, ◌∙◌, subst, arith}
+use Rattle.std.proofs.Common.{◌≡◌, ℕ, zero, suc, ◌+◌, ◌-◌, ◌≤◌, cond, List, [], ◌∷◌, Some, is_some, sym, refl, ap, ◌∙◌, arith}
 use Rattle.std.proofs.lemmas.Option.{none-some}
 use Rattle.std.specs.Cmp.Lexicographic.{nat_list_cmp_total}
-use Rattle.std.specs.FinMap.{empty, entries, get, get-entries, insert, len, len-empty, len-entries, len-insert, len-remove, empty_of_len, remove, get-insert, get-remove, find}
+use Rattle.std.specs.FinMap.{entries, get, get-entries, len, len-empty, len-entries, len-remove, empty_of_len, remove, find}
 use Rattle.mc_command.specs.Plain.{Items, Entry}
 use Rattle.mc_shelf.specs.States.{EntryState}
 use Rattle.mc_shelf.specs.KeyMaps.{EntryMap, items_in, StandsIn, IsKeyed}

@@ -14,6 +14,9 @@ use Rattle.mc_command.specs.declared.step.KeyStep.{KeyStep}
 use Rattle.mc_command.specs.declared.reply.Reply.{Reply}
 use Rattle.mc_command.specs.Commands.{key_of}
 use Rattle.mc_command.specs.Laws.{IsOnKey}
+use Rattle.mc_command.proofs.CountLemmas.{count-parted}
+use Rattle.mc_command.proofs.LawLemmas.{other_keys}
+use Rattle.mc_command.proofs.PageLemmas.{limit_stays}
 use Rattle.mc_command.specs.Plain.{Answered, Entry, Items, Plain, count_of, plain}
 use Rattle.mc_shelf.specs.States.{ShelfContent, ShelfState, DeskState, IsAt, IsHash}
 use Rattle.mc_shelf.specs.Plans.{IsTaken, IsSettled}
@@ -21,18 +24,6 @@ use Rattle.mc_shelf.specs.Parts.{shelf_of, IsShelfOf, IsDeskOf, ArePartsOf, Goes
 use Rattle.mc_shelf.specs.Unions.{all_entries, all_items, cut_of, plain_of}
 use Rattle.mc_shelf.specs.declared.settings.Settings.{Settings}
 use Rattle.mc_shelf.proofs.KeyLemmas.{order, same_key, same_maps, get_kept}
-
--- the plain machine's step on a key leaves the other keys, as `other_keys_stay` says, and the limit of pages, as `pages_stay`
-abbrev pub OthersLaw : Type 0
-OthersLaw = (old new : Plain) (step : KeyStep) (now : ℕ) (reply : Reply) (other : List ℕ) → IsOnKey step → plain old step now ≡ Answered reply new
-    → other ≢ key_of step → get new.items other ≡ get old.items other
-
-abbrev pub LimitLaw : Type 0
-LimitLaw = (old new : Plain) (step : KeyStep) (now : ℕ) (reply : Reply) → plain old step now ≡ Answered reply new → new.limit ≡ old.limit
-
--- the items whose keys pass a test and the others are all of them, as `counts_follow` says
-abbrev pub PartsLaw : Type 0
-PartsLaw = (items : Items) (meant : List ℕ → Bool) (class : ℕ) → count_of items class ≡ count_of (retain_keys items meant) class + count_of (retain_keys items (λ key. not (meant key))) class
 
 key_or_not : (q key : List ℕ) → (q ≡ key) ⊎ (q ≢ key)
 key_or_not q key = elim (order q key) as (λ r. order q key ≡ r → (q ≡ key) ⊎ (q ≢ key)) [
@@ -158,7 +149,7 @@ module _ {hash_of : List ℕ → ℕ} {count at : ℕ} {state : Plain} {shelf : 
     out = account.out;
   }
 
-  module _ {now : ℕ} {reply : Reply} {shelf' : ShelfContent} {desk' : DeskState} (on : IsOnKey step) (others : OthersLaw) (limit : LimitLaw)
+  module _ {now : ℕ} {reply : Reply} {shelf' : ShelfContent} {desk' : DeskState} (on : IsOnKey step)
       (taken : IsTaken step now (hash_of (key_of step)) shelf desk reply shelf' desk') where
     abbrev new : Plain
     new = (taken.takes state is_at).0
@@ -173,7 +164,7 @@ module _ {hash_of : List ℕ → ℕ} {count at : ℕ} {state : Plain} {shelf : 
     same_greatest = sym fits.greatest ∙ sym taken.others.greatest ∙ sym stands.greatest
 
     same_item : (q : List ℕ) → q ≢ key_of step → get state.items q ≡ get new.items q
-    same_item q other = sym (others state new step now reply q on answered other)
+    same_item q other = sym (other_keys state new step now reply q on answered other)
 
     elsewhere : (q : List ℕ) → shelf_of hash_of count q ≢ at → q ≢ key_of step
     elsewhere q other same = other (ap (shelf_of hash_of count) same ∙ mine)
@@ -201,7 +192,7 @@ module _ {hash_of : List ℕ → ℕ} {count at : ℕ} {state : Plain} {shelf : 
       answered = answered;
       goes = record {
         greatest = sym same_greatest;
-        limit = limit state new step now reply answered;
+        limit = limit_stays state new step now reply answered;
         own = own;
         account = record {
           next_unique = sym stands.next_unique;
@@ -236,11 +227,11 @@ same_answer : (reply : Reply) (a b : Plain) → Answered reply a ≡ Answered re
 same_answer reply a b same = cc
 
 pub goes_without_desk : {hash_of : List ℕ → ℕ} {shelves at now : ℕ} {state : Plain} {reply : Reply} {old new : ShelfContent} (step : KeyStep) → IsOnKey step
-    → shelf_of hash_of shelves (key_of step) ≡ at → OthersLaw → LimitLaw
+    → shelf_of hash_of shelves (key_of step) ≡ at
     → IsShelfOf hash_of shelves state at old → IsSettled step now (hash_of (key_of step)) old reply new → GoesWithoutDesk hash_of shelves at step now state reply new
-goes_without_desk {hash_of} {shelves} {at} {now} {state} {reply} {old} {new} step on mine others limit fits settled =
+goes_without_desk {hash_of} {shelves} {at} {now} {state} {reply} {old} {new} step on mine fits settled =
     let by = λ (desk : DeskState) (account : IsDeskOf state desk).
-    goes_by_step step mine fits account on others limit (record { takes = settled.takes desk; others = settled.others; hash = settled.hash }) in
+    goes_by_step step mine fits account on (record { takes = settled.takes desk; others = settled.others; hash = settled.hash }) in
     let first = by (a_desk state).0 (a_desk state).1 in
     record {
       new = first.new;
@@ -254,12 +245,12 @@ goes_without_desk {hash_of} {shelves} {at} {now} {state} {reply} {old} {new} ste
 -- ---- items that are dropped
 
 -- two maps part a third by a test on keys
-pub parted : PartsLaw → (whole part rest : Items) (meant : List ℕ → Bool) → ((q : List ℕ) → get part q ≡ cond (meant q) (get whole q) None)
+pub parted : (whole part rest : Items) (meant : List ℕ → Bool) → ((q : List ℕ) → get part q ≡ cond (meant q) (get whole q) None)
     → ((q : List ℕ) → get rest q ≡ cond (not (meant q)) (get whole q) None) → (class : ℕ) → count_of whole class ≡ count_of part class + count_of rest class
-parted law whole part rest meant own others class =
+parted whole part rest meant own others class =
     let part_is = same_maps (retain_keys whole meant) part (λ q. get_kept whole meant q ∙ sym (own q)) in
     let rest_is = same_maps (retain_keys whole (λ q. not (meant q))) rest (λ q. get_kept whole (λ q. not (meant q)) q ∙ sym (others q)) in
-    law whole meant class ∙ (λ i. count_of (part_is i) class + count_of (rest_is i) class)
+    count-parted class whole meant ∙ (λ i. count_of (part_is i) class + count_of (rest_is i) class)
 
 module _ {hash_of : List ℕ → ℕ} {count at : ℕ} {state : Plain} {shelf : ShelfContent} (fits : IsShelfOf hash_of count state at shelf) where
   -- of the state's items the shelf has those of its keys

@@ -1,5 +1,5 @@
 -- A block in parts, and which of them are blank.
-use Rattle.std.proofs.Common.{◌≡◌, ℕ, zero, suc, ◌+◌, ◌-◌, ◌<◌, ◌≤◌, ◌&&◌, Bool, true, false, List, [], ◌∷◌, ◌++◌, length, take, drop, Some, None, slice_get, if◌then◌else◌, refl}
+use Rattle.std.proofs.Common.{◌≡◌, ℕ, zero, suc, ◌+◌, ◌-◌, ◌<◌, ◌≤◌, ◌&&◌, Bool, true, false, List, [], ◌∷◌, length, take, drop, Some, None, slice_get, if◌then◌else◌, refl}
 use Rattle.std.proofs.Common.{sym, ap, subst, ◌∙◌, arith}
 use Rattle.std.proofs.Math.Seq.{drop-cons, drop-nil}
 use Rattle.std.proofs.lemmas.Option.{get_or_from_slice_get, same_Some, slice_get_within}
@@ -14,6 +14,7 @@ use Rattle.mc_command.specs.Plain.{Entry, charge, item_need, number_of}
 use Rattle.mc_shelf.specs.States.{parts_of}
 use Rattle.mc_shelf.proofs.NeedLemmas.{by_charge}
 use Rattle.mc_command.specs.Words.{is_space}
+use Rattle.mc_command.proofs.NumberLemmas.{number_of-joined}
 
 -- each part is nothing but spaces
 abbrev pub are_blank : List (List ℕ) → Bool
@@ -65,16 +66,13 @@ front_long key block short several =
     subst (λ (n : ℕ). 20 < length (take (n - (48 + length key)) block)) (sym size) (omega (arith, long, short)))
     several
 
-abbrev pub FrontTells : Type 0
-FrontTells = (front rest : List ℕ) → 20 < length front → number_of (front ++ rest) ≡ (if list_all is_space rest then number_of front else None)
-
 -- the number of a block, by its first part
-pub number_by : FrontTells → (key : List ℕ) (item : Entry) → length key ≤ 250 → concat (parts_of key item) ≡ item.block → ((item_need key item).count ≡ 1 → ⊥)
+pub number_by : (key : List ℕ) (item : Entry) → length key ≤ 250 → concat (parts_of key item) ≡ item.block → ((item_need key item).count ≡ 1 → ⊥)
     → (first : List ℕ) → slice_get (parts_of key item) 0 ≡ Some first
     → number_of item.block ≡ (if are_blank (drop 1 (parts_of key item)) then number_of first else None)
-number_by tells key item short joined several first there =
+number_by key item short joined several first there =
     let front : List ℕ = take (size_of (item_need key item).class - (48 + length key)) item.block in
     let rest : List (List ℕ) = drop 1 (parts_of key item) in
     let same : front ≡ first = same_Some front first there in
-    ap number_of (sym joined) ∙ tells front (concat rest) (front_long key item.block short several)
+    ap number_of (sym joined) ∙ number_of-joined front (concat rest) (front_long key item.block short several)
     ∙ (λ i. if blank_concat rest i then number_of (same i) else None)

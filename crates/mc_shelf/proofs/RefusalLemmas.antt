@@ -2,7 +2,7 @@
 use Rattle.std.proofs.Common.{◌≡◌, ◌≢◌, ℕ, ◌-◌, ◌≤◌, ◌^◌, Bool, true, false, true≢false, List, Result, Ok, Err, IfOk, refl, sym, subst, ◌∙◌}
 use Rattle.mc_slab.specs.Needs.{need_for}
 use Rattle.mc_slab.specs.Slabs as slabs
-use Rattle.mc_slab.specs.Slabs.{SlabState, IsSlab, WantsPages, out_of}
+use Rattle.mc_slab.specs.Slabs.{IsSlab}
 use Rattle.mc_command.specs.declared.step.KeyStep.{KeyStep}
 use Rattle.mc_command.specs.declared.reply.Reply.{Reply}
 use Rattle.mc_command.specs.declared.row.Body.{Body}
@@ -17,11 +17,10 @@ use Rattle.mc_command.specs.declared.step.StepFault.{StepFault}
 use Rattle.mc_command.specs.declared.step.StepFault.TheVariants.{NoMemory, NumbersSpent}
 use Rattle.mc_shelf.specs.States.{ShelfContent, DeskState, CanStand, IsAt}
 use Rattle.mc_shelf.specs.Plans.{CanWrite, IsSpent, IsTaken, MayWantMemory, NeedsPages, back_at, next_of, stood, writes}
-use Rattle.mc_shelf.proofs.StandLemmas.{RemoveCounts, wrote_kept, wrote_taken}
+use Rattle.mc_shelf.proofs.StandLemmas.{wrote_kept, wrote_taken}
 use Rattle.mc_shelf.proofs.PlanLemmas.{block_at, found_in}
 use Rattle.mc_shelf.proofs.NeedLemmas.{need_class}
 use Rattle.mc_shelf.proofs.TakesLemmas.{drafts, room_found, wrote_is}
-use Rattle.mc_shelf.proofs.StandLemmas.{InsertCounts}
 
 reply_copies : (body : Body) → CopiesBlock (write_reply body)
 reply_copies Given = tt
@@ -30,7 +29,7 @@ reply_copies Prepended = tt
 reply_copies (Counted number) = tt
 
 -- a write that finds a number and a chunk is answered so that it may be refused
-module _ (insert_counts : InsertCounts) (remove_counts : RemoveCounts) (step : KeyStep) (now : ℕ) (shelf : ShelfContent) (desk : DeskState) (on : IsOnKey step)
+module _ (step : KeyStep) (now : ℕ) (shelf : ShelfContent) (desk : DeskState) (on : IsOnKey step)
     (is : IsSlab desk.slab) (size : ℕ) (draft : Draft) (next : Write size draft ≡ next_of shelf step now)
     (more : desk.next_unique ≢ 2 ^ 64 - 1) (chunks : slabs.has_room_with desk.slab (need_for size) (back_at shelf (key_of step) now (need_for size)) ≡ true)
     (s : Plain) (at : IsAt (key_of step) shelf desk s) where
@@ -42,7 +41,7 @@ module _ (insert_counts : InsertCounts) (remove_counts : RemoveCounts) (step : K
 
   room : has_room under (block_need (key_of step) block) ≡ true
   room = subst (λ (n : ℕ). has_room under (need_for n) ≡ true) (drafts shelf step now size draft next).size_is
-      (room_found remove_counts step now shelf desk is s at (need_for size) (need_class size) ∙ chunks)
+      (room_found step now shelf desk is s at (need_for size) (need_class size) ∙ chunks)
 
   fits : charge (key_of step) block ≤ s.greatest
   fits = rw at.greatest (subst (λ (n : ℕ). n ≤ shelf.greatest) (drafts shelf step now size draft next).size_is (drafts shelf step now size draft next).fits)
@@ -53,7 +52,7 @@ module _ (insert_counts : InsertCounts) (remove_counts : RemoveCounts) (step : K
       subst MayFail (sym (wrote_taken (write_reply draft.body) (key_of step) draft.flags draft.expiry block under now fits (λ e. more (sym at.next_unique ∙ e)) room)) (reply_copies draft.body)
 
   pub write_wants : MayFail (plain s step now)
-  write_wants = subst MayFail (sym (wrote_is insert_counts remove_counts step now shelf desk on size draft next s at)) (answers (keeps_chunk draft.body (key_of step) (stood shelf step now)))
+  write_wants = subst MayFail (sym (wrote_is step now shelf desk on size draft next s at)) (answers (keeps_chunk draft.body (key_of step) (stood shelf step now)))
 
 pub needs_can : (next : Next) (shelf : ShelfContent) (key : List ℕ) (now : ℕ) (desk : DeskState) → NeedsPages next shelf key now desk → CanWrite next shelf key now desk
 needs_can next shelf key now desk needs = record { size = needs.size; draft = needs.draft; writes_it = needs.writes_it; number = needs.number; chunks = needs.pages.0 }
@@ -73,10 +72,10 @@ pub wants_not_spent : (step : KeyStep) (now : ℕ) (shelf : ShelfContent) (desk 
 wants_not_spent step now shelf desk can wants spent = subst MayFail (spent can.plain can.stands) (wants can.plain can.stands)
 
 -- a plan that can be taken wants memory
-pub can_wants : InsertCounts → RemoveCounts → (step : KeyStep) (now : ℕ) (shelf : ShelfContent) (desk : DeskState) → IsOnKey step → IsSlab desk.slab
+pub can_wants : (step : KeyStep) (now : ℕ) (shelf : ShelfContent) (desk : DeskState) → IsOnKey step → IsSlab desk.slab
     → (next : Next) → next ≡ next_of shelf step now → CanWrite next shelf (key_of step) now desk → MayWantMemory step now shelf desk
-can_wants insert_counts remove_counts step now shelf desk on is next next_is can s at =
-    write_wants insert_counts remove_counts step now shelf desk on is can.size can.draft (sym can.writes_it ∙ next_is) can.number can.chunks s at
+can_wants step now shelf desk on is next next_is can s at =
+    write_wants step now shelf desk on is can.size can.draft (sym can.writes_it ∙ next_is) can.number can.chunks s at
 
 -- what writes is a write
 pub writes_some : (next : Next) → writes next ≡ true → (size : ℕ) × (draft : Draft) × (next ≡ Write size draft)

@@ -11,25 +11,18 @@ use Rattle.mc_slab.specs.Slabs.{SlabState, IsSlab, out_of, made_ready, taken, gi
 use Rattle.mc_slab.proofs.ClassLemmas.{chunks_a_page-least}
 use Rattle.std.proofs.Math.Nat.{le-mul_of_pos_right}
 use Rattle.mc_command.specs.declared.step.KeyStep.{KeyStep}
+use Rattle.mc_command.proofs.CountLemmas.{count-insert, count-remove}
 use Rattle.mc_command.proofs.LawLemmas.{on_key}
 use Rattle.mc_command.specs.declared.reply.Reply.{Reply}
 use Rattle.mc_command.specs.declared.reply.Reply.TheVariants.{TooLarge, NoChunk}
 use Rattle.mc_command.specs.Commands.{key_of}
 use Rattle.mc_command.specs.Plain as machine
-use Rattle.mc_command.specs.Plain.{Plain, Items, Entry, Answered, Spent, plain, stepped, changed, charge, block_need, item_need, chunks_in, count_of, has_room, with_chunk}
+use Rattle.mc_command.specs.Plain.{Plain, Items, Entry, Answered, Spent, plain, changed, charge, block_need, item_need, chunks_in, count_of, has_room, with_chunk}
 use Rattle.mc_command.specs.Plain.{without_dead, written, wrote, alive, row_of}
 use Rattle.mc_command.specs.Laws.{IsOnKey, of_class}
 use Rattle.mc_shelf.specs.States.{ShelfContent, DeskState, IsAt}
 use Rattle.mc_shelf.specs.Plans.{IsDropped, IsPut, row_at, stood}
 use Rattle.mc_shelf.proofs.KeyLemmas.{get_gone, get_put}
-
--- how counts of a class move, the laws of the plain machine
-abbrev pub InsertCounts : Type 0
-InsertCounts = (items : Items) (key : List ℕ) (item : Entry) (class : ℕ)
-    → count_of (insert items key item) class + of_class key (get items key) class ≡ count_of items class + of_class key (Some item) class
-
-abbrev pub RemoveCounts : Type 0
-RemoveCounts = (items : Items) (key : List ℕ) (class : ℕ) → count_of (remove items key) class + of_class key (get items key) class ≡ count_of items class
 
 -- so many at the class, and else 0
 abbrev pub weight : (class count other : ℕ) → ℕ
@@ -179,16 +172,15 @@ step_is step now shelf desk s on at =
     ∙ ap (λ (stands : Option Entry). changed (row_of step now stands) step stands (without_dead stands key s) now) (λ i. alive (at.cut i) now (at.item i))
     ∙ ap (λ (t : Plain). changed (row_at shelf step now) step (stood shelf step now) t now) (base_is (stood shelf step now) key s)
 
-module _ (insert_counts : InsertCounts) (remove_counts : RemoveCounts) (key : List ℕ) (shelf : ShelfContent) (desk : DeskState) (s : Plain) (at : IsAt key shelf desk s) where
+module _ (key : List ℕ) (shelf : ShelfContent) (desk : DeskState) (s : Plain) (at : IsAt key shelf desk s) where
   -- the counts where the key's item is put
   counts_put : (stands : Option Entry) (item : Entry) (class : ℕ)
       → count_of (insert (base stands key s.items) key item) class + of_class key (get shelf.items key) class ≡ count_of s.items class + of_class key (Some item) class
-  counts_put (Some old) item class = ap (λ (o : Option Entry). count_of (insert s.items key item) class + of_class key o class) (sym at.item) ∙ insert_counts s.items key item class
+  counts_put (Some old) item class = ap (λ (o : Option Entry). count_of (insert s.items key item) class + of_class key o class) (sym at.item) ∙ count-insert class s.items key item
   counts_put None item class =
-      let put : count_of (insert (remove s.items key) key item) class + of_class key (get (remove s.items key) key) class ≡ count_of
-      (remove s.items key) class + of_class key (Some item) class = insert_counts (remove s.items key) key item class in
+      let put = count-insert class (remove s.items key) key item in
       let none : of_class key (get (remove s.items key) key) class ≡ 0 = ap (λ (o : Option Entry). of_class key o class) (get_gone s.items key) in
-      let gone : count_of (remove s.items key) class + of_class key (get s.items key) class ≡ count_of s.items class = remove_counts s.items key class in
+      let gone = count-remove class s.items key in
       let same : of_class key (get s.items key) class ≡ of_class key (get shelf.items key) class = ap (λ (o : Option Entry). of_class key o class) at.item in
       omega arith
 
@@ -202,7 +194,7 @@ module _ (insert_counts : InsertCounts) (remove_counts : RemoveCounts) (key : Li
     limit = at.limit;
     pages = at.pages;
     out = λ class is.
-        let gone : count_of (remove s.items key) class + of_class key (get s.items key) class ≡ count_of s.items class = remove_counts s.items key class in
+        let gone = count-remove class s.items key in
         let zero : of_class key (get s.items key) class ≡ 0 = ap (λ (o : Option Entry). of_class key o class) (at.item ∙ none) in
         let out = at.out class is in
         omega arith;
@@ -220,7 +212,7 @@ module _ (insert_counts : InsertCounts) (remove_counts : RemoveCounts) (key : Li
     pages = at.pages;
     out = λ class is_other.
         let need = item_need key old in
-        let gone : count_of (remove s.items key) class + of_class key (get s.items key) class ≡ count_of s.items class = remove_counts s.items key class in
+        let gone = count-remove class s.items key in
         let one : of_class key (get s.items key) class ≡ weight need.class need.count class = ap (λ (o : Option Entry). of_class key o class) (at.item ∙ found) in
         let less : out_of (given desk.slab need.class need.count) class ≡ out_of desk.slab class - weight need.class need.count class =
         out-given desk.slab need.class is_class is.out need.count class is_other in
@@ -231,7 +223,7 @@ module _ (insert_counts : InsertCounts) (remove_counts : RemoveCounts) (key : Li
   -- the chunks of the key's item are out
   pub out_found : (class : ℕ) → IsClass class → of_class key (get shelf.items key) class ≤ out_of desk.slab class
   out_found class is_class =
-      let gone : count_of (remove s.items key) class + of_class key (get s.items key) class ≡ count_of s.items class = remove_counts s.items key class in
+      let gone = count-remove class s.items key in
       let same : of_class key (get s.items key) class ≡ of_class key (get shelf.items key) class = ap (λ (o : Option Entry). of_class key o class) at.item in
       let out = at.out class is_class in
       omega arith
@@ -307,7 +299,7 @@ pages_are t slab need back is is_class pages count =
 abbrev pub item_of : (flags : ℕ) → Expiry → (block : List ℕ) → (unique updated : ℕ) → Entry
 item_of flags expiry block unique updated = record { flags = flags; expiry = expiry; block = block; unique = unique; updated = updated }
 
-module _ (insert_counts : InsertCounts) (remove_counts : RemoveCounts) (key : List ℕ) (shelf : ShelfContent) (desk : DeskState) (s : Plain) (at : IsAt key shelf desk s)
+module _ (key : List ℕ) (shelf : ShelfContent) (desk : DeskState) (s : Plain) (at : IsAt key shelf desk s)
     (reply : Reply) (flags : ℕ) (expiry : Expiry) (block : List ℕ) (now : ℕ) (stands : Option Entry) (fits : charge key block ≤ shelf.greatest) (more : desk.next_unique ≢ 2 ^ 64 - 1) where
   abbrev under : Plain
   under = record s { items = base stands key s.items }
@@ -338,7 +330,7 @@ module _ (insert_counts : InsertCounts) (remove_counts : RemoveCounts) (key : Li
           limit = at.limit ∙ sym limit;
           pages = pages;
           out = λ other is.
-              let put = counts_put insert_counts remove_counts key shelf desk s at stands item other in
+              let put = counts_put key shelf desk s at stands item other in
               let moved = outs other is in
               let out = at.out other is in
               omega arith;

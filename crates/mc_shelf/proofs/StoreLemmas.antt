@@ -4,7 +4,7 @@ use Rattle.std.proofs.Common.{slice_index_or, slice_set, refl, sym, ap, subst, �
 use Rattle.std.specs.Option.{option_map}
 use Rattle.std.proofs.lemmas.List.{get_or-replicate, length-map, length-replicate, map-set}
 use Rattle.std.proofs.lemmas.Option.{get_or_from_slice_get, slice_get-map, slice_get_read, same_Some}
-use Rattle.std.specs.FinMap.{get, get-empty, empty}
+use Rattle.std.specs.FinMap.{get, get-empty}
 use Rattle.mc_slab.specs.Slabs.{untouched, out_of}
 use Rattle.mc_command.specs.declared.row.Row.{Row}
 use Rattle.mc_command.specs.declared.row.Row.TheVariants.{Refuses, Reads, Touches, Deletes, Writes}
@@ -15,14 +15,15 @@ use Rattle.mc_command.specs.declared.reply.Reply.{Reply}
 use Rattle.mc_command.specs.Commands.{key_of}
 use Rattle.mc_command.specs.Laws.{IsOnKey}
 use Rattle.mc_slab.specs.Needs.{need_for}
-use Rattle.mc_command.specs.Plain.{Answered, Spent, Entry, Outcome, Plain, alive, block_of, changed, charge, count_of, has_room, keeps_chunk, plain, row_of, starting, without_dead, written_block}
+use Rattle.mc_command.specs.Plain.{Answered, Spent, Entry, Outcome, Plain, alive, block_of, changed, charge, has_room, keeps_chunk, plain, row_of, starting, without_dead, written_block}
+use Rattle.mc_command.proofs.CountLemmas.{count-empty}
 use Rattle.mc_shelf.specs.States.{ShelfContent, ShelfState, DeskState, IsAt, nothing_held}
 use Rattle.mc_shelf.specs.Plans.{IsTaken, IsSpent}
 use Rattle.mc_shelf.specs.Parts.{shelf_of, IsShelfOf, IsDeskOf, ArePartsOf, GoesTo, GoesByStep}
 use Rattle.mc_shelf.specs.Unions.{lefts, plain_of}
 use Rattle.mc_shelf.specs.declared.settings.Settings.{Settings}
 use Rattle.mc_shelf.proofs.KeyLemmas.{order}
-use Rattle.mc_shelf.proofs.PartLemmas.{parts_go, plain_is, are_kept}
+use Rattle.mc_shelf.proofs.PartLemmas.{are_kept, goes_by_step, parts_go, plain_is}
 
 -- ---- a new store
 
@@ -31,10 +32,10 @@ of_replicate zero k x y there = cc
 of_replicate (suc n) zero x y there = sym (same_Some x y there)
 of_replicate (suc n) (suc k) x y there = of_replicate n k x y there
 
-pub new_parts : {hash_of : List ℕ → ℕ} {count pages greatest next : ℕ} {list : List ShelfState} {desk : DeskState} → 0 < count → ((class : ℕ) → count_of empty class ≡ 0)
+pub new_parts : {hash_of : List ℕ → ℕ} {count pages greatest next : ℕ} {list : List ShelfState} {desk : DeskState} → 0 < count
     → map (λ shelf. shelf.content) list ≡ replicate count (nothing_held greatest) → desk ≡ record { slab = untouched pages; next_unique = next }
     → ArePartsOf hash_of (starting pages greatest next) list count desk
-new_parts {hash_of} {count} {pages} {greatest} {next} {list} some none contents new_desk = record {
+new_parts {hash_of} {count} {pages} {greatest} {next} {list} some contents new_desk = record {
   number = sym (length-map list (λ (s : ShelfState). s.content)) ∙ ap length contents ∙ length-replicate count (nothing_held greatest);
   some_shelf = some;
   each = λ at shelf here.
@@ -54,7 +55,7 @@ new_parts {hash_of} {count} {pages} {greatest} {next} {list} some none contents 
     next_unique = ap (λ (d : DeskState). d.next_unique) new_desk;
     limit = ap (λ (d : DeskState). d.slab.limit) new_desk;
     pages = ap (λ (d : DeskState). d.slab.pages) new_desk;
-    out = λ class is. ap (λ (d : DeskState). out_of d.slab class) new_desk ∙ get_or-replicate 40 (class - 1) 0 0 (omega (arith, is.0, is.1)) ∙ sym (none class);
+    out = λ class is. ap (λ (d : DeskState). out_of d.slab class) new_desk ∙ get_or-replicate 40 (class - 1) 0 0 (omega (arith, is.0, is.1)) ∙ sym (count-empty class);
   };
 }
 
@@ -115,12 +116,6 @@ left_after list at {shelf} shelf' moved here less =
     let was : slice_index (lefts list) at ≡ shelf.left = get_or_from_slice_get (lefts list) at shelf.left 0 (slice_get-map left_of list at ∙ ap (option_map left_of) here) in
     map-set left_of list at shelf' ∙ ap (slice_set (lefts list) at) (less ∙ ap (λ n. n - moved) (sym was))
 
--- a step that a shelf and the desk take, as `steps_change_one_shelf` says
-abbrev pub StepLaw : Type 0
-StepLaw = (hash_of : List ℕ → ℕ) (shelves at : ℕ) (state : Plain) (step : KeyStep) (now : ℕ) (reply : Reply) (old new : ShelfContent) (desk desk' : DeskState)
-    → IsOnKey step → shelf_of hash_of shelves (key_of step) ≡ at → IsShelfOf hash_of shelves state at old → IsDeskOf state desk
-    → IsTaken step now (hash_of (key_of step)) old desk reply new desk' → GoesByStep hash_of shelves at step now state reply new desk'
-
 -- what follows of a step that was taken, and of one that was not
 pub if_ok : {P Q : Reply → Type 0} (result : Result Reply StepFault) → IfOk result P → ((reply : Reply) → P reply → Q reply) → IfOk result Q
 if_ok (Ok reply) p f = f reply p
@@ -158,7 +153,7 @@ module _ {hash_of : List ℕ → ℕ} {list : List ShelfState} {desk : DeskState
 
     -- a step was taken on one of the shelf's keys, or not
     module _ {hash : ℕ} (step : KeyStep) (now : ℕ) (shelf' : ShelfState) (desk' : DeskState) (mine : shelf_of hash_of settings.shelves (key_of step) ≡ at)
-        (hashed : hash ≡ hash_of (key_of step)) (on : IsOnKey step) (law : StepLaw) where
+        (hashed : hash ≡ hash_of (key_of step)) (on : IsOnKey step) where
       abbrev IsTakenHere : Reply → Type 0
       IsTakenHere reply = IsTaken step now hash shelf.content desk reply shelf'.content desk'
 
@@ -167,7 +162,7 @@ module _ {hash_of : List ℕ → ℕ} {list : List ShelfState} {desk : DeskState
 
       goes : (reply : Reply) → IsTakenHere reply → GoesByStep hash_of settings.shelves at step now state reply shelf'.content desk'
       goes reply took =
-          law hash_of settings.shelves at state step now reply shelf.content shelf'.content desk desk' on mine (parts.each at shelf here) parts.account
+          goes_by_step step mine (parts.each at shelf here) parts.account on
           (subst (λ (h : ℕ). IsTaken step now h shelf.content desk reply shelf'.content desk') hashed took)
 
       pub parts_stepped : (result : Result Reply StepFault) → IfOk result IsTakenHere → OnErr result IsAsBefore

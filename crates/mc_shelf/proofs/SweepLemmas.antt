@@ -1,5 +1,5 @@
 -- What a sweep over an index drops of a shelf, and gives back to a desk.
-use Rattle.std.proofs.Common.{◌≡◌, ◌≢◌, ℕ, ◌+◌, ◌-◌, ◌<◌, ◌≤◌, true, false, cond, List, ◌∷◌, get_or, Option, Some, None, is_some, is_none, refl, sym, ap, subst, ◌∙◌, arith}
+use Rattle.std.proofs.Common.{◌≡◌, ◌≢◌, ℕ, ◌+◌, ◌-◌, ◌<◌, ◌≤◌, true, false, cond, List, [], ◌∷◌, ◌++◌, get_or, Option, Some, None, is_some, is_none, refl, sym, ap, subst, ◌∙◌, arith}
 use Rattle.std.proofs.Common.{if◌then◌else◌, inl, inr, Less, Equal, Greater}
 use Rattle.std.proofs.lemmas.Bool.{cases_lt}
 use Rattle.std.proofs.lemmas.Option.{same_Some, none-some}
@@ -13,22 +13,23 @@ use Rattle.mc_slab.specs.Classes.{IsClass}
 use Rattle.mc_slab.specs.Needs.{NeedState, IsNeed}
 use Rattle.mc_slab.specs.Chunks.{ChunksState, need_in}
 use Rattle.mc_slab.specs.Slabs.{IsSlab, out_of, given}
-use Rattle.mc_command.specs.Plain.{Items, Entry, alive, count_of, item_need, living}
+use Rattle.mc_command.specs.Plain.{Items, Entry, alive, chunks_in, count_of, item_need, living}
 use Rattle.mc_command.specs.Laws.{of_class}
+use Rattle.mc_command.proofs.CountLemmas.{count-remove}
 use Rattle.mc_grow.specs.Indexes.{IndexState, IsFirstFrom, IsNext, KeepsLower, cells, count_from, entry_at}
 use Rattle.mc_grow.specs.declared.index.Place.{Place}
 use Rattle.mc_shelf.specs.States.{EntryState, Hashes, ShelfContent, DeskState}
 use Rattle.mc_shelf.specs.KeyMaps.{IsKeyed}
 use Rattle.mc_shelf.specs.Places.{KeyGoes, entries_of, hashes_of, items_of}
 use Rattle.mc_shelf.specs.Plans.{is_gone, item_in}
-use Rattle.mc_shelf.specs.Sweeps.{GivesFor, IsPurged}
+use Rattle.mc_shelf.specs.Sweeps.{GivesFor, IsPurged, count_among}
 use Rattle.mc_shelf.specs.Deaths.{DieNoSooner, DiesNoSooner, NoneIsDead}
 use Rattle.mc_shelf.specs.declared.soonest.Soonest.{Soonest}
 use Rattle.mc_shelf.proofs.KeyLemmas.{order, same_key, same_maps, get_kept, get_gone, get_gone_other}
 use Rattle.mc_shelf.proofs.KeyMapLemmas.{hash_absent, item_held}
 use Rattle.mc_shelf.proofs.IndexLemmas.{numbered}
 use Rattle.mc_shelf.proofs.ShelfLemmas.{content_of}
-use Rattle.mc_shelf.proofs.StandLemmas.{RemoveCounts, out-given, weight, weight_here}
+use Rattle.mc_shelf.proofs.StandLemmas.{out-given, weight, weight_here}
 
 -- ---- the desk
 
@@ -46,13 +47,13 @@ gives_both a b c d e f one two = record {
   next_unique = two.next_unique ∙ one.next_unique;
 }
 
-module _ (remove_counts : RemoveCounts) (items : Items) (desk : DeskState) (key : List ℕ) (item : Entry) (found : get items key ≡ Some item)
+module _ (items : Items) (desk : DeskState) (key : List ℕ) (item : Entry) (found : get items key ≡ Some item)
     (are : (class : ℕ) → IsClass class → count_of items class ≤ out_of desk.slab class) where
   -- the chunks of an item that stands are out
   pub out_held : IsClass (item_need key item).class → (item_need key item).count ≤ out_of desk.slab (item_need key item).class
   out_held is_class =
       let need = item_need key item in
-      let gone : count_of (remove items key) need.class + of_class key (get items key) need.class ≡ count_of items need.class = remove_counts items key need.class in
+      let gone = count-remove need.class items key in
       let one : of_class key (get items key) need.class ≡ weight need.class need.count need.class = ap (λ (o : Option Entry). of_class key o need.class) found in
       let here : weight need.class need.count need.class ≡ need.count = weight_here need.class need.count in
       let out = are need.class is_class in
@@ -65,7 +66,7 @@ module _ (remove_counts : RemoveCounts) (items : Items) (desk : DeskState) (key 
       subst (λ (m : Items). GivesFor items m desk desk') (sym new_is) (subst (λ (d : DeskState). GivesFor items (remove items key) desk d) (sym desk_is) (record {
         out = λ class is_other.
             let need = item_need key item in
-            let gone : count_of (remove items key) class + of_class key (get items key) class ≡ count_of items class = remove_counts items key class in
+            let gone = count-remove class items key in
             let one : of_class key (get items key) class ≡ weight need.class need.count class = ap (λ (o : Option Entry). of_class key o class) found in
             let less : out_of (given desk.slab need.class need.count) class ≡ out_of desk.slab class - weight need.class need.count class =
             out-given desk.slab need.class is_class is.out need.count class is_other in
@@ -75,6 +76,11 @@ module _ (remove_counts : RemoveCounts) (items : Items) (desk : DeskState) (key 
         limit = refl;
         next_unique = refl;
       }))
+
+-- chunks that lie in a list
+pub among_join : (xs ys : List ChunksState) (class : ℕ) → count_among (xs ++ ys) class ≡ count_among xs class + count_among ys class
+among_join [] ys class = omega arith
+among_join (x ∷ xs) ys class = omega (arith, among_join xs ys class)
 
 -- chunks that are out stay so
 pub out_after : (a b : Items) (d e : DeskState) → GivesFor a b d e → ((class : ℕ) → IsClass class → count_of a class ≤ out_of d.slab class) → (class : ℕ)
@@ -166,16 +172,15 @@ items_all P index keyed at below none key item found =
 
 -- ---- sweeps
 
--- the shelf of an index holds what it held but for dead items, whose chunks went back
-pub record Swept (now : ℕ) (old new : ShelfContent) (desk desk' : DeskState) : Type 0 where
+-- the shelf of an index holds what it held but for dead items
+pub record Swept (now : ℕ) (old new : ShelfContent) : Type 0 where
   pub greatest : new.greatest ≡ old.greatest
   pub cut : new.cut ≡ old.cut
   pub living_same : living new.items new.cut now ≡ living old.items old.cut now
-  pub gives : GivesFor old.items new.items desk desk'
   pub kept : (key : List ℕ) (item : Entry) → get new.items key ≡ Some item → (get old.items key ≡ Some item) × (get new.hashes key ≡ get old.hashes key)
 
-pub swept_none : (now : ℕ) (shelf : ShelfContent) (desk : DeskState) → Swept now shelf shelf desk desk
-swept_none now shelf desk = record { greatest = refl; cut = refl; living_same = refl; gives = gives_none shelf.items desk; kept = λ key item there. (there, refl) }
+pub swept_none : (now : ℕ) (shelf : ShelfContent) → Swept now shelf shelf
+swept_none now shelf = record { greatest = refl; cut = refl; living_same = refl; kept = λ key item there. (there, refl) }
 
 -- what a removal keeps
 kept_by : (was new : IndexState EntryState) (key : List ℕ) → KeyGoes was new key → (other : List ℕ) (item : Entry) → get (items_of new) other ≡ Some item
@@ -186,42 +191,51 @@ kept_by was new key removed other item there =
       ap (λ (m : Hashes). get m other) removed.hashes ∙ get_gone_other (hashes_of was) key other apart,
     )
 
-module _ (remove_counts : RemoveCounts) (greatest : ℕ) (cut : Option ℕ) (was new : IndexState EntryState) (entry : EntryState)
+module _ (greatest : ℕ) (cut : Option ℕ) (was new : IndexState EntryState) (entry : EntryState)
     (found : get (items_of was) entry.key ≡ Some entry.item) (removed : KeyGoes was new entry.key)
     (desk desk' : DeskState) (chunks : ChunksState) (need_is : need_in chunks ≡ item_need entry.key entry.item) (is_need : IsNeed (item_need entry.key entry.item))
     (are : (class : ℕ) → IsClass class → count_of (items_of was) class ≤ out_of desk.slab class) where
   -- its chunks are out
   pub entry_out : chunks.count ≤ out_of desk.slab chunks.class
-  entry_out = subst (λ (n : NeedState). n.count ≤ out_of desk.slab n.class) (sym need_is) (out_held remove_counts (items_of was) desk entry.key entry.item found are is_need.is_class)
+  entry_out = subst (λ (n : NeedState). n.count ≤ out_of desk.slab n.class) (sym need_is) (out_held (items_of was) desk entry.key entry.item found are is_need.is_class)
 
   -- and goes back
   pub entry_gives : desk' ≡ record desk { slab = given desk.slab chunks.class chunks.count } → IsSlab desk.slab → GivesFor (items_of was) (items_of new) desk desk'
   entry_gives back is =
-      gives_one remove_counts (items_of was) desk entry.key entry.item found are (items_of new) desk' removed.items
+      gives_one (items_of was) desk entry.key entry.item found are (items_of new) desk' removed.items
       (back ∙ ap (λ (n : NeedState). record desk { slab = given desk.slab n.class n.count }) need_is) is is_need.is_class
 
-  -- a dead item is swept
-  pub swept_one : (now : ℕ) → is_gone cut now (Some entry.item) ≡ true → desk' ≡ record desk { slab = given desk.slab chunks.class chunks.count }
-      → IsSlab desk.slab → Swept now (content_of greatest cut was) (content_of greatest cut new) desk desk'
-  swept_one now gone back is = record {
-    greatest = refl;
-    cut = refl;
-    living_same = ap (λ (m : Items). living m cut now) removed.items ∙ living_without (items_of was) cut now entry.key (ap (alive cut now) found ∙ gone_none cut now entry.item gone);
-    gives = entry_gives back is;
-    kept = kept_by was new entry.key removed;
-  }
+-- a dead item is swept
+pub swept_one : (now greatest : ℕ) (cut : Option ℕ) (was new : IndexState EntryState) (entry : EntryState) → get (items_of was) entry.key ≡ Some entry.item → KeyGoes was new entry.key
+    → is_gone cut now (Some entry.item) ≡ true → Swept now (content_of greatest cut was) (content_of greatest cut new)
+swept_one now greatest cut was new entry found removed gone = record {
+  greatest = refl;
+  cut = refl;
+  living_same = ap (λ (m : Items). living m cut now) removed.items ∙ living_without (items_of was) cut now entry.key (ap (alive cut now) found ∙ gone_none cut now entry.item gone);
+  kept = kept_by was new entry.key removed;
+}
 
-pub swept_both : (now : ℕ) (a b c : ShelfContent) (d e f : DeskState) → Swept now a b d e → Swept now b c e f → Swept now a c d f
-swept_both now a b c d e f one two = record {
+pub swept_both : (now : ℕ) (a b c : ShelfContent) → Swept now a b → Swept now b c → Swept now a c
+swept_both now a b c one two = record {
   greatest = two.greatest ∙ one.greatest;
   cut = two.cut ∙ one.cut;
   living_same = two.living_same ∙ one.living_same;
-  gives = gives_both a.items b.items c.items d e f one.gives two.gives;
   kept = λ key item there.
       let second = two.kept key item there in
       let first = one.kept key item second.0 in
       (first.0, second.1 ∙ first.1);
 }
+
+-- and its chunks are put behind those of others
+pub counted_one : (items new : Items) (key : List ℕ) (item : Entry) (all old : List ChunksState) (chunks : ChunksState) → get items key ≡ Some item → new ≡ remove items key
+    → need_in chunks ≡ item_need key item → all ≡ old ++ chunks ∷ [] → (class : ℕ) → count_among all class + count_of new class ≡ count_among old class + count_of items class
+counted_one items new key item all old chunks found new_is need_is all_is class =
+    let behind : count_among all class ≡ count_among old class + count_among (chunks ∷ []) class = ap (λ l. count_among l class) all_is ∙ among_join old (chunks ∷ []) class in
+    let gone = count-remove class items key in
+    let less = ap (λ (m : Items). count_of m class) new_is in
+    let one : of_class key (get items key) class ≡ chunks_in (item_need key item) class = ap (λ (o : Option Entry). of_class key o class) found in
+    let same : chunks_in (need_in chunks) class ≡ chunks_in (item_need key item) class = ap (λ (n : NeedState). chunks_in n class) need_is in
+    omega (arith, behind, gone, less, one, same)
 
 -- the entry is not dead at a moment, and dies no sooner than this
 abbrev pub Stays : (cut : Option ℕ) → (now : ℕ) → Soonest → EntryState → Type 0
@@ -253,8 +267,8 @@ all_stay cut now soonest index keyed at below none =
     )
 
 pub purged : (now : ℕ) (old : ShelfContent) (greatest : ℕ) (cut : Option ℕ) (index : IndexState EntryState) → IsKeyed (entries_of index)
-    → (desk desk' : DeskState) → Swept now old (content_of greatest cut index) desk desk' → NoneIsDead now cut (items_of index) → IsPurged now old (content_of greatest cut index)
-purged now old greatest cut index keyed desk desk' swept none =
+    → Swept now old (content_of greatest cut index) → NoneIsDead now cut (items_of index) → IsPurged now old (content_of greatest cut index)
+purged now old greatest cut index keyed swept none =
     let items = items_of index in
     record {
       greatest = swept.greatest;

@@ -15,16 +15,17 @@ use Rattle.mc_command.specs.declared.row.Body.{Body}
 use Rattle.mc_command.specs.declared.row.Body.TheVariants.{Given, Appended, Prepended, Counted}
 use Rattle.mc_command.specs.declared.row.Draft.{Draft}
 use Rattle.mc_command.specs.Commands.{key_of}
-use Rattle.mc_command.specs.Plain.{Plain, Entry, Answered, Spent, plain, alive, block_need, block_of, changed, charge, chunks_in, count_of, has_room, item_need, keeps_chunk}
+use Rattle.mc_command.specs.Plain.{Plain, Entry, Answered, plain, alive, block_need, block_of, changed, charge, chunks_in, count_of, has_room, item_need, keeps_chunk}
 use Rattle.mc_command.specs.Plain.{with_chunk, write_reply, written, written_block, wrote}
 use Rattle.mc_command.specs.Plain as machine
 use Rattle.mc_command.specs.Laws.{IsOnKey, of_class}
+use Rattle.mc_command.proofs.CountLemmas.{count-remove}
 use Rattle.mc_shelf.specs.declared.plan.Next.{Next}
 use Rattle.mc_shelf.specs.declared.plan.Next.TheVariants.{Answer, Expire, Discard, Write}
 use Rattle.mc_shelf.specs.States.{ShelfContent, DeskState, CanStand, IsAt, IsHash}
 use Rattle.mc_shelf.specs.Plans.{GivesBack, GivesChunks, gives_way, IsDropped, IsOut, IsPut, IsSpent, OthersStay, Takes, back_at, block_beside, counts, dead_chunks, drafted}
 use Rattle.mc_shelf.specs.Plans.{has_need, is_gone, next_of, reuses, row_at, stood, way_given}
-use Rattle.mc_shelf.proofs.StandLemmas.{InsertCounts, RemoveCounts, base, step_is, at_none, at_dropped, at_put_again, at_wrote, given_taken, out-given, out-taken, out-way}
+use Rattle.mc_shelf.proofs.StandLemmas.{base, step_is, at_none, at_dropped, at_put_again, at_wrote, given_taken, out-given, out-taken, out-way}
 use Rattle.mc_shelf.proofs.StandLemmas.{out_found, out_some, pages-way, pages_after, pages_are, pages_stay, room_by_free, room_is, taken_is_slab, weight, weight_here}
 use Rattle.mc_shelf.proofs.NeedLemmas.{needs_same}
 use Rattle.mc_shelf.proofs.StandLemmas.{wrote_full, wrote_kept, wrote_spent}
@@ -53,19 +54,19 @@ module _ (shelf : ShelfContent) (step : KeyStep) (now : ℕ) where
   discarded_is reply is = let d = does_yet (Discard reply) is in (d.0, d.1)
 
 -- the chunks of the key's item are out
-pub is_out : InsertCounts → RemoveCounts → (key : List ℕ) (shelf : ShelfContent) (desk : DeskState) → CanStand key shelf desk → IsOut key shelf desk
-is_out insert_counts remove_counts key shelf desk can item found is_class = out_some insert_counts remove_counts key shelf desk can.plain can.stands item found is_class
+pub is_out : (key : List ℕ) (shelf : ShelfContent) (desk : DeskState) → CanStand key shelf desk → IsOut key shelf desk
+is_out key shelf desk can item found is_class = out_some key shelf desk can.plain can.stands item found is_class
 
-pub is_out_taken : InsertCounts → RemoveCounts → (key : List ℕ) (shelf : ShelfContent) (desk : DeskState) (need : NeedState) → CanStand key shelf desk
+pub is_out_taken : (key : List ℕ) (shelf : ShelfContent) (desk : DeskState) (need : NeedState) → CanStand key shelf desk
     → IsSlab desk.slab → IsClass need.class → (n : ℕ) → IsOut key shelf (record { slab = taken desk.slab need; next_unique = n })
-is_out_taken insert_counts remove_counts key shelf desk need can is is_class n item found is_item =
-    let before = is_out insert_counts remove_counts key shelf desk can item found is_item in
+is_out_taken key shelf desk need can is is_class n item found is_item =
+    let before = is_out key shelf desk can item found is_item in
     let after = out-taken desk.slab need is_class is.out (item_need key item).class is_item in
     omega (arith, before, after)
 
 -- ---- a step that writes nothing
 
-module _ (insert_counts : InsertCounts) (remove_counts : RemoveCounts) (step : KeyStep) (now : ℕ) (shelf : ShelfContent) (desk : DeskState) (on : IsOnKey step) where
+module _ (step : KeyStep) (now : ℕ) (shelf : ShelfContent) (desk : DeskState) (on : IsOnKey step) where
   abbrev key : List ℕ
   key = key_of step
 
@@ -84,7 +85,7 @@ module _ (insert_counts : InsertCounts) (remove_counts : RemoveCounts) (step : K
     where
       by : (f st : Option Entry) → found ≡ f → stands ≡ st → is_some f && is_none st ≡ false → IsAt key shelf desk (record s { items = base st key s.items })
       by f (Some item) is stood none = at
-      by None None is stood none = at_none insert_counts remove_counts key shelf desk s at is
+      by None None is stood none = at_none key shelf desk s at is
       by (Some dead) None is stood none = absurd (true≢false none)
 
   pub takes_answer : (reply : Reply) → Answer reply ≡ next_of shelf step now → Takes step now shelf desk reply shelf desk
@@ -99,7 +100,7 @@ module _ (insert_counts : InsertCounts) (remove_counts : RemoveCounts) (step : K
       let after : Plain = record s { items = insert s.items key (record item { expiry = expiry }); next_unique = desk.next_unique } in (
         after,
         d.2 ∙ ap (λ (n : ℕ). Answered reply (record s { items = insert s.items key (record item { expiry = expiry }); next_unique = n })) at.next_unique,
-        at_put_again insert_counts remove_counts key shelf desk s at new own item (record item { expiry = expiry }) (puts item there) there refl desk.next_unique,
+        at_put_again key shelf desk s at new own item (record item { expiry = expiry }) (puts item there) there refl desk.next_unique,
       )
 
   dropped_at : (s : Plain) → IsAt key shelf desk s → (old : Entry) (own : ℕ) (new : ShelfContent) (desk' : DeskState) → found ≡ Some old
@@ -107,7 +108,7 @@ module _ (insert_counts : InsertCounts) (remove_counts : RemoveCounts) (step : K
   dropped_at s at old own new desk' there dropped back =
       let one : GivesChunks (item_need key old) desk desk' = subst (λ (o : Option Entry). GivesBack key o desk desk') there back in
       subst (λ (d : DeskState). IsAt key new d (record s { items = remove s.items key })) (sym one.given_is)
-      (at_dropped insert_counts remove_counts key shelf desk s at new own old dropped there one.is_slab one.is_need.is_class)
+      (at_dropped key shelf desk s at new own old dropped there one.is_slab one.is_need.is_class)
 
   pub takes_discard : (reply : Reply) (own : ℕ) (new : ShelfContent) (desk' : DeskState) → ((item : Entry) → found ≡ Some item → IsDropped key own shelf new)
       → GivesBack key found desk desk' → Discard reply ≡ next_of shelf step now → Takes step now shelf desk reply new desk'
@@ -179,7 +180,7 @@ stands_not_gone cut now f old e = ap (λ (o : Option Entry). is_some f && is_non
     and_off false = refl
 
 -- what the slab has out of a class, by what a step finds
-module _ (remove_counts : RemoveCounts) (step : KeyStep) (now : ℕ) (shelf : ShelfContent) (desk : DeskState) (is : IsSlab desk.slab) (s : Plain) (at : IsAt (key_of step) shelf desk s) where
+module _ (step : KeyStep) (now : ℕ) (shelf : ShelfContent) (desk : DeskState) (is : IsSlab desk.slab) (s : Plain) (at : IsAt (key_of step) shelf desk s) where
   pub count_base : (class : ℕ) → IsClass class
       → count_of (found_in shelf step now s).items class + dead_chunks shelf.cut now (key_of step) (get shelf.items (key_of step)) class ≡ out_of desk.slab class
   count_base class is_class = by (stood shelf step now) refl
@@ -194,7 +195,7 @@ module _ (remove_counts : RemoveCounts) (step : KeyStep) (now : ℕ) (shelf : Sh
           omega (arith, none, out)
       by None none =
           let dead = dead_none shelf.cut now key (get shelf.items key) class none in
-          let gone : count_of (remove s.items key) class + of_class key (get s.items key) class ≡ count_of s.items class = remove_counts s.items key class in
+          let gone = count-remove class s.items key in
           let same : of_class key (get s.items key) class ≡ of_class key (get shelf.items key) class = ap (λ (o : Option Entry). of_class key o class) at.item in
           let out = at.out class is_class in
           omega (arith, dead, gone, same, out)
@@ -206,7 +207,7 @@ module _ (remove_counts : RemoveCounts) (step : KeyStep) (now : ℕ) (shelf : Sh
       → (with_chunk (found_in shelf step now s) need).pages ≡ pages_after need.class need.count (slabs.unused desk.slab need.class + back_at shelf (key_of step) now need) desk.slab.pages
   pages_found need is_class = pages_are (found_in shelf step now s) desk.slab need (back_at shelf (key_of step) now need) is is_class at.pages (count_base need.class is_class)
 
-module _ (insert_counts : InsertCounts) (remove_counts : RemoveCounts) (step : KeyStep) (now : ℕ) (shelf : ShelfContent) (desk : DeskState) (on : IsOnKey step)
+module _ (step : KeyStep) (now : ℕ) (shelf : ShelfContent) (desk : DeskState) (on : IsOnKey step)
     (size : ℕ) (draft : Draft) (next : Write size draft ≡ next_of shelf step now) where
   abbrev its_key : List ℕ
   its_key = key_of step
@@ -224,7 +225,7 @@ module _ (insert_counts : InsertCounts) (remove_counts : RemoveCounts) (step : K
   drafted_is = drafts shelf step now size draft next
 
   pub wrote_is : (s : Plain) → IsAt its_key shelf desk s → plain s step now ≡ wrote_at shelf step now draft s
-  wrote_is s at = (does_at insert_counts remove_counts step now shelf desk on (Write size draft) next s at).0
+  wrote_is s at = (does_at step now shelf desk on (Write size draft) next s at).0
 
   fits_plain : (s : Plain) → IsAt its_key shelf desk s → charge its_key block ≤ s.greatest
   fits_plain s at = rw at.greatest (subst (λ (n : ℕ). n ≤ shelf.greatest) drafted_is.size_is drafted_is.fits)
@@ -300,12 +301,12 @@ module _ (insert_counts : InsertCounts) (remove_counts : RemoveCounts) (step : K
         → Takes step now shelf desk (write_reply draft.body) new (record { slab = slab; next_unique = desk.next_unique + 1 })
     takes_other keeps is_class is room more own new slab puts limit pages moved s at =
         let under = found_in shelf step now s in
-        let has : has_room under need ≡ true = room_found remove_counts step now shelf desk is s at need is_class ∙ room in
+        let has : has_room under need ≡ true = room_found step now shelf desk is s at need is_class ∙ room in
         let wrote =
-        at_wrote insert_counts remove_counts its_key shelf desk s at (write_reply draft.body) draft.flags draft.expiry block now its_stands
+        at_wrote its_key shelf desk s at (write_reply draft.body) draft.flags draft.expiry block now its_stands
         (subst (λ (n : ℕ). n ≤ shelf.greatest) drafted_is.size_is drafted_is.fits) more new own puts slab
         (subst (λ (n : NeedState). has_room under n ≡ true) need_charge has) limit
-        (subst (λ (n : NeedState). (with_chunk under n).pages ≡ slab.pages) need_charge (pages_found remove_counts step now shelf desk is s at need is_class ∙ sym pages))
+        (subst (λ (n : NeedState). (with_chunk under n).pages ≡ slab.pages) need_charge (pages_found step now shelf desk is s at need is_class ∙ sym pages))
         (subst (λ (n : NeedState). (other : ℕ) → IsClass other → out_of slab other + of_class its_key its_found other ≡ out_of desk.slab other + chunks_in n other) need_charge moved) in
         (wrote.0, wrote_is s at ∙ ap (λ (b : Bool). machine.wrote b (write_reply draft.body) its_key draft.flags draft.expiry block under now) keeps ∙ wrote.1, wrote.2)
 
@@ -350,7 +351,7 @@ module _ (insert_counts : InsertCounts) (remove_counts : RemoveCounts) (step : K
               wrote_is s at ∙ ap (λ (b : Bool). machine.wrote b (write_reply draft.body) its_key draft.flags draft.expiry block under now) keeps
                   ∙ wrote_kept (write_reply draft.body) its_key draft.flags draft.expiry block under now (fits_plain s at) (not_last s at more)
                   ∙ ap (λ (t : Plain). Answered (write_reply draft.body) t) eq,
-              at_put_again insert_counts remove_counts its_key shelf desk s at new own old put_item puts there (sym need_charge ∙ sym (reused_is e).2) (desk.next_unique + 1),
+              at_put_again its_key shelf desk s at new own old put_item puts there (sym need_charge ∙ sym (reused_is e).2) (desk.next_unique + 1),
             )
           where
             keeps_counted : (body : Body) (item : Entry) → counts body ≡ true → body ≡ draft.body → keeps_chunk body its_key (Some item) ≡ same_need (item_need its_key item) (block_need its_key block)
@@ -390,7 +391,7 @@ module _ (insert_counts : InsertCounts) (remove_counts : RemoveCounts) (step : K
         let moved : (other : ℕ) → IsClass other → out_of desk'.slab other + of_class its_key its_found other ≡ out_of desk.slab other + chunks_in need other = λ other is_other.
         let took : out_of (taken desk.slab need) other ≡ out_of desk.slab other + chunks_in need other = out-taken desk.slab need is_need.is_class is.out other is_other in
         let less : out_of desk'.slab other ≡ out_of (taken desk.slab need) other - of_class its_key its_found other = after.3 other is_other in
-        let least = out_found insert_counts remove_counts its_key shelf desk s at other is_other in
+        let least = out_found its_key shelf desk s at other is_other in
         omega (arith, took, less, least) in
         let took = takes_other (keeps_none e) is_need.is_class is (subst (λ (n : ℕ). slabs.has_room_with desk.slab need n ≡ true) (sym none) room) more own new desk'.slab puts after.1
         (after.2 ∙ ap (λ (n : ℕ). pages_after need.class need.count (slabs.unused desk.slab need.class + n) desk.slab.pages) (sym none)) moved s at in
@@ -405,12 +406,12 @@ module _ (insert_counts : InsertCounts) (remove_counts : RemoveCounts) (step : K
         let is_class = is_need.is_class in
         let of : (other : ℕ) → of_class its_key its_found other ≡ weight need.class back other =
         λ other. ap (λ (o : Option Entry). of_class its_key o other) there ∙ (λ i. weight (class i) (count i) other) in
-        let least : back ≤ out_of desk.slab need.class = let out = out_found insert_counts remove_counts its_key shelf desk s at need.class is_class in
+        let least : back ≤ out_of desk.slab need.class = let out = out_found its_key shelf desk s at need.class is_class in
         let here = weight_here need.class back in omega (arith, out, of need.class, here) in
         takes_other (keeps_none e) is_class is room more own new (way_given need back desk).slab puts refl (pages-way desk.slab need is_class is back least)
         (λ other is_other.
         let out = out-way desk.slab need is_class is back other is_other in
-        let had = out_found insert_counts remove_counts its_key shelf desk s at other is_other in
+        let had = out_found its_key shelf desk s at other is_other in
         omega (arith, out, had, of other)) s at
 
     -- the item that gives way, and the block that takes its place
@@ -466,17 +467,17 @@ module _ (insert_counts : InsertCounts) (remove_counts : RemoveCounts) (step : K
       found_in shelf step now s,
       wrote_is s at ∙ ap (λ (b : Bool). machine.wrote b (write_reply draft.body) its_key draft.flags draft.expiry block (found_in shelf step now s) now) (keeps_none e)
           ∙ wrote_full (write_reply draft.body) its_key draft.flags draft.expiry block (found_in shelf step now s) now (fits_plain s at) (not_last s at more)
-          (subst (λ (n : NeedState). has_room (found_in shelf step now s) n ≡ false) need_charge (room_found remove_counts step now shelf desk is s at need is_need.is_class ∙ room)),
+          (subst (λ (n : NeedState). has_room (found_in shelf step now s) n ≡ false) need_charge (room_found step now shelf desk is s at need is_need.is_class ∙ room)),
       elim (is_gone shelf.cut now its_found) as (λ b. is_gone shelf.cut now its_found ≡ b → IsAt its_key new desk' (found_in shelf step now s)) [
         | true ↦ λ gone.
             let there = dead_found shelf step now its_found its_stands gone in
             let both = dead gone in
             subst (λ (o : Option Entry). IsAt its_key new desk' (record s { items = base o its_key s.items })) (sym there.1)
-            (dropped_at insert_counts remove_counts step now shelf desk on s at there.0.0 own new desk' there.0.1 both.0 both.1)
+            (dropped_at step now shelf desk on s at there.0.0 own new desk' there.0.1 both.0 both.1)
         | false ↦ λ gone.
             let both = alive gone in
             subst (λ (d : DeskState). IsAt its_key new d (found_in shelf step now s)) (sym both.1)
-            (subst (λ (t : ShelfContent). IsAt its_key t desk (found_in shelf step now s)) (sym both.0) (at_under insert_counts remove_counts step now shelf desk on s at gone))
+            (subst (λ (t : ShelfContent). IsAt its_key t desk (found_in shelf step now s)) (sym both.0) (at_under step now shelf desk on s at gone))
       ] refl,
     )
 

@@ -9,7 +9,6 @@ ghost use Rattle.mc_shelf.specs.States.{nothing_held};
 
 use crate::entry::Entry;
 use crate::shelf::Shelf;
-use mc_command::counts_follow;
 use mc_slab::{Chunks, Class};
 use std::mem;
 
@@ -84,7 +83,6 @@ pub(crate) fn chunks_of(aside: &mut Vec<Shelf>, class: Class, from: &mut Seek) -
     ensures class { IfSome result (λ chunks. chunks.class ≡ class) }
     ensures none { result ≡ None → aside.new.items ≡ aside.old.items }
 {
-    counts_follow();
     let Seek { mut shelf, mut at } = *from;
     while shelf < aside.len() {
         if let Some(entry) = aside[shelf].take_of(class, &mut at) {
@@ -105,7 +103,6 @@ pub(crate) fn next_chunks(aside: &mut Vec<Shelf>, at: &mut usize) -> Option<Chun
     ensures none { result ≡ None → aside.new.items ≡ [] }
     ensures all { result ≡ None → (class : ℕ) → count_in aside.old.items class ≡ 0 }
 {
-    counts_follow();
     while let Some(mut shelf) = aside.pop() {
         if let Some(entry) = shelf.take_next(at) {
             aside.push_reserved(shelf);
@@ -122,7 +119,6 @@ pub(crate) fn join(shelves: Vec<Shelf>, others: &mut Vec<Shelf>) -> Vec<Shelf>
     ensures { (class : ℕ) → count_in result.items class
         ≡ count_in shelves.items class + count_in others.old.items class }
 {
-    counts_follow();
     let mut joined = shelves;
     while let Some(shelf) = others.pop() {
         if !shelf.holds_none() {

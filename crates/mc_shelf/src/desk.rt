@@ -26,7 +26,7 @@ ghost use Rattle.mc_shelf.specs.Parts.{ArePartsOf};
 
 use crate::collector::Collector;
 use crate::shelf::Shelf;
-use mc_command::{StepFault, counts_follow};
+use mc_command::StepFault;
 use mc_slab::{Account, Chunks, Class, Need, Pages};
 use std::alloc::{AllocError, Global};
 use std::marker::Model;
@@ -273,7 +273,6 @@ impl Desk {
         ensures none { self.new ≡ record self.old { slab = none_out self.old.slab } }
         ensures slab { IsSlab self.new.slab }
     {
-        counts_follow();
         self.slab.lay_aside(shelves);
     }
 }

@@ -8,7 +8,7 @@ ghost use Rattle.mc_command.specs.Words.{is_space};
 ghost use Rattle.mc_command.specs.Plain.{charge, item_need, number_of};
 ghost use Rattle.mc_shelf.specs.States.{charge_in, entry_in, entry_with, parts_of};
 
-use mc_command::{Standing, a_front_tells_the_number, number_of};
+use mc_command::{Standing, number_of};
 use mc_hop::Keyed;
 use mc_item::{Head, Item, Parts};
 use mc_slab::{Chunks, Need};
@@ -289,7 +289,6 @@ impl Standing for Entry {
     fn number(&self) -> Option<u64>
         ensures value { result ≡ number_of self.now.item.block }
     {
-        a_front_tells_the_number();
         let parts = self.parts();
         let front = number_of(self.part(0));
         if parts == 1 || self.ends_blank() {

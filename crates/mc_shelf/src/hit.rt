@@ -12,7 +12,7 @@ ghost use Rattle.mc_shelf.specs.Hits.{found_of, is_read, read_expiry};
 use crate::entry::Entry;
 use crate::index::Place;
 use crate::shelf::Shelf;
-use mc_command::{KeyStep, Standing, counts_follow};
+use mc_command::{KeyStep, Standing};
 use mc_time::{Expiry, Moment, expiry_of, is_dead};
 use std::marker::Model;
 
@@ -125,7 +125,6 @@ impl Shelf {
         ensures { IsSettled step.now now hash self.old.content
             (hit_of (stood self.old.content step.now now)) self.new.content }
     {
-        counts_follow();
         if place.is_some() {
             if let Some(expiry) = read_expiry(step, now) {
                 self.expire(place, hash, step.key(), expiry);

@@ -26,6 +26,7 @@ ghost use Rattle.mc_shelf.specs.Places.{
 
 use crate::counts::ShelfCounts;
 use crate::entry::Entry;
+use crate::plan::is_gone;
 use crate::soonest::Soonest;
 use crate::write::Write;
 use mc_command::Standing;
@@ -42,6 +43,9 @@ const LEAST_EXPONENT: u32 = 6;
 
 /// How many entries of an old table are moved before an entry comes to an index whose growth lags.
 const CATCH_UP: usize = 8;
+
+/// How many headers a sweep reads ahead: as many loads as a processor may have under way, or more.
+const AHEAD: usize = 16;
 
 /// Entries by their keys, each with its key's hash: a growing index of entries by hash and key, in which no key stands with two
 /// hashes.
@@ -262,6 +266,32 @@ impl Index {
         ensures fits { IfSome result (λ found. found.0 + 1 < 2 ^ 64) }
     {
         self.entries.filled_from(at)
+    }
+
+    /// Reads ahead on a sweep that has come to a number: the headers of the next entries, 16 at most
+    /// and up to one that isn't gone at a moment, with a flush at `cut`. Answers the number behind
+    /// them, or `ahead` if that is further than the number, since they were read before then.
+    ///
+    /// A header lies in no cache, and a removal between two would let each load wait for the one
+    /// before; one behind another they are under way together.
+    pub(crate) fn read_ahead(
+        &self,
+        ahead: usize,
+        number: usize,
+        cut: Option<u64>,
+        now: Moment,
+    ) -> usize {
+        if number < ahead {
+            return ahead;
+        }
+        let mut at = number;
+        for _ in 0..AHEAD {
+            match self.filled_from(at) {
+                Some((number, place)) if is_gone(self.get(place), cut, now) => at = number + 1,
+                _ => return at,
+            }
+        }
+        at
     }
 
     /// Finds an entry: the first whose number is at or above `at`, or the first of all if none is.

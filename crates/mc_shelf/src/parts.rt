@@ -34,7 +34,6 @@ ghost use Rattle.mc_shelf.specs.Parts.{
 
 use crate::desk::Desk;
 use crate::shelf::Shelf;
-use mc_command::{counts_follow, other_keys_stay, pages_stay};
 use mc_time::{Moment, cut_after};
 use std::alloc::{AllocError, Global};
 
@@ -54,10 +53,7 @@ pub fn steps_change_one_shelf()
         IsShelfOf hash_of shelves state at old →
         IsSettled step now (hash_of (key_of step)) old reply new →
         GoesWithoutDesk hash_of shelves at step now state reply new }
-{
-    other_keys_stay();
-    pages_stay();
-}
+{}
 
 /// States when a step that writes is refused at the desk. With the unique numbers spent, the plain
 /// machine is out of numbers too, in each state that stands for the shelf and the desk; and if
@@ -70,9 +66,7 @@ pub fn refusals_are_plain()
         IsOnKey step → IsSlab desk.slab → shelf.greatest ≤ 8388608 →
         NeedsPages (next_of shelf step now) shelf (key_of step) now desk →
         MayWantMemory step now shelf desk }
-{
-    counts_follow();
-}
+{}
 
 impl Shelf {
     /// Returns whether an item may be dead at a moment. If not, none is, and if the shelf is a part
@@ -101,7 +95,6 @@ impl Shelf {
             (purged (λ key. shelf_of hash_of shelves key == at) now state)
             self.new.content desk.new }
     {
-        counts_follow();
         self.purge(now, desk);
     }
 
@@ -134,7 +127,6 @@ pub fn flush_parts(shelves: &mut [Shelf], desk: &mut Desk, delay: u64, now: Mome
         ArePartsOf hash_of state shelves.old count desk.old →
         ArePartsOf hash_of (flushed delay state now) shelves.new count desk.new }
 {
-    counts_follow();
     for shelf in shelves.iter_mut() {
         shelf.flush(delay, now, desk);
     }

@@ -43,7 +43,7 @@ ghost use Rattle.mc_shelf.specs.Plans.{
   told_next,
   writes,
 };
-ghost use Rattle.mc_shelf.specs.Sweeps.{AreOut, GivesFor, IsPurged};
+ghost use Rattle.mc_shelf.specs.Sweeps.{AreOut, GivesFor};
 
 use crate::begun::Begun;
 use crate::counts::ShelfCounts;
@@ -53,7 +53,7 @@ use crate::index::{Index, Place};
 use crate::plan::{Next, Plan, is_gone, next_of};
 use crate::soonest::Soonest;
 use crate::write::{Write, dead_chunks, gives_way};
-use mc_command::{Bytes, KeyStep, Reply, StepFault, counts_follow};
+use mc_command::{Bytes, KeyStep, Reply, StepFault};
 use mc_slab::{Need, Pages, need_of};
 use mc_time::{Expiry, Moment};
 use std::alloc::{AllocError, Global};
@@ -175,7 +175,6 @@ impl Shelf {
         ensures moves { MovesFew 9 (counts_of self.old) (counts_of self.new) }
     {
         let plan = self.plan(alloc, step, hash, now)?;
-        counts_follow();
         self.make_room(alloc, &plan, desk)?;
         self.apply(alloc, plan, step, desk)
     }
@@ -216,7 +215,6 @@ impl Shelf {
             IsSettled step now plan.entry.hash self.old.content result self.new.content }
         ensures table { KeepsTable 0 (counts_of self.old) (counts_of self.new) }
     {
-        counts_follow();
         let Plan {
             key,
             hash,
@@ -335,7 +333,6 @@ impl Shelf {
         ensures err { OnErr result
             ((self.new.content ≡ self.old.content) × (desk.new ≡ desk.old)) }
     {
-        counts_follow();
         match plan.next {
             Next::Answer(_) => Ok(Begun::Done),
             Next::Expire(expiry, _) => {
@@ -359,34 +356,6 @@ impl Shelf {
         }
     }
 
-    /// Drops the items that are dead at a moment, and gives their chunks back. It takes no memory.
-    /// The cost is that of one pass over the items, and if none may be dead it walks none. No entry
-    /// is moved.
-    pub fn purge(&mut self, now: Moment, desk: &mut Desk)
-        requires { AreOut self.old.content desk.old }
-        ensures shelf { IsPurged now self.old.content self.new.content }
-        ensures desk { GivesFor self.old.content.items self.new.content.items desk.old desk.new }
-        ensures table { DropsAlone (counts_of self.old) (counts_of self.new) }
-    {
-        counts_follow();
-        if !self.index.may_have_dead(self.cut, now) {
-            return;
-        }
-        let mut soonest = Soonest::empty();
-        let mut at = 0;
-        while let Some((number, place)) = self.index.filled_from(at) {
-            if is_gone(self.index.get(place), self.cut, now) {
-                let entry = self.index.remove(place);
-                desk.give(entry.into_chunks());
-                at = number;
-            } else {
-                soonest = soonest.with_found(self.index.get(place));
-                at = number + 1;
-            }
-        }
-        self.index.keep_soonest(soonest);
-    }
-
     /// Drops all items, and gives their chunks back. It takes no memory. The cost is that of one
     /// pass over the items, and if there are none it walks nothing. No entry is moved.
     pub fn clear(&mut self, desk: &mut Desk)
@@ -396,7 +365,6 @@ impl Shelf {
         ensures desk { GivesFor self.old.content.items self.new.content.items desk.old desk.new }
         ensures table { DropsAlone (counts_of self.old) (counts_of self.new) }
     {
-        counts_follow();
         if self.index.is_empty() {
             return;
         }

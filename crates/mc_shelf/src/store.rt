@@ -24,7 +24,7 @@ use crate::desk::Desk;
 use crate::parts;
 use crate::settings::Settings;
 use crate::shelf::Shelf;
-use mc_command::{KeyStep, Reply, StepFault, Steps, counts_follow};
+use mc_command::{KeyStep, Reply, StepFault, Steps};
 use mc_hop::KeyHash;
 use mc_time::Moment;
 use std::alloc::{AllocError, Global};
@@ -98,7 +98,6 @@ impl<K: KeyHash + Drop> Store<K> {
         ensures hasher { IfOk result (λ store. store.hasher ≡ hasher) }
         ensures left { IfOk result (λ store. store.left ≡ replicate settings.shelves 0) }
     {
-        counts_follow();
         let shelves = parts::empty_shelves(alloc, settings.shelves, settings.greatest)?;
         let desk = Desk::starting(alloc, settings.pages, next)?;
         Ok(Store {
@@ -196,7 +195,6 @@ impl<K: KeyHash + Drop> Store<K> {
         ensures refused { result ≡ Err StepFault.NoMemory
             → MayFail (plain self.old.plain step.now now) }
     {
-        parts::steps_change_one_shelf();
         let hash = self.parts.hasher.hash(step.key());
         let at = hash % u64::from(self.parts.settings.shelves);
         let StoreParts { shelves, desk, .. } = &mut self.parts;

@@ -52,7 +52,7 @@ use crate::index::Place;
 use crate::plan::{Next, is_gone};
 use crate::shelf::Shelf;
 use itoa::Buffer;
-use mc_command::{Body, Draft, KeyStep, StepFault, counts_follow};
+use mc_command::{Body, Draft, KeyStep, StepFault};
 use mc_item::{Head, Parts};
 use mc_slab::{Chunks, Need, Pages};
 use mc_time::Moment;
@@ -353,7 +353,6 @@ impl Shelf {
         ensures err { OnErr result
             ((self.new.content ≡ self.old.content) × (desk.new ≡ desk.old)) }
     {
-        counts_follow();
         if desk.is_spent() {
             return Err(StepFault::NumbersSpent);
         }

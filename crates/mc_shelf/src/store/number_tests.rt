@@ -3,6 +3,7 @@
 ghost use Rattle.std.specs.Prelude.{◌≡◌, ◌≤◌, length};
 
 use super::*;
+use crate::purge::Purging;
 use mc_command::Verb;
 use mc_hop::Constant;
 use mc_testing::{Ask, Row, Want, asked, filled, first_unlike, set, step_of};
@@ -98,6 +99,45 @@ fn a_shelf_counts_its_items(rt: HostRuntime) -> Result<(), Fail> {
             has.1,
             row.0
         );
+    }
+    Ok(())
+}
+
+/// Begins a purge of a shelf, again if memory is refused, and counts the items that went and those
+/// that stay. None is counted if it found no memory twice.
+fn begun_at(alloc: Global, shelf: &mut Shelf, seconds: u64) -> Option<(usize, usize)> {
+    let now = Moment::from_seconds_at_most(seconds);
+    let purging = match shelf.begin_purge(alloc, now) {
+        Purging::Whole => shelf.begin_purge(alloc, now),
+        begun => begun,
+    };
+    match purging {
+        Purging::Apart(chunks) => Some((chunks.len(), shelf.len())),
+        Purging::Whole => None,
+    }
+}
+
+/// Dead items are off the shelf once its purge has begun, and their chunks are kept for the desk.
+#[test]
+fn a_purge_begins_at_the_shelf_alone(rt: HostRuntime) -> Result<(), Fail> {
+    let rows = [
+        set(1000, b"a", 10, b"x", "stored"),
+        set(1000, b"b", 0, b"x", "stored"),
+        set(1000, b"c", 5, b"x", "stored"),
+        set(1000, b"d", 20, b"x", "stored"),
+        set(1000, b"e", 10, b"x", "stored"),
+    ];
+    let alloc = rt.alloc();
+    let mut store = open(alloc, Constant(5056))?;
+    assert_eq!(rt; first_unlike(&mut store, alloc, &rows)?, None);
+    let mut shelves = store.into_parts().shelves;
+    // at which second, how many go, and how many stay
+    for (seconds, gone, stay) in [(1004, 0, 5), (1005, 1, 4), (1010, 2, 2), (1015, 0, 2), (1020, 1, 1)] {
+        let has = match shelves.first_mut() {
+            Some(shelf) => begun_at(alloc, shelf, seconds),
+            None => None,
+        };
+        assert_eq!(rt; has, Some((gone, stay)));
     }
     Ok(())
 }

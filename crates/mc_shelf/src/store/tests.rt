@@ -488,7 +488,6 @@ fn begin_and_finish<K: KeyHash + Drop>(
     requires on_key { IsOnKey step.now }
     requires key { length (key_of step.now) ≤ 250 }
 {
-    parts::steps_change_one_shelf();
     let hash = store.parts.hasher.hash(step.key());
     let at = hash % u64::from(store.parts.settings.shelves);
     let StoreParts { shelves, desk, .. } = &mut store.parts;

@@ -1,4 +1,5 @@
 use Rattle.std.proofs.Common.{List, sym, ◌∙◌, subst}
+use Rattle.mc_command.proofs.CountLemmas.{count-empty}
 use Rattle.mc_shelf.specs.States.{ShelfState}
 use Rattle.mc_shelf.specs.Parts.{ArePartsOf}
 use Rattle.mc_shared.proofs.EmptyLemmas.{emptied}
@@ -18,4 +19,4 @@ pub returns-clause-parts : goal.returns-clause-parts
 returns-clause-parts c hash_of state count now parts =
     let before = subst (λ (l : List ShelfState). ArePartsOf hash_of state l count c.args.desk.now) (sym c.as_mut_slice.ensures.value) parts in
     written_back c.args.held.now.items (c.args.held.now.ok.0 ∙ parts.number)
-    (emptied now c.counts_follow.ensures.empty before c.empty_boxes-aside.ensures.emptied c.lay_aside.ensures.none)
+    (emptied now count-empty before c.empty_boxes-aside.ensures.emptied c.lay_aside.ensures.none)

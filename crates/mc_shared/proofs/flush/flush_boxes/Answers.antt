@@ -10,13 +10,13 @@ pub flush-requires : goal.flush-requires
 flush-requires c =
     let loop = c.loop-shelf in
     let here = slice_get-get_or loop.shelves loop.shelf-index c.shelf-item.result (omega (arith, c.loop-shelf-test.true, loop.auto.shelves)) in
-    out_before c.requires.0 c.requires.2 c.args.delay c.args.now c.requires.1 c.counts_follow.ensures.parted (loop.invariant c.requires.0 c.requires.1 c.requires.2 c.requires.3) here
+    out_before c.requires.0 c.requires.2 c.args.delay c.args.now c.requires.1 (loop.invariant c.requires.0 c.requires.1 c.requires.2 c.requires.3) here
 
 pub loop-shelf-preserved : goal.loop-shelf-preserved
 loop-shelf-preserved c hash_of state count parts =
     let loop = c.loop-shelf in
     let here = slice_get-get_or loop.shelves loop.shelf-index c.shelf-item.result (omega (arith, c.loop-shelf-test.true, loop.auto.shelves)) in
-    flushed_more hash_of count c.args.delay c.args.now state c.counts_follow.ensures.parted (loop.invariant hash_of state count parts) here c.flush.new.self c.flush.ensures.shelf c.flush.ensures.desk
+    flushed_more hash_of count c.args.delay c.args.now state (loop.invariant hash_of state count parts) here c.flush.new.self c.flush.ensures.shelf c.flush.ensures.desk
 
 pub returns : goal.returns
 returns c hash_of state count parts = flushed_all hash_of count c.args.delay c.args.now state (omega (arith, c.loop-shelf-test.false, parts.number)) (c.loop-shelf.invariant hash_of state count parts)

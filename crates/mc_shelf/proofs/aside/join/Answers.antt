@@ -22,7 +22,7 @@ loop-shelf-preserved c =
     record {
       room = omega (arith, loop.invariant.room, cases);
       count = λ class.
-          let same = none_last c.counts_follow.ensures.empty loop.others.items c.pop.new.self.items c.in-Some.shelf c.in-Some.ensures.items
+          let same = none_last loop.others.items c.pop.new.self.items c.in-Some.shelf c.in-Some.ensures.items
           (c.holds_none.ensures c.if-not-holds_none.false) class in
           omega (arith, same, loop.invariant.count class);
     }

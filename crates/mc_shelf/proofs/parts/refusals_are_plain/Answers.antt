@@ -8,9 +8,9 @@ use Rattle.mc_shelf.proofs.parts.refusals_are_plain.Goals as goal
 pub returns-clause-spent : goal.returns-clause-spent
 returns-clause-spent c step now shelf desk on does none =
     let some = writes_some (next_of shelf step now) does in
-    is_spent c.counts_follow.ensures.insert c.counts_follow.ensures.remove step now shelf desk on some.0 some.1 (sym some.2) none
+    is_spent step now shelf desk on some.0 some.1 (sym some.2) none
 
 pub returns-clause-pages : goal.returns-clause-pages
 returns-clause-pages c step now shelf desk on slab most needs =
-    can_wants c.counts_follow.ensures.insert c.counts_follow.ensures.remove step now shelf desk on slab (next_of shelf step now) refl
+    can_wants step now shelf desk on slab (next_of shelf step now) refl
     (needs_can (next_of shelf step now) shelf (key_of step) now desk needs)

@@ -6,6 +6,7 @@ use Rattle.mc_shelf.specs.States.{ShelfState, ShelfContent, DeskState}
 use Rattle.mc_shelf.specs.Parts.{IsShelfOf, IsDeskOf}
 use Rattle.mc_shelf.specs.Numbers.{number_of}
 use Rattle.mc_shelf.specs.Plans.{IsTaken, finished, told_next}
+use Rattle.mc_shelf.proofs.PartLemmas.{goes_by_step}
 use Rattle.mc_shared.specs.Bays.{OfShelf, OfDesk}
 use Rattle.mc_shared.specs.History.{start_of, Stepped}
 use Rattle.mc_shared.specs.Past.{Past, call}
@@ -72,7 +73,7 @@ decide-requires g c =
     let taken : IsTaken step ask.moment (began.hash_of key) old from reply new to =
     subst (λ (h : ℕ). IsTaken step ask.moment h old from reply new to) asked.hashed c.in-Ok.ensures.took in
     let by_step = λ (m : Plain) (part : IsShelfOf began.hash_of began.shelves m at old) (desk : IsDeskOf m from).
-    c.steps_change_one_shelf.ensures.taken began.hash_of began.shelves at m step ask.moment reply old new from to asked.on_key own part desk taken in
+    goes_by_step step own part desk asked.on_key taken in
     let added : ℕ = c.raise_for-word.result.1 in
     let word : ℕ = c.raise_for-word.result.0 in
     let shelves : began.shelves ≡ c.shared.inside.settings.shelves = ap (λ s. s.shelves) inv.1 in

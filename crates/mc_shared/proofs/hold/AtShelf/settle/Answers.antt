@@ -4,6 +4,7 @@ use Rattle.mc_shelf.specs.States.{ShelfState}
 use Rattle.mc_shelf.specs.Plans.{IsPlan, IsSettled}
 use Rattle.mc_command.specs.Plain.{Plain}
 use Rattle.mc_shelf.specs.Parts.{IsShelfOf}
+use Rattle.mc_shelf.proofs.PartLemmas.{goes_without_desk}
 use Rattle.mc_shared.specs.Bays.{OfShelf}
 use Rattle.mc_shared.specs.Steps.{decided_by}
 use Rattle.mc_shared.specs.Store.{holds_one}
@@ -39,7 +40,7 @@ decide-requires g c =
     let alone =
     λ (m : Plain)
     (part : IsShelfOf began.hash_of began.shelves m at old).
-    c.steps_change_one_shelf.ensures.settled began.hash_of began.shelves at m step ask.moment reply old new asked.on_key own part settled in
+    goes_without_desk step asked.on_key own part settled in
     record {
       may = subst (λ (s : ShelfState). MayDecide board.table_id board.key.value c.self.inside.seat at began (OfShelf s.content) what [] []) (sym c.of.ensures)
           (at_shelf hash_of board.table_id board.key.value c.self.inside.shared.now c.self.inside.seat at old (OfShelf new) what [] []

@@ -4,6 +4,7 @@ use Rattle.mc_command.specs.Plain.{Plain, hit_of}
 use Rattle.mc_shelf.specs.States.{ShelfState}
 use Rattle.mc_shelf.specs.Parts.{IsShelfOf}
 use Rattle.mc_shelf.specs.Plans.{IsSettled, stood}
+use Rattle.mc_shelf.proofs.PartLemmas.{goes_without_desk}
 use Rattle.mc_shared.specs.Bays.{OfShelf}
 use Rattle.mc_shared.specs.History.{start_of, Stepped}
 use Rattle.mc_shared.specs.Seats.{MayDecide}
@@ -38,7 +39,7 @@ decide-requires g c =
     let alone =
     λ (m : Plain)
     (part : IsShelfOf began.hash_of began.shelves m at old).
-    c.steps_change_one_shelf.ensures.settled began.hash_of began.shelves at m step ask.moment reply old new asked.on_key asked.own part settled in
+    goes_without_desk step asked.on_key asked.own part settled in
     let told = c.deref_mut.ensures.value ∙ sym (c.of-before.ensures ∙ c.deref.ensures) in
     record {
       may = subst

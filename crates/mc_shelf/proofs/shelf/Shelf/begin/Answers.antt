@@ -21,12 +21,12 @@ taken_as plan next one is step old desk new desk' = subst (λ (n : Next). IsTake
 pub discard-requires-clause-out : goal.discard-requires-clause-out
 discard-requires-clause-out c =
     subst (λ (k : List ℕ). IsOut k c.args.self.now.content c.args.desk.now) (sym c.key-in-Discard.ensures)
-    (is_out c.counts_follow.ensures.insert c.counts_follow.ensures.remove (key_of c.args.step.now) c.args.self.now.content c.args.desk.now c.requires.stands)
+    (is_out (key_of c.args.step.now) c.args.self.now.content c.args.desk.now c.requires.stands)
 
 pub returns-in-Answer-clause-took : goal.returns-in-Answer-clause-took
 returns-in-Answer-clause-took c =
     taken_as c.args.plan.now c.args.plan.now.next _ c.in-Answer.is c.args.step.now c.args.self.now.content c.args.desk.now c.args.self.now.content c.args.desk.now (record {
-      takes = takes_answer c.counts_follow.ensures.insert c.counts_follow.ensures.remove c.args.step.now c.args.plan.now.moment c.args.self.now.content c.args.desk.now c.requires.plan.on_key
+      takes = takes_answer c.args.step.now c.args.plan.now.moment c.args.self.now.content c.args.desk.now c.requires.plan.on_key
           c.in-Answer.field-0 (sym c.in-Answer.is ∙ c.requires.plan.next);
       others = others_same (key_of c.args.step.now) c.args.self.now.content;
       hash = c.requires.plan.known.hash;
@@ -44,7 +44,7 @@ returns-in-Expire-clause-took c =
     let there = expired_is old step c.args.plan.now.moment c.in-Expire.expiry c.in-Expire.field-1 next in
     let put = puts there.0 there.1 in
     taken_as c.args.plan.now c.args.plan.now.next _ c.in-Expire.is step old c.args.desk.now new c.args.desk.now (record {
-      takes = takes_expire c.counts_follow.ensures.insert c.counts_follow.ensures.remove step c.args.plan.now.moment old c.args.desk.now c.requires.plan.on_key c.in-Expire.expiry
+      takes = takes_expire step c.args.plan.now.moment old c.args.desk.now c.requires.plan.on_key c.in-Expire.expiry
           c.in-Expire.field-1 c.args.plan.now.hash new puts next;
       others = put.others;
       hash = put.hash;
@@ -62,7 +62,7 @@ returns-in-Discard-clause-took c =
     let there = discarded_is old step c.args.plan.now.moment c.in-Discard.field-0 next in
     let dropped = drops there.0 there.1 in
     taken_as c.args.plan.now c.args.plan.now.next _ c.in-Discard.is step old c.args.desk.now new c.discard.new.desk (record {
-      takes = takes_discard c.counts_follow.ensures.insert c.counts_follow.ensures.remove step c.args.plan.now.moment old c.args.desk.now c.requires.plan.on_key c.in-Discard.field-0
+      takes = takes_discard step c.args.plan.now.moment old c.args.desk.now c.requires.plan.on_key c.in-Discard.field-0
           c.args.plan.now.hash new c.discard.new.desk drops
           (subst (λ (k : List ℕ). GivesBack k (get old.items k) c.args.desk.now c.discard.new.desk) key c.discard.ensures.given) next;
       others = dropped.others;

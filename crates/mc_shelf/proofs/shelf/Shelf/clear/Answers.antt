@@ -27,7 +27,7 @@ give-requires c =
     let inside = c.loop-number.self-inside in
     let first = c.in-Some.ensures.next in
     let are = out_after c.args.self.now.content.items (items_of inside.index) c.args.desk.now c.loop-number.desk c.loop-number.invariant.gives c.requires in
-    entry_out c.counts_follow.ensures.remove inside.greatest inside.cut inside.index c.remove-entry.new.self c.remove-entry.result c.remove-entry.ensures.item c.remove-entry.ensures.removed
+    entry_out inside.greatest inside.cut inside.index c.remove-entry.new.self c.remove-entry.result c.remove-entry.ensures.item c.remove-entry.ensures.removed
     c.loop-number.desk c.loop-number.desk c.into_chunks.result c.into_chunks.ensures.need c.into_chunks.ensures.is_need are
 
 pub loop-number-smaller : goal.loop-number-smaller
@@ -46,7 +46,7 @@ loop-number-preserved c =
       greatest = held.greatest;
       cut = held.cut;
       gives = gives_both c.args.self.now.content.items (items_of inside.index) (items_of c.remove-entry.new.self) c.args.desk.now c.loop-number.desk c.give.new.self held.gives
-          (entry_gives c.counts_follow.ensures.remove inside.greatest inside.cut inside.index c.remove-entry.new.self c.remove-entry.result c.remove-entry.ensures.item c.remove-entry.ensures.removed
+          (entry_gives inside.greatest inside.cut inside.index c.remove-entry.new.self c.remove-entry.result c.remove-entry.ensures.item c.remove-entry.ensures.removed
           c.loop-number.desk c.give.new.self c.into_chunks.result c.into_chunks.ensures.need c.into_chunks.ensures.is_need are c.give.ensures.given c.give.ensures.slab);
       table = drops_one (counts_of c.args.self.now) (counts_in inside.index) (counts_in c.remove-entry.new.self) held.table c.remove-entry.ensures.table
           (one_less (items_of inside.index) (items_of c.remove-entry.new.self) c.remove-entry.result.key c.remove-entry.result.item c.remove-entry.ensures.item c.remove-entry.ensures.removed.items);

@@ -4,7 +4,7 @@ use Rattle.mc_shelf.specs.States.{EntryState, ShelfContent, ShelfState}
 use Rattle.mc_shelf.specs.Places.{items_of}
 use Rattle.mc_shelf.specs.Sweeps.{GivesFor, IsPurged}
 use Rattle.mc_shelf.proofs.ShelfLemmas.{content_of}
-use Rattle.mc_shelf.proofs.SweepLemmas.{Stays, Swept, all_stay, below_next, below_sooner, below_removed, entry_out, fewer_removed}
+use Rattle.mc_shelf.proofs.SweepLemmas.{Stays, Swept, all_stay, below_next, below_sooner, below_removed, entry_gives, entry_out, fewer_removed, gives_both, gives_none}
 use Rattle.mc_shelf.proofs.SweepLemmas.{gone_here, out_after, purged, stays_here, swept_both, swept_none, swept_one}
 use Rattle.mc_shelf.specs.Counts.{DropsAlone, counts_in, counts_of}
 use Rattle.mc_shelf.proofs.CountLemmas.{drops_none, drops_one}
@@ -14,8 +14,10 @@ use Rattle.mc_shelf.proofs.shelf.Shelf.purge.Goals as goal
 pub loop-number-init : goal.loop-number-init
 loop-number-init c = record {
   most = c.self.invariant;
-  swept = subst (λ (s : ShelfContent). Swept c.args.now s (content_of c.self.inside.greatest c.self.inside.cut c.self.inside.index) c.args.desk.now c.args.desk.now)
-      (ap (λ (s : ShelfState). s.content) c.self.view_is) (swept_none c.args.now (content_of c.self.inside.greatest c.self.inside.cut c.self.inside.index) c.args.desk.now);
+  swept = subst (λ (s : ShelfContent). Swept c.args.now s (content_of c.self.inside.greatest c.self.inside.cut c.self.inside.index))
+      (ap (λ (s : ShelfState). s.content) c.self.view_is) (swept_none c.args.now (content_of c.self.inside.greatest c.self.inside.cut c.self.inside.index));
+  gives = subst (λ (s : ShelfState). GivesFor s.content.items (items_of c.self.inside.index) c.args.desk.now c.args.desk.now) c.self.view_is
+      (gives_none (items_of c.self.inside.index) c.args.desk.now);
   table = subst (λ (s : ShelfState). DropsAlone (counts_of s) (counts_in c.self.inside.index)) c.self.view_is (drops_none (counts_in c.self.inside.index));
   below = λ k e lt there. absurd (omega arith);
 }
@@ -23,9 +25,8 @@ loop-number-init c = record {
 pub give-requires : goal.give-requires
 give-requires c =
     let inside = c.loop-number.self-inside in
-    let first = c.in-Some.ensures.next in
-    let are = out_after c.args.self.now.content.items (content_of inside.greatest inside.cut inside.index).items c.args.desk.now c.loop-number.desk c.loop-number.invariant.swept.gives c.requires in
-    entry_out c.counts_follow.ensures.remove inside.greatest inside.cut inside.index c.remove-entry.new.self c.remove-entry.result c.remove-entry.ensures.item c.remove-entry.ensures.removed
+    let are = out_after c.args.self.now.content.items (items_of inside.index) c.args.desk.now c.loop-number.desk c.loop-number.invariant.gives c.requires in
+    entry_out inside.greatest inside.cut inside.index c.remove-entry.new.self c.remove-entry.result c.remove-entry.ensures.item c.remove-entry.ensures.removed
     c.loop-number.desk c.loop-number.desk c.into_chunks.result c.into_chunks.ensures.need c.into_chunks.ensures.is_need are
 
 pub loop-number-smaller-then-is_gone : goal.loop-number-smaller-then-is_gone
@@ -39,16 +40,17 @@ loop-number-preserved-then-is_gone c =
     let inside = c.loop-number.self-inside in
     let held = c.loop-number.invariant in
     let first = c.in-Some.ensures.next in
-    let are = out_after c.args.self.now.content.items (content_of inside.greatest inside.cut inside.index).items c.args.desk.now c.loop-number.desk held.swept.gives c.requires in
     let gone = gone_here inside.cut c.args.now inside.index c.in-Some.place c.get.result c.get.ensures (sym c.is_gone.ensures ∙ c.if-is_gone.true) c.remove-entry.result c.remove-entry.ensures.there in
+    let less = one_less (items_of inside.index) (items_of c.remove-entry.new.self) c.remove-entry.result.key c.remove-entry.result.item c.remove-entry.ensures.item c.remove-entry.ensures.removed.items in
+    let are = out_after c.args.self.now.content.items (items_of inside.index) c.args.desk.now c.loop-number.desk held.gives c.requires in
     record {
       most = held.most;
-      swept = swept_both c.args.now c.args.self.now.content (content_of inside.greatest inside.cut inside.index) (content_of inside.greatest inside.cut c.remove-entry.new.self) c.args.desk.now
-          c.loop-number.desk c.give.new.self held.swept
-          (swept_one c.counts_follow.ensures.remove inside.greatest inside.cut inside.index c.remove-entry.new.self c.remove-entry.result c.remove-entry.ensures.item c.remove-entry.ensures.removed
-          c.loop-number.desk c.give.new.self c.into_chunks.result c.into_chunks.ensures.need c.into_chunks.ensures.is_need are c.args.now gone c.give.ensures.given c.give.ensures.slab);
-      table = drops_one (counts_of c.args.self.now) (counts_in inside.index) (counts_in c.remove-entry.new.self) held.table c.remove-entry.ensures.table
-          (one_less (items_of inside.index) (items_of c.remove-entry.new.self) c.remove-entry.result.key c.remove-entry.result.item c.remove-entry.ensures.item c.remove-entry.ensures.removed.items);
+      swept = swept_both c.args.now c.args.self.now.content (content_of inside.greatest inside.cut inside.index) (content_of inside.greatest inside.cut c.remove-entry.new.self) held.swept
+          (swept_one c.args.now inside.greatest inside.cut inside.index c.remove-entry.new.self c.remove-entry.result c.remove-entry.ensures.item c.remove-entry.ensures.removed gone);
+      gives = gives_both c.args.self.now.content.items (items_of inside.index) (items_of c.remove-entry.new.self) c.args.desk.now c.loop-number.desk c.give.new.self held.gives
+          (entry_gives inside.greatest inside.cut inside.index c.remove-entry.new.self c.remove-entry.result c.remove-entry.ensures.item c.remove-entry.ensures.removed
+          c.loop-number.desk c.give.new.self c.into_chunks.result c.into_chunks.ensures.need c.into_chunks.ensures.is_need are c.give.ensures.given c.give.ensures.slab);
+      table = drops_one (counts_of c.args.self.now) (counts_in inside.index) (counts_in c.remove-entry.new.self) held.table c.remove-entry.ensures.table less;
       below = below_removed (Stays inside.cut c.args.now c.loop-number.soonest) inside.index c.loop-number.at c.in-Some.number c.in-Some.place first held.below c.remove-entry.new.self
           c.remove-entry.ensures.lower;
     }
@@ -64,6 +66,7 @@ loop-number-preserved c =
     record {
       most = held.most;
       swept = held.swept;
+      gives = held.gives;
       table = held.table;
       below = below_next (Stays inside.cut c.args.now soonest) inside.index c.loop-number.at c.in-Some.number c.in-Some.place c.in-Some.ensures.next
           (below_sooner inside.cut c.args.now inside.index c.loop-number.at c.loop-number.soonest soonest c.with_found-soonest.ensures.others held.below)
@@ -85,25 +88,27 @@ returns-clause-shelf c =
     let inside = c.loop-number.self-inside in
     let stay = all_stay inside.cut c.args.now c.loop-number.soonest inside.index c.in_default.ensures.keyed c.loop-number.at c.loop-number.invariant.below c.in_default.ensures.next in
     subst (λ (i : IndexState EntryState). IsPurged c.args.now c.args.self.now.content (content_of inside.greatest inside.cut i)) (sym c.keep_soonest.ensures)
-    (purged c.args.now c.args.self.now.content inside.greatest inside.cut inside.index c.in_default.ensures.keyed c.args.desk.now c.loop-number.desk c.loop-number.invariant.swept stay.0)
+    (purged c.args.now c.args.self.now.content inside.greatest inside.cut inside.index c.in_default.ensures.keyed c.loop-number.invariant.swept stay.0)
 
 pub returns-clause-desk : goal.returns-clause-desk
 returns-clause-desk c =
-    subst (λ (i : IndexState EntryState). GivesFor c.args.self.now.content.items (items_of i) c.args.desk.now c.loop-number.desk) (sym c.keep_soonest.ensures) c.loop-number.invariant.swept.gives
+    subst (λ (i : IndexState EntryState). GivesFor c.args.self.now.content.items (items_of i) c.args.desk.now c.loop-number.desk) (sym c.keep_soonest.ensures) c.loop-number.invariant.gives
 
 -- where none may be dead
 pub returns-then-not-may_have_dead-clause-shelf : goal.returns-then-not-may_have_dead-clause-shelf
 returns-then-not-may_have_dead-clause-shelf c =
     let inside = c.self.inside in
-    let desk = c.args.desk.now in
     let shelf = content_of inside.greatest inside.cut inside.index in
     subst (λ (s : ShelfState). IsPurged c.args.now s.content s.content) c.self.view_is
-    (purged c.args.now shelf inside.greatest inside.cut inside.index c.may_have_dead.ensures.keyed desk desk (swept_none c.args.now shelf desk)
+    (purged c.args.now shelf inside.greatest inside.cut inside.index c.may_have_dead.ensures.keyed (swept_none c.args.now shelf)
     (c.may_have_dead.ensures.none c.if-not-may_have_dead.true))
+
+pub returns-then-not-may_have_dead-clause-desk : goal.returns-then-not-may_have_dead-clause-desk
+returns-then-not-may_have_dead-clause-desk c = gives_none c.args.self.now.content.items c.args.desk.now
+
+pub returns-then-not-may_have_dead-clause-table : goal.returns-then-not-may_have_dead-clause-table
+returns-then-not-may_have_dead-clause-table c = drops_none (counts_of c.args.self.now)
 
 pub returns-clause-table : goal.returns-clause-table
 returns-clause-table c =
     subst (λ (i : IndexState EntryState). DropsAlone (counts_of c.args.self.now) (counts_in i)) (sym c.keep_soonest.ensures) c.loop-number.invariant.table
-
-pub returns-then-not-may_have_dead-clause-table : goal.returns-then-not-may_have_dead-clause-table
-returns-then-not-may_have_dead-clause-table c = drops_none (counts_of c.args.self.now)

@@ -8,7 +8,7 @@ use Rattle.mc_shelf.proofs.shelf.Shelf.settle.Goals as goal
 
 pub returns-in-Answer-clause-told : goal.returns-in-Answer-clause-told
 returns-in-Answer-clause-told c step now plan = record {
-  takes = λ desk. takes_answer c.counts_follow.ensures.insert c.counts_follow.ensures.remove step now c.args.self.now.content desk plan.on_key c.in-Answer.reply (sym c.in-Answer.is ∙ plan.next);
+  takes = λ desk. takes_answer step now c.args.self.now.content desk plan.on_key c.in-Answer.reply (sym c.in-Answer.is ∙ plan.next);
   stands = refl;
   others = others_same (key_of step) c.args.self.now.content;
   hash = plan.known.hash;
@@ -25,7 +25,7 @@ returns-in-Expire-clause-told c step now plan =
     let there = expired_is old step now c.in-Expire.expiry c.in-Expire.reply next in
     let put = puts there.0 there.1 in
     record {
-      takes = λ desk. takes_expire c.counts_follow.ensures.insert c.counts_follow.ensures.remove step now old desk plan.on_key c.in-Expire.expiry c.in-Expire.reply c.args.plan.hash new puts next;
+      takes = λ desk. takes_expire step now old desk plan.on_key c.in-Expire.expiry c.in-Expire.reply c.args.plan.hash new puts next;
       stands = ap is_some put.item ∙ sym (ap is_some there.1);
       others = put.others;
       hash = put.hash;

@@ -13,7 +13,7 @@ returns-in-Some c =
     let step = c.args.step.now in
     let key = c.key.ensures in
     let found : is_some c.args.place ≡ true = search rules in
-    settled_expiring c.counts_follow.ensures.insert c.counts_follow.ensures.remove step c.args.now c.args.hash old c.args.place c.requires.read c.requires.known c.requires.alive
+    settled_expiring step c.args.now c.args.hash old c.args.place c.requires.read c.requires.known c.requires.alive
     c.in-Some.expiry new (sym c.read_expiry.ensures ∙ c.in-Some.is) found
     (λ (item : Entry) (there : get old.items (key_of step) ≡ Some item). subst (λ (k : List ℕ). IsPut k c.args.hash old new (record item { expiry = c.in-Some.expiry })) key
     (c.expire.ensures.put item (ap (λ (k : List ℕ). get old.items k) key ∙ there)))
@@ -21,11 +21,11 @@ returns-in-Some c =
 pub returns-in_default : goal.returns-in_default
 returns-in_default c =
     let none : c.read_expiry.result ≡ None = search rules in
-    settled_plain c.counts_follow.ensures.insert c.counts_follow.ensures.remove c.args.step.now c.args.now c.args.hash c.args.self.now.content c.args.place c.requires.read c.requires.known
+    settled_plain c.args.step.now c.args.now c.args.hash c.args.self.now.content c.args.place c.requires.read c.requires.known
     c.requires.alive (sym c.read_expiry.ensures ∙ none)
 
 pub returns-else-is_some : goal.returns-else-is_some
 returns-else-is_some c =
     let none : is_some c.args.place ≡ false = search rules in
-    settled_miss c.counts_follow.ensures.insert c.counts_follow.ensures.remove c.args.step.now c.args.now c.args.hash c.args.self.now.content c.args.place c.requires.read c.requires.known
+    settled_miss c.args.step.now c.args.now c.args.hash c.args.self.now.content c.args.place c.requires.read c.requires.known
     c.requires.alive none

@@ -17,7 +17,7 @@ apart r a b = cc
 pub returns-in_err-make_room-clause-refused : goal.returns-in_err-make_room-clause-refused
 returns-in_err-make_room-clause-refused c e s at =
     let plan = c.in_ok-plan.ensures.plan in
-    can_wants c.counts_follow.ensures.insert c.counts_follow.ensures.remove c.args.step.now c.args.now c.args.self.now.content c.args.desk.now c.requires.look.on_key c.make_room.ensures.slab
+    can_wants c.args.step.now c.args.now c.args.self.now.content c.args.desk.now c.requires.look.on_key c.make_room.ensures.slab
     c.in_ok-plan.plan.next plan.next
     (subst (λ (k : List ℕ). CanWrite c.in_ok-plan.plan.next c.args.self.now.content k c.args.now c.args.desk.now) plan.key
     (subst (λ (n : ℕ). CanWrite c.in_ok-plan.plan.next c.args.self.now.content c.in_ok-plan.plan.key n c.args.desk.now) plan.moment c.in_err-make_room.ensures.refused)) s at
@@ -32,7 +32,7 @@ returns-in_err-make_room-clause-spent c =
 pub returns-clause-refused : goal.returns-clause-refused
 returns-clause-refused c e s at =
     let plan = c.in_ok-plan.ensures.plan in
-    can_wants c.counts_follow.ensures.insert c.counts_follow.ensures.remove c.args.step.now c.args.now c.args.self.now.content c.args.desk.now c.requires.look.on_key c.make_room.ensures.slab
+    can_wants c.args.step.now c.args.now c.args.self.now.content c.args.desk.now c.requires.look.on_key c.make_room.ensures.slab
     c.in_ok-plan.plan.next plan.next
     (needs_can c.in_ok-plan.plan.next c.args.self.now.content (key_of c.args.step.now) c.args.now c.args.desk.now
     (subst (λ (t : ShelfContent). NeedsPages c.in_ok-plan.plan.next t (key_of c.args.step.now) c.args.now c.args.desk.now) c.make_room.ensures.content
@@ -47,7 +47,7 @@ returns-clause-spent c =
       (λ e.
           let both = c.apply.ensures.spent.0 e in
           let some = writes_some c.in_ok-plan.plan.next both.0 in
-          is_spent c.counts_follow.ensures.insert c.counts_follow.ensures.remove step c.args.now old desk c.requires.look.on_key some.0 some.1 (sym some.2 ∙ plan.next) both.1),
+          is_spent step c.args.now old desk c.requires.look.on_key some.0 some.1 (sym some.2 ∙ plan.next) both.1),
       (λ spent. spent_told c.apply.result _ c.apply.ensures.took
           (λ reply took. taken_not_spent step c.in_ok-plan.plan.moment c.in_ok-plan.plan.hash old desk reply c.apply.new.self.content c.apply.new.desk c.requires.stands
           (subst (λ (t : ShelfContent). IsTaken step c.in_ok-plan.plan.moment c.in_ok-plan.plan.hash t desk reply c.apply.new.self.content c.apply.new.desk) c.make_room.ensures.content took)

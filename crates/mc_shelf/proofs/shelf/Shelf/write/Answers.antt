@@ -25,12 +25,12 @@ rewrite-requires-clause-there c =
     let write = c.args.write.now in
     let reused = subst (λ (k : List ℕ). reuses shelf.cut write.moment k (get shelf.items k) c.need_for-need.result write.draft.body ≡ true) c.key.ensures
     (sym c.fit-same.ensures.reused ∙ c.if-reused.true) in
-    let there = reused_is c.counts_follow.ensures.insert c.counts_follow.ensures.remove c.args.step.now write.moment shelf c.args.desk.now c.requires.write.on_key write.charge write.draft
+    let there = reused_is c.args.step.now write.moment shelf c.args.desk.now c.requires.write.on_key write.charge write.draft
     (sym c.requires.write.next) c.need_for-need.result c.need_for-need.ensures.value reused in
     record {
       item = there.0;
       there = there.1;
-      need = need_beside c.counts_follow.ensures.insert c.counts_follow.ensures.remove c.args.step.now write.moment shelf c.args.desk.now c.requires.write.on_key write.charge write.draft
+      need = need_beside c.args.step.now write.moment shelf c.args.desk.now c.requires.write.on_key write.charge write.draft
           (sym c.requires.write.next)
           c.need_for-need.result c.need_for-need.ensures.value there.0 there.2;
     }
@@ -41,7 +41,7 @@ rewrite-requires-clause-own c =
     let write = c.args.write.now in
     let reused = subst (λ (k : List ℕ). reuses shelf.cut write.moment k (get shelf.items k) c.need_for-need.result write.draft.body ≡ true) c.key.ensures
     (sym c.fit-same.ensures.reused ∙ c.if-reused.true) in
-    own_is c.counts_follow.ensures.insert c.counts_follow.ensures.remove c.args.step.now write.moment shelf c.args.desk.now c.requires.write.on_key write.charge write.draft
+    own_is c.args.step.now write.moment shelf c.args.desk.now c.requires.write.on_key write.charge write.draft
     (sym c.requires.write.next) c.need_for-need.result c.need_for-need.ensures.value reused
 
 pub returns-then-reused-clause-took : goal.returns-then-reused-clause-took
@@ -55,14 +55,14 @@ returns-then-reused-clause-took c =
     let need_is = c.need_for-need.ensures.value in
     let reused = subst (λ (k : List ℕ). reuses shelf.cut write.moment k (get shelf.items k) need write.draft.body ≡ true) c.key.ensures (sym c.fit-same.ensures.reused ∙ c.if-reused.true) in
     let more : desk.next_unique ≢ 2 ^ 64 - 1 = λ e. let less = c.is_spent.ensures.left c.if-is_spent.false in omega (arith, less) in
-    let block = beside_is c.counts_follow.ensures.insert c.counts_follow.ensures.remove step write.moment shelf desk c.requires.write.on_key write.charge write.draft (sym c.requires.write.next) in
+    let block = beside_is step write.moment shelf desk c.requires.write.on_key write.charge write.draft (sym c.requires.write.next) in
     let puts = subst (λ (l : List ℕ). IsPut (key_of step) write.hash shelf new (drafted write.draft l desk.next_unique write.moment)) block
     (subst (λ (n : ℕ). IsPut (key_of step) write.hash shelf new (drafted write.draft (block_beside shelf step write.draft) n write.moment)) c.draw-unique.ensures.number
     c.rewrite.ensures.put) in
     record {
       takes = subst (λ (r : Reply). Takes step write.moment shelf desk r new c.draw-unique.new.self) (sym c.rewrite.ensures.told)
           (subst (λ (d : DeskState). Takes step write.moment shelf desk (write_reply write.draft.body) new d) (sym c.draw-unique.ensures.drawn)
-          (takes_again c.counts_follow.ensures.insert c.counts_follow.ensures.remove step write.moment shelf desk c.requires.write.on_key write.charge write.draft (sym c.requires.write.next)
+          (takes_again step write.moment shelf desk c.requires.write.on_key write.charge write.draft (sym c.requires.write.next)
           need need_is reused c.need_for-need.ensures.is_need c.draw-unique.ensures.slab more write.hash new puts));
       others = puts.others;
       hash = puts.hash;
@@ -74,7 +74,7 @@ returns-then-goes_over-clause-left c =
     let write = c.args.write.now in
     let step = c.args.step.now in
     let same = subst (λ (k : List ℕ). has_need k (get shelf.items k) c.need_for-need.result ≡ true) c.key.ensures (sym c.fit-same.ensures.same ∙ c.goes_over.ensures.same c.if-goes_over.true) in
-    let there = item_over c.counts_follow.ensures.insert c.counts_follow.ensures.remove step write.moment shelf c.args.desk.now c.requires.write.on_key write.charge write.draft
+    let there = item_over step write.moment shelf c.args.desk.now c.requires.write.on_key write.charge write.draft
     (sym c.requires.write.next) c.need_for-need.result c.need_for-need.ensures.value same in
     record {
       short = c.requires.write.short;
@@ -99,13 +99,13 @@ returns-then-goes_over-clause-took c =
     let beside = block_beside shelf step write.draft in
     let new = with_item None (key_of step) write.hash (own beside unique) shelf in
     let more : desk.next_unique ≢ 2 ^ 64 - 1 = λ e. let less = c.is_spent.ensures.left c.if-is_spent.false in omega (arith, less) in
-    let block = beside_is c.counts_follow.ensures.insert c.counts_follow.ensures.remove step write.moment shelf desk c.requires.write.on_key write.charge write.draft (sym c.requires.write.next) in
+    let block = beside_is step write.moment shelf desk c.requires.write.on_key write.charge write.draft (sym c.requires.write.next) in
     let puts = subst (λ (l : List ℕ). IsPut (key_of step) write.hash shelf new (own l desk.next_unique)) block
     (subst (λ (n : ℕ). IsPut (key_of step) write.hash shelf new (own beside n)) c.draw-unique-then-goes_over.ensures.number
     (put_over (key_of step) write.hash shelf (own beside unique) c.requires.write.known.hash)) in
     record {
       takes = subst (λ (d : DeskState). Takes step write.moment shelf desk (write_reply write.draft.body) new d) (sym c.draw-unique-then-goes_over.ensures.drawn)
-          (takes_in_place c.counts_follow.ensures.insert c.counts_follow.ensures.remove step write.moment shelf desk c.requires.write.on_key write.charge write.draft
+          (takes_in_place step write.moment shelf desk c.requires.write.on_key write.charge write.draft
           (sym c.requires.write.next) need need_is anew same c.need_for-need.ensures.is_need c.draw-unique-then-goes_over.ensures.slab (c.goes_over.ensures.unused c.if-goes_over.true) more
           write.hash new puts);
       others = puts.others;
@@ -115,7 +115,7 @@ returns-then-goes_over-clause-took c =
 pub drop_dead-requires-clause-out : goal.drop_dead-requires-clause-out
 drop_dead-requires-clause-out c =
     subst (λ (k : List ℕ). IsOut k c.args.self.now.content c.args.desk.now) (sym c.key-then-not-has_room.ensures)
-    (is_out c.counts_follow.ensures.insert c.counts_follow.ensures.remove (key_of c.args.step.now) c.args.self.now.content c.args.desk.now c.requires.stands)
+    (is_out (key_of c.args.step.now) c.args.self.now.content c.args.desk.now c.requires.stands)
 
 pub returns-then-not-has_room-clause-took : goal.returns-then-not-has_room-clause-took
 returns-then-not-has_room-clause-took c =
@@ -134,10 +134,10 @@ returns-then-not-has_room-clause-took c =
     let dead = subst (λ (k : List ℕ). is_gone shelf.cut write.moment (get shelf.items k) ≡ true → IsDropped k write.hash shelf new × GivesBack k (get shelf.items k) desk desk')
     c.key-then-not-has_room.ensures c.drop_dead.ensures.dead in
     let alive = subst (λ (k : List ℕ). is_gone shelf.cut write.moment (get shelf.items k) ≡ false → (new ≡ shelf) × (desk' ≡ desk)) c.key-then-not-has_room.ensures c.drop_dead.ensures.alive in
-    let others = others_full c.counts_follow.ensures.insert c.counts_follow.ensures.remove step write.moment shelf desk c.requires.write.on_key write.charge write.draft
+    let others = others_full step write.moment shelf desk c.requires.write.on_key write.charge write.draft
     (sym c.requires.write.next) need need_is write.hash new desk' c.requires.write.known.hash dead alive in
     record {
-      takes = takes_full c.counts_follow.ensures.insert c.counts_follow.ensures.remove step write.moment shelf desk c.requires.write.on_key write.charge write.draft (sym c.requires.write.next)
+      takes = takes_full step write.moment shelf desk c.requires.write.on_key write.charge write.draft (sym c.requires.write.next)
           need need_is reused c.need_for-need.ensures.is_need c.has_room.ensures.slab
           (subst (λ (n : ℕ). has_room_with desk.slab need n ≡ false) back_is (sym c.has_room.ensures.value ∙ c.if-not-has_room.true)) more write.hash new desk' dead alive;
       others = others.0;
@@ -147,7 +147,7 @@ returns-then-not-has_room-clause-took c =
 pub put-requires-clause-chunks : goal.put-requires-clause-chunks
 put-requires-clause-chunks c =
     let write = c.args.write.now in
-    let charge_is = charge_beside c.counts_follow.ensures.insert c.counts_follow.ensures.remove c.args.step.now write.moment c.args.self.now.content c.args.desk.now c.requires.write.on_key
+    let charge_is = charge_beside c.args.step.now write.moment c.args.self.now.content c.args.desk.now c.requires.write.on_key
     write.charge write.draft (sym c.requires.write.next) in
     record {
       need = c.in_ok-chunks.ensures.chunks.need_is ∙ c.need_for-need.ensures.value ∙ ap need_for (sym charge_is);
@@ -165,7 +165,7 @@ put-requires-clause-can c =
       known = c.requires.write.known;
       room = search rules;
       out = subst (λ (d : DeskState). IsOut (key_of c.args.step.now) c.args.self.now.content d) (sym drawn)
-          (is_out_taken c.counts_follow.ensures.insert c.counts_follow.ensures.remove (key_of c.args.step.now) c.args.self.now.content desk c.need_for-need.result c.requires.stands
+          (is_out_taken (key_of c.args.step.now) c.args.self.now.content desk c.need_for-need.result c.requires.stands
           c.take.ensures.slab c.need_for-need.ensures.is_need.is_class (desk.next_unique + 1));
     }
 
@@ -186,13 +186,13 @@ returns-clause-took c =
     let drawn : c.draw-unique-2.new.self ≡ record { slab = taken desk.slab need; next_unique = desk.next_unique + 1 } =
     c.draw-unique-2.ensures.drawn ∙ ap (λ (d : DeskState). record d { next_unique = d.next_unique + 1 }) c.in_ok-chunks.ensures.taken in
     let unique : c.draw-unique-2.result ≡ desk.next_unique = c.draw-unique-2.ensures.number ∙ ap (λ (d : DeskState). d.next_unique) c.in_ok-chunks.ensures.taken in
-    let block = beside_is c.counts_follow.ensures.insert c.counts_follow.ensures.remove step write.moment shelf desk c.requires.write.on_key write.charge write.draft (sym c.requires.write.next) in
+    let block = beside_is step write.moment shelf desk c.requires.write.on_key write.charge write.draft (sym c.requires.write.next) in
     let puts = subst (λ (l : List ℕ). IsPut (key_of step) write.hash shelf new (drafted write.draft l desk.next_unique write.moment)) block
     (subst (λ (n : ℕ). IsPut (key_of step) write.hash shelf new (drafted write.draft (block_beside shelf step write.draft) n write.moment)) unique c.put.ensures.put) in
     let back = subst (λ (d : DeskState). GivesBack (key_of step) (get shelf.items (key_of step)) d c.put.new.desk) drawn c.put.ensures.given in
     record {
       takes = subst (λ (r : Reply). Takes step write.moment shelf desk r new c.put.new.desk) (sym c.put.ensures.told)
-          (takes_anew c.counts_follow.ensures.insert c.counts_follow.ensures.remove step write.moment shelf desk c.requires.write.on_key write.charge write.draft (sym c.requires.write.next) need
+          (takes_anew step write.moment shelf desk c.requires.write.on_key write.charge write.draft (sym c.requires.write.next) need
           need_is reused c.need_for-need.ensures.is_need c.take.ensures.slab (sym back_is ∙ none)
           (subst (λ (n : ℕ). has_room_with desk.slab need n ≡ true) none (sym c.has_room.ensures.value ∙ c.if-not-has_room.false)) more write.hash new c.put.new.desk puts back);
       others = puts.others;
@@ -212,13 +212,13 @@ give_way-requires-clause-gives c =
     let back_is : c.fit-same.result.back ≡ back_at shelf (key_of step) write.moment need =
     subst (λ (k : List ℕ). c.fit-same.result.back ≡ back_at shelf k write.moment need) c.key.ensures (c.fit-same.ensures.back c.if-reused.false) in
     let way =
-    way_is c.counts_follow.ensures.insert c.counts_follow.ensures.remove step write.moment shelf desk c.requires.write.on_key write.charge write.draft (sym c.requires.write.next) need need_is
+    way_is step write.moment shelf desk c.requires.write.on_key write.charge write.draft (sym c.requires.write.next) need need_is
     reused (subst (λ (n : ℕ). 0 < n) back_is c.if-back-gt0.true) in
     let class = need_class write.charge in
     let its_class : IsClass (item_need (key_of step) way.0).class = subst IsClass (sym (way.2 ∙ ap (λ (n : NeedState). n.class) need_is)) class in
-    let out = is_out c.counts_follow.ensures.insert c.counts_follow.ensures.remove (key_of step) shelf desk c.requires.stands way.0 way.1 its_class in
+    let out = is_out (key_of step) shelf desk c.requires.stands way.0 way.1 its_class in
     let block =
-    block_given c.counts_follow.ensures.insert c.counts_follow.ensures.remove step write.moment shelf desk c.requires.write.on_key write.charge write.draft
+    block_given step write.moment shelf desk c.requires.write.on_key write.charge write.draft
     (sym c.requires.write.next) need need_is way.4 in
     let size = drafts shelf step write.moment write.charge write.draft (sym c.requires.write.next) in
     let charged : charge (key_of step) (block_of step) ≡ write.charge = ap (charge (key_of step)) block ∙ sym size.size_is in
@@ -258,10 +258,10 @@ returns-then-back-gt0-clause-took c =
     let back_is : c.fit-same.result.back ≡ back_at shelf (key_of step) write.moment need =
     subst (λ (k : List ℕ). c.fit-same.result.back ≡ back_at shelf k write.moment need) c.key.ensures (c.fit-same.ensures.back c.if-reused.false) in
     let way =
-    way_is c.counts_follow.ensures.insert c.counts_follow.ensures.remove step write.moment shelf desk c.requires.write.on_key write.charge write.draft (sym c.requires.write.next) need need_is
+    way_is step write.moment shelf desk c.requires.write.on_key write.charge write.draft (sym c.requires.write.next) need need_is
     reused (subst (λ (n : ℕ). 0 < n) back_is c.if-back-gt0.true) in
     let block =
-    block_given c.counts_follow.ensures.insert c.counts_follow.ensures.remove step write.moment shelf desk c.requires.write.on_key write.charge write.draft
+    block_given step write.moment shelf desk c.requires.write.on_key write.charge write.draft
     (sym c.requires.write.next) need need_is way.4 in
     let can : has_room_with desk.slab need (back_at shelf (key_of step) write.moment need) ≡ true =
     subst (λ (n : ℕ). has_room_with desk.slab need n ≡ true) back_is (sym c.has_room.ensures.value ∙ c.if-not-has_room.false) in
@@ -269,7 +269,7 @@ returns-then-back-gt0-clause-took c =
     let new = written write (left_of begun) step c.give_way.new.self.content in
     let puts = subst (λ (l : List ℕ). IsPut (key_of step) write.hash shelf new (drafted write.draft l desk.next_unique write.moment)) block put in
     let takes =
-    takes_way c.counts_follow.ensures.insert c.counts_follow.ensures.remove step write.moment shelf desk c.requires.write.on_key write.charge write.draft (sym c.requires.write.next) need need_is
+    takes_way step write.moment shelf desk c.requires.write.on_key write.charge write.draft (sym c.requires.write.next) need need_is
     reused c.need_for-need.ensures.is_need c.has_room.ensures.slab way.0 way.1 way.2 way.3 can more write.hash new puts in
     record {
       takes = subst (λ (r : Reply). Takes step write.moment shelf desk r new c.give_way.new.desk) (sym told)

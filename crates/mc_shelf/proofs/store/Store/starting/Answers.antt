@@ -8,7 +8,7 @@ pub invariant_of-result : goal.invariant_of-result
 invariant_of-result g c =
     record {
       parts = are_kept c.args.settings refl refl
-          (new_parts (some_shelf c.args.settings.shelves c.args.settings.shelves_fit) c.counts_follow.ensures.empty c.in_ok-shelves.ensures.content c.in_ok-desk.ensures);
+          (new_parts (some_shelf c.args.settings.shelves c.args.settings.shelves_fit) c.in_ok-shelves.ensures.content c.in_ok-desk.ensures);
       divides = divides_numbers c.args.settings.shelves c.args.settings.shelves_fit;
     }
 
@@ -16,4 +16,4 @@ pub returns-clause-plain : goal.returns-clause-plain
 returns-clause-plain g c =
     plain_is c.args.settings refl refl
     (new_parts {hash_of = g.K.KeyHash.hash_of c.args.hasher}
-    (some_shelf c.args.settings.shelves c.args.settings.shelves_fit) c.counts_follow.ensures.empty c.in_ok-shelves.ensures.content c.in_ok-desk.ensures)
+    (some_shelf c.args.settings.shelves c.args.settings.shelves_fit) c.in_ok-shelves.ensures.content c.in_ok-desk.ensures)

@@ -26,7 +26,7 @@ invariant_of-self g c =
     let here = shelf_here s.settings parts inside c.index_mut-shelf.ensures.value in
     record {
       parts = parts_stepped s.settings parts here c.args.step.now c.args.now c.step.new.self c.step.new.desk (λ i. sym hashed i % sym c.from.ensures i) hashed c.requires.on_key
-          c.steps_change_one_shelf.ensures.taken c.step.result c.step.ensures.took c.step.ensures.err;
+          c.step.result c.step.ensures.took c.step.ensures.err;
       divides = c.self.invariant.divides;
     }
 
@@ -45,7 +45,7 @@ returns g c =
     rw (← c.self.view_is)
     (record {
       took = if_ok c.step.result c.step.ensures.took
-          (λ reply took. (took_step s.settings parts here step c.args.now c.step.new.self c.step.new.desk mine hashed c.requires.on_key c.steps_change_one_shelf.ensures.taken took, (refl, refl)));
+          (λ reply took. (took_step s.settings parts here step c.args.now c.step.new.self c.step.new.desk mine hashed c.requires.on_key took, (refl, refl)));
       spent = (λ e. c.step.ensures.spent.0 e state stands, λ e. c.step.ensures.spent.1 (spent_there step c.args.now c.requires.on_key stands e));
       err = if_err c.step.result c.step.ensures.err
           (λ same. record { plain = plain_after s.settings parts c.step.new.self (goes_nowhere s.settings parts here same.0 same.1); settings = refl; hasher = refl });

@@ -24,6 +24,6 @@ invariant_of-store g c =
     let here = shelf_here s.settings parts inside c.index_mut-shelf.ensures.value in
     record {
       parts = parts_stepped s.settings parts here c.args.step.now c.args.now c.step_in_parts.new.shelf c.step_in_parts.new.desk (λ i. sym hashed i % sym c.from.ensures i) hashed c.requires.on_key
-          c.steps_change_one_shelf.ensures.taken c.step_in_parts.result c.step_in_parts.ensures.took c.step_in_parts.ensures.err;
+          c.step_in_parts.result c.step_in_parts.ensures.took c.step_in_parts.ensures.err;
       divides = c.store.invariant.divides;
     }

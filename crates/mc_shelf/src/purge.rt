@@ -1,0 +1,139 @@
+//! Purges: the dead items of a shelf go, and the desk has their chunks back. If others wait for the
+//! desk, that is done in two parts, of which the long one, the walk over the items, takes the shelf
+//! alone.
+
+ghost use Rattle.std.specs.Prelude.{◌≡◌, ◌≤◌, ◌==◌, ℕ, List, [], vec_capacity};
+ghost use Rattle.std.specs.FinMap.{len};
+ghost use Rattle.mc_slab.specs.Classes.{IsClass};
+ghost use Rattle.mc_slab.specs.Slabs.{out_of};
+ghost use Rattle.mc_command.specs.Plain.{Plain};
+ghost use Rattle.mc_command.specs.Purge.{purged};
+ghost use Rattle.mc_shelf.specs.Counts.{DropsAlone, counts_of};
+ghost use Rattle.mc_shelf.specs.Parts.{GoesTo, IsDeskOf, IsShelfOf, shelf_of};
+ghost use Rattle.mc_shelf.specs.States.{ShelfContent};
+ghost use Rattle.mc_shelf.specs.Sweeps.{AreOut, BeginsPurge, GivesFor, IsPurged, TakesBack, TakesDead, count_among};
+
+use crate::desk::Desk;
+use crate::plan::is_gone;
+use crate::shelf::Shelf;
+use crate::soonest::Soonest;
+use mc_slab::Chunks;
+use mc_time::Moment;
+use std::alloc::Global;
+
+/// How far a purge has come at the shelf alone.
+#[derive(Drop)]
+pub enum Purging {
+    /// The dead items are off the shelf, and the desk is to have these chunks back, which are
+    /// theirs.
+    Apart(Vec<Chunks>),
+    /// There was no memory for a list of chunks, and the shelf is as it was.
+    Whole,
+}
+
+impl Shelf {
+    /// Drops the items that are dead at a moment, and gives their chunks back. It takes no memory.
+    /// The cost is that of one pass over the items, and if none may be dead it walks none. No entry
+    /// is moved.
+    pub fn purge(&mut self, now: Moment, desk: &mut Desk)
+        requires { AreOut self.old.content desk.old }
+        ensures shelf { IsPurged now self.old.content self.new.content }
+        ensures desk { GivesFor self.old.content.items self.new.content.items desk.old desk.new }
+        ensures table { DropsAlone (counts_of self.old) (counts_of self.new) }
+    {
+        if !self.index.may_have_dead(self.cut, now) {
+            return;
+        }
+        let mut soonest = Soonest::empty();
+        let mut at = 0;
+        while let Some((number, place)) = self.index.filled_from(at) {
+            if is_gone(self.index.get(place), self.cut, now) {
+                let entry = self.index.remove(place);
+                desk.give(entry.into_chunks());
+                at = number;
+            } else {
+                soonest = soonest.with_found(self.index.get(place));
+                at = number + 1;
+            }
+        }
+        self.index.keep_soonest(soonest);
+    }
+
+    /// Begins a purge at the shelf alone: takes off the items that are dead at a moment, and keeps
+    /// their chunks for `end_purge`. It reserves room for the chunks of all items at once, the only
+    /// memory that it takes; if that is refused all is left to `end_purge`. The cost is that of one
+    /// pass over the items. No entry is moved.
+    pub fn begin_purge(&mut self, alloc: Global, now: Moment) -> Purging
+        ensures begins { BeginsPurge now self.old.content result self.new.content }
+        ensures table { DropsAlone (counts_of self.old) (counts_of self.new) }
+    {
+        match Vec::with_capacity(alloc, self.len()) {
+            Ok(room) => Purging::Apart(self.take_dead(now, room)),
+            Err(_) => Purging::Whole,
+        }
+    }
+
+    /// Takes off the items that are dead at a moment, and puts their chunks into a vector that has
+    /// room for those of all items.
+    fn take_dead(&mut self, now: Moment, room: Vec<Chunks>) -> Vec<Chunks>
+        requires empty { room.items ≡ [] }
+        requires room { len self.old.content.items ≤ vec_capacity room }
+        ensures took { TakesDead now self.old.content result.items self.new.content }
+        ensures table { DropsAlone (counts_of self.old) (counts_of self.new) }
+    {
+        let mut chunks = room;
+        let mut soonest = Soonest::empty();
+        let mut at = 0;
+        let mut ahead = 0;
+        while let Some((number, place)) = self.index.filled_from(at) {
+            ahead = self.index.read_ahead(ahead, number, self.cut, now);
+            if is_gone(self.index.get(place), self.cut, now) {
+                let entry = self.index.remove(place);
+                chunks.push_reserved(entry.into_chunks());
+                at = number;
+            } else {
+                soonest = soonest.with_found(self.index.get(place));
+                at = number + 1;
+            }
+        }
+        self.index.keep_soonest(soonest);
+        chunks
+    }
+
+    /// Ends a purge that was begun at this shelf, with no other step between: the desk has the
+    /// chunks back. If before the purge the shelf was with this desk a part of a state, that state
+    /// goes to the one purged of the shelf's dead, as `purge_part` has it. It takes no memory. The
+    /// cost is a few instructions for each dead item, if the purge could be begun.
+    pub fn end_purge(&mut self, purging: Purging, now: Moment, desk: &mut Desk)
+        requires { (old : ShelfContent) × BeginsPurge now old purging self.old.content
+            × (hash_of : List ℕ → ℕ) × (shelves : ℕ) × (at : ℕ) × (state : Plain)
+            × IsShelfOf hash_of shelves state at old × IsDeskOf state desk.old }
+        ensures { (old : ShelfContent) (hash_of : List ℕ → ℕ) (shelves at : ℕ) (state : Plain) →
+            BeginsPurge now old purging self.old.content →
+            IsShelfOf hash_of shelves state at old → IsDeskOf state desk.old →
+            GoesTo hash_of shelves at state
+            (purged (λ key. shelf_of hash_of shelves key == at) now state)
+            self.new.content desk.new }
+    {
+        match purging {
+            Purging::Apart(chunks) => desk.take_back(chunks),
+            Purging::Whole => self.purge_part(now, desk),
+        }
+    }
+}
+
+impl Desk {
+    /// Takes many chunks back, of each class no more than are out. It takes no memory.
+    fn take_back(&mut self, chunks: Vec<Chunks>)
+        requires { (class : ℕ) → IsClass class →
+            count_among chunks.items class ≤ out_of self.old.slab class }
+        ensures { TakesBack chunks.entry.items self.old self.new }
+    {
+        let mut chunks = chunks;
+        while let Some(one) = chunks.pop() {
+            // what holds of all chunks, for the proof
+            let _need = one.need();
+            self.give(one);
+        }
+    }
+}
