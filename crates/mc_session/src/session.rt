@@ -7,7 +7,7 @@ use crate::after_turn::AfterTurn;
 use crate::answer::answer;
 use crate::text::Output;
 use mc_command::{Command, Steps, step_at, steps_of};
-use mc_parse::{Feed, Peek, Source, no_spelling_begins_another};
+use mc_parse::{Feed, Peek, Source};
 use mc_time::Moment;
 use std::alloc::{AllocError, Global};
 use std::marker::Model;
@@ -151,7 +151,6 @@ impl Session {
         if self.has_nothing_unread() {
             return Ok(Turn::Idle);
         }
-        no_spelling_begins_another();
         let found = self.feed.peek_after(self.taken);
         match answer(alloc, found, store, now, &mut self.out) {
             Ok(None) => Ok(Turn::Idle),

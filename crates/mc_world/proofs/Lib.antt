@@ -8,6 +8,7 @@ pub mod ThroughLemmas
 pub mod ChainLemmas
 pub mod EventLemmas
 pub mod LawLemmas
+pub mod GrammarLemmas
 pub mod AnswerLemmas
 pub mod UpdateLemmas
 pub mod FrontLemmas

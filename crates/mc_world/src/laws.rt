@@ -11,10 +11,6 @@ ghost use Rattle.mc_world.specs.declared.event.Event.{Event};
 ghost use Rattle.mc_world.specs.declared.event.Event.TheVariants.{Grow, Piece};
 
 use mc_hop::KeyHash;
-use mc_parse::{
-    a_spelling_has_a_byte, cutting_does_not_matter, no_spelling_begins_another, one_list_of_units,
-};
-use mc_session::passing_over_early_does_not_matter;
 
 /// States that growth never shows: an event of growth may be added or taken out anywhere.
 pub fn growth_never_shows()
@@ -51,9 +47,7 @@ pub fn a_session_follows_its_own_answers()
     ensures follows { (n : ℕ) (first : Connection) (own : List Event) (answers : List Answer)
         (last other : Connection) →
         Leaves n first own answers last → Leaves n first own answers other → other ≡ last }
-{
-    grammar();
-}
+{}
 
 /// States that a plain world stands as one state only, of those with the same settings and hasher:
 /// so what is told of a world pins it.
@@ -61,26 +55,16 @@ pub fn a_plain_world_stands_one_way<K: KeyHash>()
     ensures { (plain : PlainWorld) (one other : WorldState K) →
         StandsAs plain one → StandsAs plain other →
         other.settings ≡ one.settings → other.hasher ≡ one.hasher → other ≡ one }
-{
-    grammar();
-}
+{}
 
 /// States that a turn of an open session is due exactly if its connection has a next one.
 pub fn a_turn_is_due_of_both()
     ensures { (connection : Connection) (session : SessionState) →
         Stands connection session → connection.is_open ≡ true →
         NoTurnDue session ↔ HasNoNext connection }
-{
-    grammar();
-}
+{}
 
 /// States that the laws of the grammar and of sessions that the proofs here use hold.
 pub fn grammar()
     ensures { Grammar }
-{
-    no_spelling_begins_another();
-    a_spelling_has_a_byte();
-    one_list_of_units();
-    cutting_does_not_matter();
-    passing_over_early_does_not_matter();
-}
+{}

@@ -6,7 +6,6 @@ ghost use Rattle.mc_world.specs.Serving.{with_front, scene, Served, ServedAll, R
 ghost use Rattle.mc_world.specs.Rounds.{Begins};
 
 use crate::event::Event;
-use crate::laws::grammar;
 use crate::seat::Seat;
 use crate::world::World;
 use mc_hop::KeyHash;
@@ -77,7 +76,6 @@ fn begin<K: KeyHash + Drop>(alloc: Global, world: &mut World<K>) -> Result<u32, 
     ensures err { IfErr result (λ fault.
         (fault ≡ ServeFault.NoMemory) × (world.new ≡ world.old)) }
 {
-    grammar();
     world.stands();
     let session = world.opened() as u32 + 1;
     match world.run(alloc, &[Event::Open]) {

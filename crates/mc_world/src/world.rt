@@ -9,7 +9,6 @@ ghost use Rattle.mc_world.specs.Refusals.{ToldThrough};
 ghost use Rattle.mc_world.specs.Sessions.{IsDue};
 
 use crate::event::{Ended, Event, Refused};
-use crate::laws::grammar;
 use crate::parts::Parts;
 use crate::sessions::Sessions;
 use mc_hop::KeyHash;
@@ -225,7 +224,6 @@ impl<K: KeyHash + Drop> World<K> {
         ensures err { IfErr result (λ fault.
             ToldRefused K.hash_of fault.decided self.old event.now self.new) }
     {
-        grammar();
         self.parts.happen(alloc, event)
     }
 
@@ -240,7 +238,6 @@ impl<K: KeyHash + Drop> World<K> {
         ensures err { IfErr result (λ fault.
             ToldRefused K.hash_of fault.decided self.old (Event.Turn session) self.new) }
     {
-        grammar();
         self.parts.turn(alloc, session)
     }
 }

@@ -1,13 +1,14 @@
 use Rattle.std.proofs.Common.{ap, ◌∙◌, ℕ, List}
 use Rattle.mc_session.specs.Turns.{closed}
 use Rattle.mc_parse.specs.Peeks.{unit_of}
+use Rattle.mc_parse.proofs.UnitLemmas.{same_spelling}
 use Rattle.mc_session.specs.contracts.session.Session.{the_view}
 use Rattle.mc_session.proofs.TurnLemmas.{decides_next, takes_told, none_found, may_go_on, tells_next}
 use Rattle.mc_session.proofs.session.Session.turn.Goals as goal
 
 pub go_on-requires : goal.go_on-requires
 go_on-requires g c =
-    may_go_on g.S.Steps c.args.now c.no_spelling_begins_another.ensures (the_view c.self.inside) c.args.store.now c.answer.new.store
+    may_go_on g.S.Steps c.args.now same_spelling (the_view c.self.inside) c.args.store.now c.answer.new.store
     (unit_of c.peek_after-found.result) c.peek_after-found.ensures.found c.self.invariant c.if-not-self.false
     c.in-Ok-Some.next c.answer.new.out
     (tells_next g.S.Steps c.args.now
@@ -17,7 +18,7 @@ go_on-requires g c =
 pub returns-in-Ok-Some-clause-did : goal.returns-in-Ok-Some-clause-did
 returns-in-Ok-Some-clause-did g c = λ _.
     rw (← c.self.view_is)
-    (takes_told g.S.Steps c.args.now c.no_spelling_begins_another.ensures (the_view c.self.inside) c.args.store.now c.answer.new.store
+    (takes_told g.S.Steps c.args.now same_spelling (the_view c.self.inside) c.args.store.now c.answer.new.store
     (unit_of c.peek_after-found.result) c.peek_after-found.ensures.found c.self.invariant c.if-not-self.false
     c.in-Ok-Some.next c.answer.new.out
     (tells_next g.S.Steps c.args.now
@@ -33,7 +34,7 @@ returns-in-Err-clause-due g c =
 pub returns-in-Err-clause-decided : goal.returns-in-Err-clause-decided
 returns-in-Err-clause-decided g c = λ decided.
     rw (← c.self.view_is)
-    (decides_next g.S.Steps c.args.now c.no_spelling_begins_another.ensures (the_view c.self.inside) c.args.store.now c.answer.new.store
+    (decides_next g.S.Steps c.args.now same_spelling (the_view c.self.inside) c.args.store.now c.answer.new.store
     (unit_of c.peek_after-found.result) c.peek_after-found.ensures.found c.self.invariant c.if-not-self.false
     (c.in-Err.ensures.decided decided))
 
