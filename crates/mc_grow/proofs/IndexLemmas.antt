@@ -1,181 +1,157 @@
 -- What an index is after moves and inserts, by its parts.
-use Rattle.std.proofs.Common.{◌≡◌, ℕ, zero, suc, cond, replicate, is_some, not, ◌&&◌, Bool, ◌≤◌, ◌<◌, true, false, true≢false, List, [], ◌∷◌, ◌++◌, map, Option, Some, None, ◌+◌}
+use Rattle.std.proofs.Common.{◌≡◌, ℕ, zero, suc, cond, replicate, is_some, not, ◌&&◌, Bool, true, false, true≢false, List, [], ◌∷◌, ◌++◌, map, Option, Some, None, ◌+◌}
 use Rattle.std.proofs.Common.{length, get_or, refl, sym, ap, subst, ◌∙◌, arith}
 use Rattle.std.specs.Prelude.{nat_lt}
-use Rattle.mc_hop.specs.Cells.{filled}
-use Rattle.mc_hop.specs.Contents.{content}
-use Rattle.mc_grow.specs.Indexes.{IndexState, IsPlaceOf, cells, count, holds}
 use Rattle.std.specs.FinMap.{get, len, len-insert}
 use Rattle.std.specs.Cmp.Lexicographic.{nat_list_cmp_total}
-use Rattle.mc_hop.specs.Tables.{AreApart, HopState}
-use Rattle.mc_grow.specs.Moving.{ContentLaws, HoldsAll, IsIn}
-use Rattle.mc_grow.specs.Parts.{drained_items}
-use Rattle.mc_grow.proofs.CellLemmas.{filled-append}
-use Rattle.mc_grow.proofs.MoveLemmas.{Map, at_its_key, in_second, more_buckets}
-use Rattle.std.proofs.lemmas.List.{get_or-append-add}
 use Rattle.std.proofs.lemmas.Bool.{lt-ltb}
-use Rattle.mc_grow.specs.Adding.{AreAdded, AreMoved, AreTaken, AreTried, Side, cells_of, side_of}
+use Rattle.mc_hop.specs.Cells.{filled}
+use Rattle.mc_hop.specs.Contents.{content}
+use Rattle.mc_hop.specs.Tables.{AreApart, HopState}
+use Rattle.mc_hop.proofs.ContentLemmas.{Map, at_its_key}
+use Rattle.mc_hop.proofs.LawLemmas.{joined_parts, many_entries, no_entries}
+use Rattle.mc_grow.specs.Indexes.{IndexState, IsPlaceOf, cells, count, holds}
+use Rattle.mc_grow.specs.Moving.{HoldsAll, IsIn}
+use Rattle.mc_grow.specs.Parts.{drained_items}
+use Rattle.mc_grow.specs.Adding.{AreMoved, AreTaken, AreTried, Side, cells_of, side_of}
 use Rattle.mc_grow.specs.Adding.AreAdded.{none_added}
+use Rattle.mc_grow.proofs.CellLemmas.{get_second}
+use Rattle.mc_grow.proofs.MoveLemmas.{as_many, in_second, more_buckets}
 
-module _ {X : Type 0} (hash_of : X → ℕ) (key_of : X → List ℕ) where
+-- ---- entries are moved
+
+-- what stands for an index after moves: its exponent, the old table's buckets, the table and the strays, and whether a growth runs
+abbrev pub Parts : Type 0 → Type 0
+Parts X = ℕ × List (Option X) × Side X × Bool
+
+abbrev pub parts_of : {X : Type 0} → IndexState X → Parts X
+parts_of index = (index.k, index.draining, side_of index, index.growing)
+
+module _ {X : Type 0} (hash_of : X → ℕ) (key_of : X → List ℕ) {v now new : IndexState X} (same : v ≡ now) where
   -- where no growth runs nothing moves
-  pub nothing_moved : (old new : IndexState X) → old.draining ≡ [] → old.growing ≡ false → new ≡ old → AreMoved hash_of key_of 0 old new
-  nothing_moved old new none rests same = record {
-    same_k = ap (λ (s : IndexState X). s.k) same;
-    idle = λ _. same;
-    after = side_of old;
-    moved = record {
-      entries = [];
-      many = refl;
-      taken = ap (λ (s : IndexState X). content hash_of key_of s.draining) same;
-      added = none_added (side_of old);
-    };
-    goes_on = λ _. ap side_of same;
+  pub nothing_moved : v.draining ≡ [] → v.growing ≡ false → new ≡ v → AreMoved hash_of key_of 0 now new
+  nothing_moved none rests stays = subst (λ (s : IndexState X). AreMoved hash_of key_of 0 s new) same (record {
+    same_k = ap (λ (s : IndexState X). s.k) stays;
+    idle = λ _. stays;
+    after = side_of v;
+    moved = record { entries = []; many = refl; taken = ap (λ (s : IndexState X). content hash_of key_of s.draining) stays; added = none_added (side_of v) };
+    goes_on = λ _. ap side_of stays;
     ends = λ e _. absurd (true≢false (sym e ∙ rests));
-    dropped = λ _. none_now;
-    growing = ap (λ (s : IndexState X). s.growing) same ∙ rests ∙ sym (ap (λ (d : List (Option X)). nat_lt 0 (filled d)) none_now);
-  } where
-    none_now : new.draining ≡ []
-    none_now = ap (λ (s : IndexState X). s.draining) same ∙ none
+    dropped = λ _. ap (λ (s : IndexState X). s.draining) stays ∙ none;
+    growing = ap (λ (s : IndexState X). s.growing) stays ∙ rests ∙ sym (ap (λ (d : List (Option X)). nat_lt 0 (filled d)) (ap (λ (s : IndexState X). s.draining) stays ∙ none));
+  })
 
-  -- the last entries were moved
-  pub moved_to_the_end : (old new : IndexState X) (n k k_then k_now : ℕ) (first drained : List (Option X)) (start side last : Side X)
-      → ContentLaws hash_of key_of → old.growing ≡ true → first ≡ old.draining → k ≡ old.k → start ≡ side_of old
-      → AreTaken hash_of key_of k n first drained start side → filled drained ≡ 0 → AreTried hash_of key_of k_then side last → k_then ≡ k → k_now ≡ k_then
-      → new.k ≡ k_now → new.draining ≡ [] → new.growing ≡ false → side_of new ≡ last → AreMoved hash_of key_of n old new
-  moved_to_the_end old new n k k_then k_now first drained start side last laws runs drain kept beside taken empty tried same_then same_now new_k none_now rests_now ends = record {
-    same_k = new_k ∙ same_now ∙ same_then ∙ kept;
-    idle = λ e. absurd (true≢false (sym runs ∙ e));
-    after = side;
-    moved = record {
-      entries = taken.entries;
-      many = taken.many;
-      taken = laws.parts (map Some taken.entries) new.draining (map Some taken.entries) drained refl
-          (ap (content hash_of key_of) none_now ∙ sym (laws.none drained empty)) ∙ taken.taken ∙ ap (content hash_of key_of) drain;
-      added = subst (λ (s : Side X). AreAdded hash_of key_of old.k taken.entries s side) beside (subst (λ (m : ℕ). AreAdded hash_of key_of m taken.entries start side) kept taken.added);
-    };
-    goes_on = λ l. absurd (none_left new.draining none_now l);
-    ends = λ _ _. subst (λ (s : Side X). AreTried hash_of key_of old.k side s) (sym ends) (subst (λ (m : ℕ). AreTried hash_of key_of m side last) (same_then ∙ kept) tried);
-    dropped = λ _. none_now;
-    growing = rests_now ∙ sym (ap (λ (d : List (Option X)). nat_lt 0 (filled d)) none_now);
-  } where
-    none_left : (d : List (Option X)) → d ≡ [] → 0 < filled d → ⊥
-    none_left d e l = omega (arith, ap filled e, l)
+  module _ {n : ℕ} {first drained : List (Option X)} {side : Side X} (runs : v.growing ≡ true) (drain : first ≡ v.draining)
+      (taken : AreTaken hash_of key_of v.k n first drained (side_of v) side) where
+    -- the last entries were moved
+    pub moved_to_the_end : {k k_now : ℕ} {last : Side X} → filled drained ≡ 0 → AreTried hash_of key_of k side last → k ≡ v.k → k_now ≡ k → parts_of new ≡ (k_now, [], last, false)
+        → AreMoved hash_of key_of n now new
+    moved_to_the_end {last = last} empty tried same_then same_k is =
+        let none_now : new.draining ≡ [] = ap (λ (p : Parts X). p.1) is in
+        subst (λ (s : IndexState X). AreMoved hash_of key_of n s new) same (record {
+          same_k = ap (λ (p : Parts X). p.0) is ∙ same_k ∙ same_then;
+          idle = λ e. absurd (true≢false (sym runs ∙ e));
+          after = side;
+          moved = record {
+            entries = taken.entries;
+            many = taken.many;
+            taken = joined_parts hash_of key_of (map Some taken.entries) new.draining (map Some taken.entries) drained refl
+                (ap (content hash_of key_of) none_now ∙ sym (no_entries hash_of key_of drained empty)) ∙ taken.taken ∙ ap (content hash_of key_of) drain;
+            added = taken.added;
+          };
+          goes_on = λ l. absurd (omega (arith, ap filled none_now));
+          ends = λ _ _. subst (AreTried hash_of key_of v.k side) (sym (ap (λ (p : Parts X). p.2) is)) (subst (λ (m : ℕ). AreTried hash_of key_of m side last) same_then tried);
+          dropped = λ _. none_now;
+          growing = ap (λ (p : Parts X). p.3) is ∙ sym (ap (λ (d : List (Option X)). nat_lt 0 (filled d)) none_now);
+        })
 
-  -- entries were moved, and some are left
-  pub moved_some : (old new : IndexState X) (n k k_now : ℕ) (first drained : List (Option X)) (start side : Side X) → old.growing ≡ true → first ≡ old.draining
-      → k ≡ old.k → start ≡ side_of old → AreTaken hash_of key_of k n first drained start side → (filled drained ≡ 0 → ⊥) → k_now ≡ k → new.k ≡ k_now
-      → new.draining ≡ drained → new.growing ≡ true → side_of new ≡ side → AreMoved hash_of key_of n old new
-  moved_some old new n k k_now first drained start side runs drain kept beside taken some same_now new_k left grows is = record {
-    same_k = new_k ∙ same_now ∙ kept;
-    idle = λ e. absurd (true≢false (sym runs ∙ e));
-    after = side;
-    moved = record {
-      entries = taken.entries;
-      many = taken.many;
-      taken = ap (λ (d : List (Option X)). content hash_of key_of (map Some taken.entries ++ d)) left ∙ taken.taken ∙ ap (content hash_of key_of) drain;
-      added = subst (λ (s : Side X). AreAdded hash_of key_of old.k taken.entries s side) beside (subst (λ (m : ℕ). AreAdded hash_of key_of m taken.entries start side) kept taken.added);
-    };
-    goes_on = λ _. is;
-    ends = λ _ none. absurd (some (ap filled (sym left) ∙ none));
-    dropped = λ none. absurd (some (ap filled (sym left) ∙ none));
-    growing = grows ∙ sym (ap (λ (d : List (Option X)). nat_lt 0 (filled d)) left ∙ is_some_left (filled drained) some);
-  } where
-    is_some_left : (m : ℕ) → (m ≡ 0 → ⊥) → nat_lt 0 m ≡ true
-    is_some_left m some = lt-ltb 0 m (omega (arith, some))
+    -- entries were moved, and some are left
+    pub moved_some : {k : ℕ} → (filled drained ≡ 0 → ⊥) → k ≡ v.k → parts_of new ≡ (k, drained, side, true) → AreMoved hash_of key_of n now new
+    moved_some some same_k is =
+        let left_is : new.draining ≡ drained = ap (λ (p : Parts X). p.1) is in
+        subst (λ (s : IndexState X). AreMoved hash_of key_of n s new) same (record {
+          same_k = ap (λ (p : Parts X). p.0) is ∙ same_k;
+          idle = λ e. absurd (true≢false (sym runs ∙ e));
+          after = side;
+          moved = record {
+            entries = taken.entries;
+            many = taken.many;
+            taken = ap (λ (d : List (Option X)). content hash_of key_of (map Some taken.entries ++ d)) left_is ∙ taken.taken ∙ ap (content hash_of key_of) drain;
+            added = taken.added;
+          };
+          goes_on = λ _. ap (λ (p : Parts X). p.2) is;
+          ends = λ _ none. absurd (some (ap filled (sym left_is) ∙ none));
+          dropped = λ none. absurd (some (ap filled (sym left_is) ∙ none));
+          growing = ap (λ (p : Parts X). p.3) is ∙ sym (ap (λ (d : List (Option X)). nat_lt 0 (filled d)) left_is ∙ lt-ltb 0 (filled drained) (omega (arith, some)));
+        })
 
--- what is new to an index as contracts see it is new to its parts
-pub still_new : {X : Type 0} (hash_of : X → ℕ) (key_of : X → List ℕ) {v now : IndexState X} (key : List ℕ) → v ≡ now → get (holds hash_of key_of now) key ≡ None
-    → get (holds hash_of key_of v) key ≡ None
-still_new {X} hash_of key_of {v} {now} key same none = ap (λ (s : IndexState X). get (holds hash_of key_of s) key) same ∙ none
+-- what is held then, and how much: where some are left to move, and where a growth ended
+module _ {X : Type 0} (hash_of : X → ℕ) (key_of : X → List ℕ) {v now : IndexState X} (drained : List (Option X)) (side : Side X) {first : List (Option X)} (same : v ≡ now)
+    (apart : AreApart hash_of key_of (cells v)) (drain : first ≡ v.draining) (moved : HoldsAll hash_of key_of (first ++ cells_of (side_of v)) (drained ++ cells_of side)) where
+  held : HoldsAll hash_of key_of (cells v) (drained ++ cells_of side)
+  held = subst (λ (d : List (Option X)). HoldsAll hash_of key_of (d ++ cells_of (side_of v)) (drained ++ cells_of side)) drain moved
 
--- an entry has come to the table and the strays of an index
-module _ {X : Type 0} (hash_of : X → ℕ) (key_of : X → List ℕ) (laws : ContentLaws hash_of key_of) (drained old new : List (Option X)) (entry : X)
-    (apart : AreApart hash_of key_of (drained ++ old)) (fresh : get (content hash_of key_of (drained ++ old)) (hash_of entry ∷ key_of entry) ≡ None) (come : IsIn hash_of key_of entry old new) where
-  pub all_apart : AreApart hash_of key_of (drained ++ new)
-  all_apart = (in_second hash_of key_of laws drained old new entry apart fresh come).apart
+  pub held_left : {all : List (Option X)} → all ≡ drained ++ cells_of side → (content hash_of key_of all ≡ holds hash_of key_of now) × (filled all ≡ count now)
+  held_left is = (
+    ap (content hash_of key_of) is ∙ held.same ∙ ap (holds hash_of key_of) same,
+    ap filled is ∙ as_many hash_of key_of (cells v) (drained ++ cells_of side) apart held ∙ ap count same,
+  )
 
-  pub one_more : filled (drained ++ new) ≡ filled (drained ++ old) + 1
+  pub held_at_the_end : {all : List (Option X)} (last : Side X) → filled drained ≡ 0 → HoldsAll hash_of key_of (cells_of side) (cells_of last) → all ≡ cells_of last
+      → (content hash_of key_of all ≡ holds hash_of key_of now) × (filled all ≡ count now)
+  held_at_the_end last empty tried is =
+      let alike = joined_parts hash_of key_of drained (cells_of side) [] (cells_of side) (no_entries hash_of key_of drained empty) refl in
+      let whole : HoldsAll hash_of key_of (cells v) (cells_of last) = record { same = tried.same ∙ sym alike ∙ held.same; apart = tried.apart } in (
+        ap (content hash_of key_of) is ∙ whole.same ∙ ap (holds hash_of key_of) same,
+        ap filled is ∙ as_many hash_of key_of (cells v) (cells_of last) apart whole ∙ ap count same,
+      )
+
+-- ---- an entry has come to the table and the strays of an index
+
+module _ {X : Type 0} (hash_of : X → ℕ) (key_of : X → List ℕ) {v now : IndexState X} {new : List (Option X)} {entry : X} (same : v ≡ now) (apart : AreApart hash_of key_of (cells v))
+    (fresh_now : get (holds hash_of key_of now) (hash_of entry ∷ key_of entry) ≡ None) (come : IsIn hash_of key_of entry (cells_of (side_of v)) new) where
+  fresh : get (holds hash_of key_of v) (hash_of entry ∷ key_of entry) ≡ None
+  fresh = ap (λ (s : IndexState X). get (holds hash_of key_of s) (hash_of entry ∷ key_of entry)) same ∙ fresh_now
+
+  pub come_in : IsIn hash_of key_of entry (cells v) (v.draining ++ new)
+  come_in = in_second hash_of key_of v.draining (cells_of (side_of v)) new entry apart fresh come
+
+  pub one_more : filled (v.draining ++ new) ≡ count now + 1
   one_more =
-      let whole = in_second hash_of key_of laws drained old new entry apart fresh come in
-      let many = len (content hash_of key_of (drained ++ old)) in
-      sym (laws.many (drained ++ new) whole.apart)
-      ∙ ap (λ (m : Map X). len m) whole.come
-      ∙ len-insert nat_list_cmp_total (content hash_of key_of (drained ++ old)) (hash_of entry ∷ key_of entry) entry
-      ∙ ap (λ (o : Option X). cond (is_some o) many (many + 1)) fresh
-      ∙ ap (λ (n : ℕ). n + 1) (laws.many (drained ++ old) apart)
+      let many = len (holds hash_of key_of v) in
+      sym (many_entries hash_of key_of (v.draining ++ new) come_in.apart) ∙ ap (λ (m : Map X). len m) come_in.come
+      ∙ len-insert nat_list_cmp_total (holds hash_of key_of v) (hash_of entry ∷ key_of entry) entry ∙ ap (λ (o : Option X). cond (is_some o) many (many + 1)) fresh
+      ∙ ap (λ (n : ℕ). n + 1) (many_entries hash_of key_of (cells v) apart ∙ ap count same)
 
-  pub its_place : (index : IndexState X) → cells index ≡ drained ++ new → (buckets at : ℕ) → buckets ≡ length drained → get_or new at None ≡ Some entry
-      → IsPlaceOf hash_of key_of index (hash_of entry) (key_of entry) (record { number = buckets + at })
-  its_place index is buckets at many there = record {
+  pub its_place : (index : IndexState X) (number at : ℕ) → cells index ≡ v.draining ++ new → number ≡ length v.draining + at → get_or new at None ≡ Some entry
+      → IsPlaceOf hash_of key_of index (hash_of entry) (key_of entry) (record { number = number })
+  its_place index number at is its there = record {
     entry = entry;
-    there = ap (λ (l : List (Option X)). get_or l (buckets + at) None) is ∙ ap (λ (n : ℕ). get_or (drained ++ new) (n + at) None) many ∙ get_or-append-add drained new at None ∙ there;
+    there = ap (λ (l : List (Option X)). get_or l number None) is ∙ get_second v.draining new at number its ∙ there;
     same_hash = refl;
     same_key = refl;
     held = ap (λ (l : List (Option X)). get (content hash_of key_of l) (hash_of entry ∷ key_of entry)) is
-        ∙ ap (λ (m : Map X). get m (hash_of entry ∷ key_of entry)) (in_second hash_of key_of laws drained old new entry apart fresh come).come
-        ∙ at_its_key (content hash_of key_of (drained ++ old)) (hash_of entry ∷ key_of entry) entry;
+        ∙ ap (λ (m : Map X). get m (hash_of entry ∷ key_of entry)) come_in.come ∙ at_its_key (holds hash_of key_of v) (hash_of entry ∷ key_of entry) entry;
   }
 
--- entries are moved: there are as many
-module _ {X : Type 0} (hash_of : X → ℕ) (key_of : X → List ℕ) (laws : ContentLaws hash_of key_of) where
-  pub as_many : (old new : List (Option X)) → AreApart hash_of key_of old → HoldsAll hash_of key_of old new → filled new ≡ filled old
-  as_many old new apart held = sym (laws.many new held.apart) ∙ ap (λ (m : Map X). len m) held.same ∙ laws.many old apart
-
-  -- of an index that nothing moved in, of one where some were left to move, and of one where a growth ended
-  pub as_many_stay : (old : IndexState X) (drained : List (Option X)) (side : Side X) → drained ≡ old.draining → side ≡ side_of old → filled (drained ++ cells_of side) ≡ count old
-  as_many_stay old drained side same_old same = λ i. filled (same_old i ++ cells_of (same i))
-
-  module _ (old : IndexState X) (first drained : List (Option X)) (start side : Side X) (drain : first ≡ old.draining) (beside : start ≡ side_of old)
-      (apart : AreApart hash_of key_of (cells old)) (moved : HoldsAll hash_of key_of (first ++ cells_of start) (drained ++ cells_of side)) where
-    was : first ++ cells_of start ≡ cells old
-    was = λ i. drain i ++ cells_of (beside i)
-
-    as_many_then : filled (drained ++ cells_of side) ≡ filled (first ++ cells_of start)
-    as_many_then = as_many (first ++ cells_of start) (drained ++ cells_of side) (subst (AreApart hash_of key_of) (sym was) apart) moved
-
-    pub as_many_left : (new : IndexState X) → new.draining ≡ drained → side_of new ≡ side → count new ≡ count old
-    as_many_left new left is = (λ i. filled (left i ++ cells_of (is i))) ∙ as_many_then ∙ ap filled was
-
-    pub as_many_at_the_end : (left : List (Option X)) (last : Side X) → left ≡ [] → filled drained ≡ 0 → HoldsAll hash_of key_of (cells_of side) (cells_of last)
-        → filled (left ++ cells_of last) ≡ count old
-    as_many_at_the_end left last none empty tried =
-        let own = ((laws.apart drained (cells_of side)).0 moved.apart).1 in
-        let ends : filled (cells_of last) ≡ filled (drained ++ cells_of side) =
-        omega (arith, as_many (cells_of side) (cells_of last) own tried, filled-append drained (cells_of side), empty) in
-        ap (λ (d : List (Option X)). filled (d ++ cells_of last)) none ∙ ends ∙ as_many_then ∙ ap filled was
-
-no_drained : {X : Type 0} (draining : Option (HopState X)) → is_some draining ≡ false → drained_items draining ≡ []
-no_drained None e = refl
-no_drained (Some table) e = absurd (true≢false e)
+-- ---- a growth begins
 
 filled_none : (X : Type 0) (n : ℕ) → filled {X = X} (replicate n None) ≡ 0
 filled_none X zero = refl
 filled_none X (suc n) = filled_none X n
-
-pub filled_most : {X : Type 0} (items : List (Option X)) → filled items ≤ length items
-filled_most [] = omega arith
-filled_most (None ∷ items) = omega (arith, filled_most items)
-filled_most (Some x ∷ items) = omega (arith, filled_most items)
 
 -- a growth is due only where none runs
 pub due_rests : (growing rest : Bool) → (not growing && rest) ≡ true → growing ≡ false
 due_rests true rest e = absurd (true≢false (sym e))
 due_rests false rest e = refl
 
--- a growth begins: the content stays
-pub begun : {X : Type 0} (hash_of : X → ℕ) (key_of : X → List ℕ) (laws : ContentLaws hash_of key_of) (draining : Option (HopState X))
-    (table made drained now : HopState X) (strays strays_now : List X) (k n : ℕ) → is_some draining ≡ false → drained ≡ table → now ≡ made
-    → made ≡ record { k = k; items = replicate n None } → AreApart hash_of key_of made.items → strays_now ≡ strays
+-- the content stays
+pub begun : {X : Type 0} (hash_of : X → ℕ) (key_of : X → List ℕ) (draining : Option (HopState X)) (table made drained now : HopState X) (strays strays_now : List X) (k n : ℕ)
+    → is_some draining ≡ false → drained ≡ table → now ≡ made → made ≡ record { k = k; items = replicate n None } → AreApart hash_of key_of made.items → strays_now ≡ strays
     → AreApart hash_of key_of (drained_items draining ++ (table.items ++ map Some strays))
     → HoldsAll hash_of key_of (drained_items draining ++ (table.items ++ map Some strays)) (drained.items ++ (now.items ++ map Some strays_now))
-begun {X} hash_of key_of laws draining table made drained now strays strays_now k n rests old_is new_is empty own same apart =
+begun hash_of key_of (Some old) table made drained now strays strays_now k n rests old_is new_is empty own same apart = absurd (true≢false rests)
+begun {X} hash_of key_of None table made drained now strays strays_now k n rests old_is new_is empty own same apart =
     let nothing : filled made.items ≡ 0 = ap (λ (t : HopState X). filled t.items) empty ∙ filled_none X n in
-    let bare : drained_items draining ++ (table.items ++ map Some strays) ≡ table.items ++ map Some strays =
-    ap (λ (l : List (Option X)). l ++ (table.items ++ map Some strays)) (no_drained draining rests) in
-    let whole : HoldsAll hash_of key_of (table.items ++ map Some strays) (table.items ++ (made.items ++ map Some strays)) =
-    more_buckets hash_of key_of laws table.items (map Some strays) made.items nothing own (subst (AreApart hash_of key_of) bare apart) in
-    let is : drained.items ++ (now.items ++ map Some strays_now) ≡ table.items ++ (made.items ++ map Some strays) =
-    λ i. (old_is i).items ++ ((new_is i).items ++ map Some (same i)) in
-    subst (λ (l : List (Option X)). HoldsAll hash_of key_of l (drained.items ++ (now.items ++ map Some strays_now))) (sym bare)
-    (subst (λ (l : List (Option X)). HoldsAll hash_of key_of (table.items ++ map Some strays) l) (sym is) whole)
+    subst (HoldsAll hash_of key_of (table.items ++ map Some strays)) (sym (λ i. (old_is i).items ++ ((new_is i).items ++ map Some (same i))))
+    (more_buckets hash_of key_of table.items (map Some strays) made.items nothing own apart)

@@ -1,12 +1,13 @@
 -- The order of the strays: what a search finds in it, and what comes of it when a stray comes or goes.
-use Rattle.std.proofs.Common.{◌≡◌, ℕ, zero, suc, ◌+◌, ◌-◌, ◌<◌, ◌≤◌, ◌/◌, ◌^◌, Bool, true, false, if◌then◌else◌, List, [], ◌∷◌, ◌++◌, Some, None, map, length, length-append}
+use Rattle.std.proofs.Common.{◌≡◌, ◌≢◌, ℕ, zero, suc, ◌+◌, ◌-◌, ◌<◌, ◌≤◌, ◌/◌, ◌^◌, inl, inr, Bool, true, false, if◌then◌else◌, List, [], ◌∷◌, ◌++◌, Some, None, map, length, length-append}
 use Rattle.std.proofs.Common.{length-set, get_or, set, refl, sym, ap, subst, ◌∙◌, arith, ⊎_elim}
 use Rattle.std.proofs.lemmas.Bool.{cases_eq, cases_lt}
 use Rattle.std.proofs.lemmas.Option.{none-some}
 use Rattle.std.proofs.lemmas.Cmp.{nat_list_cmp_total, tied_itself}
-use Rattle.std.proofs.lemmas.Map.Lookups.{exact_bytes}
 use Rattle.std.proofs.Math.Nat.{pow-succ'}
 use Rattle.std.proofs.lemmas.List.{get_or-map, get_or_append_left, get_or_push, get_or_read, length-map, map-append, get_or-set_same, get_or-set_other}
+use Rattle.mc_hop.proofs.ListLemmas.{reads, same_Some}
+use Rattle.mc_hop.proofs.ContentLemmas.{head_of, tail_of}
 use Rattle.std.proofs.lemmas.List.Edits.{get_or-insert_at, get_or-insert_below, get_or-insert_above, get_or-remove_below, get_or-remove_above, length-insert, length-remove}
 use Rattle.std.specs.Ordering.{nat_cmp, ordering_reverse}
 use Rattle.std.specs.declared.cmp.Ordering.{Ordering}
@@ -17,7 +18,7 @@ use Rattle.mc_hop.specs.Links.{IsSwapped}
 use Rattle.mc_hop.specs.Tables.{IsAbsent, IsAt}
 use Rattle.mc_grow.specs.Indexes.{IndexState, binary_digits, digits_in, most_reads}
 use Rattle.mc_grow.specs.Strays.{IsBefore, IsGap, IsOrder, forgotten, key_by, keys_in}
-use Rattle.mc_grow.proofs.PartLemmas.{same_Some, stray_inside, stray_is}
+use Rattle.mc_grow.proofs.PartLemmas.{some_stray, stray_inside, stray_is}
 
 -- ---- one hash and key before another
 
@@ -27,7 +28,7 @@ less-equal o e f = cc
 not_before_itself : (key : List ℕ) → IsBefore key key → ⊥
 not_before_itself key before = less-equal (slice_cmp nat_cmp key key) before (tied_itself nat_list_cmp_total key)
 
-pub turned : (key other : List ℕ) → slice_cmp nat_cmp key other ≡ Greater → IsBefore other key
+turned : (key other : List ℕ) → slice_cmp nat_cmp key other ≡ Greater → IsBefore other key
 turned key other e = nat_list_cmp_total.antisymm other key ∙ ap ordering_reverse e
 
 carry : {a b c d : List ℕ} → a ≡ b → c ≡ d → IsBefore b d → IsBefore a c
@@ -60,8 +61,9 @@ module _ (keys : List (List ℕ)) (order : List ℕ) (o : IsOrder keys order) wh
       (λ (d : p ≡ middle → ⊥). nat_list_cmp_total.trans (at_place p) (at_place middle) key (o.rises p middle (omega (arith, d, l)) inside) before)
       (cases_eq p middle)
 
-  pub all_behind : (middle : ℕ) (key : List ℕ) → IsBefore key (at_place middle) → (p : ℕ) → middle ≤ p → p < length order → IsBefore key (at_place p)
-  all_behind middle key before p l inside =
+  pub all_behind : (middle : ℕ) (key : List ℕ) → slice_cmp nat_cmp (at_place middle) key ≡ Greater → (p : ℕ) → middle ≤ p → p < length order → IsBefore key (at_place p)
+  all_behind middle key behind p l inside =
+      let before = turned (at_place middle) key behind in
       ⊎_elim
       (λ (same : p ≡ middle). carry refl (ap at_place same) before)
       (λ (d : p ≡ middle → ⊥). nat_list_cmp_total.trans key (at_place middle) (at_place p) before (o.rises middle p (omega (arith, d, l)) inside))
@@ -93,75 +95,55 @@ module _ (keys : List (List ℕ)) (order : List ℕ) (key : List ℕ) (place : �
   in_front : (p : ℕ) → p < place → (get_or longer p 0 ≡ get_or order p 0) × (key_by more_keys longer p ≡ key_by keys order p)
   in_front p l =
       let number : get_or longer p 0 ≡ get_or order p 0 = get_or-insert_below order place (length keys) 0 p l gap.inside in
-      (number, ap (λ (n : ℕ). get_or more_keys n []) number ∙ get_or_append_left keys (key ∷ []) [] (get_or order p 0) (o.inside p (omega (arith, l, gap.inside))))
+      (number, ap (λ (n : ℕ). get_or more_keys n []) number ∙ get_or_append_left keys (key ∷ []) [] (get_or order p 0) (o.inside p (omega (arith, gap.inside))))
 
-  at_gap : (get_or longer place 0 ≡ length keys) × (key_by more_keys longer place ≡ key)
-  at_gap =
-      let number : get_or longer place 0 ≡ length keys = get_or-insert_at order place (length keys) 0 gap.inside in
+  at_gap : (p : ℕ) → p ≡ place → (get_or longer p 0 ≡ length keys) × (key_by more_keys longer p ≡ key)
+  at_gap p e =
+      let number : get_or longer p 0 ≡ length keys = ap (λ (p : ℕ). get_or longer p 0) e ∙ get_or-insert_at order place (length keys) 0 gap.inside in
       (number, ap (λ (n : ℕ). get_or more_keys n []) number ∙ get_or_push keys key [] (length keys) refl)
 
-  in_back : (p : ℕ) → place ≤ p → p < length order → (get_or longer (p + 1) 0 ≡ get_or order p 0) × (key_by more_keys longer (p + 1) ≡ key_by keys order p)
-  in_back p l m =
-      let number : get_or longer (p + 1) 0 ≡ get_or order p 0 = get_or-insert_above order place (length keys) 0 p l gap.inside in
-      (number, ap (λ (n : ℕ). get_or more_keys n []) number ∙ get_or_append_left keys (key ∷ []) [] (get_or order p 0) (o.inside p m))
+  in_back : (p q : ℕ) → p ≡ q + 1 → place ≤ q → q < length order → (get_or longer p 0 ≡ get_or order q 0) × (key_by more_keys longer p ≡ key_by keys order q)
+  in_back p q e l m =
+      let number : get_or longer p 0 ≡ get_or order q 0 = ap (λ (p : ℕ). get_or longer p 0) e ∙ get_or-insert_above order place (length keys) 0 q l gap.inside in
+      (number, ap (λ (n : ℕ). get_or more_keys n []) number ∙ get_or_append_left keys (key ∷ []) [] (get_or order q 0) (o.inside q m))
 
-  -- which of the three a place is
-  data Part (p : ℕ) : Type 0 where
-    front : p < place → Part p
-    gap_itself : p ≡ place → Part p
-    back : (q : ℕ) → p ≡ q + 1 → place ≤ q → q < length order → Part p
-
-  part_of : (p : ℕ) → p < length longer → Part p
-  part_of p l =
-      ⊎_elim
-      (λ (less : p < place). front less)
-      (λ (more : place ≤ p).
-      ⊎_elim (λ (same : p ≡ place). gap_itself same)
-      (λ (d : p ≡ place → ⊥). back (p - 1) (omega (arith, more, d)) (omega (arith, more, d)) (omega (arith, more, d, l, length-insert order place (length keys) gap.inside)))
-      (cases_eq p place))
-      (cases_lt p place)
-
-  key_from : (p q : ℕ) → p ≡ q → key_by more_keys longer p ≡ key_by more_keys longer q
-  key_from p q e = ap (λ (n : ℕ). key_by more_keys longer n) e
-
-  rises_on : (p q : ℕ) → p < q → Part p → Part q → IsBefore (key_by more_keys longer p) (key_by more_keys longer q)
-  rises_on p q l (front a) (front b) = carry (in_front p a).1 (in_front q b).1 (o.rises p q l (omega (arith, b, gap.inside)))
-  rises_on p q l (front a) (gap_itself e) = carry (in_front p a).1 (key_from q place e ∙ at_gap.1) (gap.before p a)
-  rises_on p q l (front a) (back r e b m) = carry (in_front p a).1 (key_from q (r + 1) e ∙ (in_back r b m).1) (o.rises p r (omega (arith, a, b)) m)
-  rises_on p q l (gap_itself e) (front b) = absurd (omega (arith, e, b, l))
-  rises_on p q l (gap_itself e) (gap_itself f) = absurd (omega (arith, e, f, l))
-  rises_on p q l (gap_itself e) (back r f b m) = carry (key_from p place e ∙ at_gap.1) (key_from q (r + 1) f ∙ (in_back r b m).1) (gap.behind r b m)
-  rises_on p q l (back s d a k) (front b) = absurd (omega (arith, d, a, b, l))
-  rises_on p q l (back s d a k) (gap_itself f) = absurd (omega (arith, d, a, f, l))
-  rises_on p q l (back s d a k) (back r f b m) = carry (key_from p (s + 1) d ∙ (in_back s a k).1) (key_from q (r + 1) f ∙ (in_back r b m).1) (o.rises s r (omega (arith, d, f, l)) m)
-
-  inside_now : (p : ℕ) → Part p → get_or longer p 0 < length keys + 1
-  inside_now p (front a) = omega (arith, (in_front p a).0, o.inside p (omega (arith, a, gap.inside)))
-  inside_now p (gap_itself e) = omega (arith, ap (λ (n : ℕ). get_or longer n 0) e, at_gap.0)
-  inside_now p (back q e b m) = omega (arith, ap (λ (n : ℕ). get_or longer n 0) e, (in_back q b m).0, o.inside q m)
+  size : length longer ≡ length order + 1
+  size = length-insert order place (length keys) gap.inside
 
   each_now : (n : ℕ) → n < length keys + 1 → (p : ℕ) × (p < length longer) × (get_or longer p 0 ≡ n)
   each_now n l =
-      let size = length-insert order place (length keys) gap.inside in
-      ⊎_elim
-      (λ (its : n ≡ length keys). (place, omega (arith, size, gap.inside), at_gap.0 ∙ sym its))
-      (λ (d : n ≡ length keys → ⊥).
-      let p = o.each n (omega (arith, d, l)) in
-      ⊎_elim
-      (λ (less : p.0 < place). (p.0, omega (arith, size, p.1), (in_front p.0 less).0 ∙ p.2))
-      (λ (more : place ≤ p.0). (p.0 + 1, omega (arith, size, p.1), (in_back p.0 more p.1).0 ∙ p.2))
-      (cases_lt p.0 place))
-      (cases_eq n (length keys))
+      elim (cases_eq n (length keys)) [
+        | (inl its) ↦ (place, omega (arith, size, gap.inside), (at_gap place refl).0 ∙ sym its)
+        | (inr d) ↦
+            let p = o.each n (omega (arith, d, l)) in
+            ⊎_elim
+            (λ (less : p.0 < place). (p.0, omega (arith, size, p.1), (in_front p.0 less).0 ∙ p.2))
+            (λ (more : place ≤ p.0). (p.0 + 1, omega (arith, size, p.1), (in_back (p.0 + 1) p.0 refl more p.1).0 ∙ p.2))
+            (cases_lt p.0 place)
+      ]
+
+  rises_now : (p q : ℕ) → p < q → q < length longer → IsBefore (key_by more_keys longer p) (key_by more_keys longer q)
+  rises_now p q l m =
+      let p_in = cases_lt p place in
+      let q_in = cases_lt q place in
+      let p_at = cases_eq p place in
+      let q_at = cases_eq q place in
+      let behind = gap.behind (q - 1) in
+      let rises = o.rises p in
+      let rises_behind = o.rises (p - 1) (q - 1) in
+      grind (arith, size, in_front p, in_front q, at_gap p, at_gap q, in_back p (p - 1), in_back q (q - 1), gap.before p, rises q, rises (q - 1))
+
+  inside_now : (p : ℕ) → p < length longer → get_or longer p 0 < length keys + 1
+  inside_now p l = grind (arith, size, cases_lt p place, cases_eq p place, in_front p, at_gap p, in_back p (p - 1), o.inside p, o.inside (p - 1))
 
   pub order_more : IsOrder more_keys longer
   order_more =
-      let size = length-insert order place (length keys) gap.inside in
       let many = length-append keys (key ∷ []) in
       record {
         same_length = omega (arith, size, many, o.same_length);
-        inside = λ p l. omega (arith, many, inside_now p (part_of p l));
-        each = λ n l. each_now n (omega (arith, many, l));
-        rises = λ p q l m. rises_on p q l (part_of p (omega (arith, l, m))) (part_of q m);
+        inside = λ p l. omega (arith, many, inside_now p l);
+        each = λ n l. each_now n (omega (arith, many));
+        rises = rises_now;
       }
 
 -- ---- a stray goes
@@ -199,24 +181,10 @@ module _ (keys less : List (List ℕ)) (order : List ℕ) (number place last : �
       (cases_eq number (length keys - 1))
 
   -- what stands at a place that stays: its number then and now, and its hash and key
-  stays : (r : ℕ) → r < length order → (r ≡ place → ⊥) → (get_or middle r 0 < length less) × (get_or less (get_or middle r 0) [] ≡ key_by keys order r)
+  stays : (r : ℕ) → r < length order → r ≢ place → (get_or middle r 0 < length less) × (get_or less (get_or middle r 0) [] ≡ key_by keys order r)
   stays r l d =
-      ⊎_elim
-      (λ (e : r ≡ last).
-      let more : number + 1 < length keys = not_last r e d in
-      let is : get_or middle r 0 ≡ number = ap (λ (n : ℕ). get_or middle n 0) e ∙ get_or-set_same order last (get_or order place 0) 0 last_in ∙ there in (
-        omega (arith, is, more, swap.shorter),
-        ap (λ (n : ℕ). get_or less n []) is ∙ swap.last [] more ∙ ap (λ (n : ℕ). get_or keys n []) (sym last_there) ∙ ap (λ (n : ℕ). key_by keys order n) (sym e),
-      ))
-      (λ (n : r ≡ last → ⊥).
-      let is : get_or middle r 0 ≡ get_or order r 0 = get_or-set_other order last r (get_or order place 0) 0 n in
-      let other : get_or order r 0 ≡ number → ⊥ = λ f. d (numbers_apart keys order o r place l place_in (f ∙ sym there)) in
-      let before : get_or order r 0 ≡ length keys - 1 → ⊥ = λ f. n (numbers_apart keys order o r last l last_in (f ∙ sym last_there)) in
-      let more : get_or order r 0 + 1 < length keys = omega (arith, before, o.inside r l) in (
-        omega (arith, is, more, swap.shorter),
-        ap (λ (m : ℕ). get_or less m []) is ∙ swap.others (get_or order r 0) [] other more,
-      ))
-      (cases_eq r last)
+      let apart : (s : ℕ) → s < length order → get_or order r 0 ≡ get_or order s 0 → r ≡ s = λ s. numbers_apart keys order o r s l in
+      grind (arith, reads, cases_eq r last, not_last r, apart place place_in, apart last last_in, swap.last [], swap.others (get_or order r 0) [], o.inside r)
 
   now_at : (p : ℕ) → p < length (forgotten order place last) → (get_or (forgotten order place last) p 0 < length less) × (key_by less (forgotten order place last) p ≡ key_by keys order (skip p))
   now_at p l =
@@ -250,14 +218,6 @@ module _ (keys less : List (List ℕ)) (order : List ℕ) (number place last : �
 
 -- ---- the same of entries
 
-abbrev head_of : List ℕ → ℕ
-head_of [] = 0
-head_of (x ∷ xs) = x
-
-abbrev tail_of : List ℕ → List ℕ
-tail_of [] = []
-tail_of (x ∷ xs) = xs
-
 module _ {X : Type 0} (hash_of : X → ℕ) (key_of : X → List ℕ) where
   abbrev key : X → List ℕ
   key x = hash_of x ∷ key_of x
@@ -275,20 +235,15 @@ module _ {X : Type 0} (hash_of : X → ℕ) (key_of : X → List ℕ) where
       none_in_gap (keys_in hash_of key_of items) order o (hash ∷ its_key) place gap n (omega (arith, l, many_keys items))
       (key_at items n is.entry l ∙ ap key (stray_is items n is.entry is.entry is.there) ∙ λ i. is.same_hash i ∷ is.same_key i)
 
-  some_item : (items : List X) (n : ℕ) → n < length items → (x : X) × (get_or (map Some items) n None ≡ Some x)
-  some_item [] n l = absurd (omega (arith, l))
-  some_item (x ∷ items) zero l = (x, refl)
-  some_item (x ∷ items) (suc n) l = some_item items n (omega (arith, l))
-
   pub found_at : (items : List X) (order : List ℕ) (hash : ℕ) (its_key : List ℕ) (place : ℕ) → IsOrder (keys_in hash_of key_of items) order
       → place < length order → key_by (keys_in hash_of key_of items) order place ≡ hash ∷ its_key → (get_or order place 0 < length items)
       × IsAt hash_of key_of (map Some items) hash its_key (get_or order place 0)
   found_at items order hash its_key place o l is =
       let n = get_or order place 0 in
       let inside : n < length items = omega (arith, o.inside place l, many_keys items) in
-      let x = some_item items n inside in
+      let x = some_stray items n inside in
       let its : key x.0 ≡ hash ∷ its_key = ap key (sym (stray_is items n x.0 x.0 x.1)) ∙ sym (key_at items n x.0 inside) ∙ is in
-      (inside, record { entry = x.0; there = x.1; same_hash = ap head_of its; same_key = ap tail_of its })
+      (inside, record { entry = x.0; there = x.1; same_hash = head_of its; same_key = tail_of its })
 
   pub not_found : (items : List X) (order : List ℕ) (hash : ℕ) (its_key : List ℕ) (place : ℕ) → IsOrder (keys_in hash_of key_of items) order
       → place < length order → key_by (keys_in hash_of key_of items) order place ≡ hash ∷ its_key → IsAbsent hash_of key_of (map Some items) hash its_key → ⊥
@@ -317,44 +272,27 @@ module _ {X : Type 0} (hash_of : X → ℕ) (key_of : X → List ℕ) where
   keys_kept (z ∷ items) (suc at) x y e h k = ap (λ (ks : List (List ℕ)). key z ∷ ks) (keys_kept items at x y e h k)
 
   -- what is compared is what stands at the place
-  pub compared : (items : List X) (order : List ℕ) (place number : ℕ) (x : X) → IsOrder (keys_in hash_of key_of items) order → place < length order
-      → number ≡ get_or order place number → x ≡ get_or items number x → key x ≡ key_by (keys_in hash_of key_of items) order place
-  compared items order place number x o l read lent =
-      let is : number ≡ get_or order place 0 = get_or_read order place number l read 0 in
-      let inside : number < length items = omega (arith, is, o.inside place l, many_keys items) in
-      ap key lent ∙ sym (key_at items number x inside) ∙ ap (λ (n : ℕ). get_or (keys_in hash_of key_of items) n []) is
+  pub compared : (items : List X) {order : List ℕ} {place number : ℕ} {x : X} (its_key : List ℕ) {answer : Ordering} → IsOrder (keys_in hash_of key_of items) order → place < length order
+      → number ≡ get_or order place number → x ≡ get_or items number x → answer ≡ slice_cmp nat_cmp (key x) its_key
+      → slice_cmp nat_cmp (key_by (keys_in hash_of key_of items) order place) its_key ≡ answer
+  compared items {order} {place} {number} {x} its_key o l at lent is =
+      let there : number ≡ get_or order place 0 = get_or_read order place number l at 0 in
+      let its = ap key lent ∙ sym (key_at items number x (omega (arith, there, o.inside place l, many_keys items))) ∙ ap (λ (n : ℕ). get_or (keys_in hash_of key_of items) n []) there in
+      sym (is ∙ ap (λ (k : List ℕ). slice_cmp nat_cmp k its_key) its)
 
-  pub equal_there : (items : List X) (order : List ℕ) (place number : ℕ) (x : X) (its_key : List ℕ) (answer : Ordering)
-      → IsOrder (keys_in hash_of key_of items) order → place < length order → number ≡ get_or order place number → x ≡ get_or items number x
-      → answer ≡ slice_cmp nat_cmp (key x) its_key → answer ≡ Equal → key_by (keys_in hash_of key_of items) order place ≡ its_key
-  equal_there items order place number x its_key answer o l read lent is equal = sym (compared items order place number x o l read lent) ∙ exact_bytes (key x) its_key (sym is ∙ equal)
+  -- a search for a stray's own hash and key
+  own_key : (items : List X) (number : ℕ) (x : X) (q : List ℕ) → number < length items → x ≡ get_or items number x → q ≡ key x → get_or (keys_in hash_of key_of items) number [] ≡ q
+  own_key items number x q l lent is = key_at items number x l ∙ ap key (sym lent) ∙ sym is
 
-  pub less_there : (items : List X) (order : List ℕ) (place number : ℕ) (x : X) (its_key : List ℕ) (answer : Ordering)
-      → IsOrder (keys_in hash_of key_of items) order → place < length order → number ≡ get_or order place number → x ≡ get_or items number x
-      → answer ≡ slice_cmp nat_cmp (key x) its_key → answer ≡ Less → IsBefore (key_by (keys_in hash_of key_of items) order place) its_key
-  less_there items order place number x its_key answer o l read lent is less = carry (sym (compared items order place number x o l read lent)) refl (sym is ∙ less)
+  pub own_is_found : (items : List X) {order : List ℕ} {number place : ℕ} {x : X} {q : List ℕ} → IsOrder (keys_in hash_of key_of items) order → number < length items
+      → x ≡ get_or items number x → q ≡ key x → IsGap (keys_in hash_of key_of items) order q place → ⊥
+  own_is_found items {order} {number} {place} {x} {q} o l lent is gap =
+      none_in_gap (keys_in hash_of key_of items) order o q place gap number (omega (arith, many_keys items)) (own_key items number x q l lent is)
 
-  pub greater_there : (items : List X) (order : List ℕ) (place number : ℕ) (x : X) (its_key : List ℕ) (answer : Ordering)
-      → IsOrder (keys_in hash_of key_of items) order → place < length order → number ≡ get_or order place number → x ≡ get_or items number x
-      → answer ≡ slice_cmp nat_cmp (key x) its_key → answer ≡ Greater → IsBefore its_key (key_by (keys_in hash_of key_of items) order place)
-  greater_there items order place number x its_key answer o l read lent is greater = carry refl (sym (compared items order place number x o l read lent)) (turned (key x) its_key (sym is ∙ greater))
-
-  -- the hash and the key that a search for a stray's own asks for
-  own_key : (items : List X) (number : ℕ) (x : X) (hash : ℕ) (its_key : List ℕ) → number < length items → x ≡ get_or items number x → hash ≡ hash_of x
-      → its_key ≡ key_of x → get_or (keys_in hash_of key_of items) number [] ≡ hash ∷ its_key
-  own_key items number x hash its_key l lent same_hash same_key = key_at items number x l ∙ ap key (sym lent) ∙ (λ i. sym same_hash i ∷ sym same_key i)
-
-  pub own_is_found : (items : List X) (order : List ℕ) (number : ℕ) (x : X) (hash : ℕ) (its_key : List ℕ) (place : ℕ)
-      → IsOrder (keys_in hash_of key_of items) order → number < length items → x ≡ get_or items number x → hash ≡ hash_of x → its_key ≡ key_of x
-      → IsGap (keys_in hash_of key_of items) order (hash ∷ its_key) place → ⊥
-  own_is_found items order number x hash its_key place o l lent same_hash same_key gap =
-      none_in_gap (keys_in hash_of key_of items) order o (hash ∷ its_key) place gap number (omega (arith, l, many_keys items)) (own_key items number x hash its_key l lent same_hash same_key)
-
-  pub own_number : (items : List X) (order : List ℕ) (number : ℕ) (x : X) (hash : ℕ) (its_key : List ℕ) (place : ℕ)
-      → IsOrder (keys_in hash_of key_of items) order → number < length items → x ≡ get_or items number x → hash ≡ hash_of x → its_key ≡ key_of x
-      → (place < length order) × (key_by (keys_in hash_of key_of items) order place ≡ hash ∷ its_key) → get_or order place 0 ≡ number
-  own_number items order number x hash its_key place o l lent same_hash same_key found =
-      its_number (keys_in hash_of key_of items) order o place number found.0 (omega (arith, l, many_keys items)) (found.1 ∙ sym (own_key items number x hash its_key l lent same_hash same_key))
+  pub own_number : (items : List X) {order : List ℕ} {number place : ℕ} {x : X} {q : List ℕ} → IsOrder (keys_in hash_of key_of items) order → number < length items
+      → x ≡ get_or items number x → q ≡ key x → (place < length order) × (key_by (keys_in hash_of key_of items) order place ≡ q) → get_or order place 0 ≡ number
+  own_number items {order} {number} {place} {x} {q} o l lent is found =
+      its_number (keys_in hash_of key_of items) order o place number found.0 (omega (arith, many_keys items)) (found.1 ∙ sym (own_key items number x q l lent is))
 
   -- what was found, as the order gives it
   pub found_there : (items : List X) (order : List ℕ) (hash : ℕ) (its_key : List ℕ) (place number : ℕ) → IsOrder (keys_in hash_of key_of items) order
@@ -386,9 +324,17 @@ module _ {X : Type 0} (hash_of : X → ℕ) (key_of : X → List ℕ) where
 
 -- ---- what a search costs
 
-pub halved : (width half left : ℕ) → 1 ≤ width → half + half ≤ width → width < 2 ^ left → (less : ℕ) × (less + 1 ≡ left) × (half < 2 ^ less)
-halved width half zero some most fits = absurd (omega (arith, some, fits))
-halved width half (suc less) some most fits = (less, omega arith, omega (arith, most, fits, pow-succ' 2 less))
+halved : (width half left : ℕ) → 1 ≤ width → half + half ≤ width → width < 2 ^ left → (less : ℕ) × (less + 1 ≡ left) × (half < 2 ^ less)
+halved width half zero some most fits = absurd (omega arith)
+halved width half (suc less) some most fits = (less, omega arith, omega (arith, pow-succ' 2 less))
+
+-- what is left to read after a read that halved it
+pub less_to_read : (n width half seen now start : ℕ) → ((digits : ℕ) → n < 2 ^ digits → (left : ℕ) × (width < 2 ^ left) × (seen + left ≤ start + digits)) → 1 ≤ width → half + half ≤ width
+    → now ≤ seen + 1 → (digits : ℕ) → n < 2 ^ digits → (left : ℕ) × (half < 2 ^ left) × (now + left ≤ start + digits)
+less_to_read n width half seen now start before some most one digits l =
+    let had = before digits l in
+    let fewer = halved width half had.0 some most had.1 in
+    (fewer.0, fewer.2, omega (arith, had.2, fewer.1))
 
 pub below_power : (most n : ℕ) → n ≤ most → n < 2 ^ digits_in most n
 below_power zero zero l = omega arith
@@ -400,7 +346,9 @@ both_tables : (b : Bool) → ◌≡◌ {A = ℕ} (if b then 64 else 32) ((if b t
 both_tables true = refl
 both_tables false = refl
 
-pub reads_in_all : {X : Type 0} (now : IndexState X) (growing : Bool) (n before first second last : ℕ) → growing ≡ now.growing → n ≡ length now.strays
-    → first ≤ before + (if growing then 32 else 0) → second ≤ first + 32 → last ≤ second + binary_digits n → last ≤ before + most_reads now
-reads_in_all now growing n before first second last same many a b c =
-    omega (arith, a, b, c, both_tables now.growing, ap {B = ℕ} (λ (g : Bool). if g then 32 else 0) same, ap binary_digits many)
+pub reads_in_all : {X : Type 0} {v now : IndexState X} (before first second last : ℕ) → v ≡ now → first ≤ before + (if v.growing then 32 else 0) → second ≤ first + 32
+    → ((digits : ℕ) → length v.strays < 2 ^ digits → last ≤ second + digits) → last ≤ before + most_reads now
+reads_in_all {X} {v} {now} before first second last same a b c =
+    let n = length v.strays in
+    let found = c (binary_digits n) (below_power n n (omega arith)) in
+    subst (λ (s : IndexState X). last ≤ before + most_reads s) same (omega (arith, a, b, found, both_tables v.growing))

@@ -1,24 +1,10 @@
 -- What moving entries from one place to another keeps, and what a try of one stray brings.
-use Rattle.std.specs.Prelude.{◌≡◌, ℕ, ◌<◌, Bool, true, false, List, ◌∷◌, [], ◌++◌, ◌↔◌, Option, None, length, slice_index_or}
+use Rattle.std.specs.Prelude.{◌≡◌, ℕ, ◌<◌, Bool, true, false, List, ◌∷◌, Option, length, slice_index_or}
 use Rattle.std.specs.List.{swap_remove}
-use Rattle.std.specs.FinMap.{get, insert, len}
-use Rattle.std.specs.Option.{option_or}
-use Rattle.mc_hop.specs.Cells.{filled}
-use Rattle.mc_hop.specs.Contents.{AreDisjoint, content}
-use Rattle.mc_hop.specs.Tables.{AreApart, HasEntry, IsAbsent, home_in}
+use Rattle.std.specs.FinMap.{insert}
+use Rattle.mc_hop.specs.Contents.{content}
+use Rattle.mc_hop.specs.Tables.{AreApart, home_in}
 use Rattle.mc_grow.specs.Adding.{IsAdded, IsFull, NoneNear, Side}
-
--- the laws of the content of buckets that moves want, as `mc_hop` says them
-pub record ContentLaws {X : Type 0} (hash_of : X → ℕ) (key_of : X → List ℕ) : Type 0 where
-  pub absent : (items : List (Option X)) (hash : ℕ) (key : List ℕ) → IsAbsent hash_of key_of items hash key ↔ (get (content hash_of key_of items) (hash ∷ key) ≡ None)
-  pub alike : (items others : List (Option X)) → AreApart hash_of key_of items → AreApart hash_of key_of others → ((entry : X) → HasEntry items entry ↔ HasEntry others entry) → content hash_of key_of items ≡ content hash_of key_of others
-  pub none : (items : List (Option X)) → filled items ≡ 0 → content hash_of key_of items ≡ content hash_of key_of []
-  pub many : (items : List (Option X)) → AreApart hash_of key_of items → len (content hash_of key_of items) ≡ filled items
-  pub joined : (xs ys : List (Option X)) (key : List ℕ) → get (content hash_of key_of (xs ++ ys)) key ≡ option_or (get (content hash_of key_of xs) key) (get (content hash_of key_of ys) key)
-  pub parts : (xs ys zs others : List (Option X)) → content hash_of key_of xs ≡ content hash_of key_of zs → content hash_of key_of ys ≡ content hash_of key_of others → content hash_of key_of (xs ++ ys) ≡ content hash_of key_of (zs ++ others)
-  pub first : (xs ys zs : List (Option X)) (key : List ℕ) (entry : X) → content hash_of key_of zs ≡ insert (content hash_of key_of xs) key entry → content hash_of key_of (zs ++ ys) ≡ insert (content hash_of key_of (xs ++ ys)) key entry
-  pub second : (xs ys zs : List (Option X)) (key : List ℕ) (entry : X) → get (content hash_of key_of xs) key ≡ None → content hash_of key_of zs ≡ insert (content hash_of key_of ys) key entry → content hash_of key_of (xs ++ zs) ≡ insert (content hash_of key_of (xs ++ ys)) key entry
-  pub apart : (xs ys : List (Option X)) → AreApart hash_of key_of (xs ++ ys) ↔ (AreApart hash_of key_of xs × AreApart hash_of key_of ys × AreDisjoint (content hash_of key_of xs) (content hash_of key_of ys))
 
 -- the content is as it was, and no hash and key stands twice
 pub record HoldsAll {X : Type 0} (hash_of : X → ℕ) (key_of : X → List ℕ) (old new : List (Option X)) : Type 0 where

@@ -7,7 +7,7 @@ ghost use Rattle.mc_hop.specs.Tables.{IsAbsent, IsAt, home_in};
 ghost use Rattle.mc_grow.specs.Adding.{IsFull, NoneNear};
 
 use mc_displace::bring_near;
-use mc_hop::{Hop, Keyed, content_has_each_entry};
+use mc_hop::{Hop, Keyed};
 
 /// Puts an entry of a new key into a bucket near its home, where one is empty or others can be moved to make it so. Answers the
 /// bucket, or gives the entry back where none can be had; the table's content is then as it was. It takes no memory.
@@ -29,7 +29,6 @@ pub(crate) fn add<T: Keyed + Drop>(table: &mut Hop<T>, entry: T) -> Result<usize
         × (content T.hash_of T.key_of table.new.items ≡ content T.hash_of T.key_of table.old.items)
         × IsFull T.hash_of table.new.k table.new.items (home_in table.new.k (T.hash_of entry))) }
 {
-    content_has_each_entry::<T>();
     // how many buckets there are, for the proof
     let _buckets = table.buckets();
     let home = table.home_of(entry.hash());

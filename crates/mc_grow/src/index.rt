@@ -9,16 +9,13 @@ ghost use Rattle.mc_grow.specs.Parts.{IsFirstFilled, IsSpot, NoneFilledFrom};
 ghost use Rattle.mc_grow.specs.Indexes.{IsRemoved, cells, count, entry_at, holds, is_due, lags, left, most_reads};
 ghost use Rattle.mc_grow.specs.Adding.{AreMoved, IsInserted};
 
-use crate::moving::{content_laws, move_entries, place, try_strays};
+use crate::moving::{move_entries, place, try_strays};
 use crate::parts::{
     Spot, drained_buckets, drained_entry, drained_len, filled_bucket, filled_drained, find_drained,
     remove_drained, update_drained,
 };
 use crate::strays::Strays;
-use mc_hop::{
-    Counts, Hop, Keyed, Uncounted, content_changes_at_one_key, content_counts_entries,
-    content_has_each_entry,
-};
+use mc_hop::{Counts, Hop, Keyed, Uncounted};
 use std::alloc::{AllocError, Global};
 use std::marker::Model;
 use std::mem;
@@ -93,7 +90,6 @@ impl<T: Keyed + Drop> Index<T> {
         ensures found { IsFound T.hash_of T.key_of self.now hash key.now result }
         ensures reads { C.count reads.new ≤ C.count reads.old + most_reads self.now }
     {
-        content_has_each_entry::<T>();
         let first = drained_buckets(&self.draining);
         let second = first + self.table.buckets();
         if let Some(at) = find_drained(&self.draining, hash, key, reads) {
@@ -115,7 +111,6 @@ impl<T: Keyed + Drop> Index<T> {
     pub fn find_again(&self, place: Place, hash: u64, key: &[u8]) -> Option<Place>
         ensures { IsFound T.hash_of T.key_of self.now hash key.now result }
     {
-        content_has_each_entry::<T>();
         // what holds of every index, for the proof
         let _ = &self.table;
         match self.get(place) {
@@ -190,7 +185,6 @@ impl<T: Keyed + Drop> Index<T> {
         ensures { (entry : T) → entry_at self.old place ≡ Some entry →
             IsUpdated T.hash_of T.key_of (F.post change) entry place self.old self.new result }
     {
-        content_changes_at_one_key::<T>();
         match self.spot(place) {
             Spot::Drained(at) => update_drained(&mut self.draining, at, change),
             Spot::Table(at) => self.table.update(at, change),
@@ -204,7 +198,6 @@ impl<T: Keyed + Drop> Index<T> {
         ensures held { len (holds T.hash_of T.key_of self.now) ≡ result }
         ensures most { result < 2 ^ 64 - 1 }
     {
-        content_counts_entries::<T>();
         drained_len(&self.draining) + self.table.len() + self.strays.len()
     }
 
@@ -212,7 +205,6 @@ impl<T: Keyed + Drop> Index<T> {
     pub fn each_entry_counts_once(&self)
         ensures { len (holds T.hash_of T.key_of self.now) ≡ count self.now }
     {
-        content_counts_entries::<T>();
         let _ = &self.strays;
     }
 
@@ -276,8 +268,6 @@ impl<T: Keyed + Drop> Index<T> {
         requires { IsFilled self.old place }
         ensures { IsRemoved T.hash_of T.key_of place result self.old self.new }
     {
-        content_has_each_entry::<T>();
-        content_changes_at_one_key::<T>();
         match self.spot(place) {
             Spot::Drained(at) => remove_drained(&mut self.draining, at),
             Spot::Table(at) => self.table.remove(at),
@@ -321,7 +311,6 @@ impl<T: Keyed + Drop> Index<T> {
         ensures count { count self.new ≡ count self.old + 1 }
         ensures room { self.old.spare ≤ self.new.spare + 1 }
     {
-        content_laws::<T>();
         let buckets = drained_buckets(&self.draining);
         let at = place(&mut self.table, &mut self.strays, entry);
         Place {
@@ -341,7 +330,6 @@ impl<T: Keyed + Drop> Index<T> {
         ensures moves { AreMoved T.hash_of T.key_of result self.old self.new }
         ensures room { self.old.spare ≤ self.new.spare }
     {
-        content_laws::<T>();
         let Some(mut draining) = self.draining.take() else {
             return 0;
         };
@@ -384,7 +372,6 @@ impl<T: Keyed + Drop> Index<T> {
         ensures refused { OnErr result (StandsAs self.old self.new) }
         ensures content { holds T.hash_of T.key_of self.new ≡ holds T.hash_of T.key_of self.old }
     {
-        content_laws::<T>();
         let table = Hop::new(alloc, self.table.exponent() + 1)?;
         // how many buckets the old table has, for the proof
         let _buckets = self.table.buckets();

@@ -8,20 +8,11 @@ ghost use Rattle.mc_hop.specs.Cells.{filled};
 ghost use Rattle.mc_hop.specs.Contents.{content};
 ghost use Rattle.mc_hop.specs.Tables.{AreApart};
 ghost use Rattle.mc_grow.specs.Adding.{IsAdded, AreTried, AreTaken, beside, cells_of};
-ghost use Rattle.mc_grow.specs.Moving.{ContentLaws, HoldsAll, IsIn, IsTaken, IsTried};
+ghost use Rattle.mc_grow.specs.Moving.{HoldsAll, IsIn, IsTaken, IsTried};
 
 use crate::adding::add;
 use crate::strays::Strays;
-use mc_hop::{Hop, Keyed, content_counts_entries, content_has_each_entry, content_of_two_lists};
-
-/// States the laws of the content of buckets in one. It does nothing.
-pub(crate) fn content_laws<T: Keyed + Drop>()
-    ensures { ContentLaws T.hash_of T.key_of }
-{
-    content_counts_entries::<T>();
-    content_has_each_entry::<T>();
-    content_of_two_lists::<T>();
-}
+use mc_hop::{Hop, Keyed};
 
 /// Adds an entry of a new key, to a bucket near its home or else to the strays, and answers its place among the buckets and the
 /// strays behind them. It takes no memory.
@@ -42,7 +33,6 @@ pub(crate) fn place<T: Keyed + Drop>(table: &mut Hop<T>, strays: &mut Strays<T>,
     ensures small { result < 2 ^ 63 + 2 ^ 25 }
     ensures buckets { length table.new.items ≡ length table.old.items }
 {
-    content_laws::<T>();
     let entry = match add(table, entry) {
         Ok(at) => {
             table.entries_are_apart();
@@ -77,9 +67,7 @@ fn move_one<T: Keyed + Drop>(
     ensures room { length strays.new.items ≤ length strays.old.items + 1 }
     ensures capacity { strays.new.room ≡ strays.old.room }
 {
-    content_laws::<T>();
     let entry = draining.remove(at);
-    draining.entries_are_apart();
     place(table, strays, entry);
 }
 
@@ -107,7 +95,6 @@ pub(crate) fn move_entries<T: Keyed + Drop>(
         ≤ length strays.old.items + filled draining.old.items }
     ensures capacity { strays.new.room ≡ strays.old.room }
 {
-    content_laws::<T>();
     for moved in 0..n {
         let Some(at) = draining.any_filled() else {
             return moved;

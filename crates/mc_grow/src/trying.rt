@@ -7,7 +7,6 @@ ghost use Rattle.mc_grow.specs.Adding.{beside, cells_of};
 ghost use Rattle.mc_grow.specs.Moving.{HoldsAll, IsTried};
 
 use crate::adding::add;
-use crate::moving::content_laws;
 use mc_hop::{Hop, Keyed};
 
 /// Tries the stray of a number in the table, and returns whether it went there. The last stray has
@@ -25,7 +24,6 @@ pub(crate) fn try_item<T: Keyed + Drop>(table: &mut Hop<T>, strays: &mut Vec<T>,
     ensures room { vec_len strays.new ≤ vec_len strays.old }
     ensures capacity { vec_capacity strays.new ≡ vec_capacity strays.old }
 {
-    content_laws::<T>();
     let entry = strays.swap_remove(at);
     match add(table, entry) {
         Ok(_) => {

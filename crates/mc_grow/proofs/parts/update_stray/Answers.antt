@@ -2,7 +2,8 @@ use Rattle.std.proofs.Common.{◌≡◌, ◌-◌, Some, map, ap, subst, ◌∙�
 use Rattle.std.proofs.lemmas.List.{map-set}
 use Rattle.mc_grow.specs.Strays.{keys_in}
 use Rattle.mc_grow.proofs.OrderLemmas.{keys_kept}
-use Rattle.mc_grow.proofs.PartLemmas.{put_back, stray_is, stray_there, swapped}
+use Rattle.mc_hop.proofs.ListLemmas.{swapped}
+use Rattle.mc_grow.proofs.PartLemmas.{put_back, stray_is, stray_there}
 use Rattle.mc_grow.proofs.parts.update_stray.Goals as goal
 
 pub returns-clause-changed : goal.returns-clause-changed

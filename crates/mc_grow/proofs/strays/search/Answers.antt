@@ -1,5 +1,6 @@
-use Rattle.std.proofs.Common.{◌+◌, ◌-◌, ◌/◌, ◌<◌, ◌∷◌, length, arith}
-use Rattle.mc_grow.proofs.OrderLemmas.{all_before, all_behind, equal_there, greater_there, halved, less_there, many_keys}
+use Rattle.std.proofs.Common.{◌+◌, ◌-◌, ◌/◌, ◌<◌, ◌∷◌, ◌∙◌, length, arith}
+use Rattle.std.proofs.lemmas.Map.Lookups.{exact_bytes}
+use Rattle.mc_grow.proofs.OrderLemmas.{all_before, all_behind, compared, less_to_read, many_keys}
 use Rattle.mc_grow.proofs.strays.search.Goals as goal
 
 pub loop-low-init : goal.loop-low-init
@@ -16,18 +17,13 @@ loop-low-preserved-in-Less g c =
     let w = c.loop-low in
     let middle = w.low + (w.high - w.low) / 2 in
     let inside : middle < length c.args.order.now.items = omega (arith, c.loop-low-test.true, w.invariant.inside) in
-    let less =
-    less_there g.T.Keyed.hash_of g.T.Keyed.key_of c.args.items.now.items c.args.order.now.items middle c.index.result.now c.index-in-loop-low.result.now
-    (c.args.hash ∷ c.args.key.now) c.compare.result c.requires inside c.index.ensures c.index-in-loop-low.ensures c.compare.ensures.order c.in-Less.is in
+    let its = compared g.T.Keyed.hash_of g.T.Keyed.key_of c.args.items.now.items (c.args.hash ∷ c.args.key.now) c.requires inside c.index.ensures c.index-in-loop-low.ensures c.compare.ensures.order in
     record {
       range = omega (arith, c.loop-low-test.true);
       inside = w.invariant.inside;
-      before = all_before _ _ c.requires middle (c.args.hash ∷ c.args.key.now) inside less;
+      before = all_before _ _ c.requires middle (c.args.hash ∷ c.args.key.now) inside (its ∙ c.in-Less.is);
       behind = w.invariant.behind;
-      reads = λ digits l.
-          let had = w.invariant.reads digits l in
-          let half = halved (w.high - w.low) (w.high - (middle + 1)) had.0 (omega (arith, c.loop-low-test.true)) (omega arith) had.1 in
-          (half.0, half.2, omega (arith, c.compare.ensures.reads, had.2, half.1));
+      reads = less_to_read _ _ _ _ _ _ w.invariant.reads (omega (arith, c.loop-low-test.true)) (omega arith) c.compare.ensures.reads;
     }
 
 pub loop-low-preserved : goal.loop-low-preserved
@@ -35,26 +31,18 @@ loop-low-preserved g c =
     let w = c.loop-low in
     let middle = w.low + (w.high - w.low) / 2 in
     let inside : middle < length c.args.order.now.items = omega (arith, c.loop-low-test.true, w.invariant.inside) in
-    let greater =
-    greater_there g.T.Keyed.hash_of g.T.Keyed.key_of c.args.items.now.items c.args.order.now.items middle c.index.result.now c.index-in-loop-low.result.now
-    (c.args.hash ∷ c.args.key.now) c.compare.result c.requires inside c.index.ensures c.index-in-loop-low.ensures c.compare.ensures.order c.in-Greater.is in
+    let its = compared g.T.Keyed.hash_of g.T.Keyed.key_of c.args.items.now.items (c.args.hash ∷ c.args.key.now) c.requires inside c.index.ensures c.index-in-loop-low.ensures c.compare.ensures.order in
     record {
       range = omega arith;
       inside = omega (arith, inside);
       before = w.invariant.before;
-      behind = all_behind _ _ c.requires middle (c.args.hash ∷ c.args.key.now) greater;
-      reads = λ digits l.
-          let had = w.invariant.reads digits l in
-          let half = halved (w.high - w.low) (middle - w.low) had.0 (omega (arith, c.loop-low-test.true)) (omega arith) had.1 in
-          (half.0, half.2, omega (arith, c.compare.ensures.reads, had.2, half.1));
+      behind = all_behind _ _ c.requires middle (c.args.hash ∷ c.args.key.now) (its ∙ c.in-Greater.is);
+      reads = less_to_read _ _ _ _ _ _ w.invariant.reads (omega (arith, c.loop-low-test.true)) (omega arith) c.compare.ensures.reads;
     }
 
 pub returns-in-Equal-clause-found : goal.returns-in-Equal-clause-found
 returns-in-Equal-clause-found g c =
     let w = c.loop-low in
-    let middle = w.low + (w.high - w.low) / 2 in
-    let inside : middle < length c.args.order.now.items = omega (arith, c.loop-low-test.true, w.invariant.inside) in (
-      inside,
-      equal_there g.T.Keyed.hash_of g.T.Keyed.key_of c.args.items.now.items c.args.order.now.items middle c.index.result.now c.index-in-loop-low.result.now
-          (c.args.hash ∷ c.args.key.now) c.compare.result c.requires inside c.index.ensures c.index-in-loop-low.ensures c.compare.ensures.order c.in-Equal.is,
-    )
+    let inside : w.low + (w.high - w.low) / 2 < length c.args.order.now.items = omega (arith, c.loop-low-test.true, w.invariant.inside) in
+    let its = compared g.T.Keyed.hash_of g.T.Keyed.key_of c.args.items.now.items (c.args.hash ∷ c.args.key.now) c.requires inside c.index.ensures c.index-in-loop-low.ensures c.compare.ensures.order in
+    (inside, exact_bytes _ _ (its ∙ c.in-Equal.is))

@@ -1,5 +1,5 @@
 use Rattle.std.proofs.Common.{arith}
-use Rattle.mc_grow.proofs.StrayLemmas.{put_back_again}
+use Rattle.mc_grow.proofs.PartLemmas.{put_back_again}
 use Rattle.mc_grow.proofs.trying.put_back.Goals as goal
 
 pub returns-clause-items : goal.returns-clause-items

@@ -1,9 +1,10 @@
 use Rattle.std.proofs.Common.{◌≡◌, subst}
 use Rattle.std.specs.FinMap.{len}
+use Rattle.mc_hop.proofs.LawLemmas.{many_entries}
 use Rattle.mc_grow.specs.Indexes.{IndexState, count, holds}
 use Rattle.mc_grow.proofs.index.Index.each_entry_counts_once.Goals as goal
 
 pub returns : goal.returns
 returns g c =
     subst (λ (s : IndexState g.row.T.Denot). len (holds g.T.Keyed.hash_of g.T.Keyed.key_of s) ≡ count s) c.self.view_is
-    (c.content_counts_entries.ensures _ c.self.invariant.apart)
+    (many_entries g.T.Keyed.hash_of g.T.Keyed.key_of _ c.self.invariant.apart)

@@ -1,67 +1,45 @@
-use Rattle.std.proofs.Common.{◌≡◌, ℕ, ◌+◌, ◌∷◌, None, is_some, length, ap, subst, arith}
+use Rattle.std.proofs.Common.{ℕ, ◌+◌, ◌++◌, ◌∷◌, Some, map, is_some, length, ap, refl, sym, ◌∙◌, arith}
 use Rattle.std.specs.FinMap.{get}
-use Rattle.mc_hop.specs.Tables.{IsAt}
-use Rattle.mc_grow.specs.Indexes.{IndexState, IsPlaceOf, binary_digits, holds}
+use Rattle.mc_hop.proofs.LawLemmas.{entry_absent}
+use Rattle.mc_grow.specs.Indexes.{IndexState, holds}
 use Rattle.mc_grow.specs.Parts.{drained_items}
-use Rattle.mc_grow.proofs.CellLemmas.{all, placed, at_drained, at_table, at_stray, absent_all}
-use Rattle.mc_grow.proofs.OrderLemmas.{below_power, reads_in_all}
+use Rattle.mc_grow.proofs.CellLemmas.{absent_both, at_left, at_right, placed}
+use Rattle.mc_grow.proofs.OrderLemmas.{reads_in_all}
 use Rattle.mc_grow.proofs.index.Index.find_counted.Goals as goal
 
 pub overflow_add-result-in-Some-find : goal.overflow_add-result-in-Some-find
 overflow_add-result-in-Some-find g c = omega (arith, c.drained_buckets-first.ensures.most, c.buckets.ensures.most, c.find.ensures.small, c.in-Some-find.ensures.found.0)
 
 pub returns-in-Some-find-clause-reads : goal.returns-in-Some-find-clause-reads
-returns-in-Some-find-clause-reads g c =
-    let n = length c.self.inside.strays.items in
-    reads_in_all c.args.self.now (is_some c.self.inside.draining) n _ _ _ _ (ap (λ (s : IndexState g.row.T.Denot). s.growing) c.self.view_is)
-    (ap (λ (s : IndexState g.row.T.Denot). length s.strays) c.self.view_is)
-    c.find_drained.ensures.reads c.find_counted.ensures.reads (c.find.ensures.reads (binary_digits n) (below_power n n (omega arith)))
+returns-in-Some-find-clause-reads g c = reads_in_all _ _ _ _ c.self.view_is c.find_drained.ensures.reads c.find_counted.ensures.reads c.find.ensures.reads
 
 pub returns-in-None-clause-reads : goal.returns-in-None-clause-reads
-returns-in-None-clause-reads g c =
-    let n = length c.self.inside.strays.items in
-    reads_in_all c.args.self.now (is_some c.self.inside.draining) n _ _ _ _ (ap (λ (s : IndexState g.row.T.Denot). s.growing) c.self.view_is)
-    (ap (λ (s : IndexState g.row.T.Denot). length s.strays) c.self.view_is)
-    c.find_drained.ensures.reads c.find_counted.ensures.reads (c.find.ensures.reads (binary_digits n) (below_power n n (omega arith)))
+returns-in-None-clause-reads g c = reads_in_all _ _ _ _ c.self.view_is c.find_drained.ensures.reads c.find_counted.ensures.reads c.find.ensures.reads
 
 pub returns-in-Some-clause-found : goal.returns-in-Some-clause-found
-returns-in-Some-clause-found g c =
-    let i = c.self.inside in
-    let hash_of = g.T.Keyed.hash_of in
-    let key_of = g.T.Keyed.key_of in
-    subst (λ (s : IndexState g.row.T.Denot). IsPlaceOf hash_of key_of s c.args.hash c.args.key.now (record { number = c.in-Some.at })) c.self.view_is
-    (placed hash_of key_of _ _ _ _ c.content_has_each_entry.ensures.found c.self.invariant.apart
-    (at_drained (drained_items i.draining) i.table.items i.strays.items hash_of key_of _ _ _ c.in-Some.ensures.found.1))
+returns-in-Some-clause-found g c = placed _ c.self.view_is c.self.invariant.apart (at_left (drained_items c.self.inside.draining) _ c.in-Some.ensures.found.1)
 
 pub returns-in-Some-find_counted-clause-found : goal.returns-in-Some-find_counted-clause-found
 returns-in-Some-find_counted-clause-found g c =
     let i = c.self.inside in
-    let hash_of = g.T.Keyed.hash_of in
-    let key_of = g.T.Keyed.key_of in
-    let number = c.drained_buckets-first.result + c.in-Some-find_counted.at in
-    subst (λ (s : IndexState g.row.T.Denot). IsPlaceOf hash_of key_of s c.args.hash c.args.key.now (record { number = number })) c.self.view_is
-    (placed hash_of key_of _ _ _ _ c.content_has_each_entry.ensures.found c.self.invariant.apart
-    (subst (λ (n : ℕ). IsAt hash_of key_of (all (drained_items i.draining) i.table.items i.strays.items) c.args.hash c.args.key.now n) (omega (arith, c.drained_buckets-first.ensures.value))
-    (at_table (drained_items i.draining) i.table.items i.strays.items hash_of key_of _ _ _ c.in-Some-find_counted.ensures.found.1)))
+    placed _ c.self.view_is c.self.invariant.apart
+    (at_right (drained_items i.draining) _ (ap (λ (n : ℕ). n + c.in-Some-find_counted.at) c.drained_buckets-first.ensures.value)
+    (at_left i.table.items (map Some i.strays.items) c.in-Some-find_counted.ensures.found.1))
 
 pub returns-in-Some-find-clause-found : goal.returns-in-Some-find-clause-found
 returns-in-Some-find-clause-found g c =
     let i = c.self.inside in
-    let hash_of = g.T.Keyed.hash_of in
-    let key_of = g.T.Keyed.key_of in
-    let number = c.drained_buckets-first.result + c.buckets.result + c.in-Some-find.at in
-    subst (λ (s : IndexState g.row.T.Denot). IsPlaceOf hash_of key_of s c.args.hash c.args.key.now (record { number = number })) c.self.view_is
-    (placed hash_of key_of _ _ _ _ c.content_has_each_entry.ensures.found c.self.invariant.apart
-    (subst (λ (n : ℕ). IsAt hash_of key_of (all (drained_items i.draining) i.table.items i.strays.items) c.args.hash c.args.key.now n)
-    (omega (arith, c.drained_buckets-first.ensures.value, c.buckets.ensures.value))
-    (at_stray (drained_items i.draining) i.table.items i.strays.items hash_of key_of _ _ _ c.in-Some-find.ensures.found.1)))
+    placed _ c.self.view_is c.self.invariant.apart
+    (at_right (drained_items i.draining) _ {at = length i.table.items + c.in-Some-find.at} (omega (arith, c.drained_buckets-first.ensures.value, c.buckets.ensures.value))
+    (at_right i.table.items (map Some i.strays.items) refl c.in-Some-find.ensures.found.1))
 
 pub returns-in-None-clause-found : goal.returns-in-None-clause-found
 returns-in-None-clause-found g c =
     let i = c.self.inside in
     let hash_of = g.T.Keyed.hash_of in
     let key_of = g.T.Keyed.key_of in
-    subst (λ (s : IndexState g.row.T.Denot). get (holds hash_of key_of s) (c.args.hash ∷ c.args.key.now) ≡ None) c.self.view_is
-    ((c.content_has_each_entry.ensures.absent (all (drained_items i.draining) i.table.items i.strays.items) c.args.hash c.args.key.now).0
-    (absent_all (drained_items i.draining) i.table.items i.strays.items hash_of key_of _ _
-    (c.find_drained.ensures.none (ap is_some c.in_default.is)) (c.find_counted.ensures.none (ap is_some c.in_default-find_counted.is)) (c.find.ensures.none (ap is_some c.in-None.is))))
+    let none = absent_both hash_of key_of i.table.items (map Some i.strays.items) _ _
+    (c.find_counted.ensures.none (ap is_some c.in_default-find_counted.is)) (c.find.ensures.none (ap is_some c.in-None.is)) in
+    let all = absent_both hash_of key_of (drained_items i.draining) _ _ _ (c.find_drained.ensures.none (ap is_some c.in_default.is)) none in
+    sym (ap (λ (s : IndexState g.row.T.Denot). get (holds hash_of key_of s) (c.args.hash ∷ c.args.key.now)) c.self.view_is)
+    ∙ (entry_absent hash_of key_of (drained_items i.draining ++ (i.table.items ++ map Some i.strays.items)) c.args.hash c.args.key.now).0 all

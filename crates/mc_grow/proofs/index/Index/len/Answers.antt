@@ -1,5 +1,6 @@
 use Rattle.std.proofs.Common.{◌≡◌, ◌+◌, ◌∙◌, subst, arith}
 use Rattle.std.specs.FinMap.{len}
+use Rattle.mc_hop.proofs.LawLemmas.{many_entries}
 use Rattle.mc_grow.specs.Indexes.{IndexState, count, holds}
 use Rattle.mc_grow.proofs.CellLemmas.{count_parts}
 use Rattle.mc_grow.specs.Parts.{drained_items}
@@ -21,7 +22,7 @@ pub returns-clause-held : goal.returns-clause-held
 returns-clause-held g c =
     let i = c.self.inside in
     subst (λ (s : IndexState g.row.T.Denot). len (holds g.T.Keyed.hash_of g.T.Keyed.key_of s) ≡ c.drained_len.result + c.len.result + c.len-2.result) c.self.view_is
-    (c.content_counts_entries.ensures _ c.self.invariant.apart
+    (many_entries g.T.Keyed.hash_of g.T.Keyed.key_of _ c.self.invariant.apart
     ∙ (omega (arith, c.drained_len.ensures.value, c.len.ensures.value, c.len-2.ensures.value, count_parts (drained_items i.draining) i.table.items i.strays.items)))
 
 pub returns-clause-most : goal.returns-clause-most
