@@ -55,7 +55,7 @@ pub shared_sync : (K : RattleType) (g : Ghosts K.Denot) → IsSync K → IsSync 
 shared_sync K g k = view_sync _ _ _ _ _ (recorded_sync (inside.the_field K g).row _ _ (inside.the_type K g).to_one
     (struct_sync (struct.shape (inside.the_type K g)) (
       search (bay_send, table.the_field_sync, board.the_sync, crossing.crosses, sendable) depth 60 fits 20000,
-      (search sendable depth 60 fits 20000, (k, tt)),
+      (search sendable depth 60 fits 20000, (k, (search (heaps.the_sync, crossing.crosses, sendable) depth 60 fits 20000, tt))),
     )))
 
 pub shared_lent : (K : RattleType) (g : Ghosts K.Denot) → IsSync K → Lent (shared.the_row K g)

@@ -115,10 +115,12 @@ impl<K: KeyHash + Drop> Shared<K> {
     }
 
     /// Takes the desk for a seat that holds a shelf, and waits until it is free.
-    pub(crate) fn take_desk_for<R: Wait>(&self, rt: &R, seat: &mut Seat) -> Box<Desk>
+    pub(crate) fn wait_for_desk<R: Wait>(&self, rt: &R, seat: &mut Seat) -> Box<Desk>
         requires { (at : ℕ) × (shelf : ShelfContent)
             × HoldsShelf K.hash_of self.now seat.old at shelf }
-        ensures { (at : ℕ) (shelf : ShelfContent) → HoldsShelf K.hash_of self.now seat.old at shelf →
+        ensures past { seat.new.me.0.past ≡ seat.old.me.0.past }
+        ensures holds { (at : ℕ) (shelf : ShelfContent) →
+            HoldsShelf K.hash_of self.now seat.old at shelf →
             HoldsBoth K.hash_of self.now seat.new at shelf result.value }
     {
         let desk = self.settings.shelves as usize;

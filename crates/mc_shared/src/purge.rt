@@ -78,7 +78,7 @@ impl<'a, K: KeyHash + Drop> AtShelf<'a, K> {
             mut shelf,
         } = self;
         let purging = shelf.begin_purge(shared.alloc, now);
-        let mut desk = shared.take_desk_for(rt, &mut seat);
+        let mut desk = shared.wait_for_desk(rt, &mut seat);
         shelf.end_purge(purging, now, &mut *desk);
         let decision = Decision::Purged {
             at,

@@ -26,7 +26,7 @@ use crate::store::{Caller, Shared};
 use core::mem::replace_with;
 use mc_command::{KeyStep, Reply, StepFault};
 use mc_hop::KeyHash;
-use mc_shelf::{Begun, Desk, Plan, Shelf, Wanted, refusals_are_plain};
+use mc_shelf::{Begun, Desk, Plan, Shelf, Wanted};
 use mc_slab::Pages;
 use mc_time::Moment;
 use std::alloc::{AllocError, Global};
@@ -234,7 +234,6 @@ fn begin_step<'k>(
     ensures err { OnErr result
         ((shelf.new.content ≡ shelf.old.content) × (desk.new ≡ desk.old)) }
 {
-    refusals_are_plain();
     // what holds of every desk, for the proof
     let _number = desk.next_unique();
     match looked {

@@ -132,7 +132,13 @@ fn a_purge_begins_at_the_shelf_alone(rt: HostRuntime) -> Result<(), Fail> {
     assert_eq!(rt; first_unlike(&mut store, alloc, &rows)?, None);
     let mut shelves = store.into_parts().shelves;
     // at which second, how many go, and how many stay
-    for (seconds, gone, stay) in [(1004, 0, 5), (1005, 1, 4), (1010, 2, 2), (1015, 0, 2), (1020, 1, 1)] {
+    for (seconds, gone, stay) in [
+        (1004, 0, 5),
+        (1005, 1, 4),
+        (1010, 2, 2),
+        (1015, 0, 2),
+        (1020, 1, 1),
+    ] {
         let has = match shelves.first_mut() {
             Some(shelf) => begun_at(alloc, shelf, seconds),
             None => None,
