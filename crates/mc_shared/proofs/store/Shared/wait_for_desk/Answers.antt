@@ -14,5 +14,6 @@ returns-clause-past g c = ap (λ (m : Mine). m.0.past) c.take_waiting.ensures.ta
 pub returns-clause-holds : goal.returns-clause-holds
 returns-clause-holds g c at shelf holds =
     let board = c.self.inside.board.shared in
-    takes_desk g.K.KeyHash.hash_of board.table_id board.key.value c.args.self.now c.args.seat.now c.take_waiting.new.seat at c.self.inside.settings.shelves shelf c.desk_from.result.value c.take_waiting.result
+    takes_desk g.K.KeyHash.hash_of board.table_id board.key.value c.args.self.now c.args.seat.now c.take_waiting.new.seat at c.self.inside.settings.shelves
+    shelf c.desk_from.result.value c.take_waiting.result
     c.self.view_is (sym (ap (λ s. s.shelves) c.self.invariant.1)) c.desk_from.ensures c.take_waiting.ensures.seat c.take_waiting.ensures.taken holds

@@ -41,7 +41,8 @@ loop-number-preserved-then-is_gone c =
     let held = c.loop-number.invariant in
     let first = c.in-Some.ensures.next in
     let gone = gone_here inside.cut c.args.now inside.index c.in-Some.place c.get.result c.get.ensures (sym c.is_gone.ensures ∙ c.if-is_gone.true) c.remove-entry.result c.remove-entry.ensures.there in
-    let less = one_less (items_of inside.index) (items_of c.remove-entry.new.self) c.remove-entry.result.key c.remove-entry.result.item c.remove-entry.ensures.item c.remove-entry.ensures.removed.items in
+    let entry = c.remove-entry.result in
+    let less = one_less (items_of inside.index) (items_of c.remove-entry.new.self) entry.key entry.item c.remove-entry.ensures.item c.remove-entry.ensures.removed.items in
     let are = out_after c.args.self.now.content.items (items_of inside.index) c.args.desk.now c.loop-number.desk held.gives c.requires in
     record {
       most = held.most;

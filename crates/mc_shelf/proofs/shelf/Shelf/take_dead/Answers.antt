@@ -33,7 +33,8 @@ loop-number-init c = record {
 pub push_reserved-requires : goal.push_reserved-requires
 push_reserved-requires c =
     let inside = c.loop-number.self-inside in
-    let less = one_less (items_of inside.index) (items_of c.remove-entry.new.self) c.remove-entry.result.key c.remove-entry.result.item c.remove-entry.ensures.item c.remove-entry.ensures.removed.items in
+    let entry = c.remove-entry.result in
+    let less = one_less (items_of inside.index) (items_of c.remove-entry.new.self) entry.key entry.item c.remove-entry.ensures.item c.remove-entry.ensures.removed.items in
     omega (arith, less, c.loop-number.invariant.room)
 
 pub loop-number-smaller-then-is_gone : goal.loop-number-smaller-then-is_gone
@@ -48,13 +49,14 @@ loop-number-preserved-then-is_gone c =
     let held = c.loop-number.invariant in
     let first = c.in-Some.ensures.next in
     let gone = gone_here inside.cut c.args.now inside.index c.in-Some.place c.get.result c.get.ensures (sym c.is_gone.ensures ∙ c.if-is_gone.true) c.remove-entry.result c.remove-entry.ensures.there in
-    let less = one_less (items_of inside.index) (items_of c.remove-entry.new.self) c.remove-entry.result.key c.remove-entry.result.item c.remove-entry.ensures.item c.remove-entry.ensures.removed.items in
+    let entry = c.remove-entry.result in
+    let less = one_less (items_of inside.index) (items_of c.remove-entry.new.self) entry.key entry.item c.remove-entry.ensures.item c.remove-entry.ensures.removed.items in
     record {
       most = held.most;
       swept = swept_both c.args.now c.args.self.now.content (content_of inside.greatest inside.cut inside.index) (content_of inside.greatest inside.cut c.remove-entry.new.self) held.swept
           (swept_one c.args.now inside.greatest inside.cut inside.index c.remove-entry.new.self c.remove-entry.result c.remove-entry.ensures.item c.remove-entry.ensures.removed gone);
       counts = λ class.
-          let one = counted_one (items_of inside.index) (items_of c.remove-entry.new.self) c.remove-entry.result.key c.remove-entry.result.item c.push_reserved.new.self.items c.loop-number.chunks.items
+          let one = counted_one (items_of inside.index) (items_of c.remove-entry.new.self) entry.key entry.item c.push_reserved.new.self.items c.loop-number.chunks.items
           c.into_chunks.result c.remove-entry.ensures.item c.remove-entry.ensures.removed.items c.into_chunks.ensures.need c.push_reserved.ensures.items class in
           omega (arith, one, held.counts class);
       room = omega (arith, less, held.room, c.push_reserved.ensures.len, c.push_reserved.ensures.capacity);
