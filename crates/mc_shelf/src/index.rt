@@ -268,12 +268,12 @@ impl Index {
         self.entries.filled_from(at)
     }
 
-    /// Reads ahead on a sweep that has come to a number: the headers of the next entries, 16 at most
-    /// and up to one that isn't gone at a moment, with a flush at `cut`. Answers the number behind
-    /// them, or `ahead` if that is further than the number, since they were read before then.
+    /// Reads ahead on a sweep that has come to the entry of a number, if it hasn't read so far: the
+    /// headers of this entry and the next, 16 at most, as long as all are gone at a moment, with a
+    /// flush at `cut`, or none is. Answers the number behind them.
     ///
-    /// A header lies in no cache, and a removal between two would let each load wait for the one
-    /// before; one behind another they are under way together.
+    /// A header lies in no cache. Read one right behind another they come together; with a removal
+    /// between two, or a search for the next, each waits for the one before.
     pub(crate) fn read_ahead(
         &self,
         ahead: usize,
@@ -284,14 +284,22 @@ impl Index {
         if number < ahead {
             return ahead;
         }
-        let mut at = number;
-        for _ in 0..AHEAD {
-            match self.filled_from(at) {
-                Some((number, place)) if is_gone(self.get(place), cut, now) => at = number + 1,
-                _ => return at,
-            }
+        alike_until(&self.entries_from(number), number, cut, now)
+    }
+
+    /// Lends the first entries whose numbers are at or above `from`, each with the number behind it.
+    /// It reads no item's memory.
+    fn entries_from(&self, from: usize) -> [(usize, Option<&Entry>); AHEAD] {
+        let mut entries = [(from, None); AHEAD];
+        let mut at = from;
+        for place in 0..AHEAD {
+            let Some((number, found)) = self.filled_from(at) else {
+                return entries;
+            };
+            at = number + 1;
+            entries[place] = (at, self.get(found));
         }
-        at
+        entries
     }
 
     /// Finds an entry: the first whose number is at or above `at`, or the first of all if none is.
@@ -408,4 +416,26 @@ impl Index {
     {
         self.entries.move_some(n)
     }
+}
+
+/// Returns the number behind the first of these entries, up to one that is gone at a moment, with a
+/// flush at `cut`, while the first isn't, or the other way about; `from` if there is none.
+fn alike_until(
+    entries: &[(usize, Option<&Entry>)],
+    from: usize,
+    cut: Option<u64>,
+    now: Moment,
+) -> usize {
+    let Some((_, first)) = entries.first() else {
+        return from;
+    };
+    let gone = is_gone(*first, cut, now);
+    let mut end = from;
+    for (behind, entry) in entries {
+        if is_gone(*entry, cut, now) != gone {
+            return end;
+        }
+        end = *behind;
+    }
+    end
 }
