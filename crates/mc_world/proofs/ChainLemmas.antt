@@ -1,6 +1,5 @@
 -- Steps one after another.
-use Rattle.std.proofs.Common.{◌≡◌, List, [], ◌∷◌, ◌++◌, refl, sym, ap, ◌∙◌, subst}
-use Rattle.mc_world.specs.Chains.{Chain}
+use Rattle.mc_world.proofs.Words.{List, [], ◌∷◌, ◌++◌, refl, sym, ap, subst, Chain}
 
 module _ {S L : Type 0} (Step : S → L → S → Type 0) where
   -- a chain behind another
@@ -24,10 +23,7 @@ module _ {S L : Type 0} (Step : S → L → S → Type 0) where
   keeps Holds each (x ∷ labels) old new chain holds = keeps Holds each labels chain.0 new chain.2 (each old chain.0 x chain.1 holds)
 
   -- the same of other states, where that is so of each step, and each step keeps what it needs
-  pub along : {T : Type 0} (Other : T → L → T → Type 0) (f : S → T) (Holds : S → Type 0)
-      → ((old new : S) (label : L) → Step old label new → Holds old → Holds new × Other (f old) label (f new))
+  pub along : {T : Type 0} (Other : T → L → T → Type 0) (f : S → T) (Holds : S → Type 0) → ((old new : S) (label : L) → Step old label new → Holds old → Holds new × Other (f old) label (f new))
       → (labels : List L) (old new : S) → Holds old → Chain Step old labels new → Chain Other (f old) labels (f new)
   along Other f Holds each [] old new holds chain = ap f chain
-  along Other f Holds each (x ∷ labels) old new holds chain =
-      let step = each old chain.0 x chain.1 holds in
-      (f chain.0, step.1, along Other f Holds each labels chain.0 new step.0 chain.2)
+  along Other f Holds each (x ∷ labels) old new holds chain = let step = each old chain.0 x chain.1 holds in (f chain.0, step.1, along Other f Holds each labels chain.0 new step.0 chain.2)

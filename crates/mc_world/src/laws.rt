@@ -39,6 +39,7 @@ pub fn sessions_may_change_places()
 /// States that what a session has had and what is to be written of it follow from its own events
 /// and from what its own steps were answered. The rest of a run shows in those answers or not at
 /// all: other sessions, the clock, growth and purges.
+#[tactic(auto, using(crate::proofs::AnswerLemmas::runs_answering))]
 pub fn a_session_follows_its_own_answers()
     ensures answered { (hash : List ℕ → ℕ) (shelves n : ℕ) (old new : PlainWorld)
         (events : List Event) (first : Connection) →
@@ -51,6 +52,7 @@ pub fn a_session_follows_its_own_answers()
 
 /// States that a plain world stands as one state only, of those with the same settings and hasher:
 /// so what is told of a world pins it.
+#[tactic(auto, using(crate::proofs::ConnectionLemmas::stands_one))]
 pub fn a_plain_world_stands_one_way<K: KeyHash>()
     ensures { (plain : PlainWorld) (one other : WorldState K) →
         StandsAs plain one → StandsAs plain other →
@@ -65,6 +67,7 @@ pub fn a_turn_is_due_of_both()
 {}
 
 /// States that the laws of the grammar and of sessions that the proofs here use hold.
+#[tactic(auto, using(crate::proofs::ConnectionLemmas::the_grammar))]
 pub fn grammar()
     ensures { Grammar }
 {}

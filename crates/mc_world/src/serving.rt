@@ -62,6 +62,7 @@ pub fn serve_one<R: Read, W: Write, K: KeyHash + Drop, C: Clock>(
 
 /// States that what stands in front of a session's output never shows in what comes: with it in
 /// front or without, events do the same. So what was written of a session makes no difference.
+#[tactic(auto, using(crate::proofs::EventLemmas::runs_fronted))]
 pub fn written_output_never_shows()
     ensures { (hash : List ℕ → ℕ) (shelves n : ℕ) (bytes : List ℕ) (old new : PlainWorld)
         (events : List Event) → 1 ≤ n → n ≤ length old.connections →
@@ -70,6 +71,7 @@ pub fn written_output_never_shows()
 {}
 
 /// Opens a session, and answers its number.
+#[tactic(auto, using(crate::proofs::WorldLemmas::open_refused))]
 fn begin<K: KeyHash + Drop>(alloc: Global, world: &mut World<K>) -> Result<u32, ServeFault>
     requires { length world.old.sessions < 65535 }
     ensures ok { IfOk result (λ session. Begins K.hash_of session world.old world.new) }
@@ -85,6 +87,7 @@ fn begin<K: KeyHash + Drop>(alloc: Global, world: &mut World<K>) -> Result<u32, 
 }
 
 /// Closes the session, if it is open.
+#[tactic(auto, using(crate::proofs::WorldLemmas::closes))]
 fn end<K: KeyHash + Drop>(alloc: Global, world: &mut World<K>, session: u32)
     ensures { Told K.hash_of world.old (Close session ∷ []) world.new }
 {

@@ -128,6 +128,7 @@ impl<K: KeyHash + Drop> World<K> {
     /// Takes a session's next turn, if one is due, as `run` of that one event does. It answers
     /// `Did` if a turn was due, `Idle` if the session is open and none was, and `Closed`
     /// if it isn't open. Refused, the session is closed. The session's next unit is parsed once.
+    #[tactic(auto, using(crate::proofs::WorldLemmas::told_refused))]
     pub fn turn(&mut self, alloc: Global, session: u32) -> Result<Turn, Refused>
         ensures ok { OnOk result (Told K.hash_of self.old (Event.Turn session ∷ []) self.new) }
         ensures did { result ≡ Ok Turn.Did → IsDue session self.old.sessions }
@@ -219,6 +220,7 @@ impl<K: KeyHash + Drop> World<K> {
     }
 
     /// Takes one event. Refused, the session that it names is closed.
+    #[tactic(auto, using(crate::proofs::WorldLemmas::result_rules))]
     fn happen(&mut self, alloc: Global, event: &Event<'_>) -> Result<(), TurnFault>
         ensures ok { OnOk result (Told K.hash_of self.old (event.now ∷ []) self.new) }
         ensures err { IfErr result (λ fault.
@@ -228,6 +230,7 @@ impl<K: KeyHash + Drop> World<K> {
     }
 
     /// Takes a session's next turn, if one is due. Refused, the session is closed.
+    #[tactic(auto, using(crate::proofs::WorldLemmas::result_rules))]
     fn give_turn(&mut self, alloc: Global, session: u32) -> Result<Turn, TurnFault>
         ensures ok { OnOk result (Told K.hash_of self.old (Event.Turn session ∷ []) self.new) }
         ensures did { result ≡ Ok Turn.Did → IsDue session self.old.sessions }

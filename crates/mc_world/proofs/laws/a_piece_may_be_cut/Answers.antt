@@ -1,4 +1,4 @@
-use Rattle.mc_world.proofs.LawLemmas.{piece_cut}
+use Rattle.mc_world.proofs.EventLemmas.{piece_cut}
 use Rattle.mc_world.proofs.laws.a_piece_may_be_cut.Goals as goal
 
 pub returns : goal.returns

@@ -1,4 +1,4 @@
-use Rattle.mc_world.proofs.LawLemmas.{growth_shows}
+use Rattle.mc_world.proofs.EventLemmas.{growth_shows}
 use Rattle.mc_world.proofs.laws.growth_never_shows.Goals as goal
 
 pub returns : goal.returns

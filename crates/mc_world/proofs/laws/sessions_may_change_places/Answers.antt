@@ -1,4 +1,4 @@
-use Rattle.mc_world.proofs.LawLemmas.{places_change}
+use Rattle.mc_world.proofs.EventLemmas.{places_change}
 use Rattle.mc_world.proofs.laws.sessions_may_change_places.Goals as goal
 
 pub returns : goal.returns

@@ -1,6 +1,4 @@
-use Rattle.std.proofs.Common.{ap}
-use Rattle.mc_shelf.specs.Stores.{StoreState}
-use Rattle.mc_world.specs.Sessions.{state_of}
+use Rattle.mc_world.proofs.Words.{ap, StoreState, state_of}
 use Rattle.mc_world.proofs.parts.Parts.grow.Goals as goal
 
 pub returns : goal.returns

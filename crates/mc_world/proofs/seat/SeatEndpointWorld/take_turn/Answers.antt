@@ -1,13 +1,8 @@
-use Rattle.std.proofs.Common.{refl, ◌∷◌, [], subst, sym}
-use Rattle.mc_world.specs.Worlds.{Told}
-use Rattle.mc_world.specs.Serving.{shelf_of, turn_events}
-use Rattle.mc_world.specs.declared.event.Event.TheVariants.{Turn}
-use Rattle.mc_world.proofs.ToldLemmas.{turn_told}
+use Rattle.mc_world.proofs.Words.{refl, ◌∷◌, [], subst, sym, Told, shelf_of, turn_events, Turn}
+use Rattle.mc_world.proofs.WorldLemmas.{turn_told}
 use Rattle.mc_world.proofs.seat.SeatEndpointWorld.take_turn.Goals as goal
 
 pub returns-in-Ok-clause-ok : goal.returns-in-Ok-clause-ok
-returns-in-Ok-clause-ok g c =
-    let n = c.args.self.now.number in
-    let shelf = shelf_of c.args.self.now.turns c.args.world.now.settings.shelves in
+returns-in-Ok-clause-ok g c = let n = c.args.self.now.number in let shelf = shelf_of c.args.self.now.turns c.args.world.now.settings.shelves in
     let told = subst (λ w. Told g.K.KeyHash.hash_of w (Turn n ∷ []) c.turn.new.self) c.set_moment.ensures c.in-Ok.ensures.ok in
     (refl, subst (λ w. Told g.K.KeyHash.hash_of c.args.world.now (turn_events n shelf c.args.now) w) (sym c.grow.ensures) (turn_told n shelf c.args.now told))
