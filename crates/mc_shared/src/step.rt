@@ -26,8 +26,8 @@ use crate::store::{Caller, Shared};
 use core::mem::replace_with;
 use mc_command::{KeyStep, Reply, StepFault};
 use mc_hop::KeyHash;
-use mc_shelf::{Begun, Desk, Plan, Shelf, Wanted};
-use mc_slab::Pages;
+use mc_shelf::{Begun, Brought, Desk, Plan, Shelf, Wanted};
+use mc_slab::{Chunks, Pages};
 use mc_time::Moment;
 use std::alloc::{AllocError, Global};
 use std::marker::PhantomData;
@@ -86,38 +86,56 @@ impl<'a, K: KeyHash + Drop> AtShelf<'a, K> {
         (Caller { seat, grows }, reply)
     }
 
-    /// Takes the desk for a step, with pages if the step wants some. They are made, up to 8 MiB
-    /// that are written, while nobody waits for the desk: it goes back, and is taken again with the
-    /// pages in hand. If memory for them is refused, or the desk is tried but once, there are none:
-    /// the step finds out at the desk. Others may have changed what is wanted by then, so they are
-    /// a hint alone.
+    /// Takes the desk for a step, with what the step brings: pages if it wants some, and chunks in
+    /// exchange for its item's if it copies out of those. They are made, up to 16 MiB that are
+    /// written, while nobody waits for the desk: the chunks before it is taken, and for pages it goes
+    /// back, and is taken again with them in hand. If memory is refused, or the desk is tried but
+    /// once, there are none: the step finds out at the desk, or copies there. Others may have changed
+    /// what is wanted by then, so both are a hint alone.
     fn take_desk_for<B: Drop, P: Patience<B>>(
         self,
         patience: &P,
         alloc: Global,
         looked: &Looked<'_>,
         ask: &Ask<'_>,
-    ) -> Result<(AtBoth<'a, K>, Option<Pages>), (AtShelf<'a, K>, B)>
+    ) -> Result<(AtBoth<'a, K>, Brought), (AtShelf<'a, K>, B)>
         requires { IsLooked looked.now self.shelf ask.now }
         ensures ok { IfOk result (λ r. without_desk r.0 ≡ self.entry) }
         ensures err { IfErr result (λ e. (e.0 ≡ self.entry)
             × P.busy self.entry.past self.entry.shared.began.settings.shelves e.1) }
     {
+        let exchange = if patience.comes_again() {
+            self.exchange(alloc, looked, ask)
+        } else {
+            None
+        };
         let both = match self.take_desk(patience) {
             Ok(both) => both,
             Err(met) => return Err(met),
         };
+        let pages = None;
         if !patience.comes_again() {
-            return Ok((both, None));
+            return Ok((both, Brought { pages, exchange }));
         }
         let Some(wanted) = both.pages_wanted(looked, ask) else {
-            return Ok((both, None));
+            return Ok((both, Brought { pages, exchange }));
         };
         let hold = both.give_desk();
         let pages = Pages::new(alloc, wanted.class, wanted.pages).ok();
         match hold.take_desk(patience) {
-            Ok(both) => Ok((both, pages)),
+            Ok(both) => Ok((both, Brought { pages, exchange })),
             Err(met) => Err(met),
+        }
+    }
+
+    /// Makes chunks in exchange for those of a step's item, if the step copies out of these; none if
+    /// memory for them is refused.
+    fn exchange(&self, alloc: Global, looked: &Looked<'_>, ask: &Ask<'_>) -> Option<Chunks>
+        requires { IsLooked looked.now self.now.shelf ask.now }
+    {
+        match looked {
+            Looked::Planned(plan) => self.shelf.exchange(alloc, plan).ok()?,
+            Looked::AskAgainAtDesk => None,
         }
     }
 }
@@ -134,14 +152,13 @@ impl<'a, K: KeyHash + Drop> AtBoth<'a, K> {
         }
     }
 
-    /// Takes a step that the desk decides, with pages if some were made for it. The desk goes back
-    /// with the decision, and the shelf when the step's block is copied; both as they were if it
-    /// isn't taken.
+    /// Takes a step that the desk decides, with what was made for it. The desk goes back with the
+    /// decision, and the shelf when the step's block is copied; both as they were if it isn't taken.
     fn take_step(
         self,
         alloc: Global,
         looked: Looked<'_>,
-        pages: Option<Pages>,
+        brought: Brought,
         ask: &Ask<'_>,
     ) -> (Caller, Result<Reply, StepFault>)
         requires asked { IsAsked K.hash_of self.shared ask.now }
@@ -162,7 +179,7 @@ impl<'a, K: KeyHash + Drop> AtBoth<'a, K> {
         let bay = shared.settings.shelves as usize;
         let before = shelf.len();
         let comes = may_come(&looked, &*shelf, ask);
-        match begin_step(alloc, &mut *shelf, &mut *desk, looked, pages, ask) {
+        match begin_step(alloc, &mut *shelf, &mut *desk, looked, brought, ask) {
             Ok((mut plan, begun)) => {
                 let (word, came) = raise_for(&shared.board, &mut seat, bay, ask.hash, comes);
                 let had = before + came;
@@ -214,7 +231,7 @@ fn begin_step<'k>(
     shelf: &mut Shelf,
     desk: &mut Desk,
     looked: Looked<'k>,
-    pages: Option<Pages>,
+    brought: Brought,
     ask: &Ask<'_>,
 ) -> Result<(Plan<'k>, Begun), StepFault>
     requires looked { IsLooked looked shelf.old ask.now }
@@ -237,7 +254,7 @@ fn begin_step<'k>(
     // what holds of every desk, for the proof
     let _number = desk.next_unique();
     match looked {
-        Looked::Planned(plan) => match shelf.begin(alloc, &plan, ask.step, desk, pages) {
+        Looked::Planned(plan) => match shelf.begin(alloc, &plan, ask.step, desk, brought) {
             Ok(begun) => Ok((plan, begun)),
             Err(fault) => Err(fault),
         },
@@ -285,7 +302,7 @@ fn step_for<B: Drop, P: Patience<B>, K: KeyHash + Drop>(
         Err(_) => return (hold.give_back(), Err(Untaken::Refused(StepFault::NoMemory))),
     };
     match hold.take_desk_for(patience, alloc, &looked, ask) {
-        Ok((both, pages)) => match both.take_step(alloc, looked, pages, ask) {
+        Ok((both, brought)) => match both.take_step(alloc, looked, brought, ask) {
             (caller, Ok(reply)) => (caller, Ok(reply)),
             (caller, Err(fault)) => (caller, Err(Untaken::Refused(fault))),
         },

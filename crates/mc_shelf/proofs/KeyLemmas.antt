@@ -34,3 +34,11 @@ get_put_other items key other item apart = get-insert nat_list_cmp_total items k
 
 pub get_gone_other : {X : Type 0} (items : FinMap order X) (key other : List ℕ) → other ≢ key → get (remove items key) other ≡ get items other
 get_gone_other items key other apart = get-remove nat_list_cmp_total items key other ∙ ap (λ b. cond b None (get items other)) (other_key key other apart)
+
+-- what stands under a key, put there once more
+pub put_same : {X : Type 0} (items : FinMap order X) (key : List ℕ) (item : X) → get items key ≡ Some item → insert items key item ≡ items
+put_same items key item there = same_maps _ _ (λ other. get-insert nat_list_cmp_total items key item other ∙ by other)
+  where
+    by : (other : List ℕ) → cond (is_eq (order other key)) (Some item) (get items other) ≡ get items other
+    by other = elim (order other key) as (λ r. order other key ≡ r → cond (is_eq r) (Some item) (get items other) ≡ get items other)
+        [ Less ↦ λ e. refl | Equal ↦ λ e. sym there ∙ ap (get items) (sym (same_key other key e)) | Greater ↦ λ e. refl ] refl

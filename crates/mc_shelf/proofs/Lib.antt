@@ -8,6 +8,7 @@ pub mod ShelfLemmas
 pub mod StandLemmas
 pub mod PlanLemmas
 pub mod TakesLemmas
+pub mod ExchangeLemmas
 pub mod RefusalLemmas
 pub mod SweepLemmas
 pub mod RangeLemmas

@@ -9,7 +9,7 @@ use Rattle.mc_grow.specs.declared.index.Place.{Place}
 use Rattle.mc_shelf.specs.States.{EntryState, ShelfContent, Hashes, IsHash}
 use Rattle.mc_shelf.specs.Places.{items_of, hashes_of, IsChanged, KeyComes, KeyGoes}
 use Rattle.mc_shelf.specs.Plans.{IsDropped, IsKnown, IsPut, IsSought, OthersStay, with_item}
-use Rattle.mc_shelf.proofs.KeyLemmas.{get_gone, get_gone_other, get_put, get_put_other}
+use Rattle.mc_shelf.proofs.KeyLemmas.{get_gone, get_gone_other, get_put, get_put_other, put_same}
 
 -- the content of a shelf over an index
 abbrev pub content_of : (greatest : ℕ) → (cut : Option ℕ) → IndexState EntryState → ShelfContent
@@ -77,6 +77,12 @@ module _ (greatest : ℕ) (cut : Option ℕ) (old : ShelfContent) (was : IndexSt
       (λ i. record { greatest = greatest; items = is.items i; hashes = is.hashes i; cut = cut })
       ∙ ap (λ (e : EntryState). with_item (Some chunks) e.key e.hash e.item (content_of greatest cut was)) entry_is
       ∙ ap (with_item (Some chunks) key own item) old_is
+
+  -- and where the item was put into others: the hash is the one that the key has
+  pub moved_is : (chunks : ChunksState) (item : Entry) → get old.hashes key ≡ Some own → IsChanged was new key item → content_of greatest cut new ≡ with_item (Some chunks) key own item old
+  moved_is chunks item has is =
+      changed_is item is
+      ∙ ap (λ (h : Hashes). record { greatest = old.greatest; items = insert old.items key item; hashes = h; cut = old.cut }) (sym (put_same old.hashes key own has))
 
   -- the key's item was changed
   pub changed_put : (item : Entry) → IsHash old key own → IsChanged was new key item → IsPut key own old (content_of greatest cut new) item

@@ -129,7 +129,7 @@ same_needs a b e =
     let count : a.count ≡ b.count = eqb-true a.count b.count both.1 in
     λ i. record { class = class i; count = count i }
 
-need_of_found : (k : List ℕ) (f : Option Entry) (need : NeedState) → has_need k f need ≡ true → (old : Entry) × (f ≡ Some old) × (item_need k old ≡ need)
+pub need_of_found : (k : List ℕ) (f : Option Entry) (need : NeedState) → has_need k f need ≡ true → (old : Entry) × (f ≡ Some old) × (item_need k old ≡ need)
 need_of_found k None need e = absurd (true≢false (sym e))
 need_of_found k (Some old) need e = (old, refl, same_needs (item_need k old) need e)
 

@@ -1,5 +1,5 @@
 -- What a step asks of a shelf.
-use Rattle.std.specs.Prelude.{◌≡◌, ◌≢◌, ◌⊎◌, ℕ, ◌+◌, ◌-◌, ◌^◌, ◌<◌, ◌≤◌, ◌&&◌, ◌||◌, not, Bool, true, false, List, [], ◌++◌, decimal, length, Option, Some, None, is_some, is_none, IfSome, nat_lt, if◌then◌else◌}
+use Rattle.std.specs.Prelude.{◌≡◌, ◌≢◌, ◌⊎◌, ℕ, ◌+◌, ◌-◌, ◌^◌, ◌<◌, ◌≤◌, ◌==◌, ◌&&◌, ◌||◌, not, Bool, true, false, List, [], ◌++◌, decimal, length, Option, Some, None, is_some, is_none, IfSome, nat_lt, if◌then◌else◌}
 use Rattle.std.specs.FinMap.{get, insert}
 use Rattle.std.specs.Borrow.{Bor}
 use Rattle.mc_time.specs.declared.expiry.Expiry.{Expiry}
@@ -254,7 +254,8 @@ abbrev pub block_beside : ShelfContent → KeyStep → Draft → List ℕ
 block_beside shelf step draft =
     made_block draft.body (block_of step) (block_in (get shelf.items (key_of step)))
 
--- a body whose block may be left to be written: it is the step's own, or comes behind the one that stands
+-- a body whose block may be left to be written in the item's own chunks: it is the step's, or comes
+-- behind the one that stands
 abbrev pub MayBeLeft : Body → Type 0
 MayBeLeft body = (body ≡ Given) ⊎ (body ≡ Appended)
 
@@ -263,8 +264,8 @@ abbrev pub left_item : Writing → Unwritten → KeyStep → ShelfContent → En
 left_item write rest step shelf =
     drafted write.draft (block_beside shelf step write.draft) rest.unique write.moment
 
--- a shelf after this item came under a key: with a hash if chunks wait for the item, and else into
--- those of the key's item
+-- a shelf after this item came under a key: into chunks that wait for it, and then with a hash, or
+-- else into those of the key's item, whose hash stays
 abbrev pub with_item : Option ChunksState → (key : List ℕ) → (own : ℕ) → Entry → ShelfContent → ShelfContent
 with_item None key own item shelf = record shelf { items = insert shelf.items key item }
 with_item (Some chunks) key own item shelf = record shelf {
@@ -324,11 +325,10 @@ pub record Suits (chunks : ChunksState) (key block : List ℕ) : Type 0 where
   pub need : need_in chunks ≡ need_for (charge key block)
   pub fits : charge key block ≤ length chunks.bytes
 
--- chunks that wait are ready for a key's item with this block: no item is under the key, there is
--- room for the key's entry, and the chunks suit
+-- chunks that wait are ready for a key's item with this block: they suit, and where no item is under
+-- the key, there is room for its entry
 pub record AreChunksFor (chunks : ChunksState) (key block : List ℕ) (shelf : ShelfState) : Type 0 where
-  pub absent : get shelf.content.items key ≡ None
-  pub room : 1 ≤ shelf.room
+  pub room : get shelf.content.items key ≡ None → 1 ≤ shelf.room
   pub suits : Suits chunks key block
 
 -- the key has an item, whose chunks are those that the key and this block need
@@ -337,10 +337,16 @@ pub record LiesInNeed (key block : List ℕ) (shelf : ShelfState) : Type 0 where
   pub there : get shelf.content.items key ≡ Some item
   pub need : item_need key item ≡ need_for (charge key block)
 
--- chunks are ready for a key's item with this block: those that wait, or else the key's item's own
-abbrev pub IsReady : Option ChunksState → (key block : List ℕ) → ShelfState → Type 0
-IsReady None key block shelf = LiesInNeed key block shelf
-IsReady (Some chunks) key block shelf = AreChunksFor chunks key block shelf
+-- chunks are ready for the block that a body makes beside a key's item: those that wait, or else the
+-- item's own, and then the block is one that may be left to be written there
+abbrev pub IsReady : Option ChunksState → Body → (key block : List ℕ) → ShelfState → Type 0
+IsReady None body key block shelf = MayBeLeft body × LiesInNeed key block shelf
+IsReady (Some chunks) body key block shelf = AreChunksFor chunks key block shelf
+
+-- what stood under a key, where it had this item: the entry of the key and the item, or none
+abbrev pub IsBefore : (key : List ℕ) → Option Entry → Option EntryState → Type 0
+IsBefore key found None = found ≡ None
+IsBefore key found (Some entry) = (entry.key ≡ key) × (found ≡ Some entry.item)
 
 -- what is known of a key that may have lost its item since it was looked up: its hash, if the shelf
 -- has the key, and by a place where it may be
@@ -348,15 +354,14 @@ pub record IsSought (shelf : ShelfContent) (key : List ℕ) (own : ℕ) (found :
   pub hash : IsHash shelf key own
   pub none : found ≡ None → get shelf.items key ≡ None
 
--- what is left of a write can be done: the key is known, the block is one that may be left, and chunks are ready for what it
--- makes beside the key's item
+-- what is left of a write can be done: the key is known, and chunks are ready for what it makes beside
+-- the key's item
 pub record CanWriteBlock (write : Writing) (rest : Unwritten) (step : KeyStep) (shelf : ShelfState) : Type 0
   where
     pub short : length (key_of step) ≤ 250
     pub sought : IsSought shelf.content (key_of step) write.hash write.place
-    pub body : MayBeLeft write.draft.body
-    pub ready : IsReady rest.chunks (key_of step) (block_beside shelf.content step write.draft)
-        shelf
+    pub ready : IsReady rest.chunks write.draft.body (key_of step)
+        (block_beside shelf.content step write.draft) shelf
 
 -- what is left of a step that comes next so can be done; nothing is asked unless it writes
 abbrev pub CanWriteNext : Plan → Next → Unwritten → KeyStep → ShelfState → Type 0
@@ -370,6 +375,33 @@ CanWriteNext plan (Write charge draft) rest step shelf =
 abbrev pub CanFinish : Plan → Begun → KeyStep → ShelfState → Type 0
 CanFinish plan begun step shelf =
     IfSome (left_of begun) (λ rest. CanWriteNext plan plan.next rest step shelf)
+
+-- chunks, where they are pages
+abbrev pub pages_in : NeedState → Option NeedState
+pages_in own = if own.class == 40 then Some own else None
+
+-- the chunks of an item, where they are pages, that a body's block is joined to in others: one that
+-- comes behind stays in the item's own, where the whole needs the same
+abbrev pub left_behind : Body → (own need : NeedState) → Option NeedState
+left_behind Given own need = None
+left_behind Appended own need = if same_need own need then None else pages_in own
+left_behind Prepended own need = pages_in own
+left_behind (Counted number) own need = None
+
+-- the chunks for which others may be brought in exchange: pages of the key's item, out of which a
+-- join copies
+abbrev pub exchange_for : Next → (key : List ℕ) → Option Entry → Option NeedState
+exchange_for (Answer reply) key found = None
+exchange_for (Expire expiry reply) key found = None
+exchange_for (Discard reply) key found = None
+exchange_for (Write size draft) key None = None
+exchange_for (Write size draft) key (Some item) =
+    left_behind draft.body (item_need key item) (need_for size)
+
+-- what need chunks serve, where there are some
+abbrev pub need_brought : Option ChunksState → Option NeedState
+need_brought None = None
+need_brought (Some chunks) = Some (need_in chunks)
 
 -- the chunks of the key's item are out
 abbrev pub IsOut : List ℕ → ShelfContent → DeskState → Type 0

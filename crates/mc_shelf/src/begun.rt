@@ -25,13 +25,14 @@ use mc_command::{Draft, KeyStep, Reply};
 use mc_slab::Chunks;
 use std::mem;
 
-/// What is left of a write: a large block of a new key, or a block of any size that goes into the chunks of the key's item, over
-/// that one's block or behind it.
+/// What is left of a write: a large block of a new key, a block of any size that goes into the chunks of the key's item, over that
+/// one's block or behind it, or one that is joined to it in others.
 #[derive(Drop)]
 pub struct Unwritten {
     /// The number that it drew.
     pub(crate) unique: u64,
-    /// The chunks of a new key's item; with none the item goes into those of the key's item.
+    /// The chunks of a new key's item, or of one that is joined to the key's item, whose own are let go then, as the desk has others
+    /// for them; with none the item goes into those of the key's item.
     pub(crate) chunks: Option<Chunks>,
 }
 
@@ -61,7 +62,8 @@ impl Begun {
 impl Shelf {
     /// Does what is left of a plan's step that was begun at this shelf, with no other step between,
     /// and answers it; the plan has no answer then. Copies the step's block if that is left to be
-    /// written, and takes no memory. No entry of an old table is moved.
+    /// written, and the item that it is joined to in other chunks, and takes no memory. No entry of an
+    /// old table is moved.
     #[tactic(auto, using(crate::proofs::CountLemmas::table_rules))]
     pub fn finish(&mut self, plan: &mut Plan<'_>, begun: Begun, step: &KeyStep<'_>) -> Reply
         requires { CanFinish plan.old begun step.now self.old }
@@ -101,8 +103,8 @@ impl Shelf {
         let Unwritten { unique, chunks } = rest;
         match chunks {
             Some(chunks) => {
-                let entry = write.entry_of(chunks, unique, step.key(), step.block());
-                self.index.insert_reserved(entry);
+                // what stood there is let go: the desk has other chunks for its own
+                let _old = self.put_into(write, unique, chunks, step);
             }
             None => self.write_over(write, unique, step),
         }

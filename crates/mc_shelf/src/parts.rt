@@ -19,6 +19,7 @@ ghost use Rattle.mc_shelf.specs.Plans.{
   next_of,
   writes,
 };
+ghost use Rattle.mc_shelf.specs.Counts.{DropsAlone, counts_of};
 ghost use Rattle.mc_shelf.specs.Sweeps.{AreOut, GivesFor};
 ghost use Rattle.mc_shelf.specs.Deaths.{NoneIsDead};
 ghost use Rattle.mc_shelf.specs.Unions.{IsFlushed, lefts};
@@ -85,15 +86,16 @@ impl Shelf {
     /// Drops the items that are dead at a moment, of a shelf that is with this desk a part of a
     /// state, and gives their chunks back: the state goes to the one purged of that shelf's dead.
     /// It takes no memory. The cost is that of one pass over the items, and if none may be dead
-    /// it walks none.
+    /// it walks none. No entry is moved.
     pub fn purge_part(&mut self, now: Moment, desk: &mut Desk)
         requires { (hash_of : List ℕ → ℕ) × (shelves : ℕ) × (at : ℕ) × (state : Plain)
             × IsShelfOf hash_of shelves state at self.old.content × IsDeskOf state desk.old }
-        ensures { (hash_of : List ℕ → ℕ) (shelves at : ℕ) (state : Plain) →
+        ensures goes { (hash_of : List ℕ → ℕ) (shelves at : ℕ) (state : Plain) →
             IsShelfOf hash_of shelves state at self.old.content → IsDeskOf state desk.old →
             GoesTo hash_of shelves at state
             (purged (λ key. shelf_of hash_of shelves key == at) now state)
             self.new.content desk.new }
+        ensures table { DropsAlone (counts_of self.old) (counts_of self.new) }
     {
         self.purge(now, desk);
     }
@@ -106,6 +108,7 @@ impl Shelf {
         requires { AreOut self.old.content desk.old }
         ensures shelf { IsFlushed delay now self.old.content self.new.content }
         ensures desk { GivesFor self.old.content.items self.new.content.items desk.old desk.new }
+        ensures table { DropsAlone (counts_of self.old) (counts_of self.new) }
     {
         if delay == 0 {
             self.clear(desk);

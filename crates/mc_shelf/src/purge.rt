@@ -103,17 +103,18 @@ impl Shelf {
     /// Ends a purge that was begun at this shelf, with no other step between: the desk has the
     /// chunks back. If before the purge the shelf was with this desk a part of a state, that state
     /// goes to the one purged of the shelf's dead, as `purge_part` has it. It takes no memory. The
-    /// cost is a few instructions for each dead item, if the purge could be begun.
+    /// cost is a few instructions for each dead item, if the purge could be begun. No entry is moved.
     pub fn end_purge(&mut self, purging: Purging, now: Moment, desk: &mut Desk)
         requires { (old : ShelfContent) × BeginsPurge now old purging self.old.content
             × (hash_of : List ℕ → ℕ) × (shelves : ℕ) × (at : ℕ) × (state : Plain)
             × IsShelfOf hash_of shelves state at old × IsDeskOf state desk.old }
-        ensures { (old : ShelfContent) (hash_of : List ℕ → ℕ) (shelves at : ℕ) (state : Plain) →
-            BeginsPurge now old purging self.old.content →
+        ensures goes { (old : ShelfContent) (hash_of : List ℕ → ℕ) (shelves at : ℕ)
+            (state : Plain) → BeginsPurge now old purging self.old.content →
             IsShelfOf hash_of shelves state at old → IsDeskOf state desk.old →
             GoesTo hash_of shelves at state
             (purged (λ key. shelf_of hash_of shelves key == at) now state)
             self.new.content desk.new }
+        ensures table { DropsAlone (counts_of self.old) (counts_of self.new) }
     {
         match purging {
             Purging::Apart(chunks) => desk.take_back(chunks),

@@ -49,12 +49,13 @@ use crate::begun::Begun;
 use crate::counts::ShelfCounts;
 use crate::desk::{Desk, Wanted};
 use crate::entry::Entry;
+use crate::exchange::Brought;
 use crate::index::{Index, Place};
 use crate::plan::{Next, Plan, is_gone, next_of};
 use crate::soonest::Soonest;
 use crate::write::{Write, dead_chunks, gives_way};
 use mc_command::{Bytes, KeyStep, Reply, StepFault};
-use mc_slab::{Need, Pages, need_of};
+use mc_slab::{Need, need_of};
 use mc_time::{Expiry, Moment};
 use std::alloc::{AllocError, Global};
 use std::marker::Model;
@@ -264,7 +265,11 @@ impl Shelf {
             return Ok(self.settle(plan));
         }
         let mut plan = plan;
-        match self.begin(alloc, &plan, step, desk, None) {
+        let brought = Brought {
+            pages: None,
+            exchange: None,
+        };
+        match self.begin(alloc, &plan, step, desk, brought) {
             Ok(begun) => Ok(self.finish(&mut plan, begun, step)),
             Err(fault) => Err(fault),
         }
@@ -301,7 +306,8 @@ impl Shelf {
     /// incr and decr count, or as many chunks are unused and the block is the step's own. A dead item that has other chunks of
     /// the write's class gives them back first. Any other write takes its chunks while the old item still has its own. A block
     /// that the step brings is left to `finish` if it goes into the old item's chunks, or is large, so that the cost doesn't grow
-    /// with it.
+    /// with it. A join that copies the old item into other chunks is left too, if chunks are brought in exchange for the old
+    /// one's (`exchange`).
     ///
     /// Pages that the slab gives to a class are all that take memory; they are those that are
     /// brought, if so many of that class are. Refused, or with the unique numbers spent, the shelf
@@ -314,7 +320,7 @@ impl Shelf {
         plan: &Plan<'_>,
         step: &KeyStep<'_>,
         desk: &mut Desk,
-        pages: Option<Pages>,
+        brought: Brought,
     ) -> Result<Begun, StepFault>
         requires plan { IsPlan plan.now self.old.content step.now plan.now.moment }
         requires room { CanWrite plan.now.next self.old.content (key_of step.now) plan.now.moment
@@ -351,7 +357,7 @@ impl Shelf {
                     charge,
                     draft,
                 };
-                self.write(alloc, &write, step, desk, pages)
+                self.write(alloc, &write, step, desk, brought)
             }
         }
     }
@@ -453,7 +459,7 @@ impl Shelf {
     }
 
     /// Lends the entry of a plan's key, if it has the key.
-    fn planned(&self, plan: &Plan<'_>) -> Option<&Entry>
+    pub(crate) fn planned(&self, plan: &Plan<'_>) -> Option<&Entry>
         requires { (step : Step) × (now : ℕ) × IsPlan plan.now self.now.content step now }
         ensures item { item_in result ≡ get self.now.content.items plan.now.key }
         ensures key { IfSome result (λ entry. entry.now.key ≡ plan.now.key) }

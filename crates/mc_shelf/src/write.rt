@@ -13,10 +13,12 @@ ghost use Rattle.mc_shelf.specs.States.{CanStand};
 ghost use Rattle.mc_shelf.specs.Plans as plans;
 ghost use Rattle.mc_shelf.specs.Plans.{
   CanGiveWay,
+  AreChunksFor,
   CanPut,
   CanWrite,
   CanWriteBlock,
   GivesBack,
+  IsBefore,
   IsDropped,
   IsKnown,
   IsOut,
@@ -48,6 +50,7 @@ ghost use Rattle.mc_shelf.specs.Plans.{
 use crate::begun::{Begun, Unwritten};
 use crate::desk::Desk;
 use crate::entry::Entry;
+use crate::exchange::Brought;
 use crate::index::Place;
 use crate::plan::{Next, is_gone};
 use crate::shelf::Shelf;
@@ -277,7 +280,7 @@ struct Fit {
 }
 
 /// Returns whether the item that is found has the chunks that a need asks for.
-fn has_need(found: Option<&Entry>, need: Need) -> bool
+pub(crate) fn has_need(found: Option<&Entry>, need: Need) -> bool
     ensures { (key : List ℕ) → IfSome found.entry (λ entry. entry.now.key ≡ key) →
         result ≡ plans.has_need key (item_in found.entry) need }
 {
@@ -288,7 +291,7 @@ fn has_need(found: Option<&Entry>, need: Need) -> bool
 }
 
 /// Returns whether two needs ask for the same.
-fn is_same(one: Need, other: Need) -> bool
+pub(crate) fn is_same(one: Need, other: Need) -> bool
     ensures { result ≡ same_need one other }
 {
     one.class().number() == other.class().number() && one.count() == other.count()
@@ -332,7 +335,7 @@ impl Shelf {
         write: &Write,
         step: &KeyStep<'_>,
         desk: &mut Desk,
-        pages: Option<Pages>,
+        brought: Brought,
     ) -> Result<Begun, StepFault>
         requires write { IsWriteOf write.now self.old.content step.now }
         requires room { CanWrite (Next.Write write.now.charge write.now.draft) self.old.content
@@ -374,12 +377,13 @@ impl Shelf {
             self.drop_dead(write, step.key(), desk);
             return Ok(Begun::Full);
         }
+        let Brought { pages, exchange } = brought;
         if 0 < back {
             return self.give_way(alloc, write, need, back, step, desk, pages);
         }
         let chunks = desk.take(alloc, need, pages)?;
         let unique = desk.draw();
-        Ok(self.put(write, unique, chunks, step, desk))
+        Ok(self.put(write, unique, chunks, exchange, step, desk))
     }
 
     /// Finds out how the chunks of the key's item suit a write. The item is looked for where it was found before.
@@ -453,7 +457,7 @@ impl Shelf {
             charge,
             draft,
         };
-        Ok(self.put(&write, unique, chunks, step, desk))
+        Ok(self.put(&write, unique, chunks, None, step, desk))
     }
 
     /// Writes a number in the chunks of the key's item. The step's block, which is the whole then, is left to be written there.
@@ -527,12 +531,13 @@ impl Shelf {
     }
 
     /// Puts the item of a write into chunks and under its key. Those of the item that stood there go back. A large block that is
-    /// the step's own is left to be written.
+    /// the step's own is left to be written, and so is all if the desk has chunks in exchange for that item's.
     fn put(
         &mut self,
         write: &Write,
         unique: u64,
         chunks: Chunks,
+        exchange: Option<Chunks>,
         step: &KeyStep<'_>,
         desk: &mut Desk,
     ) -> Begun
@@ -552,6 +557,12 @@ impl Shelf {
     {
         if write.leaves_block(step) {
             return Begun::Left(self.begin_put(write, unique, chunks, step, desk));
+        }
+        if self.exchanges(write, step.key(), exchange, desk) {
+            return Begun::Left(Unwritten {
+                unique,
+                chunks: Some(chunks),
+            });
         }
         self.put_whole(write, unique, chunks, step, desk);
         Begun::Done
@@ -616,16 +627,41 @@ impl Shelf {
             desk.old desk.new }
         ensures table { KeepsTable 0 (counts_of self.old) (counts_of self.new) }
     {
+        if let Some(old) = self.put_into(write, unique, chunks, step) {
+            desk.give(old.into_chunks());
+        }
+    }
+
+    /// Puts the item of a write into chunks and under its key, block and all. Returns the entry that stood there.
+    #[tactic(auto, using(crate::proofs::CountLemmas::table_rules))]
+    pub(crate) fn put_into(
+        &mut self,
+        write: &Write,
+        unique: u64,
+        chunks: Chunks,
+        step: &KeyStep<'_>,
+    ) -> Option<Entry>
+        requires short { length (key_of step.now) ≤ 250 }
+        requires sought { IsSought self.old.content (key_of step.now)
+            write.now.hash write.now.place }
+        requires chunks { AreChunksFor chunks (key_of step.now)
+            (block_beside self.old.content step.now write.now.draft) self.old }
+        ensures content { self.new.content ≡ with_item (Some chunks.entry) (key_of step.now)
+            write.now.hash (drafted write.now.draft
+            (block_beside self.old.content step.now write.now.draft)
+            unique write.now.moment) self.old.content }
+        ensures before { IsBefore (key_of step.now)
+            (get self.old.content.items (key_of step.now)) result }
+        ensures table { KeepsTable 0 (counts_of self.old) (counts_of self.new) }
+    {
         let place = self.index.find_again(write.place, write.hash, step.key());
         let old = self.index.found(place);
         let entry = write.entry_in(chunks, unique, step, old);
         match place {
-            Some(place) => {
-                let old = self.index.replace(place, entry);
-                desk.give(old.into_chunks());
-            }
+            Some(place) => Some(self.index.replace(place, entry)),
             None => {
                 self.index.insert_reserved(entry);
+                None
             }
         }
     }

@@ -2,11 +2,12 @@
 
 ghost use Rattle.std.specs.Prelude.{◌≤◌};
 
+use super::tests::{asked_in_parts, goes_alike};
 use super::*;
 use mc_command::Verb;
 use mc_hop::Fnv;
 use mc_slab::{Account, class_of};
-use mc_testing::{Ask, Row, Want, filled, first_unlike, set};
+use mc_testing::{Ask, Row, Want, asked, filled, first_unlike, set, step_of};
 use std::process::Abort;
 use std::test::*;
 
@@ -162,4 +163,66 @@ fn joins_stay_in_their_pages(rt: HostRuntime) -> Result<(), Fail> {
         (1000, b"k", Ask::Get, Want::Hit(3, two.as_slice())),
     ];
     answers(&rt, rt.alloc(), 4, &rows, (4, 2))
+}
+
+/// Makes so many bytes, of which the first and the last are others.
+fn bounded(alloc: Global, many: usize) -> Result<Vec<u8>, AllocError> {
+    let mut bytes = filled(alloc, many)?;
+    if let Some(first) = bytes.get_mut(0) {
+        *first = b'a';
+    }
+    if let Some(last) = bytes.get_mut(many.saturating_sub(1)) {
+        *last = b'z';
+    }
+    Ok(bytes)
+}
+
+/// A join that is begun, with pages in exchange for the item's own, and then finished is the whole join.
+#[test]
+fn joins_of_pages_go_in_two_parts(rt: HostRuntime) -> Result<(), Fail> {
+    let alloc = rt.alloc();
+    let first = filled(alloc, 1_500_000)?;
+    let second = filled(alloc, 900_000)?;
+    let all = bounded(alloc, 2_400_002)?;
+    let rows: [Row<'_>; 5] = [
+        set(1000, b"k", 0, first.as_slice(), "stored"),
+        join(Verb::Append, second.as_slice()),
+        join(Verb::Prepend, b"a"),
+        join(Verb::Append, b"z"),
+        (1000, b"k", Ask::Get, Want::Hit(4, all.as_slice())),
+    ];
+    let mut whole = open(alloc, 6)?;
+    let mut parted = open(alloc, 6)?;
+    for row in rows {
+        assert!(rt; goes_alike(alloc, &mut whole, &mut parted, row));
+    }
+    assert_eq!(rt; account(&whole), (6, 3));
+    assert_eq!(rt; account(&parted), (6, 3));
+    Ok(())
+}
+
+/// What is left to the second part: a join that copies pages, and none that copies a smaller item.
+#[test]
+fn a_join_of_pages_is_left(rt: HostRuntime) -> Result<(), Fail> {
+    let alloc = rt.alloc();
+    let small = filled(alloc, 400_000)?;
+    let large = filled(alloc, 700_000)?;
+    // What is joined, and whether it is left.
+    let rows: [(Verb, &[u8], bool); 5] = [
+        (Verb::Append, large.as_slice(), false),
+        (Verb::Append, large.as_slice(), true),
+        (Verb::Prepend, b"x", true),
+        (Verb::Append, large.as_slice(), true),
+        (Verb::Append, b"x", true),
+    ];
+    let mut store = open(alloc, 16)?;
+    let now = Moment::from_seconds_at_most(1000);
+    let step = step_of(b"k", Ask::Store(Verb::Set, 0, small.as_slice()));
+    let _ = asked(&mut store, alloc, &step, now);
+    for (verb, block, want) in rows {
+        let step = step_of(b"k", Ask::Store(verb, 0, block));
+        let told = asked_in_parts(&mut store, alloc, &step, now)?;
+        assert_eq!(rt; told.1, want);
+    }
+    Ok(())
 }

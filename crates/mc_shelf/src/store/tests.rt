@@ -457,7 +457,16 @@ fn entries_are_moved_while_a_table_grows(rt: HostRuntime) -> Result<(), Fail> {
     Ok(())
 }
 
-/// Takes a step on a shelf's key in two parts, with nothing between them.
+/// Returns whether something of a step was left.
+fn is_left(begun: &Begun) -> bool {
+    match begun {
+        Begun::Left(_) => true,
+        Begun::Done | Begun::Full => false,
+    }
+}
+
+/// Takes a step on a shelf's key in two parts, with nothing between them, and with pages in exchange for those of an item that it
+/// joins to. Answers whether something was left to the second.
 fn step_in_parts(
     alloc: Global,
     shelf: &mut Shelf,
@@ -465,26 +474,32 @@ fn step_in_parts(
     step: &KeyStep<'_>,
     hash: u64,
     now: Moment,
-) -> Result<Reply, StepFault>
+) -> Result<(Reply, bool), StepFault>
     requires look { CanLook step.now hash shelf.old.content }
     requires stands { CanStand (key_of step.now) shelf.old.content desk.old }
-    ensures took { IfOk result (λ reply. IsTaken step.now now hash shelf.old.content desk.old
-        reply shelf.new.content desk.new) }
+    ensures took { IfOk result (λ told. IsTaken step.now now hash shelf.old.content desk.old
+        told.0 shelf.new.content desk.new) }
     ensures err { OnErr result
         ((shelf.new.content ≡ shelf.old.content) × (desk.new ≡ desk.old)) }
 {
     let mut plan = shelf.look(alloc, step, hash, now)?;
-    let begun = shelf.begin(alloc, &plan, step, desk, None)?;
-    Ok(shelf.finish(&mut plan, begun, step))
+    let exchange = shelf.exchange(alloc, &plan)?;
+    let brought = Brought {
+        pages: None,
+        exchange,
+    };
+    let begun = shelf.begin(alloc, &plan, step, desk, brought)?;
+    let left = is_left(&begun);
+    Ok((shelf.finish(&mut plan, begun, step), left))
 }
 
-/// Takes a step at its key's shelf in two parts.
+/// Takes a step at its key's shelf in two parts. Answers whether something was left to the second.
 fn begin_and_finish<K: KeyHash + Drop>(
     store: &mut Store<K>,
     alloc: Global,
     step: &KeyStep<'_>,
     now: Moment,
-) -> Result<Reply, StepFault>
+) -> Result<(Reply, bool), StepFault>
     requires on_key { IsOnKey step.now }
     requires key { length (key_of step.now) ≤ 250 }
 {
@@ -495,22 +510,28 @@ fn begin_and_finish<K: KeyHash + Drop>(
     step_in_parts(alloc, shelf, desk, step, hash, now)
 }
 
-/// Takes a step on one key in two parts, again if memory is refused. A flush is taken whole.
-fn asked_in_parts(
+/// Takes a step on one key in two parts, again if memory is refused, and answers whether something was left to the second. A flush
+/// is taken whole.
+pub(super) fn asked_in_parts(
     store: &mut Store<Fnv>,
     alloc: Global,
     step: &KeyStep<'_>,
     now: Moment,
-) -> Result<Reply, StepFault>
+) -> Result<(Reply, bool), StepFault>
     requires { length (key_of step.now) ≤ 250 }
 {
     match step {
-        KeyStep::Flush { .. } => store.step(alloc, step, now),
+        KeyStep::Flush { .. } => Ok((store.step(alloc, step, now)?, false)),
         _ => match begin_and_finish(store, alloc, step, now) {
             Err(StepFault::NoMemory) => begin_and_finish(store, alloc, step, now),
             answer => answer,
         },
     }
+}
+
+/// The reply of a step that was taken in two parts.
+fn reply_of(answer: Result<(Reply, bool), StepFault>) -> Result<Reply, StepFault> {
+    Ok(answer?.0)
 }
 
 /// Returns whether two desks have the same number next, and as many chunks of the two least classes
@@ -527,7 +548,7 @@ fn are_alike(desk: &Desk, other: &Desk) -> bool {
 
 /// Returns whether a row is answered as it wants both whole and in two parts, and leaves the two
 /// stores' desks alike.
-fn goes_alike(
+pub(super) fn goes_alike(
     alloc: Global,
     whole: &mut Store<Fnv>,
     parted: &mut Store<Fnv>,
@@ -540,7 +561,7 @@ fn goes_alike(
     let now = Moment::from_seconds_at_most(seconds);
     let step = step_of(key, ask);
     is_wanted(&asked(whole, alloc, &step, now), want)
-        && is_wanted(&asked_in_parts(parted, alloc, &step, now), want)
+        && is_wanted(&reply_of(asked_in_parts(parted, alloc, &step, now)), want)
         && are_alike(&whole.parts.desk, &parted.parts.desk)
 }
 

@@ -66,10 +66,10 @@ decide-requires g c =
           (spread began.shelves (λ n. slice_index c.args.before.now n - keys_with began.hash_of n new.items) 0 4096)
           c.shared.view_is inv.0 (ap (λ s. s.shelves) inv.1) h (refl, refl) (h.held ∙ sym (ap (λ (m : Mine). loaded m []) h.held))
           (applies began at old new from to what (λ m part desk. tt)
-          (λ m part desk. c.end_purge.ensures old began.hash_of began.shelves at m begins part desk))
+          (λ m part desk. c.end_purge.ensures.goes old began.hash_of began.shelves at m begins part desk))
           (counts_swept began at inv.0.divides c.args.now old new (λ n k low high. words_apart began.shelves n k inv.0.divides low high)
           (λ n. slice_index c.args.before.now n) counted.counted _ _ [] refl refl refl some fit
-          (λ m fits. (fits.1.0.1, (to, c.end_purge.ensures old began.hash_of began.shelves at m begins fits.1.0.1 fits.0.1)))));
+          (λ m fits. (fits.1.0.1, (to, c.end_purge.ensures.goes old began.hash_of began.shelves at m begins fits.1.0.1 fits.0.1)))));
     }
 
 pub lower_words-requires-clause-named : goal.lower_words-requires-clause-named
@@ -90,7 +90,7 @@ lower_words-requires-clause-named g c =
     let here = subst (λ (s : SharedState g.row.K.Denot). HoldsBoth hash_of s seat at old from) (sym c.shared.view_is) h in
     let some : Plain = after began began.plain here.fits.log in
     let fit : AllFit began some ((began.shelves, OfDesk from) ∷ (at, OfShelf old) ∷ []) = subst (AllFit began some) (ap (λ (m : Mine). m.0.bays) here.held) here.fits.fits in
-    let hashes : AreHashes new began.hash_of = (c.end_purge.ensures old began.hash_of began.shelves at some begins fit.1.0.1 fit.0.1).own.hashes in
+    let hashes : AreHashes new began.hash_of = (c.end_purge.ensures.goes old began.hash_of began.shelves at some begins fit.1.0.1 fit.0.1).own.hashes in
     let counted = subst (λ (s : ShelfState). AreCountsOf s.content c.count_shelf-after.result) c.deref-2.ensures c.count_shelf-after.ensures in
     let before : ℕ → ℕ = λ n. slice_index c.args.before.now n in
     let after_it : ℕ → ℕ = λ n. slice_index c.count_shelf-after.result n in

@@ -55,13 +55,15 @@ returns-in-Some-clause-left c =
         hash = put.hash;
         place = c.requires.can.known.place ∙ ap (λ (o : Option Entry). is_some o) stood ∙ sym (ap (λ (o : Option Entry). is_some o) put.item);
       };
-      body = inl c.requires.given;
-      ready = record {
-        item = item;
-        there = put.item;
-        need = ap need_for same ∙ ap (block_need key)
-            (own_block c.args.write.now.draft c.args.step.now (content_of c.self.inside.greatest c.self.inside.cut c.replace-old.new.self) c.requires.given);
-      };
+      ready = (
+        inl c.requires.given,
+        record {
+          item = item;
+          there = put.item;
+          need = ap need_for same ∙ ap (block_need key)
+              (own_block c.args.write.now.draft c.args.step.now (content_of c.self.inside.greatest c.self.inside.cut c.replace-old.new.self) c.requires.given);
+        },
+      );
     }
 
 pub returns-in-None-clause-put : goal.returns-in-None-clause-put

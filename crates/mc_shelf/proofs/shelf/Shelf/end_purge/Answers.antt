@@ -15,8 +15,8 @@ purge_part-requires c =
     let same = subst (λ (p : Purging). BeginsPurge c.args.now c.requires.0 p c.args.self.now.content) c.in-Whole.is c.requires.1 in
     (c.requires.2, c.requires.3, c.requires.4, c.requires.5, subst (IsShelfOf c.requires.2 c.requires.3 c.requires.5 c.requires.4) (sym same) c.requires.6, c.requires.7)
 
-pub returns-in-Apart : goal.returns-in-Apart
-returns-in-Apart c old hash_of shelves at state begins fits account =
+pub returns-in-Apart-clause-goes : goal.returns-in-Apart-clause-goes
+returns-in-Apart-clause-goes c old hash_of shelves at state begins fits account =
     let took = subst (λ (p : Purging). BeginsPurge c.args.now old p c.args.self.now.content) c.in-Apart.is begins in
     let back = c.take_back.ensures in
     goes_purged fits account took.purged record {
@@ -26,7 +26,7 @@ returns-in-Apart c old hash_of shelves at state begins fits account =
       next_unique = back.next_unique;
     }
 
-pub returns-in-Whole : goal.returns-in-Whole
-returns-in-Whole c old hash_of shelves at state begins fits account =
+pub returns-in-Whole-clause-goes : goal.returns-in-Whole-clause-goes
+returns-in-Whole-clause-goes c old hash_of shelves at state begins fits account =
     let same = subst (λ (p : Purging). BeginsPurge c.args.now old p c.args.self.now.content) c.in-Whole.is begins in
-    c.purge_part.ensures hash_of shelves at state (subst (IsShelfOf hash_of shelves state at) (sym same) fits) account
+    c.purge_part.ensures.goes hash_of shelves at state (subst (IsShelfOf hash_of shelves state at) (sym same) fits) account

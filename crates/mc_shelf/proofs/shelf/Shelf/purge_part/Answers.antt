@@ -4,5 +4,5 @@ use Rattle.mc_shelf.proofs.shelf.Shelf.purge_part.Goals as goal
 pub purge-requires : goal.purge-requires
 purge-requires c = part_out c.requires.4 c.requires.5
 
-pub returns : goal.returns
-returns c hash_of shelves at state fits account = goes_purged fits account c.purge.ensures.shelf c.purge.ensures.desk
+pub returns-clause-goes : goal.returns-clause-goes
+returns-clause-goes c hash_of shelves at state fits account = goes_purged fits account c.purge.ensures.shelf c.purge.ensures.desk

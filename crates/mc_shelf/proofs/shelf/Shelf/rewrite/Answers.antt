@@ -25,8 +25,7 @@ pub returns-in-Given-clause-left : goal.returns-in-Given-clause-left
 returns-in-Given-clause-left c = record {
   short = c.requires.key;
   sought = known_sought _ (key_of c.args.step.now) c.args.write.now.hash c.args.write.now.place c.requires.known;
-  body = inl (c.requires.own (no_number c.args.write.now.draft.body c.in-Given.is));
-  ready = c.requires.there;
+  ready = (inl (c.requires.own (no_number c.args.write.now.draft.body c.in-Given.is)), c.requires.there);
 }
 
 -- a number's digits

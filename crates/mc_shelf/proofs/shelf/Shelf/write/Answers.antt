@@ -79,8 +79,7 @@ returns-then-goes_over-clause-left c =
     record {
       short = c.requires.write.short;
       sought = known_sought _ (key_of step) write.hash write.place c.requires.write.known;
-      body = c.goes_over.ensures.body c.if-goes_over.true;
-      ready = record { item = there.0; there = there.1; need = there.2 };
+      ready = (c.goes_over.ensures.body c.if-goes_over.true, record { item = there.0; there = there.1; need = there.2 });
     }
 
 pub returns-then-goes_over-clause-took : goal.returns-then-goes_over-clause-took

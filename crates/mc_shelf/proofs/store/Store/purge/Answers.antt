@@ -14,7 +14,7 @@ invariant_of-self g c =
     let settings = c.self.inside.parts.settings in
     let fits = parts.each c.args.shelf c.index_mut-shelf.result.now (shelf_here settings parts c.if-shelf-self.true c.index_mut-shelf.ensures.value) in
     record {
-      parts = kept_after settings parts c.purge_part.new.self (c.purge_part.ensures _ _ c.args.shelf _ fits parts.account);
+      parts = kept_after settings parts c.purge_part.new.self (c.purge_part.ensures.goes _ _ c.args.shelf _ fits parts.account);
       divides = c.self.invariant.divides;
     }
 
@@ -24,4 +24,4 @@ returns-then-shelf-self-clause-plain g c =
     let settings = c.self.inside.parts.settings in
     let fits = parts.each c.args.shelf c.index_mut-shelf.result.now (shelf_here settings parts c.if-shelf-self.true c.index_mut-shelf.ensures.value) in
     rw (← c.self.view_is, lt-ltb c.args.shelf settings.shelves c.if-shelf-self.true)
-    (plain_after settings parts c.purge_part.new.self (c.purge_part.ensures _ _ c.args.shelf _ fits parts.account))
+    (plain_after settings parts c.purge_part.new.self (c.purge_part.ensures.goes _ _ c.args.shelf _ fits parts.account))

@@ -1,0 +1,54 @@
+//! Joins to items of several pages, which are copied when the desk is given back.
+
+use crate::tests::Trial;
+use mc_command::Verb;
+use mc_shelf::Settings;
+use mc_testing::{Ask, Row, Want, filled, first_unlike, set};
+use std::process::Abort;
+use std::test::*;
+
+/// A store of few pages, whose items may take eight.
+const LARGE: Settings = Settings {
+    pages: 7,
+    greatest: Settings::MOST_GREATEST,
+    shelves: 64,
+};
+
+/// Makes the row of a join.
+fn join<'a>(verb: Verb, block: &'a [u8]) -> Row<'a> {
+    let ask = Ask::Store(verb, 0, block);
+    (1000, b"k", ask, Want::Told("stored"))
+}
+
+/// An item grows from two pages to three, is copied once more for what comes before it, and stays where the end comes behind it.
+/// One of four pages finds too few, as three are free.
+#[test]
+fn joins_of_pages_are_answered(rt: HostRuntime) -> Result<(), Fail> {
+    let alloc = rt.alloc();
+    let first = filled(alloc, 1_500_000)?;
+    let second = filled(alloc, 900_000)?;
+    let mut all = filled(alloc, 2_400_002)?;
+    if let Some(first) = all.get_mut(0) {
+        *first = b'a';
+    }
+    if let Some(last) = all.get_mut(2_400_001) {
+        *last = b'z';
+    }
+    let rows: &[Row<'_>] = &[
+        set(1000, b"k", 0, first.as_slice(), "stored"),
+        join(Verb::Append, second.as_slice()),
+        join(Verb::Prepend, b"a"),
+        join(Verb::Append, b"z"),
+        (1000, b"k", Ask::Get, Want::Hit(6, all.as_slice())),
+        (
+            1000,
+            b"k",
+            Ask::Store(Verb::Append, 0, second.as_slice()),
+            Want::Told("no chunk"),
+        ),
+        (1000, b"k", Ask::Get, Want::Hit(6, all.as_slice())),
+    ];
+    let mut trial = Trial::open_so(&rt, alloc, LARGE)?;
+    assert_eq!(rt; first_unlike(&mut trial, alloc, rows)?, None);
+    Ok(())
+}

@@ -1,0 +1,28 @@
+-- What an exchange of chunks for those of an item leaves.
+use Rattle.std.proofs.Common.{◌≡◌, ◌≤◌, List, ℕ, Option, true, ap, subst, sym, ◌∙◌}
+use Rattle.std.specs.FinMap.{get}
+use Rattle.mc_slab.specs.Classes.{IsClass}
+use Rattle.mc_slab.specs.Chunks.{ChunksState, AreChunks, need_in}
+use Rattle.mc_slab.specs.Needs.{NeedState, IsNeed}
+use Rattle.mc_slab.specs.Slabs as slabs
+use Rattle.mc_slab.specs.Slabs.{IsSlab}
+use Rattle.mc_command.specs.Plain.{Entry}
+use Rattle.mc_shelf.specs.States.{DeskState, ShelfContent}
+use Rattle.mc_shelf.specs.Plans.{GivesBack, IsOut, has_need}
+use Rattle.mc_shelf.proofs.TakesLemmas.{need_of_found}
+
+-- chunks of the need of a key's item go back in exchange for the item's own
+pub gives_alike : (key : List ℕ) (shelf : ShelfContent) (desk : DeskState) (chunks : ChunksState) → IsOut key shelf desk → AreChunks chunks
+    → has_need key (get shelf.items key) (need_in chunks) ≡ true
+    → (chunks.count ≤ slabs.out_of desk.slab chunks.class)
+    × ((new : DeskState) → IsSlab desk.slab → new ≡ record desk { slab = slabs.given desk.slab chunks.class chunks.count } → GivesBack key (get shelf.items key) desk new)
+gives_alike key shelf desk chunks out are has =
+    let there = need_of_found key (get shelf.items key) (need_in chunks) has in (
+      subst (λ (n : NeedState). n.count ≤ slabs.out_of desk.slab n.class) there.2
+          (out there.0 there.1 (subst (λ (n : NeedState). IsClass n.class) (sym there.2) are.is_need.is_class)),
+      λ new is_slab given. subst (λ (o : Option Entry). GivesBack key o desk new) (sym there.1) record {
+        given_is = given ∙ ap (λ (n : NeedState). record desk { slab = slabs.given desk.slab n.class n.count }) (sym there.2);
+        is_need = subst IsNeed (sym there.2) are.is_need;
+        is_slab = is_slab;
+      },
+    )

@@ -1,0 +1,35 @@
+use Rattle.std.proofs.Common.{◌≡◌, List, ℕ, Some, ap, subst, sym, ◌∙◌}
+use Rattle.std.specs.FinMap.{get}
+use Rattle.mc_command.specs.Commands.{key_of}
+use Rattle.mc_command.specs.Plain.{block_of}
+use Rattle.mc_shelf.specs.States.{EntryState, ShelfState}
+use Rattle.mc_shelf.specs.Places.{IsChanged, hashes_of}
+use Rattle.mc_shelf.specs.Plans.{block_beside, block_in, drafted, item_in, made_block}
+use Rattle.mc_shelf.proofs.ShelfLemmas.{moved_is}
+use Rattle.mc_shelf.proofs.shelf.Shelf.put_into.Goals as goal
+
+pub returns-in-Some-clause-content : goal.returns-in-Some-clause-content
+returns-in-Some-clause-content c =
+    let inside = c.self.inside in
+    let write = c.args.write.now in
+    let step = c.args.step.now in
+    let old = c.args.self.now.content in
+    let key = key_of step in
+    let item = drafted write.draft (block_beside old step write.draft) c.args.unique write.moment in
+    let here = c.in-Some.ensures in
+    let beside : block_in (item_in c.found-old.result) ≡ block_in (get old.items key) =
+    ap block_in ((c.found-old.ensures c.key.result.now c.find_again-place.ensures).item
+    ∙ ap (λ (s : ShelfState). get s.content.items c.key.result.now) c.self.view_is
+    ∙ ap (λ (k : List ℕ). get old.items k) c.key.ensures) in
+    let entry : c.entry_in-entry.result ≡ record { hash = write.hash; key = key; item = item } =
+    c.entry_in-entry.ensures ∙ ap (λ (l : List ℕ). record {
+      hash = write.hash;
+      key = key;
+      item = drafted write.draft (made_block write.draft.body (block_of step) l) c.args.unique
+          write.moment;
+    }) beside in
+    let stood : get old.hashes key ≡ Some here.entry.hash =
+    sym (ap (λ (s : ShelfState). get s.content.hashes key) c.self.view_is) ∙ ap (λ (k : List ℕ). get (hashes_of inside.index) k) (sym c.key.ensures) ∙ here.hash in
+    moved_is inside.greatest inside.cut old inside.index (ap (λ (s : ShelfState). s.content) c.self.view_is) key write.hash c.replace.new.self c.args.chunks item
+    (stood ∙ ap Some (c.requires.sought.hash here.entry.hash stood))
+    (subst (λ (e : EntryState). IsChanged inside.index c.replace.new.self e.key e.item) entry c.replace.ensures.changed)
