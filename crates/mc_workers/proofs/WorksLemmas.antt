@@ -6,7 +6,7 @@ use Rattle.mc_shared.specs.Asking.{AskingState}
 use Rattle.mc_workers.specs.Books.{BooksState, SettlesFrom, no_books}
 use Rattle.mc_workers.specs.Doors.{OpensForAll, shut}
 use Rattle.mc_workers.specs.Tending.{asked_by}
-use Rattle.mc_workers.specs.Rounds.{VisitsAndTidies, WorkState, WorksRound, Works, nothing, and_round, begins, WorksSince, WorksToEnd}
+use Rattle.mc_workers.specs.Rounds.{TidiesAndVisits, WorkState, WorksRound, Works, nothing, and_round, begins, WorksSince, WorksToEnd}
 use Rattle.mc_workers.specs.declared.door.Door.{Door}
 use Rattle.mc_workers.specs.declared.guests.WorkEnd.{WorkEnd}
 
@@ -28,7 +28,7 @@ module _ {K : Type 0} (hash_of : K → List ℕ → ℕ) (may_give : ℕ → Typ
 
   -- a round, by its calls
   round_so : (old new : WorkState K) (visited settled : BooksState) (counted : WorkEnd) (opened goes_on : Bool) → may_give new.moment
-      → VisitsAndTidies hash_of old.moment new.moment old.turn new.turn old.asking new.asking old.books visited → SettlesFrom 0 visited settled old.end counted
+      → TidiesAndVisits hash_of old.moment new.moment old.turn new.turn old.asking new.asking old.books visited → SettlesFrom 0 visited settled old.end counted
       → OpensForAll old.door new.door settled new.books counted new.end opened → opened ≡ goes_on
       → WorksRound hash_of may_give old new goes_on
   round_so old new visited settled counted opened goes_on given visits settles opens so = record {
@@ -42,7 +42,7 @@ module _ {K : Type 0} (hash_of : K → List ℕ → ℕ) (may_give : ℕ → Typ
   }
 
   pub works_on : (old new : WorkState K) (visited settled : BooksState) (counted : WorkEnd) (opened : Bool) → WorksSince hash_of may_give first began caller old
-      → may_give new.moment → VisitsAndTidies hash_of old.moment new.moment old.turn new.turn old.asking new.asking old.books visited → SettlesFrom 0 visited settled old.end counted
+      → may_give new.moment → TidiesAndVisits hash_of old.moment new.moment old.turn new.turn old.asking new.asking old.books visited → SettlesFrom 0 visited settled old.end counted
       → OpensForAll old.door new.door settled new.books counted new.end opened → opened ≡ true
       → WorksSince hash_of may_give first began caller new
   works_on old new visited settled counted opened since given visits settles opens so = record {
@@ -53,7 +53,7 @@ module _ {K : Type 0} (hash_of : K → List ℕ → ℕ) (may_give : ℕ → Typ
   }
 
   pub works_over : (old new : WorkState K) (visited settled : BooksState) (counted : WorkEnd) (opened : Bool) (back : CallerState) → WorksSince hash_of may_give first began caller old
-      → may_give new.moment → VisitsAndTidies hash_of old.moment new.moment old.turn new.turn old.asking new.asking old.books visited → SettlesFrom 0 visited settled old.end counted
+      → may_give new.moment → TidiesAndVisits hash_of old.moment new.moment old.turn new.turn old.asking new.asking old.books visited → SettlesFrom 0 visited settled old.end counted
       → OpensForAll old.door new.door settled new.books counted new.end opened → opened ≡ false
       → back.past ≡ new.asking.past → WorksToEnd hash_of may_give first began caller (back, new.end)
   works_over old new visited settled counted opened back since given visits settles opens so past = record {

@@ -44,21 +44,21 @@ module _ {K : Type 0} (hash_of : K → List ℕ → ℕ) where
         → Tidied hash_of now (tidied_at_once old.began.settings.shelves) (turn % old.began.settings.shelves) next old new
     pub stands : now ≤ before → (new ≡ old) × (next ≡ turn)
 
-  -- those that were awake were visited, and then dead items were dropped when the clock had risen,
-  -- at one moment
-  pub record VisitsAndTidies (before now turn next : ℕ) (old new : AskingState K) (books later : BooksState) : Type 0 where
+  -- dead items were dropped when the clock had risen, and then those that were awake were visited, at
+  -- one moment
+  pub record TidiesAndVisits (before now turn next : ℕ) (old new : AskingState K) (books later : BooksState) : Type 0 where
     pub between : AskingState K
-    pub visits : VisitsAll (as_caller hash_of) now books later old between
-    pub tidies : TidiesWhereRisen before now turn next between new
+    pub tidies : TidiesWhereRisen before now turn next old between
+    pub visits : VisitsAll (as_caller hash_of) now books later between new
 
-  -- One round, at a moment that the clock may give: visits and tidying, those that ended go, and the door is opened for those
+  -- One round, at a moment that the clock may give: tidying and visits, those that ended go, and the door is opened for those
   -- that wait.
   pub record WorksRound (may_give : ℕ → Type 0) (old new : WorkState K) (goes_on : Bool) : Type 0 where
     pub given : may_give new.moment
     pub visited : BooksState
     pub settled : BooksState
     pub counted : WorkEnd
-    pub visits : VisitsAndTidies old.moment new.moment old.turn new.turn old.asking new.asking old.books visited
+    pub visits : TidiesAndVisits old.moment new.moment old.turn new.turn old.asking new.asking old.books visited
     pub settles : SettlesFrom 0 visited settled old.end counted
     pub opens : OpensForAll old.door new.door settled new.books counted new.end goes_on
 

@@ -3,7 +3,7 @@ ghost use Rattle.std.specs.Prelude.{◌≡◌};
 ghost use Rattle.mc_shared.specs.Asking.{GoesFurther, Further};
 ghost use Rattle.mc_shared.specs.History.{start_of};
 ghost use Rattle.mc_shared.specs.Steps.{Agrees};
-ghost use Rattle.mc_workers.specs.Rounds.{VisitsAndTidies, WorksToEnd};
+ghost use Rattle.mc_workers.specs.Rounds.{TidiesAndVisits, TidiesWhereRisen, WorksToEnd};
 
 use crate::budget::Budget;
 use crate::counting::Counting;
@@ -39,9 +39,10 @@ pub struct Worker<'a, G: Gate, T: Tally, C: Clock> {
 impl<'a, G: Gate, T: Tally, C: Clock> Worker<'a, G, T, C> {
     /// Serves links until none comes any more and all sessions have ended: makes rounds of the
     /// guests that are awake, and after each asks for the next link until none comes, or 32 came. A
-    /// step is followed by the growth of its key's shelf by 8 entries; when the clock has risen, the
-    /// dead items of the next shelf in turn are dropped, and of more than 64 shelves those of so many
-    /// that 64 risings come to all. The clock is asked once a round, for all of its visits.
+    /// step is followed by the growth of its key's shelf by 8 entries; when the clock has risen, a
+    /// round begins by dropping the dead items of the next shelf in turn, and of more than 64 shelves
+    /// those of so many that 64 risings come to all. The clock is asked once a round, for all of its
+    /// visits.
     ///
     /// The caller comes back under further calls alone, each at a moment that the clock may give, and
     /// there is a legal history that keeps its past. A fault of one link, and one session's want of
@@ -112,8 +113,11 @@ pub fn work<R: Wait, K: KeyHash + Drop, L: Link + Drop, Q: Links<L>, G: Gate, C:
     worker.work(rt, alloc, shared, caller, links)
 }
 
-/// Makes a round of those that are awake, and drops the dead items of the next shelves when the
-/// clock has risen, all at one moment. Returns the shelf whose turn is next.
+/// Makes a round: drops the dead items of the next shelves when the clock has risen, and then visits those
+/// that are awake, all at one moment. Returns the shelf whose turn is next.
+///
+/// The clocks of all workers rise at once. None of them asks for a shelf whose dead items another
+/// drops, if it first drops those of its own.
 fn make_round<R: Wait, K: KeyHash + Drop, L: Link + Drop, G: Gate, T: Tally>(
     alloc: Global,
     guests: &mut Guests<L>,
@@ -123,10 +127,25 @@ fn make_round<R: Wait, K: KeyHash + Drop, L: Link + Drop, G: Gate, T: Tally>(
     now: Moment,
 ) -> u32
     ensures further { GoesFurther (λ moment. moment ≡ now) counting.old counting.new }
-    ensures round { VisitsAndTidies K.hash_of before now turn result counting.old counting.new
+    ensures round { TidiesAndVisits K.hash_of before now turn result counting.old counting.new
         guests.old guests.new }
 {
+    let next = tidy_if_risen(counting, turn, before, now);
     guests.visit_all(alloc, counting, now);
+    next
+}
+
+/// Drops the dead items of the next shelves when the clock has risen. Returns the shelf whose turn is
+/// next.
+fn tidy_if_risen<R: Wait, K: KeyHash + Drop, G: Gate, T: Tally>(
+    counting: &mut Counting<'_, Tending<'_, R, K, G>, T>,
+    turn: u32,
+    before: Moment,
+    now: Moment,
+) -> u32
+    ensures further { GoesFurther (λ moment. moment ≡ now) counting.old counting.new }
+    ensures tidies { TidiesWhereRisen K.hash_of before now turn result counting.old counting.new }
+{
     if before.seconds() < now.seconds() {
         counting.tidy(turn, now)
     } else {

@@ -207,10 +207,12 @@ fn a_join_of_pages_is_left(rt: HostRuntime) -> Result<(), Fail> {
     let alloc = rt.alloc();
     let small = filled(alloc, 400_000)?;
     let large = filled(alloc, 700_000)?;
-    // What is joined, and whether it is left.
+    let larger = filled(alloc, 1_000_000)?;
+    // What is joined, and whether it is left: to one chunk, to two pages that are to be three, to three that are copied for what comes
+    // before, and to three that stay.
     let rows: [(Verb, &[u8], bool); 5] = [
         (Verb::Append, large.as_slice(), false),
-        (Verb::Append, large.as_slice(), true),
+        (Verb::Append, larger.as_slice(), true),
         (Verb::Prepend, b"x", true),
         (Verb::Append, large.as_slice(), true),
         (Verb::Append, b"x", true),

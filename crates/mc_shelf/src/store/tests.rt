@@ -9,6 +9,8 @@ ghost use Rattle.mc_shelf.specs.States.{CanStand};
 ghost use Rattle.mc_shelf.specs.Plans.{CanLook, IsTaken};
 
 use super::*;
+use crate::begun::Begun;
+use crate::exchange::Brought;
 use mc_command::Verb;
 use mc_hop::{Constant, Fnv};
 use mc_slab::class_of;
