@@ -15,6 +15,8 @@ ONES = [("1m", 1_000_000, 300), ("8m", 8_000_000, 24)]
 LET_ON = 60
 # What an idle one may cost.
 IDLE = 8192
+# How many pages a store of joined items has, how many workers, and how much each may have of pages that go to and fro.
+PAGES, WORKERS, EXCHANGED = 64, 4, 8 * MB
 
 
 def limited(most):
@@ -63,3 +65,15 @@ class Buffers(ProgramCase):
                     peer.asks(b"set block 0 0 %d\r\n%s\r\nget block\r\n" % (length, block), b"STORED\r\nVALUE block 0 %d\r\n%s\r\nEND\r\n" % (length, block))
             had = until(lambda: server.memory() <= before + LITTLE + len(peers) * IDLE, 3)
             self.assertTrue(had, f"{len(peers)} idle ones have {server.memory() - before >> 10} kB more")
+
+    def test_joins_give_pages_back(self):
+        """Clients append to items until these have seven pages, twenty times: pages that are brought in exchange for an item's come back."""
+        part = b"p" * 400_000
+        with Server(pages=PAGES, workers=WORKERS, args=["-I", "8m", "--buffer-limit", str(LIMIT)]) as server, Beside(server.port):
+            before = server.memory()
+            with clients(server.port, WORKERS) as peers:
+                for key, peer in list(enumerate(peers)) * 20:
+                    peer.asks(b"set joined%d 0 0 1\r\nx\r\n" % key, b"STORED\r\n")
+                    for _ in range(18):
+                        peer.asks(b"append joined%d 0 0 %d\r\n%s\r\n" % (key, len(part), part), b"STORED\r\n")
+                costs(server, before, PAGES * MB + WORKERS * EXCHANGED + LITTLE)

@@ -269,22 +269,15 @@ impl Index {
     }
 
     /// Reads ahead on a sweep that has come to the entry of a number, if it hasn't read so far: the
-    /// headers of this entry and the next, 16 at most, as long as all are gone at a moment, with a
-    /// flush at `cut`, or none is. Answers the number behind them.
+    /// headers of this entry and the next, 16 in all. Answers the number behind them.
     ///
     /// A header lies in no cache. Read one right behind another they come together; with a removal
     /// between two, or a search for the next, each waits for the one before.
-    pub(crate) fn read_ahead(
-        &self,
-        ahead: usize,
-        number: usize,
-        cut: Option<u64>,
-        now: Moment,
-    ) -> usize {
+    pub(crate) fn read_ahead(&self, ahead: usize, number: usize) -> usize {
         if number < ahead {
             return ahead;
         }
-        alike_until(&self.entries_from(number), number, cut, now)
+        read_all(&self.entries_from(number), number)
     }
 
     /// Lends the first entries whose numbers are at or above `from`, each with the number behind it.
@@ -418,24 +411,18 @@ impl Index {
     }
 }
 
-/// Returns the number behind the first of these entries, up to one that is gone at a moment, with a
-/// flush at `cut`, while the first isn't, or the other way about; `from` if there is none.
-fn alike_until(
-    entries: &[(usize, Option<&Entry>)],
-    from: usize,
-    cut: Option<u64>,
-    now: Moment,
-) -> usize {
-    let Some((_, first)) = entries.first() else {
-        return from;
-    };
-    let gone = is_gone(*first, cut, now);
+/// Reads the headers of entries, from their hash to the moment of their write, and returns the number
+/// behind the last; `from` if there is none.
+///
+/// What was read decides between two answers, of which either does, so that none is left unread.
+fn read_all(entries: &[(usize, Option<&Entry>)], from: usize) -> usize {
+    let mut read = 0;
     let mut end = from;
     for (behind, entry) in entries {
-        if is_gone(*entry, cut, now) != gone {
-            return end;
+        if let Some(entry) = entry {
+            read ^= entry.hash() ^ entry.updated().seconds();
         }
         end = *behind;
     }
-    end
+    if read == 0 { from } else { end }
 }

@@ -86,7 +86,7 @@ impl Shelf {
         let mut at = 0;
         let mut ahead = 0;
         while let Some((number, place)) = self.index.filled_from(at) {
-            ahead = self.index.read_ahead(ahead, number, self.cut, now);
+            ahead = self.index.read_ahead(ahead, number);
             if is_gone(self.index.get(place), self.cut, now) {
                 let entry = self.index.remove(place);
                 chunks.push_reserved(entry.into_chunks());
