@@ -223,8 +223,9 @@ fn a_join_of_pages_is_left(rt: HostRuntime) -> Result<(), Fail> {
     let _ = asked(&mut store, alloc, &step, now);
     for (verb, block, want) in rows {
         let step = step_of(b"k", Ask::Store(verb, 0, block));
-        let told = asked_in_parts(&mut store, alloc, &step, now)?;
-        assert_eq!(rt; told.1, want);
+        let mut left = false;
+        let _ = asked_in_parts(&mut store, alloc, &step, now, &mut left)?;
+        assert_eq!(rt; left, want);
     }
     Ok(())
 }

@@ -468,7 +468,7 @@ fn is_left(begun: &Begun) -> bool {
 }
 
 /// Takes a step on a shelf's key in two parts, with nothing between them, and with pages in exchange for those of an item that it
-/// joins to. Answers whether something was left to the second.
+/// joins to. Tells whether something was left to the second.
 fn step_in_parts(
     alloc: Global,
     shelf: &mut Shelf,
@@ -476,11 +476,12 @@ fn step_in_parts(
     step: &KeyStep<'_>,
     hash: u64,
     now: Moment,
-) -> Result<(Reply, bool), StepFault>
+    left: &mut bool,
+) -> Result<Reply, StepFault>
     requires look { CanLook step.now hash shelf.old.content }
     requires stands { CanStand (key_of step.now) shelf.old.content desk.old }
-    ensures took { IfOk result (λ told. IsTaken step.now now hash shelf.old.content desk.old
-        told.0 shelf.new.content desk.new) }
+    ensures took { IfOk result (λ reply. IsTaken step.now now hash shelf.old.content desk.old
+        reply shelf.new.content desk.new) }
     ensures err { OnErr result
         ((shelf.new.content ≡ shelf.old.content) × (desk.new ≡ desk.old)) }
 {
@@ -491,17 +492,18 @@ fn step_in_parts(
         exchange,
     };
     let begun = shelf.begin(alloc, &plan, step, desk, brought)?;
-    let left = is_left(&begun);
-    Ok((shelf.finish(&mut plan, begun, step), left))
+    *left = is_left(&begun);
+    Ok(shelf.finish(&mut plan, begun, step))
 }
 
-/// Takes a step at its key's shelf in two parts. Answers whether something was left to the second.
+/// Takes a step at its key's shelf in two parts. Tells whether something was left to the second.
 fn begin_and_finish<K: KeyHash + Drop>(
     store: &mut Store<K>,
     alloc: Global,
     step: &KeyStep<'_>,
     now: Moment,
-) -> Result<(Reply, bool), StepFault>
+    left: &mut bool,
+) -> Result<Reply, StepFault>
     requires on_key { IsOnKey step.now }
     requires key { length (key_of step.now) ≤ 250 }
 {
@@ -509,31 +511,27 @@ fn begin_and_finish<K: KeyHash + Drop>(
     let at = hash % u64::from(store.parts.settings.shelves);
     let StoreParts { shelves, desk, .. } = &mut store.parts;
     let shelf = &mut shelves[at as usize];
-    step_in_parts(alloc, shelf, desk, step, hash, now)
+    step_in_parts(alloc, shelf, desk, step, hash, now, left)
 }
 
-/// Takes a step on one key in two parts, again if memory is refused, and answers whether something was left to the second. A flush
+/// Takes a step on one key in two parts, again if memory is refused, and tells whether something was left to the second. A flush
 /// is taken whole.
 pub(super) fn asked_in_parts(
     store: &mut Store<Fnv>,
     alloc: Global,
     step: &KeyStep<'_>,
     now: Moment,
-) -> Result<(Reply, bool), StepFault>
+    left: &mut bool,
+) -> Result<Reply, StepFault>
     requires { length (key_of step.now) ≤ 250 }
 {
     match step {
-        KeyStep::Flush { .. } => Ok((store.step(alloc, step, now)?, false)),
-        _ => match begin_and_finish(store, alloc, step, now) {
-            Err(StepFault::NoMemory) => begin_and_finish(store, alloc, step, now),
+        KeyStep::Flush { .. } => store.step(alloc, step, now),
+        _ => match begin_and_finish(store, alloc, step, now, left) {
+            Err(StepFault::NoMemory) => begin_and_finish(store, alloc, step, now, left),
             answer => answer,
         },
     }
-}
-
-/// The reply of a step that was taken in two parts.
-fn reply_of(answer: Result<(Reply, bool), StepFault>) -> Result<Reply, StepFault> {
-    Ok(answer?.0)
 }
 
 /// Returns whether two desks have the same number next, and as many chunks of the two least classes
@@ -562,8 +560,9 @@ pub(super) fn goes_alike(
     }
     let now = Moment::from_seconds_at_most(seconds);
     let step = step_of(key, ask);
+    let mut left = false;
     is_wanted(&asked(whole, alloc, &step, now), want)
-        && is_wanted(&reply_of(asked_in_parts(parted, alloc, &step, now)), want)
+        && is_wanted(&asked_in_parts(parted, alloc, &step, now, &mut left), want)
         && are_alike(&whole.parts.desk, &parted.parts.desk)
 }
 
