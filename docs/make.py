@@ -35,7 +35,7 @@ REGION = re.compile(r"(<!-- made from the sources: ([^>]*?) -->\n)(.*?)(<!-- end
 KINDS = ["calls", "definitions", "layers", "libraries", "counts"]
 PROGRAM = "mc_server"
 # What tests alone stand on.
-TESTING = "mc_testing"
+TESTING = ("mc_testing", "mc_rows")
 # Of the libraries that crates.txt names these are the toolchain's own, and no ports.
 OWN = {"core": None, "atomic_table": "has the atomic steps of threads under their rule"}
 PORTS = {
@@ -163,7 +163,7 @@ class Maker:
         """The crates, each above those that it stands on. Named are those that none of the others named stands on."""
         under, depths = {}, {}
         for name, crate in self.crates.items():
-            own = [library for library in crate.libraries if library in self.crates and library != TESTING]
+            own = [library for library in crate.libraries if library in self.crates and library not in TESTING]
             under[name] = set(own).union(*(under[library] for library in own))
             depths[name] = max((depths[library] for library in own), default=0) + 1
         lines = []

@@ -5,7 +5,7 @@ use crate::tests::{MANY, ONE, SOME};
 use mc_command::{KeyStep, Reply, StepFault, Verb};
 use mc_hop::{Constant, Fnv, KeyHash};
 use mc_shelf::Settings;
-use mc_testing::{Ask, filled, step_of, told_of};
+use mc_rows::{Ask, filled, step_of, told_of};
 use mc_time::Moment;
 use std::alloc::{AllocError, Global};
 use std::marker::Model;

@@ -3,7 +3,7 @@
 use crate::patience::{Gate, Waiting};
 use crate::tests::Trial;
 use mc_command::{Answer, Bytes, KeyStep, Reply, Verb};
-use mc_testing::{Ask, step_of};
+use mc_rows::{Ask, step_of};
 use mc_time::Moment;
 use std::alloc::{AllocError, Global};
 use std::sync::Wait;

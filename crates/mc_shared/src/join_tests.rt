@@ -3,7 +3,7 @@
 use crate::tests::Trial;
 use mc_command::Verb;
 use mc_shelf::Settings;
-use mc_testing::{Ask, Row, Want, filled, first_unlike, set};
+use mc_rows::{Ask, Row, Want, filled, first_unlike, set};
 use std::process::Abort;
 use std::test::*;
 

@@ -11,7 +11,7 @@ use crate::store::{Caller, Shared};
 use mc_command::{Bytes, KeyStep, Reply, StepFault, Verb};
 use mc_hop::{Fnv, KeyHash};
 use mc_shelf::Settings;
-use mc_testing::{Ask, Want, is_wanted, step_of};
+use mc_rows::{Ask, Want, is_wanted, step_of};
 use mc_time::Moment;
 use std::alloc::{AllocError, Global};
 use std::sync::Wait;

@@ -3,7 +3,7 @@
 
 use crate::tests::Trial;
 use mc_command::Verb;
-use mc_testing::{Ask, asked, step_of, told_of};
+use mc_rows::{Ask, asked, step_of, told_of};
 use mc_time::Moment;
 use std::alloc::Global;
 use std::sync::Wait;

@@ -9,7 +9,7 @@ use mc_command::Verb;
 use mc_hop::Fnv;
 use mc_shelf::{Settings, ShelfCounts};
 use mc_slab::{Account, Class, class_of};
-use mc_testing::{Ask, filled};
+use mc_rows::{Ask, filled};
 use std::alloc::Global;
 use std::sync::Wait;
 use std::test::*;

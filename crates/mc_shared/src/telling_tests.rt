@@ -2,7 +2,7 @@
 
 use crate::tests::{LARGE, Trial};
 use mc_command::{Answer, Block, Bytes, KeyStep, Reply, StepFault, Steps, Unanswered, Verb};
-use mc_testing::{Ask, Row, Want, filled, first_unlike, set, step_of};
+use mc_rows::{Ask, Row, Want, filled, first_unlike, set, step_of};
 use mc_time::Moment;
 use std::alloc::{AllocError, Global};
 use std::marker::Model;

@@ -8,7 +8,7 @@ use mc_command::{Answer, Bytes, KeyStep, Reply, StepFault, Steps, Verb};
 use mc_hop::Fnv;
 use mc_shared::{NoGate, Shared};
 use mc_shelf::{Settings, Store};
-use mc_testing::{Ask, filled, step_of};
+use mc_rows::{Ask, filled, step_of};
 use mc_time::{Fixed, Moment};
 use std::alloc::{AllocError, Global};
 use std::cell::Cell;

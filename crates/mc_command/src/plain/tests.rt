@@ -1,5 +1,5 @@
 //! A store whose unique numbers are spent answers at once, even if an allocation would be refused.
-//! What else it answers is tested in `mc_testing`, by the rows that any store can be held to.
+//! What else it answers is tested in `mc_rows`, by the rows that any store can be held to.
 
 ghost use Rattle.std.specs.Prelude.{◌≤◌, length};
 ghost use Rattle.mc_command.specs.Commands.{key_of};

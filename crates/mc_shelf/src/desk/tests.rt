@@ -9,7 +9,7 @@ use crate::store::{Store, StoreParts};
 use mc_command::Verb;
 use mc_hop::Constant;
 use mc_slab::need_of;
-use mc_testing::{Ask, asked, filled, step_of};
+use mc_rows::{Ask, asked, filled, step_of};
 use mc_time::Moment;
 use std::test::*;
 

@@ -5,7 +5,7 @@ ghost use Rattle.std.specs.Prelude.{◌≡◌, ◌≤◌, length};
 use super::*;
 use crate::counts::ShelfCounts;
 use mc_command::Verb;
-use mc_testing::{Ask, asked, filled, step_of};
+use mc_rows::{Ask, asked, filled, step_of};
 use std::test::*;
 
 /// Gives keys of each length another hash. All of them go to the first shelf, and each to a home of

@@ -6,7 +6,7 @@ use super::*;
 use crate::purge::Purging;
 use mc_command::Verb;
 use mc_hop::Constant;
-use mc_testing::{Ask, Row, Want, asked, filled, first_unlike, set, step_of};
+use mc_rows::{Ask, Row, Want, asked, filled, first_unlike, set, step_of};
 use std::test::*;
 
 /// Gives keys of each length another hash, all of the first shelf. Lengths that are alike modulo 16 have one number, 256 times the

@@ -8,7 +8,7 @@ use super::*;
 use mc_command::{Bytes, Verb};
 use mc_hop::Fnv;
 use mc_slab::{Account, class_of};
-use mc_testing::{Ask, Row, Want, asked, filled, first_unlike, set};
+use mc_rows::{Ask, Row, Want, asked, filled, first_unlike, set};
 use std::process::Abort;
 use std::test::*;
 

@@ -14,7 +14,7 @@ use crate::exchange::Brought;
 use mc_command::Verb;
 use mc_hop::{Constant, Fnv};
 use mc_slab::class_of;
-use mc_testing::{Ask, Row, Want, asked, filled, first_unlike, is_wanted, set, step_of, told_of};
+use mc_rows::{Ask, Row, Want, asked, filled, first_unlike, is_wanted, set, step_of, told_of};
 use std::process::Abort;
 use std::test::*;
 
