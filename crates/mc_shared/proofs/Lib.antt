@@ -17,16 +17,4 @@ pub mod Stacked
 pub mod EmptyLemmas
 pub mod NumberSweeps
 pub mod CountLemmas
-pub mod OrderLawLemmas
-pub mod AloneLawLemmas
-pub mod KeyLawLemmas
-pub mod ReadLawLemmas
-pub mod OnlyLawLemmas
-pub mod CasLawLemmas
-pub mod CountLawLemmas
-pub mod BackLawLemmas
-pub mod TogetherLawLemmas
-pub mod MixLawLemmas
-pub mod AbsentLawLemmas
-pub mod LawUses
 pub mod Sent

@@ -16,7 +16,5 @@ pub mod Holds
 pub mod Decisions
 pub mod Close
 pub mod Asking
-pub mod Laws
-pub mod Together
 pub mod Telling
 pub mod Emptied

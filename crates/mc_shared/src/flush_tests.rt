@@ -2,8 +2,8 @@
 //! too few are. If an allocation is refused the steps are asked again.
 
 use crate::tests::Trial;
-use mc_shelf::Settings;
 use mc_rows::{Ask, Row, Want, filled, first_unlike, set};
+use mc_shelf::Settings;
 use std::test::*;
 
 /// A block that makes a page with a key of one byte.

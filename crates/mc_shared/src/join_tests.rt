@@ -2,8 +2,8 @@
 
 use crate::tests::Trial;
 use mc_command::Verb;
-use mc_shelf::Settings;
 use mc_rows::{Ask, Row, Want, filled, first_unlike, set};
+use mc_shelf::Settings;
 use std::process::Abort;
 use std::test::*;
 

@@ -1,0 +1,236 @@
+-- Unique numbers are drawn in the history's order.
+use Rattle.std.proofs.Common.{◌≡◌, ⊎_elim, ℕ, ℤ, ◌+◌, ◌≤◌, ◌<◌, Bool, true, false, cond, eqb, ltb, List, [], ◌∷◌, ◌++◌, Option, Some, None, sym, refl, ap, ◌∙◌, subst, arith, ne_eqb}
+use Rattle.std.specs.FinMap.{get, get-empty}
+use Rattle.std.specs.Ordering.{nat_cmp}
+use Rattle.std.specs.Cmp.Lexicographic.{slice_cmp}
+use mathlib.Core.Logic.{dite}
+use native.Mathlib.Decide.{ℕ_discrete}
+use Rattle.mc_time.specs.declared.expiry.Expiry.{Expiry}
+use Rattle.mc_time.specs.Death.{expiry_of}
+use Rattle.mc_slab.specs.Needs.{NeedState}
+use Rattle.mc_command.specs.declared.step.KeyStep.{KeyStep}
+use Rattle.mc_command.specs.declared.step.KeyStep.TheVariants.{Cas, Flush}
+use Rattle.mc_command.specs.declared.row.Row.{Row}
+use Rattle.mc_command.specs.declared.row.Row.TheVariants.{Refuses, Reads, Touches, Deletes, Writes}
+use Rattle.mc_command.specs.declared.row.Refusal.TheVariants as refusal
+use Rattle.mc_command.specs.declared.reply.Reply.{Reply}
+use Rattle.mc_command.specs.declared.reply.Reply.TheVariants.{Stored, Number, Hit, TooLarge, NoChunk}
+use Rattle.mc_command.specs.Commands.{key_of}
+use Rattle.mc_command.specs.Plain.{Plain, opening, Outcome, Answered, Spent, plain, stepped, changed, row_of, cas_row, given, written, with_chunk, has_room, block_need, charge}
+use Rattle.mc_command.specs.Plain.{without_dead, expiring, perhaps_expiring, keeps_chunk, write_reply, written_block, block_of, standing}
+use Rattle.mc_command.specs.Plain.{Entry as Item}
+use Rattle.mc_shared.specs.History.{Beginning, Operation, Stepped, Purged, HistoryEntry, left_by, next, IsRight, after, IsLegal}
+use Rattle.mc_laws.specs.Laws.{StandsIn, StandsBefore, HasItem, Wrote, HasDrawnNumbers}
+use Rattle.mc_laws.proofs.KeyLawLemmas.{none_some, get_put, some_is, alive_was, hit_shows, found_next}
+use Rattle.mc_laws.proofs.ReadLawLemmas.{OthersStay, legal_parts, after_parts, decided_was}
+
+-- ---- the next unique number after a step
+-- the item under a key has this number
+abbrev HasNumber : Plain → List ℕ → ℕ → Type 0
+HasNumber m key n = (i : Item) → get m.items key ≡ Some i → i.unique ≡ n
+
+-- the next number falls never, and rises where the step wrote, and the write has the number that was next
+abbrev Rises : Plain → KeyStep → ℕ → Outcome → Type 0
+Rises old step now (Answered reply new) = (old.next_unique ≤ new.next_unique)
+    × (Wrote (key_of step) (Stepped step now reply) → (old.next_unique < new.next_unique) × HasNumber new (key_of step) old.next_unique)
+Rises old step now Spent = Unit {0}
+
+expiring_next : (item : Option Item) (key : List ℕ) (expiry : Expiry) (m : Plain) → (expiring item key expiry m).next_unique ≡ m.next_unique
+expiring_next None key expiry m = refl
+expiring_next (Some i) key expiry m = refl
+
+perhaps_next : (item : Option Item) (key : List ℕ) (expiry : Option Expiry) (m : Plain) → (perhaps_expiring item key expiry m).next_unique ≡ m.next_unique
+perhaps_next item key None m = refl
+perhaps_next item key (Some expiry) m = expiring_next item key expiry m
+
+same_le : (a b : ℕ) → b ≡ a → a ≤ b
+same_le a b is = omega (arith, is)
+
+write_rises : (too_large spent stays room : Bool) (reply : Reply) (old found new placed : Plain) (step : KeyStep) (now : ℕ) → found.next_unique ≡ old.next_unique
+    → new.next_unique ≡ old.next_unique + 1 → placed.next_unique ≡ old.next_unique + 1 → HasNumber new (key_of step) old.next_unique → HasNumber placed (key_of step) old.next_unique
+    → Rises old step now (cond too_large (Answered TooLarge found) (cond spent Spent (cond stays (Answered reply new) (cond room (Answered reply placed) (Answered NoChunk found)))))
+write_rises true spent stays room reply old found new placed step now f n p h k = (same_le _ _ f, λ w. absurd w)
+write_rises false true stays room reply old found new placed step now f n p h k = tt
+write_rises false false true room reply old found new placed step now f n p h k = (omega (arith, n), λ w. (omega (arith, n), h))
+write_rises false false false true reply old found new placed step now f n p h k = (omega (arith, p), λ w. (omega (arith, p), k))
+write_rises false false false false reply old found new placed step now f n p h k = (same_le _ _ f, λ w. absurd w)
+
+written_number : (m : Plain) (key : List ℕ) (flags : ℕ) (expiry : Expiry) (block : List ℕ) (now n : ℕ) → m.next_unique ≡ n → HasNumber (written m key flags expiry block now) key n
+written_number m key flags expiry block now n is i e =
+    let put : Item = record { flags = flags; expiry = expiry; block = block; unique = m.next_unique; updated = now } in
+    sym (ap (λ (x : Item). x.unique) (some_is put i (sym (get_put m.items key put) ∙ e))) ∙ is
+
+changed_rises : (row : Row) (step : KeyStep) (item : Option Item) (old found : Plain) (now : ℕ) → found.next_unique ≡ old.next_unique → Rises old step now (changed row step item found now)
+changed_rises (Refuses refusal.NotStored) step item old found now f = (same_le _ _ f, λ w. absurd w)
+changed_rises (Refuses refusal.Exists) step item old found now f = (same_le _ _ f, λ w. absurd w)
+changed_rises (Refuses refusal.NotFound) step item old found now f = (same_le _ _ f, λ w. absurd w)
+changed_rises (Refuses refusal.Miss) step item old found now f = (same_le _ _ f, λ w. absurd w)
+changed_rises (Refuses refusal.NotNumeric) step item old found now f = (same_le _ _ f, λ w. absurd w)
+changed_rises (Reads expiry) step None old found now f = (same_le _ _ (perhaps_next None (key_of step) expiry found ∙ f), λ w. absurd w)
+changed_rises (Reads expiry) step (Some i) old found now f = (same_le _ _ (perhaps_next (Some i) (key_of step) expiry found ∙ f), λ w. absurd w)
+changed_rises (Touches expiry) step item old found now f = (same_le _ _ (expiring_next item (key_of step) expiry found ∙ f), λ w. absurd w)
+changed_rises Deletes step item old found now f = (same_le _ _ f, λ w. absurd w)
+changed_rises (Writes draft) step item old found now f =
+    let key : List ℕ = key_of step in
+    let b : List ℕ = written_block draft.body (block_of step) item in
+    let need : NeedState = block_need key b in
+    write_rises (ltb found.greatest (charge key b)) (eqb found.next_unique 18446744073709551615) (keeps_chunk draft.body key item) (has_room found need) (write_reply draft.body) old found
+    (written found key draft.flags draft.expiry b now) (written (with_chunk found need) key draft.flags draft.expiry b now) step now f
+    (ap (λ n. n + 1) f) (ap (λ n. n + 1) f)
+    (written_number found key draft.flags draft.expiry b now old.next_unique f)
+    (written_number (with_chunk found need) key draft.flags draft.expiry b now old.next_unique f)
+
+stepped_rises : (old : Plain) (step : KeyStep) (now : ℕ) → Rises old step now (stepped old step now)
+stepped_rises old step now =
+    let item = standing old (key_of step) now in
+    changed_rises (row_of step now item) step item old (without_dead item (key_of step) old) now (found_next 0 0 [] item (key_of step) old)
+
+flushed_next : (b : Bool) (once later : Plain) (n : ℕ) → once.next_unique ≡ n → later.next_unique ≡ n → (cond b once later).next_unique ≡ n
+flushed_next true once later n h k = h
+flushed_next false once later n h k = k
+
+plain_rises : (old : Plain) (step : KeyStep) (now : ℕ) → Rises old step now (plain old step now)
+plain_rises old (Flush delay) now = (same_le _ _ (flushed_next (eqb delay 0) _ _ old.next_unique refl refl), λ w. absurd w)
+plain_rises old step now = stepped_rises old step now
+
+wrote_key : (key : List ℕ) (step : KeyStep) (now : ℕ) (reply : Reply) → Wrote key (Stepped step now reply) → (key_of step ≡ key) × Wrote (key_of step) (Stepped step now reply)
+wrote_key key step now Stored w = (w, refl)
+wrote_key key step now (Number n) w = (w, refl)
+wrote_key key step now reply w = absurd w
+
+module _ (began : Beginning) (key : List ℕ) where
+  step_rises : (m new : Plain) (step : KeyStep) (now : ℕ) (reply : Reply) → plain m step now ≡ Answered reply new → Rises m step now (Answered reply new)
+  step_rises m new step now reply is = subst (Rises m step now) is (plain_rises m step now)
+
+  pub never_falls : (m : Plain) (what : Operation) → IsRight m what → m.next_unique ≤ (next began m what).next_unique
+  never_falls m (Stepped step now reply) right =
+      let is : (left_by m (plain m step now)).next_unique ≡ right.0.next_unique = ap (λ o. (left_by m o).next_unique) right.1 in
+      let up = (step_rises m right.0 step now reply right.1).0 in omega (arith, is, up)
+  never_falls m (Purged shelf now) right = omega arith
+
+  write_draws : (m : Plain) (what : Operation) → IsRight m what → Wrote key what → (m.next_unique < (next began m what).next_unique) × HasNumber (next began m what) key m.next_unique
+  write_draws m (Stepped step now reply) right w =
+      let is : (left_by m (plain m step now)).next_unique ≡ right.0.next_unique = ap (λ o. (left_by m o).next_unique) right.1 in
+      let wrote = wrote_key key step now reply w in
+      let drew = (step_rises m right.0 step now reply right.1).1 wrote.1 in
+      let up = drew.0 in
+      (omega (arith, is, up), λ i e. drew.1 i (ap (get right.0.items) wrote.0 ∙ sym (ap (λ o. get (left_by m o).items key) right.1) ∙ e))
+  write_draws m (Purged shelf now) right w = absurd w
+
+  all_rise : (m : Plain) (es : List HistoryEntry) → IsLegal began m es → m.next_unique ≤ (after began m es).next_unique
+  all_rise m [] legal = omega arith
+  all_rise m (e ∷ es) legal = let one = never_falls m e.what legal.0 in let more = all_rise (next began m e.what) es legal.1 in omega (arith, one, more)
+
+  -- the key's number was drawn
+  Below : Plain → Type 0
+  Below m = (i : Item) → get m.items key ≡ Some i → i.unique < m.next_unique
+
+  -- the key's number is not below this one, nor is the next one
+  Above : ℕ → Plain → Type 0
+  Above n m = (n ≤ m.next_unique) × ((i : Item) → get m.items key ≡ Some i → n ≤ i.unique)
+
+  module _ (others_stay : OthersStay) where
+    below : (m : Plain) (what : Operation) → IsRight m what → Below m → Below (next began m what)
+    unfolding Below
+    below m what right low i is =
+        let up = never_falls m what right in ⊎_elim
+        (λ (h : HasItem m key i.flags i.unique i.block). let was = low h.0 h.1 in let number = h.3 in omega (arith, up, was, number))
+        (λ (w : Wrote key what × (i.unique ≡ m.next_unique)). let drew = (write_draws m what right w.0).0 in let number = w.1 in omega (arith, drew, number))
+        (decided_was others_stay began key i.flags i.unique i.block m what right (i, is, refl, refl, refl))
+
+    above : (n : ℕ) (m : Plain) (what : Operation) → IsRight m what → Above n m → Above n (next began m what)
+    unfolding Above
+    above n m what right high = let up = never_falls m what right in let least = high.0 in (
+      omega (arith, up, least),
+      λ i is. ⊎_elim
+          (λ (h : HasItem m key i.flags i.unique i.block). let was = high.1 h.0 h.1 in let number = h.3 in omega (arith, was, number))
+          (λ (w : Wrote key what × (i.unique ≡ m.next_unique)). let number = w.1 in omega (arith, least, number))
+          (decided_was others_stay began key i.flags i.unique i.block m what right (i, is, refl, refl, refl)),
+    )
+
+    all_below : (m : Plain) (es : List HistoryEntry) → IsLegal began m es → Below m → Below (after began m es)
+    all_below m [] legal low = low
+    all_below m (e ∷ es) legal low = all_below (next began m e.what) es legal.1 (below m e.what legal.0 low)
+
+    all_above : (n : ℕ) (m : Plain) (es : List HistoryEntry) → IsLegal began m es → Above n m → Above n (after began m es)
+    all_above n m [] legal high = high
+    all_above n m (e ∷ es) legal high = all_above n (next began m e.what) es legal.1 (above n m e.what legal.0 high)
+
+    -- after a write every number of the key is new
+    fresh : (m : Plain) (b r : List HistoryEntry) (e : HistoryEntry) → IsLegal began m (b ++ e ∷ r) → Wrote key e.what → Above m.next_unique (after began m (b ++ e ∷ r))
+    unfolding Above
+    fresh m b r e legal wrote =
+        let parts = legal_parts began m b (e ∷ r) legal in
+        let front : Plain = after began m b in
+        let up = all_rise m b parts.0 in
+        let draws = write_draws front e.what parts.1.0 wrote in
+        let drew = draws.0 in
+        let here : Above m.next_unique (next began front e.what) = (omega (arith, up, drew), λ i is. let number = draws.1 i is in omega (arith, up, number)) in
+        subst (Above m.next_unique) (sym (after_parts began m b (e ∷ r))) (all_above m.next_unique (next began front e.what) r parts.1.1 here)
+
+pub written_numbers : OthersStay → (began : Beginning) (key : List ℕ) (m : Plain) (b r : List HistoryEntry) (e : HistoryEntry) → IsLegal began m (b ++ e ∷ r) → Wrote key e.what
+    → (i : Item) → get (after began m (b ++ e ∷ r)).items key ≡ Some i → m.next_unique ≤ i.unique
+unfolding Above
+written_numbers stay began key m b r e legal wrote = (fresh began key stay m b r e legal wrote).1
+
+-- ---- a cas that stored met its number
+abbrev Met : Plain → List ℕ → ℕ → Outcome → Type 0
+Met m key n (Answered Stored new) = (i : Item) × (get m.items key ≡ Some i) × (i.unique ≡ n)
+Met m key n (Answered reply new) = Unit {0}
+Met m key n Spent = Unit {0}
+
+met_reply : (m new : Plain) (key : List ℕ) (n : ℕ) (i : Item) (reply : Reply) → get m.items key ≡ Some i → i.unique ≡ n → Met m key n (Answered reply new)
+met_reply m new key n i Stored is number = (i, is, number)
+met_reply m new key n i reply is number = tt
+
+met : (m : Plain) (key : List ℕ) (n : ℕ) (i : Item) (o : Outcome) → get m.items key ≡ Some i → i.unique ≡ n → Met m key n o
+met m key n i (Answered reply new) is number = met_reply m new key n i reply is number
+met m key n i Spent is number = tt
+
+module _ (key : List ℕ) (flags : ℕ) (exptime : ℤ) (block : List ℕ) (n now : ℕ) where
+  abbrev step : KeyStep
+  step = Cas key flags exptime block n
+
+  cas_meets : (m found : Plain) (o : Option Item) → ((i : Item) → o ≡ Some i → get m.items key ≡ Some i) → Met m key n (changed (cas_row flags (expiry_of exptime now) n o) step o found now)
+  cas_meets m found None stands = tt
+  cas_meets m found (Some i) stands = dite (ℕ_discrete i.unique n)
+      (λ is. met m key n i _ (stands i refl) is)
+      (λ ne. subst (λ b. Met m key n (changed (cond b (given flags (expiry_of exptime now)) (Refuses refusal.Exists)) step (Some i) found now)) (sym (ne_eqb i.unique n ne)) tt)
+
+  cas_met : (m new : Plain) → plain m step now ≡ Answered Stored new → (i : Item) × (get m.items key ≡ Some i) × (i.unique ≡ n)
+  cas_met m new is = let o = standing m key now in
+      subst (Met m key n) is (cas_meets m (without_dead o key m) o (λ i e. alive_was m.cut now (get m.items key) i e))
+
+pub cas_is_of_read : OthersStay → (began : Beginning) (log : List HistoryEntry) (read cas other : HistoryEntry) (step : KeyStep) (then now flags unique more : ℕ) (exptime : ℤ) (block brought : List ℕ)
+    → HasDrawnNumbers began.plain → IsLegal began began.plain log → (places : StandsBefore log read cas) → read.what ≡ Stepped step then (Hit flags unique block)
+    → cas.what ≡ Stepped (Cas (key_of step) more exptime brought unique) now Stored → StandsIn places.between other → Wrote (key_of step) other.what → ⊥
+unfolding Below Above
+cas_is_of_read stay began log read cas other step then now flags unique more exptime block brought drawn legal places told met_is stands wrote =
+    let key : List ℕ = key_of step in
+    let front : List HistoryEntry = places.before ++ read ∷ places.between in
+    let m0 : Plain = after began began.plain places.before in
+    let m1 : Plain = next began m0 read.what in
+    let m4 : Plain = after began began.plain front in
+    let whole = legal_parts began began.plain front (cas ∷ places.rest) (subst (IsLegal began began.plain) places.is legal) in
+    let parts = legal_parts began began.plain places.before (read ∷ places.between) whole.0 in
+    let right = subst (IsRight m0) told parts.1.0 in
+    let shown = hit_shows flags unique block m0 right.0 step then right.1 in
+    let low = all_below began key stay began.plain places.before parts.0 (drawn key) shown.0 shown.1 in
+    let number = shown.3 in
+    let up = never_falls began key m0 read.what parts.1.0 in
+    let behind = subst (IsLegal began m1) stands.2 parts.1.1 in
+    let high = fresh began key stay m1 stands.0 stands.1 other behind wrote in
+    let at_cas : m4 ≡ after began m1 (stands.0 ++ other ∷ stands.1) = after_parts began began.plain places.before (read ∷ places.between) ∙ ap (after began m1) stands.2 in
+    let cas_right = subst (IsRight m4) met_is whole.1.0 in
+    let met_item = cas_met key more exptime brought unique now m4 cas_right.0 cas_right.1 in
+    let least = high.1 met_item.0 (sym (ap (λ (s : Plain). get s.items key) at_cas) ∙ met_item.1) in
+    let its = met_item.2 in
+    omega (arith, low, number, up, least, its)
+
+-- ---- numbers are drawn in every store
+pub new_drawn : (limit greatest : ℕ) → HasDrawnNumbers (opening limit greatest)
+new_drawn limit greatest key item is = absurd (none_some item (sym (get-empty (slice_cmp nat_cmp) key) ∙ is))
+
+pub drawn_stay : OthersStay → (began : Beginning) (log : List HistoryEntry) → HasDrawnNumbers began.plain → IsLegal began began.plain log → HasDrawnNumbers (after began began.plain log)
+unfolding Below
+drawn_stay stay began log drawn legal key = all_below began key stay began.plain log legal (drawn key)

@@ -1,0 +1,12 @@
+pub mod OrderLawLemmas
+pub mod AloneLawLemmas
+pub mod KeyLawLemmas
+pub mod ReadLawLemmas
+pub mod OnlyLawLemmas
+pub mod CasLawLemmas
+pub mod CountLawLemmas
+pub mod BackLawLemmas
+pub mod TogetherLawLemmas
+pub mod MixLawLemmas
+pub mod AbsentLawLemmas
+pub mod LawUses

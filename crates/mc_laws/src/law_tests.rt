@@ -1,0 +1,115 @@
+//! The laws, told of callers that meet.
+
+ghost use Rattle.std.specs.Prelude.{◌≡◌, ◌≤◌, IfOk, List, [], ◌∷◌, length};
+ghost use Rattle.mc_command.specs.Commands.{key_of};
+ghost use Rattle.mc_shared.specs.Past.{start, spent};
+ghost use Rattle.mc_laws.specs.Laws.{Found, hit, IsNoOlder, HasDrawnNumbers, Call, PlainAnswers};
+ghost use Rattle.mc_laws.specs.Together.{IsMixOf};
+
+use crate::laws::{a_cas_is_of_what_was_read, callers_share_a_plain_store, no_read_goes_back};
+use mc_command::{Bytes, KeyStep, Reply, StepFault, Verb};
+use mc_hop::{Fnv, KeyHash};
+use mc_rows::{Ask, Want, is_wanted, step_of};
+use mc_shared::{Caller, Shared};
+use mc_shelf::Settings;
+use mc_time::Moment;
+use std::alloc::{AllocError, Global};
+use std::sync::Wait;
+use std::test::*;
+
+/// Reads a key by one caller, and then by another that took in the first. It is told nothing older.
+fn reads_of_two<R: Wait, K: KeyHash + Drop>(
+    rt: &R,
+    shared: &Shared<K>,
+    alloc: Global,
+    me: Caller,
+    other: &mut Caller,
+    key: &[u8],
+) -> Result<(Reply, Reply), StepFault>
+    requires own { (me.table ≡ shared.now.table) × (other.old.table ≡ shared.now.table) }
+    requires key { length key.now ≤ 250 }
+    requires drawn { HasDrawnNumbers shared.now.began.plain }
+    ensures { IfOk result (λ replies. (was is : Found) → replies.0 ≡ hit was → replies.1 ≡ hit is →
+        IsNoOlder was is) }
+{
+    no_read_goes_back();
+    let mut me = me;
+    let now = Moment::from_seconds_at_most(1000);
+    let read = KeyStep::Read {
+        key: Bytes::of(key),
+    };
+    let first = shared.step(rt, alloc, &mut me, &read, now)?;
+    shared.join(other, me);
+    let second = shared.step(rt, alloc, other, &read, now)?;
+    Ok((first, second))
+}
+
+/// Takes a step by each of two callers, and joins them. One store of one thread, asked in the one
+/// order or the other, would tell both replies.
+fn steps_of_two<R: Wait, K: KeyHash + Drop>(
+    rt: &R,
+    shared: &Shared<K>,
+    alloc: Global,
+    me: Caller,
+    steps: (&KeyStep<'_>, &KeyStep<'_>),
+    now: Moment,
+) -> Result<(Reply, Reply), StepFault>
+    requires own { (me.table ≡ shared.now.table) × (me.past ≡ start [] spent) }
+    requires keys { (length (key_of steps.0.now) ≤ 250) × (length (key_of steps.1.now) ≤ 250) }
+    ensures { IfOk result (λ replies. (mix : List Call)
+        × IsMixOf (record { step = steps.entry.0.now; now = now; reply = replies.0 } ∷ [])
+        (record { step = steps.entry.1.now; now = now; reply = replies.1 } ∷ []) mix
+        × PlainAnswers shared.now.began.plain mix) }
+{
+    callers_share_a_plain_store();
+    let mut me = me;
+    let mut other = shared.caller(&mut me);
+    let first = shared.step(rt, alloc, &mut me, steps.0, now)?;
+    let second = shared.step(rt, alloc, &mut other, steps.1, now)?;
+    shared.join(&mut me, other);
+    Ok((first, second))
+}
+
+/// An empty store, and its first caller.
+fn empty_store(alloc: Global) -> Result<(Shared<Fnv>, Caller), AllocError>
+    ensures { IfOk result (λ made. (made.1.table ≡ made.0.table) × (made.1.past ≡ start [] spent)
+        × HasDrawnNumbers made.0.began.plain) }
+{
+    a_cas_is_of_what_was_read();
+    let settings = Settings {
+        pages: 64,
+        greatest: 1048576,
+        shelves: 64,
+    };
+    let made = Shared::new(alloc, settings, Fnv)?;
+    Ok(made)
+}
+
+/// What one caller read the other reads again, once it knows of it.
+#[test]
+fn a_read_goes_on_from_another(rt: HostRuntime) -> Result<(), Fail> {
+    let alloc = rt.alloc();
+    let (shared, mut me) = empty_store(alloc)?;
+    let mut other = shared.caller(&mut me);
+    let set = step_of(b"a", Ask::Store(Verb::Set, 0, b"x"));
+    let now = Moment::from_seconds_at_most(1000);
+    let _ = shared.step(&rt, alloc, &mut me, &set, now)?;
+    let (first, second) = reads_of_two(&rt, &shared, alloc, me, &mut other, b"a")?;
+    assert!(rt; is_wanted(&Ok(first), Want::Hit(1, b"x")));
+    assert!(rt; is_wanted(&Ok(second), Want::Hit(1, b"x")));
+    Ok(())
+}
+
+/// A set by one caller and a read by another are told as if the set came first, as it did.
+#[test]
+fn two_callers_have_one_store(rt: HostRuntime) -> Result<(), Fail> {
+    let alloc = rt.alloc();
+    let (shared, me) = empty_store(alloc)?;
+    let set = step_of(b"a", Ask::Store(Verb::Set, 0, b"x"));
+    let get = step_of(b"a", Ask::Get);
+    let now = Moment::from_seconds_at_most(1000);
+    let (first, second) = steps_of_two(&rt, &shared, alloc, me, (&set, &get), now)?;
+    assert!(rt; is_wanted(&Ok(first), Want::Told("stored")));
+    assert!(rt; is_wanted(&Ok(second), Want::Hit(1, b"x")));
+    Ok(())
+}

@@ -1,5 +1,0 @@
-use Rattle.mc_shared.proofs.ReadLawLemmas.{hit_was_written}
-use Rattle.mc_shared.proofs.laws.nothing_is_made_up.Goals as goal
-
-pub returns : goal.returns
-returns c = hit_was_written c.other_keys_stay.ensures
