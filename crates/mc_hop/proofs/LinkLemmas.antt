@@ -1,13 +1,12 @@
 -- The numbers of buckets and the places of values: what putting and taking a value changes.
 use Rattle.std.proofs.Common.{◌≡◌, ◌≢◌, ℕ, zero, suc, ◌+◌, ◌-◌, ◌<◌, ◌≤◌, ◌^◌, List, [], ◌∷◌, ◌++◌, Option, Some, None, is_some, true, replicate, map, length, get_or, set}
 use Rattle.std.proofs.Common.{refl, sym, ap, ◌∙◌, arith}
-use Rattle.std.specs.Prelude.{slice_get}
 use Rattle.std.proofs.lemmas.Bool.{cases_eq, cases_lt}
-use Rattle.std.proofs.lemmas.Option.{none-some, slice_get_read, slice_get-get_or}
+use Rattle.std.proofs.lemmas.Option.{none-some, slice_get_read}
 use Rattle.std.proofs.lemmas.List.{length-replicate, length-map, map-set, get_or_past, get_or-map, ext_get_or}
 use Rattle.mc_hop.specs.Cells.{CellsState, filled}
 use Rattle.mc_hop.specs.Links.{IsLinked, IsSwapped, item_of, renumbered, used}
-use Rattle.mc_hop.proofs.ListLemmas.{reads, some_there, get-push, get-push_last, get-swapped, get-others, map-replicate, get-replicate}
+use Rattle.mc_hop.proofs.ListLemmas.{reads, some_there, get-push, get-push_last, get-swapped, get-others, get-replicate}
 
 item-push : {X : Type 0} (xs : List X) (y : X) (n : ℕ) → n ≤ length xs → item_of (xs ++ y ∷ []) n ≡ item_of xs n
 item-push xs y zero l = refl
@@ -35,42 +34,27 @@ used-le (suc i ∷ ats) = omega (arith, used-le ats)
 item_at : {X : Type 0} (xs : List X) (ats : List ℕ) (b : ℕ) → b < length ats → get_or (map (item_of xs) ats) b None ≡ item_of xs (get_or ats b 0)
 item_at xs ats b l = get_or-map (item_of xs) ats b 0 None l
 
--- ---- the same as the code shows it
+-- ---- a value is put into an empty bucket of a row, which contracts see as the value s
 
-pub same_state : {X : Type 0} {words words_to tags tags_to : List ℕ} {items items_to : List (Option X)} → words ≡ words_to → tags ≡ tags_to → items ≡ items_to
-    → ◌≡◌ {A = CellsState X} (record { words = words; tags = tags; items = items }) (record { words = words_to; tags = tags_to; items = items_to })
-same_state p q r = λ k. record { words = p k; tags = q k; items = r k }
-
-pub seen_items : {X : Type 0} {words tags : List ℕ} {items : List (Option X)} {s : CellsState X} → ◌≡◌ {A = CellsState X} (record { words = words; tags = tags; items = items }) s → items ≡ s.items
-seen_items {X} e = ap (λ (s : CellsState X). s.items) e
-
-pub seen_words : {X : Type 0} {words tags : List ℕ} {items : List (Option X)} {s : CellsState X} → ◌≡◌ {A = CellsState X} (record { words = words; tags = tags; items = items }) s → words ≡ s.words
-seen_words {X} e = ap (λ (s : CellsState X). s.words) e
-
-pub seen_tags : {X : Type 0} {words tags : List ℕ} {items : List (Option X)} {s : CellsState X} → ◌≡◌ {A = CellsState X} (record { words = words; tags = tags; items = items }) s → tags ≡ s.tags
-seen_tags {X} e = ap (λ (s : CellsState X). s.tags) e
-
-module _ {X : Type 0} (ats : List ℕ) (items : List X) (places : List ℕ) (item_room place_room : ℕ) (links : IsLinked ats items places item_room place_room) (old : List (Option X)) (at : ℕ) where
-  inside_by : map (item_of items) ats ≡ old → at < length old → at < length ats
-  inside_by e l = omega (arith, ap length e, length-map ats (item_of items))
+module _ {X : Type 0} {ats : List ℕ} {items : List X} {places : List ℕ} {item_room place_room : ℕ} (links : IsLinked ats items places item_room place_room) {words tags : List ℕ}
+    {s : CellsState X} (seen : record { words = words; tags = tags; items = map (item_of items) ats } ≡ s) {at : ℕ} (within : at < length s.items) (empty : get_or s.items at None ≡ None) where
+  inside : at < length ats
+  inside = omega (arith, rw (← seen) at within, length-map ats (item_of items))
 
   -- an empty bucket has no number
-  unused : map (item_of items) ats ≡ old → at < length old → get_or old at None ≡ None → get_or ats at 0 ≡ 0
-  unused e l empty =
-      none_used items (get_or ats at 0) (omega (arith, links.within at, links.same_length)) (sym (item_at items ats at (inside_by e l)) ∙ ap (λ (os : List (Option X)). get_or os at None) e ∙ empty)
+  unused : get_or ats at 0 ≡ 0
+  unused = none_used items (get_or ats at 0) (omega (arith, links.within at, links.same_length)) (sym (item_at items ats at inside) ∙ (rw (← seen) at empty))
 
-  pub put_room : map (item_of items) ats ≡ old → at < length old → get_or old at None ≡ None → (length items < item_room) × ((length places < place_room) × (length items + 1 < 2 ^ 25))
-  put_room e l empty =
-      let less : length items < length ats = grind (arith, reads, unused e l empty, inside_by e l, used-set ats at 1, used-le (set ats at 1), links.count, links.same_length) in
+  pub put_room : (length items < item_room) × ((length places < place_room) × (length items + 1 < 2 ^ 25))
+  put_room =
+      let less : length items < length ats = grind (arith, reads, unused, inside, used-set ats at 1, used-le (set ats at 1), links.count, links.same_length) in
       (omega (arith, links.room), (omega (arith, links.more, links.same_length), omega (arith, links.small)))
 
-  pub put_linked : (x : X) → map (item_of items) ats ≡ old → at < length old → get_or old at None ≡ None
-      → {items_new : List X} {places_new ats_new : List ℕ} {n item_room_new place_room_new : ℕ} → items_new ≡ items ++ x ∷ [] → places_new ≡ places ++ at ∷ []
-      → ats_new ≡ set ats at n → n ≡ suc (length items) → item_room_new ≡ item_room → place_room_new ≡ place_room → IsLinked ats_new items_new places_new item_room_new place_room_new
-  put_linked x e l empty is ps ns num ir pr =
-      let inside = inside_by e l in
-      let none = unused e l empty in
-      rw (ns, num, is, ps, ir, pr) (record {
+  pub put_linked : (x : X) → IsLinked (set ats at (suc (length items))) (items ++ x ∷ []) (places ++ at ∷ []) item_room place_room
+  put_linked x =
+      let there = inside in
+      let none = unused in
+      record {
         same_length = grind (arith, reads, links.same_length);
         inside = λ i below. grind (arith, reads, cases_eq i (length places), links.inside i);
         there = λ i below. grind (arith, reads, cases_eq i (length places), cases_eq (get_or places i 0) at, links.there i, links.same_length);
@@ -80,145 +64,122 @@ module _ {X : Type 0} (ats : List ℕ) (items : List X) (places : List ℕ) (ite
         room = grind (arith, reads, links.room);
         more = grind (arith, reads, links.more);
         small = grind (arith, reads, links.small);
-      })
+      }
 
-  pub put_items : (x : X) → map (item_of items) ats ≡ old → at < length old → {items_new : List X} {ats_new : List ℕ} {n : ℕ} → items_new ≡ items ++ x ∷ []
-      → ats_new ≡ set ats at n → n ≡ suc (length items) → map (item_of items_new) ats_new ≡ set old at (Some x)
-  put_items x e l is ns num =
+  pub put_items : (x : X) → map (item_of (items ++ x ∷ [])) (set ats at (suc (length items))) ≡ set (map (item_of items) ats) at (Some x)
+  put_items x =
       let same : map (item_of (items ++ x ∷ [])) ats ≡ map (item_of items) ats = ext_get_or None _ _ (simp length-map) (λ b below.
       grind (arith, length-map, item_at (items ++ x ∷ []) ats b, item_at items ats b, item-push items x (get_or ats b 0), links.within b, links.same_length)) in
-      rw (ns, num, is) (map-set (item_of (items ++ x ∷ [])) ats at (suc (length items)) ∙ (λ i. set ((same ∙ e) i) at (get-push_last items x i)))
+      map-set (item_of (items ++ x ∷ [])) ats at (suc (length items)) ∙ (λ i. set (same i) at (get-push_last items x i))
 
+-- ---- a value is taken out of its bucket
+
+module _ {X : Type 0} {ats : List ℕ} {items : List X} {places : List ℕ} {item_room place_room : ℕ} (links : IsLinked ats items places item_room place_room) {words tags : List ℕ}
+    {s : CellsState X} (seen : record { words = words; tags = tags; items = map (item_of items) ats } ≡ s) (at : ℕ) (some : is_some (get_or s.items at None) ≡ true)
+    {p number : ℕ} (numbered : number ≡ get_or ats at 0) (before : p ≡ number - 1) where
   -- a bucket that has a value has a number
-  take_number : map (item_of items) ats ≡ old → is_some (get_or old at None) ≡ true → (at < length ats) × (0 < get_or ats at 0)
-  take_number e some =
-      let here : is_some (get_or (map (item_of items) ats) at None) ≡ true = ap (λ (os : List (Option X)). is_some (get_or os at None)) e ∙ some in
+  number_is : (at < length ats) × (get_or ats at 0 ≡ suc p)
+  number_is =
+      let here = rw (← seen) at some in
       grind (arith, length-map, get_or_past (map (item_of items) ats) at None, item_at items ats at, cases_lt at (length ats), cases_eq (get_or ats at 0) 0)
 
-  pub take_here : {p number : ℕ} {x : X} → map (item_of items) ats ≡ old → is_some (get_or old at None) ≡ true → number ≡ get_or ats at 0 → p ≡ number - 1
-      → x ≡ get_or items p x → get_or old at None ≡ Some x
-  take_here {p} {number} {x} e some num ps read =
-      let it = take_number e some in
-      let is : get_or ats at 0 ≡ suc p = omega (arith, it.1) in
-      ap (λ (os : List (Option X)). get_or os at None) (sym e) ∙ item_at items ats at it.0 ∙ ap (item_of items) is
-      ∙ slice_get_read items (length items) p x refl (omega (arith, is, links.within at, links.same_length)) read
+  pub take_here : {x : X} → x ≡ get_or items p x → get_or s.items at None ≡ Some x
+  take_here {x} read =
+      rw (← seen) (item_at items ats at number_is.0 ∙ ap (item_of items) number_is.1
+      ∙ slice_get_read items (length items) p x refl (omega (arith, number_is, links.within at, links.same_length)) read)
 
--- a value is taken out of its bucket
-module _ {X : Type 0} (ats : List ℕ) (items : List X) (places : List ℕ) (item_room place_room : ℕ) (links : IsLinked ats items places item_room place_room)
-    (at p : ℕ) (inside_at : at < length ats) (number_is : get_or ats at 0 ≡ suc p) (items_new : List X) (places_new : List ℕ)
-    (items_swapped : IsSwapped items items_new p) (places_swapped : IsSwapped places places_new p) where
-  abbrev now : List ℕ
-  now = renumbered (set ats at 0) places_new p
+  module _ {items_new : List X} {places_new : List ℕ} (items_swapped : IsSwapped items items_new p) (places_swapped : IsSwapped places places_new p) where
+    abbrev now : List ℕ
+    now = renumbered (set ats at 0) places_new p
 
-  -- the bucket of the last place
-  abbrev mover : ℕ
-  mover = get_or places (length places - 1) 0
+    -- the bucket of the last place
+    abbrev mover : ℕ
+    mover = get_or places (length places - 1) 0
 
-  its_place : get_or places p 0 ≡ at
-  its_place = grind (arith, links.back at)
+    its_place : get_or places p 0 ≡ at
+    its_place = grind (arith, number_is, links.back at)
 
-  mover_number : (get_or ats mover 0 ≡ length places) × (mover < length ats)
-  mover_number = grind (arith, links.within at, links.there (length places - 1), links.inside (length places - 1))
+    mover_number : (get_or ats mover 0 ≡ length places) × (mover < length ats)
+    mover_number = grind (arith, number_is, links.within at, links.there (length places - 1), links.inside (length places - 1))
 
-  moved_is : p < length places_new → get_or places_new p 0 ≡ mover
-  moved_is l = grind (arith, places_swapped.last 0, places_swapped.shorter)
+    moved_is : p < length places_new → get_or places_new p 0 ≡ mover
+    moved_is l = grind (arith, number_is, places_swapped.last 0, places_swapped.shorter)
 
-  number_at : get_or now at 0 ≡ 0
-  number_at = grind (arith, reads, moved_is, mover_number, places_swapped.shorter, cases_lt p (length places_new))
+    number_at : get_or now at 0 ≡ 0
+    number_at = grind (arith, number_is, reads, moved_is, mover_number, places_swapped.shorter, cases_lt p (length places_new))
 
-  number_mover : (b : ℕ) → b ≢ at → get_or ats b 0 ≡ length places → (p < length places_new) × (get_or now b 0 ≡ suc p) × (b ≡ mover)
-  number_mover b other e = grind (arith, reads, moved_is, mover_number, its_place, places_swapped.shorter, links.back b, links.within at, cases_lt p (length places_new))
+    number_mover : (b : ℕ) → b ≢ at → get_or ats b 0 ≡ length places → (p < length places_new) × (get_or now b 0 ≡ suc p) × (b ≡ mover)
+    number_mover b other e = grind (arith, number_is, reads, moved_is, mover_number, its_place, places_swapped.shorter, links.back b, links.within at, cases_lt p (length places_new))
 
-  number_other : (b : ℕ) → b ≢ at → get_or ats b 0 ≢ length places → get_or now b 0 ≡ get_or ats b 0
-  number_other b other e = grind (arith, reads, moved_is, mover_number, cases_lt p (length places_new))
+    number_other : (b : ℕ) → b ≢ at → get_or ats b 0 ≢ length places → get_or now b 0 ≡ get_or ats b 0
+    number_other b other e = grind (arith, number_is, reads, moved_is, mover_number, cases_lt p (length places_new))
 
-  same_length : length now ≡ length ats
-  same_length = grind (arith, reads, cases_lt p (length places_new))
+    same_length : length now ≡ length ats
+    same_length = grind (arith, number_is, reads, cases_lt p (length places_new))
 
-  count_now : used now + 1 ≡ used ats
-  count_now = grind (arith, reads, used-set ats at 0, used-set (set ats at 0) mover (suc p), moved_is, mover_number, places_swapped.shorter, cases_lt p (length places_new))
+    count_now : used now + 1 ≡ used ats
+    count_now = grind (arith, number_is, reads, used-set ats at 0, used-set (set ats at 0) mover (suc p), moved_is, mover_number, places_swapped.shorter, cases_lt p (length places_new))
 
-  case_of : (b : ℕ) → (get_or now b 0 ≤ length places_new) × (0 < get_or now b 0 → get_or places_new (get_or now b 0 - 1) 0 ≡ b)
-  case_of b =
-      let others = places_swapped.others (get_or ats b 0 - 1) 0 in
-      grind (arith, cases_eq b at, cases_eq (get_or ats b 0) (length places), number_at, number_mover b, number_other b, moved_is, links.within b, links.back b, others, its_place)
+    case_of : (b : ℕ) → (get_or now b 0 ≤ length places_new) × (0 < get_or now b 0 → get_or places_new (get_or now b 0 - 1) 0 ≡ b)
+    case_of b =
+        let others = places_swapped.others (get_or ats b 0 - 1) 0 in
+        grind (arith, number_is, cases_eq b at, cases_eq (get_or ats b 0) (length places), number_at, number_mover b, number_other b, moved_is, links.within b, links.back b, others, its_place)
 
-  IsLinked-take : IsLinked now items_new places_new item_room place_room
-  IsLinked-take = record {
-    same_length = omega (arith, items_swapped.shorter, places_swapped.shorter, links.same_length);
-    inside = λ i below. grind (arith, same_length, cases_eq i p, moved_is, mover_number, places_swapped.others i 0, places_swapped.shorter, links.inside i);
-    there = λ i below. grind (arith, cases_eq i p, moved_is, mover_number, number_mover mover, number_other (get_or places i 0), places_swapped.others i 0, places_swapped.shorter, links.there i);
-    within = λ b. (case_of b).0;
-    back = λ b more. (case_of b).1 more;
-    count = omega (arith, count_now, links.count, places_swapped.shorter);
-    room = omega (arith, same_length, links.room);
-    more = omega (arith, same_length, links.more);
-    small = omega (arith, same_length, links.small);
-  }
+    pub take_linked : IsLinked now items_new places_new item_room place_room
+    take_linked = record {
+      same_length = omega (arith, items_swapped.shorter, places_swapped.shorter, links.same_length);
+      inside = λ i below. grind (arith, same_length, cases_eq i p, moved_is, mover_number, places_swapped.others i 0, places_swapped.shorter, links.inside i);
+      there = λ i below. grind (arith, cases_eq i p, moved_is, mover_number, number_mover mover, number_other (get_or places i 0), places_swapped.others i 0, places_swapped.shorter, links.there i);
+      within = λ b. (case_of b).0;
+      back = λ b more. (case_of b).1 more;
+      count = omega (arith, count_now, links.count, places_swapped.shorter);
+      room = omega (arith, same_length, links.room);
+      more = omega (arith, same_length, links.more);
+      small = omega (arith, same_length, links.small);
+    }
 
-  -- what stands under a number that stays
-  kept : (n : ℕ) → n ≢ suc p → n < length places → item_of items_new n ≡ item_of items n
-  kept zero apart l = refl
-  kept (suc i) apart l = get-others items items_new p items_swapped i (λ e. apart (ap suc e)) (omega (arith, items_swapped.shorter, links.same_length))
+    -- what stands under a number that stays
+    kept : (n : ℕ) → n ≢ suc p → n < length places → item_of items_new n ≡ item_of items n
+    kept zero apart l = refl
+    kept (suc i) apart l = get-others items items_new p items_swapped i (λ e. apart (ap suc e)) (omega (arith, items_swapped.shorter, links.same_length))
 
-  moved : p < length items_new → item_of items_new (suc p) ≡ item_of items (suc (length items_new))
-  moved = get-swapped items items_new p items_swapped
+    moved : p < length items_new → item_of items_new (suc p) ≡ item_of items (suc (length items_new))
+    moved = get-swapped items items_new p items_swapped
 
-  items-take : map (item_of items_new) now ≡ set (map (item_of items) ats) at None
-  items-take = ext_get_or None _ _ (grind (arith, reads, length-map, same_length)) same where
-    same : (b : ℕ) → b < length (map (item_of items_new) now) → get_or (map (item_of items_new) now) b None ≡ get_or (set (map (item_of items) ats) at None) b None
-    same b below =
-        let seen_now = item_at items_new now b in
-        let seen = item_at items ats b in
-        let last = cases_eq (get_or ats b 0) (length places) in
-        grind (arith, reads, length-map, same_length, cases_eq b at, number_at, number_mover b, number_other b, moved, kept (get_or ats b 0), links.within b, its_place, links.back b)
-
-module _ {X : Type 0} (ats : List ℕ) (items : List X) (places : List ℕ) (item_room place_room : ℕ) (links : IsLinked ats items places item_room place_room) (old : List (Option X)) (at : ℕ) where
-  pub take_linked : {p number item_room_new place_room_new : ℕ} {items_new : List X} {places_new ats_cleared ats_new : List ℕ} → map (item_of items) ats ≡ old
-      → is_some (get_or old at None) ≡ true → number ≡ get_or ats at 0 → p ≡ number - 1 → IsSwapped items items_new p → IsSwapped places places_new p
-      → ats_cleared ≡ set ats at 0 → ats_new ≡ renumbered ats_cleared places_new p → item_room_new ≡ item_room → place_room_new ≡ place_room
-      → IsLinked ats_new items_new places_new item_room_new place_room_new
-  take_linked {p} e some num ps si sp cleared renumber ir pr =
-      let it = take_number ats items places item_room place_room links old at e some in
-      rw (renumber, cleared, ir, pr) (IsLinked-take ats items places item_room place_room links at p it.0 (omega (arith, it.1)) _ _ si sp)
-
-  pub take_items : {p number : ℕ} {items_new : List X} {places_new ats_cleared ats_new : List ℕ} → map (item_of items) ats ≡ old
-      → is_some (get_or old at None) ≡ true → number ≡ get_or ats at 0 → p ≡ number - 1 → IsSwapped items items_new p → IsSwapped places places_new p
-      → ats_cleared ≡ set ats at 0 → ats_new ≡ renumbered ats_cleared places_new p → map (item_of items_new) ats_new ≡ set old at None
-  take_items {p} e some num ps si sp cleared renumber =
-      let it = take_number ats items places item_room place_room links old at e some in
-      rw (renumber, cleared) (items-take ats items places item_room place_room links at p it.0 (omega (arith, it.1)) _ _ si sp ∙ ap (λ (os : List (Option X)). set os at None) e)
+    pub take_items : map (item_of items_new) now ≡ set (map (item_of items) ats) at None
+    take_items = ext_get_or None _ _ (grind (arith, reads, length-map, same_length)) same where
+      same : (b : ℕ) → b < length (map (item_of items_new) now) → get_or (map (item_of items_new) now) b None ≡ get_or (set (map (item_of items) ats) at None) b None
+      same b below =
+          let seen_now = item_at items_new now b in
+          let seen = item_at items ats b in
+          let last = cases_eq (get_or ats b 0) (length places) in
+          grind (arith, number_is, reads, length-map, same_length, cases_eq b at, number_at, number_mover b, number_other b, moved, kept (get_or ats b 0), links.within b, its_place, links.back b)
 
 -- as many buckets have a value as numbers are used
-pub filled_used : {X : Type 0} (items : List X) (ats : List ℕ) → ((b : ℕ) → get_or ats b 0 ≤ length items) → filled (map (item_of items) ats) ≡ used ats
+filled_used : {X : Type 0} (items : List X) (ats : List ℕ) → ((b : ℕ) → get_or ats b 0 ≤ length items) → filled (map (item_of items) ats) ≡ used ats
 filled_used items [] within = refl
 filled_used items (zero ∷ ats) within = filled_used items ats (λ b. within (suc b))
 filled_used {X} items (suc i ∷ ats) within =
     ap (λ (o : Option X). filled (o ∷ map (item_of items) ats)) (some_there items i (omega (arith, within 0))).1 ∙ ap (λ (n : ℕ). n + 1) (filled_used items ats (λ b. within (suc b)))
+
+module _ {X : Type 0} {ats : List ℕ} {items : List X} {places : List ℕ} {item_room place_room : ℕ} (links : IsLinked ats items places item_room place_room) {words tags : List ℕ}
+    {s : CellsState X} (seen : record { words = words; tags = tags; items = map (item_of items) ats } ≡ s) where
+  pub filled_all : filled s.items ≡ length items
+  filled_all = rw (← seen) (filled_used items ats (λ b. omega (arith, links.within b, links.same_length)) ∙ links.count ∙ links.same_length)
+
+  pub filled_most : length items ≤ length s.items
+  filled_most = rw (← seen) (omega (arith, length-map ats (item_of items), used-le ats, links.count, links.same_length))
+
+  -- the bucket of a place has a value
+  pub filled_at_place : {i at : ℕ} → i < length places → at ≡ get_or places i 0 → is_some (get_or s.items at None) ≡ true
+  filled_at_place {i} {at} l is =
+      let number : get_or ats at 0 ≡ suc i = ap (λ (n : ℕ). get_or ats n 0) is ∙ links.there i l ∙ omega arith in
+      rw (← seen, item_at items ats at (omega (arith, is, links.inside i l)), number, (some_there items i (omega (arith, links.same_length))).1) refl
 
 -- no bucket has a value
 used-none : (n : ℕ) → used (replicate n 0) ≡ 0
 used-none zero = refl
 used-none (suc n) = used-none n
 
-pub IsLinked-none : {X : Type 0} (n : ℕ) {items : List X} {places ats : List ℕ} {item_room place_room : ℕ} → ats ≡ replicate n 0 → items ≡ [] → places ≡ []
-    → n ≤ item_room → n ≤ place_room → n < 2 ^ 25 - 1 → IsLinked ats items places item_room place_room
-IsLinked-none n as_are is ps ir pr small = rw (as_are, is, ps) (record {
-  same_length = refl;
-  inside = λ i l. absurd (omega arith);
-  there = λ i l. absurd (omega arith);
-  within = λ b. omega (arith, get-replicate {A = ℕ} n b 0);
-  back = λ b more. absurd (omega (arith, get-replicate {A = ℕ} n b 0));
-  count = used-none n;
-  room = omega (arith, length-replicate {A = ℕ});
-  more = omega (arith, length-replicate {A = ℕ});
-  small = omega (arith, length-replicate {A = ℕ});
-})
-
--- the bucket of a place has a value
-pub filled_at_place : {X : Type 0} (ats : List ℕ) (items : List X) (places : List ℕ) (item_room place_room : ℕ) → IsLinked ats items places item_room place_room
-    → (old : List (Option X)) → map (item_of items) ats ≡ old → (i at : ℕ) → i < length places → at ≡ get_or places i 0 → is_some (get_or old at None) ≡ true
-filled_at_place ats items places item_room place_room linked old seen i at l is =
-    let x = some_there items i (omega (arith, linked.same_length)) in
-    let number : get_or ats at 0 ≡ suc i = ap (λ (n : ℕ). get_or ats n 0) is ∙ linked.there i l ∙ omega arith in
-    rw (← seen, item_at items ats at (omega (arith, is, linked.inside i l)), number, x.1) refl
+pub IsLinked-none : {X : Type 0} (n : ℕ) {item_room place_room : ℕ} → n ≤ item_room → n ≤ place_room → n < 2 ^ 25 - 1 → IsLinked {X = X} (replicate n 0) [] [] item_room place_room
+IsLinked-none n ir pr small = omega (arith, get-replicate {A = ℕ} n, length-replicate {A = ℕ}, used-none n)
