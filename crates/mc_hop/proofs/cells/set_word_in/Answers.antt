@@ -5,12 +5,10 @@ use Rattle.mc_hop.specs.declared.cells.Cell.{Cell}
 use Rattle.mc_hop.proofs.cells.set_word_in.Goals as goal
 
 pub returns-clause-numbers : goal.returns-clause-numbers
-returns-clause-numbers c =
-    map-set_same (λ (cell : Cell). cell.tagged % 2 ^ 25) c.args.cells.now.items c.args.at _ c.index_mut.result.now (ap (λ (cell : Cell). cell.tagged % 2 ^ 25) c.index_mut.ensures.value)
+returns-clause-numbers c = map-set_same _ _ _ _ c.index_mut.result.now (ap (λ (cell : Cell). cell.tagged % 2 ^ 25) c.index_mut.ensures.value)
 
 pub returns-clause-tags : goal.returns-clause-tags
-returns-clause-tags c =
-    map-set_same (λ (cell : Cell). cell.tagged / 2 ^ 25) c.args.cells.now.items c.args.at _ c.index_mut.result.now (ap (λ (cell : Cell). cell.tagged / 2 ^ 25) c.index_mut.ensures.value)
+returns-clause-tags c = map-set_same _ _ _ _ c.index_mut.result.now (ap (λ (cell : Cell). cell.tagged / 2 ^ 25) c.index_mut.ensures.value)
 
 pub returns-clause-words : goal.returns-clause-words
-returns-clause-words c = map-set (λ (cell : Cell). cell.word) c.args.cells.now.items c.args.at _
+returns-clause-words c = map-set _ _ _ _
