@@ -22,5 +22,5 @@ returns-clause-taken g c =
     let items = take_items c.self.invariant c.self.view_is c.args.at c.requires c.number_of-place.ensures refl
     (swapped c.self.inside.items.ok.0 c.swap_remove-value.new.self.ok.0 c.swap_remove-value.ensures.len c.swap_remove-value.ensures.by_index)
     (swapped c.self.inside.places.ok.0 c.swap_remove.new.self.ok.0 c.swap_remove.ensures.len c.swap_remove.ensures.by_index) in
-    let numbers = c.renumber.ensures.numbers in
-    rw (c.renumber.ensures.words, c.set_number.ensures.words, c.renumber.ensures.tags, c.set_number.ensures.tags, numbers, c.set_number.ensures.numbers, items, ← c.self.view_is) refl
+    rw (c.renumber.ensures.words, c.set_number.ensures.words, c.renumber.ensures.tags, c.set_number.ensures.tags)
+    (rw (c.renumber.ensures.numbers, c.set_number.ensures.numbers, items, ← c.self.view_is) refl)
