@@ -20,8 +20,8 @@ import time
 ROOT = os.path.dirname(os.path.realpath(__file__))
 # Of a processor, in seconds, for the order and the guess alone. Another crate counts as the usual one.
 SECONDS = {
-    "mc_slab": 200, "mc_item": 90, "mc_hop": 70, "mc_command": 110, "mc_grow": 260, "mc_parse": 110, "mc_session": 110,
-    "mc_shelf": 560, "mc_world": 200, "mc_shared": 640, "mc_workers": 420, "mc_metrics": 60, "mc_options": 90, "mc_host": 60,
+    "mc_slab": 200, "mc_item": 90, "mc_hop": 70, "mc_command": 110, "mc_grow": 260, "mc_parse": 110, "mc_session": 110, "mc_guests": 250,
+    "mc_shelf": 560, "mc_world": 200, "mc_shared": 640, "mc_workers": 170, "mc_metrics": 60, "mc_options": 90, "mc_host": 60,
     "mc_server": 540, "mc_bench": 300,
 }
 USUAL = 30

@@ -60,7 +60,8 @@ PARTS = {
         "mc_shared": ["Shared::agree"],
         "mc_laws": ["callers_share_a_plain_store", "calls_keep_their_order", "a_history_has_nothing_else",
                     "no_read_goes_back", "a_known_write_is_read"],
-        "mc_workers": ["links_are_answered_what_they_gave", "links_take_texts_of_turns", "work"],
+        "mc_guests": ["links_are_answered_what_they_gave", "links_take_texts_of_turns"],
+        "mc_workers": ["work"],
     },
 }
 

@@ -2,8 +2,8 @@
 use Rattle.std.specs.Prelude.{ℕ, Bool, true, false, Option, Some, None}
 use Rattle.mc_command.specs.declared.step.KeyStep.{KeyStep}
 use Rattle.mc_command.specs.declared.step.KeyStep.TheVariants.{Store, Cas, Read, ReadTouch, Touch, Delete, Count, Flush as FlushStep}
-use Rattle.mc_workers.specs.declared.tally.Outcome.{Outcome}
-use Rattle.mc_workers.specs.declared.tally.Outcome.TheVariants as outcome
+use Rattle.mc_guests.specs.declared.tally.Outcome.{Outcome}
+use Rattle.mc_guests.specs.declared.tally.Outcome.TheVariants as outcome
 use Rattle.mc_metrics.specs.declared.counts.Counted.{Counted}
 use Rattle.mc_metrics.specs.declared.counts.Counted.TheVariants.{GetHit, GetMiss, SetStored, SetNotStored, CasHit, CasMiss, CasBadval, DeleteHit, DeleteMiss, IncrHit, IncrMiss, DecrHit, DecrMiss, TouchHit, TouchMiss, Flush, Refused}
 use Rattle.mc_server.specs.declared.connection.Parting.{Parting}

@@ -2,12 +2,13 @@
 ghost use Rattle.std.specs.Prelude.{◌≡◌};
 
 use crate::closing::ClosingLinks;
+use mc_guests::Tally;
 use mc_hop::Fnv;
 use mc_metrics::TablesReading;
 use mc_shared::{Caller, Shared};
 use mc_slab::{Account, Class};
 use mc_time::Clock;
-use mc_workers::{NoGate, Tally, Worker};
+use mc_workers::{NoGate, Worker};
 use std::alloc::Global;
 use std::marker::Model;
 use std::sync::Wait;

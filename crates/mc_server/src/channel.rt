@@ -4,7 +4,7 @@ ghost use Rattle.std.specs.Io.{ReadsAtMost};
 
 use crate::connection::{Connection, Parting};
 use crate::metrics::{Counted, Counts};
-use mc_workers::{Got, Link, LinkFault, Took};
+use mc_guests::{Got, Link, LinkFault, Took};
 use std::cell::Cell;
 use std::io::{self, ErrorKind, IoSlice, Read, Write};
 use std::rc::Rc;

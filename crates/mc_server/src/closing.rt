@@ -3,7 +3,7 @@
 use crate::arrivals::Arrivals;
 use crate::link::SocketLink;
 use crate::links::SocketLinks;
-use mc_workers::{Links, Next};
+use mc_guests::{Links, Next};
 use std::sync::Wait;
 use std::time::Clock;
 

@@ -2,8 +2,8 @@
 
 use crate::logger::Log;
 use mc_command::{KeyStep, Verb};
+use mc_guests::{Outcome, Tally};
 use mc_slab::{Account, Need};
-use mc_workers::{Outcome, Tally};
 use std::fmt::{self, Display, Formatter};
 use std::sync::atomic::{AtomicU64, Ordering};
 

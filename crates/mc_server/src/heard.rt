@@ -3,7 +3,7 @@
 use crate::full::Refusals;
 use crate::metrics::{Counts, counted_as};
 use mc_command::KeyStep;
-use mc_workers::{Outcome, Tally};
+use mc_guests::{Outcome, Tally};
 
 /// Has the steps of a worker counted, and the log noted one that is refused as no chunk is left.
 #[derive(Clone, Copy)]

@@ -2,7 +2,7 @@
 
 use crate::channel::Channel;
 use crate::yard::Yard;
-use mc_workers::{Gathering, Got, Link, LinkFault, Took};
+use mc_guests::{Gathering, Got, Link, LinkFault, Took};
 use std::alloc::Global;
 use std::cell::RefCell;
 use std::rc::Rc;
@@ -32,7 +32,7 @@ impl SocketLink {
 }
 
 impl Link for SocketLink {
-    ghost use Rattle.mc_workers.specs.Gathered.{whole};
+    ghost use Rattle.mc_guests.specs.Gathered.{whole};
 
     ghost shown = { λ s. whole s.gathering };
 

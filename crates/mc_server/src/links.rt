@@ -8,7 +8,7 @@ use crate::link::SocketLink;
 use crate::metrics::Counts;
 use crate::place::Place;
 use crate::yard::Yard;
-use mc_workers::{Links, Next};
+use mc_guests::{Links, Next};
 use mio::{Events, Interest, Poll, Token};
 use std::alloc::Global;
 use std::cell::{Cell, RefCell};

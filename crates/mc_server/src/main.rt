@@ -15,7 +15,7 @@
 //! scrapes (`metrics/scrape.rt`). `closing.rt` is how all of it ends when it is asked to.
 //!
 //! Nobody can know a socket's bytes, nor when a thread runs, so contracts say here what a program
-//! can promise all the same: that a socket is a link as `mc_workers` asks for one; that `run` does
+//! can promise all the same: that a socket is a link as `mc_guests` asks for one; that `run` does
 //! what the options say, and with `--stdin` serves a session of a new world; that a step counts as
 //! a table says; and that the status is that of the end. The rest is tested over sockets
 //! (tests/sockets), and docs/PROMISES.md says which is which.

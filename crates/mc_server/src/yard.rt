@@ -1,7 +1,7 @@
 //! What links leave behind.
 
 use crate::channel::Channel;
-use mc_workers::Gathering;
+use mc_guests::Gathering;
 use std::alloc::Global;
 use std::collections::BTreeMap;
 

@@ -12,11 +12,11 @@ use Rattle.mc_shared.specs.History.{Beginning, Operation, Purged}
 use Rattle.mc_shared.specs.Past.{Past}
 use Rattle.mc_shared.specs.Asking.{AskingState, AsksOnce, moment_of, Further, nothing, more, GoesFurther}
 use Rattle.mc_workers.specs.Tending.{Tidied, none, and_one}
-use Rattle.mc_workers.specs.Guests.{GuestState}
-use Rattle.mc_workers.specs.Visits.{Does, Visited}
-use Rattle.mc_workers.specs.Asks.{MayAsk, AsksAndVisits, IsKeptWaiting, MakesRound, nobody, asks, visits}
-use Rattle.mc_workers.specs.declared.guest.Visit.{Visit}
-use Rattle.mc_workers.specs.declared.guest.Visit.TheVariants.{Wrote, Turned, Read, Later, Served, Broken, Refused}
+use Rattle.mc_guests.specs.Guests.{GuestState}
+use Rattle.mc_guests.specs.Visits.{Does, Visited}
+use Rattle.mc_guests.specs.Asks.{MayAsk, AsksAndVisits, IsKeptWaiting, MakesRound, nobody, asks, visits}
+use Rattle.mc_guests.specs.declared.guest.Visit.{Visit}
+use Rattle.mc_guests.specs.declared.guest.Visit.TheVariants.{Wrote, Turned, Read, Later, Served, Broken, Refused}
 
 -- What holds of stores that hold the same, and of each step that is taken, holds of a turn and of a
 -- visit, and where it holds of two after one another, of a round.

@@ -3,12 +3,12 @@ use Rattle.std.proofs.Common.{◌≡◌, ℕ, List, Bool, true, false, refl, sym
 use Rattle.mc_shelf.specs.Stores.{StoreState}
 use Rattle.mc_shared.specs.Shown.{CallerState}
 use Rattle.mc_shared.specs.Asking.{AskingState}
-use Rattle.mc_workers.specs.Books.{BooksState, SettlesFrom, no_books}
-use Rattle.mc_workers.specs.Doors.{OpensForAll, shut}
+use Rattle.mc_guests.specs.Books.{BooksState, SettlesFrom, no_books}
+use Rattle.mc_guests.specs.Doors.{OpensForAll, shut}
 use Rattle.mc_workers.specs.Tending.{asked_by}
 use Rattle.mc_workers.specs.Rounds.{TidiesAndVisits, WorkState, WorksRound, Works, nothing, and_round, begins, WorksSince, WorksToEnd}
-use Rattle.mc_workers.specs.declared.door.Door.{Door}
-use Rattle.mc_workers.specs.declared.guests.WorkEnd.{WorkEnd}
+use Rattle.mc_guests.specs.declared.door.Door.{Door}
+use Rattle.mc_guests.specs.declared.guests.WorkEnd.{WorkEnd}
 
 module _ {K : Type 0} (hash_of : K → List ℕ → ℕ) (may_give : ℕ → Type 0) (first : ℕ) (began : StoreState K) (caller : CallerState) where
   pub works_from : (moment : ℕ) (may_try : Bool) (asking : AskingState K) (books : BooksState) (door : Door) → may_give moment

@@ -1,13 +1,2 @@
-pub mod Links
-pub mod Gathered
-pub mod Guests
-pub mod Visits
-pub mod Budgets
-pub mod Books
-pub mod Telling
 pub mod Tending
-pub mod Outcomes
-pub mod Asks
-pub mod Turns
-pub mod Doors
 pub mod Rounds

@@ -4,12 +4,12 @@ use Rattle.mc_command.specs.declared.step.Steps.{Ghosts as Relations}
 use Rattle.mc_shelf.specs.Stores.{StoreState}
 use Rattle.mc_shared.specs.Shown.{CallerState}
 use Rattle.mc_shared.specs.Asking.{AskingState, AsksStep, AsksInVain}
-use Rattle.mc_workers.specs.Books.{BooksState, SettlesFrom, no_books}
-use Rattle.mc_workers.specs.Doors.{OpensForAll, shut}
-use Rattle.mc_workers.specs.Turns.{VisitsAll}
+use Rattle.mc_guests.specs.Books.{BooksState, SettlesFrom, no_books}
+use Rattle.mc_guests.specs.Doors.{OpensForAll, shut}
+use Rattle.mc_guests.specs.Turns.{VisitsAll}
 use Rattle.mc_workers.specs.Tending.{Tidied, asked_by, tidied_at_once}
-use Rattle.mc_workers.specs.declared.door.Door.{Door}
-use Rattle.mc_workers.specs.declared.guests.WorkEnd.{WorkEnd}
+use Rattle.mc_guests.specs.declared.door.Door.{Door}
+use Rattle.mc_guests.specs.declared.guests.WorkEnd.{WorkEnd}
 
 -- how a caller takes steps
 abbrev pub as_caller : {K : Type 0} → (K → List ℕ → ℕ) → Relations (AskingState K)

@@ -2,13 +2,13 @@
 
 use crate::counting::Counting;
 use crate::held::{HeldLink, HeldLinks, Seen};
-use crate::tally::{Outcome, Tally};
 use crate::worker::Worker;
 use mc_command::{Answer, Bytes, KeyStep, Reply, StepFault, Steps, Verb};
+use mc_guests::{Outcome, Tally};
 use mc_hop::Fnv;
+use mc_rows::{Ask, filled, step_of};
 use mc_shared::{NoGate, Shared};
 use mc_shelf::{Settings, Store};
-use mc_rows::{Ask, filled, step_of};
 use mc_time::{Fixed, Moment};
 use std::alloc::{AllocError, Global};
 use std::cell::Cell;

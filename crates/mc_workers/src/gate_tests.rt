@@ -2,9 +2,9 @@
 
 ghost use Rattle.std.specs.Prelude.{◌≡◌, IfOk};
 
-use crate::guests::WorkEnd;
 use crate::held::{HeldLink, HeldLinks, Seen};
 use crate::worker::work;
+use mc_guests::WorkEnd;
 use mc_hop::Fnv;
 use mc_shared::{Caller, Gate, NoGate, Shared};
 use mc_shelf::{Settings, Store};

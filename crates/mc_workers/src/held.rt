@@ -1,8 +1,7 @@
 //! Links in memory, for tests.
 
 use crate::calls::{Call, Calls};
-use crate::link::{Got, Link, LinkFault, Took};
-use crate::links::{Links, Next};
+use mc_guests::{Got, Link, LinkFault, Links, Next, Took};
 use std::alloc::Global;
 use std::marker::Model;
 use std::sync::atomic::{AtomicU64, Ordering};
@@ -58,7 +57,7 @@ pub struct HeldLink<'a> {
 
 impl<'a> Model for HeldLink<'a> {
     ghost use Rattle.std.specs.Prelude.{take, Some};
-    ghost use Rattle.mc_workers.specs.Links.{LinkState};
+    ghost use Rattle.mc_guests.specs.Links.{LinkState};
 
     ghost Value = { LinkState };
 
@@ -73,7 +72,7 @@ impl<'a> Model for HeldLink<'a> {
 
 impl<'a> HeldLink<'a> {
     ghost use Rattle.std.specs.Prelude.{◌≡◌, ◌∷◌, [], Ok};
-    ghost use Rattle.mc_workers.specs.Links.{Gives, Takes};
+    ghost use Rattle.mc_guests.specs.Links.{Gives, Takes};
 
     /// Makes a link that gives this input, and of which this output is expected.
     pub fn new(alloc: Global, input: &'a [u8], expected: &'a [u8], seen: &'a Seen) -> HeldLink<'a> {

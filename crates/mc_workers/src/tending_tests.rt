@@ -3,9 +3,9 @@
 use crate::tending::Tending;
 use mc_command::{Steps, Verb};
 use mc_hop::Fnv;
+use mc_rows::{Ask, filled, step_of, told_of};
 use mc_shared::{NoGate, Shared};
 use mc_shelf::Settings;
-use mc_rows::{Ask, filled, step_of, told_of};
 use mc_time::Moment;
 use std::alloc::Global;
 use std::sync::Wait;

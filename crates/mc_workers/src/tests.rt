@@ -1,13 +1,13 @@
 //! Workers over links in memory, in one thread.
 
-use crate::guests::WorkEnd;
 use crate::held::{HeldLink, HeldLinks, Seen};
 use crate::worker::work;
 use mc_command::{KeyStep, Reply, StepFault};
+use mc_guests::WorkEnd;
 use mc_hop::Fnv;
+use mc_rows::{Ask, step_of};
 use mc_shared::{NoGate, Shared};
 use mc_shelf::{Settings, Store};
-use mc_rows::{Ask, step_of};
 use mc_testing::SESSIONS;
 use mc_time::{Fixed, Moment};
 use std::alloc::Global;

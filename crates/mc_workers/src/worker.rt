@@ -5,14 +5,9 @@ ghost use Rattle.mc_shared.specs.History.{start_of};
 ghost use Rattle.mc_shared.specs.Steps.{Agrees};
 ghost use Rattle.mc_workers.specs.Rounds.{TidiesAndVisits, TidiesWhereRisen, WorksToEnd};
 
-use crate::budget::Budget;
 use crate::counting::Counting;
-use crate::door::Door;
-use crate::guests::{Guests, WorkEnd};
-use crate::link::Link;
-use crate::links::Links;
-use crate::tally::{NoTally, Tally};
 use crate::tending::Tending;
+use mc_guests::{Budget, Door, Guests, Link, Links, NoTally, Tally, WorkEnd};
 use mc_hop::KeyHash;
 use mc_shared::{Caller, Gate, Shared};
 use mc_time::{Clock, Moment};

@@ -1,5 +1,5 @@
 use Rattle.std.proofs.Common.{None, subst, append-nil}
-use Rattle.mc_workers.specs.Links.{LinkState, Takes}
+use Rattle.mc_guests.specs.Links.{LinkState, Takes}
 use Rattle.mc_server.proofs.channel.ChannelLink.try_write.Goals as goal
 
 pub returns-clause-takes : goal.returns-clause-takes

@@ -1,7 +1,7 @@
 use Rattle.std.proofs.Common.{◌<◌, ℕ, List, length, take, get_or, ap, ◌∙◌, arith, Some, true}
 use Rattle.std.proofs.Math.ListN.{set}
-use Rattle.mc_workers.proofs.LinkLemmas.{given_one, some_set}
-use Rattle.mc_workers.specs.Links.{LinkState, asked, gave}
+use Rattle.mc_guests.proofs.LinkLemmas.{given_one, some_set}
+use Rattle.mc_guests.specs.Links.{LinkState, asked, gave}
 use Rattle.mc_workers.proofs.held.HeldLink.give.Goals as goal
 
 pub returns : goal.returns

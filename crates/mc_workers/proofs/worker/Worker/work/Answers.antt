@@ -1,7 +1,7 @@
 use Rattle.std.proofs.Common.{sym, ap, ◌∙◌, subst}
 use Rattle.mc_shared.specs.Asking.{AskingState, Further}
 use Rattle.mc_shared.specs.Past.{Past}
-use Rattle.mc_workers.specs.Books.{BooksState, SettlesFrom}
+use Rattle.mc_guests.specs.Books.{BooksState, SettlesFrom}
 use Rattle.mc_workers.proofs.WorkLemmas.{goes_same, goes_both, goes_at}
 use Rattle.mc_workers.proofs.WorksLemmas.{works_from, works_on, works_over}
 use Rattle.mc_workers.proofs.worker.Worker.work.Goals as goal

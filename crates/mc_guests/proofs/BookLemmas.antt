@@ -1,0 +1,121 @@
+-- What becomes of the books when one guest wakes, sleeps or goes.
+use Rattle.std.specs.Prelude.{slice_get}
+use Rattle.std.proofs.Common.{◌≡◌, ◌⊎◌, inl, inr, ℕ, ◌<◌, ◌≤◌, ◌+◌, ◌-◌, Bool, true, false, length, Option, Some, None, refl, sym, ap, ◌∙◌, subst, arith, IsTrue, IsFalse}
+use Rattle.std.proofs.lemmas.Bool.{cases_lt}
+use Rattle.std.proofs.lemmas.List.{length-take-le}
+use Rattle.std.proofs.lemmas.List.Edits.{length-swap}
+use Rattle.mc_guests.specs.Guests.{has_ended}
+use Rattle.mc_guests.specs.Books.{RowState, BooksState, HasNumber, SleepsAt, Wakes, WakesOne, WakesNone, woken, put_behind, let_gone, LetsGo}
+use Rattle.mc_guests.specs.Books.{is_over, IsFateOf, StaysOrSleeps, Settles, SettlesFrom, none, and_one, swapped, cut}
+use Rattle.mc_guests.specs.declared.guests.Fate.{Fate}
+use Rattle.mc_guests.specs.declared.guests.WorkEnd.{WorkEnd}
+
+-- the guest at the place that was told for a number wakes, if it sleeps
+pub wakes_told : (number place : ℕ) (told : Option ℕ) (old new : BooksState) → told ≡ Some place
+    → HasNumber old.row place number → place < length old.row.guests
+    → ((at : ℕ) → HasNumber old.row at number → told ≡ Some at)
+    → (SleepsAt place old → new ≡ woken place old) → (place < old.awake → new ≡ old) → Wakes number old new
+wakes_told number place told old new is has within all asleep awake = elim (cases_lt place old.awake) [
+  | inl before ↦ inr (record {
+    awake = λ at stands. (let e : place ≡ at = cc (is, all at stands) in subst (λ (n : ℕ). n < old.awake) e before);
+    books = awake before;
+  })
+  | inr behind ↦
+      (let sleeps : SleepsAt place old = record { stands = within; behind = behind } in
+      inl (record { at = place; has_it = has; sleeps = sleeps; books = asleep sleeps }))
+]
+
+-- no place was told for a number
+pub wakes_nobody : (number : ℕ) (told : Option ℕ) (old new : BooksState) → told ≡ None
+    → ((at : ℕ) → HasNumber old.row at number → told ≡ Some at) → new ≡ old → Wakes number old new
+wakes_nobody number told old new is all same = inr (record {
+  awake = λ at stands. (let e : told ≡ Some at = all at stands in absurd (cc));
+  books = same;
+})
+
+no_true : {A : Type 0} (b : Bool) → b ≡ false → b ≡ true → A
+no_true b miss hit = absurd (cc)
+
+-- one that hasn't ended stays awake or sleeps
+pub settles_on : (at : ℕ) (fate : Fate) (old new : BooksState) (before after : WorkEnd)
+    → IsFateOf at old.row fate before after → is_over fate ≡ false → StaysOrSleeps at old new → Settles at old new before after
+settles_on at fate old new before after is on stays = record {
+  last = is.last;
+  answered = is.answered;
+  goes = λ ended. no_true (has_ended is.last) (sym is.over ∙ on) ended;
+  stays = λ _. stays;
+  counts = is.counts;
+}
+
+-- one that has ended goes
+pub settles_over : (at : ℕ) (fate : Fate) (old new : BooksState) (before after : WorkEnd)
+    → IsFateOf at old.row fate before after → is_over fate ≡ true → LetsGo at old new → Settles at old new before after
+settles_over at fate old new before after is over goes = record {
+  last = is.last;
+  answered = is.answered;
+  goes = λ _. goes;
+  stays = λ on. no_true (has_ended is.last) on (sym is.over ∙ over);
+  counts = is.counts;
+}
+
+-- those before a place stay awake when the one at it is settled
+pub awake_before : (at : ℕ) (old new : BooksState) (before after : WorkEnd) → at < old.awake → Settles at old new before after → at ≤ new.awake
+awake_before at old new before after within settles = awake_by (has_ended settles.last) settles.goes settles.stays
+  where
+    one_less : new.awake ≡ old.awake - 1 → at ≤ new.awake
+    one_less e = omega arith
+
+    awake_by : (ended : Bool) → (IsTrue ended → LetsGo at old new) → (IsFalse ended → StaysOrSleeps at old new) → at ≤ new.awake
+    awake_by true goes stays = one_less (ap (λ (b : BooksState). b.awake) (goes refl))
+    awake_by false goes stays = elim (stays refl) [
+      | inl same ↦ (let e : new.awake ≡ old.awake = ap (λ (b : BooksState). b.awake) same in omega arith)
+      | inr behind ↦ one_less (ap (λ (b : BooksState). b.awake) behind)
+    ]
+
+long_swapped : (one other : ℕ) (row later : RowState) → later ≡ swapped one other row → length later.guests ≡ length row.guests
+long_swapped one other row later is = ap (λ (r : RowState). length r.guests) is ∙ length-swap row.guests one other
+
+-- The guest at a place changes places with the last that is awake, that one with the last of all, and the last goes.
+module _ (at awake end count : ℕ) (may_try later : Bool) (row second third fourth : RowState) (old : BooksState) (is : record { row = row; awake = awake; may_try = may_try } ≡ old)
+    (within : at < old.awake) (all : awake ≤ length row.guests) (swaps : second ≡ swapped at (awake - 1) row)
+    (at_end : end ≡ length second.guests) (is_last : count ≡ end - 1) (swaps_end : third ≡ swapped (awake - 1) count second) where
+  some_awake : at < awake
+  some_awake = subst (λ (n : ℕ). at < n) (sym (ap (λ (b : BooksState). b.awake) is)) within
+
+  all_long : length third.guests ≡ length row.guests
+  all_long = long_swapped (awake - 1) count second third swaps_end ∙ long_swapped at (awake - 1) row second swaps
+
+  pub some_stand : 0 < length third.guests
+  some_stand = let e = all_long in let w = some_awake in omega arith
+
+  module _ (cuts : fourth ≡ cut (length third.guests - 1) third) where
+    pub awake_stand : awake - 1 ≤ length fourth.guests
+    awake_stand =
+        let e = all_long in
+        let w = some_awake in
+        let c : length fourth.guests ≡ length third.guests - 1 = ap (λ (r : RowState). length r.guests) cuts ∙ length-take-le (length third.guests - 1) third.guests (omega arith) in
+        omega arith
+
+    here : record (let_gone at (record { row = row; awake = awake; may_try = may_try })) { may_try = later } ≡ record { row = fourth; awake = awake - 1; may_try = later }
+    here =
+        let last : length row.guests - 1 ≡ count = (let e = long_swapped at (awake - 1) row second swaps in omega arith) in
+        let gone : length row.guests - 1 ≡ length third.guests - 1 = (let e = all_long in omega arith) in
+        let a : swapped (awake - 1) (length row.guests - 1) (swapped at (awake - 1) row) ≡ third =
+        ap (λ (n : ℕ). swapped (awake - 1) n (swapped at (awake - 1) row)) last ∙ ap (swapped (awake - 1) count) (sym swaps) ∙ sym swaps_end in
+        ap (λ (r : RowState). record { row = r; awake = awake - 1; may_try = later })
+        (ap (λ (n : ℕ). cut n (swapped (awake - 1) (length row.guests - 1) (swapped at (awake - 1) row))) gone ∙ ap (cut (length third.guests - 1)) a ∙ sym cuts)
+
+    pub goes_from : LetsGo at old (record { row = fourth; awake = awake - 1; may_try = later })
+    goes_from = subst (λ (b : BooksState). record { row = fourth; awake = awake - 1; may_try = later } ≡ record (let_gone at b) { may_try = later }) is (sym here)
+
+-- nobody was settled yet
+pub settles_nobody : (row : RowState) (awake : ℕ) (may_try : Bool) (books : BooksState) (count : WorkEnd) → record { row = row; awake = awake; may_try = may_try } ≡ books
+    → SettlesFrom awake books books count count × (awake ≤ books.awake)
+settles_nobody row awake may_try books count is = subst (λ (b : BooksState). SettlesFrom awake b b count count × (awake ≤ b.awake)) is (none, omega arith)
+
+-- one more was settled
+pub settles_more : (at : ℕ) (old mid new : BooksState) (before between after : WorkEnd) → 0 < at → SettlesFrom at old mid before between × (at ≤ mid.awake)
+    → Settles (at - 1) mid new between after → SettlesFrom (at - 1) old new before after × (at - 1 ≤ new.awake)
+settles_more at old mid new before between after some front one =
+    let e : at - 1 + 1 ≡ at = omega arith in
+    (and_one (subst (λ (n : ℕ). SettlesFrom n old mid before between) (sym e) front.0) one, awake_before (at - 1) mid new between after (omega arith) one)

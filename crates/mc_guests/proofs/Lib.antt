@@ -1,0 +1,10 @@
+pub mod VisitLemmas
+pub mod TellingLemmas
+pub mod LinkLemmas
+pub mod AnswerLemmas
+pub mod GatheringLemmas
+pub mod RoundLemmas
+pub mod PlaceLemmas
+pub mod BookLemmas
+pub mod DoorLemmas
+pub mod TurnLemmas

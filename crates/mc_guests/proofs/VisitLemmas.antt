@@ -1,0 +1,124 @@
+-- The parts of a visit.
+use Rattle.std.proofs.Common.{◌≡◌, ℕ, ◌<◌, ◌≤◌, ◌+◌, List, [], ◌∷◌, ◌++◌, length, take, drop, refl, sym, ap, ◌∙◌}
+use Rattle.std.proofs.Common.{subst, arith, get_or, inl, inr, Option, Some, None, Bool, true, false, ◌⊎◌, IsTrue, IsFalse}
+use Rattle.std.proofs.Math.ListN.{set}
+use Rattle.std.proofs.lemmas.List.{take_more, take_more_set, get_or-drop, drop-set-lt}
+use Rattle.std.proofs.lemmas.Grind.{drop_more_same}
+use Rattle.mc_command.specs.declared.step.Steps.{Ghosts as Relations}
+use Rattle.std.proofs.lemmas.List.{take-append-drop, length-take-le, append-nil}
+use Rattle.mc_session.specs.Turns.{SessionState, DecidesStep, TurnIsDue, FedPiece, sent, closed}
+use Rattle.mc_guests.specs.Links.{LinkState, asked, grown, gave, took, failed, ended}
+use Rattle.mc_guests.specs.Guests.{GuestState, IsWaiting}
+use Rattle.mc_guests.specs.Visits.{WritesFront, ReadsPiece, WaitsForLink, EndsServed, EndsBroken, RefusesPiece, RefusesTurn, Reads, Does, Visited, GoesRound, next}
+use Rattle.mc_guests.specs.declared.guest.Visit.{Visit}
+use Rattle.mc_guests.specs.declared.guest.Visit.TheVariants.{Wrote, Turned, Read, Later, Served, Broken, Refused}
+
+pub writes_front : (old new : GuestState) (n : ℕ) (bytes : List ℕ) → bytes ≡ old.session.out → 0 < n → n ≤ length bytes
+    → new.session ≡ sent old.session n → new.link ≡ took (asked false old.link) (take n bytes) → WritesFront old new
+writes_front old new n bytes is some low s l = record {
+  part = take n bytes;
+  some = let e = length-take-le n bytes low in subst (λ k. 0 < k) (sym e) some;
+  parts = subst (λ (t : SessionState). old.session.out ≡ take n bytes ++ t.out) (sym s)
+      (subst (λ (b : List ℕ). old.session.out ≡ take n b ++ drop n old.session.out) (sym is) (sym (take-append-drop n old.session.out)));
+  session = subst (λ (t : SessionState). t ≡ record old.session { out = t.out }) (sym s) refl;
+  link = l;
+}
+
+pub round_more : {S : Type 0} (relations : Relations S) (now : ℕ) (olds news : List GuestState) (i : ℕ)
+    (x y : GuestState) (before between after : S) (answer : Visit) → length news ≡ length olds
+    → i < length news → x ≡ get_or news i x
+    → GoesRound relations now (take i olds) (take i news) before between × (drop i news ≡ drop i olds)
+    → Visited relations now answer x y between after
+    → GoesRound relations now (take (i + 1) olds) (take (i + 1) (set news i y)) before after
+    × (drop (i + 1) (set news i y) ≡ drop (i + 1) olds)
+round_more {S} relations now olds news i x y before between after answer long inside is goes visit =
+    let within : i < length olds = subst (λ n. i < n) long inside in
+    let heads : get_or (drop i olds) 0 x ≡ get_or (drop i news) 0 x = ap (λ l. get_or l 0 x) (sym goes.1) in
+    let none : i + 0 ≡ i = omega arith in
+    let same : get_or olds i x ≡ x = cc (get_or-drop i olds 0 x, get_or-drop i news 0 x, heads, is, none) in
+    let one : take (i + 1) olds ≡ take i olds ++ x ∷ [] =
+    take_more olds i x within ∙ ap (λ (z : GuestState). take i olds ++ z ∷ []) same in (
+      subst (λ l. GoesRound relations now l (take (i + 1) (set news i y)) before after) (sym one)
+          (subst (λ l. GoesRound relations now (take i olds ++ x ∷ []) l before after)
+          (sym (take_more_set news i y inside)) (next goes.0 answer visit)),
+      drop-set-lt (i + 1) news i y (omega arith) ∙ drop_more_same news olds i goes.1,
+    )
+
+-- a guest of these parts
+abbrev pub guest_of : SessionState → LinkState → Option Visit → GuestState
+guest_of session link last = record { session = session; link = link; last = last }
+
+no_items : (piece : List ℕ) → 0 ≡ length piece → piece ≡ []
+no_items [] zero = refl
+no_items (byte ∷ piece) zero = absurd (omega (arith, zero))
+
+-- a link that gave no bytes is as it was
+gave_none : (link : LinkState) (given : Option (List ℕ)) → link.given ≡ given → gave link [] ≡ link
+gave_none link None is = ap (λ (g : Option (List ℕ)). record link { given = grown g [] }) is ∙ ap (λ (g : Option (List ℕ)). record link { given = g }) (sym is)
+gave_none link (Some known) is =
+    ap (λ (g : Option (List ℕ)). record link { given = grown g [] }) is
+    ∙ ap (λ (k : List ℕ). record link { given = Some k }) (append-nil known)
+    ∙ ap (λ (g : Option (List ℕ)). record link { given = g }) (sym is)
+
+-- A link was read into a session that was idle, and this piece was fed of it.
+module _ (session between : SessionState) (link later : LinkState) (last : Option Visit) (old : GuestState) (piece : List ℕ)
+    (is : guest_of session link last ≡ old) (waits : IsWaiting old.session) (came : FedPiece session between piece) where
+  waits_here : IsWaiting session
+  waits_here = subst (λ (g : GuestState). IsWaiting g.session) (sym is) waits
+
+  pub reads_piece : later ≡ gave (asked true link) piece → ReadsPiece old (guest_of between later last)
+  reads_piece given = subst (λ (g : GuestState). ReadsPiece g (guest_of between later last)) is (record { piece = piece; waits = waits_here; session = came.0; link = given })
+
+  pub reads_later : piece ≡ [] → later ≡ asked true link → WaitsForLink old (guest_of between later last)
+  reads_later none same = subst (λ (g : GuestState). WaitsForLink g (guest_of between later last)) is (record { awaits = inr waits_here; session = came.1 none; link = same })
+
+  pub reads_nothing : 0 ≡ length piece → later ≡ gave (asked true link) piece → WaitsForLink old (guest_of between later last)
+  reads_nothing zero given =
+      let none : piece ≡ [] = no_items piece zero in
+      reads_later none (given ∙ ap (gave (asked true link)) none ∙ gave_none (asked true link) link.given refl)
+
+  pub reads_end : (new : SessionState) → new ≡ closed between → piece ≡ [] → later ≡ ended (asked true link) → EndsServed old (guest_of new later last)
+  reads_end new shut none over = subst (λ (g : GuestState). EndsServed g (guest_of new later last)) is
+      (record { written = waits_here.written; session = shut ∙ ap closed (came.1 none); over = inr (waits_here, over) })
+
+  pub reads_fault : (new : SessionState) → new ≡ closed between → piece ≡ [] → later ≡ failed (asked true link) → EndsBroken old (guest_of new later last)
+  reads_fault new shut none fails = subst (λ (g : GuestState). EndsBroken g (guest_of new later last)) is
+      (record { awaits = inr waits_here; session = shut ∙ ap closed (came.1 none); link = fails })
+
+-- there was no memory for a read's room, and nothing was read
+pub refuses_room : (session between new : SessionState) (link later : LinkState) (last : Option Visit) (old : GuestState) → guest_of session link last ≡ old → IsWaiting old.session
+    → between ≡ session → new ≡ closed between → later ≡ link → RefusesPiece old (guest_of new later last)
+refuses_room session between new link later last old is waits same shut stays = subst (λ (g : GuestState). RefusesPiece g (guest_of new later last)) is (record {
+  waits = subst (λ (g : GuestState). IsWaiting g.session) (sym is) waits;
+  session = shut ∙ ap closed same;
+  link = stays;
+})
+
+reads_so : {S : Type 0} (relations : Relations S) (now : ℕ) (answer : Visit) (old new : GuestState) (before after : S)
+    → after ≡ before → Reads answer old new → Does relations now answer old new before after
+reads_so relations now Wrote old new before after same r = elim r [ ]
+reads_so relations now Turned old new before after same r = elim r [ ]
+reads_so relations now Read old new before after same r = (r, same)
+reads_so relations now Later old new before after same r = (r, same)
+reads_so relations now Served old new before after same r = (r, same)
+reads_so relations now Broken old new before after same r = (r, same)
+reads_so relations now Refused old new before after same r = inr (r, same)
+
+-- where no turn was due, what comes of the read is what is done
+pub reads_does : {S : Type 0} (relations : Relations S) (now : ℕ) (answer : Visit) (link : LinkState) (last : Option Visit) (s t : SessionState) (old new : GuestState) (before after : S)
+    → s ≡ t → guest_of t link last ≡ old → after ≡ before → Reads answer (guest_of s link last) new → Does relations now answer old new before after
+reads_does relations now answer link last s t old new before after session is same r =
+    let whole = ap (λ (x : SessionState). guest_of x link last) session ∙ is in
+    reads_so relations now answer old new before after same (subst (λ (g : GuestState). Reads answer g new) whole r)
+
+-- memory ran out over a turn, and its step was decided, or it wasn't
+either_way : {A B : Type 0} (decided : Bool) → (IsFalse decided → A) → (IsTrue decided → B) → A ⊎ B
+either_way true stays takes = inr (takes refl)
+either_way false stays takes = inl (stays refl)
+
+pub refuses_turn : {S : Type 0} (relations : Relations S) (now : ℕ) (decided : Bool) (inside old new : GuestState) (before after : S) → inside ≡ old → old.session.out ≡ [] → TurnIsDue inside.session
+    → new.session ≡ closed inside.session → new.link ≡ inside.link → (IsFalse decided → relations.same before after) → (IsTrue decided → DecidesStep relations now inside.session before after)
+    → RefusesTurn relations now old new before after
+refuses_turn relations now decided inside old new before after is written due session link stays takes =
+    subst (λ (s : GuestState). RefusesTurn relations now s new before after) is
+    (record { due = record { written = subst (λ (s : GuestState). s.session.out ≡ []) (sym is) written; due = due }; session = session; link = link; store = either_way decided stays takes })

@@ -1,0 +1,12 @@
+use Rattle.std.proofs.Common.{arith}
+use Rattle.mc_guests.specs.Budgets.{may_try}
+use Rattle.mc_guests.proofs.BookLemmas.{settles_nobody, settles_more}
+use Rattle.mc_guests.proofs.guests.Guests.settle.Goals as goal
+
+pub loop-at-init : goal.loop-at-init
+loop-at-init g c = settles_nobody c.self.inside.row c.self.inside.awake (may_try c.self.inside.budget) c.args.self.now c.args.end.now c.self.view_is
+
+pub loop-at-preserved : goal.loop-at-preserved
+loop-at-preserved g c =
+    settles_more c.loop-at.at c.args.self.now c.loop-at.self c.settle_at.new.self c.args.end.now c.loop-at.end c.settle_at.new.end
+    (omega arith) c.loop-at.invariant c.settle_at.ensures

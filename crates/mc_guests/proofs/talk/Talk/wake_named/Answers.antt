@@ -1,0 +1,11 @@
+use Rattle.mc_guests.specs.Doors.{nobody}
+use Rattle.mc_guests.proofs.DoorLemmas.{named_more}
+use Rattle.mc_guests.proofs.talk.Talk.wake_named.Goals as goal
+
+pub loop-init : goal.loop-init
+loop-init g c = (nobody, c.requires)
+
+pub loop-preserved : goal.loop-preserved
+loop-preserved g c =
+    named_more c.in-Some.number c.loop.counter c.args.self.now c.loop.self c.ready.new.self c.args.guests.now c.loop.guests c.wake.new.self
+    c.in-Some.ensures c.loop.invariant c.wake.ensures

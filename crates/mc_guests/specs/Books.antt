@@ -1,0 +1,172 @@
+-- The books that a worker has of its guests.
+use Rattle.std.specs.Prelude.{◌≡◌, ◌⊎◌, ◌≤◌, ◌<◌, ◌+◌, ◌-◌, ◌^◌, ◌==◌, ◌&&◌, not, ℕ, List, [], ◌∷◌, ◌++◌, length, take, drop, min, swap, slice_get, Option, Some, None, Bool, true, false, IsTrue, IsFalse}
+use Rattle.mc_guests.specs.Guests.{GuestState, has_ended}
+use Rattle.mc_guests.specs.declared.guest.Visit.{Visit}
+use Rattle.mc_guests.specs.declared.guest.Visit.TheVariants.{Wrote, Turned, Read, Later, Served, Broken, Refused}
+use Rattle.mc_guests.specs.declared.guests.WorkEnd.{WorkEnd}
+use Rattle.mc_guests.specs.declared.guests.Fate.{Fate}
+use Rattle.mc_guests.specs.declared.guests.Fate.TheVariants.{GoesOn, Waits, Sleeps, Ended}
+
+-- guests in a row, and beside each the number of its link
+pub record RowState : Type 0 where
+  pub guests : List GuestState
+  pub numbers : List ℕ
+
+-- no guests
+abbrev pub nobody : RowState
+nobody = record { guests = []; numbers = [] }
+
+-- the link of the guest at a place has this number
+abbrev pub HasNumber : RowState → (at number : ℕ) → Type 0
+HasNumber row at number = slice_get row.numbers at ≡ Some number
+
+-- a place is told for each number that stands in the row, and it is the one where it stands
+pub record TellsPlaces (place_of : ℕ → Option ℕ) (numbers : List ℕ) : Type 0 where
+  pub told : (number at : ℕ) → place_of number ≡ Some at → slice_get numbers at ≡ Some number
+  pub all : (number at : ℕ) → slice_get numbers at ≡ Some number → place_of number ≡ Some at
+
+-- two of them change places
+abbrev pub swapped : (one other : ℕ) → RowState → RowState
+swapped one other row = record {
+  guests = swap row.guests one other;
+  numbers = swap row.numbers one other;
+}
+
+-- those from a place on are gone
+abbrev pub cut : ℕ → RowState → RowState
+cut at row = record { guests = take at row.guests; numbers = take at row.numbers }
+
+-- a guest stands behind the others, and beside it the number of its link
+abbrev pub joined : GuestState → ℕ → RowState → RowState
+joined guest number row = record {
+  guests = row.guests ++ guest ∷ [];
+  numbers = row.numbers ++ number ∷ [];
+}
+
+-- what the guest at a place answered last
+pub record IsLastAt (at : ℕ) (row : RowState) (last : Option Visit) : Type 0 where
+  pub guest : GuestState
+  pub stands : slice_get row.guests at ≡ Some guest
+  pub is : last ≡ guest.last
+
+-- Guests in a row, of which so many are awake: the first ones. And whether one that is kept waiting may be tried
+-- again, as memory came back.
+pub record BooksState : Type 0 where
+  pub row : RowState
+  pub awake : ℕ
+  pub may_try : Bool
+
+-- no guests
+abbrev pub no_books : (may_try : Bool) → BooksState
+no_books may_try = record { row = nobody; awake = 0; may_try = may_try }
+
+-- nobody is awake, and none that is kept waiting may be tried again
+abbrev pub quiet : BooksState → Bool
+quiet books = books.awake == 0 && not books.may_try
+
+-- the guest at a place wakes: it stands behind those that were awake
+abbrev pub woken : ℕ → BooksState → BooksState
+woken at books = record books {
+  row = swapped at books.awake books.row;
+  awake = books.awake + 1;
+}
+
+-- the guest at a place falls asleep: it changes places with the last that is awake
+abbrev pub put_behind : ℕ → BooksState → BooksState
+put_behind at books = record books {
+  row = swapped at (books.awake - 1) books.row;
+  awake = books.awake - 1;
+}
+
+-- The guest at a place is gone, of those that are awake. The last of these stands at its place then, and
+-- the last of all at that one's.
+abbrev pub let_gone : ℕ → BooksState → BooksState
+let_gone at books = record books {
+  row = cut (length books.row.guests - 1)
+      (swapped (books.awake - 1) (length books.row.guests - 1) (swapped at (books.awake - 1) books.row));
+  awake = books.awake - 1;
+}
+
+-- the same, if one that is kept waiting may be tried again from now on
+abbrev pub LetsGo : ℕ → (old new : BooksState) → Type 0
+LetsGo at old new = new ≡ record (let_gone at old) { may_try = new.may_try }
+
+-- a guest came, and is awake
+abbrev pub let_in : GuestState → ℕ → BooksState → BooksState
+let_in guest number books =
+    woken (length books.row.guests) (record books { row = joined guest number books.row })
+
+-- the guest at a place sleeps
+pub record SleepsAt (at : ℕ) (books : BooksState) : Type 0 where
+  pub stands : at < length books.row.guests
+  pub behind : books.awake ≤ at
+
+-- the guest whose link has this number wakes if it sleeps; else none does
+pub record WakesOne (number : ℕ) (old new : BooksState) : Type 0 where
+  pub at : ℕ
+  pub has_it : HasNumber old.row at number
+  pub sleeps : SleepsAt at old
+  pub books : new ≡ woken at old
+
+-- none that sleeps has a link of this number, and none wakes
+pub record WakesNone (number : ℕ) (old new : BooksState) : Type 0 where
+  pub awake : (at : ℕ) → HasNumber old.row at number → at < old.awake
+  pub books : new ≡ old
+
+-- the guest wakes whose link has this number, if it sleeps
+abbrev pub Wakes : ℕ → (old new : BooksState) → Type 0
+Wakes number old new = WakesOne number old new ⊎ WakesNone number old new
+
+-- one more; a count that is full stays
+abbrev pub one_more : ℕ → ℕ
+one_more count = min (count + 1) (2 ^ 64 - 1)
+
+-- an ending is counted, by the last answer
+abbrev pub counted : Option Visit → WorkEnd → WorkEnd
+counted (Some Served) count = record count { served = one_more count.served }
+counted (Some Broken) count = record count { broken = one_more count.broken }
+counted (Some Refused) count = record count { refused = one_more count.refused }
+counted last count = count
+
+-- whether a guest is to go
+abbrev pub is_over : Fate → Bool
+is_over GoesOn = false
+is_over Waits = false
+is_over Sleeps = false
+is_over Ended = true
+
+-- how the guest at a place goes on: it is to go if it has ended, which is counted
+pub record IsFateOf (at : ℕ) (row : RowState) (fate : Fate) (before after : WorkEnd) : Type 0 where
+  pub last : Option Visit
+  pub answered : IsLastAt at row last
+  pub over : is_over fate ≡ has_ended last
+  pub counts : after ≡ counted last before
+
+-- a guest that hasn't ended stays awake or falls asleep
+abbrev pub StaysOrSleeps : ℕ → (old new : BooksState) → Type 0
+StaysOrSleeps at old new = (new ≡ old) ⊎ (new ≡ put_behind at old)
+
+-- The guest at a place was settled: if it has ended it is gone, and counted.
+pub record Settles (at : ℕ) (old new : BooksState) (before after : WorkEnd) : Type 0 where
+  pub last : Option Visit
+  pub answered : IsLastAt at old.row last
+  pub goes : IsTrue (has_ended last) → LetsGo at old new
+  pub stays : IsFalse (has_ended last) → StaysOrSleeps at old new
+  pub counts : after ≡ counted last before
+
+-- of those that were awake the ones from a place on were settled, the last one first
+pub data SettlesFrom : (at : ℕ) (old new : BooksState) (before after : WorkEnd) → Type 0 where
+  none : {books : BooksState} {count : WorkEnd} → SettlesFrom books.awake books books count count
+  and_one : {at : ℕ} {old mid new : BooksState} {before between after : WorkEnd}
+      → SettlesFrom (at + 1) old mid before between → Settles at mid new between after
+      → SettlesFrom at old new before after
+
+-- one that slept may have been woken
+abbrev pub MayWake : (old new : BooksState) → Type 0
+MayWake old new = (new ≡ old) ⊎ ((at : ℕ) × SleepsAt at old × (new ≡ woken at old))
+
+-- a round leaves those that sleep, all numbers, and who is awake
+pub record KeepsBooks (old new : BooksState) : Type 0 where
+  pub asleep : drop old.awake new.row.guests ≡ drop old.awake old.row.guests
+  pub numbers : new.row.numbers ≡ old.row.numbers
+  pub awake : new.awake ≡ old.awake

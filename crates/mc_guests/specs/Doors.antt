@@ -1,0 +1,104 @@
+-- What a worker asks of its links between two rounds, and what becomes of its guests.
+use Rattle.std.specs.Prelude.{◌≡◌, ◌⊎◌, ◌↔◌, ◌<◌, ◌+◌, ◌%◌, ◌^◌, ◌&&◌, ◌==◌, ℕ, Bool, true, false, length, Option, Some, None, IsTrue}
+use Rattle.mc_guests.specs.Links.{LinkState}
+use Rattle.mc_guests.specs.Guests.{welcomed}
+use Rattle.mc_guests.specs.Books.{BooksState, Wakes, let_in, one_more, quiet}
+use Rattle.mc_guests.specs.declared.guests.WorkEnd.{WorkEnd}
+use Rattle.mc_guests.specs.declared.talk.Came.{Came}
+use Rattle.mc_guests.specs.declared.talk.Came.TheVariants.{Link, Later, Closed}
+use Rattle.mc_guests.specs.declared.talk.Talk.{Talk}
+use Rattle.mc_guests.specs.declared.door.Door.{Door}
+use Rattle.mc_guests.specs.declared.links.Next.{Next}
+use Rattle.mc_guests.specs.declared.links.Next.TheVariants as next
+
+-- what came next, without the link
+abbrev pub came_of : {L : Type 0} → Next L → Came
+came_of (next.Link link) = Link
+came_of next.Later = Later
+came_of next.Closed = Closed
+
+-- nothing was asked yet
+abbrev pub unasked : Talk
+unasked = record { came = None; names = 0; named = None; has_rested = false }
+
+-- it was asked for the next link
+abbrev pub came : Came → Talk → Talk
+came what talk = record talk { came = Some what }
+
+-- it was asked for a link that may give or take more: this one was named, or none any more
+abbrev pub heard : Option ℕ → Talk → Talk
+heard None talk = record talk { named = None }
+heard (Some number) talk = record talk { names = talk.names + 1; named = Some number }
+
+-- links were named one after another, and the guest of each woke if it slept
+pub data WakesNamed : (talk : Talk) (old : BooksState) (later : Talk) (new : BooksState) → Type 0 where
+  nobody : {talk : Talk} {books : BooksState} → WakesNamed talk books talk books
+  and_one : {talk later : Talk} {old between new : BooksState} (number : ℕ)
+      → WakesNamed talk old later between → Wakes number between new
+      → WakesNamed talk old (heard (Some number) later) new
+
+-- the same, until none was named any more, or 1024 were
+pub record WakesAllNamed (talk : Talk) (old : BooksState) (later : Talk) (new : BooksState) : Type 0 where
+  pub last : Talk
+  pub wakes : WakesNamed talk old last new
+  pub over : (later ≡ heard None last) ⊎ ((last.names ≡ 1024) × (later ≡ last))
+
+-- a link came: there is a guest more, who is awake, or the link is counted as refused
+pub record LetsIn (greatest number : ℕ) (old new : BooksState) (before after : WorkEnd) : Type 0 where
+  pub link : LinkState
+  pub either : ((new ≡ let_in (welcomed greatest link) number old) × (after ≡ before))
+      ⊎ ((new ≡ old) × (after ≡ record before { refused = one_more before.refused }))
+
+-- nothing came, and those woke whose links were named; it rests if nobody was awake and none was
+-- named
+pub record ComesNothing (is_quiet : Bool) (talk : Talk) (old : BooksState) (later : Talk) (new : BooksState) : Type 0 where
+  pub last : Talk
+  pub wakes : WakesAllNamed talk old last new
+  pub rests : later ≡ record last { has_rested = is_quiet && last.names == 0 }
+
+-- a door at which no link was let in yet, for guests whose storage commands charge so much at most
+abbrev pub shut : ℕ → Door
+shut greatest = record { greatest = greatest; opened = 0; talk = unasked }
+
+-- links were asked for the next one: it said so, and nothing else was asked
+abbrev pub asks_next : Came → Door → Door
+asks_next what door = record door { talk = came what unasked }
+
+-- one link more was handed out; the number behind the last that there is is 0
+abbrev pub counted_in : Door → Door
+counted_in door = record door { opened = (door.opened + 1) % 2 ^ 64 }
+
+-- What an opening of the door does. More can come but where no link comes any more and there is no guest.
+pub data Opens (is_quiet : Bool) : (door later : Door) (old new : BooksState) (before after : WorkEnd) (goes_on : Bool) → Type 0 where
+  link : {door : Door} {talk : Talk} {old between new : BooksState} {before after : WorkEnd}
+      → LetsIn door.greatest door.opened old between before after
+      → WakesAllNamed (came Link unasked) between talk new
+      → Opens is_quiet door (record (counted_in door) { talk = talk }) old new before after true
+  none_now : {door : Door} {talk : Talk} {old new : BooksState} {end : WorkEnd}
+      → ComesNothing is_quiet (came Later unasked) old talk new
+      → Opens is_quiet door (record door { talk = talk }) old new end end true
+  none_more : {door : Door} {talk : Talk} {old new : BooksState} {end : WorkEnd}
+      → (length old.row.guests ≡ 0 → ⊥) → ComesNothing is_quiet (came Closed unasked) old talk new
+      → Opens is_quiet door (record door { talk = talk }) old new end end true
+  over : {door : Door} {books : BooksState} {end : WorkEnd} → length books.row.guests ≡ 0
+      → Opens is_quiet door (asks_next Closed door) books books end end false
+
+-- The door was opened so many times, and a link came each time. Whether the guests were quiet was
+-- seen anew before each.
+pub data LinksCame : (count : ℕ) (door later : Door) (old new : BooksState) (before after : WorkEnd) → Type 0 where
+  none_yet : {door : Door} {books : BooksState} {end : WorkEnd} → LinksCame 0 door door books books end end
+  one_came : {count : ℕ} {door last later : Door} {old between new : BooksState} {before mid after : WorkEnd}
+      → LinksCame count door last old between before mid
+      → Opens (quiet between) last later between new mid after true → later.talk.came ≡ Some Link
+      → LinksCame (count + 1) door later old new before after
+
+-- What the openings of the door between two rounds do: a link came at each, until 32 did, or until
+-- one more opening at which none came. That one says whether more can come.
+pub data OpensForAll : (door later : Door) (old new : BooksState) (before after : WorkEnd) (goes_on : Bool) → Type 0 where
+  as_many : {door later : Door} {old new : BooksState} {before after : WorkEnd}
+      → LinksCame 32 door later old new before after
+      → OpensForAll door later old new before after true
+  then_none : {count : ℕ} {door last later : Door} {old between new : BooksState} {before mid after : WorkEnd} {goes_on : Bool}
+      → count < 32 → LinksCame count door last old between before mid
+      → Opens (quiet between) last later between new mid after goes_on → (later.talk.came ≡ Some Link → ⊥)
+      → OpensForAll door later old new before after goes_on

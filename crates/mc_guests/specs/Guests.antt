@@ -1,0 +1,56 @@
+-- What contracts see of a guest.
+use mathlib.Core.Logic.{inl, inr}
+use Rattle.std.specs.Prelude.{◌≡◌, ◌⊎◌, ℕ, Bool, true, false, List, [], Option, Some, None, IsTrue}
+use Rattle.mc_session.specs.Turns.{SessionState, NoTurnDue, TurnIsDue, opened}
+use Rattle.mc_guests.specs.Links.{LinkState, grown}
+use Rattle.mc_guests.specs.declared.guest.Visit.{Visit}
+use Rattle.mc_guests.specs.declared.guest.Visit.TheVariants.{Wrote, Turned, Read, Later, Served, Broken, Refused}
+
+-- its session, its link, and the answer of its last visit
+pub record GuestState : Type 0 where
+  pub session : SessionState
+  pub link : LinkState
+  pub last : Option Visit
+
+-- a session that was fed nothing, with its link
+abbrev pub welcomed : ℕ → LinkState → GuestState
+welcomed greatest link = record { session = opened greatest; link = link; last = None }
+
+-- whether an answer is a guest's last
+abbrev pub ends : Visit → Bool
+ends Wrote = false
+ends Turned = false
+ends Read = false
+ends Later = false
+ends Served = true
+ends Broken = true
+ends Refused = true
+
+-- whether a guest has ended, by the answer of its last visit
+abbrev pub has_ended : Option Visit → Bool
+has_ended None = false
+has_ended (Some answer) = ends answer
+
+-- all output was written, and a turn is due
+pub record IsTurnDue (session : SessionState) : Type 0 where
+  pub written : session.out ≡ []
+  pub due : TurnIsDue session
+
+-- all output was written, the session is open, and no turn is due until more bytes come
+pub record IsWaiting (session : SessionState) : Type 0 where
+  pub written : session.out ≡ []
+  pub opens : IsTrue session.is_open
+  pub none_due : NoTurnDue session
+
+-- there is output to write, or no turn is due until more bytes come
+abbrev pub AwaitsLink : SessionState → Type 0
+AwaitsLink session = (session.out ≡ [] → ⊥) ⊎ IsWaiting session
+
+-- whether its link is to give, and not to take
+abbrev pub wants : {session : SessionState} → AwaitsLink session → Bool
+wants (inl has_output) = false
+wants (inr is_waiting) = true
+
+-- the bytes that its link took, and those that wait for it
+abbrev pub told : GuestState → Option (List ℕ)
+told guest = grown guest.link.taken guest.session.out

@@ -1,0 +1,11 @@
+pub mod Links
+pub mod Gathered
+pub mod Guests
+pub mod Visits
+pub mod Budgets
+pub mod Books
+pub mod Telling
+pub mod Outcomes
+pub mod Asks
+pub mod Turns
+pub mod Doors

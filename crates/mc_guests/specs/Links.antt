@@ -1,0 +1,64 @@
+-- What contracts see of a link.
+use Rattle.std.specs.Prelude.{◌≡◌, ◌+◌, ◌≤◌, ℕ, Bool, true, false, List, [], ◌++◌, length, take, Option, Some, None, Result, Ok, Err}
+use Rattle.mc_guests.specs.declared.link.Got.{Got}
+use Rattle.mc_guests.specs.declared.link.Got.TheVariants.{Bytes as GaveBytes, Later as GaveNone, End}
+use Rattle.mc_guests.specs.declared.link.Took.{Took}
+use Rattle.mc_guests.specs.declared.link.Took.TheVariants.{Bytes as TookBytes, Later as TookNone}
+use Rattle.mc_guests.specs.declared.link.LinkFault.{LinkFault}
+
+-- The bytes that it gave and took until now, none where nobody can know them; how often it failed,
+-- whether it is at its end, and whether it was last asked to give and not to take.
+pub record LinkState : Type 0 where
+  pub given : Option (List ℕ)
+  pub taken : Option (List ℕ)
+  pub faults : ℕ
+  pub is_ended : Bool
+  pub was_read : Bool
+
+-- known bytes, and these behind them
+abbrev pub grown : Option (List ℕ) → List ℕ → Option (List ℕ)
+grown None bytes = None
+grown (Some known) bytes = Some (known ++ bytes)
+
+-- it was asked to give, or to take
+abbrev pub asked : Bool → LinkState → LinkState
+asked reads link = record link { was_read = reads }
+
+-- it gave these bytes more
+abbrev pub gave : LinkState → List ℕ → LinkState
+gave link bytes = record link { given = grown link.given bytes }
+
+-- it took these bytes more
+abbrev pub took : LinkState → List ℕ → LinkState
+took link bytes = record link { taken = grown link.taken bytes }
+
+-- it failed once more
+abbrev pub failed : LinkState → LinkState
+failed link = record link { faults = link.faults + 1 }
+
+-- it is at its end
+abbrev pub ended : LinkState → LinkState
+ended link = record link { is_ended = true }
+
+-- what a read does: a piece was handed in, and this is what it then holds
+abbrev pub Gives : LinkState → List ℕ → Result Got LinkFault → LinkState → Type 0
+Gives old piece (Ok (GaveBytes n)) new =
+    (n ≤ length piece) × (new ≡ gave (asked true old) (take n piece))
+Gives old piece (Ok GaveNone) new = new ≡ asked true old
+Gives old piece (Ok End) new = new ≡ ended (asked true old)
+Gives old piece (Err fault) new = new ≡ failed (asked true old)
+
+-- what a read does, by the bytes that it gives
+abbrev pub GivesPiece : LinkState → List ℕ → Result Got LinkFault → LinkState → Type 0
+GivesPiece old piece (Ok (GaveBytes n)) new =
+    (n ≡ length piece) × (new ≡ gave (asked true old) piece)
+GivesPiece old piece (Ok GaveNone) new = (piece ≡ []) × (new ≡ asked true old)
+GivesPiece old piece (Ok End) new = (piece ≡ []) × (new ≡ ended (asked true old))
+GivesPiece old piece (Err fault) new = (piece ≡ []) × (new ≡ failed (asked true old))
+
+-- what a write does
+abbrev pub Takes : LinkState → List ℕ → Result Took LinkFault → LinkState → Type 0
+Takes old bytes (Ok (TookBytes n)) new =
+    (n ≤ length bytes) × (new ≡ took (asked false old) (take n bytes))
+Takes old bytes (Ok TookNone) new = new ≡ asked false old
+Takes old bytes (Err fault) new = new ≡ failed (asked false old)

@@ -1,0 +1,121 @@
+//! How guests are let in.
+ghost use Rattle.std.specs.Prelude.{◌≡◌, IsTrue, IsFalse};
+ghost use Rattle.mc_guests.specs.Books.{one_more};
+ghost use Rattle.mc_guests.specs.Doors.{shut, counted_in, LetsIn, Opens, OpensForAll};
+
+use crate::guests::{Guests, WorkEnd};
+use crate::link::Link;
+use crate::links::{Links, Next};
+use crate::talk::Talk;
+use std::alloc::Global;
+
+/// How many links are let in at most between two rounds.
+const LINKS: usize = 32;
+
+/// How guests are let in.
+#[derive(Clone, Copy, Debug, PartialEq, Eq)]
+pub struct Door {
+    /// What storage commands may charge at most.
+    pub greatest: u64,
+    /// How many links were handed out, modulo 2^64.
+    pub opened: u64,
+    /// What links were asked since the last round.
+    pub talk: Talk,
+}
+
+impl Door {
+    /// Makes a door at which no guest was let in yet, whose storage commands may charge at most `greatest`
+    /// bytes.
+    pub fn new(greatest: u64) -> Door
+        ensures { result ≡ shut greatest }
+    {
+        Door {
+            greatest,
+            opened: 0,
+            talk: Talk::new(),
+        }
+    }
+
+    /// Opens for each link that waits, one opening after another until none comes, or 32 came. So
+    /// many newcomers wait few rounds, and guests wait for 32 newcomers at most. It rests in none
+    /// but the last opening, if nobody was let in before it and there is nothing to do. Each opening
+    /// wakes the guests whose links are named, 1024 at most. Returns whether more can come.
+    pub fn open_for_all<L: Link + Drop, Q: Links<L>>(
+        &mut self,
+        alloc: Global,
+        links: &mut Q,
+        guests: &mut Guests<L>,
+        end: &mut WorkEnd,
+    ) -> bool
+        ensures { OpensForAll self.old self.new guests.old guests.new end.old end.new result }
+    {
+        for _ in 0..LINKS {
+            let is_quiet = guests.is_quiet();
+            let goes_on = self.open(alloc, links, guests, end, is_quiet);
+            if !self.talk.gave_link() {
+                return goes_on;
+            }
+        }
+        true
+    }
+
+    /// Asks for the next link once, and wakes the guests whose links are named; rests if there is
+    /// nothing to do. Returns whether more can come: not if no link comes any more and there is no
+    /// guest.
+    fn open<L: Link + Drop, Q: Links<L>>(
+        &mut self,
+        alloc: Global,
+        links: &mut Q,
+        guests: &mut Guests<L>,
+        end: &mut WorkEnd,
+        is_quiet: bool,
+    ) -> bool
+        ensures { Opens is_quiet self.old self.new guests.old guests.new end.old end.new result }
+    {
+        self.talk = Talk::new();
+        match self.talk.next(links) {
+            Next::Link(link) => {
+                self.let_in(alloc, link, guests, end);
+                self.talk.wake_named(links, guests);
+                true
+            }
+            Next::Later => {
+                self.talk.wait(links, guests, is_quiet);
+                true
+            }
+            Next::Closed if guests.is_empty() => false,
+            Next::Closed => {
+                self.talk.wait(links, guests, is_quiet);
+                true
+            }
+        }
+    }
+
+    /// Makes a guest of a link, or counts it as refused.
+    fn let_in<L: Link + Drop>(
+        &mut self,
+        alloc: Global,
+        link: L,
+        guests: &mut Guests<L>,
+        end: &mut WorkEnd,
+    )
+        ensures lets { LetsIn self.old.greatest self.old.opened guests.old guests.new end.old
+            end.new }
+        ensures counts { self.new ≡ counted_in self.old }
+    {
+        let came = guests.welcome(alloc, link, self.greatest, self.opened);
+        count_refused(end, came);
+        self.opened = self.opened.wrapping_add(1);
+    }
+}
+
+/// Counts a link as refused that is no guest.
+fn count_refused(end: &mut WorkEnd, came: bool)
+    ensures came { IsTrue came → end.new ≡ end.old }
+    ensures refused { IsFalse came →
+        end.new ≡ record end.old { refused = one_more end.old.refused } }
+{
+    if !came {
+        end.refused = end.refused.saturating_add(1);
+    }
+}

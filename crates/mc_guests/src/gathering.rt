@@ -1,0 +1,224 @@
+//! Few large writes in the place of many small ones.
+ghost use Rattle.mc_parse.specs.Queues.{first_piece};
+ghost use Rattle.std.specs.Prelude.{◌≡◌, ◌≤◌, ◌↔◌, ◌-◌, ◌^◌, ◌++◌, [], Ok, IsTrue, IsFalse, true, false};
+ghost use Rattle.mc_guests.specs.Links.{Gives, Takes};
+ghost use Rattle.mc_guests.specs.Gathered.{over, whole, turned, IsFront, Flushes, Gathers, AfterAll};
+ghost use Rattle.mc_guests.specs.Gathered.{WaitsBelow};
+
+use crate::link::{Got, Link, LinkFault, Took};
+use mc_parse::Queue;
+use std::alloc::Global;
+use std::marker::Model;
+
+/// How many bytes are gathered at most.
+const GATHERED: usize = 65_536;
+
+/// From how many bytes on they aren't gathered, but handed on at once from where they lie, with what was
+/// gathered before. To copy fewer costs less than a call of the system for each answer of a batch.
+const HANDED_ON: usize = 32_768;
+
+/// How many bytes are handed on at once at most beside those, so that others needn't wait for long.
+const LONGEST: usize = 131_072;
+
+/// A link over a link, for which what is written is gathered: it is handed on before the next read, or
+/// when there is much of it. Contracts see the link below and what is gathered. A fault of the link below
+/// is told, and leaves gathered what that link didn't take.
+#[derive(Drop)]
+pub struct Gathering<L: Link + Drop> {
+    link: L,
+    gathered: Queue<65536>,
+    /// Whether its last call was a read.
+    was_read: bool,
+}
+
+impl<L: Link + Drop> Model for Gathering<L> {
+    ghost use Rattle.std.specs.Prelude.{◌≤◌, length};
+    ghost use Rattle.mc_guests.specs.Gathered.{GatheringState};
+
+    ghost Value = { GatheringState };
+
+    ghost view = { λ g. record {
+      link = L.shown g.link;
+      gathered = g.gathered;
+      was_read = g.was_read;
+    } };
+
+    ghost invariant = { λ g. length g.gathered ≤ 65536 };
+}
+
+impl<L: Link + Drop> Gathering<L> {
+    /// Gathers for this link, and has nothing yet. It takes no memory.
+    pub fn new(alloc: Global, link: L) -> Gathering<L>
+        ensures { result ≡ over (L.shown link) }
+    {
+        Gathering {
+            link,
+            gathered: Queue::new(alloc),
+            was_read: false,
+        }
+    }
+
+    /// Lends the link below.
+    pub fn link(&self) -> &L
+        ensures { L.shown result.now ≡ self.now.link }
+    {
+        &self.link
+    }
+
+    /// Returns whether nothing is gathered.
+    pub fn is_empty(&self) -> bool
+        ensures { IsTrue result ↔ (self.now.gathered ≡ []) }
+    {
+        self.gathered.is_empty()
+    }
+
+    /// Hands on what is gathered, as far as the link below takes it. If it took a part it is asked
+    /// once more, and says by its answer that it takes no more.
+    pub fn flush(&mut self) -> Result<(), LinkFault>
+        ensures flushes { Flushes self.old result self.new }
+        ensures asks { (self.new.gathered ≡ [] → ⊥) → self.new.link.was_read ≡ false }
+    {
+        match self.hand_on() {
+            Ok(()) => self.hand_on(),
+            Err(LinkFault) => Err(LinkFault),
+        }
+    }
+
+    /// Asks the link below once to take what is gathered.
+    fn hand_on(&mut self) -> Result<(), LinkFault>
+        ensures flushes { Flushes self.old result self.new }
+        ensures asks { (self.new.gathered ≡ [] → ⊥) → self.new.link.was_read ≡ false }
+    {
+        if self.gathered.is_empty() {
+            return Ok(());
+        }
+        match self.link.try_write(self.gathered.as_slice()) {
+            Ok(Took::Bytes(count)) => {
+                self.gathered.consume(count);
+                Ok(())
+            }
+            Ok(Took::Later) => Ok(()),
+            Err(LinkFault) => Err(LinkFault),
+        }
+    }
+
+    /// Gathers bytes if they are few, and there is room and memory for them. Returns whether it
+    /// did.
+    fn gather(&mut self, bytes: &[u8]) -> bool
+        ensures yes { IsTrue result →
+            self.new ≡ record self.old { gathered = self.old.gathered ++ bytes.now } }
+        ensures no { IsFalse result → self.new ≡ self.old }
+    {
+        bytes.len() < HANDED_ON
+            && self.gathered.len() <= GATHERED - bytes.len()
+            && self.gathered.push(bytes).is_ok()
+    }
+
+    /// Asks the link below once to take what is gathered and then these bytes.
+    fn send(&mut self, bytes: &[u8]) -> Result<Took, LinkFault>
+        ensures gathers { Gathers self.old bytes.now result self.new }
+        ensures asks { self.new.link.was_read ≡ false }
+    {
+        let before = self.gathered.len();
+        match self
+            .link
+            .try_write_both(self.gathered.as_slice(), front_of(bytes))
+        {
+            Ok(Took::Bytes(count)) if count > before => {
+                self.gathered.clear();
+                Ok(Took::Bytes(count - before))
+            }
+            Ok(Took::Bytes(count)) => {
+                self.gathered.consume(count);
+                Ok(Took::Later)
+            }
+            Ok(Took::Later) => Ok(Took::Later),
+            Err(LinkFault) => Err(LinkFault),
+        }
+    }
+
+    /// Reads from the link below, for which nothing is gathered.
+    fn read_below(&mut self, piece: &mut [u8]) -> Result<Got, LinkFault>
+        ensures gives { Gives self.old.link piece.new result self.new.link }
+        ensures same { self.new.gathered ≡ self.old.gathered }
+        ensures asks { self.new.link.was_read ≡ true }
+        ensures was_read { self.new.was_read ≡ self.old.was_read }
+    {
+        let got = self.link.try_read(piece);
+        if let Ok(Got::Later) = got {
+            self.rest();
+        }
+        got
+    }
+
+    /// Gives back the memory that is kept beyond that of a first piece, if nothing is gathered, and
+    /// counts the bytes that are reserved then.
+    fn rest(&mut self) -> usize
+        ensures same { self.new ≡ self.old }
+        ensures empty { self.new.gathered ≡ [] → result ≤ first_piece }
+    {
+        self.gathered.rest()
+    }
+}
+
+impl<L: Link + Drop> Link for Gathering<L> {
+    ghost shown = { λ g. whole g };
+
+    /// Hands on what is gathered, and then reads.
+    fn try_read(&mut self, piece: &mut [u8]) -> Result<Got, LinkFault>
+        ensures gives { Gives (whole self.old) piece.new result (whole self.new) }
+        ensures full { self.old.link.faults ≡ 2 ^ 64 - 1 → result ≡ Ok Got.Later }
+        ensures after { AfterAll result self.new.gathered }
+        ensures waits { (self.old.link.faults ≡ 2 ^ 64 - 1 → ⊥) → result ≡ Ok Got.Later →
+            WaitsBelow self.new }
+    {
+        self.was_read = true;
+        if self.link.faults() == u64::MAX {
+            return Ok(Got::Later);
+        }
+        match self.flush() {
+            Ok(()) if self.gathered.is_empty() => self.read_below(piece),
+            Ok(()) => Ok(Got::Later),
+            Err(LinkFault) => Err(LinkFault),
+        }
+    }
+
+    /// Gathers the bytes, or hands on what is gathered and then takes a front of them, if the link
+    /// below took all before it.
+    fn try_write(&mut self, bytes: &[u8]) -> Result<Took, LinkFault>
+        ensures takes { Takes (whole self.old) bytes.now result (whole self.new) }
+        ensures full { self.old.link.faults ≡ 2 ^ 64 - 1 → result ≡ Ok Took.Later }
+        ensures gathers { Gathers (turned false self.old) bytes.now result self.new }
+        ensures asks { (self.old.link.faults ≡ 2 ^ 64 - 1 → ⊥) → result ≡ Ok Took.Later →
+            self.new.link.was_read ≡ false }
+    {
+        self.was_read = false;
+        if self.link.faults() == u64::MAX {
+            return Ok(Took::Later);
+        }
+        if self.gather(bytes) {
+            return Ok(Took::Bytes(bytes.len()));
+        }
+        match self.send(bytes) {
+            // if a part was taken, it says by its next answer that it takes no more
+            Ok(Took::Later) => self.send(bytes),
+            answer => answer,
+        }
+    }
+
+    fn faults(&self) -> u64 {
+        self.link.faults()
+    }
+
+    fn reserved(&self) -> usize {
+        self.gathered.capacity()
+    }
+}
+
+/// Gives the bytes that are handed on at once.
+fn front_of(bytes: &[u8]) -> &[u8]
+    ensures { IsFront result.now bytes.now }
+{
+    let (front, _) = bytes.split_at(bytes.len().min(LONGEST));
+    front
+}

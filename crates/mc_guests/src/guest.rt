@@ -1,0 +1,257 @@
+//! Guests: sessions with their links.
+ghost use Rattle.std.specs.Prelude.{◌≡◌, ◌⊎◌, ◌<◌, ◌≤◌, length, IfOk, IfSome, Some, None, [], IsTrue, IsFalse};
+ghost use Rattle.mc_command.specs.Commands.{longest_key};
+ghost use Rattle.mc_session.specs.Resting.{resting};
+ghost use Rattle.mc_guests.specs.Guests.{welcomed, has_ended, ends, IsWaiting};
+ghost use Rattle.mc_guests.specs.Visits.{Visited, Does, Writes, Reads};
+
+use crate::link::{Got, Link, LinkFault, Took};
+use crate::tap::Tap;
+use mc_command::Steps;
+use mc_parse::FIRST_PIECE;
+use mc_session::{Session, Turn};
+use mc_time::Moment;
+use std::alloc::{AllocError, Global};
+use std::marker::Model;
+
+/// What a visit did.
+#[derive(Clone, Copy, Debug, PartialEq, Eq)]
+pub enum Visit {
+    /// The link took output.
+    Wrote,
+    /// A turn was made.
+    Turned,
+    /// The link gave bytes.
+    Read,
+    /// The link gives nothing now, or takes nothing now.
+    Later,
+    /// All was written, and the session is closed or its stream at its end. The guest has ended.
+    Served,
+    /// The link failed. The guest has ended.
+    Broken,
+    /// Memory ran out. The guest has ended.
+    Refused,
+}
+
+/// How many bytes are read at once at most, once a read filled the first piece.
+const LONGEST_PIECE: usize = 16384;
+
+/// A session with its link. Contracts see both, and the answer of the last visit.
+#[derive(Drop)]
+pub struct Guest<L: Link + Drop> {
+    session: Session,
+    tap: Tap<L>,
+    /// How many bytes are read at once.
+    longest: usize,
+    last: Option<Visit>,
+}
+
+impl<L: Link + Drop> Model for Guest<L> {
+    ghost use Rattle.mc_guests.specs.Guests.{GuestState};
+
+    ghost Value = { GuestState };
+
+    ghost view = { λ g. record { session = g.session; link = L.shown g.tap.link; last = g.last } };
+}
+
+impl<L: Link + Drop> Guest<L> {
+    /// Makes a session that was fed nothing, with its link, whose storage commands may charge at most
+    /// `greatest` bytes. It takes no memory, so it isn't refused: the first read asks for some.
+    pub fn new(alloc: Global, link: L, greatest: u64) -> Result<Guest<L>, AllocError>
+        ensures { IfOk result (λ guest. guest ≡ welcomed greatest (L.shown link)) }
+    {
+        Ok(Guest {
+            session: Session::new(alloc, greatest),
+            tap: Tap { link },
+            longest: FIRST_PIECE,
+            last: None,
+        })
+    }
+
+    /// Says what its last visit answered, and nothing before the first.
+    pub fn last(&self) -> Option<Visit>
+        ensures { result ≡ self.now.last }
+    {
+        self.last
+    }
+
+    /// Does the one thing that is due: writes output if there is some, else takes a turn if
+    /// one is due, else reads a piece of at most 16384 bytes, or ends. Of a guest that has ended it
+    /// says what ended it, and does nothing.
+    pub fn visit<S: Steps>(&mut self, alloc: Global, store: &mut S, now: Moment) -> Visit
+        ensures { Visited S.Steps now result self.old self.new store.old store.new }
+    {
+        if let Some(answer) = self.ending() {
+            return answer;
+        }
+        let answer = if self.session.out().is_empty() {
+            self.turn_or_read(alloc, store, now)
+        } else {
+            self.write_out()
+        };
+        self.last = Some(answer);
+        answer
+    }
+
+    /// Counts the bytes of memory that are reserved for its session, and for what its link has still to hand on.
+    pub(crate) fn reserved(&self) -> usize
+        ensures unread { length self.now.session.unread.bytes ≤ result }
+        ensures out { length self.now.session.out ≤ result }
+    {
+        let link = self.tap.link.reserved();
+        self.session.reserved().saturating_add(link)
+    }
+
+    /// Gives back the memory that is kept for its session beyond that of two first pieces, if
+    /// nothing is unread and no output waits, and counts the bytes that are reserved for it then.
+    pub fn rest(&mut self) -> usize
+        ensures same { self.new ≡ self.old }
+        ensures empty { self.new.session.unread.bytes ≡ [] → self.new.session.out ≡ [] →
+            result ≤ resting }
+    {
+        self.session.rest()
+    }
+
+    /// Drops what is unread and the output, and gives their memory back.
+    pub(crate) fn give_up(&mut self) {
+        self.session.close();
+        let waiting = self.session.out().len();
+        self.session.sent(waiting);
+    }
+
+    /// Counts the bytes of the unit that is read now, if its line announces a block, whether or not
+    /// they came.
+    pub(crate) fn unit(&self) -> usize
+        ensures { self.now.session.unread.bytes ≡ [] → result ≡ 0 }
+    {
+        self.session.announced()
+    }
+
+    /// Counts the bytes of the unit whose block is to be read next, whether or not they came; none
+    /// if output is to be written first.
+    pub(crate) fn announced(&self) -> usize
+        ensures unread { self.now.session.unread.bytes ≡ [] → result ≡ 0 }
+        ensures out { (self.now.session.out ≡ [] → ⊥) → result ≡ 0 }
+    {
+        if self.session.out().is_empty() {
+            self.session.announced()
+        } else {
+            0
+        }
+    }
+
+    /// Lends the key of the turn that is next, if that is one of a retrieval; none if output is to
+    /// be written first.
+    pub(crate) fn key(&self) -> Option<&[u8]>
+        ensures out { (self.now.session.out ≡ [] → ⊥) → result ≡ None }
+        ensures short { IfSome result (λ key. length key.now ≤ longest_key) }
+    {
+        if self.session.out().is_empty() {
+            self.session.key()
+        } else {
+            None
+        }
+    }
+
+    /// Says what ended it.
+    fn ending(&self) -> Option<Visit>
+        ensures some { (answer : Visit) → result ≡ Some answer →
+            (self.now.last ≡ Some answer) × IsTrue (ends answer) }
+        ensures none { result ≡ None → IsFalse (has_ended self.now.last) }
+    {
+        match self.last {
+            Some(answer) if answer.ends() => Some(answer),
+            _ => None,
+        }
+    }
+
+    /// Writes a front of the output.
+    fn write_out(&mut self) -> Visit
+        requires { self.old.session.out ≡ [] → ⊥ }
+        ensures last { self.new.last ≡ self.old.last }
+        ensures writes { Writes result self.old self.new }
+    {
+        match self.tap.link.try_write(self.session.out()) {
+            Ok(Took::Bytes(taken)) => {
+                if taken == 0 {
+                    return Visit::Later;
+                }
+                self.session.sent(taken);
+                Visit::Wrote
+            }
+            Ok(Took::Later) => Visit::Later,
+            Err(LinkFault) => {
+                self.session.close();
+                Visit::Broken
+            }
+        }
+    }
+
+    /// Takes a turn, or reads a piece, or ends.
+    fn turn_or_read<S: Steps>(&mut self, alloc: Global, store: &mut S, now: Moment) -> Visit
+        requires { self.old.session.out ≡ [] }
+        ensures last { self.new.last ≡ self.old.last }
+        ensures does { Does S.Steps now result self.old self.new store.old store.new }
+    {
+        match self.session.turn(alloc, store, now) {
+            Ok(Turn::Did) => Visit::Turned,
+            Ok(Turn::Idle) => self.read_piece(),
+            Ok(Turn::Closed) => {
+                self.session.close();
+                Visit::Served
+            }
+            Err(_) => Visit::Refused,
+        }
+    }
+
+    /// Reads a piece, or ends.
+    fn read_piece(&mut self) -> Visit
+        requires { IsWaiting self.old.session }
+        ensures last { self.new.last ≡ self.old.last }
+        ensures reads { Reads result self.old self.new }
+    {
+        match self.session.feed_from(&mut self.tap, self.longest) {
+            Ok(Ok(Got::Bytes(count))) => {
+                if count == 0 {
+                    return Visit::Later;
+                }
+                self.widen(count);
+                Visit::Read
+            }
+            Ok(Ok(Got::Later)) => Visit::Later,
+            Ok(Ok(Got::End)) => {
+                self.session.close();
+                Visit::Served
+            }
+            Ok(Err(LinkFault)) => {
+                self.session.close();
+                Visit::Broken
+            }
+            Err(_) => {
+                self.session.close();
+                Visit::Refused
+            }
+        }
+    }
+
+    /// Has more bytes read at once if a read gave as many as it might.
+    fn widen(&mut self, given: usize)
+        ensures { self.new ≡ self.old }
+    {
+        if given == self.longest {
+            self.longest = LONGEST_PIECE;
+        }
+    }
+}
+
+impl Visit {
+    /// Returns whether it is a guest's last answer.
+    fn ends(self) -> bool
+        ensures { result ≡ ends self }
+    {
+        match self {
+            Visit::Wrote | Visit::Turned | Visit::Read | Visit::Later => false,
+            Visit::Served | Visit::Broken | Visit::Refused => true,
+        }
+    }
+}

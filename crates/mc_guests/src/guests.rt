@@ -1,0 +1,332 @@
+//! The guests of one worker.
+ghost use Rattle.std.specs.Prelude.{◌≡◌, ◌↔◌, ◌<◌, ◌≤◌, length, IsTrue, IsFalse};
+ghost use Rattle.mc_guests.specs.Asks.{MakesRound};
+ghost use Rattle.mc_guests.specs.Guests.{welcomed, has_ended};
+ghost use Rattle.mc_guests.specs.Books.{no_books, quiet, woken, put_behind, let_in, counted};
+ghost use Rattle.mc_guests.specs.Budgets.{may_try};
+ghost use Rattle.mc_guests.specs.Books.{SleepsAt, StaysOrSleeps, IsFateOf, is_over};
+ghost use Rattle.mc_guests.specs.Books.{Wakes, MayWake, LetsGo, Settles, SettlesFrom};
+ghost use Rattle.mc_guests.specs.Turns.{VisitsAll, VisitsAwake};
+
+use crate::budget::Budget;
+use crate::guest::{Guest, Visit};
+use crate::link::Link;
+use crate::row::Row;
+use crate::weighed::Waits;
+use mc_command::Steps;
+use mc_time::Moment;
+use std::alloc::Global;
+use std::collections::VecDeque;
+use std::marker::Model;
+
+/// How many sessions ended, and how. A count that is full stays there.
+#[derive(Clone, Copy, Debug, Drop, PartialEq, Eq)]
+pub struct WorkEnd {
+    /// At the end of their stream, or closed, with all output written.
+    pub served: u64,
+    /// By a fault of their link.
+    pub broken: u64,
+    /// By want of memory.
+    pub refused: u64,
+}
+
+/// Those that are awake, and behind them those whose last answer was `Later`: they sleep until their
+/// links are named. Contracts see them all, the numbers of their links, and how many are awake.
+#[derive(Drop)]
+pub struct Guests<L: Link + Drop> {
+    row: Row<L>,
+    awake: usize,
+    budget: Budget,
+    /// The numbers of the links whose guests are kept waiting, the oldest first.
+    queue: VecDeque<u64>,
+    /// Whether it is the turn of the one that came last.
+    is_last: bool,
+}
+
+impl<L: Link + Drop> Model for Guests<L> {
+    ghost use Rattle.std.specs.Prelude.{◌≤◌, length};
+    ghost use Rattle.mc_guests.specs.Books.{BooksState};
+    ghost use Rattle.mc_guests.specs.Budgets.{may_try};
+
+    ghost Value = { BooksState };
+
+    ghost view = { λ g. record { row = g.row; awake = g.awake; may_try = may_try g.budget } };
+
+    ghost invariant = { λ g. g.awake ≤ length g.row.guests };
+}
+
+/// How a guest that is awake goes on.
+#[derive(Clone, Copy, Debug, PartialEq, Eq)]
+enum Fate {
+    GoesOn,
+    /// It is kept waiting from now on.
+    Waits,
+    Sleeps,
+    Ended,
+}
+
+impl<L: Link + Drop> Guests<L> {
+    /// Makes books of no guests, who are to keep within this budget. It takes no memory.
+    pub fn new(alloc: Global, budget: Budget) -> Guests<L>
+        ensures { result ≡ no_books (may_try budget) }
+    {
+        Guests {
+            row: Row::new(alloc),
+            awake: 0,
+            budget,
+            queue: VecDeque::new(alloc),
+            is_last: false,
+        }
+    }
+
+    /// Returns whether there are none.
+    pub fn is_empty(&self) -> bool
+        ensures { IsTrue result ↔ (length self.now.row.guests ≡ 0) }
+    {
+        self.row.len() == 0
+    }
+
+    /// Returns whether none is awake, and none that is kept waiting may be tried again.
+    pub fn is_quiet(&self) -> bool
+        ensures { result ≡ quiet self.now }
+    {
+        self.awake == 0 && !self.budget.may_try()
+    }
+
+    /// Makes a guest of the link with this number, which is awake, and returns whether there was
+    /// memory for it. Without, or if a guest's link has that number already, the link is dropped, and
+    /// all stay as they were.
+    pub fn welcome(&mut self, alloc: Global, link: L, greatest: u64, number: u64) -> bool
+        ensures came { IsTrue result →
+            self.new ≡ let_in (welcomed greatest (L.shown link)) number self.old }
+        ensures refused { IsFalse result → self.new ≡ self.old }
+    {
+        let Ok(guest) = Guest::new(alloc, link, greatest) else {
+            return false;
+        };
+        let place = self.row.len();
+        if self.row.push(guest, number) {
+            self.wake_at(place);
+            return true;
+        }
+        false
+    }
+
+    /// Visits each that is awake once, and with them one that is kept waiting, if memory came back.
+    /// Who sleeps stays as it is.
+    pub fn visit_all<S: Steps>(&mut self, alloc: Global, store: &mut S, now: Moment)
+        ensures round { MakesRound S.Steps now store.old store.new }
+        ensures visits { VisitsAll S.Steps now self.old self.new store.old store.new }
+    {
+        self.let_on();
+        self.visit_awake(alloc, store, now);
+    }
+
+    /// Visits each that is awake once.
+    fn visit_awake<S: Steps>(&mut self, alloc: Global, store: &mut S, now: Moment)
+        ensures round { MakesRound S.Steps now store.old store.new }
+        ensures visits { VisitsAwake S.Steps now self.old self.new store.old store.new }
+    {
+        let Guests { row, budget, .. } = self;
+        row.visit_front(alloc, self.awake, store, now, budget);
+    }
+
+    /// Wakes one of those that are kept waiting, if memory came back: the oldest and the newest of
+    /// them in turn. So those whose blocks don't come keep nobody out, however many they are, and
+    /// nobody waits for ever.
+    fn let_on(&mut self)
+        ensures { MayWake self.old self.new }
+    {
+        if !self.budget.may_try() {
+            return;
+        }
+        self.pass_turn();
+        let Some(number) = self.whose_turn() else {
+            return;
+        };
+        match self.row.place_of(number) {
+            Some(place) if self.waits_at(place) => {
+                self.row.set_waits(place, Waits::Next);
+                self.wake_at(place);
+            }
+            _ => self.strike_out(),
+        }
+    }
+
+    /// Passes the turn from the oldest to the newest, and back, if the one whose turn it was went
+    /// on.
+    fn pass_turn(&mut self)
+        ensures { self.new ≡ self.old }
+    {
+        if self.budget.is_passed {
+            self.budget.is_passed = false;
+            self.is_last = !self.is_last;
+        }
+    }
+
+    /// Names the link of the one of those in the queue whose turn it is.
+    fn whose_turn(&self) -> Option<u64> {
+        if self.is_last {
+            self.queue.back().copied()
+        } else {
+            self.queue.front().copied()
+        }
+    }
+
+    /// Takes the one out of the queue whose turn it would be, which isn't kept waiting any more.
+    fn strike_out(&mut self)
+        ensures { self.new ≡ self.old }
+    {
+        if self.is_last {
+            self.queue.pop_back();
+        } else {
+            self.queue.pop_front();
+        }
+    }
+
+    /// Returns whether the guest at a place is kept waiting, if there is one.
+    fn waits_at(&self, at: usize) -> bool {
+        at < self.row.len() && self.row.waits(at) != Waits::No
+    }
+
+    /// Counts those that are kept waiting.
+    pub fn waiting(&self) -> usize {
+        self.budget.waiting
+    }
+
+    /// Names the link whose guest is to make room for others: it holds much and was quiet for 5 seconds, and its
+    /// bytes times these seconds are most. It isn't named again for as long. All guests are looked at, and stay
+    /// as they are.
+    pub fn hoarder(&mut self, now: Moment) -> Option<u64>
+        ensures { self.new ≡ self.old }
+    {
+        self.row.hoarder(now)
+    }
+
+    /// Lets go of those that have ended, which are counted, and lets those sleep that answered
+    /// `Later`. The last comes first: if all behind a guest fall asleep too, none is moved.
+    pub fn settle(&mut self, end: &mut WorkEnd)
+        ensures { SettlesFrom 0 self.old self.new end.old end.new }
+    {
+        for at in (0..self.awake).rev() {
+            self.settle_at(at, end);
+        }
+    }
+
+    /// Settles one that is awake.
+    fn settle_at(&mut self, at: usize, end: &mut WorkEnd)
+        requires { at < self.old.awake }
+        ensures { Settles at self.old self.new end.old end.new }
+    {
+        match self.fate_at(at, end) {
+            Fate::GoesOn => {}
+            Fate::Waits => self.line_up(at),
+            Fate::Sleeps => self.put_behind(at),
+            Fate::Ended => self.let_go(at),
+        }
+    }
+
+    /// Says how one that is awake goes on. An ending is counted.
+    fn fate_at(&self, at: usize, end: &mut WorkEnd) -> Fate
+        requires { at < self.now.awake }
+        ensures { IsFateOf at self.now.row result end.old end.new }
+    {
+        match fate_of(self.row.last(at), end) {
+            Fate::Ended => Fate::Ended,
+            fate => fate_in_line(self.row.waits(at), fate),
+        }
+    }
+
+    /// Lets one sleep that is kept waiting, behind the others. Without memory it stays awake.
+    fn line_up(&mut self, at: usize)
+        requires { at < self.old.awake }
+        ensures { StaysOrSleeps at self.old self.new }
+    {
+        let number = self.row.number_of(at);
+        if self.queue.push_back(number).is_ok() {
+            self.row.set_waits(at, Waits::Queued);
+            self.put_behind(at);
+        }
+    }
+
+    /// Wakes the guest whose link has this number, if it sleeps. That costs the same however many sleep.
+    pub fn wake(&mut self, number: u64)
+        ensures { Wakes number self.old self.new }
+    {
+        let Some(place) = self.row.place_of(number) else {
+            return;
+        };
+        self.wake_at(place);
+    }
+
+    /// Wakes the guest at a place, if one sleeps there.
+    fn wake_at(&mut self, at: usize)
+        ensures asleep { SleepsAt at self.old → self.new ≡ woken at self.old }
+        ensures awake { at < self.old.awake → self.new ≡ self.old }
+    {
+        if self.awake <= at && at < self.row.len() {
+            let first = self.awake;
+            self.row.swap(at, first);
+            self.awake = first + 1;
+        }
+    }
+
+    /// Moves a guest behind those that are awake.
+    fn put_behind(&mut self, at: usize)
+        requires { at < self.old.awake }
+        ensures { self.new ≡ put_behind at self.old }
+    {
+        let last = self.awake - 1;
+        self.row.swap(at, last);
+        self.awake = last;
+    }
+
+    /// Lets go of a guest.
+    fn let_go(&mut self, at: usize)
+        requires { at < self.old.awake }
+        ensures { LetsGo at self.old self.new }
+    {
+        let last = self.awake - 1;
+        self.row.swap(at, last);
+        let end = self.row.len() - 1;
+        self.row.swap(last, end);
+        self.awake = last;
+        self.row.pop(&mut self.budget);
+    }
+}
+
+/// Says how a guest goes on by its last answer. An ending is counted.
+fn fate_of(last: Option<Visit>, end: &mut WorkEnd) -> Fate
+    ensures over { is_over result ≡ has_ended last }
+    ensures counts { end.new ≡ counted last end.old }
+{
+    match last {
+        None | Some(Visit::Wrote | Visit::Turned | Visit::Read) => Fate::GoesOn,
+        Some(Visit::Later) => Fate::Sleeps,
+        Some(Visit::Served) => {
+            end.served = end.served.saturating_add(1);
+            Fate::Ended
+        }
+        Some(Visit::Broken) => {
+            end.broken = end.broken.saturating_add(1);
+            Fate::Ended
+        }
+        Some(Visit::Refused) => {
+            end.refused = end.refused.saturating_add(1);
+            Fate::Ended
+        }
+    }
+}
+
+/// Says how a guest goes on that hasn't ended: it lines up if it is kept waiting from now on, and
+/// sleeps if it stands in the queue.
+fn fate_in_line(waits: Waits, fate: Fate) -> Fate
+    requires { IsFalse (is_over fate) }
+    ensures { IsFalse (is_over result) }
+{
+    match waits {
+        Waits::No => fate,
+        Waits::New => Fate::Waits,
+        Waits::Queued | Waits::Next => Fate::Sleeps,
+    }
+}

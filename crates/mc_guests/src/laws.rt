@@ -1,0 +1,80 @@
+//! Laws of visits, each the contract of a function that does nothing.
+
+ghost use Rattle.std.specs.Prelude.{◌≡◌, ℕ, List, [], ◌++◌, Some, slice_get};
+ghost use Rattle.mc_guests.specs.Links.{LinkState, grown};
+ghost use Rattle.mc_guests.specs.Guests.{GuestState, welcomed, told};
+ghost use Rattle.mc_guests.specs.Visits.{Visited, GoesRound};
+ghost use Rattle.mc_guests.specs.Telling.{TakenTurn, Visits, texts, turns_of};
+ghost use Rattle.mc_guests.specs.Telling.{bytes_given, bytes_taken, AnswerFirst, AnswerAll};
+ghost use Rattle.mc_parse.specs.Units.{ProtocolUnit};
+ghost use Rattle.mc_parse.specs.Streams.{AreUnits};
+
+use crate::guest::Visit;
+use mc_command::Steps;
+use mc_parse::no_spelling_begins_another;
+
+/// States that links take the texts of turns, in their order, and nothing else. What a link took
+/// and the output that waits for it, one behind the other, grow with each visit by the text of the
+/// turn that it took, and by nothing if it took none; so with visits one after another they grow by
+/// the texts of their turns. The text of a turn is the one that answers it, by the reply of its
+/// step if it takes one.
+///
+/// So what a link took since its guest was made is a front of the texts of all turns, and all of
+/// them once a visit has answered Served. Of a link whose bytes nobody can know nothing is said.
+pub fn links_take_texts_of_turns<S: Steps>()
+    ensures visit { (now : ℕ) (answer : Visit) (old new : GuestState) (before after : S)
+        (visited : Visited S.Steps now answer old new before after) →
+        told new ≡ grown (told old)
+        (texts S.Steps (turns_of S.Steps now answer old new before after visited)) }
+    ensures visits { (turns : List (TakenTurn S.Steps)) (old new : GuestState) →
+        Visits S.Steps turns old new → told new ≡ grown (told old) (texts S.Steps turns) }
+    ensures front { (turns : List (TakenTurn S.Steps)) (greatest : ℕ) (link : LinkState)
+        (new : GuestState) (taken : List ℕ) → link.taken ≡ Some [] →
+        Visits S.Steps turns (welcomed greatest link) new → new.link.taken ≡ Some taken →
+        texts S.Steps turns ≡ taken ++ new.session.out }
+    ensures all { (turns : List (TakenTurn S.Steps)) (greatest : ℕ) (link : LinkState)
+        (new : GuestState) → link.taken ≡ Some [] →
+        Visits S.Steps turns (welcomed greatest link) new → new.last ≡ Some Visit.Served →
+        new.link.taken ≡ Some (texts S.Steps turns) }
+{}
+
+/// States that a link is answered what it gave. The turns that the visits of a guest took are the
+/// first turns of the units of the bytes that its link gave, in their order; and what the link took,
+/// and behind it the output that waits, are the texts of these turns. Once a visit has answered
+/// Served they are all the turns of that stream, and the link took all their texts.
+///
+/// The bytes are those that the visits brought to the session and those that left its output, so that
+/// this is said of every link, also of one whose bytes nobody can know. Of any other they are the bytes
+/// that it shows.
+pub fn links_are_answered_what_they_gave<S: Steps>()
+    ensures first { (turns : List (TakenTurn S.Steps)) (greatest : ℕ) (link : LinkState)
+        (new : GuestState) (units : List ProtocolUnit) →
+        (visits : Visits S.Steps turns (welcomed greatest link) new) →
+        AreUnits greatest 0 (bytes_given S.Steps visits) units →
+        AnswerFirst S.Steps units turns (bytes_taken S.Steps visits ++ new.session.out) }
+    ensures all { (turns : List (TakenTurn S.Steps)) (greatest : ℕ) (link : LinkState)
+        (new : GuestState) (units : List ProtocolUnit) →
+        (visits : Visits S.Steps turns (welcomed greatest link) new) →
+        AreUnits greatest 0 (bytes_given S.Steps visits) units → new.last ≡ Some Visit.Served →
+        AnswerAll S.Steps units turns (bytes_taken S.Steps visits) }
+    ensures given { (turns : List (TakenTurn S.Steps)) (old new : GuestState) →
+        (visits : Visits S.Steps turns old new) →
+        new.link.given ≡ grown old.link.given (bytes_given S.Steps visits) }
+    ensures taken { (turns : List (TakenTurn S.Steps)) (old new : GuestState) →
+        (visits : Visits S.Steps turns old new) →
+        new.link.taken ≡ grown old.link.taken (bytes_taken S.Steps visits) }
+{
+    no_spelling_begins_another();
+}
+
+/// States that a round is a visit of each of its guests, and that visits go on from one round to the
+/// next: their turns stand one behind the other.
+pub fn rounds_are_visits<S: Steps>()
+    ensures round { (now at : ℕ) (olds news : List GuestState) (before after : S)
+        (old new : GuestState) → GoesRound S.Steps now olds news before after →
+        slice_get olds at ≡ Some old → slice_get news at ≡ Some new →
+        (turns : List (TakenTurn S.Steps)) × Visits S.Steps turns old new }
+    ensures rounds { (turns later : List (TakenTurn S.Steps)) (first mid last : GuestState) →
+        Visits S.Steps turns first mid → Visits S.Steps later mid last →
+        Visits S.Steps (turns ++ later) first last }
+{}

@@ -1,0 +1,59 @@
+//! How long a block is, before it is told.
+ghost use Rattle.std.specs.Prelude.{◌≤◌, length};
+ghost use Rattle.mc_command.specs.Commands.{longest_key};
+ghost use Rattle.mc_guests.specs.Asks.{MayAsk};
+
+use mc_command::{Answer, Bytes, KeyStep, Reply, Steps, Unanswered};
+use mc_time::Moment;
+use std::alloc::{AllocError, Global};
+use std::cell::Cell;
+
+/// Notes how long a block is that is to be told, and doesn't take it.
+#[derive(Drop)]
+struct Measure<'a> {
+    length: &'a Cell<usize>,
+}
+
+impl<'a> Answer for Measure<'a> {
+    ghost told = { λ _ _ _. Unit {0} };
+
+    fn hit(&mut self, _flags: u32, _unique: u64, parts: &[Bytes<'_>]) -> Result<(), AllocError> {
+        self.length.set(length_of(parts));
+        Err(AllocError)
+    }
+
+    fn reply(&mut self, reply: &Reply) -> Result<(), AllocError> {
+        if let Reply::Hit { block, .. } = reply {
+            self.length.set(block.bytes().len());
+        }
+        Ok(())
+    }
+}
+
+/// Counts the bytes of parts together.
+fn length_of(parts: &[Bytes<'_>]) -> usize {
+    let mut counted = 0usize;
+    for part in parts {
+        counted = counted.saturating_add(part.as_slice().len());
+    }
+    counted
+}
+
+/// Asks how long the block is that a get of this key would tell at this moment. A hit that could be told where
+/// it lies isn't taken for that.
+pub fn block_length<S: Steps>(alloc: Global, store: &mut S, key: &[u8], now: Moment) -> usize
+    requires { length key.now ≤ longest_key }
+    ensures { MayAsk S.Steps now store.old store.new }
+{
+    let noted = Cell::new(0usize);
+    let step = KeyStep::Read {
+        key: Bytes::of(key),
+    };
+    let mut measure = Measure { length: &noted };
+    match store.step_telling(alloc, &step, now, &mut measure) {
+        Ok(()) => noted.get(),
+        Err(Unanswered::Untold) => noted.get(),
+        Err(Unanswered::NumbersSpent) => 0,
+        Err(Unanswered::NoMemory) => noted.get(),
+    }
+}

@@ -1,0 +1,44 @@
+//! Rounds over guests.
+ghost use Rattle.mc_guests.specs.Asks.{MakesRound};
+ghost use Rattle.mc_guests.specs.Turns.{HaveTurns};
+ghost use Rattle.mc_guests.specs.Visits.{GoesRound};
+
+use crate::budget::Budget;
+use crate::guest::Guest;
+use crate::link::Link;
+use crate::weighed::Weighed;
+use mc_command::Steps;
+use mc_time::Moment;
+use std::alloc::Global;
+
+/// Visits each guest once, first to last, with the store as the one before left it. Those that have
+/// ended stay as they are. What a visit answered is the guest's `last`.
+pub fn round<L: Link + Drop, S: Steps>(
+    alloc: Global,
+    guests: &mut [Guest<L>],
+    store: &mut S,
+    now: Moment,
+)
+    ensures { GoesRound S.Steps now guests.old guests.new store.old store.new }
+{
+    for guest in guests.iter_mut() {
+        guest.visit(alloc, store, now);
+    }
+}
+
+/// Visits each guest once, first to last, but for those that are kept waiting as they want much and the budget
+/// has no room.
+pub(crate) fn round_within<L: Link + Drop, S: Steps>(
+    alloc: Global,
+    guests: &mut [Weighed<L>],
+    store: &mut S,
+    now: Moment,
+    budget: &mut Budget,
+)
+    ensures round { MakesRound S.Steps now store.old store.new }
+    ensures turns { HaveTurns S.Steps now guests.old guests.new store.old store.new }
+{
+    for guest in guests.iter_mut() {
+        guest.visit(alloc, store, now, budget);
+    }
+}

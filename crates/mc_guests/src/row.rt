@@ -1,0 +1,208 @@
+//! Guests in a row, each of which is found by the number of its link.
+ghost use Rattle.std.specs.Prelude.{◌≡◌, ◌<◌, ◌≤◌, ◌-◌, ◌++◌, ◌∷◌, ℕ, [], take, drop, length, Some, IfSome, IsTrue, IsFalse, false};
+ghost use Rattle.mc_guests.specs.Asks.{MakesRound};
+ghost use Rattle.mc_guests.specs.Turns.{HaveTurns};
+ghost use Rattle.mc_guests.specs.Books.{nobody, swapped, cut, joined, HasNumber, IsLastAt};
+
+use crate::budget::Budget;
+use crate::guest::{Guest, Visit};
+use crate::link::Link;
+use crate::numbers::Numbers;
+use crate::rounds::round_within;
+use crate::weighed::{Waits, Weighed};
+use mc_command::Steps;
+use mc_time::Moment;
+use std::alloc::Global;
+use std::marker::Model;
+
+/// Guests in a row. Contracts see them, and beside each the number of its link.
+#[derive(Drop)]
+pub struct Row<L: Link + Drop> {
+    guests: Vec<Weighed<L>>,
+    /// The number of each one's link.
+    numbers: Numbers,
+}
+
+impl<L: Link + Drop> Model for Row<L> {
+    ghost use Rattle.std.specs.Prelude.{◌≡◌, length};
+    ghost use Rattle.mc_guests.specs.Books.{RowState};
+
+    ghost Value = { RowState };
+
+    ghost view = { λ r. record { guests = r.guests.items; numbers = r.numbers } };
+
+    ghost invariant = { λ r. length r.numbers ≡ length r.guests.items };
+}
+
+impl<L: Link + Drop> Row<L> {
+    /// Has no guests. It takes no memory.
+    pub fn new(alloc: Global) -> Row<L>
+        ensures { result ≡ nobody }
+    {
+        Row {
+            guests: Vec::new(alloc),
+            numbers: Numbers::new(alloc),
+        }
+    }
+
+    /// Counts the guests.
+    pub fn len(&self) -> usize
+        ensures { result ≡ length self.now.guests }
+    {
+        self.guests.len()
+    }
+
+    /// Puts a guest behind the others, whose link has this number, and returns whether there was
+    /// memory for it. Without, or if a guest's link has that number already, the guest is dropped.
+    pub fn push(&mut self, guest: Guest<L>, number: u64) -> bool
+        ensures pushed { IsTrue result → self.new ≡ joined guest number self.old }
+        ensures refused { IsFalse result → self.new ≡ self.old }
+    {
+        if !self.numbers.push(number) {
+            return turned_away(guest);
+        }
+        if push_behind(&mut self.guests, guest) {
+            return true;
+        }
+        self.numbers.pop();
+        false
+    }
+
+    /// Drops the last guest, which is counted no more.
+    pub fn pop(&mut self, budget: &mut Budget)
+        requires { 0 < length self.old.guests }
+        ensures { self.new ≡ cut (length self.old.guests - 1) self.old }
+    {
+        let Some(mut guest) = self.guests.pop() else {
+            return;
+        };
+        guest.leave(budget);
+        self.numbers.pop();
+    }
+
+    /// Says what a guest's last visit answered.
+    pub fn last(&self, at: usize) -> Option<Visit>
+        requires { at < length self.now.guests }
+        ensures { IsLastAt at self.now result }
+    {
+        self.guests[at].last()
+    }
+
+    /// Returns whether a guest is kept waiting until there is room, and how it waits.
+    pub fn waits(&self, at: usize) -> Waits
+        requires { at < length self.now.guests }
+    {
+        self.guests[at].waits()
+    }
+
+    /// Notes that a guest stands in the queue of those that are kept waiting, or that it is its turn there.
+    pub fn set_waits(&mut self, at: usize, waits: Waits)
+        ensures { self.new ≡ self.old }
+    {
+        if let Some(guest) = self.guests.get_mut(at) {
+            guest.set_waits(waits);
+        }
+    }
+
+    /// Says which number the link of a guest has.
+    pub fn number_of(&self, at: usize) -> u64
+        requires { at < length self.now.guests }
+        ensures { HasNumber self.now at result }
+    {
+        self.numbers.at(at)
+    }
+
+    /// Names the link of the guest of which bytes times quiet seconds are most, of those that hoard at all, and
+    /// notes that it was heard of now.
+    pub fn hoarder(&mut self, now: Moment) -> Option<u64>
+        ensures { self.new ≡ self.old }
+    {
+        let number = self.most_hoarding(now)?;
+        self.note_heard(number, now);
+        Some(number)
+    }
+
+    /// Names the link of the guest of which bytes times quiet seconds are most, of those that hoard at all.
+    fn most_hoarding(&self, now: Moment) -> Option<u64> {
+        let mut most = 0u64;
+        let mut found = None;
+        for at in 0..self.guests.len() {
+            let hoards = self.guests[at].hoards(now);
+            if hoards > most {
+                most = hoards;
+                found = Some(self.numbers.at(at));
+            }
+        }
+        found
+    }
+
+    /// Notes of the guest whose link has this number that it was heard of now.
+    fn note_heard(&mut self, number: u64, now: Moment)
+        ensures { self.new ≡ self.old }
+    {
+        let Some(at) = self.numbers.place_of(number) else {
+            return;
+        };
+        if let Some(guest) = self.guests.get_mut(at) {
+            guest.set_heard(now);
+        }
+    }
+
+    /// Says where the guest stands whose link has this number.
+    pub fn place_of(&self, number: u64) -> Option<usize>
+        ensures some { IfSome result (λ at. HasNumber self.now at number) }
+        ensures within { IfSome result (λ at. at < length self.now.guests) }
+        ensures none { (at : ℕ) → HasNumber self.now at number → result ≡ Some at }
+    {
+        self.numbers.place_of(number)
+    }
+
+    /// Visits each of the first `count` once, within the budget.
+    pub fn visit_front<S: Steps>(
+        &mut self,
+        alloc: Global,
+        count: usize,
+        store: &mut S,
+        now: Moment,
+        budget: &mut Budget,
+    )
+        requires { count ≤ length self.old.guests }
+        ensures round { MakesRound S.Steps now store.old store.new }
+        ensures turns { HaveTurns S.Steps now (take count self.old.guests)
+            (take count self.new.guests) store.old store.new }
+        ensures rest { drop count self.new.guests ≡ drop count self.old.guests }
+        ensures all { length self.new.guests ≡ length self.old.guests }
+        ensures numbers { self.new.numbers ≡ self.old.numbers }
+    {
+        let (front, _) = self.guests.as_mut_slice().split_at_mut(count);
+        round_within(alloc, front, store, now, budget);
+    }
+
+    /// Swaps two guests. It does nothing if they are one.
+    pub fn swap(&mut self, one: usize, other: usize)
+        requires one { one < length self.old.guests }
+        requires other { other < length self.old.guests }
+        ensures { self.new ≡ swapped one other self.old }
+    {
+        if one == other {
+            return;
+        }
+        self.guests.as_mut_slice().swap(one, other);
+        self.numbers.swap(one, other);
+    }
+}
+
+/// Puts a guest that holds nothing behind others, and returns whether there was memory for it.
+fn push_behind<L: Link + Drop>(guests: &mut Vec<Weighed<L>>, guest: Guest<L>) -> bool
+    ensures pushed { IsTrue result → guests.new.items ≡ guests.old.items ++ guest ∷ [] }
+    ensures refused { IsFalse result → guests.new.items ≡ guests.old.items }
+{
+    guests.push(Weighed::new(guest)).is_ok()
+}
+
+/// Lets go of a guest who doesn't come to stand in the row, and returns false.
+fn turned_away<L: Link + Drop>(_guest: Guest<L>) -> bool
+    ensures { result ≡ false }
+{
+    false
+}

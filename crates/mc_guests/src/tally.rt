@@ -1,0 +1,60 @@
+//! What hears of the steps that are taken.
+
+ghost use Rattle.std.specs.Prelude.{◌≡◌};
+ghost use Rattle.mc_guests.specs.Outcomes.{outcome_of};
+
+use mc_command::{KeyStep, Reply};
+
+/// How a step came out: which reply it was answered, without what the reply carries.
+#[derive(Clone, Copy, Debug, PartialEq, Eq)]
+pub enum Outcome {
+    Stored,
+    NotStored,
+    Exists,
+    NotFound,
+    Miss,
+    Hit,
+    Touched,
+    Deleted,
+    Number,
+    NotNumeric,
+    TooLarge,
+    NoChunk,
+    Flushed,
+}
+
+impl Outcome {
+    /// Tells how a step came out that was answered so.
+    pub fn of(reply: &Reply) -> Outcome
+        ensures { result ≡ outcome_of reply.now }
+    {
+        match reply {
+            Reply::Stored => Outcome::Stored,
+            Reply::NotStored => Outcome::NotStored,
+            Reply::Exists => Outcome::Exists,
+            Reply::NotFound => Outcome::NotFound,
+            Reply::Miss => Outcome::Miss,
+            Reply::Hit { .. } => Outcome::Hit,
+            Reply::Touched => Outcome::Touched,
+            Reply::Deleted => Outcome::Deleted,
+            Reply::Number(_) => Outcome::Number,
+            Reply::NotNumeric => Outcome::NotNumeric,
+            Reply::TooLarge => Outcome::TooLarge,
+            Reply::NoChunk => Outcome::NoChunk,
+            Reply::Flushed => Outcome::Flushed,
+        }
+    }
+}
+
+/// What hears of the steps that are taken.
+pub trait Tally {
+    /// Hears of a step that was taken, and of how it came out.
+    fn took(&self, step: &KeyStep<'_>, outcome: Outcome);
+}
+
+/// A tally that does nothing.
+pub struct NoTally;
+
+impl Tally for NoTally {
+    fn took(&self, _step: &KeyStep<'_>, _outcome: Outcome) {}
+}

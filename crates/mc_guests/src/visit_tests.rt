@@ -1,0 +1,302 @@
+//! Visits of one guest: each answer, and what it did.
+
+ghost use Rattle.std.specs.Prelude.{◌≤◌, length};
+
+use crate::calls::{Call, Calls};
+use crate::guest::{Guest, Visit};
+use crate::link::{Got, Link, LinkFault, Took};
+use mc_command::{KeyStep, PlainStore, Reply, StepFault, Steps};
+use mc_time::Moment;
+use std::alloc::{AllocError, Global};
+use std::cell::Cell;
+use std::sync::atomic::{AtomicU64, Ordering};
+use std::test::*;
+
+/// A store that counts what it is asked for, and may be refused memory for each step.
+#[derive(Drop)]
+struct Counting {
+    store: PlainStore,
+    is_refused: bool,
+    asked: u64,
+}
+
+impl Steps for Counting {
+    ghost use Rattle.std.specs.Prelude.{◌≡◌, refl};
+
+    ghost took = { λ old step now reply new. old ≡ old };
+
+    ghost spent = { λ old step now. old ≡ old };
+
+    ghost same = { λ old new. old ≡ old };
+
+    ghost holds_itself = { λ _. refl };
+
+    fn step(&mut self, alloc: Global, step: &KeyStep<'_>, now: Moment) -> Result<Reply, StepFault> {
+        self.asked = self.asked.saturating_add(1);
+        if self.is_refused {
+            return Err(StepFault::NoMemory);
+        }
+        self.store.step(alloc, step, now)
+    }
+}
+
+/// A link that gives its input and takes output one byte at a time, with an empty call after each, and may fail
+/// at one of its calls. Nobody knows which bytes, but of those that it took is seen how many were as expected at
+/// their places, and how many weren't.
+#[derive(Drop)]
+struct Slow<'a> {
+    input: &'a [u8],
+    /// The output that is expected.
+    expected: &'a [u8],
+    /// How many bytes were right and how many wrong.
+    seen: &'a Cell<(usize, usize)>,
+    calls: Calls,
+    is_ended: bool,
+    was_read: bool,
+}
+
+impl<'a> Slow<'a> {
+    /// Counts a byte that it took, by whether that is the one expected at its place.
+    fn count(&self, byte: u8) {
+        let (right, wrong) = self.seen.get();
+        let at = right.saturating_add(wrong);
+        let counted = if self.expected.get(at) == Some(&byte) {
+            (right.saturating_add(1), wrong)
+        } else {
+            (right, wrong.saturating_add(1))
+        };
+        self.seen.set(counted);
+    }
+}
+
+impl<'a> Link for Slow<'a> {
+    ghost use Rattle.std.specs.Prelude.{None};
+
+    ghost shown = { λ s. record { given = None; taken = None; faults = s.calls; is_ended = s.is_ended; was_read = s.was_read } };
+
+    fn try_read(&mut self, piece: &mut [u8]) -> Result<Got, LinkFault> {
+        self.was_read = true;
+        match self.calls.next() {
+            Call::Fails => Err(LinkFault),
+            Call::GivesNone => Ok(Got::Later),
+            Call::IsEmpty => Ok(Got::Bytes(0)),
+            Call::GoesOn => {
+                if self.input.is_empty() {
+                    self.is_ended = true;
+                    return Ok(Got::End);
+                }
+                let (count, rest) = give_one(self.input, piece);
+                self.input = rest;
+                Ok(Got::Bytes(count))
+            }
+        }
+    }
+
+    fn try_write(&mut self, bytes: &[u8]) -> Result<Took, LinkFault> {
+        self.was_read = false;
+        match self.calls.next() {
+            Call::Fails => Err(LinkFault),
+            Call::GivesNone => Ok(Took::Later),
+            Call::IsEmpty => Ok(Took::Bytes(0)),
+            Call::GoesOn => {
+                if bytes.is_empty() {
+                    return Ok(Took::Later);
+                }
+                self.count(bytes[0]);
+                Ok(Took::Bytes(1))
+            }
+        }
+    }
+
+    fn faults(&self) -> u64 {
+        self.calls.faults()
+    }
+}
+
+/// Gives the first byte of an input if there is one, and room for it: says how many it gave, and what is left.
+fn give_one<'a>(input: &'a [u8], piece: &mut [u8]) -> (usize, &'a [u8])
+    ensures { result.0 ≤ length piece.new }
+{
+    let count = piece.len().min(input.len()).min(1);
+    let (front, rest) = input.split_at(count);
+    let (room, _) = piece.split_at_mut(count);
+    room.copy_from_slice(front);
+    (count, rest)
+}
+
+/// A link in memory, and what visits of its guest answer: a letter each.
+#[derive(Clone, Copy, Drop)]
+struct Course {
+    input: &'static str,
+    output: &'static str,
+    /// The call of the link that fails; none does at 0.
+    fails_at: u64,
+    is_refused: bool,
+    /// How many steps the store is asked for.
+    steps: u64,
+    answers: &'static str,
+}
+
+/// The letter of an answer.
+fn letter_of(visit: Visit) -> u8 {
+    match visit {
+        Visit::Wrote => b'W',
+        Visit::Turned => b'T',
+        Visit::Read => b'R',
+        Visit::Later => b'L',
+        Visit::Served => b'S',
+        Visit::Broken => b'B',
+        Visit::Refused => b'F',
+    }
+}
+
+/// Every other call of a link is empty: it answers `Later`. A read or a write moves one byte. A guest
+/// that has ended is visited twice more.
+const COURSES: [Course; 6] = [
+    Course {
+        input: "get a\r\n",
+        output: "END\r\n",
+        fails_at: 0,
+        is_refused: false,
+        steps: 1,
+        answers: "RLRLRLRLRLRLRTLWLWLWLWLWLSSS",
+    },
+    // A get of two keys is two turns, of which the first has no text.
+    Course {
+        input: "get a b\n",
+        output: "END\r\n",
+        fails_at: 0,
+        is_refused: false,
+        steps: 2,
+        answers: "RLRLRLRLRLRLRLRTTLWLWLWLWLWLSSS",
+    },
+    // What follows a quit isn't read.
+    Course {
+        input: "quit\r\nquit\r\n",
+        output: "",
+        fails_at: 0,
+        is_refused: false,
+        steps: 0,
+        answers: "RLRLRLRLRLRTSSS",
+    },
+    Course {
+        input: "get a\r\n",
+        output: "END\r\n",
+        fails_at: 3,
+        is_refused: false,
+        steps: 0,
+        answers: "RLBBB",
+    },
+    // The first write fails; the step stands.
+    Course {
+        input: "get a\r\n",
+        output: "END\r\n",
+        fails_at: 15,
+        is_refused: false,
+        steps: 1,
+        answers: "RLRLRLRLRLRLRTLBBB",
+    },
+    Course {
+        input: "get a\r\n",
+        output: "",
+        fails_at: 0,
+        is_refused: true,
+        steps: 1,
+        answers: "RLRLRLRLRLRLRFFF",
+    },
+];
+
+/// Visits a guest once for each letter, and returns whether each answered as its letter says, was
+/// the guest's last answer then, and moved one byte of output if it wrote, and none if it didn't.
+fn goes_as(alloc: Global, store: &mut Counting, course: &Course) -> Result<bool, AllocError> {
+    let now = Moment::from_seconds_at_most(1000);
+    let seen = Cell::new((0, 0));
+    let link = Slow {
+        input: course.input.as_bytes(),
+        expected: course.output.as_bytes(),
+        seen: &seen,
+        calls: Calls::failing_at(course.fails_at),
+        is_ended: false,
+        was_read: false,
+    };
+    let mut guest = Guest::new(alloc, link, 1048576)?;
+    let mut goes_so = guest.last() == None;
+    for letter in course.answers.as_bytes() {
+        let (right, _) = seen.get();
+        let wrote = if *letter == b'W' { 1 } else { 0 };
+        let answer = guest.visit(alloc, store, now);
+        goes_so = goes_so
+            && letter_of(answer) == *letter
+            && guest.last() == Some(answer)
+            && seen.get() == (right.saturating_add(wrote), 0);
+    }
+    Ok(goes_so && store.asked == course.steps)
+}
+
+/// A new store, which is refused no memory, or all.
+fn new_store(alloc: Global, is_refused: bool) -> Result<Counting, AllocError> {
+    Ok(Counting {
+        store: PlainStore::new(alloc, 64, 1048576)?,
+        is_refused,
+        asked: 0,
+    })
+}
+
+#[test]
+fn visits_do_what_is_due(rt: HostRuntime) -> Result<(), Fail> {
+    for course in COURSES {
+        let mut store = new_store(rt.alloc(), course.is_refused)?;
+        assert!(rt; goes_as(rt.alloc(), &mut store, &course)?);
+    }
+    Ok(())
+}
+
+/// A link that fills each piece with bytes that nobody knows. How long the last piece was is seen.
+#[derive(Drop)]
+struct Flood<'a> {
+    piece: &'a AtomicU64,
+    was_read: bool,
+}
+
+impl<'a> Link for Flood<'a> {
+    ghost use Rattle.std.specs.Prelude.{None, false};
+
+    ghost shown = { λ s. record { given = None; taken = None; faults = 0; is_ended = false; was_read = s.was_read } };
+
+    fn try_read(&mut self, piece: &mut [u8]) -> Result<Got, LinkFault> {
+        self.was_read = true;
+        self.piece.store(piece.len() as u64, Ordering::SeqCst);
+        Ok(Got::Bytes(piece.len()))
+    }
+
+    fn try_write(&mut self, _bytes: &[u8]) -> Result<Took, LinkFault> {
+        self.was_read = false;
+        Ok(Took::Later)
+    }
+
+    fn faults(&self) -> u64 {
+        0
+    }
+}
+
+#[test]
+fn a_read_that_fills_its_piece_makes_the_next_longer(rt: HostRuntime) -> Result<(), Fail> {
+    let now = Moment::from_seconds_at_most(1000);
+    let mut store = new_store(rt.alloc(), false)?;
+    let length = AtomicU64::new(0);
+    let mut guest = Guest::new(
+        rt.alloc(),
+        Flood {
+            piece: &length,
+            was_read: false,
+        },
+        1048576,
+    )?;
+    let lengths: [u64; 3] = [2048, 16384, 16384];
+    for wanted in lengths {
+        let answer = guest.visit(rt.alloc(), &mut store, now);
+        assert_eq!(rt; answer, Visit::Read);
+        assert_eq!(rt; length.load(Ordering::SeqCst), wanted);
+    }
+    Ok(())
+}

@@ -1,5 +1,0 @@
-use Rattle.mc_workers.specs.Doors.{LinksCame}
-use Rattle.mc_workers.proofs.door.Door.open_for_all.Given as goal
-
-abbrev pub invariant-loop : goal.invariant-loop
-invariant-loop g l = LinksCame l.counter l.fn.self l.self l.fn.guests l.guests l.fn.end l.end

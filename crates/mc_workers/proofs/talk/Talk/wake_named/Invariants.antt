@@ -1,6 +1,0 @@
-use Rattle.std.proofs.Common.{◌≡◌}
-use Rattle.mc_workers.specs.Doors.{WakesNamed}
-use Rattle.mc_workers.proofs.talk.Talk.wake_named.Given as goal
-
-abbrev pub invariant-loop : goal.invariant-loop
-invariant-loop g l = WakesNamed l.fn.self l.fn.guests l.self l.guests × (l.self.names ≡ l.counter)
