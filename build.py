@@ -2,7 +2,7 @@
 """Proves the crates that the program stands on, side by side, and then builds the program: `build.py [CRATE]`
 
 `rt` works on one crate of a checkout at a time, with all that is below it. So the crates that the program waits for longest are proved here,
-and the others meanwhile in a copy of the sources, which is gone at the end; what was proved lies in each crate's out/ here. A crate that
+and the others meanwhile in copies of the sources, which are gone at the end; what was proved lies in each crate's out/ here. A crate that
 stands is passed over. What is done, and a guess at what is left, is printed as it goes. The status is 1 where a crate isn't proved, or
 the program not built; what `rt` printed of it is printed then.
 
@@ -20,12 +20,14 @@ import time
 ROOT = os.path.dirname(os.path.realpath(__file__))
 # Of a processor, in seconds, for the order and the guess alone. Another crate counts as the usual one.
 SECONDS = {
-    "mc_slab": 200, "mc_item": 90, "mc_hop": 70, "mc_command": 110, "mc_grow": 260, "mc_parse": 110, "mc_session": 110, "mc_guests": 250,
-    "mc_shelf": 560, "mc_world": 200, "mc_shared": 640, "mc_workers": 170, "mc_metrics": 60, "mc_options": 90, "mc_host": 60,
-    "mc_server": 540, "mc_bench": 300,
+    "mc_slab": 200, "mc_item": 90, "mc_hop": 70, "mc_command": 110, "mc_rows": 50, "mc_grow": 260, "mc_parse": 110, "mc_session": 110,
+    "mc_guests": 250, "mc_shelf": 560, "mc_world": 200, "mc_shared": 560, "mc_workers": 170, "mc_metrics": 60, "mc_options": 90,
+    "mc_host": 60, "mc_sockets": 250, "mc_server": 300, "mc_laws": 100, "mc_bench": 300,
 }
 USUAL = 30
 PARTS = ("src", "specs", "proofs")
+# How much less the copies' checks count where there are more of them than processors.
+NICE = 10
 
 
 def crates_of(root):
@@ -67,7 +69,7 @@ class Build:
         return seconds_of(crate) + max((self.chain_above(it) for it in above), default=0)
 
     def next_for(self, lane):
-        """Waits for a crate whose libraries stand, and takes it: here the one that most waits for, in the copy one of the others."""
+        """Waits for a crate whose libraries stand, and takes it: here the one that most waits for, in a copy one of the others."""
         with self.turn:
             while self.waiting and not self.failed:
                 ready = [it for it in self.waiting if all(low in self.done for low in self.uses[it])]
@@ -84,7 +86,7 @@ class Build:
     def prove(self, lane):
         """Proves one crate after another in a checkout."""
         while crate := self.next_for(lane):
-            words = ["rt", "lib", "--jobs", str(self.jobs if lane == ROOT else 1)]
+            words = ["rt", "lib", "--jobs", str(self.jobs)] if lane == ROOT else ["nice", "-n", str(NICE), "rt", "lib", "--jobs", "1"]
             began = time.monotonic()
             ran = subprocess.run(words, cwd=f"{lane}/crates/{crate}", stdin=subprocess.DEVNULL, capture_output=True, text=True, errors="replace")
             with self.turn:
@@ -97,12 +99,13 @@ class Build:
                 self.turn.notify_all()
 
     def hand_on(self, crate, lane):
-        """Puts what was proved into the other checkouts."""
+        """Puts what was proved into the other checkouts: here all that is kept, in a copy what crates above want of it."""
         for other in self.lanes:
             if other != lane:
-                place = f"{other}/crates/{crate}/out"
+                part = "out" if other == ROOT else "out/rlib"
+                place = f"{other}/crates/{crate}/{part}"
                 shutil.rmtree(place, ignore_errors=True)
-                shutil.copytree(f"{lane}/crates/{crate}/out", place, symlinks=True)
+                shutil.copytree(f"{lane}/crates/{crate}/{part}", place, symlinks=True, copy_function=linked)
 
     def tell(self, crate, seconds):
         spent = time.monotonic() - self.start
@@ -111,15 +114,24 @@ class Build:
         print(f"[{len(self.done):2} of {self.all}] {crate:12} proved in {seconds:4.0f} s; some {left / 60:.0f} minutes are left", file=sys.stderr, flush=True)
 
     def run(self):
-        """Proves all below the program, here and in a copy."""
+        """Proves all below the program, here and in a copy; from four processors on in two."""
         with contextlib.ExitStack() as held:
-            if self.jobs > 1:
+            for _copy in range(min(self.jobs // 2, 2)):
                 self.lanes.append(copied(held.enter_context(tempfile.TemporaryDirectory(prefix="mcserver-build-"))))
             threads = [threading.Thread(target=self.prove, args=(lane,)) for lane in self.lanes]
             for it in threads:
                 it.start()
             for it in threads:
                 it.join()
+
+
+def linked(one, other):
+    """Copies a file, by a link where that can be made: `rt` replaces what it proved, and changes no file of it."""
+    if one.endswith(".oantt") or "/out/rlib/" in one:
+        with contextlib.suppress(OSError):
+            os.link(one, other)
+            return
+    shutil.copy2(one, other)
 
 
 def copied(place):

@@ -1,13 +1,11 @@
 -- As what a step counts.
-use Rattle.std.specs.Prelude.{ℕ, Bool, true, false, Option, Some, None}
+use Rattle.std.specs.Prelude.{Bool, true, false, Option, Some, None}
 use Rattle.mc_command.specs.declared.step.KeyStep.{KeyStep}
 use Rattle.mc_command.specs.declared.step.KeyStep.TheVariants.{Store, Cas, Read, ReadTouch, Touch, Delete, Count, Flush as FlushStep}
 use Rattle.mc_guests.specs.declared.tally.Outcome.{Outcome}
 use Rattle.mc_guests.specs.declared.tally.Outcome.TheVariants as outcome
 use Rattle.mc_metrics.specs.declared.counts.Counted.{Counted}
 use Rattle.mc_metrics.specs.declared.counts.Counted.TheVariants.{GetHit, GetMiss, SetStored, SetNotStored, CasHit, CasMiss, CasBadval, DeleteHit, DeleteMiss, IncrHit, IncrMiss, DecrHit, DecrMiss, TouchHit, TouchMiss, Flush, Refused}
-use Rattle.mc_server.specs.declared.connection.Parting.{Parting}
-use Rattle.mc_server.specs.declared.connection.Parting.TheVariants as parting
 
 -- as what incr and decr count that find a number, and that find no item
 abbrev pub ways_of_count : (up : Bool) → Counted × Counted
@@ -46,16 +44,3 @@ counted_by ways outcome.TooLarge = None
 -- as what a step counts that came out so
 abbrev pub counted_as : KeyStep → Outcome → Option Counted
 counted_as step out = counted_by (ways_of step) out
-
--- the place of a reason for which a connection is closed, among all
-abbrev pub parting_place : Parting → ℕ
-parting_place parting.OneTooMany = 0
-parting_place parting.NoDescriptor = 1
-parting_place parting.NoRoom = 2
-parting_place parting.Ended = 3
-parting_place parting.ReadFault = 4
-parting_place parting.WriteFault = 5
-parting_place parting.SessionOver = 6
-parting_place parting.Idle = 7
-parting_place parting.ListenerFailed = 8
-parting_place parting.Hoarding = 9

@@ -1,12 +1,12 @@
 //! A caller with its store.
 ghost use Rattle.std.specs.Prelude.{◌≡◌};
 
-use crate::closing::ClosingLinks;
 use mc_guests::Tally;
 use mc_hop::Fnv;
 use mc_metrics::TablesReading;
 use mc_shared::{Caller, Shared};
 use mc_slab::{Account, Class};
+use mc_sockets::ClosingLinks;
 use mc_time::Clock;
 use mc_workers::{NoGate, Worker};
 use std::alloc::Global;

@@ -1,9 +1,9 @@
 //! Who hears of the steps of a worker.
 
-use crate::full::Refusals;
 use crate::metrics::{Counts, counted_as};
 use mc_command::KeyStep;
 use mc_guests::{Outcome, Tally};
+use mc_sockets::Refusals;
 
 /// Has the steps of a worker counted, and the log noted one that is refused as no chunk is left.
 #[derive(Clone, Copy)]

@@ -2,15 +2,9 @@
 ghost use Rattle.std.specs.Prelude.{◌≡◌};
 ghost use Rattle.mc_host.specs.Ends.{EndsListening};
 
-use crate::accepting::{accept_all, accept_beside};
-use crate::arrivals::{Arrivals, Inbox, Share};
 use crate::asker::Asker;
-use crate::closing::ClosingLinks;
-use crate::connection::Crowd;
-use crate::full::Refusals;
 use crate::heard::Heard;
-use crate::links::{EVENTS, SocketLinks, WAKER};
-use crate::logger::{Log, Notice, write_lines};
+use crate::logger::{Notice, write_lines};
 use crate::metrics::{Counts, LONGEST, Observer, Teller};
 use mc_hop::Fnv;
 use mc_host::{
@@ -20,6 +14,10 @@ use mc_host::{
 use mc_options::Options;
 use mc_session::ServeFault;
 use mc_shared::Shared;
+use mc_sockets::{
+    Arrivals, ClosingLinks, Crowd, EVENTS, Inbox, Log, Refusals, Share, SocketLinks, WAKER,
+    accept_all, accept_beside,
+};
 use mc_time::Clock;
 use mio::{Events, Poll, Waker};
 use std::alloc::{AllocError, AllocGlobal, Global};

@@ -1,23 +1,15 @@
 //! What the program says on standard error while it serves, and the thread that says it.
 
 use crate::asker::Asker;
-use crate::connection::Parting;
-use crate::full::{Asked, Full, Shortage, Stock};
-use crate::lines::{Line, Lines, Waiting};
-use mc_command::KeyStep;
+use crate::full::{Full, Stock};
 use mc_options::{Endpoints, Options};
 use mc_shelf::Settings;
 use mc_slab::need_of;
-use std::alloc::{AllocError, Global};
+use mc_sockets::{Line, Log, Waiting, Wanted};
 use std::io::{self, Stderr};
 use std::net::IpAddr;
-use std::sync::atomic::{AtomicU32, Ordering};
-use std::sync::{Arc, Wait};
-use std::thread::Parker;
+use std::sync::Wait;
 use std::time::{Clock, Duration, Instant};
-
-/// How many lines may wait while standard error takes none.
-const MOST: usize = 1024;
 
 /// For how long it says no more that the store is full, once it has, in seconds.
 const QUIET: u64 = 60;
@@ -29,56 +21,6 @@ pub struct Notice<'a> {
     pub options: &'a Options,
     /// How many descriptors it may have, if the system tells.
     pub descriptors: Option<u64>,
-}
-
-/// What the threads that serve have to say, and what calls the one that writes it. That one alone
-/// waits if standard error takes nothing.
-#[derive(Drop)]
-pub struct Log {
-    lines: Lines,
-    shortage: Shortage,
-    /// How many threads may still have something to say.
-    speakers: AtomicU32,
-    logger: Parker,
-}
-
-impl Log {
-    /// Has nothing to say yet, for one thread; nor ever of connections, unless they are told of. The one
-    /// error is a refused allocation.
-    pub fn new(alloc: Global, tells_connections: bool) -> Result<Arc<Log>, AllocError> {
-        let log = Log {
-            lines: Lines::new(alloc, if tells_connections { MOST } else { 0 })?,
-            shortage: Shortage::new(),
-            speakers: AtomicU32::new(1),
-            logger: Parker::new(),
-        };
-        Arc::new(alloc, log).map_err(|_| AllocError)
-    }
-
-    /// Counts a thread more that may have something to say.
-    pub fn enter(&self) {
-        self.speakers.fetch_add(1, Ordering::SeqCst);
-    }
-
-    /// Counts a thread less.
-    pub fn leave(&self) {
-        self.speakers.fetch_sub(1, Ordering::SeqCst);
-        self.logger.unpark();
-    }
-
-    /// Has a line written, or dropped if too many wait. It doesn't wait.
-    pub fn say(&self, line: Line) {
-        self.lines.push(line);
-        self.logger.unpark();
-    }
-
-    /// Notes a step that was refused as no chunk is left, and has that told if it is the first in a
-    /// while.
-    pub fn note_refused(&self, step: &KeyStep<'_>) {
-        if self.shortage.note(step) {
-            self.logger.unpark();
-        }
-    }
 }
 
 /// Says that it serves, and then what the log is given, until nobody has anything more to say. It
@@ -96,7 +38,7 @@ pub fn write_lines<R: Wait + Clock>(rt: &R, log: &Log, notice: Notice<'_>, asker
     say(notice);
     for _ in rt.forever() {
         // what was said before the last one left is found below
-        let is_over = log.speakers.load(Ordering::SeqCst) == 0;
+        let is_over = log.is_over();
         logger.tell_full(rt);
         if logger.write_next() {
             continue;
@@ -127,14 +69,14 @@ impl Logger<'_> {
     /// One that can't be written is dropped.
     fn write_next(&mut self) -> bool {
         let (log, turn) = (self.log, self.turn);
-        let Some(Waiting { line, dropped }) = log.lines.take(turn) else {
-            self.tell_dropped(log.lines.dropped());
+        let Some(Waiting { line, dropped }) = log.take_line(turn) else {
+            self.tell_dropped(log.take_dropped());
             return false;
         };
         self.turn = turn.wrapping_add(1);
         self.tell_dropped(dropped);
         if written(self.stderr, line).is_err() {
-            log.lines.drop_one();
+            log.drop_line();
         }
         true
     }
@@ -151,12 +93,12 @@ impl Logger<'_> {
 
     /// Says that the store is full, if a step was refused for that which is to be told of.
     fn tell_full<R: Wait + Clock>(&mut self, rt: &R) {
-        let Some(asked) = self.log.shortage.take() else {
+        let Some(wanted) = self.log.take_wanted() else {
             return;
         };
         self.told_full = Instant::now(rt).ok();
         let full = Full {
-            stock: self.stock(rt, asked),
+            stock: self.stock(rt, wanted),
             pages: self.settings.pages,
             most: pages_of(self.settings.greatest),
         };
@@ -165,10 +107,10 @@ impl Logger<'_> {
     }
 
     /// Gives what the class has that a chunk was asked of, if that is known.
-    fn stock<R: Wait>(&mut self, rt: &R, asked: Asked) -> Option<Stock> {
-        let need = match asked {
-            Asked::Size(size) => need_of(size)?,
-            Asked::Growth => return None,
+    fn stock<R: Wait>(&mut self, rt: &R, wanted: Wanted) -> Option<Stock> {
+        let need = match wanted {
+            Wanted::Size(size) => need_of(size)?,
+            Wanted::Growth => return None,
         };
         let account = self.asker.account(rt, need.class());
         Some(Stock { need, account })
@@ -177,7 +119,7 @@ impl Logger<'_> {
     /// Sleeps until it is called, or it may say again that the store is full.
     fn sleep<R: Wait + Clock>(&mut self, rt: &R) {
         let Some(told) = self.told_full else {
-            self.log.logger.park(rt);
+            self.log.sleep(rt);
             return;
         };
         let quiet = Duration::from_secs(QUIET);
@@ -187,10 +129,10 @@ impl Logger<'_> {
         };
         if left == Duration::ZERO {
             self.told_full = None;
-            self.log.shortage.reopen();
+            self.log.reopen();
             return;
         }
-        self.log.logger.park_timeout(rt, left);
+        self.log.sleep_at_most(rt, left);
     }
 }
 

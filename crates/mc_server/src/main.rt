@@ -6,19 +6,15 @@
 //! `--stdin` it serves one session over standard input and output (`serving.rt`); else it listens
 //! (`listening.rt`).
 //!
-//! A connection goes this way: accepted and counted (`accepting.rt`, `connection.rt`), dealt to a
-//! worker (`arrivals.rt`), made a link (`links.rt`, `link.rt`) over a socket that never blocks
-//! (`channel.rt`), whose events wake its guest (`place.rt`, `idle.rt`); what isn't sent when its
-//! session ends is sent later (`yard.rt`). Each listener has a thread that accepts, the first one
-//! the program's own; each worker has one (`asker.rt`); and one writes to standard error, so that
-//! none of the others waits for that (`logger.rt`, `lines.rt`); with `--metrics` one answers
-//! scrapes (`metrics/scrape.rt`). `closing.rt` is how all of it ends when it is asked to.
+//! Connections are accepted, dealt to workers and made links by `mc_sockets`. Each listener has a
+//! thread that accepts, the first one the program's own; each worker has one (`asker.rt`); and one
+//! writes to standard error, so that none of the others waits for that (`logger.rt`); with
+//! `--metrics` one answers scrapes (`metrics/scrape.rt`).
 //!
 //! Nobody can know a socket's bytes, nor when a thread runs, so contracts say here what a program
-//! can promise all the same: that a socket is a link as `mc_guests` asks for one; that `run` does
-//! what the options say, and with `--stdin` serves a session of a new world; that a step counts as
-//! a table says; and that the status is that of the end. The rest is tested over sockets
-//! (tests/sockets), and docs/PROMISES.md says which is which.
+//! can promise all the same: that `run` does what the options say, and with `--stdin` serves a
+//! session of a new world; that a step counts as a table says; and that the status is that of the
+//! end. The rest is tested over sockets (tests/sockets), and docs/PROMISES.md says which is which.
 //!
 //! Begin with `running.rt`, `serving.rt` and `listening.rt`.
 #![tactic(auto)]
@@ -27,33 +23,18 @@ ghost use Rattle.std.specs.Prelude.{◌≡◌};
 ghost use Rattle.std.specs.Process.{exit_status};
 ghost use Rattle.mc_host.specs.Ends.{status_of};
 
-mod accepting;
-mod arrivals;
 mod asker;
-mod channel;
-mod closing;
-mod connection;
 mod full;
 mod heard;
-mod idle;
-#[cfg(test)]
-mod idle_tests;
-mod lines;
-#[cfg(test)]
-mod lines_tests;
-mod link;
-mod links;
 mod listening;
 mod logger;
 mod metrics;
-mod place;
 mod running;
 mod serving;
 #[cfg(test)]
 mod tcp_tests;
 #[cfg(test)]
 mod tests;
-mod yard;
 
 use clap::error::ErrorKind;
 use mc_host::{End, Refusal};

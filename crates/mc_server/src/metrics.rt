@@ -6,6 +6,6 @@ mod observer;
 mod scrape;
 
 pub use counting::counted_as;
-pub use mc_metrics::{Counted, Counts, LONGEST};
+pub use mc_metrics::{Counts, LONGEST};
 pub use observer::Observer;
 pub use scrape::Teller;

@@ -1,16 +1,15 @@
 //! A session over TCP on 127.0.0.1, with both ends in this process.
 
-use crate::arrivals::{Arrivals, Inbox, Share};
 use crate::asker::Asker;
-use crate::closing::ClosingLinks;
-use crate::connection::{Connection, Crowd};
-use crate::links::{EVENTS, SocketLinks, WAKER};
 use crate::metrics::Counts;
 use mc_guests::NoTally;
 use mc_hop::Fnv;
 use mc_host::bound;
 use mc_shared::Shared;
 use mc_shelf::Settings;
+use mc_sockets::{
+    Arrivals, ClosingLinks, Connection, Crowd, EVENTS, Inbox, Share, SocketLinks, WAKER,
+};
 use mc_time::{Fixed, Moment};
 use mio::net::TcpStream as Stream;
 use mio::{Events, Poll, Waker};

@@ -4,7 +4,7 @@ use denote.Struct.Declared as struct
 use denote.Param.Send.{IsSend, recorded_send, struct_send, sendable}
 use Rattle.std.proofs.Crossing as crossing
 use Rattle.mc_metrics.proofs.counts.Counts.TheSendSync as counts
-use Rattle.mc_server.proofs.connection.Crowd.TheSendSync as crowd
+use Rattle.mc_sockets.proofs.connection.Crowd.TheSendSync as crowd
 use Rattle.mc_host.proofs.door.Door.TheSendSync as door
 use Rattle.mc_server.specs.contracts.metrics.observer.Observer as observer
 use Rattle.mc_server.specs.contracts.metrics.scrape.Teller as teller

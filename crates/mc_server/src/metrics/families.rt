@@ -1,12 +1,12 @@
 //! The table of what is told. Where it means the same, the names are those of Prometheus' exporter for
 //! memcached.
 
-use crate::connection::Parting;
 use Counted as C;
 use Figure::{Closed, Count};
 use Kind::{Counter, Gauge};
 use Samples::{Each, One, Slabs};
 use mc_metrics::{Counted, Family, Figure, Kind, Samples, SlabFigure};
+use mc_sockets::Parting;
 
 /// The program's own version, as `--version` prints it.
 const VERSION: &[(&str, Figure)] = &[(r#"{version="0.9.0"}"#, Figure::One)];

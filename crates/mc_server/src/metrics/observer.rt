@@ -1,9 +1,9 @@
 //! Who reads what there is to tell.
 
 use crate::asker::Asker;
-use crate::connection::{Crowd, PARTINGS};
 use mc_metrics::{COUNTED, Counts, Reading, SlabReading};
 use mc_slab::class_of;
+use mc_sockets::{Crowd, PARTINGS};
 use std::alloc::{AllocError, Global};
 use std::sync::{Arc, Wait};
 use std::time::{Clock, Instant};

@@ -1,10 +1,10 @@
 //! Requests over HTTP, one after another.
 
-use crate::arrivals::Arrivals;
 use crate::metrics::families::FAMILIES;
 use crate::metrics::observer::Observer;
 use mc_host::Door;
 use mc_metrics::{Answer, NO_MEMORY, QuitAccess, page_of, pass_rest, request_of, response, send};
+use mc_sockets::Arrivals;
 use std::alloc::{AllocError, Global};
 use std::net::{Shutdown, TcpStream};
 use std::sync::Wait;

@@ -6,10 +6,10 @@ use Rattle.mc_shared.proofs.Sent.{Lent, tuple_send, lent}
 use Rattle.mc_server.proofs.Sent.{asker_send}
 use Rattle.mc_server.proofs.metrics.Sent.{teller_send}
 use Rattle.mc_server.proofs.logger.Notice.TheSendSync as notice
-use Rattle.mc_server.specs.contracts.arrivals.Arrivals as arrivals
-use Rattle.mc_server.proofs.arrivals.Arrivals.TheSendSync as arrived
-use Rattle.mc_server.specs.contracts.logger.Log as log
-use Rattle.mc_server.proofs.logger.Log.TheSendSync as logged
+use Rattle.mc_sockets.specs.contracts.arrivals.Arrivals as arrivals
+use Rattle.mc_sockets.proofs.arrivals.Arrivals.TheSendSync as arrived
+use Rattle.mc_sockets.specs.contracts.log.Log as log
+use Rattle.mc_sockets.proofs.log.Log.TheSendSync as logged
 use Rattle.mc_server.proofs.listening.Post.TheSendSync as post
 use Rattle.mc_server.proofs.listening.fn.serve_by.scope.Goals as goal
 

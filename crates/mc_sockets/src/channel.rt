@@ -3,8 +3,8 @@ ghost use Rattle.std.specs.Prelude.{◌≡◌, ◌≤◌, ◌+◌, length, IfOk}
 ghost use Rattle.std.specs.Io.{ReadsAtMost};
 
 use crate::connection::{Connection, Parting};
-use crate::metrics::{Counted, Counts};
 use mc_guests::{Got, Link, LinkFault, Took};
+use mc_metrics::{Counted, Counts};
 use std::cell::Cell;
 use std::io::{self, ErrorKind, IoSlice, Read, Write};
 use std::rc::Rc;

@@ -1,7 +1,7 @@
 //! Connections, which are counted while they are open, and told of if that is asked for.
 
 use crate::lines::Line;
-use crate::logger::Log;
+use crate::log::Log;
 use mio::net::TcpStream;
 use std::alloc::{AllocError, Global};
 use std::array;
@@ -41,7 +41,7 @@ pub const PARTINGS: usize = 10;
 
 impl Parting {
     ghost use Rattle.std.specs.Prelude.{◌≡◌};
-    ghost use Rattle.mc_server.specs.Counting.{parting_place};
+    ghost use Rattle.mc_sockets.specs.Partings.{parting_place};
 
     /// Gives its place among all.
     pub fn place(self) -> usize

@@ -1,6 +1,6 @@
 use Rattle.std.proofs.Common.{None, subst, append-nil}
 use Rattle.mc_guests.specs.Links.{LinkState, Takes}
-use Rattle.mc_server.proofs.channel.ChannelLink.try_write.Goals as goal
+use Rattle.mc_sockets.proofs.channel.ChannelLink.try_write.Goals as goal
 
 pub returns-clause-takes : goal.returns-clause-takes
 returns-clause-takes c =

@@ -1,0 +1,17 @@
+-- Why connections are closed.
+use Rattle.std.specs.Prelude.{ℕ}
+use Rattle.mc_sockets.specs.declared.connection.Parting.{Parting}
+use Rattle.mc_sockets.specs.declared.connection.Parting.TheVariants as parting
+
+-- the place of a reason for which a connection is closed, among all
+abbrev pub parting_place : Parting → ℕ
+parting_place parting.OneTooMany = 0
+parting_place parting.NoDescriptor = 1
+parting_place parting.NoRoom = 2
+parting_place parting.Ended = 3
+parting_place parting.ReadFault = 4
+parting_place parting.WriteFault = 5
+parting_place parting.SessionOver = 6
+parting_place parting.Idle = 7
+parting_place parting.ListenerFailed = 8
+parting_place parting.Hoarding = 9

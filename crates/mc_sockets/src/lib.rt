@@ -1,0 +1,44 @@
+//! Connections over sockets: accepted and counted, dealt to workers, and made links.
+//!
+//! A connection goes this way: accepted and counted (`accepting.rt`, `connection.rt`), dealt to a
+//! worker (`arrivals.rt`), made a link (`links.rt`, `link.rt`) over a socket that never blocks
+//! (`channel.rt`), whose events wake its guest (`place.rt`, `idle.rt`); what isn't sent when its
+//! session ends is sent later (`yard.rt`). `closing.rt` is how all of it ends when it is asked to.
+//! What is to be said of connections, and that the store is full, waits in a [`Log`] (`log.rt`,
+//! `lines.rt`, `shortage.rt`) for the one thread that says it, so that none of the others waits for
+//! that.
+//!
+//! Nobody can know a socket's bytes, nor when a thread runs, so contracts say here that a socket is a
+//! link as `mc_guests` asks for one, and little else. The rest is tested over sockets
+//! (tests/sockets).
+//!
+//! Begin with `src/arrivals.rt`, `src/links.rt` and `src/channel.rt`.
+#![tactic(auto)]
+
+mod accepting;
+mod arrivals;
+mod channel;
+mod closing;
+mod connection;
+mod idle;
+#[cfg(test)]
+mod idle_tests;
+mod lines;
+#[cfg(test)]
+mod lines_tests;
+mod link;
+mod links;
+mod log;
+mod place;
+mod shortage;
+mod yard;
+
+pub use accepting::{accept_all, accept_beside};
+pub use arrivals::{Arrivals, Inbox, Share};
+pub use closing::ClosingLinks;
+pub use connection::{Connection, Crowd, PARTINGS, Parting};
+pub use lines::{Line, Waiting};
+pub use link::SocketLink;
+pub use links::{EVENTS, SocketLinks, WAKER};
+pub use log::Log;
+pub use shortage::{Refusals, Wanted};
