@@ -5,7 +5,7 @@ use Rattle.std.proofs.lemmas.Bool.{cases_eq, cases_lt}
 use Rattle.std.proofs.lemmas.Option.{none-some}
 use Rattle.std.proofs.lemmas.Cmp.{nat_list_cmp_total, tied_itself}
 use Rattle.std.proofs.Math.Nat.{pow-succ'}
-use Rattle.std.proofs.lemmas.List.{get_or-map, get_or_append_left, get_or_push, get_or_read, length-map, map-append, get_or-set_same, get_or-set_other}
+use Rattle.std.proofs.lemmas.List.{get_or-map, get_or_append_left, get_or_push, get_or_read, length-map, map-append, map-set, set-get_or}
 use Rattle.mc_hop.proofs.ListLemmas.{reads, same_Some}
 use Rattle.mc_hop.proofs.ContentLemmas.{head_of, tail_of}
 use Rattle.std.proofs.lemmas.List.Edits.{get_or-insert_at, get_or-insert_below, get_or-insert_above, get_or-remove_below, get_or-remove_above, length-insert, length-remove}
@@ -18,18 +18,12 @@ use Rattle.mc_hop.specs.Links.{IsSwapped}
 use Rattle.mc_hop.specs.Tables.{IsAbsent, IsAt}
 use Rattle.mc_grow.specs.Indexes.{IndexState, binary_digits, digits_in, most_reads}
 use Rattle.mc_grow.specs.Strays.{IsBefore, IsGap, IsOrder, forgotten, key_by, keys_in}
-use Rattle.mc_grow.proofs.PartLemmas.{some_stray, stray_inside, stray_is}
+use Rattle.mc_grow.proofs.PartLemmas.{map-swapped, some_stray, stray_inside, stray_is}
 
 -- ---- one hash and key before another
 
-less-equal : (o : Ordering) → o ≡ Less → o ≡ Equal → ⊥
-less-equal o e f = cc
-
 not_before_itself : (key : List ℕ) → IsBefore key key → ⊥
-not_before_itself key before = less-equal (slice_cmp nat_cmp key key) before (tied_itself nat_list_cmp_total key)
-
-turned : (key other : List ℕ) → slice_cmp nat_cmp key other ≡ Greater → IsBefore other key
-turned key other e = nat_list_cmp_total.antisymm other key ∙ ap ordering_reverse e
+not_before_itself key before = cc (tied_itself nat_list_cmp_total key)
 
 carry : {a b c d : List ℕ} → a ≡ b → c ≡ d → IsBefore b d → IsBefore a c
 carry e f before = (λ i. slice_cmp nat_cmp (e i) (f i)) ∙ before
@@ -41,47 +35,24 @@ module _ (keys : List (List ℕ)) (order : List ℕ) (o : IsOrder keys order) wh
   at_place = key_by keys order
 
   places_apart : (p q : ℕ) → p < length order → q < length order → at_place p ≡ at_place q → p ≡ q
-  places_apart p q l m e =
-      ⊎_elim
-      (λ (less : p < q). absurd (not_before_itself (at_place q) (carry (sym e) refl (o.rises p q less m))))
-      (λ (more : q ≤ p).
-      ⊎_elim
-      (λ (same : p ≡ q). same)
-      (λ (d : p ≡ q → ⊥). absurd (not_before_itself (at_place p) (carry e refl (o.rises q p (omega (arith, more, d)) l))))
-      (cases_eq p q))
-      (cases_lt p q)
+  places_apart p q l m e = grind (arith, cases_lt p q, cases_eq p q, o.rises p q, o.rises q p, not_before_itself (at_place p))
 
   numbers_apart : (p q : ℕ) → p < length order → q < length order → get_or order p 0 ≡ get_or order q 0 → p ≡ q
   numbers_apart p q l m e = places_apart p q l m (ap (λ (n : ℕ). get_or keys n []) e)
 
   pub all_before : (middle : ℕ) (key : List ℕ) → middle < length order → IsBefore (at_place middle) key → (p : ℕ) → p < middle + 1 → IsBefore (at_place p) key
-  all_before middle key inside before p l =
-      ⊎_elim
-      (λ (same : p ≡ middle). carry (ap at_place same) refl before)
-      (λ (d : p ≡ middle → ⊥). nat_list_cmp_total.trans (at_place p) (at_place middle) key (o.rises p middle (omega (arith, d, l)) inside) before)
-      (cases_eq p middle)
+  all_before middle key inside before p l = grind (arith, cases_eq p middle, o.rises p middle, nat_list_cmp_total.trans (at_place p) (at_place middle) key)
 
   pub all_behind : (middle : ℕ) (key : List ℕ) → slice_cmp nat_cmp (at_place middle) key ≡ Greater → (p : ℕ) → middle ≤ p → p < length order → IsBefore key (at_place p)
   all_behind middle key behind p l inside =
-      let before = turned (at_place middle) key behind in
-      ⊎_elim
-      (λ (same : p ≡ middle). carry refl (ap at_place same) before)
-      (λ (d : p ≡ middle → ⊥). nat_list_cmp_total.trans key (at_place middle) (at_place p) before (o.rises middle p (omega (arith, d, l)) inside))
-      (cases_eq p middle)
+      let before : IsBefore key (at_place middle) = nat_list_cmp_total.antisymm key (at_place middle) ∙ ap ordering_reverse behind in
+      grind (arith, cases_eq p middle, o.rises middle p, nat_list_cmp_total.trans key (at_place middle) (at_place p))
 
   none_in_gap : (key : List ℕ) (place : ℕ) → IsGap keys order key place → (n : ℕ) → n < length keys → get_or keys n [] ≡ key → ⊥
-  none_in_gap key place gap n l e =
-      let p = o.each n l in
-      let is : at_place p.0 ≡ key = ap (λ (m : ℕ). get_or keys m []) p.2 ∙ e in
-      ⊎_elim
-      (λ (less : p.0 < place). not_before_itself key (carry (sym is) refl (gap.before p.0 less)))
-      (λ (more : place ≤ p.0). not_before_itself key (carry refl (sym is) (gap.behind p.0 more p.1)))
-      (cases_lt p.0 place)
+  none_in_gap key place gap n l e = let p = o.each n l in grind (arith, cases_lt p.0 place, gap.before p.0, gap.behind p.0, p.1, p.2, not_before_itself key)
 
   pub its_number : (place number : ℕ) → place < length order → number < length keys → at_place place ≡ get_or keys number [] → get_or order place 0 ≡ number
-  its_number place number l m e =
-      let p = o.each number m in
-      ap (λ (q : ℕ). get_or order q 0) (places_apart place p.0 l p.1 (e ∙ sym (ap (λ (n : ℕ). get_or keys n []) p.2))) ∙ p.2
+  its_number place number l m e = let p = o.each number m in grind (arith, p.2, places_apart place p.0 l p.1)
 
 -- ---- a stray comes
 
@@ -93,9 +64,7 @@ module _ (keys : List (List ℕ)) (order : List ℕ) (key : List ℕ) (place : �
   longer = insert order place (length keys)
 
   in_front : (p : ℕ) → p < place → (get_or longer p 0 ≡ get_or order p 0) × (key_by more_keys longer p ≡ key_by keys order p)
-  in_front p l =
-      let number : get_or longer p 0 ≡ get_or order p 0 = get_or-insert_below order place (length keys) 0 p l gap.inside in
-      (number, ap (λ (n : ℕ). get_or more_keys n []) number ∙ get_or_append_left keys (key ∷ []) [] (get_or order p 0) (o.inside p (omega (arith, gap.inside))))
+  in_front p l = grind (arith, gap.inside, get_or-insert_below order place (length keys) 0 p, get_or_append_left keys (key ∷ []) [] (get_or order p 0), o.inside p)
 
   at_gap : (p : ℕ) → p ≡ place → (get_or longer p 0 ≡ length keys) × (key_by more_keys longer p ≡ key)
   at_gap p e =
@@ -167,18 +136,11 @@ module _ (keys less : List (List ℕ)) (order : List ℕ) (number place last : �
 
   read : (p : ℕ) → get_or (forgotten order place last) p 0 ≡ get_or middle (skip p) 0
   read p =
-      let fits : place < length middle = omega (arith, sizes.0, place_in) in
-      ⊎_elim
-      (λ (l : p < place). get_or-remove_below middle place 0 p l fits ∙ ap (λ (n : ℕ). get_or middle n 0) {x = p} {y = skip p} (omega (arith, l)))
-      (λ (g : place ≤ p). get_or-remove_above middle place 0 p g fits ∙ ap (λ (n : ℕ). get_or middle n 0) {x = p + 1} {y = skip p} (omega (arith, g)))
-      (cases_lt p place)
+      let is : (p < place → skip p ≡ p) × (place ≤ p → skip p ≡ p + 1) = ((λ l. omega (arith, l)), (λ l. omega (arith, l))) in
+      grind (arith, is.0, is.1, sizes.0, cases_lt p place, get_or-remove_below middle place 0 p, get_or-remove_above middle place 0 p)
 
   not_last : (r : ℕ) → r ≡ last → (r ≡ place → ⊥) → number + 1 < length keys
-  not_last r e d =
-      ⊎_elim
-      (λ (its : number ≡ length keys - 1). absurd (d (e ∙ sym (numbers_apart keys order o place last place_in last_in (there ∙ its ∙ sym last_there)))))
-      (λ (n : number ≡ length keys - 1 → ⊥). omega (arith, n, inside))
-      (cases_eq number (length keys - 1))
+  not_last r e d = grind (arith, cases_eq number (length keys - 1), numbers_apart keys order o place last place_in last_in)
 
   -- what stands at a place that stays: its number then and now, and its hash and key
   stays : (r : ℕ) → r < length order → r ≢ place → (get_or middle r 0 < length less) × (get_or less (get_or middle r 0) [] ≡ key_by keys order r)
@@ -197,15 +159,11 @@ module _ (keys less : List (List ℕ)) (order : List ℕ) (number place last : �
 
   each_left : (n : ℕ) → n < length less → (p : ℕ) × (p < length (forgotten order place last)) × (get_or (forgotten order place last) p 0 ≡ n)
   each_left n l =
-      ⊎_elim
-      (λ (its : n ≡ number).
-      place_now last n last_in (λ e. omega (arith, its, l, swap.shorter, sym there ∙ ap (λ (m : ℕ). get_or order m 0) (sym e) ∙ last_there))
-      (get_or-set_same order last (get_or order place 0) 0 last_in ∙ there ∙ sym its))
-      (λ (other : n ≡ number → ⊥).
       let r = o.each n (omega (arith, l, swap.shorter)) in
-      place_now r.0 n r.1 (λ e. other (sym r.2 ∙ ap (λ (m : ℕ). get_or order m 0) e ∙ there))
-      (get_or-set_other order last r.0 (get_or order place 0) 0 (λ e. omega (arith, l, swap.shorter, sym r.2 ∙ ap (λ (m : ℕ). get_or order m 0) e ∙ last_there)) ∙ r.2))
-      (cases_eq n number)
+      elim (cases_eq n number) [
+        | (inl its) ↦ place_now last n last_in (λ e. grind (arith, swap.shorter)) (grind (arith, reads))
+        | (inr other) ↦ place_now r.0 n r.1 (λ e. grind (arith, r.2)) (grind (arith, reads, r.2, swap.shorter, cases_eq r.0 last))
+      ]
 
   pub order_less : IsOrder less (forgotten order place last)
   order_less = record {
@@ -222,105 +180,65 @@ module _ {X : Type 0} (hash_of : X → ℕ) (key_of : X → List ℕ) where
   abbrev key : X → List ℕ
   key x = hash_of x ∷ key_of x
 
-  pub key_at : (items : List X) (n : ℕ) (x : X) → n < length items → get_or (keys_in hash_of key_of items) n [] ≡ key (get_or items n x)
-  key_at items n x l = get_or-map key items n x [] l
+  abbrev keys : List X → List (List ℕ)
+  keys = keys_in hash_of key_of
 
-  pub many_keys : (items : List X) → length (keys_in hash_of key_of items) ≡ length items
+  pub many_keys : (items : List X) → length (keys items) ≡ length items
   many_keys items = length-map items key
 
-  pub absent_in_gap : (items : List X) (order : List ℕ) (hash : ℕ) (its_key : List ℕ) (place : ℕ) → IsOrder (keys_in hash_of key_of items) order
-      → IsGap (keys_in hash_of key_of items) order (hash ∷ its_key) place → IsAbsent hash_of key_of (map Some items) hash its_key
-  absent_in_gap items order hash its_key place o gap n is =
-      let l = stray_inside items n is.entry is.there in
-      none_in_gap (keys_in hash_of key_of items) order o (hash ∷ its_key) place gap n (omega (arith, l, many_keys items))
-      (key_at items n is.entry l ∙ ap key (stray_is items n is.entry is.entry is.there) ∙ λ i. is.same_hash i ∷ is.same_key i)
+  own_key : (items : List X) (number : ℕ) (x : X) → number < length items → x ≡ get_or items number x → get_or (keys items) number [] ≡ key x
+  own_key items number x l lent = get_or-map key items number x [] l ∙ ap key (sym lent)
 
-  pub found_at : (items : List X) (order : List ℕ) (hash : ℕ) (its_key : List ℕ) (place : ℕ) → IsOrder (keys_in hash_of key_of items) order
-      → place < length order → key_by (keys_in hash_of key_of items) order place ≡ hash ∷ its_key → (get_or order place 0 < length items)
-      × IsAt hash_of key_of (map Some items) hash its_key (get_or order place 0)
-  found_at items order hash its_key place o l is =
-      let n = get_or order place 0 in
-      let inside : n < length items = omega (arith, o.inside place l, many_keys items) in
-      let x = some_stray items n inside in
-      let its : key x.0 ≡ hash ∷ its_key = ap key (sym (stray_is items n x.0 x.0 x.1)) ∙ sym (key_at items n x.0 inside) ∙ is in
-      (inside, record { entry = x.0; there = x.1; same_hash = head_of its; same_key = tail_of its })
+  pub keys_kept : (items : List X) (at : ℕ) (x y : X) → get_or (map Some items) at None ≡ Some x → hash_of y ≡ hash_of x → key_of y ≡ key_of x → keys (set items at y) ≡ keys items
+  keys_kept items at x y there h k =
+      let its = own_key items at x (stray_inside items at x there) (sym (stray_is items at x x there)) in
+      map-set key items at y ∙ ap (set (keys items) at) ((λ i. h i ∷ k i) ∙ sym its) ∙ set-get_or (keys items) at []
 
-  pub not_found : (items : List X) (order : List ℕ) (hash : ℕ) (its_key : List ℕ) (place : ℕ) → IsOrder (keys_in hash_of key_of items) order
-      → place < length order → key_by (keys_in hash_of key_of items) order place ≡ hash ∷ its_key → IsAbsent hash_of key_of (map Some items) hash its_key → ⊥
-  not_found items order hash its_key place o l is absent = absent (get_or order place 0) (found_at items order hash its_key place o l is).1
+  module _ (items : List X) {order : List ℕ} (o : IsOrder (keys items) order) where
+    pub absent_in_gap : {hash : ℕ} {its_key : List ℕ} {place : ℕ} → IsGap (keys items) order (hash ∷ its_key) place → IsAbsent hash_of key_of (map Some items) hash its_key
+    absent_in_gap {hash} {its_key} {place} gap n is =
+        let l = stray_inside items n is.entry is.there in
+        none_in_gap (keys items) order o (hash ∷ its_key) place gap n (omega (arith, l, many_keys items))
+        (own_key items n is.entry l (sym (stray_is items n is.entry is.entry is.there)) ∙ λ i. is.same_hash i ∷ is.same_key i)
 
-  pub keys_swapped : (items fewer : List X) (at : ℕ) (x : X) → at < length items → IsSwapped items fewer at → IsSwapped (keys_in hash_of key_of items) (keys_in hash_of key_of fewer) at
-  keys_swapped items fewer at x l swap =
-      let a = many_keys items in
-      let b = many_keys fewer in
-      record {
-        shorter = omega (arith, a, b, swap.shorter);
-        last = λ d m.
-            get_or-map key fewer at x d (omega (arith, m, a, swap.shorter)) ∙ ap key (swap.last x (omega (arith, m, a)))
-            ∙ sym (ap (λ (n : ℕ). get_or (keys_in hash_of key_of items) (n - 1) d) a ∙ get_or-map key items (length items - 1) x d (omega (arith, l)));
-        others = λ k d apart m.
-            get_or-map key fewer k x d (omega (arith, m, a, swap.shorter)) ∙ ap key (swap.others k x apart (omega (arith, m, a)))
-            ∙ sym (get_or-map key items k x d (omega (arith, m, a)));
-      }
+    pub found_there : {hash : ℕ} {its_key : List ℕ} {place number : ℕ} → (place < length order) × (key_by (keys items) order place ≡ hash ∷ its_key) → number ≡ get_or order place 0
+        → (number < length items) × IsAt hash_of key_of (map Some items) hash its_key number
+    found_there {hash} {its_key} {place} {number} found there =
+        let inside : number < length items = omega (arith, o.inside place found.0, many_keys items) in
+        let x = some_stray items number inside in
+        let its : key x.0 ≡ hash ∷ its_key = sym (own_key items number x.0 inside (sym (stray_is items number x.0 x.0 x.1))) ∙ ap (λ (n : ℕ). get_or (keys items) n []) there ∙ found.1 in
+        (inside, record { entry = x.0; there = x.1; same_hash = head_of its; same_key = tail_of its })
 
-  pub keys_kept : (items : List X) (at : ℕ) (x y : X) → get_or (map Some items) at None ≡ Some x → hash_of y ≡ hash_of x → key_of y ≡ key_of x
-      → keys_in hash_of key_of (set items at y) ≡ keys_in hash_of key_of items
-  keys_kept [] at x y e h k = absurd (none-some x e)
-  keys_kept (z ∷ items) zero x y e h k =
-      let is : z ≡ x = same_Some z x e in
-      λ i. ((h ∙ ap hash_of (sym is)) i ∷ (k ∙ ap key_of (sym is)) i) ∷ keys_in hash_of key_of items
-  keys_kept (z ∷ items) (suc at) x y e h k = ap (λ (ks : List (List ℕ)). key z ∷ ks) (keys_kept items at x y e h k)
+    -- what is compared is what stands at the place
+    pub compared : {place number : ℕ} {x : X} (its_key : List ℕ) {answer : Ordering} → place < length order → number ≡ get_or order place number → x ≡ get_or items number x
+        → answer ≡ slice_cmp nat_cmp (key x) its_key → slice_cmp nat_cmp (key_by (keys items) order place) its_key ≡ answer
+    compared {place} {number} {x} its_key l at lent is =
+        let there : number ≡ get_or order place 0 = get_or_read order place number l at 0 in
+        let its = own_key items number x (omega (arith, there, o.inside place l, many_keys items)) lent in
+        cc
 
-  -- what is compared is what stands at the place
-  pub compared : (items : List X) {order : List ℕ} {place number : ℕ} {x : X} (its_key : List ℕ) {answer : Ordering} → IsOrder (keys_in hash_of key_of items) order → place < length order
-      → number ≡ get_or order place number → x ≡ get_or items number x → answer ≡ slice_cmp nat_cmp (key x) its_key
-      → slice_cmp nat_cmp (key_by (keys_in hash_of key_of items) order place) its_key ≡ answer
-  compared items {order} {place} {number} {x} its_key o l at lent is =
-      let there : number ≡ get_or order place 0 = get_or_read order place number l at 0 in
-      let its = ap key lent ∙ sym (key_at items number x (omega (arith, there, o.inside place l, many_keys items))) ∙ ap (λ (n : ℕ). get_or (keys_in hash_of key_of items) n []) there in
-      sym (is ∙ ap (λ (k : List ℕ). slice_cmp nat_cmp k its_key) its)
+    -- a search for a stray's own hash and key
+    pub own_is_found : {number place : ℕ} {x : X} {q : List ℕ} → number < length items → x ≡ get_or items number x → q ≡ key x → IsGap (keys items) order q place → ⊥
+    own_is_found {number} {place} {x} {q} l lent is gap = none_in_gap (keys items) order o q place gap number (omega (arith, many_keys items)) (own_key items number x l lent ∙ sym is)
 
-  -- a search for a stray's own hash and key
-  own_key : (items : List X) (number : ℕ) (x : X) (q : List ℕ) → number < length items → x ≡ get_or items number x → q ≡ key x → get_or (keys_in hash_of key_of items) number [] ≡ q
-  own_key items number x q l lent is = key_at items number x l ∙ ap key (sym lent) ∙ sym is
+    pub own_number : {number place : ℕ} {x : X} {q : List ℕ} → number < length items → x ≡ get_or items number x → q ≡ key x
+        → (place < length order) × (key_by (keys items) order place ≡ q) → get_or order place 0 ≡ number
+    own_number {number} {place} {x} l lent is found = its_number (keys items) order o place number found.0 (omega (arith, many_keys items)) (found.1 ∙ is ∙ sym (own_key items number x l lent))
 
-  pub own_is_found : (items : List X) {order : List ℕ} {number place : ℕ} {x : X} {q : List ℕ} → IsOrder (keys_in hash_of key_of items) order → number < length items
-      → x ≡ get_or items number x → q ≡ key x → IsGap (keys_in hash_of key_of items) order q place → ⊥
-  own_is_found items {order} {number} {place} {x} {q} o l lent is gap =
-      none_in_gap (keys_in hash_of key_of items) order o q place gap number (omega (arith, many_keys items)) (own_key items number x q l lent is)
+    -- a stray comes, and one goes
+    pub comes : {more : List X} {longer : List ℕ} {place number hash : ℕ} {its_key : List ℕ} (x : X) → IsGap (keys items) order (hash ∷ its_key) place → hash ≡ hash_of x
+        → its_key ≡ key_of x → more ≡ items ++ (x ∷ []) → number ≡ length items → longer ≡ insert order place number → IsOrder (keys more) longer
+    comes {more} {longer} {place} {hash = hash} {its_key} x gap same_hash same_key pushed many put =
+        let new_keys : keys more ≡ keys items ++ ((hash ∷ its_key) ∷ []) = ap keys pushed ∙ map-append key items (x ∷ [])
+        ∙ (λ i. keys items ++ ((sym same_hash i ∷ sym same_key i) ∷ [])) in
+        let new_order : longer ≡ insert order place (length (keys items)) = put ∙ ap (insert order place) (many ∙ sym (many_keys items)) in
+        rw (new_order, new_keys) (order_more (keys items) order (hash ∷ its_key) place o gap)
 
-  pub own_number : (items : List X) {order : List ℕ} {number place : ℕ} {x : X} {q : List ℕ} → IsOrder (keys_in hash_of key_of items) order → number < length items
-      → x ≡ get_or items number x → q ≡ key x → (place < length order) × (key_by (keys_in hash_of key_of items) order place ≡ q) → get_or order place 0 ≡ number
-  own_number items {order} {number} {place} {x} {q} o l lent is found =
-      its_number (keys_in hash_of key_of items) order o place number found.0 (omega (arith, many_keys items)) (found.1 ∙ sym (own_key items number x q l lent is))
-
-  -- what was found, as the order gives it
-  pub found_there : (items : List X) (order : List ℕ) (hash : ℕ) (its_key : List ℕ) (place number : ℕ) → IsOrder (keys_in hash_of key_of items) order
-      → (place < length order) × (key_by (keys_in hash_of key_of items) order place ≡ hash ∷ its_key) → number ≡ get_or order place number
-      → (number < length items) × IsAt hash_of key_of (map Some items) hash its_key number
-  found_there items order hash its_key place number o found read =
-      subst (λ (n : ℕ). (n < length items) × IsAt hash_of key_of (map Some items) hash its_key n) (sym (get_or_read order place number found.0 read 0))
-      (found_at items order hash its_key place o found.0 found.1)
-
-  -- a stray comes, and one goes
-  pub comes : (items more : List X) (order longer : List ℕ) (place number hash : ℕ) (its_key : List ℕ) (x : X) → IsOrder (keys_in hash_of key_of items) order
-      → IsGap (keys_in hash_of key_of items) order (hash ∷ its_key) place → hash ≡ hash_of x → its_key ≡ key_of x → more ≡ items ++ (x ∷ [])
-      → number ≡ length items → longer ≡ insert order place number → IsOrder (keys_in hash_of key_of more) longer
-  comes items more order longer place number hash its_key x o gap same_hash same_key pushed many put =
-      let keys = keys_in hash_of key_of items in
-      let new_keys : keys_in hash_of key_of more ≡ keys ++ ((hash ∷ its_key) ∷ []) = ap (keys_in hash_of key_of) pushed ∙ map-append key items (x ∷ [])
-      ∙ (λ i. keys ++ ((sym same_hash i ∷ sym same_key i) ∷ [])) in
-      let new_order : longer ≡ insert order place (length keys) = put ∙ ap (insert order place) (many ∙ sym (many_keys items)) in
-      subst (λ (l : List ℕ). IsOrder (keys_in hash_of key_of more) l) (sym new_order)
-      (subst (λ (ks : List (List ℕ)). IsOrder ks (insert order place (length keys))) (sym new_keys) (order_more keys order (hash ∷ its_key) place o gap))
-
-  pub goes : (items fewer : List X) (order shorter : List ℕ) (number place last : ℕ) (x : X) → IsOrder (keys_in hash_of key_of items) order
-      → IsSwapped items fewer number → number < length items → place < length order → get_or order place 0 ≡ number → last < length order
-      → get_or order last 0 ≡ length items - 1 → shorter ≡ forgotten order place last → IsOrder (keys_in hash_of key_of fewer) shorter
-  goes items fewer order shorter number place last x o swap l place_in there last_in last_there is =
-      subst (λ (s : List ℕ). IsOrder (keys_in hash_of key_of fewer) s) (sym is)
-      (order_less (keys_in hash_of key_of items) (keys_in hash_of key_of fewer) order number place last o (keys_swapped items fewer number x l swap)
-      (omega (arith, l, many_keys items)) place_in there last_in (last_there ∙ ap (λ (n : ℕ). n - 1) (sym (many_keys items))))
+    pub goes : {fewer : List X} {shorter : List ℕ} {number place last : ℕ} (x : X) → IsSwapped items fewer number → number < length items → place < length order
+        → get_or order place 0 ≡ number → last < length order → get_or order last 0 ≡ length items - 1 → shorter ≡ forgotten order place last → IsOrder (keys fewer) shorter
+    goes {fewer} {number = number} {place} {last} x swap l place_in there last_in last_there is =
+        rw is (order_less (keys items) (keys fewer) order number place last o (map-swapped key x l swap) (omega (arith, l, many_keys items)) place_in there last_in
+        (omega (arith, last_there, many_keys items)))
 
 -- ---- what a search costs
 

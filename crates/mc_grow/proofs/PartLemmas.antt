@@ -1,5 +1,5 @@
 -- Strays in a list: how they stand in buckets, and what changing one or taking one out does.
-use Rattle.std.proofs.Common.{◌≡◌, ◌≢◌, ℕ, zero, suc, ◌+◌, ◌<◌, ◌⊎◌, List, [], ◌∷◌, ◌++◌, Some, None, map, length, get_or, set, refl, sym, ap, subst, ◌∙◌, arith}
+use Rattle.std.proofs.Common.{◌≡◌, ◌≢◌, ℕ, zero, suc, ◌+◌, ◌-◌, ◌<◌, ◌⊎◌, List, [], ◌∷◌, ◌++◌, Some, None, map, length, get_or, set, refl, sym, ap, subst, ◌∙◌, arith}
 use Rattle.std.specs.Prelude.{slice_get}
 use Rattle.std.specs.List.{SwappedAt}
 use Rattle.std.proofs.lemmas.Bool.{cases_eq}
@@ -21,19 +21,24 @@ some_stray [] n l = absurd (omega arith)
 some_stray (x ∷ xs) zero l = (x, refl)
 some_stray (x ∷ xs) (suc n) l = some_stray xs n (omega arith)
 
-get-stray : {X : Type 0} (xs : List X) (n : ℕ) → get_or (map Some xs) n None ≡ slice_get xs n
-get-stray [] n = refl
-get-stray (x ∷ xs) zero = refl
-get-stray (x ∷ xs) (suc n) = get-stray xs n
-
 -- ---- a stray is taken out, and the last one stands in its place
+
+pub map-swapped : {A B : Type 0} (f : A → B) {items fewer : List A} {at : ℕ} (x : A) → at < length items → IsSwapped items fewer at → IsSwapped (map f items) (map f fewer) at
+map-swapped f {items} {fewer} {at} x l swap =
+    let a = length-map items f in
+    let b = length-map fewer f in
+    record {
+      shorter = omega (arith, a, b, swap.shorter);
+      last = λ d m. grind (arith, a, b, swap.shorter, swap.last x, get_or-map f fewer at x d, get_or-map f items (length items - 1) x d);
+      others = λ k d apart m. grind (arith, a, b, swap.shorter, swap.others k x, get_or-map f fewer k x d, get_or-map f items k x d);
+    }
 
 module _ {X : Type 0} (strays less : List X) (at : ℕ) (swap : IsSwapped strays less at) where
   pub less_other : (j : ℕ) → j ≢ at → j < length less → get_or (map Some less) j None ≡ get_or (map Some strays) j None
-  less_other j d l = get-stray less j ∙ get-others strays less at swap j d l ∙ sym (get-stray strays j)
+  less_other j d l = let x = (some_stray less j l).0 in grind (arith, swap.shorter, swap.others j x, get_or-map Some less j x None, get_or-map Some strays j x None)
 
   pub less_at : at < length less → get_or (map Some less) at None ≡ get_or (map Some strays) (length less) None
-  less_at l = get-stray less at ∙ get-swapped strays less at swap l ∙ sym (get-stray strays (length less))
+  less_at l = let x = (some_stray less at l).0 in grind (arith, swap.shorter, swap.last x, get_or-map Some less at x None, get_or-map Some strays (length less) x None)
 
   -- where each stood
   pub stood_less : (j : ℕ) (z : X) → get_or (map Some less) j None ≡ Some z

@@ -17,7 +17,7 @@ loop-low-preserved-in-Less g c =
     let w = c.loop-low in
     let middle = w.low + (w.high - w.low) / 2 in
     let inside : middle < length c.args.order.now.items = omega (arith, c.loop-low-test.true, w.invariant.inside) in
-    let its = compared g.T.Keyed.hash_of g.T.Keyed.key_of c.args.items.now.items (c.args.hash ∷ c.args.key.now) c.requires inside c.index.ensures c.index-in-loop-low.ensures c.compare.ensures.order in
+    let its = compared g.T.Keyed.hash_of g.T.Keyed.key_of c.args.items.now.items c.requires (c.args.hash ∷ c.args.key.now) inside c.index.ensures c.index-in-loop-low.ensures c.compare.ensures.order in
     record {
       range = omega (arith, c.loop-low-test.true);
       inside = w.invariant.inside;
@@ -31,7 +31,7 @@ loop-low-preserved g c =
     let w = c.loop-low in
     let middle = w.low + (w.high - w.low) / 2 in
     let inside : middle < length c.args.order.now.items = omega (arith, c.loop-low-test.true, w.invariant.inside) in
-    let its = compared g.T.Keyed.hash_of g.T.Keyed.key_of c.args.items.now.items (c.args.hash ∷ c.args.key.now) c.requires inside c.index.ensures c.index-in-loop-low.ensures c.compare.ensures.order in
+    let its = compared g.T.Keyed.hash_of g.T.Keyed.key_of c.args.items.now.items c.requires (c.args.hash ∷ c.args.key.now) inside c.index.ensures c.index-in-loop-low.ensures c.compare.ensures.order in
     record {
       range = omega arith;
       inside = omega (arith, inside);
@@ -44,5 +44,5 @@ pub returns-in-Equal-clause-found : goal.returns-in-Equal-clause-found
 returns-in-Equal-clause-found g c =
     let w = c.loop-low in
     let inside : w.low + (w.high - w.low) / 2 < length c.args.order.now.items = omega (arith, c.loop-low-test.true, w.invariant.inside) in
-    let its = compared g.T.Keyed.hash_of g.T.Keyed.key_of c.args.items.now.items (c.args.hash ∷ c.args.key.now) c.requires inside c.index.ensures c.index-in-loop-low.ensures c.compare.ensures.order in
+    let its = compared g.T.Keyed.hash_of g.T.Keyed.key_of c.args.items.now.items c.requires (c.args.hash ∷ c.args.key.now) inside c.index.ensures c.index-in-loop-low.ensures c.compare.ensures.order in
     (inside, exact_bytes _ _ (its ∙ c.in-Equal.is))

@@ -1,26 +1,23 @@
-use Rattle.std.proofs.Common.{◌∷◌, Bool, Some, map, sym, ap, subst, ◌∙◌, if◌then◌else◌, length, arith}
+use Rattle.std.proofs.Common.{◌∷◌, Bool, Some, map, sym, ap, subst, ◌∙◌, if◌then◌else◌, length, refl, arith}
 use Rattle.std.specs.List.{insert}
 use Rattle.mc_hop.specs.Tables.{IsAbsent}
 use Rattle.mc_grow.specs.Strays.{StraysState}
-use Rattle.mc_grow.proofs.OrderLemmas.{comes, many_keys, not_found}
+use Rattle.mc_grow.proofs.OrderLemmas.{comes, found_there, many_keys}
 use Rattle.mc_grow.proofs.strays.Strays.push_reserved.Goals as goal
 
 pub unreachable-requires : goal.unreachable-requires
 unreachable-requires g c =
-    not_found g.T.Keyed.hash_of g.T.Keyed.key_of c.self.inside.items.items c.self.inside.order.items (g.T.Keyed.hash_of c.args.entry)
-    (g.T.Keyed.key_of c.args.entry) c.in-Ok.field-0 c.self.invariant c.in-Ok.ensures.found.0
-    (c.in-Ok.ensures.found.1 ∙ λ i. c.hash.ensures i ∷ c.key.ensures i)
-    (subst (λ (s : StraysState g.row.T.Denot). IsAbsent g.T.Keyed.hash_of g.T.Keyed.key_of (map Some s.items) (g.T.Keyed.hash_of c.args.entry)
-    (g.T.Keyed.key_of c.args.entry)) (sym c.self.view_is) c.requires.new)
+    subst (λ (s : StraysState g.row.T.Denot). IsAbsent g.T.Keyed.hash_of g.T.Keyed.key_of (map Some s.items) (g.T.Keyed.hash_of c.args.entry)
+    (g.T.Keyed.key_of c.args.entry)) (sym c.self.view_is) c.requires.new _
+    (found_there g.T.Keyed.hash_of g.T.Keyed.key_of c.self.inside.items.items c.self.invariant
+    (c.in-Ok.ensures.found.0, c.in-Ok.ensures.found.1 ∙ λ i. c.hash.ensures i ∷ c.key.ensures i) refl).1
 
 pub invariant_of-self : goal.invariant_of-self
 invariant_of-self g c =
     let i = c.self.inside in
-    let room = c.requires.room in
     let many = ap (λ (s : StraysState g.row.T.Denot). length s.items) c.self.view_is in
     let fits = ap (λ (s : StraysState g.row.T.Denot). s.room) c.self.view_is in
-    let ok = c.insert.ensures.succeeds (omega (arith, room, many, fits, i.order.ok.0, c.self.invariant.same_length, many_keys g.T.Keyed.hash_of g.T.Keyed.key_of i.items.items)) in
-    comes g.T.Keyed.hash_of g.T.Keyed.key_of i.items.items c.push_reserved.new.self.items i.order.items c.insert.new.self.items c.in-Err.place
-    c.len-number.result c.hash.result c.key.result.now c.args.entry c.self.invariant
-    c.in-Err.ensures.none c.hash.ensures c.key.ensures c.push_reserved.ensures.items (omega (arith, c.len-number.ensures, i.items.ok.0))
+    let ok = c.insert.ensures.succeeds (omega (arith, c.requires.room, many, fits, i.order.ok.0, c.self.invariant.same_length, many_keys g.T.Keyed.hash_of g.T.Keyed.key_of i.items.items)) in
+    comes g.T.Keyed.hash_of g.T.Keyed.key_of i.items.items c.self.invariant c.args.entry c.in-Err.ensures.none c.hash.ensures c.key.ensures
+    c.push_reserved.ensures.items (omega (arith, c.len-number.ensures, i.items.ok.0))
     (c.insert.ensures.items ∙ ap (λ (b : Bool). if b then insert i.order.items c.in-Err.place c.len-number.result else i.order.items) ok)
