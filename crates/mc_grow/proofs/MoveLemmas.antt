@@ -24,11 +24,13 @@ module _ {X : Type 0} where
   none_beside : (m n : Map X) (k : List ℕ) (x : X) → AreDisjoint m n → get m k ≡ Some x → get n k ≡ None
   none_beside m n k x apart here = elim (get n k) as (λ o. get n k ≡ o → o ≡ None) [ None ↦ λ e. refl | (Some y) ↦ λ e. absurd (apart k x y here e) ] refl
 
-  disjoint_more : (m n : Map X) (k : List ℕ) (x : X) → AreDisjoint m n → get n k ≡ None → AreDisjoint (insert m k x) n
-  disjoint_more m n k x apart none q y z here there = elim (at_a_key m k x q) [ (inl e) ↦ none-some z (sym (ap (get n) e ∙ none) ∙ there) | (inr e) ↦ apart q y z (sym e ∙ here) there ]
+  disjoint_more : (m n p : Map X) (k : List ℕ) (x : X) → p ≡ insert m k x → AreDisjoint m n → get n k ≡ None → AreDisjoint p n
+  disjoint_more m n p k x is apart none q y z here there =
+      elim (at_a_key m k x q) [ (inl e) ↦ none-some z (sym (ap (get n) e ∙ none) ∙ there) | (inr e) ↦ apart q y z (sym e ∙ ap (λ (m : Map X). get m q) (sym is) ∙ here) there ]
 
-  disjoint_less : (m n : Map X) (k : List ℕ) (x : X) → AreDisjoint (insert m k x) n → get m k ≡ None → AreDisjoint m n
-  disjoint_less m n k x apart none q y z here there = elim (at_a_key m k x q) [ (inl e) ↦ none-some y (sym (ap (get m) e ∙ none) ∙ here) | (inr e) ↦ apart q y z (e ∙ here) there ]
+  disjoint_less : (m n p : Map X) (k : List ℕ) (x : X) → p ≡ insert m k x → AreDisjoint p n → get m k ≡ None → AreDisjoint m n
+  disjoint_less m n p k x is apart none q y z here there =
+      elim (at_a_key m k x q) [ (inl e) ↦ none-some y (sym (ap (get m) e ∙ none) ∙ here) | (inr e) ↦ apart q y z (ap (λ (m : Map X). get m q) is ∙ e ∙ here) there ]
 
   none_of_both : (a b : Option X) → option_or a b ≡ None → (a ≡ None) × (b ≡ None)
   none_of_both None b e = (refl, e)
@@ -72,20 +74,19 @@ module _ {X : Type 0} (hash_of : X → ℕ) (key_of : X → List ℕ) where
   pub in_first : (xs ys zs : Cells) (x : X) → AreApart hash_of key_of (xs ++ ys) → get (holds (xs ++ ys)) (key x) ≡ None → IsIn hash_of key_of x xs zs → IsIn hash_of key_of x (xs ++ ys) (zs ++ ys)
   in_first xs ys zs x apart new come =
       let parts = apart_parts hash_of key_of xs ys apart in
-      let beside = disjoint_more (holds xs) (holds ys) (key x) x parts.2 (new_to_each xs ys (key x) new).1 in
       record {
         come = joined_first hash_of key_of xs ys zs (key x) x come.come;
-        apart = apart_joined hash_of key_of zs ys (come.apart, parts.1, subst (λ (m : Map X). AreDisjoint m (holds ys)) (sym come.come) beside);
+        apart = apart_joined hash_of key_of zs ys (come.apart, parts.1, disjoint_more (holds xs) (holds ys) (holds zs) (key x) x come.come parts.2 (new_to_each xs ys (key x) new).1);
       }
 
   pub in_second : (xs ys zs : Cells) (x : X) → AreApart hash_of key_of (xs ++ ys) → get (holds (xs ++ ys)) (key x) ≡ None → IsIn hash_of key_of x ys zs → IsIn hash_of key_of x (xs ++ ys) (xs ++ zs)
   in_second xs ys zs x apart new come =
       let parts = apart_parts hash_of key_of xs ys apart in
       let fresh = (new_to_each xs ys (key x) new).0 in
-      let beside = disjoint_more (holds ys) (holds xs) (key x) x (flip (holds xs) (holds ys) parts.2) fresh in
+      let beside = disjoint_more (holds ys) (holds xs) (holds zs) (key x) x come.come (flip (holds xs) (holds ys) parts.2) fresh in
       record {
         come = joined_second hash_of key_of xs ys zs (key x) x fresh come.come;
-        apart = apart_joined hash_of key_of xs zs (parts.0, come.apart, flip (holds zs) (holds xs) (subst (λ (m : Map X). AreDisjoint m (holds xs)) (sym come.come) beside));
+        apart = apart_joined hash_of key_of xs zs (parts.0, come.apart, flip (holds zs) (holds xs) beside);
       }
 
   -- an entry comes to the end of a list
@@ -119,11 +120,10 @@ module _ {X : Type 0} (hash_of : X → ℕ) (key_of : X → List ℕ) where
   out_first xs ys zs x apart out =
       let parts = apart_parts hash_of key_of xs ys apart in
       let none = none_beside (holds xs) (holds ys) (key x) x parts.2 (was_there xs zs x out) in
-      let beside = disjoint_less (holds zs) (holds ys) (key x) x (subst (λ (m : Map X). AreDisjoint m (holds ys)) out.back parts.2) out.gone in
       record {
         back = joined_first hash_of key_of zs ys xs (key x) x out.back;
         gone = get_joined hash_of key_of zs ys (key x) ∙ (λ i. option_or (out.gone i) (none i));
-        apart = apart_joined hash_of key_of zs ys (out.apart, parts.1, beside);
+        apart = apart_joined hash_of key_of zs ys (out.apart, parts.1, disjoint_less (holds zs) (holds ys) (holds xs) (key x) x out.back parts.2 out.gone);
       }
 
   pub out_second : (xs ys zs : Cells) (x : X) → AreApart hash_of key_of (xs ++ ys) → IsOut hash_of key_of x ys zs → IsOut hash_of key_of x (xs ++ ys) (xs ++ zs)
@@ -131,7 +131,7 @@ module _ {X : Type 0} (hash_of : X → ℕ) (key_of : X → List ℕ) where
       let parts = apart_parts hash_of key_of xs ys apart in
       let turned = flip (holds xs) (holds ys) parts.2 in
       let none = none_beside (holds ys) (holds xs) (key x) x turned (was_there ys zs x out) in
-      let beside = disjoint_less (holds zs) (holds xs) (key x) x (subst (λ (m : Map X). AreDisjoint m (holds xs)) out.back turned) out.gone in
+      let beside = disjoint_less (holds zs) (holds xs) (holds ys) (key x) x out.back turned out.gone in
       record {
         back = joined_second hash_of key_of xs zs ys (key x) x none out.back;
         gone = get_joined hash_of key_of xs zs (key x) ∙ (λ i. option_or (none i) (out.gone i));

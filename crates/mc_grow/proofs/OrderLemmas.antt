@@ -20,14 +20,6 @@ use Rattle.mc_grow.specs.Indexes.{IndexState, binary_digits, digits_in, most_rea
 use Rattle.mc_grow.specs.Strays.{IsBefore, IsGap, IsOrder, forgotten, key_by, keys_in}
 use Rattle.mc_grow.proofs.PartLemmas.{map-swapped, some_stray, stray_inside, stray_is}
 
--- ---- one hash and key before another
-
-not_before_itself : (key : List ℕ) → IsBefore key key → ⊥
-not_before_itself key before = cc (tied_itself nat_list_cmp_total key)
-
-carry : {a b c d : List ℕ} → a ≡ b → c ≡ d → IsBefore b d → IsBefore a c
-carry e f before = (λ i. slice_cmp nat_cmp (e i) (f i)) ∙ before
-
 -- ---- a search
 
 module _ (keys : List (List ℕ)) (order : List ℕ) (o : IsOrder keys order) where
@@ -35,10 +27,7 @@ module _ (keys : List (List ℕ)) (order : List ℕ) (o : IsOrder keys order) wh
   at_place = key_by keys order
 
   places_apart : (p q : ℕ) → p < length order → q < length order → at_place p ≡ at_place q → p ≡ q
-  places_apart p q l m e = grind (arith, cases_lt p q, cases_eq p q, o.rises p q, o.rises q p, not_before_itself (at_place p))
-
-  numbers_apart : (p q : ℕ) → p < length order → q < length order → get_or order p 0 ≡ get_or order q 0 → p ≡ q
-  numbers_apart p q l m e = places_apart p q l m (ap (λ (n : ℕ). get_or keys n []) e)
+  places_apart p q l m e = grind (arith, cases_lt p q, cases_eq p q, o.rises p q, o.rises q p, tied_itself nat_list_cmp_total (at_place p))
 
   pub all_before : (middle : ℕ) (key : List ℕ) → middle < length order → IsBefore (at_place middle) key → (p : ℕ) → p < middle + 1 → IsBefore (at_place p) key
   all_before middle key inside before p l = grind (arith, cases_eq p middle, o.rises p middle, nat_list_cmp_total.trans (at_place p) (at_place middle) key)
@@ -49,7 +38,7 @@ module _ (keys : List (List ℕ)) (order : List ℕ) (o : IsOrder keys order) wh
       grind (arith, cases_eq p middle, o.rises middle p, nat_list_cmp_total.trans key (at_place middle) (at_place p))
 
   none_in_gap : (key : List ℕ) (place : ℕ) → IsGap keys order key place → (n : ℕ) → n < length keys → get_or keys n [] ≡ key → ⊥
-  none_in_gap key place gap n l e = let p = o.each n l in grind (arith, cases_lt p.0 place, gap.before p.0, gap.behind p.0, p.1, p.2, not_before_itself key)
+  none_in_gap key place gap n l e = let p = o.each n l in grind (arith, cases_lt p.0 place, gap.before p.0, gap.behind p.0, p.1, p.2, tied_itself nat_list_cmp_total key)
 
   pub its_number : (place number : ℕ) → place < length order → number < length keys → at_place place ≡ get_or keys number [] → get_or order place 0 ≡ number
   its_number place number l m e = let p = o.each number m in grind (arith, p.2, places_apart place p.0 l p.1)
@@ -67,14 +56,10 @@ module _ (keys : List (List ℕ)) (order : List ℕ) (key : List ℕ) (place : �
   in_front p l = grind (arith, gap.inside, get_or-insert_below order place (length keys) 0 p, get_or_append_left keys (key ∷ []) [] (get_or order p 0), o.inside p)
 
   at_gap : (p : ℕ) → p ≡ place → (get_or longer p 0 ≡ length keys) × (key_by more_keys longer p ≡ key)
-  at_gap p e =
-      let number : get_or longer p 0 ≡ length keys = ap (λ (p : ℕ). get_or longer p 0) e ∙ get_or-insert_at order place (length keys) 0 gap.inside in
-      (number, ap (λ (n : ℕ). get_or more_keys n []) number ∙ get_or_push keys key [] (length keys) refl)
+  at_gap p e = grind (arith, gap.inside, get_or-insert_at order place (length keys) 0, get_or_push keys key [] (length keys))
 
   in_back : (p q : ℕ) → p ≡ q + 1 → place ≤ q → q < length order → (get_or longer p 0 ≡ get_or order q 0) × (key_by more_keys longer p ≡ key_by keys order q)
-  in_back p q e l m =
-      let number : get_or longer p 0 ≡ get_or order q 0 = ap (λ (p : ℕ). get_or longer p 0) e ∙ get_or-insert_above order place (length keys) 0 q l gap.inside in
-      (number, ap (λ (n : ℕ). get_or more_keys n []) number ∙ get_or_append_left keys (key ∷ []) [] (get_or order q 0) (o.inside q m))
+  in_back p q e l m = grind (arith, gap.inside, get_or-insert_above order place (length keys) 0 q, get_or_append_left keys (key ∷ []) [] (get_or order q 0), o.inside q)
 
   size : length longer ≡ length order + 1
   size = length-insert order place (length keys) gap.inside
@@ -82,38 +67,25 @@ module _ (keys : List (List ℕ)) (order : List ℕ) (key : List ℕ) (place : �
   each_now : (n : ℕ) → n < length keys + 1 → (p : ℕ) × (p < length longer) × (get_or longer p 0 ≡ n)
   each_now n l =
       elim (cases_eq n (length keys)) [
-        | (inl its) ↦ (place, omega (arith, size, gap.inside), (at_gap place refl).0 ∙ sym its)
+        | (inl its) ↦ (place, omega (arith, size, gap.inside), grind (arith, at_gap place))
         | (inr d) ↦
             let p = o.each n (omega (arith, d, l)) in
-            ⊎_elim
-            (λ (less : p.0 < place). (p.0, omega (arith, size, p.1), (in_front p.0 less).0 ∙ p.2))
-            (λ (more : place ≤ p.0). (p.0 + 1, omega (arith, size, p.1), (in_back (p.0 + 1) p.0 refl more p.1).0 ∙ p.2))
-            (cases_lt p.0 place)
+            let q = p.0 + (1 - (place - p.0)) in
+            (q, omega (arith, size, p.1), grind (arith, cases_lt p.0 place, in_front q, in_back q p.0, p.1, p.2))
       ]
 
   rises_now : (p q : ℕ) → p < q → q < length longer → IsBefore (key_by more_keys longer p) (key_by more_keys longer q)
   rises_now p q l m =
-      let p_in = cases_lt p place in
-      let q_in = cases_lt q place in
-      let p_at = cases_eq p place in
-      let q_at = cases_eq q place in
-      let behind = gap.behind (q - 1) in
-      let rises = o.rises p in
-      let rises_behind = o.rises (p - 1) (q - 1) in
-      grind (arith, size, in_front p, in_front q, at_gap p, at_gap q, in_back p (p - 1), in_back q (q - 1), gap.before p, rises q, rises (q - 1))
-
-  inside_now : (p : ℕ) → p < length longer → get_or longer p 0 < length keys + 1
-  inside_now p l = grind (arith, size, cases_lt p place, cases_eq p place, in_front p, at_gap p, in_back p (p - 1), o.inside p, o.inside (p - 1))
+      let rises = o.rises (p - 1) (q - 1) in
+      grind (arith, size, in_front p, in_front q, at_gap p, at_gap q, in_back p (p - 1), in_back q (q - 1), gap.before p, gap.behind (q - 1), o.rises p q, o.rises p (q - 1))
 
   pub order_more : IsOrder more_keys longer
-  order_more =
-      let many = length-append keys (key ∷ []) in
-      record {
-        same_length = omega (arith, size, many, o.same_length);
-        inside = λ p l. omega (arith, many, inside_now p l);
-        each = λ n l. each_now n (omega (arith, many));
-        rises = rises_now;
-      }
+  order_more = record {
+    same_length = omega (arith, size, length-append keys (key ∷ []), o.same_length);
+    inside = λ p l. grind (arith, size, length-append keys (key ∷ []), in_front p, at_gap p, in_back p (p - 1), o.inside p, o.inside (p - 1));
+    each = λ n l. each_now n (omega (arith, length-append keys (key ∷ [])));
+    rises = rises_now;
+  }
 
 -- ---- a stray goes
 
@@ -135,27 +107,21 @@ module _ (keys less : List (List ℕ)) (order : List ℕ) (number place last : �
       (one, length-remove middle place (omega (arith, one, place_in)) ∙ one)
 
   read : (p : ℕ) → get_or (forgotten order place last) p 0 ≡ get_or middle (skip p) 0
-  read p =
-      let is : (p < place → skip p ≡ p) × (place ≤ p → skip p ≡ p + 1) = ((λ l. omega (arith, l)), (λ l. omega (arith, l))) in
-      grind (arith, is.0, is.1, sizes.0, cases_lt p place, get_or-remove_below middle place 0 p, get_or-remove_above middle place 0 p)
-
-  not_last : (r : ℕ) → r ≡ last → (r ≡ place → ⊥) → number + 1 < length keys
-  not_last r e d = grind (arith, cases_eq number (length keys - 1), numbers_apart keys order o place last place_in last_in)
+  read p = grind (arith, sizes.0, get_or-remove_below middle place 0 p, get_or-remove_above middle place 0 p)
 
   -- what stands at a place that stays: its number then and now, and its hash and key
   stays : (r : ℕ) → r < length order → r ≢ place → (get_or middle r 0 < length less) × (get_or less (get_or middle r 0) [] ≡ key_by keys order r)
   stays r l d =
-      let apart : (s : ℕ) → s < length order → get_or order r 0 ≡ get_or order s 0 → r ≡ s = λ s. numbers_apart keys order o r s l in
-      grind (arith, reads, cases_eq r last, not_last r, apart place place_in, apart last last_in, swap.last [], swap.others (get_or order r 0) [], o.inside r)
+      let apart : (s : ℕ) → s < length order → key_by keys order r ≡ key_by keys order s → r ≡ s = λ s. places_apart keys order o r s l in
+      let ends = places_apart keys order o place last place_in last_in in
+      grind (arith, reads, cases_eq number (length keys - 1), cases_eq r last, apart place place_in, apart last last_in, swap.last [], swap.others (get_or order r 0) [], o.inside r)
 
   now_at : (p : ℕ) → p < length (forgotten order place last) → (get_or (forgotten order place last) p 0 < length less) × (key_by less (forgotten order place last) p ≡ key_by keys order (skip p))
-  now_at p l =
-      let was = stays (skip p) (omega (arith, sizes.1, l)) (λ e. omega (arith, e)) in
-      (omega (arith, read p, was.0), ap (λ (n : ℕ). get_or less n []) (read p) ∙ was.1)
+  now_at p l = grind (arith, sizes.1, read p, stays (skip p))
 
   -- the place that a number has now, from the one where it stood
   place_now : (r n : ℕ) → r < length order → (r ≡ place → ⊥) → get_or middle r 0 ≡ n → (p : ℕ) × (p < length (forgotten order place last)) × (get_or (forgotten order place last) p 0 ≡ n)
-  place_now r n l d e = (unskip r, omega (arith, sizes.1, l, d, place_in), read (unskip r) ∙ ap (λ (m : ℕ). get_or middle m 0) {x = skip (unskip r)} {y = r} (omega (arith, d)) ∙ e)
+  place_now r n l d e = let is : skip (unskip r) ≡ r = omega (arith, d) in (unskip r, omega (arith, sizes.1, l, d, place_in), grind (arith, read (unskip r)))
 
   each_left : (n : ℕ) → n < length less → (p : ℕ) × (p < length (forgotten order place last)) × (get_or (forgotten order place last) p 0 ≡ n)
   each_left n l =
@@ -170,8 +136,7 @@ module _ (keys less : List (List ℕ)) (order : List ℕ) (number place last : �
     same_length = omega (arith, sizes.1, swap.shorter, o.same_length);
     inside = λ p l. (now_at p l).0;
     each = each_left;
-    rises = λ p q l m.
-        carry (now_at p (omega (arith, l, m))).1 (now_at q m).1 (o.rises (skip p) (skip q) (omega (arith, l)) (omega (arith, sizes.1, m)));
+    rises = λ p q l m. grind (arith, sizes.1, now_at p, now_at q, o.rises (skip p) (skip q));
   }
 
 -- ---- the same of entries
@@ -242,17 +207,13 @@ module _ {X : Type 0} (hash_of : X → ℕ) (key_of : X → List ℕ) where
 
 -- ---- what a search costs
 
-halved : (width half left : ℕ) → 1 ≤ width → half + half ≤ width → width < 2 ^ left → (less : ℕ) × (less + 1 ≡ left) × (half < 2 ^ less)
-halved width half zero some most fits = absurd (omega arith)
-halved width half (suc less) some most fits = (less, omega arith, omega (arith, pow-succ' 2 less))
-
 -- what is left to read after a read that halved it
 pub less_to_read : (n width half seen now start : ℕ) → ((digits : ℕ) → n < 2 ^ digits → (left : ℕ) × (width < 2 ^ left) × (seen + left ≤ start + digits)) → 1 ≤ width → half + half ≤ width
     → now ≤ seen + 1 → (digits : ℕ) → n < 2 ^ digits → (left : ℕ) × (half < 2 ^ left) × (now + left ≤ start + digits)
 less_to_read n width half seen now start before some most one digits l =
     let had = before digits l in
-    let fewer = halved width half had.0 some most had.1 in
-    (fewer.0, fewer.2, omega (arith, had.2, fewer.1))
+    let more : suc (had.0 - 1) ≡ had.0 = grind (arith, had.1, cases_eq had.0 0) in
+    (had.0 - 1, grind (arith, had.1, pow-succ' 2 (had.0 - 1)), omega (arith, had.2, more))
 
 pub below_power : (most n : ℕ) → n ≤ most → n < 2 ^ digits_in most n
 below_power zero zero l = omega arith
@@ -260,13 +221,9 @@ below_power zero (suc n) l = absurd (omega (arith, l))
 below_power (suc most) zero l = omega arith
 below_power (suc most) (suc n) l = omega (arith, below_power most (suc n / 2) (omega (arith, l)), pow-succ' 2 (digits_in most (suc n / 2)))
 
-both_tables : (b : Bool) → ◌≡◌ {A = ℕ} (if b then 64 else 32) ((if b then 32 else 0) + 32)
-both_tables true = refl
-both_tables false = refl
-
 pub reads_in_all : {X : Type 0} {v now : IndexState X} (before first second last : ℕ) → v ≡ now → first ≤ before + (if v.growing then 32 else 0) → second ≤ first + 32
     → ((digits : ℕ) → length v.strays < 2 ^ digits → last ≤ second + digits) → last ≤ before + most_reads now
 reads_in_all {X} {v} {now} before first second last same a b c =
     let n = length v.strays in
     let found = c (binary_digits n) (below_power n n (omega arith)) in
-    subst (λ (s : IndexState X). last ≤ before + most_reads s) same (omega (arith, a, b, found, both_tables v.growing))
+    subst (λ (s : IndexState X). last ≤ before + most_reads s) same (grind (arith, a, b, found))
