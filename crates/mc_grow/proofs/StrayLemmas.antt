@@ -1,22 +1,22 @@
 -- A stray goes out, to the table or for good, and the strays are tried one by one.
-use Rattle.std.proofs.Common.{◌≡◌, ℕ, suc, ◌+◌, ◌-◌, ◌<◌, ◌≤◌, inl, inr, Bool, true, false, List, [], ◌∷◌, ◌++◌, map, length, length-set, take, drop, set, Option, Some, None}
-use Rattle.std.proofs.Common.{get_or, refl, sym, ap, subst, ◌∙◌, arith}
+use Rattle.std.proofs.Common.{◌≡◌, ℕ, zero, suc, ◌+◌, ◌-◌, ◌<◌, ◌≤◌, inl, inr, Bool, true, false, if◌then◌else◌, List, [], ◌∷◌, ◌++◌, map, length, take, drop, set, Option, Some, None}
+use Rattle.std.proofs.Common.{add-one, get_or, refl, sym, ap, subst, ◌∙◌, arith}
 use Rattle.std.proofs.lemmas.Option.{none-some}
 use Rattle.std.proofs.lemmas.Bool.{cases_eq}
-use Rattle.std.proofs.lemmas.List.Sorted.{IsPermutation-append_right, IsPermutation-refl, IsPermutation-swap_remove, IsPermutation-trans}
-use Rattle.std.proofs.lemmas.List.{append_assoc, append-nil, length-drop, length-take, take-take, take_all, get_or-drop, get_or-set_other, drop-set, drop-take, take-set}
+use Rattle.std.proofs.lemmas.List.Sorted.{IsPermutation-pop_more, IsPermutation-refl, IsPermutation-swap_remove, length_permutation}
+use Rattle.std.proofs.lemmas.List.{append-nil, length-map, take_all}
 use Rattle.std.proofs.Math.Seq.{drop-cons, take-suc}
 use Rattle.std.proofs.Math.ListN.{drop_of_length-le}
 use Rattle.std.specs.List.{swap_remove}
 use Rattle.std.specs.List.Sorted.{IsPermutation}
 use Rattle.std.specs.FinMap.{get, insert}
 use Rattle.mc_hop.specs.Links.{IsSwapped}
-use Rattle.mc_hop.specs.Tables.{AreApart, HasEntry, home_in}
+use Rattle.mc_hop.specs.Tables.{AreApart, HasEntry}
 use Rattle.mc_hop.specs.Contents.{content}
-use Rattle.mc_hop.proofs.ListLemmas.{stood}
+use Rattle.mc_hop.proofs.ListLemmas.{reads}
 use Rattle.mc_hop.proofs.LawLemmas.{same_entries}
 use Rattle.mc_grow.specs.Moving.{HoldsAll, IsTried}
-use Rattle.mc_grow.specs.Adding.{AreAdded, AreTried, IsAdded, IsFull, NoneNear, Side, cells_of}
+use Rattle.mc_grow.specs.Adding.{AreAdded, AreTried, IsAdded, Side, cells_of}
 use Rattle.mc_grow.specs.Adding.AreAdded.{none_added, one_added}
 use Rattle.mc_grow.proofs.PartLemmas.{less_at, less_other, stood_less, stray_inside, stray_there}
 use Rattle.mc_grow.proofs.MoveLemmas.{IsOut, moved_back, new_to_each, out_second, out_taken, parts_apart}
@@ -36,19 +36,15 @@ module _ {X : Type 0} (hash_of : X → ℕ) (key_of : X → List ℕ) (strays le
   from_less : (y : X) → HasEntry (map Some less) y → HasEntry before y
   from_less y has =
       elim (stood_less strays less at swap has.0 y has.1) [
-        | (inl a) ↦ (has.0, get_or-set_other (map Some strays) at has.0 None None a.0 ∙ a.1)
-        | (inr b) ↦ (length less, get_or-set_other (map Some strays) at (length less) None None (λ e. omega (arith, e, b.0, stray_inside less has.0 y has.1)) ∙ b.1)
+        | (inl a) ↦ (has.0, grind (arith, reads))
+        | (inr b) ↦ (length less, grind (arith, reads, stray_inside less has.0 y has.1))
       ]
 
   to_less : (y : X) → HasEntry before y → HasEntry (map Some less) y
   to_less y has =
-      elim (stood (map Some strays) at has.0 None y has.1) [
-        | (inl a) ↦ absurd (none-some y a.1)
-        | (inr b) ↦
-            elim (cases_eq has.0 (length less)) [
-              | (inl e) ↦ (at, less_at strays less at swap (omega (arith, e, b.0, below, swap.shorter)) ∙ ap (λ (n : ℕ). get_or (map Some strays) n None) (sym e) ∙ b.1)
-              | (inr d) ↦ (has.0, less_other strays less at swap has.0 b.0 (omega (arith, d, swap.shorter, stray_inside strays has.0 y b.1)) ∙ b.1)
-            ]
+      elim (cases_eq has.0 (length less)) [
+        | (inl e) ↦ (at, grind (arith, reads, has.1, cases_eq has.0 at, length-map strays Some, less_at strays less at swap, swap.shorter, none-some y))
+        | (inr d) ↦ (has.0, grind (arith, reads, has.1, cases_eq has.0 at, length-map strays Some, less_other strays less at swap has.0, swap.shorter, none-some y, stray_inside strays has.0 y))
       ]
 
   pub stray_out : AreApart hash_of key_of (map Some strays) → IsOut hash_of key_of x (map Some strays) (map Some less)
@@ -75,27 +71,15 @@ module _ {X : Type 0} (hash_of : X → ℕ) (key_of : X → List ℕ) (strays le
 
 -- ---- the strays are tried
 
-add-one : (n : ℕ) → suc n ≡ n + 1
-add-one n = omega arith
-
 -- what was not tried yet, when a stray of it goes out
-swapped_out : {X : Type 0} (xs rest : List X) (at : ℕ) (x : X) → at < length xs → x ≡ get_or xs at x → rest ≡ swap_remove xs at x → (take at rest ≡ take at xs)
-    × IsPermutation (drop at xs) (x ∷ drop at rest)
-swapped_out {X} xs rest at x inside there out =
-    let m = length xs - (at + 1) in
-    let end : X = get_or xs (length xs - 1) x in
-    let ends : length xs - 1 ≡ at + m = omega (arith, inside) in
-    let is : rest ≡ take (at + m) (set xs at end) = out ∙ ap (λ (n : ℕ). take n (set xs at end)) ends in
-    let back : drop at xs ≡ x ∷ drop (at + 1) xs = drop-cons xs at x inside ∙ ap (λ (y : X). y ∷ drop (suc at) xs) (sym there) ∙ ap (λ (n : ℕ). x ∷ drop n xs) (add-one at) in
-    let behind : drop at rest ≡ take m (end ∷ drop (at + 1) xs) = ap (drop at) is ∙ drop-take at m (set xs at end) ∙ ap (take m) (drop-set xs at end inside) in
-    let many : length (x ∷ drop (at + 1) xs) - 1 ≡ m = omega (arith, length-drop (at + 1) xs) in
-    let last : get_or (x ∷ drop (at + 1) xs) m x ≡ end = ap (λ (l : List X). get_or l m x) (sym back) ∙ get_or-drop at xs m x ∙ ap (λ (n : ℕ). get_or xs n x) (sym ends) in
-    let same : swap_remove (x ∷ drop (at + 1) xs) 0 x ≡ drop at rest =
-    ap (λ (n : ℕ). take n (get_or (x ∷ drop (at + 1) xs) n x ∷ drop (at + 1) xs)) many ∙ ap (λ (y : X). take m (y ∷ drop (at + 1) xs)) last ∙ sym behind in (
-      ap (take at) is ∙ take-take at (at + m) (set xs at end) (omega arith) ∙ take-set xs at end,
-      subst (λ (l : List X). IsPermutation l (x ∷ drop at rest)) (sym back)
-          (subst (λ (l : List X). IsPermutation (x ∷ drop (at + 1) xs) (x ∷ l)) same (IsPermutation-swap_remove (x ∷ drop (at + 1) xs) 0 x (omega arith) refl)),
-    )
+swapped_out : {X : Type 0} (xs : List X) (at : ℕ) (x : X) → at < length xs → x ≡ get_or xs at x → (take at (swap_remove xs at x) ≡ take at xs) × IsPermutation (drop at xs) (x ∷ drop at (swap_remove xs at x))
+swapped_out [] at x l there = absurd (omega arith)
+swapped_out (y ∷ ys) zero x l there = (refl, IsPermutation-swap_remove (y ∷ ys) zero x l there)
+swapped_out {X} (y ∷ ys) (suc at) x l there =
+    let rest = swapped_out ys at x (omega arith) there in
+    let is : swap_remove (y ∷ ys) (suc at) x ≡ y ∷ swap_remove ys at x =
+    ap (λ (n : ℕ). take n (set (y ∷ ys) (suc at) (get_or (y ∷ ys) n x))) {x = length (y ∷ ys) - 1} {y = suc (length ys - 1)} (omega (arith, l)) in
+    (ap (take (suc at)) is ∙ ap (λ (l : List X). y ∷ l) rest.0, subst (λ (l : List X). IsPermutation (drop at ys) (x ∷ drop (suc at) l)) (sym is) rest.1)
 
 -- after so many turns, of which some strays were kept
 pub record TriedSoFar {X : Type 0} (hash_of : X → ℕ) (key_of : X → List ℕ) (k turn kept : ℕ) (start side : Side X) : Type 0 where
@@ -125,9 +109,7 @@ tried_step : {X : Type 0} {hash_of : X → ℕ} {key_of : X → List ℕ} {k tur
     → TriedSoFar hash_of key_of k (turn + 1) kept_now start side_now
 tried_step {X} {kept = kept} {start} {side} kept_now side_now x before moves added fewer held = record {
   tried = before.tried ++ (x ∷ []);
-  each = IsPermutation-trans start.strays (before.tried ++ drop kept side.strays) ((before.tried ++ (x ∷ [])) ++ drop kept_now side_now.strays) before.each
-      (subst (λ (l : List X). IsPermutation (before.tried ++ drop kept side.strays) l) (sym (append_assoc before.tried (x ∷ []) (drop kept_now side_now.strays)))
-      (IsPermutation-append_right before.tried (drop kept side.strays) (x ∷ drop kept_now side_now.strays) moves));
+  each = IsPermutation-pop_more start.strays before.tried (drop kept side.strays) (drop kept_now side_now.strays) x before.each moves;
   many = omega (arith, before.many, fewer.1);
   inside = fewer.0;
   added = one_added before.tried x (record start { strays = [] }) (record side { strays = take kept side.strays }) (record side_now { strays = take kept_now side_now.strays }) before.added added;
@@ -145,31 +127,21 @@ all_tried {X} hash_of key_of k turn kept start side so_far done =
       added = subst (λ (l : List X). AreAdded hash_of key_of k so_far.tried (record start { strays = [] }) (record side { strays = l })) (take_all kept side.strays ends) so_far.added;
     }
 
-pub tried_more : {X : Type 0} (hash_of : X → ℕ) (key_of : X → List ℕ) (k k_now turn kept kept_now : ℕ) (put : Bool) (start side side_now : Side X)
-    → TriedSoFar hash_of key_of k turn kept start side → IsTried hash_of key_of k_now kept put side side_now → k_now ≡ k
-    → HoldsAll hash_of key_of (cells_of side) (cells_of side_now) → (put ≡ true → kept_now ≡ kept) → (put ≡ false → kept_now ≡ kept + 1)
+pub tried_more : {X : Type 0} (hash_of : X → ℕ) (key_of : X → List ℕ) (k turn kept kept_now : ℕ) (put : Bool) (start side side_now : Side X) → TriedSoFar hash_of key_of k turn kept start side
+    → IsTried hash_of key_of k kept put side side_now → HoldsAll hash_of key_of (cells_of side) (cells_of side_now) → kept_now ≡ (if put then kept else kept + 1)
     → TriedSoFar hash_of key_of k (turn + 1) kept_now start side_now
-tried_more {X} hash_of key_of k k_now turn kept kept_now true start side side_now before one is held goes stays =
+tried_more {X} hash_of key_of k turn kept kept_now true start side side_now before one held next =
     let x = one.entry in
-    let out = swapped_out side.strays side_now.strays kept x one.inside one.there one.outcome.2 in
-    let fewer : length side_now.strays + 1 ≡ length side.strays = ap (λ (l : List X). length l + 1) one.outcome.2 ∙ shorter side.strays kept x one.inside in
-    subst (λ (n : ℕ). TriedSoFar hash_of key_of k (turn + 1) n start side_now) (sym (goes refl)) (tried_step kept side_now x before out.1
-    (inl (record { had = subst (λ (n : ℕ). IsFull hash_of n side.items (home_in n (hash_of x)) → ⊥) is one.outcome.1; placed = one.outcome.0; strays = out.0 }))
-    (omega (arith, fewer, one.inside), omega (arith, fewer, one.inside)) held) where
-      shorter : (xs : List X) (at : ℕ) (y : X) → at < length xs → length (swap_remove xs at y) + 1 ≡ length xs
-      shorter xs at y below = omega (arith, length-take (length xs - 1) (set xs at (get_or xs (length xs - 1) y)), length-set xs at (get_or xs (length xs - 1) y))
-tried_more {X} hash_of key_of k k_now turn kept kept_now false start side side_now before one is held goes stays =
+    let outcome = one.outcome in
+    let out = subst (λ (l : List X). (take kept l ≡ take kept side.strays) × IsPermutation (drop kept side.strays) (x ∷ drop kept l)) (sym outcome.2) (swapped_out side.strays kept x one.inside one.there) in
+    let fewer = length_permutation side.strays (x ∷ swap_remove side.strays kept x) (IsPermutation-swap_remove side.strays kept x one.inside one.there) in
+    subst (λ (n : ℕ). TriedSoFar hash_of key_of k (turn + 1) n start side_now) (sym next) (tried_step kept side_now x before out.1 (inl (record { had = outcome.1; placed = outcome.0; strays = out.0 }))
+    (omega (arith, ap length outcome.2, fewer, one.inside), omega (arith, ap length outcome.2, fewer, one.inside)) held)
+tried_more {X} hash_of key_of k turn kept kept_now false start side side_now before one held next =
     let x = one.entry in
     let same : side_now.strays ≡ side.strays = one.outcome.3 in
-    let read : get_or side.strays kept x ≡ x = sym one.there in
-    let front : drop kept side.strays ≡ x ∷ drop (kept + 1) side_now.strays = drop-cons side.strays kept x one.inside ∙ (λ i. read i ∷ drop (add-one kept i) (sym same i)) in
-    let taken : take (kept + 1) side_now.strays ≡ take kept side.strays ++ (x ∷ []) =
-    (λ i. take (sym (add-one kept) i) (same i)) ∙ take-suc side.strays kept x one.inside ∙ (λ i. take kept side.strays ++ (read i ∷ [])) in
-    subst (λ (n : ℕ). TriedSoFar hash_of key_of k (turn + 1) n start side_now) (sym (stays refl)) (tried_step (kept + 1) side_now x before
+    let front : drop kept side.strays ≡ x ∷ drop (kept + 1) side_now.strays = rw (add-one, same) (drop-cons side.strays kept x one.inside ∙ ap (λ (y : X). y ∷ drop (suc kept) side.strays) (sym one.there)) in
+    let taken : take (kept + 1) side_now.strays ≡ take kept side.strays ++ (x ∷ []) = rw (add-one, same) (take-suc side.strays kept x one.inside ∙ ap (λ (y : X). take kept side.strays ++ (y ∷ [])) (sym one.there)) in
+    subst (λ (n : ℕ). TriedSoFar hash_of key_of k (turn + 1) n start side_now) (sym next) (tried_step (kept + 1) side_now x before
     (subst (IsPermutation (drop kept side.strays)) front (IsPermutation-refl (drop kept side.strays)))
-    (inr (record {
-      none_near = subst (λ (n : ℕ). NoneNear side.items (home_in n (hash_of x))) is one.outcome.1;
-      same = one.outcome.0;
-      full = subst (λ (n : ℕ). IsFull hash_of n side_now.items (home_in n (hash_of x))) is one.outcome.2;
-      strays = taken;
-    })) (omega (arith, ap length same, one.inside), omega (arith, ap length same, one.inside)) held)
+    (inr (record { none_near = one.outcome.1; same = one.outcome.0; full = one.outcome.2; strays = taken })) (omega (arith, ap length same, one.inside), omega (arith, ap length same, one.inside)) held)

@@ -1,4 +1,5 @@
-use Rattle.std.proofs.Common.{◌≡◌, ◌+◌, true, false, true≢false, sym, refl, arith, ◌∙◌}
+use Rattle.std.proofs.Common.{◌≡◌, ℕ, ◌+◌, if◌then◌else◌, subst, refl, arith, ◌∙◌}
+use Rattle.mc_grow.specs.Moving.{IsTried}
 use Rattle.mc_grow.specs.Adding.{beside}
 use Rattle.mc_grow.proofs.StrayLemmas.{none_tried, tried_more, all_tried}
 use Rattle.mc_grow.proofs.moving.try_strays.Goals as goal
@@ -14,14 +15,12 @@ loop-turn-init g c = record {
 
 pub loop-turn-preserved : goal.loop-turn-preserved
 loop-turn-preserved g c =
-    let goes : c.try_in.result ≡ true → c.if-not-try_in.kept ≡ c.loop-turn.kept =
-    elim c.if-not-try_in.branch [ then-not-try_in w ↦ λ e. absurd (true≢false (sym e ∙ w.if-not-try_in.true)) | else-not-try_in w ↦ λ e. w.kept-is ] in
-    let stays : c.try_in.result ≡ false → c.if-not-try_in.kept ≡ c.loop-turn.kept + 1 =
-    elim c.if-not-try_in.branch [ then-not-try_in w ↦ λ e. w.kept-is | else-not-try_in w ↦ λ e. absurd (true≢false (sym w.if-not-try_in.false ∙ e)) ] in
+    let next : c.if-not-try_in.kept ≡ (if c.try_in.result then c.loop-turn.kept else c.loop-turn.kept + 1) =
+    elim c.if-not-try_in.branch [ then-not-try_in w ↦ grind (arith, w.kept-is, w.if-not-try_in.true) | else-not-try_in w ↦ grind (arith, w.kept-is, w.if-not-try_in.false) ] in
     record {
-      turns = tried_more g.T.Keyed.hash_of g.T.Keyed.key_of c.args.table.now.k c.loop-turn.table.k c.loop-turn._turn c.loop-turn.kept c.if-not-try_in.kept c.try_in.result
-          (beside c.args.table.now c.args.strays.now.items) (beside c.loop-turn.table c.loop-turn.strays.items) (beside c.try_in.new.table c.try_in.new.self.items)
-          c.loop-turn.invariant.turns c.try_in.ensures.tried c.loop-turn.invariant.same_k c.try_in.ensures.content goes stays;
+      turns = tried_more g.T.Keyed.hash_of g.T.Keyed.key_of c.args.table.now.k _ _ _ c.try_in.result (beside c.args.table.now c.args.strays.now.items) (beside c.loop-turn.table c.loop-turn.strays.items) _
+          c.loop-turn.invariant.turns (subst (λ (k : ℕ). IsTried g.T.Keyed.hash_of g.T.Keyed.key_of k c.loop-turn.kept c.try_in.result (beside c.loop-turn.table c.loop-turn.strays.items)
+          (beside c.try_in.new.table c.try_in.new.self.items)) c.loop-turn.invariant.same_k c.try_in.ensures.tried) c.try_in.ensures.content next;
       same_k = c.try_in.ensures.k ∙ c.loop-turn.invariant.same_k;
       room = omega (arith, c.try_in.ensures.len, c.loop-turn.invariant.room);
       capacity = c.try_in.ensures.room ∙ c.loop-turn.invariant.capacity;
