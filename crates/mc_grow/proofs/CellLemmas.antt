@@ -4,16 +4,18 @@ use Rattle.std.proofs.Common.{refl, sym, ap, subst, ◌∙◌, arith}
 use Rattle.std.proofs.lemmas.Bool.{cases_lt}
 use Rattle.std.proofs.lemmas.Option.{none-some}
 use Rattle.std.proofs.Math.Seq.{drop-nil}
-use Rattle.std.proofs.lemmas.List.{get_or_past, get_or_append_left, get_or-append-add, get_or-append_right}
+use Rattle.std.proofs.lemmas.List.{get_or_past, get_or_append_left, get_or-append-add, get_or-append_right, set-append_left, set-append_right}
 use Rattle.std.specs.FinMap.{get}
 use Rattle.mc_hop.specs.Cells.{filled}
 use Rattle.mc_hop.specs.Contents.{content}
 use Rattle.mc_hop.specs.Tables.{AreApart, IsAt, IsAbsent}
 use Rattle.mc_grow.specs.declared.index.Place.{Place}
-use Rattle.mc_grow.specs.Indexes.{IndexState, IsFirstFrom, IsPlaceOf, cells, entry_at}
+use Rattle.mc_grow.specs.Indexes.{IndexState, IsFirstFrom, IsPlaceOf, cells, count_from, entry_at}
 use Rattle.mc_grow.specs.Parts.{IsFirstFilled, NoneFilledFrom}
-use Rattle.mc_hop.proofs.ListLemmas.{filled_inside, in_one, in_first}
-use Rattle.mc_hop.proofs.LawLemmas.{entry_found}
+use Rattle.std.specs.Option.{option_or}
+use Rattle.mc_hop.proofs.ListLemmas.{filled_inside, in_first}
+use Rattle.mc_hop.proofs.LawLemmas.{entry_absent, entry_found, get_joined}
+use Rattle.mc_grow.proofs.PartLemmas.{some_stray}
 
 -- ---- how many have an entry
 
@@ -72,16 +74,6 @@ count_parts old table strays = omega (arith, filled-append old (table ++ map Som
 
 -- ---- one list behind another
 
-set_first : {X : Type 0} (xs ys : List (Option X)) (at : ℕ) (o : Option X) → at < length xs → set (xs ++ ys) at o ≡ set xs at o ++ ys
-set_first [] ys at o l = absurd (omega arith)
-set_first (p ∷ xs) ys zero o l = refl
-set_first {X} (p ∷ xs) ys (suc at) o l = ap (λ (zs : List (Option X)). p ∷ zs) (set_first xs ys at o (omega arith))
-
-set_second : {X : Type 0} (xs ys : List (Option X)) (at n : ℕ) (o : Option X) → n ≡ length xs + at → set (xs ++ ys) n o ≡ xs ++ set ys at o
-set_second [] ys at n o e = ap (λ (n : ℕ). set ys n o) (omega arith)
-set_second (p ∷ xs) ys at zero o e = absurd (omega arith)
-set_second {X} (p ∷ xs) ys at (suc n) o e = ap (λ (zs : List (Option X)). p ∷ zs) (set_second xs ys at n o (omega arith))
-
 pub get_second : {X : Type 0} (xs ys : List (Option X)) (at n : ℕ) → n ≡ length xs + at → get_or (xs ++ ys) n None ≡ get_or ys at None
 get_second xs ys at n e = ap (λ (n : ℕ). get_or (xs ++ ys) n None) e ∙ get_or-append-add xs ys at None
 
@@ -93,14 +85,16 @@ pub record Within {X : Type 0} (part whole : List (Option X)) (at number : ℕ) 
 within_left : {X : Type 0} (xs ys : List (Option X)) (at number : ℕ) → at < length xs → number ≡ at → Within xs (xs ++ ys) at number (λ zs. zs ++ ys)
 within_left xs ys at number l e = record {
   reads = ap (λ (n : ℕ). get_or (xs ++ ys) n None) e ∙ get_or_append_left xs ys None at l;
-  writes = λ o. sym (set_first xs ys at o l) ∙ ap (λ (n : ℕ). set (xs ++ ys) n o) (sym e);
+  writes = λ o. sym (set-append_left xs ys at o l) ∙ ap (λ (n : ℕ). set (xs ++ ys) n o) (sym e);
 }
 
 within_right : {X : Type 0} (part xs ys : List (Option X)) (at n number : ℕ) (put : List (Option X) → List (Option X)) → Within part ys at n put → number ≡ length xs + n
     → Within part (xs ++ ys) at number (λ zs. xs ++ put zs)
 within_right {X} part xs ys at n number put is e = record {
   reads = get_second xs ys n number e ∙ is.reads;
-  writes = λ o. ap (λ (zs : List (Option X)). xs ++ zs) (is.writes o) ∙ sym (set_second xs ys n number o e);
+  writes = λ o.
+      ap (λ (zs : List (Option X)). xs ++ zs) (is.writes o)
+      ∙ sym (set-append_right xs ys (length xs) number o refl (omega arith) ∙ ap (λ (m : ℕ). xs ++ set ys m o) {x = number - length xs} {y = n} (omega arith));
 }
 
 -- a place of an index as contracts see it, and as the fields are
@@ -149,18 +143,13 @@ module _ {X : Type 0} (xs ys : List (Option X)) where
   }
 
 pub first_stray : {X : Type 0} (strays : List X) (n : ℕ) → n < length strays → IsFirstFilled (map Some strays) n n
-first_stray [] n l = absurd (omega arith)
-first_stray (x ∷ strays) zero l = record { entry = x; there = refl; low = omega arith; skipped = λ k low high. absurd (omega arith) }
-first_stray (x ∷ strays) (suc n) l =
-    let first = first_stray strays n (omega arith) in
-    record { entry = first.entry; there = first.there; low = omega arith; skipped = λ k low high. absurd (omega arith) }
+first_stray strays n l = let x = some_stray strays n l in record { entry = x.0; there = x.1; low = omega arith; skipped = λ k low high. absurd (omega arith) }
 
 pub first_from : {X : Type 0} (index : IndexState X) (at : ℕ) (place : Place) → IsFirstFilled (cells index) at place.number → place.number < 2 ^ 64 - 1 → IsFirstFrom index at place.number place
 first_from index at place first small =
     let n = place.number in
-    let ahead : filled (drop n (cells index)) ≡ filled (drop at (cells index)) =
-    ap (λ (m : ℕ). filled (drop m (cells index))) {x = n} {y = at + (n - at)} (omega (arith, first.low))
-    ∙ filled_skip (cells index) at (n - at) (λ k low high. first.skipped k low (omega (arith, first.low))) in
+    let far : at + (n - at) ≡ n = omega (arith, first.low) in
+    let ahead : count_from index n ≡ count_from index at = grind (arith, filled_skip (cells index) at (n - at) (λ k low high. first.skipped k low (omega (arith, first.low)))) in
     record {
       filled = (first.entry, first.there);
       same = refl;
@@ -168,35 +157,24 @@ first_from index at place first small =
       below = small;
       skipped = first.skipped;
       ahead = ahead;
-      count = sym ahead ∙ filled-drop (cells index) n
-          ∙ (λ i. filled (drop (suc n) (cells index)) + filled (first.there i ∷ [])) ∙ ap (λ (m : ℕ). filled (drop m (cells index)) + 1) {x = suc n} (omega arith);
+      count = grind (arith, filled-drop (cells index) n, first.there);
     }
 
 -- ---- a search
 
-pub at_left : {X : Type 0} {hash_of : X → ℕ} {key_of : X → List ℕ} (xs ys : List (Option X)) {hash : ℕ} {key : List ℕ} {at : ℕ}
-    → IsAt hash_of key_of xs hash key at → IsAt hash_of key_of (xs ++ ys) hash key at
-at_left xs ys {at = at} is = record { entry = is.entry; there = in_first xs ys at is.entry is.there; same_hash = is.same_hash; same_key = is.same_key }
-
-pub at_right : {X : Type 0} {hash_of : X → ℕ} {key_of : X → List ℕ} (xs ys : List (Option X)) {hash : ℕ} {key : List ℕ} {at number : ℕ} → number ≡ length xs + at
-    → IsAt hash_of key_of ys hash key at → IsAt hash_of key_of (xs ++ ys) hash key number
-at_right xs ys {at = at} {number} e is = record { entry = is.entry; there = get_second xs ys at number e ∙ is.there; same_hash = is.same_hash; same_key = is.same_key }
-
 pub absent_both : {X : Type 0} (hash_of : X → ℕ) (key_of : X → List ℕ) (xs ys : List (Option X)) (hash : ℕ) (key : List ℕ) → IsAbsent hash_of key_of xs hash key → IsAbsent hash_of key_of ys hash key
     → IsAbsent hash_of key_of (xs ++ ys) hash key
-absent_both hash_of key_of xs ys hash key none rest at is =
-    elim (in_one xs ys at is.entry is.there) [
-      | (inl e) ↦ none at (record { entry = is.entry; there = e; same_hash = is.same_hash; same_key = is.same_key })
-      | (inr r) ↦ rest r.0 (record { entry = is.entry; there = r.2; same_hash = is.same_hash; same_key = is.same_key })
-    ]
+absent_both hash_of key_of xs ys hash key none rest =
+    let absent = entry_absent hash_of key_of in
+    (absent (xs ++ ys) hash key).1 (get_joined hash_of key_of xs ys (hash ∷ key) ∙ λ i. option_or ((absent xs hash key).0 none i) ((absent ys hash key).0 rest i))
 
-pub placed : {X : Type 0} {hash_of : X → ℕ} {key_of : X → List ℕ} {v now : IndexState X} {hash : ℕ} {key : List ℕ} (place : Place) → v ≡ now → AreApart hash_of key_of (cells v)
-    → IsAt hash_of key_of (cells v) hash key place.number → IsPlaceOf hash_of key_of now hash key place
-placed {X} {hash_of} {key_of} {v} {hash = hash} {key} place same apart is = subst (λ (s : IndexState X). IsPlaceOf hash_of key_of s hash key place) same (record {
+pub placed : {X : Type 0} {hash_of : X → ℕ} {key_of : X → List ℕ} {v now : IndexState X} {hash : ℕ} {key : List ℕ} {part : List (Option X)} {at : ℕ} (place : Place)
+    → v ≡ now → AreApart hash_of key_of (cells v) → entry_at v place ≡ get_or part at None → IsAt hash_of key_of part hash key at → IsPlaceOf hash_of key_of now hash key place
+placed {X} {hash_of} {key_of} {v} {hash = hash} {key} place same apart reads is = subst (λ (s : IndexState X). IsPlaceOf hash_of key_of s hash key place) same (record {
   entry = is.entry;
-  there = is.there;
+  there = reads ∙ is.there;
   same_hash = is.same_hash;
   same_key = is.same_key;
   held = subst (λ (q : List ℕ). get (content hash_of key_of (cells v)) q ≡ Some is.entry) (λ i. is.same_hash i ∷ is.same_key i)
-      (entry_found hash_of key_of (cells v) is.entry apart (place.number, is.there));
+      (entry_found hash_of key_of (cells v) is.entry apart (place.number, reads ∙ is.there));
 })

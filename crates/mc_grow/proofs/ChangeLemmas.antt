@@ -1,5 +1,5 @@
 -- An entry of an index is changed, or taken out.
-use Rattle.std.proofs.Common.{◌≡◌, ℕ, ◌+◌, ◌-◌, ◌<◌, ◌≤◌, List, ◌∷◌, ◌++◌, Option, Some, None, map, drop, length, get_or, set, refl, sym, ap, subst, ◌∙◌, arith}
+use Rattle.std.proofs.Common.{◌≡◌, ℕ, ◌+◌, ◌-◌, ◌<◌, ◌≤◌, ◌⊎◌, List, ◌∷◌, ◌++◌, Option, Some, None, map, drop, length, get_or, set, refl, sym, ap, subst, ◌∙◌, arith}
 use Rattle.std.proofs.lemmas.Bool.{cases_lt}
 use Rattle.std.proofs.Math.Seq.{drop-append-add}
 use Rattle.std.proofs.lemmas.List.{get_or_append_left, get_or-append_right, get_or-set_other, drop-map, length-drop}
@@ -11,12 +11,13 @@ use Rattle.mc_hop.specs.Links.{IsSwapped}
 use Rattle.mc_hop.specs.Tables.{AreApart, HopState, KeepsKey, with_bucket}
 use Rattle.mc_hop.proofs.ContentLemmas.{Map, content-over, content-remove, remove-insert}
 use Rattle.mc_hop.proofs.TableLemmas.{apart-changed, apart-taken}
+use Rattle.mc_hop.proofs.LawLemmas.{apart_parts}
 use Rattle.mc_grow.specs.declared.index.Place.{Place}
 use Rattle.mc_grow.specs.Indexes.{IndexState, IsRemoved, IsUpdated, cells, entry_at, left}
 use Rattle.mc_grow.specs.Parts.{IsChanged}
 use Rattle.mc_grow.proofs.PartLemmas.{less_other, stray_there}
 use Rattle.mc_grow.proofs.CellLemmas.{Within, count_parts, drop-taken, filled-changed, filled-strays, filled-taken, in_strays}
-use Rattle.mc_grow.proofs.MoveLemmas.{IsOut, out_second, parts_apart}
+use Rattle.mc_grow.proofs.MoveLemmas.{IsOut, out_second}
 use Rattle.mc_grow.proofs.StrayLemmas.{stray_out}
 
 -- ---- an entry is changed
@@ -66,7 +67,7 @@ taken_apart hash_of key_of {whole = whole} {number = number} {put} w apart is = 
 pub removed : {X : Type 0} {hash_of : X → ℕ} {key_of : X → List ℕ} {v now new : IndexState X} {part gone : List (Option X)} {at : ℕ} {place : Place} {x : X}
     {put : List (Option X) → List (Option X)} → v ≡ now → Within part (cells v) at place.number put → AreApart hash_of key_of (cells v) → get_or part at None ≡ Some x → gone ≡ set part at None
     → cells new ≡ put gone → place.number < length now.draining + length now.table → new.strays ≡ v.strays → new.k ≡ v.k → new.growing ≡ v.growing
-    → (left new ≤ left v) × (left v ≤ left new + 1) → v.spare ≤ new.spare → IsRemoved hash_of key_of place x now new
+    → (left v ≡ left new) ⊎ (left v ≡ left new + 1) → v.spare ≤ new.spare → IsRemoved hash_of key_of place x now new
 removed {X} {hash_of} {key_of} {v} {now} {new} {at = at} {place} {x} {put} same w apart here is whole bucket strays k growing less spare =
     let there : entry_at v place ≡ Some x = w.reads ∙ here in
     let taken : cells new ≡ set (cells v) place.number None = whole ∙ ap put is ∙ w.writes None in
@@ -80,8 +81,8 @@ removed {X} {hash_of} {key_of} {v} {now} {new} {at = at} {place} {x} {put} same 
       };
       others = record { of_tables = λ _. (taken, strays); of_strays = λ behind. absurd (omega arith) };
       room = spare;
-      less_left = less.0;
-      one_less_left = less.1;
+      less_left = grind arith;
+      one_less_left = grind arith;
       fewer = filled-taken (cells v) place.number x there ∙ ap (λ (items : List (Option X)). filled items + 1) (sym taken);
       same_k = k;
       same_growing = growing;
@@ -104,8 +105,8 @@ filled_behind old table strays at =
 stray_gone : {X : Type 0} (hash_of : X → ℕ) (key_of : X → List ℕ) (old table : List (Option X)) (strays less : List X) (at : ℕ) (x : X) → IsSwapped strays less at → at < length strays
     → x ≡ get_or strays at x → AreApart hash_of key_of (old ++ (table ++ map Some strays)) → IsOut hash_of key_of x (old ++ (table ++ map Some strays)) (old ++ (table ++ map Some less))
 stray_gone hash_of key_of old table strays less at x swap below is apart =
-    let inner = (parts_apart hash_of key_of old (table ++ map Some strays) apart).1 in
-    let last = stray_out hash_of key_of strays less at x swap below is (parts_apart hash_of key_of table (map Some strays) inner).1 in
+    let inner = (apart_parts hash_of key_of old (table ++ map Some strays) apart).1 in
+    let last = stray_out hash_of key_of strays less at x swap below is (apart_parts hash_of key_of table (map Some strays) inner).1 in
     out_second hash_of key_of old (table ++ map Some strays) (table ++ map Some less) x apart (out_second hash_of key_of table (map Some strays) (map Some less) x inner last)
 
 pub strays_apart : {X : Type 0} (hash_of : X → ℕ) (key_of : X → List ℕ) (old table : List (Option X)) {strays less : List X} {at : ℕ} {x : X} → IsSwapped strays less at
@@ -148,12 +149,6 @@ removed_stray {X} {hash_of} {key_of} {v} {now} {new} {less} {at} {place} {x} sam
     })
 
 -- ---- room
-
-pub same_number : (n : ℕ) → n ≤ n
-same_number n = omega arith
-
-pub none_fewer : (n : ℕ) → (n ≤ n) × (n ≤ n + 1)
-none_fewer n = (omega arith, omega arith)
 
 pub more_room : (room len more fewer : ℕ) → more ≡ fewer + 1 → room - (len + more) ≤ room - (len + fewer)
 more_room room len more fewer less = omega arith

@@ -8,6 +8,7 @@ use Rattle.mc_hop.specs.Cells.{filled}
 use Rattle.mc_hop.specs.Tables.{AreApart, HopState, with_bucket}
 use Rattle.mc_hop.specs.Contents.{AreDisjoint, content}
 use Rattle.mc_hop.proofs.ContentLemmas.{Map, at_a_key, at_its_key, content-back, gone_after, order}
+use Rattle.mc_hop.proofs.ListLemmas.{filled_inside}
 use Rattle.mc_hop.proofs.LawLemmas.{apart_joined, apart_parts, entry_absent, get_joined, joined_first, joined_parts, joined_second, many_entries, no_entries}
 use Rattle.mc_hop.proofs.TableLemmas.{apart-taken}
 use Rattle.mc_grow.specs.Moving.{HoldsAll, IsIn, IsTaken}
@@ -58,9 +59,6 @@ module _ {X : Type 0} (hash_of : X → ℕ) (key_of : X → List ℕ) where
   abbrev key : X → List ℕ
   key x = hash_of x ∷ key_of x
 
-  pub parts_apart : (xs ys : Cells) → AreApart hash_of key_of (xs ++ ys) → AreApart hash_of key_of xs × AreApart hash_of key_of ys
-  parts_apart xs ys apart = let parts = apart_parts hash_of key_of xs ys apart in (parts.0, parts.1)
-
   -- a key that is new to joined lists is new to each
   pub new_to_each : (xs ys : Cells) (q : List ℕ) → get (holds (xs ++ ys)) q ≡ None → (get (holds xs) q ≡ None) × (get (holds ys) q ≡ None)
   new_to_each xs ys q e = none_of_both (get (holds xs) q) (get (holds ys) q) (sym (get_joined hash_of key_of xs ys q) ∙ e)
@@ -94,10 +92,7 @@ module _ {X : Type 0} (hash_of : X → ℕ) (key_of : X → List ℕ) where
   in_last ys x apart new =
       subst (λ (l : Cells). IsIn hash_of key_of x l (ys ++ (Some x ∷ []))) (append-nil ys)
       (in_second ys [] (Some x ∷ []) x (subst (AreApart hash_of key_of) (sym (append-nil ys)) apart) (ap (λ (l : Cells). get (holds l) (key x)) (append-nil ys) ∙ new)
-      (record { come = refl; apart = λ p q y z e f _ _. omega (arith, inside_one p y e, inside_one q z f) })) where
-        inside_one : (p : ℕ) (y : X) → get_or (Some x ∷ []) p None ≡ Some y → p ≡ 0
-        inside_one zero y e = refl
-        inside_one (suc p) y e = absurd (none-some y e)
+      (record { come = refl; apart = λ p q y z e f _ _. omega (arith, filled_inside (Some x ∷ []) p y e, filled_inside (Some x ∷ []) q z f) }))
 
   -- ---- an entry goes out of the first of two parts, or out of the second
 
@@ -166,11 +161,10 @@ module _ {X : Type 0} (hash_of : X → ℕ) (key_of : X → List ℕ) where
       → IsIn hash_of key_of x (items ++ map Some strays) (others ++ map Some new_strays)
   strayed items others strays new_strays x apart new own is pushed =
       let kept = instead items (map Some strays) others apart own is in
-      let mapped : map Some new_strays ≡ map Some strays ++ (Some x ∷ []) = ap (map Some) pushed ∙ map-append Some strays (x ∷ []) in
-      let fresh : get (holds (others ++ map Some strays)) (key x) ≡ None = ap (λ (m : Map X). get m (key x)) kept.same ∙ new in
-      let last = in_last (map Some strays) x (parts_apart items (map Some strays) apart).1 (new_to_each items (map Some strays) (key x) new).1 in
-      let come = in_second others (map Some strays) (map Some new_strays) x kept.apart fresh (subst (λ (l : Cells). IsIn hash_of key_of x (map Some strays) l) (sym mapped) last) in
-      record { come = come.come ∙ ap (λ (m : Map X). insert m (key x) x) kept.same; apart = come.apart }
+      let last = in_last (others ++ map Some strays) x kept.apart (ap (λ (m : Map X). get m (key x)) kept.same ∙ new) in
+      let is : (others ++ map Some strays) ++ (Some x ∷ []) ≡ others ++ map Some new_strays =
+      append_assoc others (map Some strays) (Some x ∷ []) ∙ ap (λ (l : Cells). others ++ l) (sym (ap (map Some) pushed ∙ map-append Some strays (x ∷ []))) in
+      record { come = ap holds (sym is) ∙ last.come ∙ ap (λ (m : Map X). insert m (key x) x) kept.same; apart = subst (AreApart hash_of key_of) is last.apart }
 
   -- buckets with no entry are put in between
   pub more_buckets : (xs ys zs : Cells) → filled zs ≡ 0 → AreApart hash_of key_of zs → AreApart hash_of key_of (xs ++ ys) → HoldsAll hash_of key_of (xs ++ ys) (xs ++ (zs ++ ys))

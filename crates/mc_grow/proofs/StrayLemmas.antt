@@ -14,12 +14,12 @@ use Rattle.mc_hop.specs.Links.{IsSwapped}
 use Rattle.mc_hop.specs.Tables.{AreApart, HasEntry}
 use Rattle.mc_hop.specs.Contents.{content}
 use Rattle.mc_hop.proofs.ListLemmas.{reads}
-use Rattle.mc_hop.proofs.LawLemmas.{same_entries}
+use Rattle.mc_hop.proofs.LawLemmas.{apart_parts, same_entries}
 use Rattle.mc_grow.specs.Moving.{HoldsAll, IsTried}
 use Rattle.mc_grow.specs.Adding.{AreAdded, AreTried, IsAdded, Side, cells_of}
 use Rattle.mc_grow.specs.Adding.AreAdded.{none_added, one_added}
 use Rattle.mc_grow.proofs.PartLemmas.{less_at, less_other, stood_less, stray_inside, stray_there}
-use Rattle.mc_grow.proofs.MoveLemmas.{IsOut, moved_back, new_to_each, out_second, out_taken, parts_apart}
+use Rattle.mc_grow.proofs.MoveLemmas.{IsOut, moved_back, new_to_each, out_second, out_taken}
 
 -- ---- a stray goes out
 
@@ -61,13 +61,13 @@ module _ {X : Type 0} (hash_of : X → ℕ) (key_of : X → List ℕ) (strays le
   pub stray_is_new : (items : List (Option X)) → AreApart hash_of key_of (items ++ map Some strays) → get (content hash_of key_of items) (hash_of x ∷ key_of x) ≡ None
   stray_is_new items apart =
       (new_to_each hash_of key_of items (map Some less) (hash_of x ∷ key_of x)
-      (out_second hash_of key_of items (map Some strays) (map Some less) x apart (stray_out (parts_apart hash_of key_of items (map Some strays) apart).1)).gone).0
+      (out_second hash_of key_of items (map Some strays) (map Some less) x apart (stray_out (apart_parts hash_of key_of items (map Some strays) apart).1)).gone).0
 
   -- it goes to the table
   pub stray_put : (items others : List (Option X)) → AreApart hash_of key_of (items ++ map Some strays) → AreApart hash_of key_of others
       → content hash_of key_of others ≡ insert (content hash_of key_of items) (hash_of x ∷ key_of x) x → HoldsAll hash_of key_of (items ++ map Some strays) (others ++ map Some less)
   stray_put items others apart own put =
-      moved_back hash_of key_of items (map Some strays) (map Some less) others x apart (stray_out (parts_apart hash_of key_of items (map Some strays) apart).1) (record { come = put; apart = own })
+      moved_back hash_of key_of items (map Some strays) (map Some less) others x apart (stray_out (apart_parts hash_of key_of items (map Some strays) apart).1) (record { come = put; apart = own })
 
 -- ---- the strays are tried
 

@@ -1,6 +1,7 @@
+use Rattle.mc_hop.proofs.LawLemmas.{apart_parts}
 use Rattle.mc_grow.specs.Adding.{beside, cells_of}
 use Rattle.mc_grow.proofs.CellLemmas.{filled-taken}
-use Rattle.mc_grow.proofs.MoveLemmas.{moved, new_to_each, out_first, out_of_table, parts_apart}
+use Rattle.mc_grow.proofs.MoveLemmas.{moved, new_to_each, out_first, out_of_table}
 use Rattle.mc_grow.proofs.moving.move_one.Goals as goal
 
 pub place-requires : goal.place-requires
@@ -8,7 +9,7 @@ place-requires g c =
     let hash_of = g.T.Keyed.hash_of in
     let key_of = g.T.Keyed.key_of in
     let side = cells_of (beside c.args.table.now c.args.strays.now.items) in
-    let parts = parts_apart hash_of key_of c.args.draining.now.items side c.requires.apart in
+    let parts = apart_parts hash_of key_of c.args.draining.now.items side c.requires.apart in
     let out = out_of_table hash_of key_of c.args.draining.now c.remove-entry.new.self c.args.at c.remove-entry.result parts.0 c.remove-entry.ensures.here c.remove-entry.ensures.removed in
     record {
       apart = parts.1;
@@ -27,6 +28,6 @@ returns-clause-content g c =
     let hash_of = g.T.Keyed.hash_of in
     let key_of = g.T.Keyed.key_of in
     let side = cells_of (beside c.args.table.now c.args.strays.now.items) in
-    let parts = parts_apart hash_of key_of c.args.draining.now.items side c.requires.apart in
+    let parts = apart_parts hash_of key_of c.args.draining.now.items side c.requires.apart in
     moved hash_of key_of c.args.draining.now.items side _ (cells_of (beside c.place.new.table c.place.new.strays.items)) c.remove-entry.result c.requires.apart
     (out_of_table hash_of key_of c.args.draining.now c.remove-entry.new.self c.args.at _ parts.0 c.remove-entry.ensures.here c.remove-entry.ensures.removed) c.place.ensures.content

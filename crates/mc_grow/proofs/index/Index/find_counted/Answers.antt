@@ -1,9 +1,10 @@
-use Rattle.std.proofs.Common.{ℕ, ◌+◌, ◌++◌, ◌∷◌, Some, map, is_some, length, ap, refl, sym, ◌∙◌, arith}
+use Rattle.std.proofs.Common.{ℕ, ◌+◌, ◌++◌, ◌∷◌, Some, None, map, is_some, length, ap, refl, sym, ◌∙◌, arith}
+use Rattle.std.proofs.lemmas.List.{get_or_append_left}
 use Rattle.std.specs.FinMap.{get}
 use Rattle.mc_hop.proofs.LawLemmas.{entry_absent}
 use Rattle.mc_grow.specs.Indexes.{IndexState, holds}
 use Rattle.mc_grow.specs.Parts.{drained_items}
-use Rattle.mc_grow.proofs.CellLemmas.{absent_both, at_left, at_right, placed}
+use Rattle.mc_grow.proofs.CellLemmas.{absent_both, get_second, placed}
 use Rattle.mc_grow.proofs.OrderLemmas.{reads_in_all}
 use Rattle.mc_grow.proofs.index.Index.find_counted.Goals as goal
 
@@ -17,21 +18,22 @@ pub returns-in-None-clause-reads : goal.returns-in-None-clause-reads
 returns-in-None-clause-reads g c = reads_in_all _ _ _ _ c.self.view_is c.find_drained.ensures.reads c.find_counted.ensures.reads c.find.ensures.reads
 
 pub returns-in-Some-clause-found : goal.returns-in-Some-clause-found
-returns-in-Some-clause-found g c = placed _ c.self.view_is c.self.invariant.apart (at_left (drained_items c.self.inside.draining) _ c.in-Some.ensures.found.1)
+returns-in-Some-clause-found g c =
+    let found = c.in-Some.ensures.found in
+    placed _ c.self.view_is c.self.invariant.apart (get_or_append_left (drained_items c.self.inside.draining) _ None _ found.0) found.1
 
 pub returns-in-Some-find_counted-clause-found : goal.returns-in-Some-find_counted-clause-found
 returns-in-Some-find_counted-clause-found g c =
-    let i = c.self.inside in
-    placed _ c.self.view_is c.self.invariant.apart
-    (at_right (drained_items i.draining) _ (ap (λ (n : ℕ). n + c.in-Some-find_counted.at) c.drained_buckets-first.ensures.value)
-    (at_left i.table.items (map Some i.strays.items) c.in-Some-find_counted.ensures.found.1))
+    let found = c.in-Some-find_counted.ensures.found in
+    let its = ap (λ (n : ℕ). n + c.in-Some-find_counted.at) c.drained_buckets-first.ensures.value in
+    placed _ c.self.view_is c.self.invariant.apart (get_second (drained_items c.self.inside.draining) _ _ _ its ∙ get_or_append_left c.self.inside.table.items _ None _ found.0) found.1
 
 pub returns-in-Some-find-clause-found : goal.returns-in-Some-find-clause-found
 returns-in-Some-find-clause-found g c =
-    let i = c.self.inside in
+    let table = c.self.inside.table.items in
     placed _ c.self.view_is c.self.invariant.apart
-    (at_right (drained_items i.draining) _ {at = length i.table.items + c.in-Some-find.at} (omega (arith, c.drained_buckets-first.ensures.value, c.buckets.ensures.value))
-    (at_right i.table.items (map Some i.strays.items) refl c.in-Some-find.ensures.found.1))
+    (get_second (drained_items c.self.inside.draining) _ (length table + c.in-Some-find.at) _ (omega (arith, c.drained_buckets-first.ensures.value, c.buckets.ensures.value))
+    ∙ get_second table _ _ _ refl) c.in-Some-find.ensures.found.1
 
 pub returns-in-None-clause-found : goal.returns-in-None-clause-found
 returns-in-None-clause-found g c =

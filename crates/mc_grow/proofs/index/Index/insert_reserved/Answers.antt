@@ -1,16 +1,17 @@
 use Rattle.std.proofs.Common.{◌+◌, ◌≤◌, ℕ, ◌∷◌, refl, ap, sym, subst, ◌∙◌, length, arith}
 use Rattle.std.specs.FinMap.{get, insert}
 use Rattle.mc_hop.specs.Cells.{filled}
+use Rattle.mc_hop.proofs.LawLemmas.{apart_parts}
 use Rattle.mc_grow.specs.Adding.{beside, cells_of}
 use Rattle.mc_grow.specs.Indexes.{IndexState, holds}
 use Rattle.mc_grow.specs.Parts.{drained_items}
 use Rattle.mc_grow.proofs.IndexLemmas.{come_in, its_place, one_more}
-use Rattle.mc_grow.proofs.MoveLemmas.{new_to_each, parts_apart}
+use Rattle.mc_grow.proofs.MoveLemmas.{new_to_each}
 use Rattle.mc_grow.proofs.index.Index.insert_reserved.Goals as goal
 
 pub place-at-requires-clause-apart : goal.place-at-requires-clause-apart
 place-at-requires-clause-apart g c =
-    (parts_apart g.T.Keyed.hash_of g.T.Keyed.key_of (drained_items c.self.inside.draining) (cells_of (beside c.self.inside.table c.self.inside.strays.items)) c.self.invariant.apart).1
+    (apart_parts g.T.Keyed.hash_of g.T.Keyed.key_of (drained_items c.self.inside.draining) (cells_of (beside c.self.inside.table c.self.inside.strays.items)) c.self.invariant.apart).1
 
 pub place-at-requires-clause-new : goal.place-at-requires-clause-new
 place-at-requires-clause-new g c =

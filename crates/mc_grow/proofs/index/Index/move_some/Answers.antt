@@ -1,11 +1,11 @@
 use Rattle.std.proofs.Common.{◌≡◌, ◌+◌, ◌-◌, ◌++◌, Option, length, true, ap, sym, is_some, ◌∙◌, arith}
 use Rattle.mc_hop.specs.Cells.{filled}
 use Rattle.mc_hop.specs.Tables.{HopState}
+use Rattle.mc_hop.proofs.LawLemmas.{apart_parts}
 use Rattle.mc_grow.specs.Adding.{beside, cells_of}
 use Rattle.mc_grow.specs.Indexes.{IndexState, cells, count}
 use Rattle.mc_grow.specs.Parts.{drained_items}
 use Rattle.mc_grow.proofs.IndexLemmas.{held_at_the_end, held_left, moved_some, moved_to_the_end, nothing_moved, parts_of}
-use Rattle.mc_grow.proofs.MoveLemmas.{parts_apart}
 use Rattle.mc_grow.proofs.index.Index.move_some.Goals as goal
 use Rattle.mc_grow.proofs.index.Index.move_some.Goals.{in-Some-1, in-None-1}
 
@@ -26,7 +26,7 @@ returns-in_default-clause-moves g c =
 
 pub try_strays-requires : goal.try_strays-requires
 try_strays-requires g c = record {
-  apart = (parts_apart g.T.Keyed.hash_of g.T.Keyed.key_of c.move_entries-moved.new.draining.items (cells_of (beside c.move_entries-moved.new.table c.move_entries-moved.new.strays.items))
+  apart = (apart_parts g.T.Keyed.hash_of g.T.Keyed.key_of c.move_entries-moved.new.draining.items (cells_of (beside c.move_entries-moved.new.table c.move_entries-moved.new.strays.items))
       c.move_entries-moved.ensures.content.apart).1;
 }
 

@@ -1,10 +1,10 @@
-use Rattle.std.proofs.Common.{◌+◌, ◌≤◌, List, Option, is_some, length, refl, sym, ap, ◌∙◌, arith}
+use Rattle.std.proofs.Common.{◌+◌, ◌≤◌, List, Option, inl, inr, le_refl, is_some, length, refl, sym, ap, ◌∙◌, arith}
 use Rattle.mc_hop.specs.Cells.{filled}
 use Rattle.mc_hop.specs.Tables.{HopState}
 use Rattle.mc_grow.specs.Parts.{drained_items}
 use Rattle.mc_grow.proofs.PartLemmas.{stray_inside}
 use Rattle.mc_grow.proofs.CellLemmas.{filled-taken, in_drained, in_table, in_strays, read_part}
-use Rattle.mc_grow.proofs.ChangeLemmas.{more_room, none_fewer, one_stray_less, removed, removed_stray, same_number, strays_apart, taken_apart}
+use Rattle.mc_grow.proofs.ChangeLemmas.{more_room, one_stray_less, removed, removed_stray, strays_apart, taken_apart}
 use Rattle.mc_grow.proofs.index.Index.remove.Goals as goal
 
 pub remove_drained-requires : goal.remove_drained-requires
@@ -46,13 +46,13 @@ returns-in-Drained g c =
     let gone = c.remove_drained.ensures.removed in
     let less = filled-taken _ c.in-Drained.at _ here ∙ ap (λ (items : List (Option g.row.T.Denot)). filled items + 1) (sym gone) in
     removed c.self.view_is (in_drained c.self.view_is c.in-Drained.ensures) c.self.invariant.apart here gone refl (omega (arith, c.in-Drained.ensures))
-    refl refl c.remove_drained.ensures.stays (omega (arith, less), omega (arith, less)) (more_room _ _ _ _ less)
+    refl refl c.remove_drained.ensures.stays (inr less) (more_room _ _ _ _ less)
 
 pub returns-in-Table : goal.returns-in-Table
 returns-in-Table g c =
     let gone = c.remove.ensures.removed in
     removed c.self.view_is (in_table c.self.view_is c.in-Table.ensures) c.self.invariant.apart c.remove.ensures.here (ap (λ (t : HopState g.row.T.Denot). t.items) gone) refl
-    (omega (arith, c.in-Table.ensures)) refl (ap (λ (t : HopState g.row.T.Denot). t.k) gone) refl (none_fewer _) (same_number _)
+    (omega (arith, c.in-Table.ensures)) refl (ap (λ (t : HopState g.row.T.Denot). t.k) gone) refl (inl refl) (le_refl _)
 
 pub returns-in-Stray : goal.returns-in-Stray
 returns-in-Stray g c =
