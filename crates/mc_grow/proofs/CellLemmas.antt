@@ -1,20 +1,8 @@
 -- Parts of a list of buckets: how many have an entry, and what is true of all where it is true of a part.
-use Rattle.std.proofs.Common.{◌≡◌, ℕ, zero, suc, ◌+◌, ◌-◌, ◌<◌, ◌≤◌, ◌^◌, inl, inr, List, [], ◌∷◌, ◌++◌, Option, Some, None, is_some, true, map, drop, length, get_or, set}
-use Rattle.std.proofs.Common.{refl, sym, ap, subst, ◌∙◌, arith}
-use Rattle.std.proofs.lemmas.Bool.{cases_lt}
-use Rattle.std.proofs.lemmas.Option.{none-some}
-use Rattle.std.proofs.Math.Seq.{drop-nil}
-use Rattle.std.proofs.lemmas.List.{get_or_past, get_or_append_left, get_or-append-add, get_or-append_right, set-append_left, set-append_right}
-use Rattle.std.specs.FinMap.{get}
-use Rattle.mc_hop.specs.Cells.{filled}
-use Rattle.mc_hop.specs.Contents.{content}
-use Rattle.mc_hop.specs.Tables.{AreApart, IsAt, IsAbsent}
-use Rattle.mc_grow.specs.declared.index.Place.{Place}
-use Rattle.mc_grow.specs.Indexes.{IndexState, IsFirstFrom, IsPlaceOf, cells, count_from, entry_at}
-use Rattle.mc_grow.specs.Parts.{IsFirstFilled, NoneFilledFrom}
-use Rattle.std.specs.Option.{option_or}
-use Rattle.mc_hop.proofs.ListLemmas.{filled_inside, in_first}
-use Rattle.mc_hop.proofs.LawLemmas.{entry_absent, entry_found, get_joined}
+use Rattle.mc_grow.proofs.Words.{◌≡◌, ℕ, zero, suc, ◌+◌, ◌-◌, ◌<◌, ◌≤◌, ◌^◌, inl, inr, List, [], ◌∷◌, ◌++◌, Option, Some, None, is_some, true, map, drop, length, get_or, set, refl, sym, ap}
+use Rattle.mc_grow.proofs.Words.{subst, ◌∙◌, arith, cases_lt, none-some, drop-nil, get_or_past, get_or_append_left, get_or-append-add, get_or-append_right, set-append_left, set-append_right}
+use Rattle.mc_grow.proofs.Words.{get, filled, content, AreApart, IsAt, IsAbsent, Place, IndexState, IsFirstFrom, IsPlaceOf, cells, count_from, entry_at, IsFirstFilled, NoneFilledFrom}
+use Rattle.mc_grow.proofs.Words.{option_or, filled_inside, in_first, entry_absent, entry_found, get_joined}
 use Rattle.mc_grow.proofs.PartLemmas.{some_stray}
 
 -- ---- how many have an entry
@@ -59,10 +47,8 @@ filled-drop (o ∷ items) (suc n) = filled-drop items n
 filled_skip : {X : Type 0} (items : List (Option X)) (low d : ℕ) → ((at : ℕ) → low ≤ at → at < low + d → get_or items at None ≡ None) → filled (drop (low + d) items) ≡ filled (drop low items)
 filled_skip items low zero none = ap (λ (n : ℕ). filled (drop n items)) (omega arith)
 filled_skip items low (suc d) none =
-    let more = filled-drop items (low + d) in
-    let here = ap (λ o. filled (o ∷ [])) (none (low + d) (omega arith) (omega arith)) in
-    let last = ap (λ (n : ℕ). filled (drop n items)) {x = low + suc d} {y = suc (low + d)} (omega arith) in
-    omega (arith, more, here, last, filled_skip items low d (λ at l b. none at l (omega arith)))
+    let last : low + suc d ≡ suc (low + d) = omega arith in
+    grind (arith, filled-drop items (low + d), none (low + d), filled_skip items low d (λ at l b. none at l (omega arith)))
 
 pub drop-taken : {X : Type 0} (items : List (Option X)) (at : ℕ) (x : X) → get_or items at None ≡ Some x → filled (drop at items) ≡ filled (drop at (set items at None)) + 1
 drop-taken [] at x e = absurd (none-some x e)

@@ -1,20 +1,8 @@
 -- An entry of an index is changed, or taken out.
-use Rattle.std.proofs.Common.{◌≡◌, ℕ, ◌+◌, ◌-◌, ◌<◌, ◌≤◌, ◌⊎◌, List, ◌∷◌, ◌++◌, Option, Some, None, map, drop, length, get_or, set, refl, sym, ap, subst, ◌∙◌, arith}
-use Rattle.std.proofs.lemmas.Bool.{cases_lt}
-use Rattle.std.proofs.Math.Seq.{drop-append-add}
-use Rattle.std.proofs.lemmas.List.{get_or_append_left, get_or-append_right, get_or-set_other, drop-map, length-drop}
-use Rattle.std.specs.FinMap.{remove}
-use Rattle.std.specs.List.{swap_remove}
-use Rattle.mc_hop.specs.Cells.{filled}
-use Rattle.mc_hop.specs.Contents.{content}
-use Rattle.mc_hop.specs.Links.{IsSwapped}
-use Rattle.mc_hop.specs.Tables.{AreApart, HopState, KeepsKey, with_bucket}
-use Rattle.mc_hop.proofs.ContentLemmas.{Map, content-over, content-remove, remove-insert}
-use Rattle.mc_hop.proofs.TableLemmas.{apart-changed, apart-taken}
-use Rattle.mc_hop.proofs.LawLemmas.{apart_parts}
-use Rattle.mc_grow.specs.declared.index.Place.{Place}
-use Rattle.mc_grow.specs.Indexes.{IndexState, IsRemoved, IsUpdated, cells, entry_at, left}
-use Rattle.mc_grow.specs.Parts.{IsChanged}
+use Rattle.mc_grow.proofs.Words.{◌≡◌, ℕ, ◌+◌, ◌-◌, ◌<◌, ◌≤◌, ◌⊎◌, List, ◌∷◌, ◌++◌, Option, Some, None, map, drop, length, get_or, set, refl, sym, ap, subst, ◌∙◌, arith, cases_lt}
+use Rattle.mc_grow.proofs.Words.{drop-append-add, get_or_append_left, get_or-append_right, get_or-set_other, drop-map, length-drop, remove, swap_remove, filled, content, IsSwapped, AreApart}
+use Rattle.mc_grow.proofs.Words.{HopState, KeepsKey, with_bucket, Map, content-over, content-remove, remove-insert, apart-changed, apart-taken, apart_parts, Place, IndexState, IsRemoved}
+use Rattle.mc_grow.proofs.Words.{IsUpdated, cells, entry_at, left, IsChanged}
 use Rattle.mc_grow.proofs.PartLemmas.{less_other, stray_there}
 use Rattle.mc_grow.proofs.CellLemmas.{Within, count_parts, drop-taken, filled-changed, filled-strays, filled-taken, in_strays}
 use Rattle.mc_grow.proofs.MoveLemmas.{IsOut, out_second}

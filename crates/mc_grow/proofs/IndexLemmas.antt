@@ -1,20 +1,8 @@
 -- What an index is after moves and inserts, by its parts.
-use Rattle.std.proofs.Common.{◌≡◌, ℕ, zero, suc, cond, replicate, is_some, not, ◌&&◌, Bool, true, false, true≢false, List, [], ◌∷◌, ◌++◌, map, Option, Some, None, ◌+◌}
-use Rattle.std.proofs.Common.{length, get_or, refl, sym, ap, subst, ◌∙◌, arith}
-use Rattle.std.specs.Prelude.{nat_lt}
-use Rattle.std.specs.FinMap.{get, len, len-insert}
-use Rattle.std.specs.Cmp.Lexicographic.{nat_list_cmp_total}
-use Rattle.std.proofs.lemmas.Bool.{lt-ltb}
-use Rattle.mc_hop.specs.Cells.{filled}
-use Rattle.mc_hop.specs.Contents.{content}
-use Rattle.mc_hop.specs.Tables.{AreApart, HopState}
-use Rattle.mc_hop.proofs.ContentLemmas.{Map, at_its_key}
-use Rattle.mc_hop.proofs.LawLemmas.{joined_parts, many_entries, no_entries}
-use Rattle.mc_grow.specs.Indexes.{IndexState, IsPlaceOf, cells, count, holds}
-use Rattle.mc_grow.specs.Moving.{HoldsAll, IsIn}
-use Rattle.mc_grow.specs.Parts.{drained_items}
-use Rattle.mc_grow.specs.Adding.{AreMoved, AreTaken, AreTried, Side, cells_of, side_of}
-use Rattle.mc_grow.specs.Adding.AreAdded.{none_added}
+use Rattle.mc_grow.proofs.Words.{◌≡◌, ℕ, zero, suc, cond, replicate, is_some, not, ◌&&◌, Bool, true, false, true≢false, List, [], ◌∷◌, ◌++◌, map, Option, Some, None, ◌+◌, length, get_or}
+use Rattle.mc_grow.proofs.Words.{refl, sym, ap, subst, ◌∙◌, arith, nat_lt, get, len, len-insert, nat_list_cmp_total, lt-ltb, filled, content, AreApart, HopState, Map, at_its_key}
+use Rattle.mc_grow.proofs.Words.{joined_parts, many_entries, no_entries, IndexState, IsPlaceOf, cells, count, holds, HoldsAll, IsIn, drained_items, AreMoved, AreTaken, AreTried, Side}
+use Rattle.mc_grow.proofs.Words.{cells_of, side_of, none_added}
 use Rattle.mc_grow.proofs.CellLemmas.{get_second}
 use Rattle.mc_grow.proofs.MoveLemmas.{as_many, in_second, more_buckets}
 
@@ -91,20 +79,17 @@ module _ {X : Type 0} (hash_of : X → ℕ) (key_of : X → List ℕ) {v now : I
   held : HoldsAll hash_of key_of (cells v) (drained ++ cells_of side)
   held = subst (λ (d : List (Option X)). HoldsAll hash_of key_of (d ++ cells_of (side_of v)) (drained ++ cells_of side)) drain moved
 
+  as_held : {all : List (Option X)} → HoldsAll hash_of key_of (cells v) all → (content hash_of key_of all ≡ holds hash_of key_of now) × (filled all ≡ count now)
+  as_held {all} is = (is.same ∙ ap (holds hash_of key_of) same, as_many hash_of key_of (cells v) all apart is ∙ ap count same)
+
   pub held_left : {all : List (Option X)} → all ≡ drained ++ cells_of side → (content hash_of key_of all ≡ holds hash_of key_of now) × (filled all ≡ count now)
-  held_left is = (
-    ap (content hash_of key_of) is ∙ held.same ∙ ap (holds hash_of key_of) same,
-    ap filled is ∙ as_many hash_of key_of (cells v) (drained ++ cells_of side) apart held ∙ ap count same,
-  )
+  held_left is = as_held (subst (HoldsAll hash_of key_of (cells v)) (sym is) held)
 
   pub held_at_the_end : {all : List (Option X)} (last : Side X) → filled drained ≡ 0 → HoldsAll hash_of key_of (cells_of side) (cells_of last) → all ≡ cells_of last
       → (content hash_of key_of all ≡ holds hash_of key_of now) × (filled all ≡ count now)
   held_at_the_end last empty tried is =
       let alike = joined_parts hash_of key_of drained (cells_of side) [] (cells_of side) (no_entries hash_of key_of drained empty) refl in
-      let whole : HoldsAll hash_of key_of (cells v) (cells_of last) = record { same = tried.same ∙ sym alike ∙ held.same; apart = tried.apart } in (
-        ap (content hash_of key_of) is ∙ whole.same ∙ ap (holds hash_of key_of) same,
-        ap filled is ∙ as_many hash_of key_of (cells v) (cells_of last) apart whole ∙ ap count same,
-      )
+      as_held (subst (HoldsAll hash_of key_of (cells v)) (sym is) (record { same = tried.same ∙ sym alike ∙ held.same; apart = tried.apart }))
 
 -- ---- an entry has come to the table and the strays of an index
 

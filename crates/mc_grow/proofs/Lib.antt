@@ -1,3 +1,4 @@
+pub mod Words
 pub mod MoveLemmas
 pub mod StrayLemmas
 pub mod PartLemmas

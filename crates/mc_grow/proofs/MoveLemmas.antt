@@ -1,19 +1,8 @@
 -- What the content of buckets is when an entry comes to a part of them, or goes from one part to another.
-use Rattle.std.proofs.Common.{◌≡◌, ℕ, zero, suc, ◌+◌, inl, inr, List, [], ◌∷◌, ◌++◌, map, Option, Some, None, get_or, set, refl, sym, ap, subst, ◌∙◌, arith, length-append}
-use Rattle.std.proofs.lemmas.Option.{none-some}
-use Rattle.std.proofs.lemmas.List.{map-append, append_assoc, append-nil}
-use Rattle.std.specs.Option.{option_or}
-use Rattle.std.specs.FinMap.{get, insert, len, get-empty}
-use Rattle.mc_hop.specs.Cells.{filled}
-use Rattle.mc_hop.specs.Tables.{AreApart, HopState, with_bucket}
-use Rattle.mc_hop.specs.Contents.{AreDisjoint, content}
-use Rattle.mc_hop.proofs.ContentLemmas.{Map, at_a_key, at_its_key, content-back, gone_after, order}
-use Rattle.mc_hop.proofs.ListLemmas.{filled_inside}
-use Rattle.mc_hop.proofs.LawLemmas.{apart_joined, apart_parts, entry_absent, get_joined, joined_first, joined_parts, joined_second, many_entries, no_entries}
-use Rattle.mc_hop.proofs.TableLemmas.{apart-taken}
-use Rattle.mc_grow.specs.Moving.{HoldsAll, IsIn, IsTaken}
-use Rattle.mc_grow.specs.Adding.{AreTaken, IsAdded, Side, cells_of}
-use Rattle.mc_grow.specs.Adding.AreAdded.{none_added, one_added}
+use Rattle.mc_grow.proofs.Words.{◌≡◌, ℕ, zero, suc, ◌+◌, inl, inr, List, [], ◌∷◌, ◌++◌, map, Option, Some, None, get_or, set, refl, sym, ap, subst, ◌∙◌, arith, length-append, none-some}
+use Rattle.mc_grow.proofs.Words.{map-append, append_assoc, append-nil, option_or, get, insert, len, get-empty, filled, AreApart, HopState, with_bucket, AreDisjoint, content, Map, at_a_key}
+use Rattle.mc_grow.proofs.Words.{at_its_key, content-back, gone_after, order, filled_inside, apart_joined, apart_parts, entry_absent, get_joined, joined_first, joined_parts, joined_second}
+use Rattle.mc_grow.proofs.Words.{many_entries, no_entries, apart-taken, HoldsAll, IsIn, IsTaken, AreTaken, IsAdded, Side, cells_of, none_added, one_added}
 
 -- ---- maps with no key in common
 

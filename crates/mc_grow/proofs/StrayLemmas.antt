@@ -1,23 +1,11 @@
 -- A stray goes out, to the table or for good, and the strays are tried one by one.
-use Rattle.std.proofs.Common.{◌≡◌, ℕ, zero, suc, ◌+◌, ◌-◌, ◌<◌, ◌≤◌, inl, inr, Bool, true, false, if◌then◌else◌, List, [], ◌∷◌, ◌++◌, map, length, take, drop, set, Option, Some, None}
-use Rattle.std.proofs.Common.{add-one, get_or, refl, sym, ap, subst, ◌∙◌, arith}
-use Rattle.std.proofs.lemmas.Option.{none-some}
-use Rattle.std.proofs.lemmas.Bool.{cases_eq}
+use Rattle.mc_grow.proofs.Words.{◌≡◌, ℕ, zero, suc, ◌+◌, ◌-◌, ◌<◌, ◌≤◌, inl, inr, Bool, true, false, if◌then◌else◌, List, [], ◌∷◌, ◌++◌, map, length, take, drop, set, Option, Some, None}
+use Rattle.mc_grow.proofs.Words.{add-one, get_or, refl, sym, ap, subst, ◌∙◌, arith, none-some, cases_eq, append-nil, length-map, take_all, drop-cons, take-suc, swap_remove, get, insert}
+use Rattle.mc_grow.proofs.Words.{IsSwapped, AreApart, HasEntry, content, reads, apart_parts, same_entries, HoldsAll, IsTried, AreAdded, AreTried, IsAdded, Side, cells_of, none_added}
+use Rattle.mc_grow.proofs.Words.{one_added}
 use Rattle.std.proofs.lemmas.List.Sorted.{IsPermutation-pop_more, IsPermutation-refl, IsPermutation-swap_remove, length_permutation}
-use Rattle.std.proofs.lemmas.List.{append-nil, length-map, take_all}
-use Rattle.std.proofs.Math.Seq.{drop-cons, take-suc}
 use Rattle.std.proofs.Math.ListN.{drop_of_length-le}
-use Rattle.std.specs.List.{swap_remove}
 use Rattle.std.specs.List.Sorted.{IsPermutation}
-use Rattle.std.specs.FinMap.{get, insert}
-use Rattle.mc_hop.specs.Links.{IsSwapped}
-use Rattle.mc_hop.specs.Tables.{AreApart, HasEntry}
-use Rattle.mc_hop.specs.Contents.{content}
-use Rattle.mc_hop.proofs.ListLemmas.{reads}
-use Rattle.mc_hop.proofs.LawLemmas.{apart_parts, same_entries}
-use Rattle.mc_grow.specs.Moving.{HoldsAll, IsTried}
-use Rattle.mc_grow.specs.Adding.{AreAdded, AreTried, IsAdded, Side, cells_of}
-use Rattle.mc_grow.specs.Adding.AreAdded.{none_added, one_added}
 use Rattle.mc_grow.proofs.PartLemmas.{less_at, less_other, stood_less, stray_inside, stray_there}
 use Rattle.mc_grow.proofs.MoveLemmas.{IsOut, moved_back, new_to_each, out_second, out_taken}
 

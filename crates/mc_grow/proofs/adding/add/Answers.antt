@@ -1,7 +1,4 @@
-use Rattle.std.proofs.Common.{ap, ◌∙◌, ◌∷◌}
-use Rattle.std.specs.FinMap.{get}
-use Rattle.mc_hop.proofs.ContentLemmas.{Map}
-use Rattle.mc_hop.proofs.LawLemmas.{entry_absent}
+use Rattle.mc_grow.proofs.Words.{ap, ◌∙◌, ◌∷◌, get, Map, entry_absent}
 use Rattle.mc_grow.proofs.adding.add.Goals as goal
 
 pub put_within-requires-clause-new : goal.put_within-requires-clause-new

@@ -1,5 +1,4 @@
-use Rattle.std.proofs.Common.{refl, arith, ◌∙◌}
-use Rattle.mc_grow.specs.Adding.{beside}
+use Rattle.mc_grow.proofs.Words.{refl, arith, ◌∙◌, beside}
 use Rattle.mc_grow.proofs.CellLemmas.{some_filled}
 use Rattle.mc_grow.proofs.MoveLemmas.{none_moved, moved_more}
 use Rattle.mc_grow.proofs.moving.move_entries.Goals as goal

@@ -1,6 +1,4 @@
-use Rattle.std.proofs.Common.{◌≡◌, ◌+◌, ◌≤◌, length}
-use Rattle.mc_hop.specs.Cells.{filled}
-use Rattle.mc_grow.specs.Adding.{beside}
+use Rattle.mc_grow.proofs.Words.{◌≡◌, ◌+◌, ◌≤◌, length, filled, beside}
 use Rattle.mc_grow.proofs.MoveLemmas.{MovedSoFar}
 use Rattle.mc_grow.proofs.moving.move_entries.Given as goal
 

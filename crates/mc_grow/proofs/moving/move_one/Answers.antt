@@ -1,5 +1,4 @@
-use Rattle.mc_hop.proofs.LawLemmas.{apart_parts}
-use Rattle.mc_grow.specs.Adding.{beside, cells_of}
+use Rattle.mc_grow.proofs.Words.{apart_parts, beside, cells_of}
 use Rattle.mc_grow.proofs.CellLemmas.{filled-taken}
 use Rattle.mc_grow.proofs.MoveLemmas.{moved, new_to_each, out_first, out_of_table}
 use Rattle.mc_grow.proofs.moving.move_one.Goals as goal

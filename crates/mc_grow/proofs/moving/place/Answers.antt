@@ -1,7 +1,4 @@
-use Rattle.std.proofs.Common.{ℕ, ◌∷◌, ◌++◌, [], map, Some, inr, subst, sym, ap, ◌∙◌}
-use Rattle.mc_hop.specs.Tables.{IsAbsent, home_in}
-use Rattle.mc_hop.proofs.LawLemmas.{absent_of}
-use Rattle.mc_grow.specs.Adding.{IsFull}
+use Rattle.mc_grow.proofs.Words.{ℕ, ◌∷◌, ◌++◌, [], map, Some, inr, subst, sym, ap, ◌∙◌, IsAbsent, home_in, absent_of, IsFull}
 use Rattle.mc_grow.proofs.MoveLemmas.{in_first, new_to_each, strayed}
 use Rattle.mc_grow.proofs.moving.place.Goals as goal
 

@@ -1,6 +1,4 @@
-use Rattle.std.proofs.Common.{◌≡◌, ℕ, ◌+◌, if◌then◌else◌, subst, refl, arith, ◌∙◌}
-use Rattle.mc_grow.specs.Moving.{IsTried}
-use Rattle.mc_grow.specs.Adding.{beside}
+use Rattle.mc_grow.proofs.Words.{◌≡◌, ℕ, ◌+◌, if◌then◌else◌, subst, refl, arith, ◌∙◌, IsTried, beside}
 use Rattle.mc_grow.proofs.StrayLemmas.{none_tried, tried_more, all_tried}
 use Rattle.mc_grow.proofs.moving.try_strays.Goals as goal
 use Rattle.mc_grow.proofs.moving.try_strays.Goals.{then-not-try_in, else-not-try_in}

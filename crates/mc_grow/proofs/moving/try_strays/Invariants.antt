@@ -1,5 +1,4 @@
-use Rattle.std.proofs.Common.{◌≡◌, ◌≤◌, length}
-use Rattle.mc_grow.specs.Adding.{beside}
+use Rattle.mc_grow.proofs.Words.{◌≡◌, ◌≤◌, length, beside}
 use Rattle.mc_grow.proofs.StrayLemmas.{TriedSoFar}
 use Rattle.mc_grow.proofs.moving.try_strays.Given as goal
 

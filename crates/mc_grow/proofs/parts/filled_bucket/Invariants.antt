@@ -1,5 +1,4 @@
-use Rattle.std.proofs.Common.{◌≤◌}
-use Rattle.mc_grow.specs.Parts.{NoneFilled}
+use Rattle.mc_grow.proofs.Words.{◌≤◌, NoneFilled}
 use Rattle.mc_grow.proofs.parts.filled_bucket.Given as goal
 
 abbrev pub invariant-loop-at : goal.invariant-loop-at

@@ -1,6 +1,4 @@
-use Rattle.std.proofs.Common.{Option, sym, subst}
-use Rattle.mc_hop.specs.Tables.{HopState, IsAbsent}
-use Rattle.mc_grow.specs.Parts.{drained_items}
+use Rattle.mc_grow.proofs.Words.{Option, sym, subst, HopState, IsAbsent, drained_items}
 use Rattle.mc_grow.proofs.parts.find_drained.Goals as goal
 
 pub returns-in-Some-clause-none : goal.returns-in-Some-clause-none

@@ -1,6 +1,4 @@
-use Rattle.std.proofs.Common.{Option, None, get_or, ap, ◌∙◌}
-use Rattle.mc_hop.specs.Tables.{HopState}
-use Rattle.mc_grow.specs.Parts.{drained_items}
+use Rattle.mc_grow.proofs.Words.{Option, None, get_or, ap, ◌∙◌, HopState, drained_items}
 use Rattle.mc_grow.proofs.parts.update_drained.Goals as goal
 
 pub update-requires-clause-keeps : goal.update-requires-clause-keeps

@@ -1,4 +1,4 @@
-use Rattle.std.proofs.Common.{◌∷◌}
+use Rattle.mc_grow.proofs.Words.{◌∷◌}
 use Rattle.mc_grow.proofs.OrderLemmas.{own_is_found, own_number}
 use Rattle.mc_grow.proofs.strays.place_of.Goals as goal
 

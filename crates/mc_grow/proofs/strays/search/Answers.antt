@@ -1,4 +1,4 @@
-use Rattle.std.proofs.Common.{◌+◌, ◌-◌, ◌/◌, ◌<◌, ◌∷◌, ◌∙◌, length, arith}
+use Rattle.mc_grow.proofs.Words.{◌+◌, ◌-◌, ◌/◌, ◌<◌, ◌∷◌, ◌∙◌, length, arith}
 use Rattle.std.proofs.lemmas.Map.Lookups.{exact_bytes}
 use Rattle.mc_grow.proofs.OrderLemmas.{all_before, all_behind, compared, less_to_read, many_keys}
 use Rattle.mc_grow.proofs.strays.search.Goals as goal

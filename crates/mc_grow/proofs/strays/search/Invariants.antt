@@ -1,5 +1,4 @@
-use Rattle.std.proofs.Common.{ℕ, ◌+◌, ◌-◌, ◌<◌, ◌≤◌, ◌^◌, ◌∷◌, length}
-use Rattle.mc_grow.specs.Strays.{IsBefore, key_by, keys_in}
+use Rattle.mc_grow.proofs.Words.{ℕ, ◌+◌, ◌-◌, ◌<◌, ◌≤◌, ◌^◌, ◌∷◌, length, IsBefore, key_by, keys_in}
 use Rattle.mc_grow.proofs.strays.search.Given as goal
 
 abbrev pub invariant-loop-low : goal.invariant-loop-low

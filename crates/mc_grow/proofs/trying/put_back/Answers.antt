@@ -1,4 +1,4 @@
-use Rattle.std.proofs.Common.{arith}
+use Rattle.mc_grow.proofs.Words.{arith}
 use Rattle.mc_grow.proofs.PartLemmas.{put_back_again}
 use Rattle.mc_grow.proofs.trying.put_back.Goals as goal
 

@@ -1,22 +1,6 @@
-use Rattle.std.proofs.Common.{◌≡◌, ◌++◌, List, map, Some, is_some, false, ap, sym, subst, ◌∙◌, length, arith}
-use Rattle.mc_hop.specs.Cells.{filled}
-use Rattle.mc_hop.specs.Tables.{AreApart, HopState}
-use Rattle.mc_grow.specs.Indexes.{IndexState, holds}
-use Rattle.mc_grow.specs.Parts.{drained_items}
-use Rattle.mc_grow.proofs.CellLemmas.{filled_most}
+use Rattle.mc_grow.proofs.Words.{◌≡◌, is_some, false, ap, ◌∙◌, arith, filled, HopState, IndexState, holds}
 use Rattle.mc_grow.proofs.IndexLemmas.{begun, due_rests}
 use Rattle.mc_grow.proofs.index.Index.begin_growth.Goals as goal
-
-pub overflow_add-len : goal.overflow_add-len
-overflow_add-len g c = omega (arith, c.len.ensures, c.buckets-buckets.ensures.value, c.buckets-buckets.ensures.most, filled_most c.self.inside.table.items)
-
-pub invariant_of-self : goal.invariant_of-self
-invariant_of-self g c = record {
-  apart = subst
-      (λ (l : List g.row.T.Denot). AreApart g.T.Keyed.hash_of g.T.Keyed.key_of
-      (drained_items c.self.inside.draining ++ (c.self.inside.table.items ++ map Some l))) (sym c.reserve.ensures.items) c.self.invariant.apart;
-  has_room = omega (arith, c.self.invariant.has_room, ap length c.reserve.ensures.items, c.reserve.ensures.room);
-}
 
 pub invariant_of-self-2 : goal.invariant_of-self-2
 invariant_of-self-2 g c =

@@ -1,7 +1,4 @@
-use Rattle.std.proofs.Common.{◌≡◌, subst}
-use Rattle.std.specs.FinMap.{len}
-use Rattle.mc_hop.proofs.LawLemmas.{many_entries}
-use Rattle.mc_grow.specs.Indexes.{IndexState, count, holds}
+use Rattle.mc_grow.proofs.Words.{◌≡◌, subst, len, many_entries, IndexState, count, holds}
 use Rattle.mc_grow.proofs.index.Index.each_entry_counts_once.Goals as goal
 
 pub returns : goal.returns

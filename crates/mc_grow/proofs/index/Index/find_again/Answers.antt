@@ -1,5 +1,4 @@
-use Rattle.std.proofs.Common.{ap, sym, ◌∙◌, rules}
-use Rattle.mc_grow.specs.Indexes.{IndexState, cells, entry_at}
+use Rattle.mc_grow.proofs.Words.{ap, sym, ◌∙◌, rules, IndexState, cells, entry_at}
 use Rattle.mc_grow.proofs.CellLemmas.{placed}
 use Rattle.mc_grow.proofs.index.Index.find_again.Goals as goal
 

@@ -1,15 +1,7 @@
-use Rattle.std.proofs.Common.{ℕ, ◌+◌, ◌++◌, ◌∷◌, Some, None, map, is_some, length, ap, refl, sym, ◌∙◌, arith}
-use Rattle.std.proofs.lemmas.List.{get_or_append_left}
-use Rattle.std.specs.FinMap.{get}
-use Rattle.mc_hop.proofs.LawLemmas.{entry_absent}
-use Rattle.mc_grow.specs.Indexes.{IndexState, holds}
-use Rattle.mc_grow.specs.Parts.{drained_items}
+use Rattle.mc_grow.proofs.Words.{ℕ, ◌+◌, ◌++◌, ◌∷◌, Some, None, map, is_some, length, ap, refl, sym, ◌∙◌, arith, get_or_append_left, get, entry_absent, IndexState, holds, drained_items}
 use Rattle.mc_grow.proofs.CellLemmas.{absent_both, get_second, placed}
 use Rattle.mc_grow.proofs.OrderLemmas.{reads_in_all}
 use Rattle.mc_grow.proofs.index.Index.find_counted.Goals as goal
-
-pub overflow_add-result-in-Some-find : goal.overflow_add-result-in-Some-find
-overflow_add-result-in-Some-find g c = omega (arith, c.drained_buckets-first.ensures.most, c.buckets.ensures.most, c.find.ensures.small, c.in-Some-find.ensures.found.0)
 
 pub returns-in-Some-find-clause-reads : goal.returns-in-Some-find-clause-reads
 returns-in-Some-find-clause-reads g c = reads_in_all _ _ _ _ c.self.view_is c.find_drained.ensures.reads c.find_counted.ensures.reads c.find.ensures.reads

@@ -1,5 +1,4 @@
-use Rattle.std.proofs.Common.{◌≡◌, ◌*◌, ◌%◌, ◌^◌, ◌≤◌, arith}
-use Rattle.std.proofs.Math.Nat.{pow-le-pow_right}
+use Rattle.mc_grow.proofs.Words.{◌≡◌, ◌*◌, ◌%◌, ◌^◌, ◌≤◌, arith, pow-le-pow_right}
 use Rattle.mc_grow.proofs.index.Index.homes.Goals as goal
 
 pub returns-clause-range : goal.returns-clause-range

@@ -1,10 +1,4 @@
-use Rattle.std.proofs.Common.{◌+◌, ◌≤◌, ℕ, ◌∷◌, refl, ap, sym, subst, ◌∙◌, length, arith}
-use Rattle.std.specs.FinMap.{get, insert}
-use Rattle.mc_hop.specs.Cells.{filled}
-use Rattle.mc_hop.proofs.LawLemmas.{apart_parts}
-use Rattle.mc_grow.specs.Adding.{beside, cells_of}
-use Rattle.mc_grow.specs.Indexes.{IndexState, holds}
-use Rattle.mc_grow.specs.Parts.{drained_items}
+use Rattle.mc_grow.proofs.Words.{◌+◌, ◌≤◌, ℕ, ◌∷◌, refl, ap, sym, subst, ◌∙◌, length, arith, get, insert, filled, apart_parts, beside, cells_of, IndexState, holds, drained_items}
 use Rattle.mc_grow.proofs.IndexLemmas.{come_in, its_place, one_more}
 use Rattle.mc_grow.proofs.MoveLemmas.{new_to_each}
 use Rattle.mc_grow.proofs.index.Index.insert_reserved.Goals as goal

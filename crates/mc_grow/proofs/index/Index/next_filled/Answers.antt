@@ -1,6 +1,4 @@
-use Rattle.std.proofs.Common.{◌≡◌, ◌+◌, ◌-◌, Some, map, is_some, length, refl, ap, subst, arith}
-use Rattle.mc_grow.specs.Indexes.{IndexState, cells}
-use Rattle.mc_grow.specs.Parts.{IsFirstFilled, drained_items}
+use Rattle.mc_grow.proofs.Words.{◌≡◌, ◌+◌, ◌-◌, Some, map, is_some, length, refl, ap, subst, arith, IndexState, cells, IsFirstFilled, drained_items}
 use Rattle.mc_grow.proofs.CellLemmas.{first_left, first_right, first_stray}
 use Rattle.mc_grow.proofs.index.Index.next_filled.Goals as goal
 

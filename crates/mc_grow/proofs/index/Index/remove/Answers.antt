@@ -1,20 +1,8 @@
-use Rattle.std.proofs.Common.{◌+◌, ◌≤◌, List, Option, inl, inr, le_refl, is_some, length, refl, sym, ap, ◌∙◌, arith}
-use Rattle.mc_hop.specs.Cells.{filled}
-use Rattle.mc_hop.specs.Tables.{HopState}
-use Rattle.mc_grow.specs.Parts.{drained_items}
+use Rattle.mc_grow.proofs.Words.{◌+◌, ◌≤◌, List, Option, inl, inr, le_refl, is_some, length, refl, sym, ap, ◌∙◌, arith, filled, HopState, drained_items}
 use Rattle.mc_grow.proofs.PartLemmas.{stray_inside}
 use Rattle.mc_grow.proofs.CellLemmas.{filled-taken, in_drained, in_table, in_strays, read_part}
 use Rattle.mc_grow.proofs.ChangeLemmas.{more_room, one_stray_less, removed, removed_stray, strays_apart, taken_apart}
 use Rattle.mc_grow.proofs.index.Index.remove.Goals as goal
-
-pub remove_drained-requires : goal.remove_drained-requires
-remove_drained-requires g c = ap is_some (read_part c.self.view_is (in_drained c.self.view_is c.in-Drained.ensures) c.requires.1)
-
-pub remove-requires : goal.remove-requires
-remove-requires g c = ap is_some (read_part c.self.view_is (in_table c.self.view_is c.in-Table.ensures) c.requires.1)
-
-pub swap_remove-requires : goal.swap_remove-requires
-swap_remove-requires g c = stray_inside c.self.inside.strays.items c.in-Stray.at _ (read_part c.self.view_is (in_strays c.self.view_is c.in-Stray.ensures) c.requires.1)
 
 pub invariant_of-self : goal.invariant_of-self
 invariant_of-self g c =

@@ -1,7 +1,5 @@
-use Rattle.std.proofs.Common.{◌+◌, ◌≤◌, subst, arith}
-use Rattle.mc_grow.specs.Indexes.{IndexState, count, left}
+use Rattle.mc_grow.proofs.Words.{◌+◌, ◌≤◌, subst, arith, IndexState, count, left, drained_items}
 use Rattle.mc_grow.proofs.CellLemmas.{count_parts}
-use Rattle.mc_grow.specs.Parts.{drained_items}
 use Rattle.mc_grow.proofs.index.Index.strays.Goals as goal
 
 pub returns-clause-within : goal.returns-clause-within

@@ -1,26 +1,14 @@
-use Rattle.std.proofs.Common.{ℕ, ◌+◌, ◌-◌, is_some, refl, ap, length, ◌∙◌, arith}
-use Rattle.mc_hop.specs.Cells.{filled}
-use Rattle.mc_hop.specs.Tables.{HopState}
-use Rattle.mc_grow.specs.Parts.{drained_items}
+use Rattle.mc_grow.proofs.Words.{ℕ, ◌+◌, ◌-◌, is_some, refl, ap, length, ◌∙◌, arith, filled, HopState, drained_items}
 use Rattle.mc_grow.proofs.PartLemmas.{stray_inside}
 use Rattle.mc_grow.proofs.CellLemmas.{filled-changed, in_drained, in_table, in_strays, read_part, read_back}
 use Rattle.mc_grow.proofs.ChangeLemmas.{changed_apart, table_changed, updated}
 use Rattle.mc_grow.proofs.index.Index.update.Goals as goal
 
-pub update_drained-requires-clause-filled : goal.update_drained-requires-clause-filled
-update_drained-requires-clause-filled g c = ap is_some (read_part c.self.view_is (in_drained c.self.view_is c.in-Drained.ensures) c.requires.filled.1)
-
 pub update_drained-requires-clause-keeps : goal.update_drained-requires-clause-keeps
 update_drained-requires-clause-keeps g c entry there = c.requires.keeps entry (read_back c.self.view_is (in_drained c.self.view_is c.in-Drained.ensures) there)
 
-pub update-requires-clause-filled : goal.update-requires-clause-filled
-update-requires-clause-filled g c = ap is_some (read_part c.self.view_is (in_table c.self.view_is c.in-Table.ensures) c.requires.filled.1)
-
 pub update-requires-clause-keeps : goal.update-requires-clause-keeps
 update-requires-clause-keeps g c entry there = c.requires.keeps entry (read_back c.self.view_is (in_table c.self.view_is c.in-Table.ensures) there)
-
-pub update-requires-in-Stray-clause-inside : goal.update-requires-in-Stray-clause-inside
-update-requires-in-Stray-clause-inside g c = stray_inside c.self.inside.strays.items c.in-Stray.at _ (read_part c.self.view_is (in_strays c.self.view_is c.in-Stray.ensures) c.requires.filled.1)
 
 pub update-requires-in-Stray-clause-keeps : goal.update-requires-in-Stray-clause-keeps
 update-requires-in-Stray-clause-keeps g c entry there = c.requires.keeps entry (read_back c.self.view_is (in_strays c.self.view_is c.in-Stray.ensures) there)

@@ -1,7 +1,4 @@
-use Rattle.std.proofs.Common.{◌<◌, Some, map, length, subst}
-use Rattle.std.proofs.lemmas.List.{get_or_read}
-use Rattle.mc_hop.specs.Tables.{IsAbsent, IsAt}
-use Rattle.mc_grow.specs.Strays.{StraysState}
+use Rattle.mc_grow.proofs.Words.{◌<◌, Some, map, length, subst, get_or_read, IsAbsent, IsAt, StraysState}
 use Rattle.mc_grow.proofs.OrderLemmas.{absent_in_gap, found_there}
 use Rattle.mc_grow.proofs.strays.Strays.find.Goals as goal
 

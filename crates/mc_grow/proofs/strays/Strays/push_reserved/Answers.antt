@@ -1,7 +1,5 @@
-use Rattle.std.proofs.Common.{◌∷◌, Bool, Some, map, sym, ap, subst, ◌∙◌, if◌then◌else◌, length, refl, arith}
+use Rattle.mc_grow.proofs.Words.{◌∷◌, Bool, Some, map, sym, ap, subst, ◌∙◌, if◌then◌else◌, length, refl, arith, IsAbsent, StraysState}
 use Rattle.std.specs.List.{insert}
-use Rattle.mc_hop.specs.Tables.{IsAbsent}
-use Rattle.mc_grow.specs.Strays.{StraysState}
 use Rattle.mc_grow.proofs.OrderLemmas.{comes, found_there, many_keys}
 use Rattle.mc_grow.proofs.strays.Strays.push_reserved.Goals as goal
 

@@ -1,7 +1,5 @@
-use Rattle.std.proofs.Common.{ap, length, arith}
-use Rattle.mc_grow.specs.Strays.{StraysState}
+use Rattle.mc_grow.proofs.Words.{ap, length, arith, StraysState, swapped}
 use Rattle.mc_grow.proofs.OrderLemmas.{goes}
-use Rattle.mc_hop.proofs.ListLemmas.{swapped}
 use Rattle.mc_grow.proofs.strays.Strays.swap_remove.Goals as goal
 
 pub invariant_of-self : goal.invariant_of-self

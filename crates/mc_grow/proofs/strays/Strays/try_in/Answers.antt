@@ -1,5 +1,4 @@
-use Rattle.std.proofs.Common.{ap, length, arith}
-use Rattle.mc_grow.specs.Strays.{StraysState}
+use Rattle.mc_grow.proofs.Words.{ap, length, arith, StraysState}
 use Rattle.mc_grow.proofs.OrderLemmas.{goes}
 use Rattle.mc_grow.proofs.strays.Strays.try_in.Goals as goal
 

@@ -1,5 +1,4 @@
-use Rattle.std.proofs.Common.{◌≡◌, ℕ, List, Some, None, map, get_or, sym, subst}
-use Rattle.mc_grow.specs.Strays.{IsOrder, StraysState}
+use Rattle.mc_grow.proofs.Words.{◌≡◌, ℕ, List, Some, None, map, get_or, sym, subst, IsOrder, StraysState}
 use Rattle.mc_grow.proofs.strays.Strays.update.Goals as goal
 
 pub update_stray-requires-clause-keeps : goal.update_stray-requires-clause-keeps
