@@ -33,11 +33,6 @@ filled-changed items at x y e = grind (arith, filled-set items at (Some y), fill
 pub some_filled : {X : Type 0} (items : List (Option X)) (at : ℕ) → is_some (get_or items at None) ≡ true → 1 ≤ filled items
 some_filled items at e = grind (arith, filled-set items at None, get_or_past items at None, cases_lt at (length items))
 
-pub filled_most : {X : Type 0} (items : List (Option X)) → filled items ≤ length items
-filled_most [] = omega arith
-filled_most (None ∷ items) = omega (arith, filled_most items)
-filled_most (Some x ∷ items) = omega (arith, filled_most items)
-
 -- from a number on
 filled-drop : {X : Type 0} (items : List (Option X)) (n : ℕ) → filled (drop n items) ≡ filled (drop (suc n) items) + filled (get_or items n None ∷ [])
 filled-drop {X} [] n = ap (filled {X = X}) (drop-nil n)

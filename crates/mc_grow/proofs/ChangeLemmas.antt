@@ -90,16 +90,12 @@ filled_behind old table strays at =
     ap filled (drop-append-add old (table ++ map Some strays) (length table + at) ∙ drop-append-add table (map Some strays) at ∙ drop-map Some at strays)
     ∙ filled-strays (drop at strays) ∙ length-drop at strays
 
-stray_gone : {X : Type 0} (hash_of : X → ℕ) (key_of : X → List ℕ) (old table : List (Option X)) (strays less : List X) (at : ℕ) (x : X) → IsSwapped strays less at → at < length strays
+pub stray_gone : {X : Type 0} (hash_of : X → ℕ) (key_of : X → List ℕ) (old table : List (Option X)) (strays less : List X) (at : ℕ) (x : X) → IsSwapped strays less at → at < length strays
     → x ≡ get_or strays at x → AreApart hash_of key_of (old ++ (table ++ map Some strays)) → IsOut hash_of key_of x (old ++ (table ++ map Some strays)) (old ++ (table ++ map Some less))
 stray_gone hash_of key_of old table strays less at x swap below is apart =
     let inner = (apart_parts hash_of key_of old (table ++ map Some strays) apart).1 in
     let last = stray_out hash_of key_of strays less at x swap below is (apart_parts hash_of key_of table (map Some strays) inner).1 in
     out_second hash_of key_of old (table ++ map Some strays) (table ++ map Some less) x apart (out_second hash_of key_of table (map Some strays) (map Some less) x inner last)
-
-pub strays_apart : {X : Type 0} (hash_of : X → ℕ) (key_of : X → List ℕ) (old table : List (Option X)) {strays less : List X} {at : ℕ} {x : X} → IsSwapped strays less at
-    → at < length strays → x ≡ get_or strays at x → AreApart hash_of key_of (old ++ (table ++ map Some strays)) → AreApart hash_of key_of (old ++ (table ++ map Some less))
-strays_apart hash_of key_of old table swap below is apart = (stray_gone hash_of key_of old table _ _ _ _ swap below is apart).apart
 
 pub removed_stray : {X : Type 0} {hash_of : X → ℕ} {key_of : X → List ℕ} {v now new : IndexState X} {less : List X} {at : ℕ} {place : Place} {x : X}
     → v ≡ now → IsSwapped v.strays less at → at < length v.strays → x ≡ get_or v.strays at x → AreApart hash_of key_of (cells v) → cells new ≡ v.draining ++ (v.table ++ map Some less)

@@ -52,10 +52,6 @@ module _ {X : Type 0} (hash_of : X → ℕ) (key_of : X → List ℕ) where
   pub new_to_each : (xs ys : Cells) (q : List ℕ) → get (holds (xs ++ ys)) q ≡ None → (get (holds xs) q ≡ None) × (get (holds ys) q ≡ None)
   new_to_each xs ys q e = none_of_both (get (holds xs) q) (get (holds ys) q) (sym (get_joined hash_of key_of xs ys q) ∙ e)
 
-  -- as many entries are held as there are
-  pub as_many : (old new : Cells) → AreApart hash_of key_of old → HoldsAll hash_of key_of old new → filled new ≡ filled old
-  as_many old new apart held = sym (many_entries hash_of key_of new held.apart) ∙ ap (λ (m : Map X). len m) held.same ∙ many_entries hash_of key_of old apart
-
   -- ---- an entry of a new key comes to the first of two parts, or to the second
 
   pub in_first : (xs ys zs : Cells) (x : X) → AreApart hash_of key_of (xs ++ ys) → get (holds (xs ++ ys)) (key x) ≡ None → IsIn hash_of key_of x xs zs → IsIn hash_of key_of x (xs ++ ys) (zs ++ ys)
@@ -75,13 +71,6 @@ module _ {X : Type 0} (hash_of : X → ℕ) (key_of : X → List ℕ) where
         come = joined_second hash_of key_of xs ys zs (key x) x fresh come.come;
         apart = apart_joined hash_of key_of xs zs (parts.0, come.apart, flip (holds zs) (holds xs) beside);
       }
-
-  -- an entry comes to the end of a list
-  in_last : (ys : Cells) (x : X) → AreApart hash_of key_of ys → get (holds ys) (key x) ≡ None → IsIn hash_of key_of x ys (ys ++ (Some x ∷ []))
-  in_last ys x apart new =
-      subst (λ (l : Cells). IsIn hash_of key_of x l (ys ++ (Some x ∷ []))) (append-nil ys)
-      (in_second ys [] (Some x ∷ []) x (subst (AreApart hash_of key_of) (sym (append-nil ys)) apart) (ap (λ (l : Cells). get (holds l) (key x)) (append-nil ys) ∙ new)
-      (record { come = refl; apart = λ p q y z e f _ _. omega (arith, filled_inside (Some x ∷ []) p y e, filled_inside (Some x ∷ []) q z f) }))
 
   -- ---- an entry goes out of the first of two parts, or out of the second
 
@@ -150,7 +139,12 @@ module _ {X : Type 0} (hash_of : X → ℕ) (key_of : X → List ℕ) where
       → IsIn hash_of key_of x (items ++ map Some strays) (others ++ map Some new_strays)
   strayed items others strays new_strays x apart new own is pushed =
       let kept = instead items (map Some strays) others apart own is in
-      let last = in_last (others ++ map Some strays) x kept.apart (ap (λ (m : Map X). get m (key x)) kept.same ∙ new) in
+      let end : List (Option X) = others ++ map Some strays in
+      let last =
+      subst (λ (l : Cells). IsIn hash_of key_of x l (end ++ (Some x ∷ []))) (append-nil end)
+      (in_second end [] (Some x ∷ []) x (subst (AreApart hash_of key_of) (sym (append-nil end)) kept.apart)
+      (ap (λ (l : Cells). get (holds l) (key x)) (append-nil end) ∙ ap (λ (m : Map X). get m (key x)) kept.same ∙ new)
+      (record { come = refl; apart = λ p q y z e f _ _. omega (arith, filled_inside (Some x ∷ []) p y e, filled_inside (Some x ∷ []) q z f) })) in
       let is : (others ++ map Some strays) ++ (Some x ∷ []) ≡ others ++ map Some new_strays =
       append_assoc others (map Some strays) (Some x ∷ []) ∙ ap (λ (l : Cells). others ++ l) (sym (ap (map Some) pushed ∙ map-append Some strays (x ∷ []))) in
       record { come = ap holds (sym is) ∙ last.come ∙ ap (λ (m : Map X). insert m (key x) x) kept.same; apart = subst (AreApart hash_of key_of) is last.apart }

@@ -55,28 +55,24 @@ module _ (keys : List (List ℕ)) (order : List ℕ) (key : List ℕ) (place : �
   size : length longer ≡ length order + 1
   size = length-insert order place (length keys) gap.inside
 
-  each_now : (n : ℕ) → n < length keys + 1 → (p : ℕ) × (p < length longer) × (get_or longer p 0 ≡ n)
-  each_now n l =
-      elim (cases_eq n (length keys)) [
-        | (inl its) ↦ (place, omega (arith, size, gap.inside), grind (arith, at_gap place))
-        | (inr d) ↦
-            let p = o.each n (omega (arith, d, l)) in
-            let q = p.0 + (1 - (place - p.0)) in
-            (q, omega (arith, size, p.1), grind (arith, cases_lt p.0 place, in_front q, in_back q p.0, p.1, p.2))
-      ]
-
-  rises_now : (p q : ℕ) → p < q → q < length longer → IsBefore (key_by more_keys longer p) (key_by more_keys longer q)
-  rises_now p q l m =
-      let rises = o.rises (p - 1) (q - 1) in
-      grind (arith, size, in_front p, in_front q, at_gap p, at_gap q, in_back p (p - 1), in_back q (q - 1), gap.before p, gap.behind (q - 1), o.rises p q, o.rises p (q - 1))
-
   pub order_more : IsOrder more_keys longer
-  order_more = record {
-    same_length = omega (arith, size, length-append keys (key ∷ []), o.same_length);
-    inside = λ p l. grind (arith, size, length-append keys (key ∷ []), in_front p, at_gap p, in_back p (p - 1), o.inside p, o.inside (p - 1));
-    each = λ n l. each_now n (omega (arith, length-append keys (key ∷ [])));
-    rises = rises_now;
-  }
+  order_more =
+      let many = length-append keys (key ∷ []) in
+      record {
+        same_length = omega (arith, size, many, o.same_length);
+        inside = λ p l. grind (arith, size, many, in_front p, at_gap p, in_back p (p - 1), o.inside p, o.inside (p - 1));
+        each = λ n l.
+            elim (cases_eq n (length keys)) [
+              | (inl its) ↦ (place, omega (arith, size, gap.inside), grind (arith, at_gap place))
+              | (inr d) ↦
+                  let p = o.each n (omega (arith, d, l, many)) in
+                  let q = p.0 + (1 - (place - p.0)) in
+                  (q, omega (arith, size, p.1), grind (arith, cases_lt p.0 place, in_front q, in_back q p.0, p.1, p.2))
+            ];
+        rises = λ p q l m.
+            let rises = o.rises (p - 1) (q - 1) in
+            grind (arith, size, in_front p, in_front q, at_gap p, at_gap q, in_back p (p - 1), in_back q (q - 1), gap.before p, gap.behind (q - 1), o.rises p q, o.rises p (q - 1));
+      }
 
 -- ---- a stray goes
 
@@ -85,12 +81,9 @@ module _ (keys less : List (List ℕ)) (order : List ℕ) (number place last : �
   abbrev middle : List ℕ
   middle = set order last (get_or order place 0)
 
-  -- where a place was, and where one is now
+  -- where a place was
   abbrev skip : ℕ → ℕ
   skip p = p + (1 - (place - p))
-
-  abbrev unskip : ℕ → ℕ
-  unskip r = r - (1 - (place + 1 - r))
 
   sizes : (length middle ≡ length order) × (length (forgotten order place last) + 1 ≡ length order)
   sizes =
@@ -112,21 +105,21 @@ module _ (keys less : List (List ℕ)) (order : List ℕ) (number place last : �
 
   -- the place that a number has now, from the one where it stood
   place_now : (r n : ℕ) → r < length order → (r ≡ place → ⊥) → get_or middle r 0 ≡ n → (p : ℕ) × (p < length (forgotten order place last)) × (get_or (forgotten order place last) p 0 ≡ n)
-  place_now r n l d e = let is : skip (unskip r) ≡ r = omega (arith, d) in (unskip r, omega (arith, sizes.1, l, d, place_in), grind (arith, read (unskip r)))
-
-  each_left : (n : ℕ) → n < length less → (p : ℕ) × (p < length (forgotten order place last)) × (get_or (forgotten order place last) p 0 ≡ n)
-  each_left n l =
-      let r = o.each n (omega (arith, l, swap.shorter)) in
-      elim (cases_eq n number) [
-        | (inl its) ↦ place_now last n last_in (λ e. grind (arith, swap.shorter)) (grind (arith, reads))
-        | (inr other) ↦ place_now r.0 n r.1 (λ e. grind (arith, r.2)) (grind (arith, reads, r.2, swap.shorter, cases_eq r.0 last))
-      ]
+  place_now r n l d e =
+      let now = r - (1 - (place + 1 - r)) in
+      let is : skip now ≡ r = omega (arith, d) in
+      (now, omega (arith, sizes.1, l, d, place_in), grind (arith, read now))
 
   pub order_less : IsOrder less (forgotten order place last)
   order_less = record {
     same_length = omega (arith, sizes.1, swap.shorter, o.same_length);
     inside = λ p l. (now_at p l).0;
-    each = each_left;
+    each = λ n l.
+        let r = o.each n (omega (arith, l, swap.shorter)) in
+        elim (cases_eq n number) [
+          | (inl its) ↦ place_now last n last_in (λ e. grind (arith, swap.shorter)) (grind (arith, reads))
+          | (inr other) ↦ place_now r.0 n r.1 (λ e. grind (arith, r.2)) (grind (arith, reads, r.2, swap.shorter, cases_eq r.0 last))
+        ];
     rises = λ p q l m. grind (arith, sizes.1, now_at p, now_at q, o.rises (skip p) (skip q));
   }
 

@@ -54,6 +54,3 @@ pub put_back_again : {X : Type 0} (old less more new : List X) (at last : ℕ) (
 put_back_again old less more new at last x l there swap pushed ends back len =
     let size = ap length pushed ∙ length_push less x in
     put_back old less more new at last x l (omega (arith, swap.shorter)) swap pushed back (omega (arith, swap.shorter, size)) ∙ ap (set old at) there ∙ set-get_or old at x
-
-pub same_read : {X : Type 0} (xs : List X) (at : ℕ) (x y : X) → x ≡ y → y ≡ get_or xs at y → x ≡ get_or xs at x
-same_read {X} xs at x y e read = e ∙ read ∙ ap (get_or xs at) (sym e)

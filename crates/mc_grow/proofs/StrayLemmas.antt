@@ -12,34 +12,28 @@ use Rattle.mc_grow.proofs.MoveLemmas.{IsOut, moved_back, new_to_each, out_second
 -- ---- a stray goes out
 
 module _ {X : Type 0} (hash_of : X → ℕ) (key_of : X → List ℕ) (strays less : List X) (at : ℕ) (x : X) (swap : IsSwapped strays less at) (below : at < length strays) (is : x ≡ get_or strays at x) where
-  abbrev before : List (Option X)
-  before = set (map Some strays) at None
-
   apart_less : AreApart hash_of key_of (map Some strays) → AreApart hash_of key_of (map Some less)
   apart_less apart p q y z e f hashes keys =
       let first = stood_less strays less at swap p y e in
       let second = stood_less strays less at swap q z f in
       grind (arith, stray_inside less p y e, stray_inside less q z f, apart p q y z, apart p (length less) y z, apart (length less) q y z)
 
-  from_less : (y : X) → HasEntry (map Some less) y → HasEntry before y
-  from_less y has =
-      elim (stood_less strays less at swap has.0 y has.1) [
-        | (inl a) ↦ (has.0, grind (arith, reads))
-        | (inr b) ↦ (length less, grind (arith, reads, stray_inside less has.0 y has.1))
-      ]
-
-  to_less : (y : X) → HasEntry before y → HasEntry (map Some less) y
-  to_less y has =
-      elim (cases_eq has.0 (length less)) [
-        | (inl e) ↦ (at, grind (arith, reads, has.1, cases_eq has.0 at, length-map strays Some, less_at strays less at swap, swap.shorter, none-some y))
-        | (inr d) ↦ (has.0, grind (arith, reads, has.1, cases_eq has.0 at, length-map strays Some, less_other strays less at swap has.0, swap.shorter, none-some y, stray_inside strays has.0 y))
-      ]
-
   pub stray_out : AreApart hash_of key_of (map Some strays) → IsOut hash_of key_of x (map Some strays) (map Some less)
   stray_out apart =
       let out = out_taken hash_of key_of (map Some strays) at x apart (stray_there strays at x below is) in
-      let same : content hash_of key_of (map Some less) ≡ content hash_of key_of before =
-      same_entries hash_of key_of (map Some less) before (apart_less apart) out.apart (λ y. (from_less y, to_less y)) in
+      let same =
+      same_entries hash_of key_of (map Some less) (set (map Some strays) at None) (apart_less apart) out.apart (λ y. (
+        λ has.
+            elim (stood_less strays less at swap has.0 y has.1) [
+              | (inl a) ↦ (has.0, grind (arith, reads))
+              | (inr b) ↦ (length less, grind (arith, reads, stray_inside less has.0 y has.1))
+            ],
+        λ has.
+            elim (cases_eq has.0 (length less)) [
+              | (inl e) ↦ (at, grind (arith, reads, has.1, cases_eq has.0 at, length-map strays Some, less_at strays less at swap, swap.shorter, none-some y))
+              | (inr d) ↦ (has.0, grind (arith, reads, has.1, cases_eq has.0 at, length-map strays Some, less_other strays less at swap has.0, swap.shorter, none-some y, stray_inside strays has.0 y))
+            ],
+      )) in
       record {
         back = out.back ∙ (λ i. insert (sym same i) (hash_of x ∷ key_of x) x);
         gone = (λ i. get (same i) (hash_of x ∷ key_of x)) ∙ out.gone;

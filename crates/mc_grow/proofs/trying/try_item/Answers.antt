@@ -1,6 +1,5 @@
-use Rattle.mc_grow.proofs.Words.{true≢false, ◌<◌, ◌++◌, length, map, Some, ℕ, List, subst, sym, arith, home_in, absent_of, swapped, IsFull, HoldsAll, rules}
+use Rattle.mc_grow.proofs.Words.{true≢false, ◌<◌, ◌++◌, length, map, Some, ℕ, List, subst, sym, arith, home_in, absent_of, swapped, IsFull, HoldsAll, rules, ap, get_or, ◌∙◌}
 use Rattle.mc_grow.proofs.MoveLemmas.{instead}
-use Rattle.mc_grow.proofs.PartLemmas.{same_read}
 use Rattle.mc_grow.proofs.StrayLemmas.{stray_is_new, stray_put}
 use Rattle.mc_grow.proofs.trying.try_item.Goals as goal
 
@@ -33,7 +32,7 @@ returns g c =
     let old = c.args.strays.now in
     let inside : c.args.at < length old.items = omega (arith, c.requires.inside, old.ok.0) in
     let back =
-    c.put_back.ensures.items old.items inside (same_read old.items c.args.at _ _ c.in-Err.ensures.full.0 c.swap_remove-entry.ensures.value)
+    c.put_back.ensures.items old.items inside (c.in-Err.ensures.full.0 ∙ c.swap_remove-entry.ensures.value ∙ ap (get_or old.items c.args.at) (sym c.in-Err.ensures.full.0))
     (swapped old.ok.0 c.swap_remove-entry.new.self.ok.0 c.swap_remove-entry.ensures.len c.swap_remove-entry.ensures.by_index) in
     record {
       tried = record {

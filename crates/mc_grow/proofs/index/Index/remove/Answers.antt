@@ -1,7 +1,7 @@
 use Rattle.mc_grow.proofs.Words.{◌+◌, ◌≤◌, List, Option, inl, inr, le_refl, is_some, length, refl, sym, ap, ◌∙◌, arith, filled, HopState, drained_items}
 use Rattle.mc_grow.proofs.PartLemmas.{stray_inside}
 use Rattle.mc_grow.proofs.CellLemmas.{filled-taken, in_drained, in_table, in_strays, read_part}
-use Rattle.mc_grow.proofs.ChangeLemmas.{more_room, one_stray_less, removed, removed_stray, strays_apart, taken_apart}
+use Rattle.mc_grow.proofs.ChangeLemmas.{more_room, one_stray_less, removed, removed_stray, stray_gone, taken_apart}
 use Rattle.mc_grow.proofs.index.Index.remove.Goals as goal
 
 pub invariant_of-self : goal.invariant_of-self
@@ -24,7 +24,7 @@ invariant_of-self-in-Stray g c =
     let swap = c.swap_remove.ensures.swapped in
     let inside = stray_inside c.self.inside.strays.items _ _ (read_part c.self.view_is (in_strays c.self.view_is c.in-Stray.ensures) c.requires.1) in
     record {
-      apart = strays_apart g.T.Keyed.hash_of g.T.Keyed.key_of (drained_items c.self.inside.draining) c.self.inside.table.items swap inside c.swap_remove.ensures.value c.self.invariant.apart;
+      apart = (stray_gone g.T.Keyed.hash_of g.T.Keyed.key_of (drained_items c.self.inside.draining) c.self.inside.table.items _ _ _ _ swap inside c.swap_remove.ensures.value c.self.invariant.apart).apart;
       has_room = omega (arith, c.self.invariant.has_room, swap.shorter, c.swap_remove.ensures.room);
     }
 
