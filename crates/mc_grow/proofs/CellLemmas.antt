@@ -1,5 +1,5 @@
 -- Parts of a list of buckets: how many have an entry, and what is true of all where it is true of a part.
-use Rattle.mc_grow.proofs.Words.{◌≡◌, ℕ, zero, suc, ◌+◌, ◌-◌, ◌<◌, ◌≤◌, ◌^◌, inl, inr, List, [], ◌∷◌, ◌++◌, Option, Some, None, is_some, true, map, drop, length, get_or, set, refl, sym, ap}
+use Rattle.mc_grow.proofs.Words.{◌≡◌, ℕ, zero, suc, ◌+◌, ◌-◌, ◌<◌, ◌≤◌, ◌^◌, List, [], ◌∷◌, ◌++◌, Option, Some, None, is_some, true, map, drop, length, get_or, set, refl, sym, ap}
 use Rattle.mc_grow.proofs.Words.{subst, ◌∙◌, arith, cases_lt, none-some, drop-nil, get_or_past, get_or_append_left, get_or-append-add, get_or-append_right, set-append_left, set-append_right}
 use Rattle.mc_grow.proofs.Words.{get, filled, content, AreApart, IsAt, IsAbsent, Place, IndexState, IsFirstFrom, IsPlaceOf, cells, count_from, entry_at, IsFirstFilled, NoneFilledFrom}
 use Rattle.mc_grow.proofs.Words.{option_or, filled_inside, in_first, entry_absent, entry_found, get_joined}
@@ -81,9 +81,7 @@ within_right {X} part xs ys at n number put is e = record {
 -- a place of an index as contracts see it, and as the fields are
 module _ {X : Type 0} {v now : IndexState X} {at : ℕ} (same : v ≡ now) where
   pub in_drained : {number : ℕ} → (at < length now.draining) × (number ≡ at) → Within v.draining (cells v) at number (λ zs. zs ++ (v.table ++ map Some v.strays))
-  in_drained {number} spot =
-      let l : at < length v.draining = subst (λ (s : IndexState X). at < length s.draining) (sym same) spot.0 in
-      within_left v.draining (v.table ++ map Some v.strays) at number l spot.1
+  in_drained {number} spot = within_left v.draining (v.table ++ map Some v.strays) at number (subst (λ (s : IndexState X). at < length s.draining) (sym same) spot.0) spot.1
 
   pub in_table : {number : ℕ} → (at < length now.table) × (number ≡ length now.draining + at) → Within v.table (cells v) at number (λ zs. v.draining ++ (zs ++ map Some v.strays))
   in_table {number} spot =

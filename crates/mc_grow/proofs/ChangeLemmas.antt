@@ -1,7 +1,7 @@
 -- An entry of an index is changed, or taken out.
 use Rattle.mc_grow.proofs.Words.{◌≡◌, ℕ, ◌+◌, ◌-◌, ◌<◌, ◌≤◌, ◌⊎◌, List, ◌∷◌, ◌++◌, Option, Some, None, map, drop, length, get_or, set, refl, sym, ap, subst, ◌∙◌, arith, cases_lt}
 use Rattle.mc_grow.proofs.Words.{drop-append-add, get_or_append_left, get_or-append_right, get_or-set_other, drop-map, length-drop, remove, swap_remove, filled, content, IsSwapped, AreApart}
-use Rattle.mc_grow.proofs.Words.{HopState, KeepsKey, with_bucket, Map, content-over, content-remove, remove-insert, apart-changed, apart-taken, apart_parts, Place, IndexState, IsRemoved}
+use Rattle.mc_grow.proofs.Words.{HopState, KeepsKey, with_bucket, Map, content-over, remove-insert, apart-changed, apart-taken, apart_parts, Place, IndexState, IsRemoved}
 use Rattle.mc_grow.proofs.Words.{IsUpdated, cells, entry_at, left, IsChanged, inl}
 use Rattle.mc_grow.specs.Indexes.{OthersStay}
 use Rattle.mc_grow.proofs.PartLemmas.{less_other, stray_there}
@@ -92,10 +92,7 @@ removed {X} {hash_of} {key_of} {v} {at = at} {place} {x} {put} same w apart here
 
 lower_right : {X : Type 0} (xs ys zs : List (Option X)) (m : ℕ) → ((n : ℕ) → n < m → get_or ys n None ≡ get_or zs n None)
     → (n : ℕ) → n < length xs + m → get_or (xs ++ ys) n None ≡ get_or (xs ++ zs) n None
-lower_right xs ys zs m same n l =
-    let first = get_or_append_left xs in
-    let second = get_or-append_right xs in
-    grind (arith, cases_lt n (length xs), first ys None n, first zs None n, second ys (length xs) n None, second zs (length xs) n None, same (n - length xs))
+lower_right {X} xs ys zs m same n l = grind (arith, get_or_append_left {A = Option X}, get_or-append_right, same (n - length xs), cases_lt n (length xs))
 
 filled_behind : {X : Type 0} (old table : List (Option X)) (strays : List X) (at : ℕ) → filled (drop (length old + (length table + at)) (old ++ (table ++ map Some strays))) ≡ length strays - at
 filled_behind old table strays at =

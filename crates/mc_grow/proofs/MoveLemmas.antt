@@ -1,8 +1,8 @@
 -- What the content of buckets is when an entry comes to a part of them, or goes from one part to another.
-use Rattle.mc_grow.proofs.Words.{◌≡◌, ℕ, zero, suc, ◌+◌, inl, inr, List, [], ◌∷◌, ◌++◌, map, Option, Some, None, get_or, set, refl, sym, ap, subst, ◌∙◌, arith, length-append, none-some}
-use Rattle.mc_grow.proofs.Words.{map-append, append_assoc, append-nil, option_or, get, insert, len, get-empty, filled, AreApart, HopState, with_bucket, AreDisjoint, content, Map, at_a_key}
+use Rattle.mc_grow.proofs.Words.{◌≡◌, ℕ, ◌+◌, inl, inr, List, [], ◌∷◌, ◌++◌, map, Option, Some, None, get_or, set, refl, sym, ap, subst, ◌∙◌, arith, length-append, none-some}
+use Rattle.mc_grow.proofs.Words.{map-append, append_assoc, append-nil, option_or, get, insert, get-empty, filled, AreApart, HopState, with_bucket, AreDisjoint, content, Map, at_a_key}
 use Rattle.mc_grow.proofs.Words.{at_its_key, content-back, gone_after, order, filled_inside, apart_joined, apart_parts, entry_absent, get_joined, joined_first, joined_parts, joined_second}
-use Rattle.mc_grow.proofs.Words.{many_entries, no_entries, apart-taken, HoldsAll, IsIn, IsTaken, AreTaken, IsAdded, Side, cells_of, none_added, one_added}
+use Rattle.mc_grow.proofs.Words.{no_entries, apart-taken, HoldsAll, IsIn, IsTaken, AreTaken, IsAdded, Side, cells_of, one_added}
 
 -- ---- maps with no key in common
 
@@ -82,9 +82,10 @@ module _ {X : Type 0} (hash_of : X → ℕ) (key_of : X → List ℕ) where
   }
 
   -- of one table
-  pub out_of_table : (old new : HopState X) (at : ℕ) (x : X) → AreApart hash_of key_of old.items → get_or old.items at None ≡ Some x → new ≡ with_bucket old at None
+  pub out_of_table : (old new : HopState X) (side : Cells) (at : ℕ) (x : X) → AreApart hash_of key_of (old.items ++ side) → get_or old.items at None ≡ Some x → new ≡ with_bucket old at None
       → IsOut hash_of key_of x old.items new.items
-  out_of_table old new at x apart there is = subst (λ (s : HopState X). IsOut hash_of key_of x old.items s.items) (sym is) (out_taken old.items at x apart there)
+  out_of_table old new side at x apart there is =
+      subst (λ (s : HopState X). IsOut hash_of key_of x old.items s.items) (sym is) (out_taken old.items at x (apart_parts hash_of key_of old.items side apart).0 there)
 
   was_there : (xs zs : Cells) (x : X) → IsOut hash_of key_of x xs zs → get (holds xs) (key x) ≡ Some x
   was_there xs zs x out = ap (λ (m : Map X). get m (key x)) out.back ∙ at_its_key (holds zs) (key x) x
@@ -162,13 +163,6 @@ module _ {X : Type 0} (hash_of : X → ℕ) (key_of : X → List ℕ) where
       }
 
   -- ---- moves one by one
-
-  pub none_moved : (k : ℕ) (drained : Cells) (side : Side X) → AreApart hash_of key_of (drained ++ cells_of side) → MovedSoFar hash_of key_of k 0 drained drained side side
-  none_moved k drained side apart = record {
-    taken = record { entries = []; many = refl; taken = refl; added = none_added side };
-    held = record { same = refl; apart = apart };
-    left = omega arith;
-  }
 
   pub moved_more : {k n k_now : ℕ} {first drained drained_now : Cells} {start side side_now : Side X} → MovedSoFar hash_of key_of k n first drained start side
       → IsTaken hash_of key_of k_now drained drained_now side side_now → k_now ≡ k → filled drained ≡ filled drained_now + 1

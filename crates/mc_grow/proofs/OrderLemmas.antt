@@ -1,13 +1,13 @@
 -- The order of the strays: what a search finds in it, and what comes of it when a stray comes or goes.
-use Rattle.mc_grow.proofs.Words.{◌≡◌, ◌≢◌, ℕ, zero, suc, ◌+◌, ◌-◌, ◌<◌, ◌≤◌, ◌/◌, ◌^◌, inl, inr, Bool, true, false, if◌then◌else◌, List, [], ◌∷◌, ◌++◌, Some, None, map, length}
-use Rattle.mc_grow.proofs.Words.{length-append, length-set, get_or, set, refl, sym, ap, subst, ◌∙◌, arith, ⊎_elim, cases_eq, cases_lt, none-some, pow-succ', get_or-map, get_or_append_left}
-use Rattle.mc_grow.proofs.Words.{get_or_push, get_or_read, length-map, map-append, map-set, set-get_or, reads, same_Some, head_of, tail_of, slice_cmp, IsSwapped, IsAbsent, IsAt, IndexState}
+use Rattle.mc_grow.proofs.Words.{◌≡◌, ◌≢◌, ℕ, zero, suc, ◌+◌, ◌-◌, ◌<◌, ◌≤◌, ◌/◌, ◌^◌, inl, inr, if◌then◌else◌, List, [], ◌∷◌, ◌++◌, Some, None, map, length}
+use Rattle.mc_grow.proofs.Words.{length-append, length-set, get_or, set, sym, ap, subst, ◌∙◌, arith, cases_eq, cases_lt, pow-succ', get_or-map, get_or_append_left}
+use Rattle.mc_grow.proofs.Words.{get_or_push, get_or_read, length-map, map-append, map-set, set-get_or, reads, head_of, tail_of, slice_cmp, IsSwapped, IsAbsent, IsAt, IndexState}
 use Rattle.mc_grow.proofs.Words.{binary_digits, digits_in, most_reads, IsBefore, IsGap, IsOrder, forgotten, key_by, keys_in}
 use Rattle.std.proofs.lemmas.Cmp.{nat_list_cmp_total, tied_itself}
 use Rattle.std.proofs.lemmas.List.Edits.{get_or-insert_at, get_or-insert_below, get_or-insert_above, get_or-remove_below, get_or-remove_above, length-insert, length-remove}
 use Rattle.std.specs.Ordering.{nat_cmp, ordering_reverse}
 use Rattle.std.specs.declared.cmp.Ordering.{Ordering}
-use Rattle.std.specs.declared.cmp.Ordering.TheVariants.{Less, Equal, Greater}
+use Rattle.std.specs.declared.cmp.Ordering.TheVariants.{Greater}
 use Rattle.std.specs.List.{insert}
 use Rattle.mc_grow.proofs.PartLemmas.{map-swapped, some_stray, stray_inside, stray_is}
 

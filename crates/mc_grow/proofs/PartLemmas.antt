@@ -1,6 +1,6 @@
 -- Strays in a list: how they stand in buckets, and what changing one or taking one out does.
-use Rattle.mc_grow.proofs.Words.{◌≡◌, ◌≢◌, ℕ, zero, suc, ◌+◌, ◌-◌, ◌<◌, ◌⊎◌, List, [], ◌∷◌, ◌++◌, Some, None, map, length, get_or, set, refl, sym, ap, subst, ◌∙◌, arith, slice_get}
-use Rattle.mc_grow.proofs.Words.{SwappedAt, cases_eq, ext_get_or, get_or-map, length-map, length_push, set-get_or, IsSwapped, filled_inside, get-others, get-swapped, reads, same_Some}
+use Rattle.mc_grow.proofs.Words.{◌≡◌, ◌≢◌, ℕ, zero, suc, ◌+◌, ◌-◌, ◌<◌, ◌⊎◌, List, [], ◌∷◌, ◌++◌, Some, None, map, length, get_or, set, refl, sym, ap, subst, ◌∙◌, arith}
+use Rattle.mc_grow.proofs.Words.{SwappedAt, cases_eq, ext_get_or, get_or-map, length-map, length_push, set-get_or, IsSwapped, filled_inside, reads, same_Some}
 
 pub stray_there : {X : Type 0} (xs : List X) (at : ℕ) (x : X) → at < length xs → x ≡ get_or xs at x → get_or (map Some xs) at None ≡ Some x
 stray_there xs at x l e = get_or-map Some xs at x None l ∙ ap Some (sym e)

@@ -1,11 +1,15 @@
-use Rattle.mc_grow.proofs.Words.{refl, arith, ◌∙◌, beside}
+use Rattle.mc_grow.proofs.Words.{refl, arith, ◌∙◌, beside, [], none_added}
 use Rattle.mc_grow.proofs.CellLemmas.{some_filled}
-use Rattle.mc_grow.proofs.MoveLemmas.{none_moved, moved_more}
+use Rattle.mc_grow.proofs.MoveLemmas.{moved_more}
 use Rattle.mc_grow.proofs.moving.move_entries.Goals as goal
 
 pub loop-moved-init : goal.loop-moved-init
 loop-moved-init g c = record {
-  moves = none_moved g.T.Keyed.hash_of g.T.Keyed.key_of c.args.table.now.k c.args.draining.now.items (beside c.args.table.now c.args.strays.now.items) c.requires.apart;
+  moves = record {
+    taken = record { entries = []; many = refl; taken = refl; added = none_added (beside c.args.table.now c.args.strays.now.items) };
+    held = record { same = refl; apart = c.requires.apart };
+    left = omega arith;
+  };
   same_k = refl;
   room = omega arith;
   capacity = refl;

@@ -8,10 +8,9 @@ place-requires g c =
     let hash_of = g.T.Keyed.hash_of in
     let key_of = g.T.Keyed.key_of in
     let side = cells_of (beside c.args.table.now c.args.strays.now.items) in
-    let parts = apart_parts hash_of key_of c.args.draining.now.items side c.requires.apart in
-    let out = out_of_table hash_of key_of c.args.draining.now c.remove-entry.new.self c.args.at c.remove-entry.result parts.0 c.remove-entry.ensures.here c.remove-entry.ensures.removed in
+    let out = out_of_table hash_of key_of c.args.draining.now c.remove-entry.new.self side c.args.at c.remove-entry.result c.requires.apart c.remove-entry.ensures.here c.remove-entry.ensures.removed in
     record {
-      apart = parts.1;
+      apart = (apart_parts hash_of key_of c.args.draining.now.items side c.requires.apart).1;
       new = (new_to_each hash_of key_of c.remove-entry.new.self.items side _ (out_first hash_of key_of c.args.draining.now.items side _ c.remove-entry.result c.requires.apart out).gone).1;
       room = c.requires.room;
     }
@@ -24,9 +23,7 @@ returns-clause-left g c = rw c.remove-entry.ensures.removed (filled-taken c.args
 
 pub returns-clause-content : goal.returns-clause-content
 returns-clause-content g c =
-    let hash_of = g.T.Keyed.hash_of in
-    let key_of = g.T.Keyed.key_of in
     let side = cells_of (beside c.args.table.now c.args.strays.now.items) in
-    let parts = apart_parts hash_of key_of c.args.draining.now.items side c.requires.apart in
-    moved hash_of key_of c.args.draining.now.items side _ (cells_of (beside c.place.new.table c.place.new.strays.items)) c.remove-entry.result c.requires.apart
-    (out_of_table hash_of key_of c.args.draining.now c.remove-entry.new.self c.args.at _ parts.0 c.remove-entry.ensures.here c.remove-entry.ensures.removed) c.place.ensures.content
+    moved g.T.Keyed.hash_of g.T.Keyed.key_of c.args.draining.now.items side _ (cells_of (beside c.place.new.table c.place.new.strays.items)) c.remove-entry.result c.requires.apart
+    (out_of_table g.T.Keyed.hash_of g.T.Keyed.key_of c.args.draining.now c.remove-entry.new.self side c.args.at _ c.requires.apart c.remove-entry.ensures.here c.remove-entry.ensures.removed)
+    c.place.ensures.content

@@ -1,4 +1,4 @@
-use Rattle.mc_grow.proofs.Words.{◌≡◌, ◌-◌, Some, map, ap, subst, ◌∙◌, arith, map-set, keys_in, swapped, rules, ◌<◌, length}
+use Rattle.mc_grow.proofs.Words.{◌-◌, Some, map, ap, subst, ◌∙◌, arith, map-set, keys_in, swapped, rules, ◌<◌, length}
 use Rattle.mc_grow.proofs.OrderLemmas.{keys_kept}
 use Rattle.mc_grow.proofs.PartLemmas.{put_back, stray_is, stray_there}
 use Rattle.mc_grow.proofs.parts.update_stray.Goals as goal

@@ -42,7 +42,6 @@ loop-low-preserved g c =
 
 pub returns-in-Equal-clause-found : goal.returns-in-Equal-clause-found
 returns-in-Equal-clause-found g c =
-    let w = c.loop-low in
-    let inside : w.low + (w.high - w.low) / 2 < length c.args.order.now.items = omega (arith, c.loop-low-test.true, w.invariant.inside) in
+    let inside : c.loop-low.low + (c.loop-low.high - c.loop-low.low) / 2 < length c.args.order.now.items = omega (arith, c.loop-low-test.true, c.loop-low.invariant.inside) in
     let its = compared g.T.Keyed.hash_of g.T.Keyed.key_of c.args.items.now.items c.requires (c.args.hash ∷ c.args.key.now) inside c.index.ensures c.index-in-loop-low.ensures c.compare.ensures.order in
     (inside, exact_bytes _ _ (its ∙ c.in-Equal.is))

@@ -30,10 +30,8 @@ returns-in-Some-find-clause-found g c =
 pub returns-in-None-clause-found : goal.returns-in-None-clause-found
 returns-in-None-clause-found g c =
     let i = c.self.inside in
-    let hash_of = g.T.Keyed.hash_of in
-    let key_of = g.T.Keyed.key_of in
-    let none = absent_both hash_of key_of i.table.items (map Some i.strays.items) _ _
+    let none = absent_both g.T.Keyed.hash_of g.T.Keyed.key_of i.table.items (map Some i.strays.items) _ _
     (c.find_counted.ensures.none (ap is_some c.in_default-find_counted.is)) (c.find.ensures.none (ap is_some c.in-None.is)) in
-    let all = absent_both hash_of key_of (drained_items i.draining) _ _ _ (c.find_drained.ensures.none (ap is_some c.in_default.is)) none in
-    sym (ap (λ (s : IndexState g.row.T.Denot). get (holds hash_of key_of s) (c.args.hash ∷ c.args.key.now)) c.self.view_is)
-    ∙ (entry_absent hash_of key_of (drained_items i.draining ++ (i.table.items ++ map Some i.strays.items)) c.args.hash c.args.key.now).0 all
+    let all = absent_both g.T.Keyed.hash_of g.T.Keyed.key_of (drained_items i.draining) _ _ _ (c.find_drained.ensures.none (ap is_some c.in_default.is)) none in
+    sym (ap (λ (s : IndexState g.row.T.Denot). get (holds g.T.Keyed.hash_of g.T.Keyed.key_of s) (c.args.hash ∷ c.args.key.now)) c.self.view_is)
+    ∙ (entry_absent g.T.Keyed.hash_of g.T.Keyed.key_of (drained_items i.draining ++ (i.table.items ++ map Some i.strays.items)) c.args.hash c.args.key.now).0 all

@@ -6,7 +6,5 @@ returns-clause-range g c =
     let k = c.exponent.result in
     let low : 2 ^ 6 ≤ 2 ^ k = pow-le-pow_right {n = 2} (omega arith) c.exponent.ensures.range.0 in
     let high : 2 ^ k ≤ 2 ^ 24 = pow-le-pow_right {n = 2} (omega arith) c.exponent.ensures.range.1 in
-    let same : 1 * 2 ^ k % 18446744073709551616 ≡ 2 ^ k = omega (arith, high) in (
-      omega (arith, low, same),
-      omega (arith, high, same),
-    )
+    let same : 1 * 2 ^ k % 18446744073709551616 ≡ 2 ^ k = omega arith in
+    (omega arith, omega arith)

@@ -13,13 +13,11 @@ place-at-requires-clause-new g c =
     (ap (λ (s : IndexState g.row.T.Denot). get (holds g.T.Keyed.hash_of g.T.Keyed.key_of s) (g.T.Keyed.hash_of c.args.entry ∷ g.T.Keyed.key_of c.args.entry)) c.self.view_is ∙ c.requires.new)).1
 
 pub invariant_of-self : goal.invariant_of-self
-invariant_of-self g c =
-    let spare = ap (λ (s : IndexState g.row.T.Denot). s.spare) c.self.view_is in
-    record {
-      apart = (come_in g.T.Keyed.hash_of g.T.Keyed.key_of c.self.view_is c.self.invariant.apart c.requires.new c.place-at.ensures.content).apart;
-      has_room = subst (λ (n : ℕ). length c.place-at.new.strays.items + filled (drained_items c.self.inside.draining) ≤ n) (sym c.place-at.ensures.capacity)
-          (omega (arith, spare, c.requires.room, c.place-at.ensures.room));
-    }
+invariant_of-self g c = record {
+  apart = (come_in g.T.Keyed.hash_of g.T.Keyed.key_of c.self.view_is c.self.invariant.apart c.requires.new c.place-at.ensures.content).apart;
+  has_room = subst (λ (n : ℕ). length c.place-at.new.strays.items + filled (drained_items c.self.inside.draining) ≤ n) (sym c.place-at.ensures.capacity)
+      (omega (arith, ap (λ (s : IndexState g.row.T.Denot). s.spare) c.self.view_is, c.requires.room, c.place-at.ensures.room));
+}
 
 pub returns-clause-content : goal.returns-clause-content
 returns-clause-content g c =

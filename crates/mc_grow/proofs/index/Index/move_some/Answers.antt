@@ -1,4 +1,4 @@
-use Rattle.mc_grow.proofs.Words.{◌≡◌, ◌+◌, ◌-◌, ◌++◌, Option, length, true, ap, sym, is_some, ◌∙◌, arith, filled, HopState, apart_parts, beside, cells_of, IndexState, cells, count, rules}
+use Rattle.mc_grow.proofs.Words.{◌≡◌, ◌+◌, ◌-◌, ◌++◌, Option, length, true, ap, sym, is_some, ◌∙◌, arith, filled, HopState, apart_parts, beside, cells_of, IndexState, count, rules}
 use Rattle.mc_grow.proofs.Words.{drained_items}
 use Rattle.mc_grow.proofs.IndexLemmas.{Parts, held_at_the_end, held_left, moved_some, moved_to_the_end, nothing_moved, parts_of}
 use Rattle.mc_grow.proofs.index.Index.move_some.Goals as goal

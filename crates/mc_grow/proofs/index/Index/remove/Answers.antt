@@ -1,4 +1,4 @@
-use Rattle.mc_grow.proofs.Words.{◌+◌, ◌≤◌, List, Option, inl, inr, le_refl, is_some, length, refl, sym, ap, ◌∙◌, arith, filled, HopState, drained_items}
+use Rattle.mc_grow.proofs.Words.{◌+◌, ◌≤◌, List, Option, inl, inr, le_refl, length, refl, sym, ap, ◌∙◌, arith, filled, HopState, drained_items}
 use Rattle.mc_grow.proofs.PartLemmas.{stray_inside}
 use Rattle.mc_grow.proofs.CellLemmas.{filled-taken, in_drained, in_table, in_strays, read_part}
 use Rattle.mc_grow.proofs.ChangeLemmas.{more_room, one_stray_less, removed, removed_stray, stray_gone, taken_apart}

@@ -1,5 +1,4 @@
-use Rattle.mc_grow.proofs.Words.{ℕ, ◌+◌, ◌-◌, is_some, refl, ap, length, ◌∙◌, arith, filled, HopState, drained_items}
-use Rattle.mc_grow.proofs.PartLemmas.{stray_inside}
+use Rattle.mc_grow.proofs.Words.{ℕ, ◌+◌, ◌-◌, refl, ap, length, ◌∙◌, arith, filled, HopState, drained_items}
 use Rattle.mc_grow.proofs.CellLemmas.{filled-changed, in_drained, in_table, in_strays, read_part, read_back}
 use Rattle.mc_grow.proofs.ChangeLemmas.{changed_apart, table_changed, updated}
 use Rattle.mc_grow.proofs.index.Index.update.Goals as goal
