@@ -80,7 +80,8 @@ module _ {X : Type 0} (hash_of : X → ℕ) (key_of : X → List ℕ) {v now : I
   held = subst (λ (d : List (Option X)). HoldsAll hash_of key_of (d ++ cells_of (side_of v)) (drained ++ cells_of side)) drain moved
 
   as_held : {all : List (Option X)} → HoldsAll hash_of key_of (cells v) all → (content hash_of key_of all ≡ holds hash_of key_of now) × (filled all ≡ count now)
-  as_held {all} is = (is.same ∙ ap (holds hash_of key_of) same, sym (many_entries hash_of key_of all is.apart) ∙ ap (λ (m : Map X). len m) is.same ∙ many_entries hash_of key_of (cells v) apart ∙ ap count same)
+  as_held {all} is =
+      (is.same ∙ ap (holds hash_of key_of) same, sym (many_entries hash_of key_of all is.apart) ∙ ap (λ (m : Map X). len m) is.same ∙ many_entries hash_of key_of (cells v) apart ∙ ap count same)
 
   pub held_left : {all : List (Option X)} → all ≡ drained ++ cells_of side → (content hash_of key_of all ≡ holds hash_of key_of now) × (filled all ≡ count now)
   held_left is = as_held (subst (HoldsAll hash_of key_of (cells v)) (sym is) held)

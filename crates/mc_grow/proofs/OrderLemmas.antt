@@ -5,33 +5,29 @@ use Rattle.mc_grow.proofs.Words.{get_or_push, get_or_read, length-map, map-appen
 use Rattle.mc_grow.proofs.Words.{binary_digits, digits_in, most_reads, IsBefore, IsGap, IsOrder, forgotten, key_by, keys_in}
 use Rattle.std.proofs.lemmas.Cmp.{nat_list_cmp_total, tied_itself}
 use Rattle.std.proofs.lemmas.List.Edits.{get_or-insert_at, get_or-insert_below, get_or-insert_above, get_or-remove_below, get_or-remove_above, length-insert, length-remove}
-use Rattle.std.specs.Ordering.{nat_cmp, ordering_reverse}
-use Rattle.std.specs.declared.cmp.Ordering.{Ordering}
-use Rattle.std.specs.declared.cmp.Ordering.TheVariants.{Greater}
+use Rattle.std.proofs.Common.{nat_cmp, Ordering, Greater}
+use Rattle.std.specs.Ordering.{ordering_reverse}
 use Rattle.std.specs.List.{insert}
 use Rattle.mc_grow.proofs.PartLemmas.{map-swapped, some_stray, stray_inside, stray_is}
 
 -- ---- a search
 
 module _ (keys : List (List ℕ)) (order : List ℕ) (o : IsOrder keys order) where
-  abbrev at_place : ℕ → List ℕ
-  at_place = key_by keys order
+  places_apart : (p q : ℕ) → p < length order → q < length order → key_by keys order p ≡ key_by keys order q → p ≡ q
+  places_apart p q l m e = grind (arith, cases_lt p q, cases_eq p q, o.rises p q, o.rises q p, tied_itself nat_list_cmp_total (key_by keys order p))
 
-  places_apart : (p q : ℕ) → p < length order → q < length order → at_place p ≡ at_place q → p ≡ q
-  places_apart p q l m e = grind (arith, cases_lt p q, cases_eq p q, o.rises p q, o.rises q p, tied_itself nat_list_cmp_total (at_place p))
+  pub all_before : (middle : ℕ) (key : List ℕ) → middle < length order → IsBefore (key_by keys order middle) key → (p : ℕ) → p < middle + 1 → IsBefore (key_by keys order p) key
+  all_before middle key inside before p l = grind (arith, cases_eq p middle, o.rises p middle, nat_list_cmp_total.trans (key_by keys order p) (key_by keys order middle) key)
 
-  pub all_before : (middle : ℕ) (key : List ℕ) → middle < length order → IsBefore (at_place middle) key → (p : ℕ) → p < middle + 1 → IsBefore (at_place p) key
-  all_before middle key inside before p l = grind (arith, cases_eq p middle, o.rises p middle, nat_list_cmp_total.trans (at_place p) (at_place middle) key)
-
-  pub all_behind : (middle : ℕ) (key : List ℕ) → slice_cmp nat_cmp (at_place middle) key ≡ Greater → (p : ℕ) → middle ≤ p → p < length order → IsBefore key (at_place p)
+  pub all_behind : (middle : ℕ) (key : List ℕ) → slice_cmp nat_cmp (key_by keys order middle) key ≡ Greater → (p : ℕ) → middle ≤ p → p < length order → IsBefore key (key_by keys order p)
   all_behind middle key behind p l inside =
-      let before : IsBefore key (at_place middle) = nat_list_cmp_total.antisymm key (at_place middle) ∙ ap ordering_reverse behind in
-      grind (arith, cases_eq p middle, o.rises middle p, nat_list_cmp_total.trans key (at_place middle) (at_place p))
+      let before : IsBefore key (key_by keys order middle) = nat_list_cmp_total.antisymm key (key_by keys order middle) ∙ ap ordering_reverse behind in
+      grind (arith, cases_eq p middle, o.rises middle p, nat_list_cmp_total.trans key (key_by keys order middle) (key_by keys order p))
 
   none_in_gap : (key : List ℕ) (place : ℕ) → IsGap keys order key place → (n : ℕ) → n < length keys → get_or keys n [] ≡ key → ⊥
   none_in_gap key place gap n l e = let p = o.each n l in grind (arith, cases_lt p.0 place, gap.before p.0, gap.behind p.0, p.1, p.2, tied_itself nat_list_cmp_total key)
 
-  pub its_number : (place number : ℕ) → place < length order → number < length keys → at_place place ≡ get_or keys number [] → get_or order place 0 ≡ number
+  pub its_number : (place number : ℕ) → place < length order → number < length keys → key_by keys order place ≡ get_or keys number [] → get_or order place 0 ≡ number
   its_number place number l m e = let p = o.each number m in grind (arith, p.2, places_apart place p.0 l p.1)
 
 -- ---- a stray comes
@@ -163,8 +159,7 @@ module _ {X : Type 0} (hash_of : X → ℕ) (key_of : X → List ℕ) where
         → answer ≡ slice_cmp nat_cmp (key x) its_key → slice_cmp nat_cmp (key_by (keys items) order place) its_key ≡ answer
     compared {place} {number} {x} its_key l at lent is =
         let there : number ≡ get_or order place 0 = get_or_read order place number l at 0 in
-        let its = own_key items number x (omega (arith, there, o.inside place l, many_keys items)) lent in
-        cc
+        cc (own_key items number x (omega (arith, there, o.inside place l, many_keys items)) lent)
 
     -- a search for a stray's own hash and key
     pub own_is_found : {number place : ℕ} {x : X} {q : List ℕ} → number < length items → x ≡ get_or items number x → q ≡ key x → IsGap (keys items) order q place → ⊥

@@ -1,7 +1,7 @@
 -- A stray goes out, to the table or for good, and the strays are tried one by one.
 use Rattle.mc_grow.proofs.Words.{◌≡◌, ℕ, zero, suc, ◌+◌, ◌-◌, ◌<◌, ◌≤◌, inl, inr, Bool, true, false, if◌then◌else◌, List, [], ◌∷◌, ◌++◌, map, length, take, drop, set, Option, Some, None}
 use Rattle.mc_grow.proofs.Words.{add-one, get_or, refl, sym, ap, subst, ◌∙◌, arith, none-some, cases_eq, append-nil, length-map, take_all, drop-cons, take-suc, swap_remove, get, insert}
-use Rattle.mc_grow.proofs.Words.{IsSwapped, AreApart, content, reads, apart_parts, same_entries, HoldsAll, IsTried, AreAdded, AreTried, IsAdded, Side, cells_of, none_added}
+use Rattle.mc_grow.proofs.Words.{IsSwapped, AreApart, content, reads, apart_parts, same_entries, HoldsAll, IsTried, AreAdded, AreTried, IsAdded, Side, cells_of}
 use Rattle.mc_grow.proofs.Words.{one_added}
 use Rattle.std.proofs.lemmas.List.Sorted.{IsPermutation-pop_more, IsPermutation-refl, IsPermutation-swap_remove, length_permutation}
 use Rattle.std.proofs.Math.ListN.{drop_of_length-le}
@@ -54,7 +54,8 @@ module _ {X : Type 0} (hash_of : X → ℕ) (key_of : X → List ℕ) (strays le
 -- ---- the strays are tried
 
 -- what was not tried yet, when a stray of it goes out
-swapped_out : {X : Type 0} (xs : List X) (at : ℕ) (x : X) → at < length xs → x ≡ get_or xs at x → (take at (swap_remove xs at x) ≡ take at xs) × IsPermutation (drop at xs) (x ∷ drop at (swap_remove xs at x))
+swapped_out : {X : Type 0} (xs : List X) (at : ℕ) (x : X) → at < length xs → x ≡ get_or xs at x
+    → (take at (swap_remove xs at x) ≡ take at xs) × IsPermutation (drop at xs) (x ∷ drop at (swap_remove xs at x))
 swapped_out [] at x l there = absurd (omega arith)
 swapped_out (y ∷ ys) zero x l there = (refl, IsPermutation-swap_remove (y ∷ ys) zero x l there)
 swapped_out {X} (y ∷ ys) (suc at) x l there =
@@ -71,16 +72,6 @@ pub record TriedSoFar {X : Type 0} (hash_of : X → ℕ) (key_of : X → List �
   pub inside : kept ≤ length side.strays
   pub added : AreAdded hash_of key_of k tried (record start { strays = [] }) (record side { strays = take kept side.strays })
   pub held : HoldsAll hash_of key_of (cells_of start) (cells_of side)
-
-pub none_tried : {X : Type 0} (hash_of : X → ℕ) (key_of : X → List ℕ) (k : ℕ) (side : Side X) → AreApart hash_of key_of (cells_of side) → TriedSoFar hash_of key_of k 0 0 side side
-none_tried hash_of key_of k side apart = record {
-  tried = [];
-  each = IsPermutation-refl side.strays;
-  many = omega arith;
-  inside = omega arith;
-  added = none_added (record side { strays = [] });
-  held = record { same = refl; apart = apart };
-}
 
 -- a turn more, in which an entry was added to the table and the strays that were kept
 tried_step : {X : Type 0} {hash_of : X → ℕ} {key_of : X → List ℕ} {k turn kept : ℕ} {start side : Side X} (kept_now : ℕ) (side_now : Side X) (x : X)
@@ -114,16 +105,17 @@ pub tried_more : {X : Type 0} (hash_of : X → ℕ) (key_of : X → List ℕ) (k
     → TriedSoFar hash_of key_of k (turn + 1) kept_now start side_now
 tried_more {X} hash_of key_of k turn kept kept_now true start side side_now before one held next =
     let x = one.entry in
-    let outcome = one.outcome in
-    let out = subst (λ (l : List X). (take kept l ≡ take kept side.strays) × IsPermutation (drop kept side.strays) (x ∷ drop kept l)) (sym outcome.2) (swapped_out side.strays kept x one.inside one.there) in
-    let fewer = length_permutation side.strays (x ∷ swap_remove side.strays kept x) (IsPermutation-swap_remove side.strays kept x one.inside one.there) in
-    subst (λ (n : ℕ). TriedSoFar hash_of key_of k (turn + 1) n start side_now) (sym next) (tried_step kept side_now x before out.1 (inl (record { had = outcome.1; placed = outcome.0; strays = out.0 }))
-    (omega (arith, ap length outcome.2, fewer, one.inside), omega (arith, ap length outcome.2, fewer, one.inside)) held)
+    let old = side.strays in
+    let out = subst (λ (l : List X). (take kept l ≡ take kept old) × IsPermutation (drop kept old) (x ∷ drop kept l)) (sym one.outcome.2) (swapped_out old kept x one.inside one.there) in
+    let fewer = length_permutation old (x ∷ swap_remove old kept x) (IsPermutation-swap_remove old kept x one.inside one.there) in
+    subst (λ (n : ℕ). TriedSoFar hash_of key_of k (turn + 1) n start side_now) (sym next) (tried_step kept side_now x before out.1
+    (inl (record { had = one.outcome.1; placed = one.outcome.0; strays = out.0 })) (omega (arith, ap length one.outcome.2, fewer), omega (arith, ap length one.outcome.2, fewer)) held)
 tried_more {X} hash_of key_of k turn kept kept_now false start side side_now before one held next =
     let x = one.entry in
-    let same : side_now.strays ≡ side.strays = one.outcome.3 in
-    let front : drop kept side.strays ≡ x ∷ drop (kept + 1) side_now.strays = rw (add-one, same) (drop-cons side.strays kept x one.inside ∙ ap (λ (y : X). y ∷ drop (suc kept) side.strays) (sym one.there)) in
-    let taken : take (kept + 1) side_now.strays ≡ take kept side.strays ++ (x ∷ []) = rw (add-one, same) (take-suc side.strays kept x one.inside ∙ ap (λ (y : X). take kept side.strays ++ (y ∷ [])) (sym one.there)) in
+    let old = side.strays in
+    let same : side_now.strays ≡ old = one.outcome.3 in
+    let front : drop kept old ≡ x ∷ drop (kept + 1) side_now.strays = rw (add-one, same) (drop-cons old kept x one.inside ∙ ap (λ (y : X). y ∷ drop (suc kept) old) (sym one.there)) in
+    let taken : take (kept + 1) side_now.strays ≡ take kept old ++ (x ∷ []) = rw (add-one, same) (take-suc old kept x one.inside ∙ ap (λ (y : X). take kept old ++ (y ∷ [])) (sym one.there)) in
     subst (λ (n : ℕ). TriedSoFar hash_of key_of k (turn + 1) n start side_now) (sym next) (tried_step (kept + 1) side_now x before
-    (subst (IsPermutation (drop kept side.strays)) front (IsPermutation-refl (drop kept side.strays)))
-    (inr (record { none_near = one.outcome.1; same = one.outcome.0; full = one.outcome.2; strays = taken })) (omega (arith, ap length same, one.inside), omega (arith, ap length same, one.inside)) held)
+    (subst (IsPermutation (drop kept old)) front (IsPermutation-refl (drop kept old))) (inr (record { none_near = one.outcome.1; same = one.outcome.0; full = one.outcome.2; strays = taken }))
+    (omega (arith, ap length same), omega (arith, ap length same)) held)

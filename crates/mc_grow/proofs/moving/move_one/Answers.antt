@@ -8,7 +8,7 @@ place-requires g c =
     let hash_of = g.T.Keyed.hash_of in
     let key_of = g.T.Keyed.key_of in
     let side = cells_of (beside c.args.table.now c.args.strays.now.items) in
-    let out = out_of_table hash_of key_of c.args.draining.now c.remove-entry.new.self side c.args.at c.remove-entry.result c.requires.apart c.remove-entry.ensures.here c.remove-entry.ensures.removed in
+    let out = out_of_table hash_of key_of c.args.draining.now c.remove-entry.new.self side c.args.at _ c.requires.apart c.remove-entry.ensures.here c.remove-entry.ensures.removed in
     record {
       apart = (apart_parts hash_of key_of c.args.draining.now.items side c.requires.apart).1;
       new = (new_to_each hash_of key_of c.remove-entry.new.self.items side _ (out_first hash_of key_of c.args.draining.now.items side _ c.remove-entry.result c.requires.apart out).gone).1;

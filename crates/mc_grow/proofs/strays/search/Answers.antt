@@ -45,3 +45,6 @@ returns-in-Equal-clause-found g c =
     let inside : c.loop-low.low + (c.loop-low.high - c.loop-low.low) / 2 < length c.args.order.now.items = omega (arith, c.loop-low-test.true, c.loop-low.invariant.inside) in
     let its = compared g.T.Keyed.hash_of g.T.Keyed.key_of c.args.items.now.items c.requires (c.args.hash ∷ c.args.key.now) inside c.index.ensures c.index-in-loop-low.ensures c.compare.ensures.order in
     (inside, exact_bytes _ _ (its ∙ c.in-Equal.is))
+
+pub returns-clause-none : goal.returns-clause-none
+returns-clause-none g c = record { inside = omega arith; before = c.loop-low.invariant.before; behind = λ p l m. c.loop-low.invariant.behind p (omega (arith, l, c.loop-low-test.false)) m }

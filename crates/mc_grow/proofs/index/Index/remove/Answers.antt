@@ -21,10 +21,11 @@ invariant_of-self-in-Table g c = record {
 
 pub invariant_of-self-in-Stray : goal.invariant_of-self-in-Stray
 invariant_of-self-in-Stray g c =
+    let i = c.self.inside in
     let swap = c.swap_remove.ensures.swapped in
     let inside = stray_inside c.self.inside.strays.items _ _ (read_part c.self.view_is (in_strays c.self.view_is c.in-Stray.ensures) c.requires.1) in
     record {
-      apart = (stray_gone g.T.Keyed.hash_of g.T.Keyed.key_of (drained_items c.self.inside.draining) c.self.inside.table.items _ _ _ _ swap inside c.swap_remove.ensures.value c.self.invariant.apart).apart;
+      apart = (stray_gone g.T.Keyed.hash_of g.T.Keyed.key_of (drained_items i.draining) i.table.items _ _ _ _ swap inside c.swap_remove.ensures.value c.self.invariant.apart).apart;
       has_room = omega (arith, c.self.invariant.has_room, swap.shorter, c.swap_remove.ensures.room);
     }
 
