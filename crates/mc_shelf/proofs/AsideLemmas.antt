@@ -120,16 +120,6 @@ module _ {slab : SlabState} {out : List ℕ} {shelves : List ShelfState} (lie : 
         omega (arith, all, one, less);
   }
 
--- some go back, so that fewer are out
-pub fewer_out : (slab : SlabState) (chunks : ChunksState) {new : SlabState} → IsSlab slab → IsNeed (need_in chunks) → chunks.count ≤ out_of slab chunks.class
-    → new ≡ given slab chunks.class chunks.count → all_out new < all_out slab
-fewer_out slab chunks {new} fits is within new_is =
-    let place : chunks.class - 1 < length slab.out = omega (arith, fits.out, is.is_class.0, is.is_class.1) in
-    let moved = sum_by-set (λ (n : ℕ). n) slab.out (chunks.class - 1) (out_of slab chunks.class - chunks.count) 0 place in
-    let less : all_out (given slab chunks.class chunks.count) + out_of slab chunks.class ≡ all_out slab + (out_of slab chunks.class - chunks.count) = moved in
-    let fewer : all_out (given slab chunks.class chunks.count) < all_out slab = omega (arith, less, within, is.some) in
-    subst (λ (s : SlabState). all_out s < all_out slab) (sym new_is) fewer
-
 -- the chunks of one item of a class are given to the slab
 pub gives_own : {slab new : SlabState} {out : List ℕ} {shelves after : List ShelfState} {chunks : ChunksState} → LieAside slab out shelves → AreOff shelves after chunks
     → (class : ℕ) → chunks.class ≡ class
@@ -152,9 +142,6 @@ fewer_own {slab} {new} {class} fits own =
 
 -- ---- collecting
 
-pub collected_none : (slab : SlabState) (shelves : List ShelfState) → AreCollected slab slab shelves shelves
-collected_none slab shelves = record { lie = λ out lie. lie; limit = refl; pages = refl }
-
 pub collected_both : {a b c : SlabState} {x y z : List ShelfState} → AreCollected a b x y → AreCollected b c y z → AreCollected a c x z
 collected_both one two = record {
   lie = λ out lie. two.lie out (one.lie out lie);
@@ -170,26 +157,9 @@ collected_one off new_is is = record {
   pages = ap (λ (s : SlabState). s.pages) new_is;
 }
 
--- where the shelves that are left have no item
-pub collected_empty : {slab : SlabState} {shelves after : List ShelfState} → ((class : ℕ) → count_in shelves class ≡ 0) → after ≡ [] → AreCollected slab slab shelves after
-collected_empty {slab} none after_is = record {
-  lie = λ out lie. record {
-    is_slab = lie.is_slab;
-    classes = lie.classes;
-    account = λ class is. let nothing = ap (λ l. count_in l class) after_is in omega (arith, lie.account class is, none class, nothing);
-  };
-  limit = refl;
-  pages = refl;
-}
-
 -- nothing that is seen has changed
 pub seen_same : {old new : SlabState} {before after : List ShelfState} (out : List ℕ) → AreCollected old new before after → seen new out ≡ seen old out
 seen_same out collected = λ i. record { limit = collected.limit i; pages = collected.pages i; out = out }
-
--- with no shelf aside, what is seen to be out is out
-pub none_aside : {slab : SlabState} {out : List ℕ} {shelves : List ShelfState} → LieAside slab out shelves → shelves ≡ [] → (class : ℕ) → IsClass class
-    → out_of slab class ≡ get_or out (class - 1) 0
-none_aside lie none class is = let nothing = ap (λ l. count_in l class) none in omega (arith, lie.account class is, nothing)
 
 -- ---- needs
 

@@ -20,7 +20,7 @@ use Rattle.mc_shelf.specs.Plans.{CanWrite, IsSpent, IsTaken, MayWantMemory, Need
 use Rattle.mc_shelf.proofs.StandLemmas.{wrote_kept, wrote_taken}
 use Rattle.mc_shelf.proofs.PlanLemmas.{block_at, found_in}
 use Rattle.mc_shelf.proofs.NeedLemmas.{need_class}
-use Rattle.mc_shelf.proofs.TakesLemmas.{drafts, room_found, wrote_is}
+use Rattle.mc_shelf.proofs.TakesLemmas.{drafts, fits_plain, room_found, wrote_is}
 
 reply_copies : (body : Body) → CopiesBlock (write_reply body)
 reply_copies Given = tt
@@ -44,7 +44,7 @@ module _ (step : KeyStep) (now : ℕ) (shelf : ShelfContent) (desk : DeskState) 
       (room_found step now shelf desk is s at (need_for size) (need_class size) ∙ chunks)
 
   fits : charge (key_of step) block ≤ s.greatest
-  fits = rw at.greatest (subst (λ (n : ℕ). n ≤ shelf.greatest) (drafts shelf step now size draft next).size_is (drafts shelf step now size draft next).fits)
+  fits = fits_plain step now shelf desk on size draft next s at
 
   answers : (keeps : Bool) → MayFail (wrote keeps (write_reply draft.body) (key_of step) draft.flags draft.expiry block under now)
   answers true = subst MayFail (sym (wrote_kept (write_reply draft.body) (key_of step) draft.flags draft.expiry block under now fits (λ e. more (sym at.next_unique ∙ e)))) (reply_copies draft.body)

@@ -71,13 +71,6 @@ module _ (greatest : ℕ) (cut : Option ℕ) (old : ShelfContent) (was : IndexSt
       (λ i. record { greatest = greatest; items = is.items i; hashes = is.hashes i; cut = cut })
       ∙ ap (with_item None key own item) old_is
 
-  pub came_is : (chunks : ChunksState) (item : Entry) (entry : EntryState) → entry ≡ record { hash = own; key = key; item = item } → KeyComes was new entry
-      → content_of greatest cut new ≡ with_item (Some chunks) key own item old
-  came_is chunks item entry entry_is is =
-      (λ i. record { greatest = greatest; items = is.items i; hashes = is.hashes i; cut = cut })
-      ∙ ap (λ (e : EntryState). with_item (Some chunks) e.key e.hash e.item (content_of greatest cut was)) entry_is
-      ∙ ap (with_item (Some chunks) key own item) old_is
-
   -- and where the item was put into others: the hash is the one that the key has
   pub moved_is : (chunks : ChunksState) (item : Entry) → get old.hashes key ≡ Some own → IsChanged was new key item → content_of greatest cut new ≡ with_item (Some chunks) key own item old
   moved_is chunks item has is =
@@ -93,19 +86,6 @@ module _ (greatest : ℕ) (cut : Option ℕ) (old : ShelfContent) (was : IndexSt
         (λ other apart. ap (λ (m : Hashes). get m other) is.hashes);
     hash = λ stored there. has stored (sym (ap (λ (s : ShelfContent). get s.hashes key) old_is) ∙ sym (ap (λ (m : Hashes). get m key) is.hashes) ∙ there);
   }
-
-  -- an entry came under the key
-  pub inserted_put : (item : Entry) (entry : EntryState) → entry ≡ record { hash = own; key = key; item = item } → KeyComes was new entry → IsPut key own old (content_of greatest cut new) item
-  inserted_put item entry entry_is is =
-      let items : items_of new ≡ insert (items_of was) key item = is.items ∙ ap (λ (e : EntryState). insert (items_of was) e.key e.item) entry_is in
-      let hashes : hashes_of new ≡ insert (hashes_of was) key own = is.hashes ∙ ap (λ (e : EntryState). insert (hashes_of was) e.key e.hash) entry_is in
-      record {
-        item = ap (λ (m : Items). get m key) items ∙ get_put (items_of was) key item;
-        others = others_by
-            (λ other apart. ap (λ (m : Items). get m other) items ∙ get_put_other (items_of was) key other item apart)
-            (λ other apart. ap (λ (m : Hashes). get m other) hashes ∙ get_put_other (hashes_of was) key other own apart);
-        hash = λ stored there. sym (same_Some own stored (sym (get_put (hashes_of was) key own) ∙ sym (ap (λ (m : Hashes). get m key) hashes) ∙ there));
-      }
 
   -- the key's entry was removed
   pub removed_dropped : (gone : List ℕ) → gone ≡ key → KeyGoes was new gone → IsDropped key own old (content_of greatest cut new)

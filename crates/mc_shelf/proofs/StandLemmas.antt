@@ -82,9 +82,6 @@ pub room_by_free : (slab : SlabState) (need : NeedState) → need.count ≤ slab
 room_by_free slab need l = le-leb need.count (slabs.unused slab need.class + 0 + slabs.pages_left slab * chunks_a_page need.class) (omega (arith, l))
 
 module _ (slab : SlabState) (need : NeedState) (is_class : IsClass need.class) where
-  pub pages-taken : (taken slab need).pages ≡ pages_after need.class need.count (slabs.unused slab need.class + 0) slab.pages
-  pages-taken = refl
-
   pub out-taken : length slab.out ≡ 40 → (other : ℕ) → IsClass other → out_of (taken slab need) other ≡ out_of slab other + chunks_in need other
   out-taken long other is_other = out-more (made_ready slab need 0) need.class is_class long need.count other is_other
 
@@ -300,7 +297,7 @@ abbrev pub item_of : (flags : ℕ) → Expiry → (block : List ℕ) → (unique
 item_of flags expiry block unique updated = record { flags = flags; expiry = expiry; block = block; unique = unique; updated = updated }
 
 module _ (key : List ℕ) (shelf : ShelfContent) (desk : DeskState) (s : Plain) (at : IsAt key shelf desk s)
-    (reply : Reply) (flags : ℕ) (expiry : Expiry) (block : List ℕ) (now : ℕ) (stands : Option Entry) (fits : charge key block ≤ shelf.greatest) (more : desk.next_unique ≢ 2 ^ 64 - 1) where
+    (reply : Reply) (flags : ℕ) (expiry : Expiry) (block : List ℕ) (now : ℕ) (stands : Option Entry) (fits : charge key block ≤ shelf.greatest) (more : desk.next_unique < 2 ^ 64 - 1) where
   abbrev under : Plain
   under = record s { items = base stands key s.items }
 
@@ -308,7 +305,7 @@ module _ (key : List ℕ) (shelf : ShelfContent) (desk : DeskState) (s : Plain) 
   fits_plain = rw at.greatest fits
 
   more_plain : s.next_unique ≢ 2 ^ 64 - 1
-  more_plain same = more (sym at.next_unique ∙ same)
+  more_plain last = let same = at.next_unique in absurd (omega (arith, same))
 
   -- the item is put in other chunks, and the slab's account follows
   pub at_wrote : (after : ShelfContent) (hash : ℕ) → IsPut key hash shelf after (item_of flags expiry block desk.next_unique now) → (slab : SlabState)

@@ -1,6 +1,7 @@
 -- What a shelf and a desk make of a plan is what the plain machine makes of the step.
 use Rattle.std.proofs.Common.{◌≡◌, ◌≢◌, ℕ, ◌+◌, ◌-◌, ◌<◌, ◌≤◌, ◌^◌, Bool, true, false, ◌&&◌, ◌||◌, List, [], decimal, Option, Some, None, IfSome, Result, Ok, Err, IfOk, OnOk}
 use Rattle.std.proofs.Common.{OnErr, is_some, is_none, ◌*◌, ◌==◌, eqb, eqb-true, if◌then◌else◌, refl, sym, ap, subst, ◌∙◌, arith, le-leb, lt-ltb, not, true≢false}
+use Rattle.std.proofs.lemmas.Bool.{and_parts, and_right, or_right}
 use Rattle.std.proofs.lemmas.Option.{same_Some}
 use Rattle.std.specs.FinMap.{empty, get, insert, remove}
 use Rattle.mc_time.specs.declared.expiry.Expiry.{Expiry}
@@ -23,7 +24,8 @@ use Rattle.mc_command.proofs.CountLemmas.{count-remove}
 use Rattle.mc_shelf.specs.declared.plan.Next.{Next}
 use Rattle.mc_shelf.specs.declared.plan.Next.TheVariants.{Answer, Expire, Discard, Write}
 use Rattle.mc_shelf.specs.States.{ShelfContent, DeskState, CanStand, IsAt, IsHash}
-use Rattle.mc_shelf.specs.Plans.{GivesBack, GivesChunks, gives_way, IsDropped, IsOut, IsPut, IsSpent, OthersStay, Takes, back_at, block_beside, counts, dead_chunks, drafted}
+use Rattle.mc_shelf.specs.declared.write.Write.{Write as Writing}
+use Rattle.mc_shelf.specs.Plans.{GivesBack, GivesChunks, gives_way, IsDropped, IsOut, IsPut, IsSpent, IsTaken, IsWriteOf, OthersStay, Takes, back_at, block_beside, block_in, counts, dead_chunks, drafted, made_block}
 use Rattle.mc_shelf.specs.Plans.{has_need, is_gone, next_of, reuses, row_at, stood, way_given}
 use Rattle.mc_shelf.proofs.StandLemmas.{base, step_is, at_none, at_dropped, at_put_again, at_wrote, given_taken, out-given, out-taken, out-way}
 use Rattle.mc_shelf.proofs.StandLemmas.{out_found, out_some, pages-way, pages_after, pages_are, pages_stay, room_by_free, room_is, taken_is_slab, weight, weight_here}
@@ -118,16 +120,10 @@ module _ (step : KeyStep) (now : ℕ) (shelf : ShelfContent) (desk : DeskState) 
 
 -- ---- which chunks a write goes to
 
-both_true : (a b : Bool) → a && b ≡ true → (a ≡ true) × (b ≡ true)
-both_true true b e = (refl, e)
-both_true false b e = absurd (true≢false (sym e))
-
 same_needs : (a b : NeedState) → same_need a b ≡ true → a ≡ b
 same_needs a b e =
-    let both = both_true (a.class == b.class) (a.count == b.count) e in
-    let class : a.class ≡ b.class = eqb-true a.class b.class both.0 in
-    let count : a.count ≡ b.count = eqb-true a.count b.count both.1 in
-    λ i. record { class = class i; count = count i }
+    let both = and_parts (a.class == b.class) (a.count == b.count) e in
+    λ i. record { class = eqb-true a.class b.class both.0 i; count = eqb-true a.count b.count both.1 i }
 
 pub need_of_found : (k : List ℕ) (f : Option Entry) (need : NeedState) → has_need k f need ≡ true → (old : Entry) × (f ≡ Some old) × (item_need k old ≡ need)
 need_of_found k None need e = absurd (true≢false (sym e))
@@ -137,9 +133,10 @@ and_left : (a b : Bool) → a && b ≡ false → b ≡ true → a ≡ false
 and_left true b e t = absurd (true≢false (sym t ∙ e))
 and_left false b e t = refl
 
-pub or_true : (a b : Bool) → b ≡ true → a || b ≡ true
-or_true true b e = refl
-or_true false b e = e
+and_false : (a b c : Bool) → a && (b || c) ≡ false → a ≡ true → c ≡ false
+and_false true true c e t = absurd (true≢false e)
+and_false true false c e t = e
+and_false false b c e t = absurd (true≢false (sym t))
 
 or_left : (a b : Bool) → b ≡ false → a || b ≡ true → a ≡ true
 or_left true b e t = refl
@@ -158,26 +155,17 @@ pub way_item : (cut : Option ℕ) (now : ℕ) (k : List ℕ) (f : Option Entry) 
     × (is_gone cut now f ≡ true) × ((item_need k old).class ≡ class) × ((item_need k old).count ≡ dead_chunks cut now k f class)
 way_item cut now k None class some = absurd (omega (arith, some))
 way_item cut now k (Some old) class some =
-    elim (is_gone cut now (Some old)) as
-    (λ b. is_gone cut now (Some old) ≡ b → 0 < (if b then of_class k (Some old) class else 0) → (o : Entry) × (Some old ≡ Some o) × (b ≡ true)
-    × ((item_need k o).class ≡ class) × ((item_need k o).count ≡ (if b then of_class k (Some old) class else 0))) [
-      | true ↦
-          λ gone more. elim (eqb (item_need k old).class class) as
-          (λ b. eqb (item_need k old).class class ≡ b → 0 < (if b then (item_need k old).count else 0) → (o : Entry) × (Some old ≡ Some o) × (true ≡ true)
-          × ((item_need k o).class ≡ class) × ((item_need k o).count ≡ (if b then (item_need k old).count else 0))) [
-            | true ↦ λ same more. (old, refl, refl, eqb-true (item_need k old).class class same, refl)
-            | false ↦ λ other none. absurd (omega (arith, none))
-          ] refl more
-      | false ↦ λ lives none. absurd (omega (arith, none))
-    ] refl some
+    let gone = weighs (is_gone cut now (Some old)) (of_class k (Some old) class) some in
+    let same = weighs (eqb (item_need k old).class class) (item_need k old).count (subst (λ (n : ℕ). 0 < n) gone.1 some) in
+    (old, refl, gone.0, eqb-true (item_need k old).class class same.0, sym same.1 ∙ sym gone.1)
+  where
+    weighs : (b : Bool) (n : ℕ) → 0 < (if b then n else 0) → (b ≡ true) × ((if b then n else 0) ≡ n)
+    weighs true n some = (refl, refl)
+    weighs false n some = absurd (omega (arith, some))
 
 -- the item that stands is not dead
 pub stands_not_gone : (cut : Option ℕ) (now : ℕ) (f : Option Entry) (old : Entry) → alive cut now f ≡ Some old → is_gone cut now f ≡ false
-stands_not_gone cut now f old e = ap (λ (o : Option Entry). is_some f && is_none o) e ∙ and_off (is_some f)
-  where
-    and_off : (b : Bool) → b && false ≡ false
-    and_off true = refl
-    and_off false = refl
+stands_not_gone cut now f old e = and_right (is_some f) (is_none (alive cut now f)) (ap is_none e)
 
 -- what the slab has out of a class, by what a step finds
 module _ (step : KeyStep) (now : ℕ) (shelf : ShelfContent) (desk : DeskState) (is : IsSlab desk.slab) (s : Plain) (at : IsAt (key_of step) shelf desk s) where
@@ -207,8 +195,33 @@ module _ (step : KeyStep) (now : ℕ) (shelf : ShelfContent) (desk : DeskState) 
       → (with_chunk (found_in shelf step now s) need).pages ≡ pages_after need.class need.count (slabs.unused desk.slab need.class + back_at shelf (key_of step) now need) desk.slab.pages
   pages_found need is_class = pages_are (found_in shelf step now s) desk.slab need (back_at shelf (key_of step) now need) is is_class at.pages (count_base need.class is_class)
 
-module _ (step : KeyStep) (now : ℕ) (shelf : ShelfContent) (desk : DeskState) (on : IsOnKey step)
-    (size : ℕ) (draft : Draft) (next : Write size draft ≡ next_of shelf step now) where
+module _ (step : KeyStep) (now : ℕ) (shelf : ShelfContent) (desk : DeskState) (on : IsOnKey step) (size : ℕ) (draft : Draft) (next : Write size draft ≡ next_of shelf step now) where
+  pub wrote_is : (s : Plain) → IsAt (key_of step) shelf desk s → plain s step now ≡ wrote_at shelf step now draft s
+  wrote_is s at = (does_at step now shelf desk on (Write size draft) next s at).0
+
+  pub fits_plain : (s : Plain) → IsAt (key_of step) shelf desk s → charge (key_of step) (block_at shelf step now draft) ≤ s.greatest
+  fits_plain s at =
+      let drafted_is = drafts shelf step now size draft next in
+      rw at.greatest (subst (λ (n : ℕ). n ≤ shelf.greatest) drafted_is.size_is drafted_is.fits)
+
+  -- the numbers are spent
+  pub is_spent : desk.next_unique ≡ 2 ^ 64 - 1 → IsSpent step now shelf desk
+  is_spent spent s at =
+      wrote_is s at
+      ∙ wrote_spent (write_reply draft.body) (key_of step) draft.flags draft.expiry (block_at shelf step now draft) (found_in shelf step now s) now
+      (keeps_chunk draft.body (key_of step) (stood shelf step now)) (fits_plain s at) (at.next_unique ∙ spent)
+
+-- a write that comes next, and the chunks that it needs
+pub record Writes (step : KeyStep) (now : ℕ) (shelf : ShelfContent) (desk : DeskState) (size : ℕ) (draft : Draft) (need : NeedState) : Type 0 where
+  pub on : IsOnKey step
+  pub next : Write size draft ≡ next_of shelf step now
+  pub need_is : need ≡ need_for size
+
+pub writes_so : {write : Writing} {shelf : ShelfContent} {step : KeyStep} {need : NeedState} (desk : DeskState) → IsWriteOf write shelf step → need ≡ need_for write.charge
+    → Writes step write.moment shelf desk write.charge write.draft need
+writes_so desk is need_is = record { on = is.on_key; next = sym is.next; need_is = need_is }
+
+module _ {step : KeyStep} {now : ℕ} {shelf : ShelfContent} {desk : DeskState} {size : ℕ} {draft : Draft} {need : NeedState} (w : Writes step now shelf desk size draft need) where
   abbrev its_key : List ℕ
   its_key = key_of step
 
@@ -221,274 +234,272 @@ module _ (step : KeyStep) (now : ℕ) (shelf : ShelfContent) (desk : DeskState) 
   abbrev block : List ℕ
   block = block_at shelf step now draft
 
+  abbrev Reuses : Bool → Type 0
+  Reuses b = reuses shelf.cut now its_key its_found need draft.body ≡ b
+
+  abbrev back : ℕ
+  back = back_at shelf its_key now need
+
   drafted_is : IsDrafted shelf step now size draft
-  drafted_is = drafts shelf step now size draft next
-
-  pub wrote_is : (s : Plain) → IsAt its_key shelf desk s → plain s step now ≡ wrote_at shelf step now draft s
-  wrote_is s at = (does_at step now shelf desk on (Write size draft) next s at).0
-
-  fits_plain : (s : Plain) → IsAt its_key shelf desk s → charge its_key block ≤ s.greatest
-  fits_plain s at = rw at.greatest (subst (λ (n : ℕ). n ≤ shelf.greatest) drafted_is.size_is drafted_is.fits)
+  drafted_is = drafts shelf step now size draft w.next
 
   -- the block that is written, beside the item that was its_found
-  pub beside_is : block_beside shelf step draft ≡ block
+  beside_is : block_beside shelf step draft ≡ block
   beside_is = made_beside shelf.cut now its_found draft.body (block_of step) drafted_is.given
 
   pub charge_beside : charge its_key (block_beside shelf step draft) ≡ size
   charge_beside = ap (charge its_key) beside_is ∙ sym drafted_is.size_is
 
-  -- the numbers are spent
-  pub is_spent : desk.next_unique ≡ 2 ^ 64 - 1 → IsSpent step now shelf desk
-  is_spent spent s at =
-      wrote_is s at
-      ∙ wrote_spent (write_reply draft.body) its_key draft.flags draft.expiry block (found_in shelf step now s) now
-      (keeps_chunk draft.body its_key its_stands) (fits_plain s at) (at.next_unique ∙ spent)
+  need_charge : need ≡ block_need its_key block
+  need_charge = w.need_is ∙ ap need_for drafted_is.size_is
 
-  module _ (need : NeedState) (need_is : need ≡ need_for size) where
-    abbrev Reuses : Bool → Type 0
-    Reuses b = reuses shelf.cut now its_key its_found need draft.body ≡ b
+  -- how the chunks of the item under the key suit it, where the key is known by another name
+  pub reuses_by : {key : List ℕ} {told b : Bool} → key ≡ its_key → told ≡ reuses shelf.cut now key (get shelf.items key) need draft.body → told ≡ b → Reuses b
+  reuses_by same is e = sym (is ∙ ap (λ (k : List ℕ). reuses shelf.cut now k (get shelf.items k) need draft.body) same) ∙ e
 
-    abbrev back : ℕ
-    back = back_at shelf its_key now need
+  pub has_by : {key : List ℕ} {told : Bool} → key ≡ its_key → told ≡ has_need key (get shelf.items key) need → told ≡ true → has_need its_key its_found need ≡ true
+  has_by same is e = sym (is ∙ ap (λ (k : List ℕ). has_need k (get shelf.items k) need) same) ∙ e
 
-    pub need_charge : need ≡ block_need its_key block
-    need_charge = need_is ∙ ap need_for drafted_is.size_is
+  pub back_by : {key : List ℕ} {told : ℕ} → key ≡ its_key → told ≡ back_at shelf key now need → told ≡ back
+  back_by same is = is ∙ ap (λ (k : List ℕ). back_at shelf k now need) same
 
-    -- a write that goes into no chunks of the key's keeps none
-    keeps_none : Reuses false → keeps_chunk draft.body its_key its_stands ≡ false
-    keeps_none e = by draft.body its_stands refl refl
-      where
-        by : (body : Body) (st : Option Entry) → draft.body ≡ body → its_stands ≡ st → keeps_chunk body its_key st ≡ false
-        by Given st is stood = refl
-        by Appended st is stood = refl
-        by Prepended st is stood = refl
-        by (Counted number) None is stood = refl
-        by (Counted number) (Some old) is stood =
-            let other = and_left (has_need its_key its_found need) (counts draft.body || is_gone shelf.cut now its_found) e (ap (λ (b : Body). counts b || is_gone shelf.cut now its_found) is) in
-            let there = alive_found shelf.cut now its_found old stood in
-            let same : need ≡ block_need its_key (decimal number) = need_charge ∙ ap (λ (b : Body). block_need its_key (written_block b (block_of step) its_stands)) is in
-            ap (same_need (item_need its_key old)) (sym same) ∙ ap (λ (o : Option Entry). has_need its_key o need) (sym there) ∙ other
+  pub room_by : {told : ℕ} {has b : Bool} → told ≡ back → has ≡ slabs.has_room_with desk.slab need told → has ≡ b → slabs.has_room_with desk.slab need back ≡ b
+  room_by same is e = sym (is ∙ ap (slabs.has_room_with desk.slab need) same) ∙ e
 
-    -- one that goes into the chunks of the key's item: they are those that it needs, and it is dead or counted
-    pub reused_is : Reuses true → (old : Entry) × (its_found ≡ Some old) × (item_need its_key old ≡ need) × (counts draft.body || is_gone shelf.cut now its_found ≡ true)
-    reused_is e =
-        let both = both_true (has_need its_key its_found need) (counts draft.body || is_gone shelf.cut now its_found) e in
-        let there = need_of_found its_key its_found need both.0 in
-        (there.0, there.1, there.2, both.1)
+  -- a write that goes into no chunks of the key's keeps none
+  keeps_none : Reuses false → keeps_chunk draft.body its_key its_stands ≡ false
+  keeps_none e = by draft.body its_stands refl refl
+    where
+      by : (body : Body) (st : Option Entry) → draft.body ≡ body → its_stands ≡ st → keeps_chunk body its_key st ≡ false
+      by (Counted number) None is stood = refl
+      by (Counted number) (Some old) is stood =
+          let other = and_left (has_need its_key its_found need) (counts draft.body || is_gone shelf.cut now its_found) e (ap (λ (b : Body). counts b || is_gone shelf.cut now its_found) is) in
+          let there = alive_found shelf.cut now its_found old stood in
+          let same : need ≡ block_need its_key (decimal number) = need_charge ∙ ap (λ (b : Body). block_need its_key (written_block b (block_of step) its_stands)) is in
+          ap (same_need (item_need its_key old)) (sym same) ∙ ap (λ (o : Option Entry). has_need its_key o need) (sym there) ∙ other
+      by body st is stood = refl
 
-    -- its block is a number, or the step's own
-    pub own_is : Reuses true → counts draft.body ≡ false → draft.body ≡ Given
-    own_is e none = by its_stands refl
-      where
-        by : (st : Option Entry) → its_stands ≡ st → draft.body ≡ Given
-        by None is = drafted_is.given is
-        by (Some old) is =
-            absurd (true≢false (sym (or_left (counts draft.body) (is_gone shelf.cut now its_found) (stands_not_gone shelf.cut now its_found old is) (reused_is e).3) ∙ none))
+  -- one that goes into the chunks of the key's item: they are those that it needs, and it is dead or counted
+  pub reused_is : Reuses true → (old : Entry) × (its_found ≡ Some old) × (item_need its_key old ≡ need) × (counts draft.body || is_gone shelf.cut now its_found ≡ true)
+  reused_is e =
+      let both = and_parts (has_need its_key its_found need) (counts draft.body || is_gone shelf.cut now its_found) e in
+      let there = need_of_found its_key its_found need both.0 in
+      (there.0, there.1, there.2, both.1)
 
-    -- where the key's item has the chunks of the need, they are those of the block that is made beside it
-    pub need_beside : (item : Entry) → item_need its_key item ≡ need → item_need its_key item ≡ block_need its_key (block_beside shelf step draft)
-    need_beside item is = is ∙ need_charge ∙ ap (block_need its_key) (sym beside_is)
+  -- its block is a number, where the item stands
+  counted_is : Reuses true → (item : Entry) → its_stands ≡ Some item → counts draft.body ≡ true
+  counted_is e item stood = or_left (counts draft.body) (is_gone shelf.cut now its_found) (stands_not_gone shelf.cut now its_found item stood) (reused_is e).3
 
-    not_last : (s : Plain) → IsAt its_key shelf desk s → desk.next_unique ≢ 2 ^ 64 - 1 → s.next_unique ≢ 2 ^ 64 - 1
-    not_last s at more e = more (sym at.next_unique ∙ e)
+  -- or the step's own
+  pub own_is : Reuses true → counts draft.body ≡ false → draft.body ≡ Given
+  own_is e none = by its_stands refl
+    where
+      by : (st : Option Entry) → its_stands ≡ st → draft.body ≡ Given
+      by None is = drafted_is.given is
+      by (Some old) is = absurd (true≢false (sym (counted_is e old is) ∙ none))
 
-    -- the item goes into other chunks: what the slab's account is then
-    takes_other : keeps_chunk draft.body its_key its_stands ≡ false → IsClass need.class → IsSlab desk.slab → slabs.has_room_with desk.slab need back ≡ true
-        → desk.next_unique ≢ 2 ^ 64 - 1 → (own : ℕ) (new : ShelfContent) (slab : SlabState)
-        → IsPut its_key own shelf new (drafted draft block desk.next_unique now) → slab.limit ≡ desk.slab.limit
-        → slab.pages ≡ pages_after need.class need.count (slabs.unused desk.slab need.class + back) desk.slab.pages
-        → ((other : ℕ) → IsClass other → out_of slab other + of_class its_key its_found other ≡ out_of desk.slab other + chunks_in need other)
-        → Takes step now shelf desk (write_reply draft.body) new (record { slab = slab; next_unique = desk.next_unique + 1 })
-    takes_other keeps is_class is room more own new slab puts limit pages moved s at =
-        let under = found_in shelf step now s in
-        let has : has_room under need ≡ true = room_found step now shelf desk is s at need is_class ∙ room in
-        let wrote =
-        at_wrote its_key shelf desk s at (write_reply draft.body) draft.flags draft.expiry block now its_stands
-        (subst (λ (n : ℕ). n ≤ shelf.greatest) drafted_is.size_is drafted_is.fits) more new own puts slab
-        (subst (λ (n : NeedState). has_room under n ≡ true) need_charge has) limit
-        (subst (λ (n : NeedState). (with_chunk under n).pages ≡ slab.pages) need_charge (pages_found step now shelf desk is s at need is_class ∙ sym pages))
-        (subst (λ (n : NeedState). (other : ℕ) → IsClass other → out_of slab other + of_class its_key its_found other ≡ out_of desk.slab other + chunks_in n other) need_charge moved) in
-        (wrote.0, wrote_is s at ∙ ap (λ (b : Bool). machine.wrote b (write_reply draft.body) its_key draft.flags draft.expiry block under now) keeps ∙ wrote.1, wrote.2)
+  -- where the key's item has the chunks of the need, they are those of the block that is made beside it
+  pub need_beside : (item : Entry) → item_need its_key item ≡ need → item_need its_key item ≡ block_need its_key (block_beside shelf step draft)
+  need_beside item is = is ∙ need_charge ∙ ap (block_need its_key) (sym beside_is)
 
-    -- the item goes into the chunks of the key's item
-    pub takes_again : Reuses true → IsNeed need → IsSlab desk.slab → desk.next_unique ≢ 2 ^ 64 - 1 → (own : ℕ) (new : ShelfContent)
-        → IsPut its_key own shelf new (drafted draft block desk.next_unique now)
-        → Takes step now shelf desk (write_reply draft.body) new (record desk { next_unique = desk.next_unique + 1 })
-    takes_again e is_need is more own new puts s at = by its_stands refl
-      where
-        old : Entry
-        old = (reused_is e).0
+  -- the item goes into the chunks of the key's item, where as many others are unused
+  pub item_over : has_need its_key its_found need ≡ true → (old : Entry) × (its_found ≡ Some old) × (item_need its_key old ≡ block_need its_key (block_beside shelf step draft))
+  item_over has = let there = need_of_found its_key its_found need has in (there.0, there.1, need_beside there.0 there.2)
 
-        there : its_found ≡ Some old
-        there = (reused_is e).1
+  pub block_given : draft.body ≡ Given → block_of step ≡ block_beside shelf step draft
+  block_given given = ap (λ (b : Body). made_block b (block_of step) (block_in its_found)) (sym given)
 
-        put_item : Entry
-        put_item = drafted draft block desk.next_unique now
+  -- the item that gives way, and the block that takes its place
+  pub way_is : Reuses false → 0 < back → (old : Entry) × (its_found ≡ Some old) × ((item_need its_key old).class ≡ need.class)
+      × ((item_need its_key old).count ≡ back) × (draft.body ≡ Given) × (gives_way shelf.cut now its_key its_found (need_for size) ≡ true)
+  way_is e some =
+      let way = way_item shelf.cut now its_key its_found need.class some in
+      let none = (dead_found shelf step now its_found its_stands way.2).1 in
+      let other : has_need its_key its_found need ≡ false =
+      and_left (has_need its_key its_found need) (counts draft.body || is_gone shelf.cut now its_found) e (or_right (counts draft.body) (is_gone shelf.cut now its_found) way.2) in
+      (way.0, way.1, way.3, way.4, drafted_is.given none, subst (λ (n : NeedState). gives_way shelf.cut now its_key its_found n ≡ true) w.need_is (λ i. not (other i) && lt-ltb 0 back some i))
 
-        by : (st : Option Entry) → its_stands ≡ st → (after : Plain) × (plain s step now ≡ Answered (write_reply draft.body) after)
-            × IsAt its_key new (record desk { next_unique = desk.next_unique + 1 }) after
-        by None none =
-            let given : draft.body ≡ Given = drafted_is.given none in
-            let keeps : keeps_chunk draft.body its_key its_stands ≡ false = ap (λ (b : Body). keeps_chunk b its_key its_stands) given in
-            let of : (other : ℕ) → of_class its_key its_found other ≡ chunks_in need other = λ other. ap (λ (o : Option Entry). of_class its_key o other) there
-            ∙ ap (λ (n : NeedState). chunks_in n other) (reused_is e).2 in
-            let comes : back ≡ need.count = dead_none shelf.cut now its_key its_found need.class none ∙ of need.class ∙ weight_here need.class need.count in
-            let enough : need.count ≤ slabs.unused desk.slab need.class + back = omega (arith, comes) in
-            let room : slabs.has_room_with desk.slab need back ≡ true =
-            le-leb need.count (slabs.unused desk.slab need.class + back + slabs.pages_left desk.slab * chunks_a_page need.class) (omega (arith, enough)) in
-            takes_other keeps is_need.is_class is room more own new desk.slab puts refl (sym (pages_stay need.class need.count (slabs.unused desk.slab need.class + back) desk.slab.pages enough))
-            (λ other is_other. ap (λ (n : ℕ). out_of desk.slab other + n) (of other)) s at
-        by (Some item) stood =
-            let same : item ≡ old = same_Some item old (sym (alive_found shelf.cut now its_found item stood) ∙ there) in
-            let counted : counts draft.body ≡ true = or_left (counts draft.body) (is_gone shelf.cut now its_found) (stands_not_gone shelf.cut now its_found item stood) (reused_is e).3 in
-            let keeps : keeps_chunk draft.body its_key its_stands ≡ true = ap (keeps_chunk draft.body its_key) stood ∙ keeps_counted draft.body item counted refl
-            ∙ needs_same (item_need its_key item) (block_need its_key block) (ap (item_need its_key) same ∙ (reused_is e).2 ∙ need_charge) in
-            let under = found_in shelf step now s in
-            let after : Plain = record s { items = insert s.items its_key put_item; next_unique = desk.next_unique + 1 } in
-            let eq : written under its_key draft.flags draft.expiry block now ≡ after =
-            λ i. record s { items = insert (base (stood i) its_key s.items) its_key (drafted draft block (at.next_unique i) now); next_unique = at.next_unique i + 1 } in (
-              after,
-              wrote_is s at ∙ ap (λ (b : Bool). machine.wrote b (write_reply draft.body) its_key draft.flags draft.expiry block under now) keeps
-                  ∙ wrote_kept (write_reply draft.body) its_key draft.flags draft.expiry block under now (fits_plain s at) (not_last s at more)
-                  ∙ ap (λ (t : Plain). Answered (write_reply draft.body) t) eq,
-              at_put_again its_key shelf desk s at new own old put_item puts there (sym need_charge ∙ sym (reused_is e).2) (desk.next_unique + 1),
-            )
-          where
-            keeps_counted : (body : Body) (item : Entry) → counts body ≡ true → body ≡ draft.body → keeps_chunk body its_key (Some item) ≡ same_need (item_need its_key item) (block_need its_key block)
-            keeps_counted Given item c is = absurd (true≢false (sym c))
-            keeps_counted Appended item c is = absurd (true≢false (sym c))
-            keeps_counted Prepended item c is = absurd (true≢false (sym c))
-            keeps_counted (Counted number) item c is = ap (λ (b : Body). same_need (item_need its_key item) (block_need its_key (written_block b (block_of step) its_stands))) is
+  module _ (is_need : IsNeed need) (is : IsSlab desk.slab) (more : desk.next_unique < 2 ^ 64 - 1) where
+    its_wrote : (s : Plain) → IsAt its_key shelf desk s → plain s step now ≡ wrote_at shelf step now draft s
+    its_wrote = wrote_is step now shelf desk w.on size draft w.next
 
-    -- what is out after the chunks were taken, and the old item's given back
-    outs_after : IsSlab desk.slab → IsClass need.class → (f : Option Entry) (n : ℕ) (desk' : DeskState) → GivesBack its_key f (record { slab = taken desk.slab need; next_unique = n }) desk'
-        → (desk'.next_unique ≡ n) × (desk'.slab.limit ≡ desk.slab.limit) × (desk'.slab.pages ≡ (taken desk.slab need).pages)
-        × ((other : ℕ) → IsClass other → out_of desk'.slab other ≡ out_of (taken desk.slab need) other - of_class its_key f other)
-    outs_after is is_class None n desk' back = (
-      ap (λ (d : DeskState). d.next_unique) back,
-      ap (λ (d : DeskState). d.slab.limit) back,
-      ap (λ (d : DeskState). d.slab.pages) back,
-      λ other is_other. ap (λ (d : DeskState). out_of d.slab other) back ∙ sym (less (out_of (taken desk.slab need) other)),
-    )
-      where
-        less : (m : ℕ) → m - 0 ≡ m
-        less m = omega arith
-    outs_after is is_class (Some item) n desk' back = (
-      ap (λ (d : DeskState). d.next_unique) back.given_is,
-      ap (λ (d : DeskState). d.slab.limit) back.given_is,
-      ap (λ (d : DeskState). d.slab.pages) back.given_is,
-      λ other is_other. ap (λ (d : DeskState). out_of d.slab other) back.given_is
-          ∙ out-given (taken desk.slab need) (item_need its_key item).class back.is_need.is_class back.is_slab.out (item_need its_key item).count other is_other,
-    )
+    its_fits : (s : Plain) → IsAt its_key shelf desk s → charge its_key block ≤ s.greatest
+    its_fits = fits_plain step now shelf desk w.on size draft w.next
 
-    -- the item goes into others, while the old one, if there is one, has its own, which go back then
-    pub takes_anew : Reuses false → IsNeed need → IsSlab desk.slab → back ≡ 0 → slabs.has_room_with desk.slab need 0 ≡ true → desk.next_unique ≢ 2 ^ 64 - 1
-        → (own : ℕ) (new : ShelfContent) (desk' : DeskState)
-        → IsPut its_key own shelf new (drafted draft block desk.next_unique now)
-        → GivesBack its_key its_found (record { slab = taken desk.slab need; next_unique = desk.next_unique + 1 }) desk' → Takes step now shelf desk (write_reply draft.body) new desk'
-    takes_anew e is_need is none room more own new desk' puts gives s at =
-        let after = outs_after is is_need.is_class its_found (desk.next_unique + 1) desk' gives in
-        let moved : (other : ℕ) → IsClass other → out_of desk'.slab other + of_class its_key its_found other ≡ out_of desk.slab other + chunks_in need other = λ other is_other.
-        let took : out_of (taken desk.slab need) other ≡ out_of desk.slab other + chunks_in need other = out-taken desk.slab need is_need.is_class is.out other is_other in
-        let less : out_of desk'.slab other ≡ out_of (taken desk.slab need) other - of_class its_key its_found other = after.3 other is_other in
-        let least = out_found its_key shelf desk s at other is_other in
-        omega (arith, took, less, least) in
-        let took = takes_other (keeps_none e) is_need.is_class is (subst (λ (n : ℕ). slabs.has_room_with desk.slab need n ≡ true) (sym none) room) more own new desk'.slab puts after.1
-        (after.2 ∙ ap (λ (n : ℕ). pages_after need.class need.count (slabs.unused desk.slab need.class + n) desk.slab.pages) (sym none)) moved s at in
-        (took.0, took.1, subst (λ (n : ℕ). IsAt its_key new (record { slab = desk'.slab; next_unique = n }) took.0) (sym after.0) took.2)
+    not_last : (s : Plain) → IsAt its_key shelf desk s → s.next_unique ≢ 2 ^ 64 - 1
+    not_last s at e = let same = at.next_unique in absurd (omega (arith, same))
 
-    -- a dead item gives way to it
-    pub takes_way : Reuses false → IsNeed need → IsSlab desk.slab → (old : Entry) → its_found ≡ Some old → (item_need its_key old).class ≡ need.class
-        → (item_need its_key old).count ≡ back → slabs.has_room_with desk.slab need back ≡ true
-        → desk.next_unique ≢ 2 ^ 64 - 1 → (own : ℕ) (new : ShelfContent) → IsPut its_key own shelf new (drafted draft block desk.next_unique now)
-        → Takes step now shelf desk (write_reply draft.body) new (way_given need back desk)
-    takes_way e is_need is old there class count room more own new puts s at =
-        let is_class = is_need.is_class in
-        let of : (other : ℕ) → of_class its_key its_found other ≡ weight need.class back other =
-        λ other. ap (λ (o : Option Entry). of_class its_key o other) there ∙ (λ i. weight (class i) (count i) other) in
-        let least : back ≤ out_of desk.slab need.class = let out = out_found its_key shelf desk s at need.class is_class in
-        let here = weight_here need.class back in omega (arith, out, of need.class, here) in
-        takes_other (keeps_none e) is_class is room more own new (way_given need back desk).slab puts refl (pages-way desk.slab need is_class is back least)
-        (λ other is_other.
-        let out = out-way desk.slab need is_class is back other is_other in
-        let had = out_found its_key shelf desk s at other is_other in
-        omega (arith, out, had, of other)) s at
-
-    -- the item that gives way, and the block that takes its place
-    pub way_is : Reuses false → 0 < back → (old : Entry) × (its_found ≡ Some old) × ((item_need its_key old).class ≡ need.class)
-        × ((item_need its_key old).count ≡ back) × (draft.body ≡ Given) × (gives_way shelf.cut now its_key its_found (need_for size) ≡ true)
-    way_is e some =
-        let way = way_item shelf.cut now its_key its_found need.class some in
-        let none = (dead_found shelf step now its_found its_stands way.2).1 in
-        let other : has_need its_key its_found need ≡ false =
-        and_left (has_need its_key its_found need) (counts draft.body || is_gone shelf.cut now its_found) e (or_true (counts draft.body) (is_gone shelf.cut now its_found) way.2) in
-        (way.0, way.1, way.3, way.4, drafted_is.given none, subst (λ (n : NeedState). gives_way shelf.cut now its_key its_found n ≡ true) need_is (λ i. not (other i) && lt-ltb 0 back some i))
-
-    -- the item goes into the chunks of the key's item, where as many others are unused
-    pub item_over : has_need its_key its_found need ≡ true → (old : Entry) × (its_found ≡ Some old) × (item_need its_key old ≡ block_need its_key (block_beside shelf step draft))
-    item_over has =
-        let there = need_of_found its_key its_found need has in
-        (there.0, there.1, need_beside there.0 there.2)
-
-    pub block_given : draft.body ≡ Given → block_of step ≡ block
-    block_given given = ap (λ (b : Body). written_block b (block_of step) its_stands) (sym given)
-
-    -- it isn't dead then
-    lives_on : Reuses false → has_need its_key its_found need ≡ true → is_gone shelf.cut now its_found ≡ false
-    lives_on e has = elim (is_gone shelf.cut now its_found) as (λ b. has_need its_key its_found need && (counts draft.body || b) ≡ false → b ≡ false) [
-      | true ↦ λ all. absurd (true≢false (sym (λ i. has i && or_true (counts draft.body) true refl i) ∙ all))
-      | false ↦ λ all. refl
-    ] e
-
-    pub takes_in_place : Reuses false → has_need its_key its_found need ≡ true → IsNeed need → IsSlab desk.slab → need.count ≤ slabs.unused desk.slab need.class
-        → desk.next_unique ≢ 2 ^ 64 - 1 → (own : ℕ) (new : ShelfContent)
-        → IsPut its_key own shelf new (drafted draft block desk.next_unique now) → Takes step now shelf desk (write_reply draft.body) new (record desk { next_unique = desk.next_unique + 1 })
-    takes_in_place e has is_need is free more own new puts =
-        let there = need_of_found its_key its_found need has in
-        let is_class = is_need.is_class in
-        let gives : GivesChunks need (record { slab = taken desk.slab need; next_unique = desk.next_unique + 1 }) (record desk { next_unique = desk.next_unique + 1 }) = record {
-          given_is = λ i. record { slab = sym (given_taken desk.slab need is_class is.out free) i; next_unique = desk.next_unique + 1 };
-          is_need = is_need;
-          is_slab = taken_is_slab desk.slab need is_class is free;
-        } in
-        takes_anew e is_need is (dead_alive shelf.cut now its_key its_found need.class (lives_on e has)) (room_by_free desk.slab need free) more own new
-        (record desk { next_unique = desk.next_unique + 1 }) puts
-        (subst (λ (o : Option Entry). GivesBack its_key o (record { slab = taken desk.slab need; next_unique = desk.next_unique + 1 })
-        (record desk { next_unique = desk.next_unique + 1 })) (sym there.1)
-        (subst (λ (k : NeedState). GivesChunks k (record { slab = taken desk.slab need; next_unique = desk.next_unique + 1 })
-        (record desk { next_unique = desk.next_unique + 1 })) (sym there.2) gives))
-
-    -- the chunks can't be had
-    pub takes_full : Reuses false → IsNeed need → IsSlab desk.slab → slabs.has_room_with desk.slab need back ≡ false → desk.next_unique ≢ 2 ^ 64 - 1
-        → (own : ℕ) (new : ShelfContent) (desk' : DeskState)
+    -- the chunks can't be had: a dead item is dropped, and one that isn't dead stays
+    pub takes_full : {own : ℕ} {new : ShelfContent} {desk' : DeskState} → Reuses false → slabs.has_room_with desk.slab need back ≡ false → IsHash shelf its_key own
         → (is_gone shelf.cut now its_found ≡ true → IsDropped its_key own shelf new × GivesBack its_key its_found desk desk')
-        → (is_gone shelf.cut now its_found ≡ false → (new ≡ shelf) × (desk' ≡ desk)) → Takes step now shelf desk NoChunk new desk'
-    takes_full e is_need is room more own new desk' dead alive s at = (
-      found_in shelf step now s,
-      wrote_is s at ∙ ap (λ (b : Bool). machine.wrote b (write_reply draft.body) its_key draft.flags draft.expiry block (found_in shelf step now s) now) (keeps_none e)
-          ∙ wrote_full (write_reply draft.body) its_key draft.flags draft.expiry block (found_in shelf step now s) now (fits_plain s at) (not_last s at more)
-          (subst (λ (n : NeedState). has_room (found_in shelf step now s) n ≡ false) need_charge (room_found step now shelf desk is s at need is_need.is_class ∙ room)),
-      elim (is_gone shelf.cut now its_found) as (λ b. is_gone shelf.cut now its_found ≡ b → IsAt its_key new desk' (found_in shelf step now s)) [
-        | true ↦ λ gone.
+        → (is_gone shelf.cut now its_found ≡ false → (new ≡ shelf) × (desk' ≡ desk)) → IsTaken step now own shelf desk NoChunk new desk'
+    takes_full {own} {new} {desk'} e room has dead alive = by (is_gone shelf.cut now its_found) refl
+      where
+        full : (s : Plain) → IsAt its_key shelf desk s → plain s step now ≡ Answered NoChunk (found_in shelf step now s)
+        full s at =
+            its_wrote s at ∙ ap (λ (b : Bool). machine.wrote b (write_reply draft.body) its_key draft.flags draft.expiry block (found_in shelf step now s) now) (keeps_none e)
+            ∙ wrote_full (write_reply draft.body) its_key draft.flags draft.expiry block (found_in shelf step now s) now (its_fits s at) (not_last s at)
+            (subst (λ (n : NeedState). has_room (found_in shelf step now s) n ≡ false) need_charge (room_found step now shelf desk is s at need is_need.is_class ∙ room))
+
+        by : (b : Bool) → is_gone shelf.cut now its_found ≡ b → IsTaken step now own shelf desk NoChunk new desk'
+        by true gone =
             let there = dead_found shelf step now its_found its_stands gone in
             let both = dead gone in
-            subst (λ (o : Option Entry). IsAt its_key new desk' (record s { items = base o its_key s.items })) (sym there.1)
-            (dropped_at step now shelf desk on s at there.0.0 own new desk' there.0.1 both.0 both.1)
-        | false ↦ λ gone.
+            record {
+              takes = λ s at. (
+                found_in shelf step now s,
+                full s at,
+                subst (λ (o : Option Entry). IsAt its_key new desk' (record s { items = base o its_key s.items })) (sym there.1)
+                    (dropped_at step now shelf desk w.on s at there.0.0 own new desk' there.0.1 both.0 both.1),
+              );
+              others = both.0.others;
+              hash = both.0.hash;
+            }
+        by false gone =
             let both = alive gone in
-            subst (λ (d : DeskState). IsAt its_key new d (found_in shelf step now s)) (sym both.1)
-            (subst (λ (t : ShelfContent). IsAt its_key t desk (found_in shelf step now s)) (sym both.0) (at_under step now shelf desk on s at gone))
-      ] refl,
-    )
+            subst (λ (d : DeskState). IsTaken step now own shelf desk NoChunk new d) (sym both.1)
+            (subst (λ (t : ShelfContent). IsTaken step now own shelf desk NoChunk t desk) (sym both.0)
+            (record { takes = λ s at. (found_in shelf step now s, full s at, at_under step now shelf desk w.on s at gone); others = others_same its_key shelf; hash = has }))
 
-    pub others_full : (own : ℕ) (new : ShelfContent) (desk' : DeskState) → IsHash shelf its_key own
-        → (is_gone shelf.cut now its_found ≡ true → IsDropped its_key own shelf new × GivesBack its_key its_found desk desk')
-        → (is_gone shelf.cut now its_found ≡ false → (new ≡ shelf) × (desk' ≡ desk)) → OthersStay its_key shelf new × IsHash new its_key own
-    others_full own new desk' has dead alive =
-        elim (is_gone shelf.cut now its_found) as (λ b. is_gone shelf.cut now its_found ≡ b → OthersStay its_key shelf new × IsHash new its_key own) [
-          | true ↦ λ gone. let both = dead gone in (both.0.others, both.0.hash)
-          | false ↦ λ gone. subst (λ (t : ShelfContent). OthersStay its_key shelf t × IsHash t its_key own) (sym (alive gone).0) (others_same its_key shelf, has)
-        ] refl
+    -- the item was put
+    module _ {own unique : ℕ} {new : ShelfContent} (drawn : unique ≡ desk.next_unique) (puts : IsPut its_key own shelf new (drafted draft (block_beside shelf step draft) unique now)) where
+      abbrev put_item : Entry
+      put_item = drafted draft block desk.next_unique now
+
+      its_put : IsPut its_key own shelf new put_item
+      its_put = subst (λ (e : Entry). IsPut its_key own shelf new e) (λ i. drafted draft (beside_is i) (drawn i) now) puts
+
+      abbrev IsAfter : DeskState → Type 0
+      IsAfter desk' = Takes step now shelf desk (write_reply draft.body) new desk'
+
+      its_taken : {reply : Reply} {desk' after : DeskState} → reply ≡ write_reply draft.body → desk' ≡ after → IsAfter after → IsTaken step now own shelf desk reply new desk'
+      its_taken {reply} {desk'} told same takes = record {
+        takes = subst (λ (r : Reply). Takes step now shelf desk r new desk') (sym told) (subst (λ (d : DeskState). IsAfter d) (sym same) takes);
+        others = puts.others;
+        hash = puts.hash;
+      }
+
+      -- it goes into other chunks: what the slab's account is then
+      takes_other : (slab : SlabState) → keeps_chunk draft.body its_key its_stands ≡ false → slabs.has_room_with desk.slab need back ≡ true → slab.limit ≡ desk.slab.limit
+          → slab.pages ≡ pages_after need.class need.count (slabs.unused desk.slab need.class + back) desk.slab.pages
+          → ((other : ℕ) → IsClass other → out_of slab other + of_class its_key its_found other ≡ out_of desk.slab other + chunks_in need other)
+          → IsAfter (record { slab = slab; next_unique = desk.next_unique + 1 })
+      takes_other slab keeps room limit pages moved s at =
+          let under = found_in shelf step now s in
+          let has : has_room under need ≡ true = room_found step now shelf desk is s at need is_need.is_class ∙ room in
+          let wrote =
+          at_wrote its_key shelf desk s at (write_reply draft.body) draft.flags draft.expiry block now its_stands
+          (subst (λ (n : ℕ). n ≤ shelf.greatest) drafted_is.size_is drafted_is.fits) more new own its_put slab
+          (subst (λ (n : NeedState). has_room under n ≡ true) need_charge has) limit
+          (subst (λ (n : NeedState). (with_chunk under n).pages ≡ slab.pages) need_charge (pages_found step now shelf desk is s at need is_need.is_class ∙ sym pages))
+          (subst (λ (n : NeedState). (other : ℕ) → IsClass other → out_of slab other + of_class its_key its_found other ≡ out_of desk.slab other + chunks_in n other) need_charge moved) in
+          (wrote.0, its_wrote s at ∙ ap (λ (b : Bool). machine.wrote b (write_reply draft.body) its_key draft.flags draft.expiry block under now) keeps ∙ wrote.1, wrote.2)
+
+      -- it goes into the chunks of the key's item
+      pub takes_again : {reply : Reply} {desk' : DeskState} → Reuses true → reply ≡ write_reply draft.body → desk' ≡ record desk { next_unique = desk.next_unique + 1 }
+          → IsTaken step now own shelf desk reply new desk'
+      takes_again e told same = its_taken told same (λ s at. by s at its_stands refl)
+        where
+          old : Entry
+          old = (reused_is e).0
+
+          there : its_found ≡ Some old
+          there = (reused_is e).1
+
+          by : (s : Plain) → IsAt its_key shelf desk s → (st : Option Entry) → its_stands ≡ st → (after : Plain) × (plain s step now ≡ Answered (write_reply draft.body) after)
+              × IsAt its_key new (record desk { next_unique = desk.next_unique + 1 }) after
+          by s at None none =
+              let keeps : keeps_chunk draft.body its_key its_stands ≡ false = ap (λ (b : Body). keeps_chunk b its_key its_stands) (drafted_is.given none) in
+              let of : (other : ℕ) → of_class its_key its_found other ≡ chunks_in need other = λ other. ap (λ (o : Option Entry). of_class its_key o other) there
+              ∙ ap (λ (n : NeedState). chunks_in n other) (reused_is e).2 in
+              let comes : back ≡ need.count = dead_none shelf.cut now its_key its_found need.class none ∙ of need.class ∙ weight_here need.class need.count in
+              let enough : need.count ≤ slabs.unused desk.slab need.class + back = omega (arith, comes) in
+              let room : slabs.has_room_with desk.slab need back ≡ true =
+              le-leb need.count (slabs.unused desk.slab need.class + back + slabs.pages_left desk.slab * chunks_a_page need.class) (omega (arith, enough)) in
+              takes_other desk.slab keeps room refl (sym (pages_stay need.class need.count (slabs.unused desk.slab need.class + back) desk.slab.pages enough))
+              (λ other is_other. ap (λ (n : ℕ). out_of desk.slab other + n) (of other)) s at
+          by s at (Some item) stood =
+              let same : item ≡ old = same_Some item old (sym (alive_found shelf.cut now its_found item stood) ∙ there) in
+              let keeps : keeps_chunk draft.body its_key its_stands ≡ true = ap (keeps_chunk draft.body its_key) stood ∙ keeps_counted draft.body item (counted_is e item stood) refl
+              ∙ needs_same (item_need its_key item) (block_need its_key block) (ap (item_need its_key) same ∙ (reused_is e).2 ∙ need_charge) in
+              let under = found_in shelf step now s in
+              let after : Plain = record s { items = insert s.items its_key put_item; next_unique = desk.next_unique + 1 } in
+              let eq : written under its_key draft.flags draft.expiry block now ≡ after =
+              λ i. record s { items = insert (base (stood i) its_key s.items) its_key (drafted draft block (at.next_unique i) now); next_unique = at.next_unique i + 1 } in (
+                after,
+                its_wrote s at ∙ ap (λ (b : Bool). machine.wrote b (write_reply draft.body) its_key draft.flags draft.expiry block under now) keeps
+                    ∙ wrote_kept (write_reply draft.body) its_key draft.flags draft.expiry block under now (its_fits s at) (not_last s at)
+                    ∙ ap (λ (t : Plain). Answered (write_reply draft.body) t) eq,
+                at_put_again its_key shelf desk s at new own old put_item its_put there (sym need_charge ∙ sym (reused_is e).2) (desk.next_unique + 1),
+              )
+            where
+              keeps_counted : (body : Body) (item : Entry) → counts body ≡ true → body ≡ draft.body → keeps_chunk body its_key (Some item) ≡ same_need (item_need its_key item) (block_need its_key block)
+              keeps_counted (Counted number) item c is = ap (λ (b : Body). same_need (item_need its_key item) (block_need its_key (written_block b (block_of step) its_stands))) is
+              keeps_counted body item c is = absurd (true≢false (sym c))
+
+      -- it goes into others, while the old one, if there is one, has its own, which go back then
+      pub takes_anew : {reply : Reply} {mid desk' : DeskState} → Reuses false → back ≡ 0 → slabs.has_room_with desk.slab need back ≡ true → reply ≡ write_reply draft.body
+          → mid ≡ record { slab = taken desk.slab need; next_unique = desk.next_unique + 1 } → GivesBack its_key its_found mid desk' → IsTaken step now own shelf desk reply new desk'
+      takes_anew {reply} {mid} {desk'} e none room told mid_is gives =
+          let after = outs_after its_found (desk.next_unique + 1) desk' (subst (λ (d : DeskState). GivesBack its_key its_found d desk') mid_is gives) in
+          its_taken told (λ i. record { slab = desk'.slab; next_unique = after.0 i })
+          (λ s at. takes_other desk'.slab (keeps_none e) room after.1
+          (after.2 ∙ ap (λ (n : ℕ). pages_after need.class need.count (slabs.unused desk.slab need.class + n) desk.slab.pages) (sym none))
+          (λ other is_other.
+          let took : out_of (taken desk.slab need) other ≡ out_of desk.slab other + chunks_in need other = out-taken desk.slab need is_need.is_class is.out other is_other in
+          let less : out_of desk'.slab other ≡ out_of (taken desk.slab need) other - of_class its_key its_found other = after.3 other is_other in
+          let least = out_found its_key shelf desk s at other is_other in
+          omega (arith, took, less, least)) s at)
+        where
+          -- what is out after the chunks were taken, and the old item's given back
+          outs_after : (f : Option Entry) (n : ℕ) (desk' : DeskState) → GivesBack its_key f (record { slab = taken desk.slab need; next_unique = n }) desk'
+              → (desk'.next_unique ≡ n) × (desk'.slab.limit ≡ desk.slab.limit) × (desk'.slab.pages ≡ (taken desk.slab need).pages)
+              × ((other : ℕ) → IsClass other → out_of desk'.slab other ≡ out_of (taken desk.slab need) other - of_class its_key f other)
+          outs_after None n desk' back = (
+            ap (λ (d : DeskState). d.next_unique) back,
+            ap (λ (d : DeskState). d.slab.limit) back,
+            ap (λ (d : DeskState). d.slab.pages) back,
+            λ other is_other. let same = ap (λ (d : DeskState). out_of d.slab other) back in omega (arith, same),
+          )
+          outs_after (Some item) n desk' back = (
+            ap (λ (d : DeskState). d.next_unique) back.given_is,
+            ap (λ (d : DeskState). d.slab.limit) back.given_is,
+            ap (λ (d : DeskState). d.slab.pages) back.given_is,
+            λ other is_other. ap (λ (d : DeskState). out_of d.slab other) back.given_is
+                ∙ out-given (taken desk.slab need) (item_need its_key item).class back.is_need.is_class back.is_slab.out (item_need its_key item).count other is_other,
+          )
+
+      -- a dead item gives way to it
+      pub takes_way : {reply : Reply} {desk' : DeskState} → Reuses false → 0 < back → slabs.has_room_with desk.slab need back ≡ true → reply ≡ write_reply draft.body
+          → desk' ≡ way_given need back desk → IsTaken step now own shelf desk reply new desk'
+      takes_way e some room told same =
+          let way = way_is e some in
+          let is_class = is_need.is_class in
+          let of : (other : ℕ) → of_class its_key its_found other ≡ weight need.class back other =
+          λ other. ap (λ (o : Option Entry). of_class its_key o other) way.1 ∙ (λ i. weight (way.2 i) (way.3 i) other) in
+          its_taken told same (λ s at.
+          let least : back ≤ out_of desk.slab need.class = let out = out_found its_key shelf desk s at need.class is_class in
+          let here = weight_here need.class back in omega (arith, out, of need.class, here) in
+          takes_other (way_given need back desk).slab (keeps_none e) room refl (pages-way desk.slab need is_class is back least)
+          (λ other is_other.
+          let out = out-way desk.slab need is_class is back other is_other in
+          let had = out_found its_key shelf desk s at other is_other in
+          omega (arith, out, had, of other)) s at)
+
+      -- it goes into the chunks of the key's item, which isn't dead, where as many others are unused
+      pub takes_in_place : {reply : Reply} {desk' : DeskState} → Reuses false → has_need its_key its_found need ≡ true → need.count ≤ slabs.unused desk.slab need.class
+          → reply ≡ write_reply draft.body → desk' ≡ record desk { next_unique = desk.next_unique + 1 } → IsTaken step now own shelf desk reply new desk'
+      takes_in_place {reply} {desk'} e has free told same =
+          let there = need_of_found its_key its_found need has in
+          let none = dead_alive shelf.cut now its_key its_found need.class (and_false (has_need its_key its_found need) (counts draft.body) (is_gone shelf.cut now its_found) e has) in
+          let mid : DeskState = record { slab = taken desk.slab need; next_unique = desk.next_unique + 1 } in
+          let gives : GivesChunks need mid desk' = record {
+            given_is = same ∙ (λ i. record { slab = sym (given_taken desk.slab need is_need.is_class is.out free) i; next_unique = desk.next_unique + 1 });
+            is_need = is_need;
+            is_slab = taken_is_slab desk.slab need is_need.is_class is free;
+          } in
+          takes_anew e none (ap (slabs.has_room_with desk.slab need) none ∙ room_by_free desk.slab need free) told refl
+          (subst (λ (o : Option Entry). GivesBack its_key o mid desk') (sym there.1) (subst (λ (k : NeedState). GivesChunks k mid desk') (sym there.2) gives))
 
 -- ---- a dead item that gives way
 
@@ -518,10 +529,3 @@ put_after_drop key own old mid new one dropped puts = record {
 pub ok_both : {A E : Type 0} {X : Type 0} (P Q R : A → Type 0) (r : Result A E) → IfOk r P → IfOk r Q → OnOk r X → ((a : A) → P a → Q a → X → R a) → IfOk r R
 ok_both P Q R (Ok a) p q x f = f a p q x
 ok_both P Q R (Err e) p q x f = tt
-
-pub some_more : {A : Type 0} (P Q : A → Type 0) (o : Option A) → IfSome o P → ((a : A) → P a → Q a) → IfSome o Q
-some_more P Q None p f = tt
-some_more P Q (Some a) p f = f a p
-
-pub err_brings : {A E : Type 0} {X : Type 0} (r : Result A E) (e : E) → r ≡ Err e → OnErr r X → X
-err_brings {A} {E} {X} r e is brings = subst (λ (q : Result A E). OnErr q X) is brings

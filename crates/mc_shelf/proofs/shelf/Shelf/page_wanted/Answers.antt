@@ -2,7 +2,8 @@ use Rattle.std.proofs.Common.{◌≡◌, ℕ, sym, ap, subst, arith, ◌∙◌}
 use Rattle.mc_slab.specs.Needs.{NeedState}
 use Rattle.mc_slab.specs.Slabs.{WantsPages, pages_wanted}
 use Rattle.mc_shelf.specs.Plans.{back_at}
-use Rattle.mc_shelf.proofs.TakesLemmas.{drafts, some_more}
+use Rattle.mc_shelf.proofs.TakesLemmas.{drafts}
+use Rattle.std.proofs.lemmas.Option.{IfSome_then}
 use Rattle.mc_shelf.proofs.shelf.Shelf.page_wanted.Goals as goal
 
 pub need_for-need-requires : goal.need_for-need-requires
@@ -18,7 +19,7 @@ returns-clause-wanted c =
     let need = c.need_for-need.result in
     let need_is = c.need_for-need.ensures.value in
     let back = c.back.ensures.value in
-    some_more _ _ c.wanted.result c.wanted.ensures.wanted (λ wanted is.
+    IfSome_then c.wanted.result c.wanted.ensures.wanted (λ wanted is.
     let wants = subst (λ (n : ℕ). WantsPages slab need n) back is.0 in
     let same = is.1 ∙ ap (λ (n : ℕ). record { class = need.class; pages = pages_wanted slab need n }) back in (
       record {
