@@ -18,7 +18,9 @@ use Rattle.mc_command.specs.Laws.{of_class}
 use Rattle.mc_command.proofs.CountLemmas.{count-remove}
 use Rattle.mc_grow.specs.Indexes.{IndexState, IsFirstFrom, IsNext, KeepsLower, cells, count_from, entry_at}
 use Rattle.mc_grow.specs.declared.index.Place.{Place}
-use Rattle.mc_shelf.specs.States.{EntryState, Hashes, ShelfContent, DeskState}
+use Rattle.mc_shelf.specs.States.{EntryState, Hashes, ShelfContent, ShelfState, DeskState}
+use Rattle.mc_shelf.specs.Counts.{DropsAlone, KeepsTable, counts_in, counts_of}
+use Rattle.mc_shelf.specs.declared.counts.ShelfCounts.{ShelfCounts}
 use Rattle.mc_shelf.specs.KeyMaps.{IsKeyed}
 use Rattle.mc_shelf.specs.Places.{KeyGoes, entries_of, hashes_of, items_of}
 use Rattle.mc_shelf.specs.Plans.{is_gone, item_in}
@@ -28,6 +30,8 @@ use Rattle.mc_shelf.specs.declared.soonest.Soonest.{Soonest}
 use Rattle.mc_shelf.proofs.KeyLemmas.{order, same_key, same_maps, get_kept, get_gone, get_gone_other}
 use Rattle.mc_shelf.proofs.KeyMapLemmas.{hash_absent, item_held}
 use Rattle.mc_shelf.proofs.IndexLemmas.{numbered}
+use Rattle.mc_shelf.proofs.CountLemmas.{drops_none, drops_one}
+use Rattle.mc_shelf.proofs.LenLemmas.{one_less}
 use Rattle.mc_shelf.proofs.ShelfLemmas.{content_of}
 use Rattle.mc_shelf.proofs.StandLemmas.{out-given, weight, weight_here}
 
@@ -36,68 +40,49 @@ use Rattle.mc_shelf.proofs.StandLemmas.{out-given, weight, weight_here}
 pub gives_none : (items : Items) (desk : DeskState) → GivesFor items items desk desk
 gives_none items desk = record { out = λ class is. refl; pages = refl; limit = refl; next_unique = refl }
 
-pub gives_both : (a b c : Items) (d e f : DeskState) → GivesFor a b d e → GivesFor b c e f → GivesFor a c d f
-gives_both a b c d e f one two = record {
-  out = λ class is.
-      let first = one.out class is in
-      let second = two.out class is in
-      omega arith;
-  pages = two.pages ∙ one.pages;
-  limit = two.limit ∙ one.limit;
-  next_unique = two.next_unique ∙ one.next_unique;
-}
+module _ {items : Items} {was new : IndexState EntryState} {desk desk' : DeskState} (entry : EntryState) (chunks : ChunksState)
+    (gives : GivesFor items (items_of was) desk desk') (are : (class : ℕ) → IsClass class → count_of items class ≤ out_of desk.slab class)
+    (found : get (items_of was) entry.key ≡ Some entry.item) (removed : KeyGoes was new entry.key)
+    (need_is : need_in chunks ≡ item_need entry.key entry.item) (is_need : IsNeed (item_need entry.key entry.item)) where
+  its_class : IsClass chunks.class
+  its_class = subst (λ (n : NeedState). IsClass n.class) (sym need_is) is_need.is_class
 
-module _ (items : Items) (desk : DeskState) (key : List ℕ) (item : Entry) (found : get items key ≡ Some item)
-    (are : (class : ℕ) → IsClass class → count_of items class ≤ out_of desk.slab class) where
-  -- the chunks of an item that stands are out
-  pub out_held : IsClass (item_need key item).class → (item_need key item).count ≤ out_of desk.slab (item_need key item).class
-  out_held is_class =
-      let need = item_need key item in
-      let gone = count-remove need.class items key in
-      let one : of_class key (get items key) need.class ≡ weight need.class need.count need.class = ap (λ (o : Option Entry). of_class key o need.class) found in
-      let here : weight need.class need.count need.class ≡ need.count = weight_here need.class need.count in
-      let out = are need.class is_class in
-      omega arith
+  its_chunks : (class : ℕ) → of_class entry.key (get (items_of was) entry.key) class ≡ weight chunks.class chunks.count class
+  its_chunks class = ap (λ (o : Option Entry). of_class entry.key o class) found ∙ ap (λ (n : NeedState). weight n.class n.count class) (sym need_is)
 
-  -- its chunks go back as it is dropped
-  pub gives_one : (new : Items) (desk' : DeskState) → new ≡ remove items key
-      → desk' ≡ record desk { slab = given desk.slab (item_need key item).class (item_need key item).count } → IsSlab desk.slab → IsClass (item_need key item).class → GivesFor items new desk desk'
-  gives_one new desk' new_is desk_is is is_class =
-      subst (λ (m : Items). GivesFor items m desk desk') (sym new_is) (subst (λ (d : DeskState). GivesFor items (remove items key) desk d) (sym desk_is) (record {
-        out = λ class is_other.
-            let need = item_need key item in
-            let gone = count-remove class items key in
-            let one : of_class key (get items key) class ≡ weight need.class need.count class = ap (λ (o : Option Entry). of_class key o class) found in
-            let less : out_of (given desk.slab need.class need.count) class ≡ out_of desk.slab class - weight need.class need.count class =
-            out-given desk.slab need.class is_class is.out need.count class is_other in
-            let out = are class is_other in
-            omega arith;
-        pages = refl;
-        limit = refl;
-        next_unique = refl;
-      }))
+  -- the chunks of an entry that is removed are out, where others went before it
+  pub entry_out : chunks.count ≤ out_of desk'.slab chunks.class
+  entry_out =
+      let gone = count-remove chunks.class (items_of was) entry.key in
+      let here = weight_here chunks.class chunks.count in
+      omega (arith, gone, here, its_chunks chunks.class, gives.out chunks.class its_class, are chunks.class its_class)
+
+  -- and go back
+  pub entry_gives : {after : DeskState} → after ≡ record desk' { slab = given desk'.slab chunks.class chunks.count } → IsSlab desk'.slab → GivesFor items (items_of new) desk after
+  entry_gives back is = record {
+    out = λ class is_class.
+        let gone = count-remove class (items_of was) entry.key in
+        let left = ap (λ (m : Items). count_of m class) removed.items in
+        let less = ap (λ (d : DeskState). out_of d.slab class) back ∙ out-given desk'.slab chunks.class its_class is.out chunks.count class is_class in
+        omega (arith, gone, left, less, its_chunks class, gives.out class is_class, are class is_class);
+    pages = ap (λ (d : DeskState). d.slab.pages) back ∙ gives.pages;
+    limit = ap (λ (d : DeskState). d.slab.limit) back ∙ gives.limit;
+    next_unique = ap (λ (d : DeskState). d.next_unique) back ∙ gives.next_unique;
+  }
 
 -- chunks that lie in a list
 pub among_join : (xs ys : List ChunksState) (class : ℕ) → count_among (xs ++ ys) class ≡ count_among xs class + count_among ys class
 among_join [] ys class = omega arith
 among_join (x ∷ xs) ys class = omega (arith, among_join xs ys class)
 
--- chunks that are out stay so
-pub out_after : (a b : Items) (d e : DeskState) → GivesFor a b d e → ((class : ℕ) → IsClass class → count_of a class ≤ out_of d.slab class) → (class : ℕ)
-    → IsClass class → count_of b class ≤ out_of e.slab class
-out_after a b d e gives are class is =
-    let out = gives.out class is in
-    let had = are class is in
-    omega arith
-
 -- ---- the items that are alive
 
-alive_or_none : (cut : Option ℕ) (now : ℕ) (found : Option Entry) → cond (is_some (alive cut now found)) found None ≡ alive cut now found
+pub alive_or_none : (cut : Option ℕ) (now : ℕ) (found : Option Entry) → cond (is_some (alive cut now found)) found None ≡ alive cut now found
 alive_or_none cut now None = refl
 alive_or_none cut now (Some item) =
     elim (is_dead item.expiry item.updated cut now) as (λ b. cond (is_some (if b then None else Some item)) (Some item) None ≡ (if b then None else Some item)) [ true ↦ refl | false ↦ refl ]
 
-get_living : (items : Items) (cut : Option ℕ) (now : ℕ) (key : List ℕ) → get (living items cut now) key ≡ alive cut now (get items key)
+pub get_living : (items : Items) (cut : Option ℕ) (now : ℕ) (key : List ℕ) → get (living items cut now) key ≡ alive cut now (get items key)
 get_living items cut now key =
     get_kept items (λ k. is_some (alive cut now (get items k))) key ∙ alive_or_none cut now (get items key)
 
@@ -139,28 +124,28 @@ item_copied (Some b) e is = ap (λ (x : EntryState). Some x.item) (same_Some b.n
 abbrev pub Below : IndexState EntryState → ℕ → (EntryState → Type 0) → Type 0
 Below index at P = (k : ℕ) (e : EntryState) → k < at → get_or (cells index) k None ≡ Some e → P e
 
-module _ (P : EntryState → Type 0) (index : IndexState EntryState) (at number : ℕ) (place : Place) (first : IsFirstFrom index at number place) where
-  below_skipped : Below index at P → Below index number P
-  below_skipped below k e lt there = elim (cases_lt k at) [ inl less ↦ below k e less there | inr behind ↦ absurd (none-some e (sym (first.skipped k behind lt) ∙ there)) ]
-
-  -- one entry further
-  pub below_next : Below index at P → ((e : EntryState) → entry_at index place ≡ Some e → P e) → Below index (number + 1) P
-  below_next below here k e lt there =
-      elim (cases_lt k number) [
-        | inl less ↦ below_skipped below k e less there
-        | inr behind ↦ let same : place.number ≡ k = omega (arith, first.same) in here e (ap (λ n. get_or (cells index) n None) same ∙ there)
-      ]
-
-  -- after a removal
-  pub below_removed : Below index at P → (new : IndexState EntryState) → KeepsLower index new place.number → Below new number P
-  below_removed below new keeps k e lt there =
-      below_skipped below k e lt (sym (keeps.lower k (omega (arith, first.same))) ∙ there)
-
-  -- and so many fewer are ahead
-  pub fewer_removed : (new : IndexState EntryState) → KeepsLower index new place.number → count_from new number < count_from index at
-  fewer_removed new keeps =
+module _ {index : IndexState EntryState} {at number : ℕ} {place : Place} (first : IsFirstFrom index at number place) where
+  -- after a removal so many fewer are ahead
+  pub fewer_removed : {new : IndexState EntryState} → KeepsLower index new place.number → count_from new number < count_from index at
+  fewer_removed {new} keeps =
       let count = subst (λ n. count_from index n ≡ count_from new n + 1) first.same keeps.count in
       omega (arith, first.ahead, count)
+
+  module _ (P : EntryState → Type 0) (below : Below index at P) where
+    below_skipped : Below index number P
+    below_skipped k e lt there = elim (cases_lt k at) [ inl less ↦ below k e less there | inr behind ↦ absurd (none-some e (sym (first.skipped k behind lt) ∙ there)) ]
+
+    -- one entry further
+    pub below_next : ((e : EntryState) → entry_at index place ≡ Some e → P e) → Below index (number + 1) P
+    below_next here k e lt there =
+        elim (cases_lt k number) [
+          | inl less ↦ below_skipped k e less there
+          | inr behind ↦ let same : place.number ≡ k = omega (arith, first.same) in here e (ap (λ n. get_or (cells index) n None) same ∙ there)
+        ]
+
+    -- and after the removal
+    pub below_removed : {new : IndexState EntryState} → KeepsLower index new place.number → Below new number P
+    below_removed keeps k e lt there = below_skipped k e lt (sym (keeps.lower k (omega (arith, first.same))) ∙ there)
 
 -- where no number is left, each item is of such an entry
 pub items_all : (P : EntryState → Type 0) (index : IndexState EntryState) → IsKeyed (entries_of index) → (at : ℕ) → Below index at P → IsNext index at None
@@ -190,20 +175,6 @@ kept_by was new key removed other item there =
       sym (ap (λ (m : Items). get m other) removed.items ∙ get_gone_other (items_of was) key other apart) ∙ there,
       ap (λ (m : Hashes). get m other) removed.hashes ∙ get_gone_other (hashes_of was) key other apart,
     )
-
-module _ (greatest : ℕ) (cut : Option ℕ) (was new : IndexState EntryState) (entry : EntryState)
-    (found : get (items_of was) entry.key ≡ Some entry.item) (removed : KeyGoes was new entry.key)
-    (desk desk' : DeskState) (chunks : ChunksState) (need_is : need_in chunks ≡ item_need entry.key entry.item) (is_need : IsNeed (item_need entry.key entry.item))
-    (are : (class : ℕ) → IsClass class → count_of (items_of was) class ≤ out_of desk.slab class) where
-  -- its chunks are out
-  pub entry_out : chunks.count ≤ out_of desk.slab chunks.class
-  entry_out = subst (λ (n : NeedState). n.count ≤ out_of desk.slab n.class) (sym need_is) (out_held (items_of was) desk entry.key entry.item found are is_need.is_class)
-
-  -- and goes back
-  pub entry_gives : desk' ≡ record desk { slab = given desk.slab chunks.class chunks.count } → IsSlab desk.slab → GivesFor (items_of was) (items_of new) desk desk'
-  entry_gives back is =
-      gives_one (items_of was) desk entry.key entry.item found are (items_of new) desk' removed.items
-      (back ∙ ap (λ (n : NeedState). record desk { slab = given desk.slab n.class n.count }) need_is) is is_need.is_class
 
 -- a dead item is swept
 pub swept_one : (now greatest : ℕ) (cut : Option ℕ) (was new : IndexState EntryState) (entry : EntryState) → get (items_of was) entry.key ≡ Some entry.item → KeyGoes was new entry.key
@@ -241,31 +212,6 @@ counted_one items new key item all old chunks found new_is need_is all_is class 
 abbrev pub Stays : (cut : Option ℕ) → (now : ℕ) → Soonest → EntryState → Type 0
 Stays cut now soonest e = (is_dead e.item.expiry e.item.updated cut now ≡ false) × DiesNoSooner soonest e.item
 
-pub stays_here : (cut : Option ℕ) (now : ℕ) (soonest : Soonest) (index : IndexState EntryState) (place : Place) (found again : Option (Bor EntryState))
-    → option_copied found ≡ entry_at index place → option_copied again ≡ entry_at index place → is_gone cut now (item_in found) ≡ false
-    → ((item : Entry) → item_in again ≡ Some item → DiesNoSooner soonest item) → (e : EntryState) → entry_at index place ≡ Some e → Stays cut now soonest e
-stays_here cut now soonest index place found again copied same stays one e there = (
-  gone_stays cut now e.item (ap (is_gone cut now) (sym (item_copied found e (copied ∙ there))) ∙ stays),
-  one e.item (item_copied again e (same ∙ there)),
-)
-
-pub below_sooner : (cut : Option ℕ) (now : ℕ) (index : IndexState EntryState) (at : ℕ) (a b : Soonest)
-    → ((item : Entry) → DiesNoSooner a item → DiesNoSooner b item) → Below index at (Stays cut now a) → Below index at (Stays cut now b)
-below_sooner cut now index at a b others below k e lt there = ((below k e lt there).0, others e.item (below k e lt there).1)
-
-pub gone_here : (cut : Option ℕ) (now : ℕ) (index : IndexState EntryState) (place : Place) (found : Option (Bor EntryState))
-    → option_copied found ≡ entry_at index place → is_gone cut now (item_in found) ≡ true → (e : EntryState) → entry_at index place ≡ Some e → is_gone cut now (Some e.item) ≡ true
-gone_here cut now index place found copied gone e there = ap (is_gone cut now) (sym (item_copied found e (copied ∙ there))) ∙ gone
-
--- at the end of a purge
-pub all_stay : (cut : Option ℕ) (now : ℕ) (soonest : Soonest) (index : IndexState EntryState) → IsKeyed (entries_of index) → (at : ℕ)
-    → Below index at (Stays cut now soonest) → IsNext index at None → NoneIsDead now cut (items_of index) × DieNoSooner soonest (items_of index)
-all_stay cut now soonest index keyed at below none =
-    let all = items_all (Stays cut now soonest) index keyed at below none in (
-      (λ key item there. let one = all key item there in subst (λ (i : Entry). is_dead i.expiry i.updated cut now ≡ false) one.2 one.1.0),
-      (λ key item there. let one = all key item there in subst (DiesNoSooner soonest) one.2 one.1.1),
-    )
-
 pub purged : (now : ℕ) (old : ShelfContent) (greatest : ℕ) (cut : Option ℕ) (index : IndexState EntryState) → IsKeyed (entries_of index)
     → Swept now old (content_of greatest cut index) → NoneIsDead now cut (items_of index) → IsPurged now old (content_of greatest cut index)
 purged now old greatest cut index keyed swept none =
@@ -279,6 +225,58 @@ purged now old greatest cut index keyed swept none =
         | Some item ↦ λ e. (swept.kept key item e).1
       ] refl;
     }
+
+-- how far a sweep for dead items has come: the entries of lower numbers stay
+pub record IsSwept (now : ℕ) (old : ShelfState) (greatest : ℕ) (cut : Option ℕ) (index : IndexState EntryState) (at : ℕ) (soonest : Soonest) : Type 0 where
+  pub most : greatest ≤ 8388608
+  pub swept : Swept now old.content (content_of greatest cut index)
+  pub table : DropsAlone (counts_of old) (counts_in index)
+  pub below : Below index at (Stays cut now soonest)
+
+pub swept_start : {now greatest : ℕ} {cut : Option ℕ} {index : IndexState EntryState} {seen old : ShelfState} {soonest : Soonest} → seen ≡ old → content_of greatest cut index ≡ seen.content
+    → counts_in index ≡ counts_of seen → greatest ≤ 8388608 → IsSwept now old greatest cut index 0 soonest
+swept_start {now} {greatest} {cut} {index} is content counts most = record {
+  most = most;
+  swept = subst (λ (s : ShelfContent). Swept now s (content_of greatest cut index)) (content ∙ ap (λ (s : ShelfState). s.content) is) (swept_none now (content_of greatest cut index));
+  table = subst (λ (s : ShelfCounts). DropsAlone s (counts_in index)) (counts ∙ ap (λ (s : ShelfState). counts_of s) is) (drops_none (counts_in index));
+  below = λ k e lt there. absurd (omega arith);
+}
+
+module _ {now : ℕ} {old : ShelfState} {greatest : ℕ} {cut : Option ℕ} {index : IndexState EntryState} {at : ℕ} {soonest : Soonest} (held : IsSwept now old greatest cut index at soonest) where
+  module _ {number : ℕ} {place : Place} (first : IsFirstFrom index at number place) (found : Option (Bor EntryState)) (copied : option_copied found ≡ entry_at index place) where
+    -- the next entry is dead, and goes
+    pub swept_gone : is_gone cut now (item_in found) ≡ true → (new : IndexState EntryState) (entry : EntryState) → entry_at index place ≡ Some entry → get (items_of index) entry.key ≡ Some entry.item
+        → KeyGoes index new entry.key → KeepsTable 1 (counts_in index) (counts_in new) → KeepsLower index new place.number → IsSwept now old greatest cut new number soonest
+    swept_gone gone new entry there item removed table lower = record {
+      most = held.most;
+      swept = swept_both now old.content (content_of greatest cut index) (content_of greatest cut new) held.swept
+          (swept_one now greatest cut index new entry item removed (ap (is_gone cut now) (sym (item_copied found entry (copied ∙ there))) ∙ gone));
+      table = drops_one (counts_of old) (counts_in index) (counts_in new) held.table table (one_less (items_of index) (items_of new) entry.key entry.item item removed.items);
+      below = below_removed first (Stays cut now soonest) held.below lower;
+    }
+
+    -- or it stays
+    pub swept_on : is_gone cut now (item_in found) ≡ false → (again : Option (Bor EntryState)) → option_copied again ≡ entry_at index place → (later : Soonest)
+        → ((item : Entry) → DiesNoSooner soonest item → DiesNoSooner later item) → ((item : Entry) → item_in again ≡ Some item → DiesNoSooner later item)
+        → IsSwept now old greatest cut index (number + 1) later
+    swept_on lives again same later others one = record {
+      most = held.most;
+      swept = held.swept;
+      table = held.table;
+      below = below_next first (Stays cut now later) (λ k e lt there. ((held.below k e lt there).0, others e.item (held.below k e lt there).1)) (λ e there. (
+        gone_stays cut now e.item (ap (is_gone cut now) (sym (item_copied found e (copied ∙ there))) ∙ lives),
+        one e.item (item_copied again e (same ∙ there)),
+      ));
+    }
+
+  -- at the end
+  pub swept_all : IsKeyed (entries_of index) → IsNext index at None → IsPurged now old.content (content_of greatest cut index) × DieNoSooner soonest (items_of index)
+  swept_all keyed none =
+      let all = items_all (Stays cut now soonest) index keyed at held.below none in (
+        purged now old.content greatest cut index keyed held.swept
+            (λ key item there. let one = all key item there in subst (λ (i : Entry). is_dead i.expiry i.updated cut now ≡ false) one.2 one.1.0),
+        λ key item there. let one = all key item there in subst (DiesNoSooner soonest) one.2 one.1.1,
+      )
 
 -- at the end of a flush
 abbrev pub IsNone : EntryState → Type 0

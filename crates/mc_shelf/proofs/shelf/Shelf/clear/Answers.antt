@@ -5,7 +5,7 @@ use Rattle.mc_shelf.specs.Places.{items_of}
 use Rattle.mc_shelf.specs.Sweeps.{GivesFor}
 use Rattle.mc_shelf.proofs.DeathLemmas.{sooner_none}
 use Rattle.mc_shelf.proofs.ShelfLemmas.{content_of}
-use Rattle.mc_shelf.proofs.SweepLemmas.{IsNone, below_removed, cleared, entry_gives, entry_out, fewer_removed, gives_both, gives_none, out_after}
+use Rattle.mc_shelf.proofs.SweepLemmas.{IsNone, below_removed, cleared, entry_gives, entry_out, fewer_removed, gives_none}
 use Rattle.mc_shelf.specs.Counts.{DropsAlone, counts_in, counts_of}
 use Rattle.mc_shelf.proofs.CountLemmas.{drops_none, drops_one}
 use Rattle.mc_shelf.proofs.LenLemmas.{one_less}
@@ -24,33 +24,26 @@ loop-number-init c = record {
 
 pub give-requires : goal.give-requires
 give-requires c =
-    let inside = c.loop-number.self-inside in
-    let first = c.in-Some.ensures.next in
-    let are = out_after c.args.self.now.content.items (items_of inside.index) c.args.desk.now c.loop-number.desk c.loop-number.invariant.gives c.requires in
-    entry_out inside.greatest inside.cut inside.index c.remove-entry.new.self c.remove-entry.result c.remove-entry.ensures.item c.remove-entry.ensures.removed
-    c.loop-number.desk c.loop-number.desk c.into_chunks.result c.into_chunks.ensures.need c.into_chunks.ensures.is_need are
+    entry_out c.remove-entry.result c.into_chunks.result c.loop-number.invariant.gives c.requires c.remove-entry.ensures.item c.remove-entry.ensures.removed
+    c.into_chunks.ensures.need c.into_chunks.ensures.is_need
 
 pub loop-number-smaller : goal.loop-number-smaller
-loop-number-smaller c =
-    let first = c.in-Some.ensures.next in
-    fewer_removed IsNone c.loop-number.self-inside.index c.loop-number.at c.in-Some.number c.in-Some.place first c.remove-entry.new.self c.remove-entry.ensures.lower
+loop-number-smaller c = fewer_removed c.in-Some.ensures.next c.remove-entry.ensures.lower
 
 pub loop-number-preserved : goal.loop-number-preserved
 loop-number-preserved c =
-    let inside = c.loop-number.self-inside in
+    let index = c.loop-number.self-inside.index in
     let held = c.loop-number.invariant in
-    let first = c.in-Some.ensures.next in
-    let are = out_after c.args.self.now.content.items (items_of inside.index) c.args.desk.now c.loop-number.desk held.gives c.requires in
+    let entry = c.remove-entry.result in
     record {
       most = held.most;
       greatest = held.greatest;
       cut = held.cut;
-      gives = gives_both c.args.self.now.content.items (items_of inside.index) (items_of c.remove-entry.new.self) c.args.desk.now c.loop-number.desk c.give.new.self held.gives
-          (entry_gives inside.greatest inside.cut inside.index c.remove-entry.new.self c.remove-entry.result c.remove-entry.ensures.item c.remove-entry.ensures.removed
-          c.loop-number.desk c.give.new.self c.into_chunks.result c.into_chunks.ensures.need c.into_chunks.ensures.is_need are c.give.ensures.given c.give.ensures.slab);
-      table = drops_one (counts_of c.args.self.now) (counts_in inside.index) (counts_in c.remove-entry.new.self) held.table c.remove-entry.ensures.table
-          (one_less (items_of inside.index) (items_of c.remove-entry.new.self) c.remove-entry.result.key c.remove-entry.result.item c.remove-entry.ensures.item c.remove-entry.ensures.removed.items);
-      below = below_removed IsNone inside.index c.loop-number.at c.in-Some.number c.in-Some.place first held.below c.remove-entry.new.self c.remove-entry.ensures.lower;
+      gives = entry_gives entry c.into_chunks.result held.gives c.requires c.remove-entry.ensures.item c.remove-entry.ensures.removed c.into_chunks.ensures.need c.into_chunks.ensures.is_need
+          c.give.ensures.given c.give.ensures.slab;
+      table = drops_one (counts_of c.args.self.now) (counts_in index) (counts_in c.remove-entry.new.self) held.table c.remove-entry.ensures.table
+          (one_less (items_of index) (items_of c.remove-entry.new.self) entry.key entry.item c.remove-entry.ensures.item c.remove-entry.ensures.removed.items);
+      below = below_removed c.in-Some.ensures.next IsNone held.below c.remove-entry.ensures.lower;
     }
 
 pub invariant_of-self : goal.invariant_of-self

@@ -1,19 +1,13 @@
-use Rattle.std.proofs.Common.{◌≤◌}
 use Rattle.mc_grow.specs.Indexes.{count_from}
-use Rattle.mc_shelf.proofs.ShelfLemmas.{content_of}
-use Rattle.mc_shelf.specs.Counts.{DropsAlone, counts_in, counts_of}
 use Rattle.mc_shelf.specs.Places.{items_of}
 use Rattle.mc_shelf.specs.Sweeps.{GivesFor}
-use Rattle.mc_shelf.proofs.SweepLemmas.{Below, Stays, Swept}
+use Rattle.mc_shelf.proofs.SweepLemmas.{IsSwept}
 use Rattle.mc_shelf.proofs.shelf.Shelf.purge.Given as goal
 
 abbrev pub invariant-loop-number : goal.invariant-loop-number
 invariant-loop-number l = record {
-  most : l.self-inside.greatest ≤ 8388608;
-  swept : Swept l.now l.fn.self.content (content_of l.self-inside.greatest l.self-inside.cut l.self-inside.index);
+  walk : IsSwept l.now l.fn.self l.self-inside.greatest l.self-inside.cut l.self-inside.index l.at l.soonest;
   gives : GivesFor l.fn.self.content.items (items_of l.self-inside.index) l.fn.desk l.desk;
-  table : DropsAlone (counts_of l.fn.self) (counts_in l.self-inside.index);
-  below : Below l.self-inside.index l.at (Stays l.self-inside.cut l.now l.soonest);
 }
 
 abbrev pub decreases-loop-number : goal.decreases-loop-number
