@@ -31,21 +31,6 @@ count_in-join (x ∷ xs) ys class = omega (arith, count_in-join xs ys class)
 pub count_in-last : (xs : List ShelfState) (x : ShelfState) (class : ℕ) → count_in (xs ++ x ∷ []) class ≡ count_in xs class + count_of x.content.items class
 count_in-last xs x class = omega (arith, count_in-join xs (x ∷ []) class)
 
--- an entry was taken off the last one
-pub off_last : (all rest after : List ShelfState) (old new : ShelfState) (entry : EntryState) (chunks : ChunksState) → all ≡ rest ++ old ∷ [] → after ≡ rest ++ new ∷ []
-    → IsOff old.content new.content entry → need_in chunks ≡ item_need entry.key entry.item → IsNeed (item_need entry.key entry.item) → AreOff all after chunks
-off_last all rest after old new entry chunks all_is after_is off need_is is_need = record {
-  is_need = subst IsNeed (sym need_is) is_need;
-  counts = λ class.
-      let before = ap (λ l. count_in l class) all_is ∙ count_in-last rest old class in
-      let behind = ap (λ l. count_in l class) after_is ∙ count_in-last rest new class in
-      let gone = count-remove class old.content.items entry.key in
-      let less = ap (λ (m : Items). count_of m class) off.items in
-      let one : of_class entry.key (get old.content.items entry.key) class ≡ chunks_in (item_need entry.key entry.item) class = ap (λ (o : Option Entry). of_class entry.key o class) off.found in
-      let same : chunks_in (need_in chunks) class ≡ chunks_in (item_need entry.key entry.item) class = ap (λ (n : NeedState). chunks_in n class) need_is in
-      omega (arith, before, behind, gone, less, one, same);
-}
-
 -- one of them has changed
 pub count_in-set : (xs : List ShelfState) (at : ℕ) (old new : ShelfState) (class : ℕ) → slice_get xs at ≡ Some old
     → count_in (set xs at new) class + count_of old.content.items class ≡ count_in xs class + count_of new.content.items class
@@ -56,19 +41,32 @@ count_in-set (x ∷ xs) zero old new class here =
 count_in-set (x ∷ xs) (suc at) old new class here = omega (arith, count_in-set xs at old new class here)
 
 -- an entry was taken off one of them
-pub off_at : (all after : List ShelfState) (at : ℕ) (old new : ShelfState) (entry : EntryState) (chunks : ChunksState) → slice_get all at ≡ Some old → after ≡ set all at new
+off_by : (all after : List ShelfState) (old new : ShelfState) (entry : EntryState) (chunks : ChunksState)
+    → ((class : ℕ) → count_in after class + count_of old.content.items class ≡ count_in all class + count_of new.content.items class)
     → IsOff old.content new.content entry → need_in chunks ≡ item_need entry.key entry.item → IsNeed (item_need entry.key entry.item) → AreOff all after chunks
-off_at all after at old new entry chunks here after_is off need_is is_need = record {
+off_by all after old new entry chunks moved off need_is is_need = record {
   is_need = subst IsNeed (sym need_is) is_need;
   counts = λ class.
-      let moved = count_in-set all at old new class here in
-      let behind = ap (λ l. count_in l class) after_is in
       let gone = count-remove class old.content.items entry.key in
       let less = ap (λ (m : Items). count_of m class) off.items in
       let one : of_class entry.key (get old.content.items entry.key) class ≡ chunks_in (item_need entry.key entry.item) class = ap (λ (o : Option Entry). of_class entry.key o class) off.found in
       let same : chunks_in (need_in chunks) class ≡ chunks_in (item_need entry.key entry.item) class = ap (λ (n : NeedState). chunks_in n class) need_is in
-      omega (arith, moved, behind, gone, less, one, same);
+      omega (arith, moved class, gone, less, one, same);
 }
+
+pub off_at : (all after : List ShelfState) (at : ℕ) (old new : ShelfState) (entry : EntryState) (chunks : ChunksState) → slice_get all at ≡ Some old → after ≡ set all at new
+    → IsOff old.content new.content entry → need_in chunks ≡ item_need entry.key entry.item → IsNeed (item_need entry.key entry.item) → AreOff all after chunks
+off_at all after at old new entry chunks here after_is =
+    off_by all after old new entry chunks (λ class. ap (λ l. count_in l class + count_of old.content.items class) after_is ∙ count_in-set all at old new class here)
+
+-- or off the last one
+pub off_last : (all rest after : List ShelfState) (old new : ShelfState) (entry : EntryState) (chunks : ChunksState) → all ≡ rest ++ old ∷ [] → after ≡ rest ++ new ∷ []
+    → IsOff old.content new.content entry → need_in chunks ≡ item_need entry.key entry.item → IsNeed (item_need entry.key entry.item) → AreOff all after chunks
+off_last all rest after old new entry chunks all_is after_is =
+    off_by all after old new entry chunks (λ class.
+    let before = ap (λ l. count_in l class) all_is ∙ count_in-last rest old class in
+    let behind = ap (λ l. count_in l class) after_is ∙ count_in-last rest new class in
+    omega (arith, before, behind))
 
 -- none has changed
 pub set_same : (xs : List ShelfState) (at : ℕ) (old new : ShelfState) → slice_get xs at ≡ Some old → new ≡ old → set xs at new ≡ xs

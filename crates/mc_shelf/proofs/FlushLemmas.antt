@@ -20,6 +20,7 @@ use Rattle.mc_shelf.specs.Unions.{IsFlushed, left_of_flush}
 use Rattle.std.proofs.Math.Seq.{take-append_seam}
 use Rattle.mc_shelf.proofs.KeyLemmas.{order, same_maps, get_kept}
 use Rattle.mc_shelf.proofs.PartLemmas.{parted, own_items, shelf_kept, put_cases}
+use Rattle.mc_shelf.proofs.SweepLemmas.{get_living}
 
 -- where none of its items is dead, purging a shelf's part changes nothing
 pub nothing_purged : {hash_of : List ℕ → ℕ} {count at : ℕ} {state : Plain} {shelf : ShelfContent} (now : ℕ) → IsShelfOf hash_of count state at shelf
@@ -113,11 +114,6 @@ module _ {hash_of : List ℕ → ℕ} {count at : ℕ} {state : Plain} {shelf : 
 
 -- ---- a flush
 
-kept_alive : (cut : Option ℕ) (now : ℕ) (o : Option Entry) → cond (is_some (alive cut now o)) o None ≡ alive cut now o
-kept_alive cut now None = refl
-kept_alive cut now (Some item) =
-    elim (is_dead item.expiry item.updated cut now) as (λ b. cond (is_some (cond b None (Some item))) (Some item) None ≡ cond b None (Some item)) [ true ↦ refl | false ↦ refl ]
-
 -- what stands after it under a key
 get_flushed : (delay now : ℕ) (state : Plain) (q : List ℕ) → get (flushed delay state now).items q ≡ left_of_flush delay now state.cut (get state.items q)
 get_flushed delay now state q =
@@ -126,7 +122,7 @@ get_flushed delay now state q =
     (cond b (record state { items = maps.empty; cut = None })
     (record state { items = living state.items state.cut now; cut = Some (moment_named delay now) })).items q ≡ cond b None (alive state.cut now (get state.items q))) [
       | true ↦ get-empty order q
-      | false ↦ get_kept state.items (λ q. is_some (alive state.cut now (get state.items q))) q ∙ kept_alive state.cut now (get state.items q)
+      | false ↦ get_living state.items state.cut now q
     ]
 
 none_left : (delay now : ℕ) (cut : Option ℕ) → left_of_flush delay now cut None ≡ None
@@ -193,7 +189,7 @@ is_flushed {delay} {now} {old} {swept} {new} {cut} cut_is new_is (inr h) = recor
   cut = ap (λ (s : ShelfContent). s.cut) new_is ∙ cut_is;
   items = λ q.
       ap (λ (s : ShelfContent). get s.items q) new_is ∙ ap (λ (m : Items). get m q) h.1.items
-      ∙ get_kept old.items (λ q. is_some (alive old.cut now (get old.items q))) q ∙ kept_alive old.cut now (get old.items q)
+      ∙ get_living old.items old.cut now q
       ∙ ap (λ b. cond b None (alive old.cut now (get old.items q))) (sym (ne_eqb delay 0 h.0));
   hashes = λ q stored found. hash_kept (is_some (get swept.items q)) (get old.hashes q) stored (sym (h.1.hashes q) ∙ sym (ap (λ (s : ShelfContent). get s.hashes q) new_is) ∙ found);
 }

@@ -1,9 +1,9 @@
 -- A block in parts, and which of them are blank.
 use Rattle.std.proofs.Common.{◌≡◌, ℕ, zero, suc, ◌+◌, ◌-◌, ◌<◌, ◌≤◌, ◌&&◌, Bool, true, false, List, [], ◌∷◌, length, take, drop, Some, None, slice_get, if◌then◌else◌, refl}
 use Rattle.std.proofs.Common.{sym, ap, subst, ◌∙◌, arith}
-use Rattle.std.proofs.Math.Seq.{drop-cons, drop-nil}
+use Rattle.std.proofs.Math.Seq.{drop-nil}
 use Rattle.std.proofs.lemmas.Option.{get_or_from_slice_get, same_Some, slice_get_within}
-use Rattle.std.proofs.lemmas.List.{length-take-le}
+use Rattle.std.proofs.lemmas.List.{drop_more, length-take-le}
 use Rattle.std.proofs.lemmas.List.Folds.{list_all-append}
 use Rattle.std.specs.List.{concat, list_all}
 use Rattle.mc_slab.specs.Classes.{size_of}
@@ -24,13 +24,9 @@ pub blank_concat : (parts : List (List ℕ)) → list_all is_space (concat parts
 blank_concat [] = refl
 blank_concat (part ∷ parts) = list_all-append is_space part (concat parts) ∙ ap (λ (b : Bool). list_all is_space part && b) (blank_concat parts)
 
-add-one : (n : ℕ) → suc n ≡ n + 1
-add-one n = omega arith
-
 from_here : (parts : List (List ℕ)) (at : ℕ) (part : List ℕ) → slice_get parts at ≡ Some part → drop at parts ≡ part ∷ drop (at + 1) parts
 from_here parts at part there =
-    drop-cons parts at [] (slice_get_within parts at part there)
-    ∙ (λ i. get_or_from_slice_get parts at part [] there i ∷ drop (add-one at i) parts)
+    drop_more parts at [] (slice_get_within parts at part there) ∙ ap (λ (p : List ℕ). p ∷ drop (at + 1) parts) (get_or_from_slice_get parts at part [] there)
 
 pub blank_on : (parts : List (List ℕ)) (at : ℕ) (part : List ℕ) → slice_get parts at ≡ Some part → list_all is_space part ≡ true → are_blank (drop at parts) ≡ are_blank (drop (at + 1) parts)
 blank_on parts at part there blank = ap are_blank (from_here parts at part there) ∙ ap (λ (b : Bool). b && are_blank (drop (at + 1) parts)) blank

@@ -116,15 +116,6 @@ left_after list at {shelf} shelf' moved here less =
     let was : slice_index (lefts list) at ≡ shelf.left = get_or_from_slice_get (lefts list) at shelf.left 0 (slice_get-map left_of list at ∙ ap (option_map left_of) here) in
     map-set left_of list at shelf' ∙ ap (slice_set (lefts list) at) (less ∙ ap (λ n. n - moved) (sym was))
 
--- what follows of a step that was taken, and of one that was not
-pub if_ok : {P Q : Reply → Type 0} (result : Result Reply StepFault) → IfOk result P → ((reply : Reply) → P reply → Q reply) → IfOk result Q
-if_ok (Ok reply) p f = f reply p
-if_ok (Err fault) p f = p
-
-pub if_err : {P Q : Type 0} (result : Result Reply StepFault) → OnErr result P → (P → Q) → OnErr result Q
-if_err (Ok reply) p f = p
-if_err (Err fault) p f = f p
-
 module _ {hash_of : List ℕ → ℕ} {list : List ShelfState} {desk : DeskState} (settings : Settings) (parts : ArePartsOf hash_of (plain_of settings list desk) list settings.shelves desk) where
   abbrev state : Plain
   state = plain_of settings list desk

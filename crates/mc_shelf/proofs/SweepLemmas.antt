@@ -77,7 +77,7 @@ among_join (x ∷ xs) ys class = omega (arith, among_join xs ys class)
 
 -- ---- the items that are alive
 
-pub alive_or_none : (cut : Option ℕ) (now : ℕ) (found : Option Entry) → cond (is_some (alive cut now found)) found None ≡ alive cut now found
+alive_or_none : (cut : Option ℕ) (now : ℕ) (found : Option Entry) → cond (is_some (alive cut now found)) found None ≡ alive cut now found
 alive_or_none cut now None = refl
 alive_or_none cut now (Some item) =
     elim (is_dead item.expiry item.updated cut now) as (λ b. cond (is_some (if b then None else Some item)) (Some item) None ≡ (if b then None else Some item)) [ true ↦ refl | false ↦ refl ]

@@ -3,7 +3,8 @@ use Rattle.mc_command.specs.Commands.{key_of}
 use Rattle.mc_shelf.specs.Parts.{shelf_of}
 use Rattle.mc_shelf.specs.Unions.{plain_of}
 use Rattle.mc_shelf.proofs.PartLemmas.{is_at}
-use Rattle.mc_shelf.proofs.StoreLemmas.{shelf_here, goes_nowhere, plain_after, parts_stepped, took_step, spent_there, if_ok, if_err}
+use Rattle.mc_shelf.proofs.StoreLemmas.{shelf_here, goes_nowhere, plain_after, parts_stepped, took_step, spent_there}
+use Rattle.std.proofs.lemmas.Result.{IfOk-weaker, on_err_weaker}
 use Rattle.mc_shelf.proofs.store.Store.step_on_key.Goals as goal
 
 pub step-requires-clause-stands : goal.step-requires-clause-stands
@@ -44,10 +45,10 @@ returns g c =
     let stands = is_at step mine (parts.each at c.index_mut-shelf.result.now here) parts.account in
     rw (← c.self.view_is)
     (record {
-      took = if_ok c.step.result c.step.ensures.took
-          (λ reply took. (took_step s.settings parts here step c.args.now c.step.new.self c.step.new.desk mine hashed c.requires.on_key took, (refl, refl)));
+      took = IfOk-weaker c.step.result _ _
+          (λ reply took. (took_step s.settings parts here step c.args.now c.step.new.self c.step.new.desk mine hashed c.requires.on_key took, (refl, refl))) c.step.ensures.took;
       spent = (λ e. c.step.ensures.spent.0 e state stands, λ e. c.step.ensures.spent.1 (spent_there step c.args.now c.requires.on_key stands e));
-      err = if_err c.step.result c.step.ensures.err
-          (λ same. record { plain = plain_after s.settings parts c.step.new.self (goes_nowhere s.settings parts here same.0 same.1); settings = refl; hasher = refl });
+      err = on_err_weaker c.step.result
+          (λ same. record { plain = plain_after s.settings parts c.step.new.self (goes_nowhere s.settings parts here same.0 same.1); settings = refl; hasher = refl }) c.step.ensures.err;
       refused = λ e. c.step.ensures.refused e state stands;
     })
