@@ -3,6 +3,7 @@ use Rattle.std.proofs.Common.{◌≡◌, ℕ, ◌+◌, ◌-◌, ◌*◌, ◌<◌
 use Rattle.std.proofs.Common.{eqb-true, if◌then◌else◌, zero, suc, leb, le-leb, List, [], ◌∷◌, ◌++◌, length, length-set, replicate, get_or, set}
 use Rattle.std.proofs.Common.{cond, not, ltb, ltb-true, le-ltb, Option, Some, None, slice_get, take, Ok, Err, Result, refl, sym, ap, subst, ◌∙◌, arith}
 use Rattle.std.specs.Prelude.{IfErr}
+use Rattle.std.proofs.lemmas.Bool.{cond_both}
 use Rattle.std.proofs.lemmas.List.{get_or-replicate}
 use Rattle.std.proofs.lemmas.List.Sums.{sum_by-set}
 use Rattle.std.proofs.lemmas.Option.{same_Some}
@@ -287,10 +288,7 @@ module _ {slab : SlabState} {out : List ℕ} {shelves : List ShelfState} (lie : 
 
 weight_within : (out : List ℕ) (class count other : ℕ) → count ≤ get_or out (class - 1) 0 → weight class count other ≤ get_or out (other - 1) 0
 weight_within out class count other within =
-    elim (eqb class other) as (λ b. eqb class other ≡ b → (if b then count else 0) ≤ get_or out (other - 1) 0) [
-      | true ↦ λ e. subst (λ k. count ≤ get_or out (k - 1) 0) (eqb-true class other e) within
-      | false ↦ λ e. omega arith
-    ] refl
+    cond_both (eqb class other) count 0 (λ n. n ≤ get_or out (other - 1) 0) (λ e. subst (λ k. count ≤ get_or out (k - 1) 0) (eqb-true class other e) within) (λ e. omega arith)
 
 -- given chunks are seen to be back
 pub gave : {slab new : SlabState} {out : List ℕ} {shelves : List ShelfState} → LieAside slab out shelves → (class count : ℕ) → IsClass class → count ≤ get_or out (class - 1) 0

@@ -10,6 +10,7 @@ use Rattle.mc_hop.specs.Cells.{filled}
 use Rattle.mc_grow.specs.Indexes as grow
 use Rattle.mc_grow.specs.Indexes.{IndexState, StandsAs, count, is_due, lags, left}
 use Rattle.mc_grow.specs.Adding.{AreMoved}
+use Rattle.mc_grow.proofs.CellLemmas.{count_parts}
 use Rattle.mc_shelf.specs.States.{EntryState}
 use Rattle.mc_shelf.specs.KeyMaps.{EntryMap, hash_in, key_in, items_in}
 use Rattle.mc_shelf.specs.Places.{IsChanged, entries_of, items_of}
@@ -56,26 +57,12 @@ module _ (old new : IndexState EntryState) (once : len (items_of old) ≡ count 
 -- of the test that tells whether a growth is due
 due_by_load : (growing few more stray many : Bool) → (not growing && (few && (more || (stray && not many)))) ≡ true
     → (growing ≡ false) × ((more ≡ true) ⊎ ((stray ≡ true) × (many ≡ false)))
-due_by_load true few more stray many e = absurd (true≢false (sym e))
-due_by_load false false more stray many e = absurd (true≢false (sym e))
 due_by_load false true true stray many e = (refl, inl refl)
-due_by_load false true false false many e = absurd (true≢false (sym e))
-due_by_load false true false true true e = absurd (true≢false (sym e))
 due_by_load false true false true false e = (refl, inr (refl, refl))
-
-filled_front : {X : Type 0} (xs ys : List (Option X)) → filled xs ≤ filled (xs ++ ys)
-filled_front [] ys = omega arith
-filled_front (None ∷ xs) ys = filled_front xs ys
-filled_front (Some x ∷ xs) ys = omega (arith, filled_front xs ys)
-
-filled_back : {X : Type 0} (xs ys : List (Option X)) → filled ys ≤ filled (xs ++ ys)
-filled_back [] ys = omega arith
-filled_back (None ∷ xs) ys = filled_back xs ys
-filled_back (Some x ∷ xs) ys = omega (arith, filled_back xs ys)
+due_by_load growing few more stray many e = absurd (true≢false (sym e))
 
 table_within : (index : IndexState EntryState) → filled index.table ≤ count index
-table_within index =
-    omega (arith, filled_front index.table (map Some index.strays), filled_back index.draining (index.table ++ map Some index.strays))
+table_within index = omega (arith, count_parts index.draining index.table index.strays)
 
 doubled : (k : ℕ) → 2 ^ (k + 1) ≡ 2 * 2 ^ k
 doubled k = omega (arith, pow_more 2 k)

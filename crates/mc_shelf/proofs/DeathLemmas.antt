@@ -1,5 +1,6 @@
 -- The soonest expiry and write of items, as one comes, changes or goes.
-use Rattle.std.proofs.Common.{◌≡◌, ℕ, cond, List, [], ◌∷◌, Option, Some, None, Less, Equal, Greater, is_eq, sym, ap, subst, ◌∙◌, refl, arith}
+use Rattle.std.proofs.Common.{◌≡◌, ℕ, cond, List, [], ◌∷◌, Option, Some, None, is_eq, sym, ap, subst, ◌∙◌, refl, arith}
+use Rattle.std.proofs.lemmas.Bool.{cond_both}
 use Rattle.std.proofs.lemmas.Option.{same_Some, none-some}
 use Rattle.std.specs.FinMap.{empty, from_entries, get, get-empty, get-insert, get-remove, insert, remove}
 use Rattle.std.specs.Cmp.Lexicographic.{nat_list_cmp_total}
@@ -9,7 +10,7 @@ use Rattle.mc_command.specs.Plain.{Entry, Items}
 use Rattle.mc_grow.specs.Indexes.{IndexState, cells, count}
 use Rattle.mc_shelf.specs.States.{EntryState}
 use Rattle.mc_shelf.specs.KeyMaps.{hash_in, hashes_in, items_in, key_in}
-use Rattle.mc_shelf.specs.Places.{hashes_of, items_of}
+use Rattle.mc_shelf.specs.Places.{IsChanged, hashes_of, items_of}
 use Rattle.mc_shelf.specs.Deaths.{DiesNoSooner, DieNoSooner}
 use Rattle.mc_shelf.specs.declared.soonest.Soonest.{Soonest}
 use Rattle.mc_shelf.proofs.KeyLemmas.{order}
@@ -23,20 +24,17 @@ sooner_none soonest items is key item found = absurd (none-some item (sym (ap (�
 pub sooner_insert : (a b : Soonest) (old new : Items) (key : List ℕ) (item : Entry) → new ≡ insert old key item → DieNoSooner a old
     → ((other : Entry) → DiesNoSooner a other → DiesNoSooner b other) → DiesNoSooner b item → DieNoSooner b new
 sooner_insert a b old new key item is held others one at found there =
-    elim (order at key) as (λ r. cond (is_eq r) (Some item) (get old at) ≡ Some found → DiesNoSooner b found) [
-      | Less ↦ λ e. others found (held at found e)
-      | Equal ↦ λ e. subst (DiesNoSooner b) (same_Some item found e) one
-      | Greater ↦ λ e. others found (held at found e)
-    ] (sym (ap (λ (m : Items). get m at) is ∙ get-insert nat_list_cmp_total old key item at) ∙ there)
+    cond_both (is_eq (order at key)) (Some item) (get old at) (λ o. o ≡ Some found → DiesNoSooner b found)
+    (λ _ e. subst (DiesNoSooner b) (same_Some item found e) one) (λ _ e. others found (held at found e)) (sym (ap (λ (m : Items). get m at) is ∙ get-insert nat_list_cmp_total old key item at) ∙ there)
+
+pub sooner_changed : (a b : Soonest) {old new : IndexState EntryState} {key : List ℕ} {item : Entry} → IsChanged old new key item → DieNoSooner a (items_of old)
+    → ((other : Entry) → DiesNoSooner a other → DiesNoSooner b other) → DiesNoSooner b item → DieNoSooner b (items_of new)
+sooner_changed a b {old} {new} {key} {item} is = sooner_insert a b (items_of old) (items_of new) key item is.items
 
 -- one goes
 pub sooner_remove : (a : Soonest) (old new : Items) (key : List ℕ) → new ≡ remove old key → DieNoSooner a old → DieNoSooner a new
 sooner_remove a old new key is held at found there =
-    elim (order at key) as (λ r. cond (is_eq r) None (get old at) ≡ Some found → DiesNoSooner a found) [
-      | Less ↦ λ e. held at found e
-      | Equal ↦ λ e. absurd (none-some found e)
-      | Greater ↦ λ e. held at found e
-    ] (sym (ap (λ (m : Items). get m at) is ∙ get-remove nat_list_cmp_total old key at) ∙ there)
+    cond_both (is_eq (order at key)) None (get old at) (λ o. o ≡ Some found → DiesNoSooner a found) (λ _ e. absurd (none-some found e)) (λ _ e. held at found e) (sym (ap (λ (m : Items). get m at) is ∙ get-remove nat_list_cmp_total old key at) ∙ there)
 
 -- ---- an index of no entries
 

@@ -1,6 +1,7 @@
 -- Which plans need the desk: those of a step that drops an item, writes one, finds no chunk, or finds the numbers spent.
 use Rattle.std.proofs.Common.{◌≡◌, ◌≢◌, ◌↔◌, ◌⊎◌, Result, Err, IfErr, ℕ, ◌+◌, ◌-◌, ◌≤◌, ◌^◌, Bool, true, false, true≢false, ◌&&◌, List, Option, Some, None, is_some, is_none, eqb}
 use Rattle.std.proofs.Common.{ltb, le-ltb, inl, inr, if◌then◌else◌, refl, sym, ap, subst, ◌∙◌, arith}
+use Rattle.std.proofs.lemmas.Bool.{cond_both}
 use Rattle.std.proofs.lemmas.Option.{none-some}
 use Rattle.std.specs.FinMap.{get}
 use Rattle.mc_time.specs.declared.expiry.Expiry.{Expiry}
@@ -31,10 +32,7 @@ use Rattle.mc_shelf.proofs.PlanLemmas.{Does, block_at, found_in, next_does}
 
 refused_apart : (why : Refusal) → refusal_reply why ≡ NoChunk → ⊥
 refused_apart refusal.NotStored e = cc
-refused_apart refusal.Exists e = cc
-refused_apart refusal.NotFound e = cc
-refused_apart refusal.Miss e = cc
-refused_apart refusal.NotNumeric e = cc
+refused_apart why e = cc
 
 hit_apart : (item : Option Entry) → hit_of item ≡ NoChunk → ⊥
 hit_apart None e = cc
@@ -44,8 +42,7 @@ hit_apart (Some old) e = cc
 abbrev Tells : Next → Type 0
 Tells (Answer reply) = reply ≢ NoChunk
 Tells (Expire expiry reply) = reply ≢ NoChunk
-Tells (Discard reply) = Unit {0}
-Tells (Write size draft) = Unit {0}
+Tells next = Unit {0}
 
 answered_tells : (dead : Bool) (reply : Reply) → reply ≢ NoChunk → Tells (answered dead reply)
 answered_tells true reply other = tt
@@ -58,8 +55,7 @@ next_tells dead greatest step item (Reads (Some expiry)) = hit_apart item
 next_tells dead greatest step item (Touches expiry) = λ e. cc
 next_tells dead greatest step item Deletes = tt
 next_tells dead greatest step item (Writes draft) =
-    elim (ltb greatest (charge_of step item draft)) as
-    (λ b. Tells (if b then answered dead TooLarge else Write (charge_of step item draft) draft)) [ true ↦ answered_tells dead TooLarge (λ e. cc) | false ↦ tt ]
+    cond_both (ltb greatest (charge_of step item draft)) (answered dead TooLarge) (Write (charge_of step item draft) draft) Tells (λ _. answered_tells dead TooLarge (λ e. cc)) (λ _. tt)
 
 -- ---- a write
 
@@ -110,10 +106,9 @@ module _ (shelf : ShelfContent) (desk : DeskState) (step : KeyStep) (now : ℕ) 
 
   -- where it is wanted, it is needed
   pub wanted_needs : (next : Next) → next ≡ next_of shelf step now → wants_desk next ≡ true → NeedsDesk its_key s (plain s step now)
-  wanted_needs (Answer reply) is e = absurd (true≢false (sym e))
-  wanted_needs (Expire expiry reply) is e = absurd (true≢false (sym e))
   wanted_needs (Discard reply) is e = discard_needs reply is
   wanted_needs (Write size draft) is e = write_needs size draft is
+  wanted_needs next is e = absurd (true≢false (sym e))
 
   -- an item that was found is still there
   still_there : (found st : Option Entry) → get s.items its_key ≡ found → is_some found && is_none st ≡ false → get s.items its_key ≢ None → get (base st its_key s.items) its_key ≡ None → ⊥
@@ -143,8 +138,7 @@ module _ (shelf : ShelfContent) (desk : DeskState) (step : KeyStep) (now : ℕ) 
   pub needs_wanted : (next : Next) → next ≡ next_of shelf step now → NeedsDesk its_key s (plain s step now) → wants_desk next ≡ true
   needs_wanted (Answer reply) is needs = absurd (answer_needs_none reply is needs)
   needs_wanted (Expire expiry reply) is needs = absurd (expire_needs_none expiry reply is needs)
-  needs_wanted (Discard reply) is needs = refl
-  needs_wanted (Write size draft) is needs = refl
+  needs_wanted next is needs = refl
 
 -- the desk is wanted exactly where each plain state needs it
 pub wanted_exactly : (shelf : ShelfContent) (desk : DeskState) (step : KeyStep) (now : ℕ) → IsOnKey step → CanStand (key_of step) shelf desk → (next : Next)

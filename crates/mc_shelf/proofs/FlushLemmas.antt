@@ -2,6 +2,8 @@
 use Rattle.std.proofs.Common.{◌≡◌, ◌≢◌, ℕ, ◌+◌, ◌<◌, ◌≤◌, Bool, true, false, cond, not, ◌||◌, eqb, eqb-true, eq-eqb, ne_eqb, ltb, lt-ltb, le-ltb, ltb-true, ltb-false, true≢false}
 use Rattle.std.proofs.Common.{suc, List, [], ◌∷◌, ◌++◌, length, length-set, take, drop, Option, Some, None, is_some, slice_get, slice_set, refl, sym, ap, subst, ◌∙◌, arith, ◌⊎◌, inl, inr}
 use Rattle.std.proofs.Common.{⊎_elim}
+use Rattle.std.proofs.Math.Bool.{or-false}
+use Rattle.std.proofs.lemmas.Bool.{cases_order, or_from, or_left, or_right}
 use Rattle.std.proofs.lemmas.Option.{slice_get_within}
 use Rattle.std.specs.FinMap as maps
 use Rattle.std.specs.FinMap.{get, get-empty, retain_keys}
@@ -137,23 +139,11 @@ is_after delay now state =
 
 -- the shelves below a place and the one at it are those below the next
 below_next : (n at : ℕ) → ltb n (at + 1) ≡ ltb n at || eqb n at
-below_next n at =
-    elim (ltb n at) as (λ b. ltb n at ≡ b → ltb n (at + 1) ≡ b || eqb n at) [
-      | true ↦ λ below. lt-ltb n (at + 1) (omega (arith, ltb-true n at below))
-      | false ↦ λ above. here (ltb-false n at above)
-    ] refl
-  where
-    here : at ≤ n → ltb n (at + 1) ≡ eqb n at
-    here above = elim (eqb n at) as (λ b. eqb n at ≡ b → ltb n (at + 1) ≡ b) [
-      | true ↦ λ same. lt-ltb n (at + 1) (omega (arith, eqb-true n at same))
-      | false ↦ λ other.
-          let apart : n ≢ at = λ same. true≢false (sym (eq-eqb n at same) ∙ other) in
-          le-ltb n (at + 1) (omega arith)
-    ] refl
-
-or_false : (b : Bool) → b || false ≡ b
-or_false true = refl
-or_false false = refl
+below_next n at = elim (cases_order n at) [
+  | inl same ↦ lt-ltb n (at + 1) (omega (arith, same)) ∙ sym (or_right (ltb n at) (eqb n at) (eq-eqb n at same))
+  | inr (inl below) ↦ lt-ltb n (at + 1) (omega (arith, below)) ∙ sym (or_left (ltb n at) (eqb n at) (lt-ltb n at below))
+  | inr (inr above) ↦ le-ltb n (at + 1) (omega (arith, above)) ∙ sym (or_from (ltb n at) (eqb n at) (le-ltb n at (omega (arith, above))) (ne_eqb n at (λ same. omega (arith, same, above))))
+]
 
 below_not_here : (n at : ℕ) → eqb n at ≡ true → ltb n at ≡ false
 below_not_here n at same = le-ltb n at (omega (arith, eqb-true n at same))
@@ -300,7 +290,7 @@ module _ (hash_of : List ℕ → ℕ) (count delay now : ℕ) (state : Plain) wh
             ⊎_elim
             (λ h. subst (λ (p : ℕ × ShelfState). IsShelfOf hash_of count (cond (ltb p.0 (at + 1)) after state) p.0 p.1.content) (λ i. (sym h.0 i, sym h.1 i))
             (subst (λ b. IsShelfOf hash_of count (cond b after state) at shelf'.content) (sym (lt-ltb at (at + 1) (omega arith))) fits_after))
-            (λ h. subst (λ b. IsShelfOf hash_of count (cond b after state) k s.content) (sym (below_next k at ∙ ap (λ b. ltb k at || b) (ne_eqb k at h.0) ∙ or_false (ltb k at))) (swept.each k s h.1))
+            (λ h. subst (λ b. IsShelfOf hash_of count (cond b after state) k s.content) (sym (below_next k at ∙ ap (λ b. ltb k at || b) (ne_eqb k at h.0) ∙ or-false (ltb k at))) (swept.each k s h.1))
             (put_cases list at shelf' k s there);
         next_unique = gives.next_unique ∙ swept.next_unique;
         limit = gives.limit ∙ swept.limit;

@@ -1,5 +1,6 @@
 -- A read of a key that has no dead item is the plain machine's.
 use Rattle.std.proofs.Common.{◌≡◌, ℕ, true, false, Option, Some, None, is_some, is_none, if◌then◌else◌, refl, sym, ap, subst, ◌∙◌, true≢false}
+use Rattle.std.proofs.lemmas.Bool.{cond_both}
 use Rattle.std.specs.FinMap.{get}
 use Rattle.mc_time.specs.declared.expiry.Expiry.{Expiry}
 use Rattle.mc_time.specs.Death.{is_dead}
@@ -14,7 +15,8 @@ use Rattle.mc_shelf.specs.declared.plan.Next.TheVariants.{Answer, Expire}
 use Rattle.mc_shelf.specs.States.{ShelfContent}
 use Rattle.mc_shelf.specs.Plans.{IsKnown, IsPut, IsSettled, is_gone, next_by, next_of, stood}
 use Rattle.mc_shelf.specs.Hits.{is_read, read_expiry}
-use Rattle.mc_shelf.proofs.TakesLemmas.{others_same, takes_answer, takes_expire}
+use Rattle.mc_shelf.proofs.ShelfLemmas.{others_same}
+use Rattle.mc_shelf.proofs.TakesLemmas.{takes_answer, takes_expire}
 
 -- ---- what comes next in a read
 
@@ -45,11 +47,8 @@ next_by_read greatest step (Some expiry) (Some item) = refl
 -- an item that is found and isn't dead stands
 stands_found : (cut : Option ℕ) (now : ℕ) (item : Entry) → is_gone cut now (Some item) ≡ false
     → alive cut now (Some item) ≡ Some item
-stands_found cut now item lives =
-    elim (is_dead item.expiry item.updated cut now) as (λ b. is_none (if b then None else Some item) ≡ false → (if b then None else Some item) ≡ Some item) [
-      | true ↦ λ e. absurd (true≢false e)
-      | false ↦ λ e. refl
-    ] lives
+stands_found cut now item =
+    cond_both (is_dead item.expiry item.updated cut now) None (Some item) (λ o. is_none o ≡ false → o ≡ Some item) (λ _ e. absurd (true≢false e)) (λ _ e. refl)
 
 module _ (step : KeyStep) (now own : ℕ) (old : ShelfContent) (place : Option Place)
     (read : is_read step ≡ true) (known : IsKnown old (key_of step) own place) (lives : is_gone old.cut now (get old.items (key_of step)) ≡ false) where

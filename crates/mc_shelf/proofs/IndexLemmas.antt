@@ -1,12 +1,13 @@
 -- What a search in an index and a change of its entries say of the items and the hashes under its keys.
 use Rattle.std.proofs.Common.{◌≡◌, ℕ, zero, suc, ◌+◌, ◌^◌, ◌≤◌, true, false, cond, List, [], ◌∷◌, ◌++◌, replicate, get_or, Option, Some, None, sym, refl, ap, subst, ◌∙◌, arith, inl, inr}
-use Rattle.std.proofs.lemmas.Bool.{cases_lt}
+use Rattle.std.proofs.lemmas.Bool.{cases_lt, cond_both}
 use Rattle.std.proofs.lemmas.Option.{same_Some, none-some}
 use Rattle.std.specs.Cmp.Lexicographic.{nat_list_cmp_total}
 use Rattle.std.specs.FinMap.{empty, find, from_entries, get, get-from_entries, insert, remove}
 use Rattle.mc_hop.specs.Contents.{rows}
-use Rattle.mc_grow.specs.Indexes.{IndexState, IsFound, IsNew, IsPlaceOf, KeepsLower, cells, entry_at, left}
+use Rattle.mc_grow.specs.Indexes.{IndexState, IsFound, IsNew, IsPlaceOf, IsUpdated, KeepsLower, cells, entry_at, left}
 use Rattle.mc_grow.specs.declared.index.Place.{Place}
+use Rattle.mc_command.specs.Plain.{Entry}
 use Rattle.mc_shelf.specs.States.{EntryState}
 use Rattle.mc_shelf.specs.KeyMaps.{IsHashOf, IsKeyed, StandsIn, hash_in, hashes_in, items_in, key_in}
 use Rattle.mc_shelf.specs.Places.{IsChanged, IsKeyAt, IsKeyFound, KeyGoes, KeyComes, entries_of, hashes_of, items_of}
@@ -59,10 +60,8 @@ pub in_bucket : (buckets : List (Option EntryState)) (label : List ℕ) (e : Ent
 in_bucket [] label e found = absurd (none-some e found)
 in_bucket (None ∷ buckets) label e found = let later = in_bucket buckets label e found in (suc later.0, later.1)
 in_bucket (Some x ∷ buckets) label e found =
-    elim (same label (x.hash ∷ x.key)) as (λ b. cond b (Some x) (find order label (rows hash_in key_in buckets)) ≡ Some e → (number : ℕ) × (get_or (Some x ∷ buckets) number None ≡ Some e)) [
-      | true ↦ λ here. (zero, here)
-      | false ↦ λ there. let later = in_bucket buckets label e there in (suc later.0, later.1)
-    ] found
+    cond_both (same label (x.hash ∷ x.key)) (Some x) (find order label (rows hash_in key_in buckets)) (λ o. o ≡ Some e → (number : ℕ) × (get_or (Some x ∷ buckets) number None ≡ Some e))
+    (λ _ here. (zero, here)) (λ _ there. let later = in_bucket buckets label e there in (suc later.0, later.1)) found
 
 pub numbered : (index : IndexState EntryState) (label : List ℕ) (e : EntryState) → get (entries_of index) label ≡ Some e → (number : ℕ) × (get_or (cells index) number None ≡ Some e)
 numbered index label e is = in_bucket (cells index) label e (sym (get-from_entries nat_list_cmp_total (rows hash_in key_in (cells index)) label) ∙ is)
@@ -187,3 +186,16 @@ module _ (old new : IndexState EntryState) (keyed : IsKeyed (entries_of old)) wh
 
     pub gone : KeyGoes old new e.key
     gone = record { items = ap items_in is ∙ items-remove _ keyed e held; hashes = ap hashes_in is ∙ hashes-remove _ keyed e held }
+
+-- the entry of a key becomes one of its hash and key
+pub updated : {old shown new : IndexState EntryState} {key : List ℕ} {place : Place} {R : Type 0} {post : EntryState → EntryState × R → Type 0} {answer : R} → old ≡ shown → IsKeyed (entries_of old)
+    → (at : IsKeyAt shown key place) (is : IsUpdated hash_in key_in post at.entry place old new answer) {one : EntryState} → is.given ≡ one → one.hash ≡ at.entry.hash → one.key ≡ at.entry.key
+    → IsKeyed (entries_of new) × IsChanged shown new key one.item
+updated {old} {shown} {new} {key} view keyed at is {one} becomes same_hash same_key =
+    let held = subst (λ (s : IndexState EntryState). StandsIn (entries_of s) at.entry) (sym view) at.held in
+    let hashes = ap (λ (e : EntryState). e.hash) becomes ∙ same_hash in
+    let keys = ap (λ (e : EntryState). e.key) becomes ∙ same_key in
+    let change = changed old new keyed at.entry is.given held hashes keys is.content key at.same_key is.same_k is.same_growing is.same_spare is.same_left in (
+      changed_keyed old new keyed at.entry is.given held hashes keys is.content,
+      subst (λ (i : Entry). IsChanged shown new key i) (ap (λ (e : EntryState). e.item) becomes) (subst (λ (s : IndexState EntryState). IsChanged s new key is.given.item) view change),
+    )

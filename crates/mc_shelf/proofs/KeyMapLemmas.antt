@@ -1,6 +1,7 @@
 -- Entries under their hashes and keys in one finite map: what it says of the items and the hashes under the keys alone, and what a
 -- change of one entry makes of these.
 use Rattle.std.proofs.Common.{◌≡◌, ℕ, true, false, cond, List, [], ◌∷◌, drop, get_or, Option, Some, None, sym, refl, ap, ◌∙◌}
+use Rattle.std.proofs.lemmas.Bool.{cond_both, false_from_ne_true, true≢false}
 use Rattle.std.proofs.lemmas.Option.{same_Some, none-some}
 use Rattle.std.specs.Cmp.Lexicographic.{nat_list_cmp_total}
 use Rattle.std.specs.FinMap.{empty, find, get, get-empty, get-from_entries, get-insert, get-remove, insert, remove}
@@ -63,19 +64,16 @@ module _ (m : EntryMap) (keyed : IsKeyed m) where
 
 -- labels of different keys differ
 apart : (hash : ℕ) (key : List ℕ) (e : EntryState) → same key e.key ≡ false → same (hash ∷ key) (e.hash ∷ e.key) ≡ false
-apart hash key e other = elim (same (hash ∷ key) (e.hash ∷ e.key)) as (λ b. same (hash ∷ key) (e.hash ∷ e.key) ≡ b → b ≡ false) [
-  | true ↦ λ t. sym (ap (λ q. same q e.key) (ap (drop 1) (same_list (hash ∷ key) (e.hash ∷ e.key) t)) ∙ same_itself e.key) ∙ other
-  | false ↦ λ t. refl
-] refl
+apart hash key e other = false_from_ne_true (same (hash ∷ key) (e.hash ∷ e.key))
+    (λ t. true≢false (sym (ap (λ q. same q e.key) (ap (drop 1) (same_list (hash ∷ key) (e.hash ∷ e.key) t)) ∙ same_itself e.key) ∙ other))
 
 -- where the entries of one key have changed, and no others, so have its parts
 part_changed : {X : Type 0} (part : EntryState → X) (m n : EntryMap) → IsKeyed m → IsKeyed n → (e : EntryState) (now : Option EntryState) (o : Option X)
     → ((q : List ℕ) → get n q ≡ cond (same q (e.hash ∷ e.key)) now (get m q)) → get (parts_in part n) e.key ≡ o
     → (q : List ℕ) → get (parts_in part n) q ≡ cond (same q e.key) o (get (parts_in part m) q)
-part_changed part m n km kn e now o at there q = elim (same q e.key) as (λ b. same q e.key ≡ b → get (parts_in part n) q ≡ cond b o (get (parts_in part m) q)) [
-  | true ↦ λ t. ap (get (parts_in part n)) (same_list q e.key t) ∙ there
-  | false ↦ λ f. part_same part n m kn km q (λ hash. at (hash ∷ q) ∙ ap (λ b. cond b now (get m (hash ∷ q))) (apart hash q e f))
-] refl
+part_changed part m n km kn e now o at there q = cond_both (same q e.key) o (get (parts_in part m) q) (λ r. get (parts_in part n) q ≡ r)
+    (λ t. ap (get (parts_in part n)) (same_list q e.key t) ∙ there)
+    (λ f. part_same part n m kn km q (λ hash. at (hash ∷ q) ∙ ap (λ b. cond b now (get m (hash ∷ q))) (apart hash q e f)))
 
 -- an entry comes whose key has no other hash
 module _ (m : EntryMap) (keyed : IsKeyed m) (e : EntryState) (right : IsHashOf m e.key e.hash) where
@@ -90,10 +88,8 @@ module _ (m : EntryMap) (keyed : IsKeyed m) (e : EntryState) (right : IsHashOf m
 
   -- what stands then is that entry, or stood before
   new_or_old : {P : Type 0} (at : List ℕ) (a : EntryState) → get more at ≡ Some a → (at ≡ e.hash ∷ e.key → a ≡ e → P) → (get m at ≡ Some a → P) → P
-  new_or_old {P} at a is new old = elim (same at (e.hash ∷ e.key)) as (λ b. same at (e.hash ∷ e.key) ≡ b → cond b (Some e) (get m at) ≡ Some a → P) [
-    | true ↦ λ t there. new (same_list at (e.hash ∷ e.key) t) (sym (same_Some e a there))
-    | false ↦ λ t there. old there
-  ] refl (sym (more_at at) ∙ is)
+  new_or_old {P} at a is new old = cond_both (same at (e.hash ∷ e.key)) (Some e) (get m at) (λ o. o ≡ Some a → P)
+      (λ t there. new (same_list at (e.hash ∷ e.key) t) (sym (same_Some e a there))) (λ t there. old there) (sym (more_at at) ∙ is)
 
   -- what stands then with its key has its hash
   its_hash : (a : EntryState) → StandsIn more a → a.key ≡ e.key → a.hash ≡ e.hash
@@ -140,10 +136,7 @@ module _ (m : EntryMap) (keyed : IsKeyed m) (e : EntryState) (there : StandsIn m
 
   -- what stands then stood before
   stood : (at : List ℕ) (a : EntryState) → get fewer at ≡ Some a → get m at ≡ Some a
-  stood at a is = elim (same at (e.hash ∷ e.key)) as (λ b. cond b None (get m at) ≡ Some a → get m at ≡ Some a) [
-    | true ↦ λ none. absurd (none-some a none)
-    | false ↦ λ some. some
-  ] (sym (fewer_at at) ∙ is)
+  stood at a is = cond_both (same at (e.hash ∷ e.key)) None (get m at) (λ o. o ≡ Some a → get m at ≡ Some a) (λ _ none. absurd (none-some a none)) (λ _ some. some) (sym (fewer_at at) ∙ is)
 
   -- with it its key goes, under any hash
   key_gone : (hash : ℕ) → get fewer (hash ∷ e.key) ≡ None
@@ -175,10 +168,7 @@ hashes-replace m keyed old new there =
     let right : IsHashOf m new.key new.hash = found_hash m keyed new.hash new.key old there in
     let hash : get (hashes_in m) new.key ≡ Some new.hash = hash_there m keyed new.hash new.key old there ∙ ap (λ q. Some (get_or q 0 0)) (sym (keyed.labelled (new.hash ∷ new.key) old there)) in
     hashes-insert m keyed new right ∙ same_maps _ _ (λ q. get-insert nat_list_cmp_total (hashes_in m) new.key new.hash q
-    ∙ elim (same q new.key) as (λ b. same q new.key ≡ b → cond b (Some new.hash) (get (hashes_in m) q) ≡ get (hashes_in m) q) [
-      | true ↦ λ t. sym (ap (get (hashes_in m)) (same_list q new.key t) ∙ hash)
-      | false ↦ λ f. refl
-    ] refl)
+    ∙ cond_both (same q new.key) (Some new.hash) (get (hashes_in m) q) (λ o. o ≡ get (hashes_in m) q) (λ t. sym (ap (get (hashes_in m)) (same_list q new.key t) ∙ hash)) (λ f. refl))
 
 -- ---- no entry
 
@@ -203,10 +193,8 @@ in_rows : {X : Type 0} (hash_of : X → ℕ) (key_of : X → List ℕ) (cells : 
 in_rows hash_of key_of [] at x found = absurd (none-some x found)
 in_rows hash_of key_of (None ∷ cells) at x found = in_rows hash_of key_of cells at x found
 in_rows hash_of key_of (Some y ∷ cells) at x found =
-    elim (same at (hash_of y ∷ key_of y)) as (λ b. same at (hash_of y ∷ key_of y) ≡ b → cond b (Some y) (find order at (rows hash_of key_of cells)) ≡ Some x → at ≡ hash_of x ∷ key_of x) [
-      | true ↦ λ t is. same_list at (hash_of y ∷ key_of y) t ∙ ap (λ z. hash_of z ∷ key_of z) (same_Some y x is)
-      | false ↦ λ t is. in_rows hash_of key_of cells at x is
-    ] refl found
+    cond_both (same at (hash_of y ∷ key_of y)) (Some y) (find order at (rows hash_of key_of cells)) (λ o. o ≡ Some x → at ≡ hash_of x ∷ key_of x)
+    (λ t is. same_list at (hash_of y ∷ key_of y) t ∙ ap (λ z. hash_of z ∷ key_of z) (same_Some y x is)) (λ t is. in_rows hash_of key_of cells at x is) found
 
 -- each entry stands under its own hash and key there
 pub labelled-content : {X : Type 0} (hash_of : X → ℕ) (key_of : X → List ℕ) (cells : List (Option X)) (at : List ℕ) (x : X) → get (content hash_of key_of cells) at ≡ Some x → at ≡ hash_of x ∷ key_of x

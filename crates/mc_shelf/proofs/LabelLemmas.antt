@@ -1,11 +1,13 @@
 -- Entries under their labels, a hash and a key in one list, in one finite map: what stands of one part of them under the keys alone.
 use Rattle.std.proofs.Common.{◌≡◌, ℕ, Bool, true, false, cond, ◌&&◌, T, List, [], ◌∷◌, map, drop, Option, Some, None, Ordering, Less, Equal, Greater, is_eq, is_lt, sym, refl, ap, ◌∙◌}
+use Rattle.std.proofs.lemmas.Bool.{cond_both}
 use Rattle.std.proofs.lemmas.Option.{same_Some, none-some}
 use Rattle.std.specs.Ordering.{eq_by_cmp}
 use Rattle.std.specs.Cmp.{tied_itself}
 use Rattle.std.specs.Cmp.Lexicographic.{nat_list_cmp_total}
 use Rattle.std.specs.FinMap.{FinMap, entries, entries_sorted, from_entries, find, get, get-entries, get-from_entries, is_sorted}
 use Rattle.std.specs.FinMap.Entries.{below_all}
+use Rattle.mc_command.proofs.ItemLemmas.{is_equal}
 use Rattle.mc_shelf.specs.States.{EntryState}
 use Rattle.mc_shelf.specs.KeyMaps.{EntryMap, entries_in, StandsIn, IsKeyed}
 use Rattle.mc_shelf.proofs.KeyLemmas.{order, same_key}
@@ -18,13 +20,8 @@ Labelled = List ℕ × EntryState
 
 -- ---- labels
 
-equal : (o : Ordering) → is_eq o ≡ true → o ≡ Equal
-equal Less h = cc
-equal Equal h = refl
-equal Greater h = cc
-
 pub same_list : (p q : List ℕ) → same p q ≡ true → p ≡ q
-same_list p q e = same_key p q (equal (order p q) e)
+same_list p q e = same_key p q (is_equal (order p q) e)
 
 pub same_itself : (q : List ℕ) → same q q ≡ true
 same_itself q = ap is_eq (tied_itself nat_list_cmp_total q)
@@ -78,10 +75,8 @@ find_below q (p ∷ es) h = ap (λ o. cond (is_eq o) (Some p.1) (find order q es
 -- what is found behind a lesser label is found with it too
 find_later : (p : Labelled) (es : List Labelled) (at : List ℕ) (e : EntryState) → T (below_all order p.0 es) → find order at es ≡ Some e → find order at (p ∷ es) ≡ Some e
 find_later p es at e below found =
-    elim (same at p.0) as (λ b. same at p.0 ≡ b → cond b (Some p.1) (find order at es) ≡ Some e) [
-      | true ↦ λ t. absurd (none-some e (sym (find_below p.0 es below) ∙ ap (λ q. find order q es) (sym (same_list at p.0 t)) ∙ found))
-      | false ↦ λ t. found
-    ] refl
+    cond_both (same at p.0) (Some p.1) (find order at es) (λ o. o ≡ Some e)
+    (λ t. absurd (none-some e (sym (find_below p.0 es below) ∙ ap (λ q. find order q es) (sym (same_list at p.0 t)) ∙ found))) (λ t. found)
 
 -- an entry of a list, of this key and with this part
 record InList {X : Type 0} (part : EntryState → X) (es : List Labelled) (key : List ℕ) (x : X) : Type 0 where
@@ -113,22 +108,18 @@ module _ {X : Type 0} (part : EntryState → X) where
   in_list : (es : List Labelled) → T (is_sorted order es) → (key : List ℕ) (x : X) → find order key (pairs es) ≡ Some x → InList part es key x
   in_list [] h key x found = absurd (none-some x found)
   in_list (p ∷ es) h key x found =
-      elim (same key p.1.key) as (λ b. same key p.1.key ≡ b → cond b (Some (part p.1)) (find order key (pairs es)) ≡ Some x → InList part (p ∷ es) key x) [
-        | true ↦ λ t is. record { at = p.0; entry = p.1; there = find_first p es; same_key = sym (same_list key p.1.key t); same_part = same_Some (part p.1) x is }
-        | false ↦ λ t is.
-            let s = in_list es (second _ _ h) key x is in
-            record { at = s.at; entry = s.entry; there = find_later p es s.at s.entry (first _ _ h) s.there; same_key = s.same_key; same_part = s.same_part }
-      ] refl found
+      cond_both (same key p.1.key) (Some (part p.1)) (find order key (pairs es)) (λ o. o ≡ Some x → InList part (p ∷ es) key x)
+      (λ t is. record { at = p.0; entry = p.1; there = find_first p es; same_key = sym (same_list key p.1.key t); same_part = same_Some (part p.1) x is })
+      (λ t is. let s = in_list es (second _ _ h) key x is in
+      record { at = s.at; entry = s.entry; there = find_later p es s.at s.entry (first _ _ h) s.there; same_key = s.same_key; same_part = s.same_part }) found
 
   not_missed : (es : List Labelled) (at : List ℕ) (e : EntryState) → find order at es ≡ Some e → find order e.key (pairs es) ≡ None → ⊥
   not_missed [] at e found none = none-some e found
   not_missed (p ∷ es) at e found none =
-      elim (same at p.0) as (λ b. cond b (Some p.1) (find order at es) ≡ Some e → ⊥) [
-        | true ↦ λ is.
-            let tied : same e.key p.1.key ≡ true = ap (λ (d : EntryState). same e.key d.key) (same_Some p.1 e is) ∙ same_itself e.key in
-            none-some (part p.1) (sym none ∙ ap (λ b. cond b (Some (part p.1)) (find order e.key (pairs es))) tied)
-        | false ↦ λ is. not_missed es at e is (rest_none (same e.key p.1.key) (part p.1) (find order e.key (pairs es)) none)
-      ] found
+      cond_both (same at p.0) (Some p.1) (find order at es) (λ o. o ≡ Some e → ⊥)
+      (λ _ is. let tied : same e.key p.1.key ≡ true = ap (λ (d : EntryState). same e.key d.key) (same_Some p.1 e is) ∙ same_itself e.key in
+      none-some (part p.1) (sym none ∙ ap (λ b. cond b (Some (part p.1)) (find order e.key (pairs es))) tied))
+      (λ _ is. not_missed es at e is (rest_none (same e.key p.1.key) (part p.1) (find order e.key (pairs es)) none)) found
 
   module _ (m : EntryMap) (keyed : IsKeyed m) where
     at_key : (key : List ℕ) → get (parts_in m) key ≡ find order key (pairs (entries m))

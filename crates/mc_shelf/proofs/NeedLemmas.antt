@@ -1,7 +1,7 @@
 -- What a charge needs.
 use Rattle.std.proofs.Common.{◌≡◌, ℕ, ◌+◌, ◌-◌, ◌*◌, ◌/◌, ◌<◌, ◌≤◌, true, false, true≢false, ◌&&◌, not, eqb, eqb-true, eq-eqb, ltb, List, Option, Some, None, length, get_or, inl}
 use Rattle.std.proofs.Common.{inr, leb, if◌then◌else◌, sym, ap, subst, ◌∙◌, arith, refl}
-use Rattle.std.proofs.lemmas.Bool.{cases_lt, le-leb, leb-true, leb-false}
+use Rattle.std.proofs.lemmas.Bool.{cases_lt, cond_both, le-leb, leb-true, leb-false}
 use Rattle.std.proofs.lemmas.List.Sums.{fails_before_first, passes_at_first}
 use Rattle.std.specs.List.{position_or_len}
 use Rattle.mc_slab.specs.Classes.{IsClass, chunk_sizes, class_holding, size_of}
@@ -15,10 +15,8 @@ use Rattle.mc_slab.proofs.ClassLemmas.{length-chunk_sizes, size_of-last}
 pub by_charge : (P : NeedState → Type 0) (charge : ℕ) → (charge ≤ 1048576 → P (record { class = class_holding charge; count = 1 }))
     → (1048576 < charge → P (record { class = 40; count = (charge + 1048575) / 1048576 })) → P (need_for charge)
 by_charge P charge small large =
-    elim (leb charge 1048576) as (λ b. leb charge 1048576 ≡ b → P (if b then record { class = class_holding charge; count = 1 } else record { class = 40; count = (charge + 1048575) / 1048576 })) [
-      | true ↦ λ e. small (leb-true charge 1048576 e)
-      | false ↦ λ e. large (leb-false charge 1048576 e)
-    ] refl
+    cond_both (leb charge 1048576) (record { class = class_holding charge; count = 1 }) (record { class = 40; count = (charge + 1048575) / 1048576 }) P
+    (λ e. small (leb-true charge 1048576 e)) (λ e. large (leb-false charge 1048576 e))
 
 last_but_one : get_or chunk_sizes 38 0 ≡ 493552
 unfolding chunk_sizes
@@ -28,14 +26,18 @@ last_but_one = refl
 pub needs_same : (a b : NeedState) → a ≡ b → same_need a b ≡ true
 needs_same a b e = subst (λ (n : NeedState). same_need a n ≡ true) e (λ i. eq-eqb a.class a.class refl i && eq-eqb a.count a.count refl i)
 
--- a charge of at most a page has a class, and fits it
-class_least : (charge : ℕ) → charge ≤ 1048576 → IsClass (class_holding charge)
-class_least charge most =
+-- a charge of at most a class's size has this class, or one before it
+holding_most : (charge last size : ℕ) → get_or chunk_sizes last 0 ≡ size → charge ≤ size → class_holding charge ≤ last + 1
+holding_most charge last size is most =
     let place : ℕ = position_or_len (λ size. leb charge size) chunk_sizes in
-    elim (cases_lt 39 place) as (λ _. IsClass (class_holding charge)) [
-      | inl behind ↦ absurd (true≢false (sym (le-leb charge 1048576 most) ∙ ap (leb charge) (sym size_of-last) ∙ fails_before_first (λ size. leb charge size) chunk_sizes 39 0 behind))
-      | inr within ↦ (omega arith, omega arith)
+    elim (cases_lt last place) as (λ _. class_holding charge ≤ last + 1) [
+      | inl behind ↦ absurd (true≢false (sym (le-leb charge size most) ∙ ap (leb charge) (sym is) ∙ fails_before_first (λ size. leb charge size) chunk_sizes last 0 behind))
+      | inr within ↦ omega arith
     ]
+
+-- one of at most a page has a class, and fits it
+class_least : (charge : ℕ) → charge ≤ 1048576 → IsClass (class_holding charge)
+class_least charge most = let low = holding_most charge 39 1048576 size_of-last most in (omega arith, omega arith)
 
 class_fits : (charge : ℕ) → IsClass (class_holding charge) → charge ≤ size_of (class_holding charge)
 class_fits charge is =
@@ -64,12 +66,7 @@ chunks_size need chunks are = are.are.size ∙ ap size_in are.need_is
 -- ---- small charges
 
 small_class : (charge : ℕ) → charge ≤ 493552 → class_holding charge ≤ 39
-small_class charge small =
-    let place : ℕ = position_or_len (λ size. leb charge size) chunk_sizes in
-    elim (cases_lt 38 place) as (λ _. class_holding charge ≤ 39) [
-      | inl behind ↦ absurd (true≢false (sym (le-leb charge 493552 small) ∙ ap (leb charge) (sym last_but_one) ∙ fails_before_first (λ size. leb charge size) chunk_sizes 38 0 behind))
-      | inr within ↦ omega arith
-    ]
+small_class charge = holding_most charge 38 493552 last_but_one
 
 -- what needs chunks of a small charge's class needs the same
 small_same : (charge other : ℕ) → charge ≤ 493552 → (need_for other).class ≡ (need_for charge).class → need_for other ≡ need_for charge
@@ -90,14 +87,9 @@ small_stays cut now key (Some old) charge small =
   where
     none : has_need key (Some old) (need_for charge) ≡ false → dead_chunks cut now key (Some old) (need_for charge).class ≡ 0
     none other =
-        let apart : of_class key (Some old) (need_for charge).class ≡ 0 =
-        elim (eqb (item_need key old).class (need_for charge).class) as (λ b. eqb (item_need key old).class (need_for charge).class ≡ b → (if b then (item_need key old).count else 0) ≡ 0) [
-          | true ↦
-              λ same. absurd
-              (true≢false
-              (sym
-              (needs_same (item_need key old) (need_for charge)
-              (small_same charge (48 + length key + length old.block) small (eqb-true (item_need key old).class (need_for charge).class same))) ∙ other))
-          | false ↦ λ different. refl
-        ] refl in
-        elim (is_gone cut now (Some old)) as (λ b. (if b then of_class key (Some old) (need_for charge).class else 0) ≡ 0) [ true ↦ apart | false ↦ refl ]
+        cond_both (is_gone cut now (Some old)) (of_class key (Some old) (need_for charge).class) 0 (λ n. n ≡ 0)
+        (λ _. cond_both (eqb (item_need key old).class (need_for charge).class) (item_need key old).count 0 (λ n. n ≡ 0)
+        (λ same. absurd (true≢false (sym (needs_same (item_need key old) (need_for charge)
+        (small_same charge (48 + length key + length old.block) small (eqb-true (item_need key old).class (need_for charge).class same))) ∙ other)))
+        (λ _. refl))
+        (λ _. refl)

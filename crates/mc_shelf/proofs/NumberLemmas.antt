@@ -2,7 +2,7 @@
 use Rattle.std.proofs.Common.{◌≡◌, ℕ, zero, suc, ◌+◌, ◌-◌, ◌%◌, ◌^◌, ◌<◌, ◌≤◌, Bool, true, false, cond, eqb, List, [], ◌∷◌}
 use Rattle.std.proofs.Common.{length, drop, get_or, set, Option, Some, None, is_some, is_eq, refl, sym, ap, subst, ◌∙◌, arith, inl, inr}
 use Rattle.std.proofs.Math.Seq.{drop-nil}
-use Rattle.std.proofs.lemmas.Bool.{cases_eq, eq-eqb, ne_eqb}
+use Rattle.std.proofs.lemmas.Bool.{cases_eq, cond_both, eq-eqb, ne_eqb}
 use Rattle.std.proofs.lemmas.Option.{none-some}
 use Rattle.std.proofs.lemmas.List.{length-set, get_or-set_same, get_or-set_other}
 use Rattle.std.proofs.lemmas.Nat.{mod_below}
@@ -79,7 +79,7 @@ module _ (hash_of : List ℕ → ℕ) (n : ℕ) where
     kept = retain_keys items has
 
     kept_none : get kept key ≡ None
-    kept_none = get_kept items has key ∙ ap (λ (o : Option Entry). cond (has key) o None) none ∙ elim (has key) as (λ b. cond {A = Option Entry} b None None ≡ None) [ true ↦ refl | false ↦ refl ]
+    kept_none = get_kept items has key ∙ cond_both (has key) (get items key) None (λ o. o ≡ None) (λ _. none) (λ _. refl)
 
     at_key : (q : List ℕ) → get (retain_keys (insert items key item) has) q ≡ cond (has q) (cond (is_eq (order q key)) (Some item) (get items q)) None
     at_key q = get_kept (insert items key item) has q ∙ ap (λ (o : Option Entry). cond (has q) o None) (get-insert nat_list_cmp_total items key item q)
@@ -97,23 +97,19 @@ module _ (hash_of : List ℕ → ℕ) (n : ℕ) where
     key_of_another : has key ≡ false → retain_keys (insert items key item) has ≡ kept
     key_of_another fails = same_maps _ _ (λ q.
         at_key q
-        ∙ elim (is_eq (order q key)) as (λ t. is_eq (order q key) ≡ t → cond (has q) (cond t (Some item) (get items q)) None ≡ cond (has q) (get items q) None) [
-          | true ↦ λ same.
-              let off : has q ≡ false = ap has (same_list q key same) ∙ fails in
-              ap (λ b. cond b (Some item) None) off ∙ sym (ap (λ b. cond b (get items q) None) off)
-          | false ↦ λ other. refl
-        ] refl
+        ∙ cond_both (is_eq (order q key)) (Some item) (get items q) (λ o. cond (has q) o None ≡ cond (has q) (get items q) None)
+        (λ same. let off : has q ≡ false = ap has (same_list q key same) ∙ fails in
+        ap (λ b. cond b (Some item) None) off ∙ sym (ap (λ b. cond b (get items q) None) off)) (λ other. refl)
         ∙ sym (get_kept items has q))
 
     -- a key that comes counts for its number
     pub key_comes : keys_with hash_of n (insert items key item) ≡ cond (has key) 1 0 + keys_with hash_of n items
-    key_comes = elim (has key) as (λ b. has key ≡ b → keys_with hash_of n (insert items key item) ≡ cond b 1 0 + keys_with hash_of n items) [
-      | true ↦ λ passes.
-          let more : keys_with hash_of n (insert items key item) ≡ len kept + 1 =
-          ap (λ (m : Items). len m) (key_of_number passes) ∙ len-insert nat_list_cmp_total kept key item ∙ ap (λ (o : Option Entry). cond (is_some o) (len kept) (len kept + 1)) kept_none in
-          omega (arith, more)
-      | false ↦ λ fails. let same : keys_with hash_of n (insert items key item) ≡ len kept = ap (λ (m : Items). len m) (key_of_another fails) in omega (arith, same)
-    ] refl
+    key_comes =
+        cond_both (has key) 1 0 (λ one. keys_with hash_of n (insert items key item) ≡ one + keys_with hash_of n items)
+        (λ passes. let more : keys_with hash_of n (insert items key item) ≡ len kept + 1 =
+        ap (λ (m : Items). len m) (key_of_number passes) ∙ len-insert nat_list_cmp_total kept key item ∙ ap (λ (o : Option Entry). cond (is_some o) (len kept) (len kept + 1)) kept_none in
+        omega (arith, more))
+        (λ fails. let same : keys_with hash_of n (insert items key item) ≡ len kept = ap (λ (m : Items). len m) (key_of_another fails) in omega (arith, same))
 
   pub keys_none : (items : Items) → items ≡ empty → keys_with hash_of n items ≡ 0
   keys_none items is =
@@ -153,10 +149,8 @@ module _ (hash_of : List ℕ → ℕ) (n : ℕ) where
   len_most (None ∷ xs) = len_most xs
   len_most (Some e ∷ xs) =
       let rest = len_most xs in
-      elim (is_some (get (map_of xs) (e.hash ∷ e.key))) as (λ b. len (map_of (Some e ∷ xs)) ≡ cond b (len (map_of xs)) (len (map_of xs) + 1) → len (map_of (Some e ∷ xs)) ≤ filled xs + 1) [
-        | true ↦ λ is. omega (arith, rest, is)
-        | false ↦ λ is. omega (arith, rest, is)
-      ] (insert_len e xs)
+      cond_both (is_some (get (map_of xs) (e.hash ∷ e.key))) (len (map_of xs)) (len (map_of xs) + 1) (λ n. len (map_of (Some e ∷ xs)) ≡ n → len (map_of (Some e ∷ xs)) ≤ filled xs + 1)
+      (λ _ is. omega (arith, rest, is)) (λ _ is. omega (arith, rest, is)) (insert_len e xs)
 
   -- where the map has as many as there are entries, each of them is new to those behind it
   fresh : (e : EntryState) (xs : List (Option EntryState)) → len (map_of (Some e ∷ xs)) ≡ filled xs + 1 → (get (map_of xs) (e.hash ∷ e.key) ≡ None) × (len (map_of xs) ≡ filled xs)
@@ -212,13 +206,10 @@ raised_at counts e n many =
     ]
 
 module _ (index : IndexState EntryState) (at number : ℕ) (place : Place) (first : IsFirstFrom index at number place) (e : EntryState) (there : entry_at index place ≡ Some e) where
-  cell_is : get_or (cells index) number None ≡ Some e
-  cell_is = ap (λ n. get_or (cells index) n None) (sym first.same) ∙ there
-
   ahead : (n : ℕ) → cells_with n (drop at (cells index)) ≡ one_of n e + cells_with n (drop (number + 1) (cells index))
   ahead n =
       sym (with_skip n (cells index) at number first.from first.skipped)
-      ∙ with_here n (cells index) number e cell_is
+      ∙ with_here n (cells index) number e (ap (λ n. get_or (cells index) n None) (sym first.same) ∙ there)
       ∙ ap (λ k. one_of n e + cells_with n (drop k (cells index))) {x = suc number} (omega arith)
 
   pub counts_next : (old counts new : List ℕ) → Counting index at old counts → new ≡ raised counts (e.hash % 4096) → Counting index (number + 1) old new

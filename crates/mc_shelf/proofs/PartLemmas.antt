@@ -1,14 +1,13 @@
 -- Parts of a state: what they are together, and what a change of one of them makes of the state.
 use Rattle.std.proofs.Common.{◌≡◌, ◌≢◌, ℕ, zero, suc, ◌+◌, ◌-◌, ◌<◌, Bool, true, false, cond, not, eqb, eqb-true, eq-eqb, true≢false, List, [], ◌∷◌, ◌++◌, length, length-set, map}
 use Rattle.std.proofs.Common.{Option, Some, None, slice_get, slice_set, refl, sym, ap, subst, ◌∙◌, arith, ◌⊎◌, inl, inr, ⊎_elim}
+use Rattle.std.proofs.lemmas.Bool.{cases_Bool, cond_both, eqb-false}
 use Rattle.std.proofs.lemmas.Option.{same_Some}
 use Rattle.std.proofs.lemmas.List.FromFn.{get_or-map-range_with_len}
 use Rattle.std.specs.List.{range_with_len}
 use Rattle.std.specs.Option.{option_or}
-use Rattle.std.specs.Cmp.{tied_itself}
 use Rattle.std.specs.Cmp.Lexicographic.{nat_list_cmp_total}
 use Rattle.std.specs.Ordering.{eq_by_cmp}
-use Rattle.std.specs.declared.cmp.Ordering.TheVariants.{Less, Equal, Greater}
 use Rattle.std.specs.FinMap.{entries, get, find, get-entries, get-from_entries, retain_keys}
 use Rattle.mc_command.specs.declared.step.KeyStep.{KeyStep}
 use Rattle.mc_command.specs.declared.reply.Reply.{Reply}
@@ -23,14 +22,11 @@ use Rattle.mc_shelf.specs.Plans.{IsTaken, IsSettled}
 use Rattle.mc_shelf.specs.Parts.{shelf_of, IsShelfOf, IsDeskOf, ArePartsOf, GoesTo, GoesByStep, GoesWithoutDesk}
 use Rattle.mc_shelf.specs.Unions.{all_entries, all_items, cut_of, plain_of}
 use Rattle.mc_shelf.specs.declared.settings.Settings.{Settings}
-use Rattle.mc_shelf.proofs.KeyLemmas.{order, same_key, same_maps, get_kept}
+use Rattle.mc_shelf.proofs.KeyLemmas.{order, same_maps, get_kept}
+use Rattle.mc_shelf.proofs.LabelLemmas.{same, same_itself, same_list}
 
 key_or_not : (q key : List ℕ) → (q ≡ key) ⊎ (q ≢ key)
-key_or_not q key = elim (order q key) as (λ r. order q key ≡ r → (q ≡ key) ⊎ (q ≢ key)) [
-  | Less ↦ λ e. inr (λ same. let tied = ap (λ k. order k key) same ∙ tied_itself nat_list_cmp_total key in cc)
-  | Equal ↦ λ e. inl (same_key q key e)
-  | Greater ↦ λ e. inr (λ same. let tied = ap (λ k. order k key) same ∙ tied_itself nat_list_cmp_total key in cc)
-] refl
+key_or_not q key = elim (cases_Bool (same q key)) [ inl t ↦ inl (same_list q key t) | inr f ↦ inr (λ e. true≢false (sym (ap (λ k. same k key) e ∙ same_itself key) ∙ f)) ]
 
 -- ---- what parts are together
 
@@ -255,10 +251,9 @@ parted whole part rest meant own others class =
 module _ {hash_of : List ℕ → ℕ} {count at : ℕ} {state : Plain} {shelf : ShelfContent} (fits : IsShelfOf hash_of count state at shelf) where
   -- of the state's items the shelf has those of its keys
   pub own_items : (q : List ℕ) → get shelf.items q ≡ cond (eqb (shelf_of hash_of count q) at) (get state.items q) None
-  own_items q = elim (eqb (shelf_of hash_of count q) at) as (λ b. eqb (shelf_of hash_of count q) at ≡ b → get shelf.items q ≡ cond b (get state.items q) None) [
-    | true ↦ λ h. fits.items q (eqb-true (shelf_of hash_of count q) at h)
-    | false ↦ λ h. fits.apart q (λ same. true≢false (sym (eq-eqb (shelf_of hash_of count q) at same) ∙ h))
-  ] refl
+  own_items q =
+      cond_both (eqb (shelf_of hash_of count q) at) (get state.items q) None (λ o. get shelf.items q ≡ o)
+      (λ h. fits.items q (eqb-true (shelf_of hash_of count q) at h)) (λ h. fits.apart q (eqb-false (shelf_of hash_of count q) at h))
 
   -- items are kept of the shelf, and so of the state
   pub shelf_kept : {new : Plain} {shelf' : ShelfContent} (kept : Option Entry → Option Entry) → kept None ≡ None → shelf'.greatest ≡ new.greatest → shelf'.cut ≡ new.cut

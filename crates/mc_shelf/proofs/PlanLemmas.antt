@@ -1,6 +1,7 @@
 -- What the plan of a step says of the plain machine at the key.
 use Rattle.std.proofs.Common.{◌≡◌, ℕ, ◌≤◌, Bool, true, false, ◌&&◌, List, append-nil, Option, Some, None, is_some, is_none, eqb, ltb, if◌then◌else◌, refl, sym, ap, subst, ◌∙◌}
 use Rattle.std.proofs.Common.{ltb-true, ltb-false, true≢false}
+use Rattle.std.proofs.lemmas.Bool.{cond_both}
 use Rattle.std.specs.FinMap.{get, insert, remove}
 use Rattle.mc_time.specs.declared.expiry.Expiry.{Expiry}
 use Rattle.mc_time.specs.Death.{is_dead}
@@ -31,10 +32,8 @@ use Rattle.mc_shelf.proofs.StandLemmas.{base, wrote_too_large}
 -- a row that reads, touches or deletes has an item, and one that writes where none stands writes the step's own block
 abbrev pub SpeaksOf : Option Entry → Row → Type 0
 SpeaksOf stands (Refuses refusal) = Unit {0}
-SpeaksOf stands (Reads expiry) = (item : Entry) × (stands ≡ Some item)
-SpeaksOf stands (Touches expiry) = (item : Entry) × (stands ≡ Some item)
-SpeaksOf stands Deletes = (item : Entry) × (stands ≡ Some item)
 SpeaksOf stands (Writes draft) = stands ≡ None → draft.body ≡ Given
+SpeaksOf stands row = (item : Entry) × (stands ≡ Some item)
 
 no_item : (old : Entry) (body : Body) → Some old ≡ None → body ≡ Given
 no_item old body e = cc
@@ -76,12 +75,9 @@ alive_found cut now (Some old) item h =
 -- ---- the block of a write
 
 pub made_is : (body : Body) (block : List ℕ) (item : Option Entry) → made_block body block (block_in item) ≡ written_block body block item
-made_is Given block item = refl
-made_is Appended block None = refl
-made_is Appended block (Some old) = refl
 made_is Prepended block None = append-nil block
-made_is Prepended block (Some old) = refl
-made_is (Counted number) block item = refl
+made_is Appended block None = refl
+made_is body block item = refl
 
 -- what a write makes beside the block of the item that was found is what the row asks, though that item is dead
 pub made_beside : (cut : Option ℕ) (now : ℕ) (found : Option Entry) (body : Body) (block : List ℕ) → (alive cut now found ≡ None → body ≡ Given)
@@ -130,9 +126,8 @@ module _ (shelf : ShelfContent) (step : KeyStep) (now : ℕ) where
 
   -- a dead item was found, and none stands
   pub dead_found : (f st : Option Entry) → is_some f && is_none st ≡ true → ((old : Entry) × (f ≡ Some old)) × (st ≡ None)
-  dead_found None st e = absurd (true≢false (sym e))
-  dead_found (Some old) (Some item) e = absurd (true≢false (sym e))
   dead_found (Some old) None e = ((old, refl), refl)
+  dead_found f st e = absurd (true≢false (sym e))
 
   answered_does : (s : Plain) (outcome : Outcome) (reply : Reply) → outcome ≡ Answered reply (found_in shelf step now s) → Does s outcome (answered (is_gone shelf.cut now found) reply)
   answered_does s outcome reply is =
@@ -149,13 +144,11 @@ module _ (shelf : ShelfContent) (step : KeyStep) (now : ℕ) where
       → Does s (wrote_at shelf step now draft s) (next_by (is_gone shelf.cut now found) shelf.greatest step stands (Writes draft))
   writes_does s same draft given =
       let size = charge_of step stands draft in
-      elim (ltb shelf.greatest size) as
-      (λ b. ltb shelf.greatest size ≡ b → Does s (wrote_at shelf step now draft s) (if b then answered (is_gone shelf.cut now found) TooLarge else Write size draft)) [
-        | true ↦ λ large. answered_does s (wrote_at shelf step now draft s) TooLarge
-            (wrote_too_large (write_reply draft.body) key draft.flags draft.expiry (block_at shelf step now draft) (found_in shelf step now s) now
-            (keeps_chunk draft.body key stands) (rw same (ltb-true shelf.greatest size large)))
-        | false ↦ λ fits. (refl, record { size_is = refl; fits = ltb-false shelf.greatest size fits; given = given })
-      ] refl
+      cond_both (ltb shelf.greatest size) (answered (is_gone shelf.cut now found) TooLarge) (Write size draft) (λ next. Does s (wrote_at shelf step now draft s) next)
+      (λ large. answered_does s (wrote_at shelf step now draft s) TooLarge
+      (wrote_too_large (write_reply draft.body) key draft.flags draft.expiry (block_at shelf step now draft) (found_in shelf step now s) now
+      (keeps_chunk draft.body key stands) (rw same (ltb-true shelf.greatest size large))))
+      (λ fits. (refl, record { size_is = refl; fits = ltb-false shelf.greatest size fits; given = given }))
 
   pub row_does : (s : Plain) → s.greatest ≡ shelf.greatest → (row : Row) → SpeaksOf stands row
       → Does s (changed row step stands (found_in shelf step now s) now) (next_by (is_gone shelf.cut now found) shelf.greatest step stands row)

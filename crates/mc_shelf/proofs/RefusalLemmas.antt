@@ -24,9 +24,7 @@ use Rattle.mc_shelf.proofs.TakesLemmas.{drafts, fits_plain, room_found, wrote_is
 
 reply_copies : (body : Body) → CopiesBlock (write_reply body)
 reply_copies Given = tt
-reply_copies Appended = tt
-reply_copies Prepended = tt
-reply_copies (Counted number) = tt
+reply_copies body = tt
 
 -- a write that finds a number and a chunk is answered so that it may be refused
 module _ (step : KeyStep) (now : ℕ) (shelf : ShelfContent) (desk : DeskState) (on : IsOnKey step)
@@ -79,10 +77,8 @@ can_wants step now shelf desk on is next next_is can s at =
 
 -- what writes is a write
 pub writes_some : (next : Next) → writes next ≡ true → (size : ℕ) × (draft : Draft) × (next ≡ Write size draft)
-writes_some (Answer reply) e = absurd (true≢false (sym e))
-writes_some (Expire expiry reply) e = absurd (true≢false (sym e))
-writes_some (Discard reply) e = absurd (true≢false (sym e))
 writes_some (Write size draft) e = (size, draft, refl)
+writes_some next e = absurd (true≢false (sym e))
 
 -- a result that is neither an answer nor want of memory tells of spent numbers
 pub spent_told : (result : Result Reply StepFault) (P : Reply → Type 0) → IfOk result P → ((reply : Reply) → P reply → ⊥) → (result ≡ Err NoMemory → ⊥) → result ≡ Err NumbersSpent

@@ -1,5 +1,5 @@
 -- What an edit of its index makes of a shelf's content.
-use Rattle.std.proofs.Common.{◌≡◌, ◌≢◌, ℕ, List, Option, Some, None, is_some, true≢false, refl, sym, ap, ◌∙◌}
+use Rattle.std.proofs.Common.{◌≡◌, ◌≢◌, ℕ, List, Option, Some, None, is_some, true≢false, refl, sym, ap, subst, ◌∙◌}
 use Rattle.std.proofs.lemmas.Option.{same_Some, none-some}
 use Rattle.std.specs.FinMap.{get, insert, remove}
 use Rattle.mc_slab.specs.Chunks.{ChunksState}
@@ -15,32 +15,29 @@ use Rattle.mc_shelf.proofs.KeyLemmas.{get_gone, get_gone_other, get_put, get_put
 abbrev pub content_of : (greatest : ℕ) → (cut : Option ℕ) → IndexState EntryState → ShelfContent
 content_of greatest cut index = record { greatest = greatest; items = items_of index; hashes = hashes_of index; cut = cut }
 
+pub others_same : (key : List ℕ) (shelf : ShelfContent) → OthersStay key shelf shelf
+others_same key shelf = record { greatest = refl; cut = refl; items = λ other apart. refl; hashes = λ other apart. refl }
+
 module _ (key : List ℕ) (own : ℕ) (old : ShelfContent) where
-  -- an item that was put under the key, with another put over it
-  pub put_again : (mid : ShelfContent) (any item : Entry) → IsPut key own old mid any → IsPut key own old (with_item None key own item mid) item
-  put_again mid any item is = record {
+  put_there : (mid : ShelfContent) (item : Entry) → OthersStay key old mid → IsHash mid key own → IsPut key own old (with_item None key own item mid) item
+  put_there mid item others hash = record {
     item = get_put mid.items key item;
     others = record {
-      greatest = is.others.greatest;
-      cut = is.others.cut;
-      items = λ other apart. get_put_other mid.items key other item apart ∙ is.others.items other apart;
-      hashes = is.others.hashes;
+      greatest = others.greatest;
+      cut = others.cut;
+      items = λ other apart. get_put_other mid.items key other item apart ∙ others.items other apart;
+      hashes = others.hashes;
     };
-    hash = is.hash;
+    hash = hash;
   }
+
+  -- an item that was put under the key, with another put over it
+  pub put_again : (mid : ShelfContent) (any item : Entry) → IsPut key own old mid any → IsPut key own old (with_item None key own item mid) item
+  put_again mid any item is = put_there mid item is.others is.hash
 
   -- an item in the place of the key's
   pub put_over : (item : Entry) → IsHash old key own → IsPut key own old (with_item None key own item old) item
-  put_over item has = record {
-    item = get_put old.items key item;
-    others = record {
-      greatest = refl;
-      cut = refl;
-      items = λ other apart. get_put_other old.items key other item apart;
-      hashes = λ other apart. refl;
-    };
-    hash = has;
-  }
+  put_over item has = put_there old item (others_same key old) has
 
   -- an item that comes under the key with its hash
   pub put_new : (chunks : ChunksState) (item : Entry) → IsPut key own old (with_item (Some chunks) key own item old) item
@@ -56,15 +53,6 @@ module _ (key : List ℕ) (own : ℕ) (old : ShelfContent) where
   }
 
 module _ (greatest : ℕ) (cut : Option ℕ) (old : ShelfContent) (was : IndexState EntryState) (old_is : content_of greatest cut was ≡ old) (key : List ℕ) (own : ℕ) (new : IndexState EntryState) where
-  others_by : ((other : List ℕ) → other ≢ key → get (items_of new) other ≡ get (items_of was) other) → ((other : List ℕ) → other ≢ key → get (hashes_of new) other ≡ get (hashes_of was) other)
-      → OthersStay key old (content_of greatest cut new)
-  others_by items hashes = record {
-    greatest = ap (λ (s : ShelfContent). s.greatest) old_is;
-    cut = ap (λ (s : ShelfContent). s.cut) old_is;
-    items = λ other apart. items other apart ∙ ap (λ (s : ShelfContent). get s.items other) old_is;
-    hashes = λ other apart. hashes other apart ∙ ap (λ (s : ShelfContent). get s.hashes other) old_is;
-  }
-
   -- the content after the key's item was changed, and after an entry came under the key
   pub changed_is : (item : Entry) → IsChanged was new key item → content_of greatest cut new ≡ with_item None key own item old
   changed_is item is =
@@ -79,33 +67,25 @@ module _ (greatest : ℕ) (cut : Option ℕ) (old : ShelfContent) (was : IndexSt
 
   -- the key's item was changed
   pub changed_put : (item : Entry) → IsHash old key own → IsChanged was new key item → IsPut key own old (content_of greatest cut new) item
-  changed_put item has is = record {
-    item = ap (λ (m : Items). get m key) is.items ∙ get_put (items_of was) key item;
-    others = others_by
-        (λ other apart. ap (λ (m : Items). get m other) is.items ∙ get_put_other (items_of was) key other item apart)
-        (λ other apart. ap (λ (m : Hashes). get m other) is.hashes);
-    hash = λ stored there. has stored (sym (ap (λ (s : ShelfContent). get s.hashes key) old_is) ∙ sym (ap (λ (m : Hashes). get m key) is.hashes) ∙ there);
-  }
+  changed_put item has is = subst (λ (s : ShelfContent). IsPut key own old s item) (sym (changed_is item is)) (put_over key own old item has)
 
   -- the key's entry was removed
   pub removed_dropped : (gone : List ℕ) → gone ≡ key → KeyGoes was new gone → IsDropped key own old (content_of greatest cut new)
   removed_dropped gone gone_is is =
-      let items : items_of new ≡ remove (items_of was) key = is.items ∙ ap (remove (items_of was)) gone_is in
-      let hashes : hashes_of new ≡ remove (hashes_of was) key = is.hashes ∙ ap (remove (hashes_of was)) gone_is in
-      record {
-        item = ap (λ (m : Items). get m key) items ∙ get_gone (items_of was) key;
-        others = others_by
-            (λ other apart. ap (λ (m : Items). get m other) items ∙ get_gone_other (items_of was) key other apart)
-            (λ other apart. ap (λ (m : Hashes). get m other) hashes ∙ get_gone_other (hashes_of was) key other apart);
-        hash = λ stored there. absurd (none-some stored (sym (get_gone (hashes_of was) key) ∙ sym (ap (λ (m : Hashes). get m key) hashes) ∙ there));
-      }
+      let now_is : content_of greatest cut new ≡ record old { items = remove old.items key; hashes = remove old.hashes key } =
+      (λ i. record { greatest = greatest; items = is.items i; hashes = is.hashes i; cut = cut })
+      ∙ ap (λ (k : List ℕ). record { greatest = greatest; items = remove (items_of was) k; hashes = remove (hashes_of was) k; cut = cut }) gone_is
+      ∙ ap (λ (s : ShelfContent). record s { items = remove s.items key; hashes = remove s.hashes key }) old_is in
+      subst (λ (s : ShelfContent). IsDropped key own old s) (sym now_is) (record {
+        item = get_gone old.items key;
+        others = record { greatest = refl; cut = refl; items = get_gone_other old.items key; hashes = get_gone_other old.hashes key };
+        hash = λ stored there. absurd (none-some stored (sym (get_gone old.hashes key) ∙ there));
+      })
 
 -- a key that is known, with the place where it was found, is sought there
 pub known_sought : (shelf : ShelfContent) (key : List ℕ) (own : ℕ) (found : Option Place) → IsKnown shelf key own found → IsSought shelf key own found
 known_sought shelf key own found known = record { hash = known.hash; none = by found (get shelf.items key) known.place }
   where
     by : (f : Option Place) (o : Option Entry) → is_some f ≡ is_some o → f ≡ None → o ≡ None
-    by None None e n = refl
-    by None (Some item) e n = absurd (true≢false (sym e))
-    by (Some place) None e n = refl
-    by (Some place) (Some item) e n = absurd (true≢false (ap is_some n))
+    by f None e n = refl
+    by f (Some item) e n = absurd (true≢false (sym e ∙ ap is_some n))

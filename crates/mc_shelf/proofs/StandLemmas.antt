@@ -2,6 +2,7 @@
 use Rattle.std.proofs.Common.{◌≡◌, ◌≢◌, ℕ, ◌+◌, ◌-◌, ◌*◌, ◌<◌, ◌≤◌, ◌^◌, Bool, true, false, leb, List, length, get_or, set, sum, Option, Some, None, eqb, if◌then◌else◌, refl, sym}
 use Rattle.std.proofs.Common.{ap, ◌∙◌, arith, get_or-set_same, get_or-set_other, lt-ltb, le-ltb, le-leb, eq-eqb, ne_eqb, eqb-true, true≢false, subst, set-set, length-set}
 use lib.Seq.{set-get_or}
+use Rattle.std.proofs.lemmas.Bool.{cond_both, eqb-false}
 use Rattle.std.specs.FinMap.{get, insert, remove}
 use Rattle.mc_time.specs.declared.expiry.Expiry.{Expiry}
 use Rattle.mc_slab.specs.Classes.{IsClass, chunks_a_page}
@@ -51,31 +52,19 @@ grown pages wanted gives out back count some least within is =
     omega (arith, is, more, sum, least, within)
 
 module _ (slab : SlabState) (class : ℕ) (is_class : IsClass class) where
-  out-with_out : length slab.out ≡ 40 → (n other : ℕ) → IsClass other → out_of (slabs.with_out slab class n) other ≡ (if eqb class other then n else out_of slab other)
-  out-with_out long n other is_other =
-      elim (eqb class other) as (λ b. eqb class other ≡ b → out_of (slabs.with_out slab class n) other ≡ (if b then n else out_of slab other)) [
-        | true ↦ λ e. ap (λ (k : ℕ). get_or (set slab.out (class - 1) n) (k - 1) 0) (sym (eqb-true class other e)) ∙ get_or-set_same slab.out (class - 1) n 0 (omega arith)
-        | false ↦ λ e.
-            let apart : class ≢ other = λ same. true≢false (sym (eq-eqb class other same) ∙ e) in
-            let places : other - 1 ≢ class - 1 = λ same. apart (omega arith) in
-            get_or-set_other slab.out (class - 1) (other - 1) n 0 places
-      ] refl
+  out-changed : length slab.out ≡ 40 → (op : ℕ → ℕ → ℕ) → ((n : ℕ) → op n 0 ≡ n) → (count other : ℕ) → IsClass other
+      → out_of (slabs.with_out slab class (op (out_of slab class) count)) other ≡ op (out_of slab other) (weight class count other)
+  out-changed long op none count other is_other =
+      let new = op (out_of slab class) count in
+      cond_both (eqb class other) count 0 (λ n. out_of (slabs.with_out slab class new) other ≡ op (out_of slab other) n)
+      (λ e. subst (λ (k : ℕ). out_of (slabs.with_out slab class new) k ≡ op (out_of slab k) count) (eqb-true class other e) (get_or-set_same slab.out (class - 1) new 0 (omega arith)))
+      (λ e. get_or-set_other slab.out (class - 1) (other - 1) new 0 (λ same. eqb-false class other e (omega arith)) ∙ sym (none (out_of slab other)))
 
   pub out-given : length slab.out ≡ 40 → (count other : ℕ) → IsClass other → out_of (given slab class count) other ≡ out_of slab other - weight class count other
-  out-given long count other is_other =
-      out-with_out long (out_of slab class - count) other is_other
-      ∙ elim (eqb class other) as (λ b. eqb class other ≡ b → (if b then out_of slab class - count else out_of slab other) ≡ out_of slab other - (if b then count else 0)) [
-        | true ↦ λ e. ap (λ (k : ℕ). out_of slab k - count) (eqb-true class other e)
-        | false ↦ λ e. omega arith
-      ] refl
+  out-given long = out-changed long (λ m n. m - n) (λ m. omega arith)
 
   out-more : length slab.out ≡ 40 → (count other : ℕ) → IsClass other → out_of (slabs.with_out slab class (out_of slab class + count)) other ≡ out_of slab other + weight class count other
-  out-more long count other is_other =
-      out-with_out long (out_of slab class + count) other is_other
-      ∙ elim (eqb class other) as (λ b. eqb class other ≡ b → (if b then out_of slab class + count else out_of slab other) ≡ out_of slab other + (if b then count else 0)) [
-        | true ↦ λ e. ap (λ (k : ℕ). out_of slab k + count) (eqb-true class other e)
-        | false ↦ λ e. omega arith
-      ] refl
+  out-more long = out-changed long (λ m n. m + n) (λ m. omega arith)
 
 -- so many are unused, so that there is room
 pub room_by_free : (slab : SlabState) (need : NeedState) → need.count ≤ slabs.unused slab need.class → slabs.has_room_with slab need 0 ≡ true
@@ -110,10 +99,9 @@ module _ (slab : SlabState) (need : NeedState) (is_class : IsClass need.class) w
     pages = is.pages;
     out = length-set slab.out (need.class - 1) (out_of slab need.class + need.count) ∙ is.out;
     within = λ other is_other. subst (λ (m : ℕ). m ≤ slabs.chunks_of slab other) (sym (out-more slab need.class is_class is.out need.count other is_other))
-        (elim (eqb need.class other) as (λ b. eqb need.class other ≡ b → out_of slab other + (if b then need.count else 0) ≤ slabs.chunks_of slab other) [
-          | true ↦ λ e. subst (λ (k : ℕ). out_of slab k + need.count ≤ slabs.chunks_of slab k) (eqb-true need.class other e) (let within = is.within need.class is_class in omega (arith, l, within))
-          | false ↦ λ e. let within = is.within other is_other in omega (arith, within)
-        ] refl);
+        (cond_both (eqb need.class other) need.count 0 (λ n. out_of slab other + n ≤ slabs.chunks_of slab other)
+        (λ e. subst (λ (k : ℕ). out_of slab k + need.count ≤ slabs.chunks_of slab k) (eqb-true need.class other e) (let within = is.within need.class is_class in omega (arith, l, within)))
+        (λ e. let within = is.within other is_other in omega (arith, within)));
     limit = is.limit;
     most = is.most;
   }

@@ -2,6 +2,7 @@
 use Rattle.std.proofs.Common.{◌≡◌, ℕ, zero, suc, ◌-◌, ◌^◌, ◌<◌, Bool, true, false, cond, eqb, ltb, List, length, map, replicate, Option, Some, None, slice_get, slice_index}
 use Rattle.std.proofs.Common.{slice_index_or, slice_set, refl, sym, ap, subst, ◌∙◌, arith, Result, Ok, Err, IfOk, OnErr}
 use Rattle.std.specs.Option.{option_map}
+use Rattle.std.proofs.lemmas.Bool.{cond-false, cond-true}
 use Rattle.std.proofs.lemmas.List.{get_or-replicate, length-map, length-replicate, map-set}
 use Rattle.std.proofs.lemmas.Option.{get_or_from_slice_get, slice_get-map, slice_get_read, same_Some}
 use Rattle.std.specs.FinMap.{get, get-empty}
@@ -71,22 +72,17 @@ write_spent false false false true p q r t w x y z is = cc
 write_spent false false false false p q r t w x y z is = cc
 
 not_written : (large spent : Bool) (x y : Outcome) → large ≡ false → spent ≡ true → cond large x (cond spent Spent y) ≡ Spent
-not_written true spent x y fits none = cc
-not_written false true x y fits none = refl
-not_written false false x y fits none = cc
+not_written large spent x y fits none = cond-false large x (cond spent Spent y) fits ∙ cond-true spent Spent y none
 
 changed_spent : (row : Row) (step : KeyStep) (item : Option Entry) (a b : Plain) (now : ℕ) → a.greatest ≡ b.greatest → a.next_unique ≡ b.next_unique
     → changed row step item a now ≡ Spent → changed row step item b now ≡ Spent
-changed_spent (Refuses refusal) step item a b now greatest number is = cc
-changed_spent (Reads expiry) step item a b now greatest number is = cc
-changed_spent (Touches expiry) step item a b now greatest number is = cc
-changed_spent Deletes step item a b now greatest number is = cc
 changed_spent (Writes draft) step item a b now greatest number is =
     let size = charge (key_of step) (written_block draft.body (block_of step) item) in
     let so = write_spent (ltb a.greatest size) (eqb a.next_unique (2 ^ 64 - 1)) (keeps_chunk draft.body (key_of step) item) (has_room a (need_for size)) _ _ _ _ _ _ _ _ is in
     let fits : ltb b.greatest size ≡ false = ap (λ n. ltb n size) (sym greatest) ∙ so.0 in
     let none : eqb b.next_unique (2 ^ 64 - 1) ≡ true = ap (λ n. eqb n (2 ^ 64 - 1)) (sym number) ∙ so.1 in
     not_written (ltb b.greatest size) (eqb b.next_unique (2 ^ 64 - 1)) _ _ fits none
+changed_spent row step item a b now greatest number is = cc
 
 -- the key's dead item goes, and neither number
 left_numbers : (item : Option Entry) (key : List ℕ) (s : Plain) → ((without_dead item key s).greatest ≡ s.greatest) × ((without_dead item key s).next_unique ≡ s.next_unique)

@@ -1,11 +1,10 @@
 -- What a sweep over an index drops of a shelf, and gives back to a desk.
 use Rattle.std.proofs.Common.{◌≡◌, ◌≢◌, ℕ, ◌+◌, ◌-◌, ◌<◌, ◌≤◌, true, false, cond, List, [], ◌∷◌, ◌++◌, get_or, Option, Some, None, is_some, is_none, refl, sym, ap, subst, ◌∙◌, arith}
-use Rattle.std.proofs.Common.{if◌then◌else◌, inl, inr, Less, Equal, Greater}
-use Rattle.std.proofs.lemmas.Bool.{cases_lt}
+use Rattle.std.proofs.Common.{if◌then◌else◌, inl, inr}
+use Rattle.std.proofs.lemmas.Bool.{cases_lt, cond_both}
 use Rattle.std.proofs.lemmas.Option.{same_Some, none-some}
 use Rattle.std.specs.Borrow.{Bor}
 use Rattle.std.specs.Option.{option_copied}
-use Rattle.std.specs.Ordering.{is_eq}
 use Rattle.std.specs.FinMap.{empty, get, get-empty, get-remove, remove}
 use Rattle.std.specs.Cmp.Lexicographic.{nat_list_cmp_total}
 use Rattle.mc_time.specs.Death.{is_dead}
@@ -27,7 +26,8 @@ use Rattle.mc_shelf.specs.Plans.{is_gone, item_in}
 use Rattle.mc_shelf.specs.Sweeps.{GivesFor, IsPurged, count_among}
 use Rattle.mc_shelf.specs.Deaths.{DieNoSooner, DiesNoSooner, NoneIsDead}
 use Rattle.mc_shelf.specs.declared.soonest.Soonest.{Soonest}
-use Rattle.mc_shelf.proofs.KeyLemmas.{order, same_key, same_maps, get_kept, get_gone, get_gone_other}
+use Rattle.mc_shelf.proofs.KeyLemmas.{order, same_maps, get_kept, get_gone, get_gone_other}
+use Rattle.mc_shelf.proofs.LabelLemmas.{same, same_list}
 use Rattle.mc_shelf.proofs.KeyMapLemmas.{hash_absent, item_held}
 use Rattle.mc_shelf.proofs.IndexLemmas.{numbered}
 use Rattle.mc_shelf.proofs.CountLemmas.{drops_none, drops_one}
@@ -80,7 +80,7 @@ among_join (x ∷ xs) ys class = omega (arith, among_join xs ys class)
 alive_or_none : (cut : Option ℕ) (now : ℕ) (found : Option Entry) → cond (is_some (alive cut now found)) found None ≡ alive cut now found
 alive_or_none cut now None = refl
 alive_or_none cut now (Some item) =
-    elim (is_dead item.expiry item.updated cut now) as (λ b. cond (is_some (if b then None else Some item)) (Some item) None ≡ (if b then None else Some item)) [ true ↦ refl | false ↦ refl ]
+    cond_both (is_dead item.expiry item.updated cut now) None (Some item) (λ o. cond (is_some o) (Some item) None ≡ o) (λ _. refl) (λ _. refl)
 
 pub get_living : (items : Items) (cut : Option ℕ) (now : ℕ) (key : List ℕ) → get (living items cut now) key ≡ alive cut now (get items key)
 get_living items cut now key =
@@ -92,11 +92,8 @@ living_without items cut now key dead =
     same_maps _ _ (λ q.
     get_living (remove items key) cut now q
     ∙ ap (alive cut now) (get-remove nat_list_cmp_total items key q)
-    ∙ elim (order q key) as (λ r. order q key ≡ r → alive cut now (cond (is_eq r) None (get items q)) ≡ alive cut now (get items q)) [
-      | Less ↦ λ e. refl
-      | Equal ↦ λ e. sym (ap (λ (k : List ℕ). alive cut now (get items k)) (same_key q key e) ∙ dead)
-      | Greater ↦ λ e. refl
-    ] refl
+    ∙ cond_both (same q key) None (get items q) (λ o. alive cut now o ≡ alive cut now (get items q))
+    (λ t. sym (ap (λ (k : List ℕ). alive cut now (get items k)) (same_list q key t) ∙ dead)) (λ _. refl)
     ∙ sym (get_living items cut now q))
 
 -- where all are alive, they are the living ones

@@ -30,11 +30,9 @@ use Rattle.mc_shelf.specs.Plans.{has_need, is_gone, next_of, reuses, row_at, sto
 use Rattle.mc_shelf.proofs.StandLemmas.{base, step_is, at_none, at_dropped, at_put_again, at_wrote, given_taken, out-given, out-taken, out-way}
 use Rattle.mc_shelf.proofs.StandLemmas.{out_found, out_some, pages-way, pages_after, pages_are, pages_stay, room_by_free, room_is, taken_is_slab, weight, weight_here}
 use Rattle.mc_shelf.proofs.NeedLemmas.{needs_same}
+use Rattle.mc_shelf.proofs.ShelfLemmas.{others_same}
 use Rattle.mc_shelf.proofs.StandLemmas.{wrote_full, wrote_kept, wrote_spent}
 use Rattle.mc_shelf.proofs.PlanLemmas.{Does, IsDrafted, alive_found, block_at, dead_found, found_in, made_beside, next_does, row_does, row_speaks, wrote_at}
-
-pub others_same : (key : List ℕ) (shelf : ShelfContent) → OthersStay key shelf shelf
-others_same key shelf = record { greatest = refl; cut = refl; items = λ other apart. refl; hashes = λ other apart. refl }
 
 -- what a plan says without a plain state
 module _ (shelf : ShelfContent) (step : KeyStep) (now : ℕ) where

@@ -3,7 +3,8 @@ use Rattle.std.specs.FinMap.{get}
 use Rattle.mc_command.specs.Commands.{key_of}
 use Rattle.mc_command.specs.Plain.{Entry}
 use Rattle.mc_shelf.specs.Plans.{GivesBack, IsDropped, IsOut, IsPut}
-use Rattle.mc_shelf.proofs.TakesLemmas.{discarded_is, expired_is, is_out, others_same, takes_answer, takes_discard, takes_expire}
+use Rattle.mc_shelf.proofs.ShelfLemmas.{others_same}
+use Rattle.mc_shelf.proofs.TakesLemmas.{discarded_is, expired_is, is_out, takes_answer, takes_discard, takes_expire}
 use Rattle.mc_command.specs.declared.step.KeyStep.{KeyStep}
 use Rattle.mc_shelf.specs.States.{DeskState, ShelfContent}
 use Rattle.mc_shelf.specs.declared.plan.Next.{Next}

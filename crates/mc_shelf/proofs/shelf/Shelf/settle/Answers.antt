@@ -3,7 +3,8 @@ use Rattle.std.specs.FinMap.{get}
 use Rattle.mc_command.specs.Commands.{key_of}
 use Rattle.mc_command.specs.Plain.{Entry}
 use Rattle.mc_shelf.specs.Plans.{IsPut}
-use Rattle.mc_shelf.proofs.TakesLemmas.{expired_is, others_same, takes_answer, takes_expire}
+use Rattle.mc_shelf.proofs.ShelfLemmas.{others_same}
+use Rattle.mc_shelf.proofs.TakesLemmas.{expired_is, takes_answer, takes_expire}
 use Rattle.mc_shelf.proofs.shelf.Shelf.settle.Goals as goal
 
 pub returns-in-Answer-clause-told : goal.returns-in-Answer-clause-told
