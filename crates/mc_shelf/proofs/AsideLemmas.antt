@@ -1,13 +1,12 @@
 -- What shelves that were laid aside hold of the chunks that are out of a slab.
-use Rattle.std.proofs.Common.{◌≡◌, ℕ, ◌+◌, ◌-◌, ◌*◌, ◌<◌, ◌≤◌, ◌⊎◌, inl, inr, ⊎_elim, Bool, true, false, true≢false, eqb}
-use Rattle.std.proofs.Common.{eqb-true, if◌then◌else◌, zero, suc, leb, le-leb, List, [], ◌∷◌, ◌++◌, length, length-set, replicate, get_or, set}
-use Rattle.std.proofs.Common.{cond, not, ltb, ltb-true, le-ltb, Option, Some, None, slice_get, take, Ok, Err, Result, refl, sym, ap, subst, ◌∙◌, arith}
-use Rattle.std.specs.Prelude.{IfErr}
+use Rattle.std.proofs.Common.{◌≡◌, ℕ, ◌+◌, ◌-◌, ◌*◌, ◌<◌, ◌≤◌, ◌⊎◌, inl, inr, ⊎_elim, true≢false, eqb}
+use Rattle.std.proofs.Common.{eqb-true, zero, suc, leb, le-leb, List, [], ◌∷◌, ◌++◌, length, length-set, replicate, get_or, set}
+use Rattle.std.proofs.Common.{Option, Some, slice_get, Ok, Err, Result, refl, sym, ap, subst, ◌∙◌, arith}
 use Rattle.std.proofs.lemmas.Bool.{cond_both}
-use Rattle.std.proofs.lemmas.List.{get_or-replicate}
+use Rattle.std.proofs.lemmas.List.{get_or-replicate, set-get_or}
 use Rattle.std.proofs.lemmas.List.Sums.{sum_by-set}
-use Rattle.std.proofs.lemmas.Option.{same_Some}
-use Rattle.std.specs.FinMap.{empty, get, remove}
+use Rattle.std.proofs.lemmas.Option.{get_or_from_slice_get, same_Some}
+use Rattle.std.specs.FinMap.{empty, get}
 use Rattle.mc_slab.specs.Classes.{IsClass, chunks_a_page}
 use Rattle.mc_slab.specs.Chunks.{ChunksState, need_in}
 use Rattle.mc_slab.specs.Needs.{NeedState, IsNeed}
@@ -18,8 +17,8 @@ use Rattle.mc_slab.specs.declared.slab.TakeFault.TheVariants.{Full, NoMemory}
 use Rattle.mc_command.specs.Plain.{Entry, Items, chunks_in, count_of, item_need}
 use Rattle.mc_command.specs.Laws.{of_class}
 use Rattle.mc_command.proofs.CountLemmas.{count-empty, count-remove}
-use Rattle.mc_shelf.specs.States.{DeskState, EntryState, ShelfContent, ShelfState}
-use Rattle.mc_shelf.specs.Asides.{AreCollected, AreOff, GivesOwn, IsOff, LieAside, Suffices, all_out, count_in, none_out, seen}
+use Rattle.mc_shelf.specs.States.{EntryState, ShelfState}
+use Rattle.mc_shelf.specs.Asides.{AreCollected, AreOff, GivesOwn, IsOff, LieAside, Suffices, all_out, count_in, seen}
 use Rattle.mc_shelf.proofs.StandLemmas.{out-given, out-taken, weight, weight_here}
 
 -- ---- shelves one after another
@@ -71,9 +70,7 @@ off_last all rest after old new entry chunks all_is after_is =
 
 -- none has changed
 pub set_same : (xs : List ShelfState) (at : ℕ) (old new : ShelfState) → slice_get xs at ≡ Some old → new ≡ old → set xs at new ≡ xs
-set_same [] at old new here same = cc
-set_same (x ∷ xs) zero old new here same = ap (λ s. s ∷ xs) (same ∙ sym (same_Some x old here))
-set_same (x ∷ xs) (suc at) old new here same = ap (λ l. x ∷ l) (set_same xs at old new here same)
+set_same xs at old new here same = ap (set xs at) (same ∙ sym (get_or_from_slice_get xs at old old here)) ∙ set-get_or xs at old
 
 -- the last one has no items
 pub none_last : (all rest : List ShelfState) (last : ShelfState) → all ≡ rest ++ last ∷ [] → last.content.items ≡ empty → (class : ℕ)

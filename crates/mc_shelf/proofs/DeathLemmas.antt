@@ -1,5 +1,5 @@
 -- The soonest expiry and write of items, as one comes, changes or goes.
-use Rattle.std.proofs.Common.{◌≡◌, ℕ, cond, List, [], ◌∷◌, Option, Some, None, is_eq, sym, ap, subst, ◌∙◌, refl, arith}
+use Rattle.std.proofs.Common.{◌≡◌, ℕ, List, [], ◌∷◌, Option, Some, None, is_eq, sym, ap, subst, ◌∙◌, refl, arith}
 use Rattle.std.proofs.lemmas.Bool.{cond_both}
 use Rattle.std.proofs.lemmas.Option.{same_Some, none-some}
 use Rattle.std.specs.FinMap.{empty, from_entries, get, get-empty, get-insert, get-remove, insert, remove}
@@ -34,7 +34,8 @@ sooner_changed a b {old} {new} {key} {item} is = sooner_insert a b (items_of old
 -- one goes
 pub sooner_remove : (a : Soonest) (old new : Items) (key : List ℕ) → new ≡ remove old key → DieNoSooner a old → DieNoSooner a new
 sooner_remove a old new key is held at found there =
-    cond_both (is_eq (order at key)) None (get old at) (λ o. o ≡ Some found → DiesNoSooner a found) (λ _ e. absurd (none-some found e)) (λ _ e. held at found e) (sym (ap (λ (m : Items). get m at) is ∙ get-remove nat_list_cmp_total old key at) ∙ there)
+    cond_both (is_eq (order at key)) None (get old at) (λ o. o ≡ Some found → DiesNoSooner a found)
+    (λ _ e. absurd (none-some found e)) (λ _ e. held at found e) (sym (ap (λ (m : Items). get m at) is ∙ get-remove nat_list_cmp_total old key at) ∙ there)
 
 -- ---- an index of no entries
 

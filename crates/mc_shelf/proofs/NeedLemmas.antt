@@ -1,6 +1,6 @@
 -- What a charge needs.
 use Rattle.std.proofs.Common.{◌≡◌, ℕ, ◌+◌, ◌-◌, ◌*◌, ◌/◌, ◌<◌, ◌≤◌, true, false, true≢false, ◌&&◌, not, eqb, eqb-true, eq-eqb, ltb, List, Option, Some, None, length, get_or, inl}
-use Rattle.std.proofs.Common.{inr, leb, if◌then◌else◌, sym, ap, subst, ◌∙◌, arith, refl}
+use Rattle.std.proofs.Common.{inr, leb, sym, ap, subst, ◌∙◌, arith, refl}
 use Rattle.std.proofs.lemmas.Bool.{cases_lt, cond_both, le-leb, leb-true, leb-false}
 use Rattle.std.proofs.lemmas.List.Sums.{fails_before_first, passes_at_first}
 use Rattle.std.specs.List.{position_or_len}

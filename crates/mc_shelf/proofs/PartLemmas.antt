@@ -1,5 +1,5 @@
 -- Parts of a state: what they are together, and what a change of one of them makes of the state.
-use Rattle.std.proofs.Common.{◌≡◌, ◌≢◌, ℕ, zero, suc, ◌+◌, ◌-◌, ◌<◌, Bool, true, false, cond, not, eqb, eqb-true, eq-eqb, true≢false, List, [], ◌∷◌, ◌++◌, length, length-set, map}
+use Rattle.std.proofs.Common.{◌≡◌, ◌≢◌, ℕ, zero, suc, ◌+◌, ◌-◌, ◌<◌, Bool, true, false, cond, not, eqb, eqb-true, true≢false, List, [], ◌∷◌, ◌++◌, length, length-set, map}
 use Rattle.std.proofs.Common.{Option, Some, None, slice_get, slice_set, refl, sym, ap, subst, ◌∙◌, arith, ◌⊎◌, inl, inr, ⊎_elim}
 use Rattle.std.proofs.lemmas.Bool.{cases_Bool, cond_both, eqb-false}
 use Rattle.std.proofs.lemmas.Option.{same_Some}

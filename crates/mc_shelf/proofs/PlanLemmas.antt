@@ -15,7 +15,7 @@ use Rattle.mc_command.specs.declared.row.Row.{Row}
 use Rattle.mc_command.specs.declared.row.Row.TheVariants.{Refuses, Reads, Touches, Deletes, Writes}
 use Rattle.mc_command.specs.declared.row.Refusal.TheVariants as refusal
 use Rattle.mc_command.specs.declared.row.Body.{Body}
-use Rattle.mc_command.specs.declared.row.Body.TheVariants.{Given, Appended, Prepended, Counted}
+use Rattle.mc_command.specs.declared.row.Body.TheVariants.{Given, Appended, Prepended}
 use Rattle.mc_command.specs.declared.row.Draft.{Draft}
 use Rattle.mc_command.specs.Commands.{key_of}
 use Rattle.mc_command.specs.Plain.{Plain, Entry, Outcome, Answered, alive, block_of, cas_row, changed, charge, count_row, expiring, given, hit_of, keeps_chunk, number_of}

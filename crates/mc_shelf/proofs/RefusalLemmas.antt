@@ -6,13 +6,13 @@ use Rattle.mc_slab.specs.Slabs.{IsSlab}
 use Rattle.mc_command.specs.declared.step.KeyStep.{KeyStep}
 use Rattle.mc_command.specs.declared.reply.Reply.{Reply}
 use Rattle.mc_command.specs.declared.row.Body.{Body}
-use Rattle.mc_command.specs.declared.row.Body.TheVariants.{Given, Appended, Prepended, Counted}
+use Rattle.mc_command.specs.declared.row.Body.TheVariants.{Given}
 use Rattle.mc_command.specs.declared.row.Draft.{Draft}
 use Rattle.mc_command.specs.Commands.{key_of}
 use Rattle.mc_command.specs.Plain.{Plain, Answered, Spent, CopiesBlock, MayFail, plain, block_need, charge, has_room, keeps_chunk, write_reply, wrote}
 use Rattle.mc_command.specs.Laws.{IsOnKey}
 use Rattle.mc_shelf.specs.declared.plan.Next.{Next}
-use Rattle.mc_shelf.specs.declared.plan.Next.TheVariants.{Answer, Expire, Discard, Write}
+use Rattle.mc_shelf.specs.declared.plan.Next.TheVariants.{Write}
 use Rattle.mc_command.specs.declared.step.StepFault.{StepFault}
 use Rattle.mc_command.specs.declared.step.StepFault.TheVariants.{NoMemory, NumbersSpent}
 use Rattle.mc_shelf.specs.States.{ShelfContent, DeskState, CanStand, IsAt}

@@ -1,5 +1,5 @@
 -- A store: what a change of one of its shelves, or of all, makes of the state that its parts keep.
-use Rattle.std.proofs.Common.{◌≡◌, ℕ, zero, suc, ◌-◌, ◌^◌, ◌<◌, Bool, true, false, cond, eqb, ltb, List, length, map, replicate, Option, Some, None, slice_get, slice_index}
+use Rattle.std.proofs.Common.{◌≡◌, ℕ, zero, suc, ◌-◌, ◌^◌, ◌<◌, Bool, true, false, cond, eqb, ltb, List, length, map, replicate, Option, Some, slice_get, slice_index}
 use Rattle.std.proofs.Common.{slice_index_or, slice_set, refl, sym, ap, subst, ◌∙◌, arith, Result, Ok, Err, IfOk, OnErr}
 use Rattle.std.specs.Option.{option_map}
 use Rattle.std.proofs.lemmas.Bool.{cond-false, cond-true}
@@ -8,7 +8,7 @@ use Rattle.std.proofs.lemmas.Option.{get_or_from_slice_get, slice_get-map, slice
 use Rattle.std.specs.FinMap.{get, get-empty}
 use Rattle.mc_slab.specs.Slabs.{untouched, out_of}
 use Rattle.mc_command.specs.declared.row.Row.{Row}
-use Rattle.mc_command.specs.declared.row.Row.TheVariants.{Refuses, Reads, Touches, Deletes, Writes}
+use Rattle.mc_command.specs.declared.row.Row.TheVariants.{Writes}
 use Rattle.mc_command.specs.declared.step.KeyStep.{KeyStep}
 use Rattle.mc_command.proofs.LawLemmas.{on_key}
 use Rattle.mc_command.specs.declared.step.StepFault.{StepFault}
@@ -24,6 +24,7 @@ use Rattle.mc_shelf.specs.Parts.{shelf_of, IsShelfOf, IsDeskOf, ArePartsOf, Goes
 use Rattle.mc_shelf.specs.Unions.{lefts, plain_of}
 use Rattle.mc_shelf.specs.declared.settings.Settings.{Settings}
 use Rattle.mc_shelf.proofs.KeyLemmas.{order}
+use Rattle.mc_shelf.proofs.StandLemmas.{base_is}
 use Rattle.mc_shelf.proofs.PartLemmas.{are_kept, goes_by_step, parts_go, plain_is}
 
 -- ---- a new store
@@ -84,11 +85,6 @@ changed_spent (Writes draft) step item a b now greatest number is =
     not_written (ltb b.greatest size) (eqb b.next_unique (2 ^ 64 - 1)) _ _ fits none
 changed_spent row step item a b now greatest number is = cc
 
--- the key's dead item goes, and neither number
-left_numbers : (item : Option Entry) (key : List ℕ) (s : Plain) → ((without_dead item key s).greatest ≡ s.greatest) × ((without_dead item key s).next_unique ≡ s.next_unique)
-left_numbers None key s = (refl, refl)
-left_numbers (Some item) key s = (refl, refl)
-
 pub spent_there : (step : KeyStep) (now : ℕ) {shelf : ShelfContent} {desk : DeskState} {a : Plain} → IsOnKey step → IsAt (key_of step) shelf desk a
     → plain a step now ≡ Spent → IsSpent step now shelf desk
 spent_there step now {shelf} {desk} {a} on at_a is b at_b =
@@ -98,8 +94,8 @@ spent_there step now {shelf} {desk} {a} on at_a is b at_b =
     on_key b step now on
     ∙ subst (λ o. changed (row_of step now o) step o (without_dead o key b) now ≡ Spent) same
     (changed_spent (row_of step now item) step item (without_dead item key a) (without_dead item key b) now
-    ((left_numbers item key a).0 ∙ at_a.greatest ∙ sym at_b.greatest ∙ sym (left_numbers item key b).0)
-    ((left_numbers item key a).1 ∙ at_a.next_unique ∙ sym at_b.next_unique ∙ sym (left_numbers item key b).1)
+    (ap (λ (s : Plain). s.greatest) (base_is item key a) ∙ at_a.greatest ∙ sym at_b.greatest ∙ sym (ap (λ (s : Plain). s.greatest) (base_is item key b)))
+    (ap (λ (s : Plain). s.next_unique) (base_is item key a) ∙ at_a.next_unique ∙ sym at_b.next_unique ∙ sym (ap (λ (s : Plain). s.next_unique) (base_is item key b)))
     (sym (on_key a step now on) ∙ is))
 
 -- ---- a store's parts after a change

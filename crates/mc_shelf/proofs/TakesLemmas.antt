@@ -1,6 +1,6 @@
 -- What a shelf and a desk make of a plan is what the plain machine makes of the step.
-use Rattle.std.proofs.Common.{◌≡◌, ◌≢◌, ℕ, ◌+◌, ◌-◌, ◌<◌, ◌≤◌, ◌^◌, Bool, true, false, ◌&&◌, ◌||◌, List, [], decimal, Option, Some, None, IfSome, Result, Ok, Err, IfOk, OnOk}
-use Rattle.std.proofs.Common.{OnErr, is_some, is_none, ◌*◌, ◌==◌, eqb, eqb-true, if◌then◌else◌, refl, sym, ap, subst, ◌∙◌, arith, le-leb, lt-ltb, not, true≢false}
+use Rattle.std.proofs.Common.{◌≡◌, ◌≢◌, ℕ, ◌+◌, ◌-◌, ◌<◌, ◌≤◌, ◌^◌, Bool, true, false, ◌&&◌, ◌||◌, List, [], decimal, Option, Some, None, Result, Ok, Err, IfOk, OnOk}
+use Rattle.std.proofs.Common.{is_some, is_none, ◌*◌, ◌==◌, eqb, eqb-true, if◌then◌else◌, refl, sym, ap, subst, ◌∙◌, arith, le-leb, lt-ltb, not, true≢false}
 use Rattle.std.proofs.lemmas.Bool.{and_parts, and_right, or_right}
 use Rattle.std.proofs.lemmas.Option.{same_Some}
 use Rattle.std.specs.FinMap.{empty, get, insert, remove}
@@ -13,7 +13,7 @@ use Rattle.mc_command.specs.declared.step.KeyStep.{KeyStep}
 use Rattle.mc_command.specs.declared.reply.Reply.{Reply}
 use Rattle.mc_command.specs.declared.reply.Reply.TheVariants.{NoChunk}
 use Rattle.mc_command.specs.declared.row.Body.{Body}
-use Rattle.mc_command.specs.declared.row.Body.TheVariants.{Given, Appended, Prepended, Counted}
+use Rattle.mc_command.specs.declared.row.Body.TheVariants.{Given, Counted}
 use Rattle.mc_command.specs.declared.row.Draft.{Draft}
 use Rattle.mc_command.specs.Commands.{key_of}
 use Rattle.mc_command.specs.Plain.{Plain, Entry, Answered, plain, alive, block_need, block_of, changed, charge, chunks_in, count_of, has_room, item_need, keeps_chunk}
@@ -25,8 +25,8 @@ use Rattle.mc_shelf.specs.declared.plan.Next.{Next}
 use Rattle.mc_shelf.specs.declared.plan.Next.TheVariants.{Answer, Expire, Discard, Write}
 use Rattle.mc_shelf.specs.States.{ShelfContent, DeskState, CanStand, IsAt, IsHash}
 use Rattle.mc_shelf.specs.declared.write.Write.{Write as Writing}
-use Rattle.mc_shelf.specs.Plans.{GivesBack, GivesChunks, gives_way, IsDropped, IsOut, IsPut, IsSpent, IsTaken, IsWriteOf, OthersStay, Takes, back_at, block_beside, block_in, counts, dead_chunks, drafted, made_block}
-use Rattle.mc_shelf.specs.Plans.{has_need, is_gone, next_of, reuses, row_at, stood, way_given}
+use Rattle.mc_shelf.specs.Plans.{GivesBack, GivesChunks, gives_way, IsDropped, IsOut, IsPut, IsSpent, IsTaken, IsWriteOf, Takes, back_at}
+use Rattle.mc_shelf.specs.Plans.{block_beside, block_in, counts, dead_chunks, drafted, made_block, has_need, is_gone, next_of, reuses, row_at, stood, way_given}
 use Rattle.mc_shelf.proofs.StandLemmas.{base, step_is, at_none, at_dropped, at_put_again, at_wrote, given_taken, out-given, out-taken, out-way}
 use Rattle.mc_shelf.proofs.StandLemmas.{out_found, out_some, pages-way, pages_after, pages_are, pages_stay, room_by_free, room_is, taken_is_slab, weight, weight_here}
 use Rattle.mc_shelf.proofs.NeedLemmas.{needs_same}
@@ -431,7 +431,8 @@ module _ {step : KeyStep} {now : ℕ} {shelf : ShelfContent} {desk : DeskState} 
                 at_put_again its_key shelf desk s at new own old put_item its_put there (sym need_charge ∙ sym (reused_is e).2) (desk.next_unique + 1),
               )
             where
-              keeps_counted : (body : Body) (item : Entry) → counts body ≡ true → body ≡ draft.body → keeps_chunk body its_key (Some item) ≡ same_need (item_need its_key item) (block_need its_key block)
+              keeps_counted : (body : Body) (item : Entry) → counts body ≡ true → body ≡ draft.body
+                  → keeps_chunk body its_key (Some item) ≡ same_need (item_need its_key item) (block_need its_key block)
               keeps_counted (Counted number) item c is = ap (λ (b : Body). same_need (item_need its_key item) (block_need its_key (written_block b (block_of step) its_stands))) is
               keeps_counted body item c is = absurd (true≢false (sym c))
 

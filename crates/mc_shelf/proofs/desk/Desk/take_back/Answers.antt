@@ -1,4 +1,4 @@
-use Rattle.std.proofs.Common.{◌≡◌, ◌+◌, ◌-◌, [], ◌∷◌, ap, arith, ◌∙◌}
+use Rattle.std.proofs.Common.{◌≡◌, ◌-◌, [], ◌∷◌, ap, arith, ◌∙◌}
 use Rattle.mc_slab.specs.Chunks.{need_in}
 use Rattle.mc_slab.specs.Slabs.{out_of}
 use Rattle.mc_command.specs.Plain.{chunks_in}

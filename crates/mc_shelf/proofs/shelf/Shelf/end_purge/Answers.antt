@@ -1,4 +1,4 @@
-use Rattle.std.proofs.Common.{ap, arith, subst, sym, ◌∙◌}
+use Rattle.std.proofs.Common.{arith, subst, sym}
 use Rattle.mc_shelf.specs.Parts.{IsShelfOf}
 use Rattle.mc_shelf.specs.Sweeps.{BeginsPurge}
 use Rattle.mc_shelf.specs.declared.purge.Purging.{Purging}

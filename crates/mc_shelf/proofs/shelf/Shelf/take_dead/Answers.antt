@@ -1,4 +1,4 @@
-use Rattle.std.proofs.Common.{◌≡◌, arith, refl, sym, ap, subst, length, ◌∙◌, ℕ, vec_len}
+use Rattle.std.proofs.Common.{◌≡◌, arith, refl, sym, ap, subst, length, ◌∙◌, vec_len}
 use Rattle.std.specs.FinMap.{len}
 use Rattle.mc_command.specs.Plain.{count_of}
 use Rattle.mc_grow.specs.Indexes.{IndexState}

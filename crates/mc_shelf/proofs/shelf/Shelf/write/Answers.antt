@@ -1,4 +1,4 @@
-use Rattle.std.proofs.Common.{None, inr, ◌<◌, ◌≡◌, ◌+◌, ◌≤◌, List, ℕ, true, false, arith, rules, length, refl, sym, ap, subst, ◌∙◌}
+use Rattle.std.proofs.Common.{inr, ◌<◌, ◌≡◌, ◌+◌, ◌≤◌, List, ℕ, true, false, arith, rules, length, refl, sym, ap, subst, ◌∙◌}
 use Rattle.std.proofs.lemmas.Result.{IfErr-at_err}
 use Rattle.std.specs.FinMap.{get}
 use Rattle.mc_slab.specs.Needs.{NeedState, need_for, size_in}
