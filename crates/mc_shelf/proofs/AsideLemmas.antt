@@ -2,22 +2,14 @@
 use Rattle.std.proofs.Common.{◌≡◌, ℕ, ◌+◌, ◌-◌, ◌*◌, ◌<◌, ◌≤◌, ◌⊎◌, inl, inr, ⊎_elim, true≢false, eqb}
 use Rattle.std.proofs.Common.{eqb-true, zero, suc, leb, le-leb, List, [], ◌∷◌, ◌++◌, length, length-set, replicate, get_or, set}
 use Rattle.std.proofs.Common.{Option, Some, slice_get, Ok, Err, Result, refl, sym, ap, subst, ◌∙◌, arith}
-use Rattle.std.proofs.lemmas.Bool.{cond_both}
-use Rattle.std.proofs.lemmas.List.{get_or-replicate, set-get_or}
+use Rattle.mc_shelf.proofs.Common.{chunks_a_page, chunks_in, ChunksState, cond_both, count-empty, count-remove, count_of, empty, Entry, EntryState, full_fault}
+use Rattle.mc_shelf.proofs.Common.{get, get_or-replicate, get_or_from_slice_get, given, has_room_with, IsClass, IsFull, IsNeed, IsSlab, item_need, Items}
+use Rattle.mc_shelf.proofs.Common.{made_ready, need_in, NeedState, of_class, out_of, pages_of, pages_wanted, Readies, same_Some, set-get_or, ShelfState}
+use Rattle.mc_shelf.proofs.Common.{SlabState, taken, Takes, TellsFull, unused, WantsPages}
 use Rattle.std.proofs.lemmas.List.Sums.{sum_by-set}
-use Rattle.std.proofs.lemmas.Option.{get_or_from_slice_get, same_Some}
-use Rattle.std.specs.FinMap.{empty, get}
-use Rattle.mc_slab.specs.Classes.{IsClass, chunks_a_page}
-use Rattle.mc_slab.specs.Chunks.{ChunksState, need_in}
-use Rattle.mc_slab.specs.Needs.{NeedState, IsNeed}
 use Rattle.mc_slab.specs.Slabs as slabs
-use Rattle.mc_slab.specs.Slabs.{SlabState, IsSlab, IsFull, Readies, Takes, TellsFull, WantsPages, full_fault, given, has_room_with, made_ready, out_of, pages_of, pages_wanted, taken, unused}
 use Rattle.mc_slab.specs.declared.slab.TakeFault.{TakeFault}
 use Rattle.mc_slab.specs.declared.slab.TakeFault.TheVariants.{Full, NoMemory}
-use Rattle.mc_command.specs.Plain.{Entry, Items, chunks_in, count_of, item_need}
-use Rattle.mc_command.specs.Laws.{of_class}
-use Rattle.mc_command.proofs.CountLemmas.{count-empty, count-remove}
-use Rattle.mc_shelf.specs.States.{EntryState, ShelfState}
 use Rattle.mc_shelf.specs.Asides.{AreCollected, AreOff, GivesOwn, IsOff, LieAside, Suffices, all_out, count_in, seen}
 use Rattle.mc_shelf.proofs.StandLemmas.{out-given, out-taken, weight, weight_here}
 

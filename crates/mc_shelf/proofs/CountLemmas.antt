@@ -3,19 +3,13 @@ use Rattle.std.proofs.Common.{◌≡◌, ℕ, ◌+◌, ◌*◌, ◌-◌, ◌≤�
 use Rattle.std.proofs.Common.{List, Result, Ok, Err, length, refl, sym, ap}
 use Rattle.std.proofs.Common.{subst, ◌∙◌, arith, ⊎_elim}
 use Rattle.std.specs.Prelude.{min, nat_lt, OnOk, OnErr}
-use Rattle.std.specs.FinMap.{len}
+use Rattle.mc_shelf.proofs.Common.{and_parts, count, entries_of, Entry, EntryMap, EntryState, filled, hash_in, IndexState, is_due, IsChanged, items_in}
+use Rattle.mc_shelf.proofs.Common.{items_of, key_in, lags, left, len, ltb-false, ltb-true, StandsAs}
 use Rattle.std.proofs.lemmas.Grind.{pow_more}
-use Rattle.std.proofs.lemmas.Bool.{and_parts, ltb-true, ltb-false}
-use Rattle.mc_hop.specs.Cells.{filled}
 use Rattle.mc_grow.specs.Indexes as grow
-use Rattle.mc_grow.specs.Indexes.{IndexState, StandsAs, count, is_due, lags, left}
 use Rattle.mc_grow.specs.Adding.{AreMoved}
 use Rattle.mc_grow.proofs.CellLemmas.{count_parts}
-use Rattle.mc_shelf.specs.States.{EntryState}
-use Rattle.mc_shelf.specs.KeyMaps.{EntryMap, hash_in, key_in, items_in}
-use Rattle.mc_shelf.specs.Places.{IsChanged, entries_of, items_of}
 use Rattle.mc_shelf.specs.declared.counts.ShelfCounts.{ShelfCounts}
-use Rattle.mc_command.specs.Plain.{Entry}
 use Rattle.mc_shelf.specs.Counts.{CaughtUp, DropsAlone, GoesOn, IsDue, IsLoaded, KeepsTable, MovesFew, counts_in}
 
 -- ---- an index after a change

@@ -1,16 +1,8 @@
 -- The soonest expiry and write of items, as one comes, changes or goes.
 use Rattle.std.proofs.Common.{◌≡◌, ℕ, List, [], ◌∷◌, Option, Some, None, is_eq, sym, ap, subst, ◌∙◌, refl, arith}
-use Rattle.std.proofs.lemmas.Bool.{cond_both}
-use Rattle.std.proofs.lemmas.Option.{same_Some, none-some}
-use Rattle.std.specs.FinMap.{empty, from_entries, get, get-empty, get-insert, get-remove, insert, remove}
-use Rattle.std.specs.Cmp.Lexicographic.{nat_list_cmp_total}
-use Rattle.mc_hop.specs.Cells.{filled}
-use Rattle.mc_hop.specs.Contents.{rows}
-use Rattle.mc_command.specs.Plain.{Entry, Items}
-use Rattle.mc_grow.specs.Indexes.{IndexState, cells, count}
-use Rattle.mc_shelf.specs.States.{EntryState}
-use Rattle.mc_shelf.specs.KeyMaps.{hash_in, hashes_in, items_in, key_in}
-use Rattle.mc_shelf.specs.Places.{IsChanged, hashes_of, items_of}
+use Rattle.mc_shelf.proofs.Common.{cells, cond_both, count, empty, Entry, EntryState, filled, from_entries, get, get-empty, get-insert, get-remove, hash_in}
+use Rattle.mc_shelf.proofs.Common.{hashes_in, hashes_of, IndexState, insert, IsChanged, Items, items_in, items_of, key_in, nat_list_cmp_total, none-some}
+use Rattle.mc_shelf.proofs.Common.{remove, rows, same_Some}
 use Rattle.mc_shelf.specs.Deaths.{DiesNoSooner, DieNoSooner}
 use Rattle.mc_shelf.specs.declared.soonest.Soonest.{Soonest}
 use Rattle.mc_shelf.proofs.KeyLemmas.{order}

@@ -1,28 +1,17 @@
 -- Which plans need the desk: those of a step that drops an item, writes one, finds no chunk, or finds the numbers spent.
 use Rattle.std.proofs.Common.{◌≡◌, ◌≢◌, ◌↔◌, ◌⊎◌, Result, Err, IfErr, ℕ, ◌+◌, ◌-◌, ◌≤◌, ◌^◌, Bool, true, false, true≢false, ◌&&◌, List, Option, Some, None, is_some, is_none, eqb}
 use Rattle.std.proofs.Common.{ltb, le-ltb, inl, inr, if◌then◌else◌, refl, sym, ap, subst, ◌∙◌, arith}
-use Rattle.std.proofs.lemmas.Bool.{cond_both}
-use Rattle.std.proofs.lemmas.Option.{none-some}
-use Rattle.std.specs.FinMap.{get}
-use Rattle.mc_time.specs.declared.expiry.Expiry.{Expiry}
-use Rattle.mc_slab.specs.Needs.{NeedState}
-use Rattle.mc_slab.specs.Slabs.{SlabState, TellsFull, WantsPages, full_fault, has_room_with, out_of, pages_of}
+use Rattle.mc_shelf.proofs.Common.{Answered, block_need, CanStand, charge, cond_both, Deletes, DeskState, Draft, Entry, Expiry, full_fault, get, has_room_with}
+use Rattle.mc_shelf.proofs.Common.{hit_of, IsAt, IsOnKey, keeps_chunk, key_of, KeyStep, NeedState, NoChunk, none-some, out_of, Outcome, pages_of, Plain, plain}
+use Rattle.mc_shelf.proofs.Common.{Reads, refusal_reply, Refuses, Reply, Row, ShelfContent, SlabState, Spent, TellsFull, TooLarge, Touches, WantsPages}
+use Rattle.mc_shelf.proofs.Common.{with_chunk, write_reply, Writes, written}
 use Rattle.mc_slab.specs.declared.slab.TakeFault.{TakeFault}
 use Rattle.mc_slab.specs.declared.slab.TakeFault.TheVariants.{NoMemory}
-use Rattle.mc_command.specs.declared.step.KeyStep.{KeyStep}
-use Rattle.mc_command.specs.declared.reply.Reply.{Reply}
-use Rattle.mc_command.specs.declared.reply.Reply.TheVariants.{NoChunk, TooLarge}
-use Rattle.mc_command.specs.declared.row.Row.{Row}
-use Rattle.mc_command.specs.declared.row.Row.TheVariants.{Refuses, Reads, Touches, Deletes, Writes}
 use Rattle.mc_command.specs.declared.row.Refusal.{Refusal}
 use Rattle.mc_command.specs.declared.row.Refusal.TheVariants as refusal
-use Rattle.mc_command.specs.declared.row.Draft.{Draft}
-use Rattle.mc_command.specs.Commands.{key_of}
-use Rattle.mc_command.specs.Plain.{Plain, Entry, Outcome, Answered, Spent, plain, block_need, charge, has_room as plain_has_room, hit_of, keeps_chunk, refusal_reply, with_chunk, write_reply, written}
-use Rattle.mc_command.specs.Laws.{IsOnKey}
+use Rattle.mc_command.specs.Plain.{has_room as plain_has_room}
 use Rattle.mc_shelf.specs.declared.plan.Next.{Next}
 use Rattle.mc_shelf.specs.declared.plan.Next.TheVariants.{Answer, Expire, Discard, Write}
-use Rattle.mc_shelf.specs.States.{ShelfContent, DeskState, CanStand, IsAt}
 use Rattle.mc_shelf.specs.Plans.{NeedsDesk, WantsDesk, answered, charge_of, is_gone, next_by, next_of, row_at, stood, wants_desk}
 use Rattle.mc_shelf.proofs.KeyLemmas.{get_gone, get_put}
 use Rattle.mc_shelf.proofs.StandLemmas.{base, step_is}

@@ -1,13 +1,7 @@
 -- What an exchange of chunks for those of an item leaves.
 use Rattle.std.proofs.Common.{◌≡◌, ◌≤◌, List, ℕ, Option, true, ap, subst, sym, ◌∙◌}
-use Rattle.std.specs.FinMap.{get}
-use Rattle.mc_slab.specs.Classes.{IsClass}
-use Rattle.mc_slab.specs.Chunks.{ChunksState, AreChunks, need_in}
-use Rattle.mc_slab.specs.Needs.{NeedState, IsNeed}
+use Rattle.mc_shelf.proofs.Common.{AreChunks, ChunksState, DeskState, Entry, get, IsClass, IsNeed, IsSlab, need_in, NeedState, ShelfContent}
 use Rattle.mc_slab.specs.Slabs as slabs
-use Rattle.mc_slab.specs.Slabs.{IsSlab}
-use Rattle.mc_command.specs.Plain.{Entry}
-use Rattle.mc_shelf.specs.States.{DeskState, ShelfContent}
 use Rattle.mc_shelf.specs.Plans.{GivesBack, IsOut, has_need}
 use Rattle.mc_shelf.proofs.TakesLemmas.{need_of_found}
 

@@ -2,24 +2,17 @@
 use Rattle.std.proofs.Common.{◌≡◌, ◌≢◌, ℕ, ◌+◌, ◌<◌, ◌≤◌, Bool, true, false, cond, not, ◌||◌, eqb, eqb-true, eq-eqb, ne_eqb, ltb, lt-ltb, le-ltb, true≢false}
 use Rattle.std.proofs.Common.{suc, List, [], ◌∷◌, ◌++◌, length, length-set, take, drop, Option, Some, None, is_some, slice_get, slice_set, refl, sym, ap, subst, ◌∙◌, arith, ◌⊎◌, inl, inr}
 use Rattle.std.proofs.Common.{⊎_elim}
+use Rattle.mc_shelf.proofs.Common.{alive, cases_order, count-empty, count-parted, count_of, DeskState, Entry, flushed, get, get-empty, is_dead, IsClass, Items}
+use Rattle.mc_shelf.proofs.Common.{living, moment_named, or_from, or_left, or_right, out_of, Plain, retain_keys, ShelfContent, ShelfState, slice_get_within}
+use Rattle.mc_shelf.proofs.Common.{take-append_seam}
 use Rattle.std.proofs.Math.Bool.{or-false}
-use Rattle.std.proofs.lemmas.Bool.{cases_order, or_from, or_left, or_right}
-use Rattle.std.proofs.lemmas.Option.{slice_get_within}
 use Rattle.std.specs.FinMap as maps
-use Rattle.std.specs.FinMap.{get, get-empty, retain_keys}
-use Rattle.mc_time.specs.Death.{is_dead, moment_named}
-use Rattle.mc_slab.specs.Classes.{IsClass}
-use Rattle.mc_slab.specs.Slabs.{out_of}
-use Rattle.mc_command.specs.Plain.{Entry, Items, Plain, alive, count_of, flushed, living}
 use Rattle.mc_command.specs.Purge.{purged}
-use Rattle.mc_command.proofs.CountLemmas.{count-empty, count-parted}
-use Rattle.mc_shelf.specs.States.{ShelfContent, ShelfState, DeskState}
 use Rattle.mc_shelf.specs.Sweeps.{AreOut, GivesFor, IsPurged}
 use Rattle.mc_shelf.specs.Deaths.{NoneIsDead}
 use Rattle.mc_shelf.specs.Parts.{shelf_of, IsShelfOf, IsDeskOf, ArePartsOf, GoesTo}
 use Rattle.mc_shelf.specs.Asides.{count_in}
 use Rattle.mc_shelf.specs.Unions.{IsFlushed, left_of_flush}
-use Rattle.std.proofs.Math.Seq.{take-append_seam}
 use Rattle.mc_shelf.proofs.KeyLemmas.{order, same_maps, get_kept}
 use Rattle.mc_shelf.proofs.PartLemmas.{parted, own_items, shelf_kept, put_cases}
 use Rattle.mc_shelf.proofs.SweepLemmas.{get_living}

@@ -1,18 +1,9 @@
 -- A read of a key that has no dead item is the plain machine's.
 use Rattle.std.proofs.Common.{◌≡◌, ℕ, true, false, Option, Some, None, is_some, is_none, refl, sym, ap, subst, ◌∙◌, true≢false}
-use Rattle.std.proofs.lemmas.Bool.{cond_both}
-use Rattle.std.specs.FinMap.{get}
-use Rattle.mc_time.specs.declared.expiry.Expiry.{Expiry}
-use Rattle.mc_time.specs.Death.{is_dead}
-use Rattle.mc_grow.specs.declared.index.Place.{Place}
-use Rattle.mc_command.specs.declared.step.KeyStep.{KeyStep}
+use Rattle.mc_shelf.proofs.Common.{alive, cond_both, Entry, Expiry, get, hit_of, is_dead, IsOnKey, key_of, KeyStep, Place, read_row, row_of, ShelfContent}
 use Rattle.mc_command.specs.declared.step.KeyStep.TheVariants.{Read, ReadTouch}
-use Rattle.mc_command.specs.Commands.{key_of}
-use Rattle.mc_command.specs.Plain.{Entry, alive, hit_of, read_row, row_of}
-use Rattle.mc_command.specs.Laws.{IsOnKey}
 use Rattle.mc_shelf.specs.declared.plan.Next.{Next}
 use Rattle.mc_shelf.specs.declared.plan.Next.TheVariants.{Answer, Expire}
-use Rattle.mc_shelf.specs.States.{ShelfContent}
 use Rattle.mc_shelf.specs.Plans.{IsKnown, IsPut, IsSettled, is_gone, next_by, next_of, stood}
 use Rattle.mc_shelf.specs.Hits.{is_read, read_expiry}
 use Rattle.mc_shelf.proofs.ShelfLemmas.{others_same}

@@ -1,16 +1,9 @@
 -- What a search in an index and a change of its entries say of the items and the hashes under its keys.
 use Rattle.std.proofs.Common.{◌≡◌, ℕ, zero, suc, ◌+◌, ◌^◌, ◌≤◌, true, false, cond, List, [], ◌∷◌, ◌++◌, replicate, get_or, Option, Some, None, sym, refl, ap, subst, ◌∙◌, arith, inl, inr}
-use Rattle.std.proofs.lemmas.Bool.{cases_lt, cond_both}
-use Rattle.std.proofs.lemmas.Option.{same_Some, none-some}
-use Rattle.std.specs.Cmp.Lexicographic.{nat_list_cmp_total}
-use Rattle.std.specs.FinMap.{empty, find, from_entries, get, get-from_entries, insert, remove}
-use Rattle.mc_hop.specs.Contents.{rows}
-use Rattle.mc_grow.specs.Indexes.{IndexState, IsFound, IsNew, IsPlaceOf, IsUpdated, KeepsLower, cells, entry_at, left}
-use Rattle.mc_grow.specs.declared.index.Place.{Place}
-use Rattle.mc_command.specs.Plain.{Entry}
-use Rattle.mc_shelf.specs.States.{EntryState}
-use Rattle.mc_shelf.specs.KeyMaps.{IsHashOf, IsKeyed, StandsIn, hash_in, hashes_in, items_in, key_in}
-use Rattle.mc_shelf.specs.Places.{IsChanged, IsKeyAt, IsKeyFound, KeyGoes, KeyComes, entries_of, hashes_of, items_of}
+use Rattle.mc_shelf.proofs.Common.{cases_lt, cells, cond_both, empty, entries_of, Entry, entry_at, EntryState, find, from_entries, get, get-from_entries}
+use Rattle.mc_shelf.proofs.Common.{hash_in, hashes_in, hashes_of, IndexState, insert, IsChanged, IsFound, IsHashOf, IsKeyAt, IsKeyed, IsKeyFound, IsNew}
+use Rattle.mc_shelf.proofs.Common.{IsPlaceOf, IsUpdated, items_in, items_of, KeepsLower, key_in, KeyComes, KeyGoes, left, nat_list_cmp_total, none-some, Place}
+use Rattle.mc_shelf.proofs.Common.{remove, rows, same_Some, StandsIn}
 use Rattle.mc_shelf.proofs.KeyLemmas.{order, get_gone}
 use Rattle.mc_shelf.proofs.LabelLemmas.{own, same, same_itself}
 use Rattle.mc_shelf.proofs.KeyMapLemmas.{hash_absent, hash_there, hashes-insert, hashes-remove, hashes-replace, found_hash, item_there, items-insert, items-remove, keyed-insert}

@@ -1,14 +1,9 @@
 -- Entries under their hashes and keys in one finite map: what it says of the items and the hashes under the keys alone, and what a
 -- change of one entry makes of these.
 use Rattle.std.proofs.Common.{◌≡◌, ℕ, false, cond, List, [], ◌∷◌, drop, get_or, Option, Some, None, sym, refl, ap, ◌∙◌}
-use Rattle.std.proofs.lemmas.Bool.{cond_both, false_from_ne_true, true≢false}
-use Rattle.std.proofs.lemmas.Option.{same_Some, none-some}
-use Rattle.std.specs.Cmp.Lexicographic.{nat_list_cmp_total}
-use Rattle.std.specs.FinMap.{empty, find, get, get-empty, get-from_entries, get-insert, get-remove, insert, remove}
-use Rattle.mc_hop.specs.Contents.{rows, content}
-use Rattle.mc_command.specs.Plain.{Entry}
-use Rattle.mc_shelf.specs.States.{EntryState}
-use Rattle.mc_shelf.specs.KeyMaps.{EntryMap, items_in, hashes_in, IsHashOf, StandsIn, IsKeyed}
+use Rattle.mc_shelf.proofs.Common.{cond_both, content, empty, Entry, EntryMap, EntryState, false_from_ne_true, find, get, get-empty, get-from_entries}
+use Rattle.mc_shelf.proofs.Common.{get-insert, get-remove, hashes_in, insert, IsHashOf, IsKeyed, items_in, nat_list_cmp_total, none-some, remove, rows}
+use Rattle.mc_shelf.proofs.Common.{same_Some, StandsIn, true≢false}
 use Rattle.mc_shelf.proofs.KeyLemmas.{order, same_maps}
 use Rattle.mc_shelf.proofs.LabelLemmas.{same, same_list, same_itself, none_by, own, own_key, same_label, Held, parts_in, held, part_there, no_part, no_entry, part_same}
 

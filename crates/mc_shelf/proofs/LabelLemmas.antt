@@ -1,15 +1,11 @@
 -- Entries under their labels, a hash and a key in one list, in one finite map: what stands of one part of them under the keys alone.
 use Rattle.std.proofs.Common.{◌≡◌, ℕ, Bool, true, false, cond, ◌&&◌, T, List, [], ◌∷◌, map, drop, Option, Some, None, Ordering, Less, Equal, Greater, is_eq, is_lt, sym, refl, ap, ◌∙◌}
-use Rattle.std.proofs.lemmas.Bool.{cond_both}
-use Rattle.std.proofs.lemmas.Option.{same_Some, none-some}
+use Rattle.mc_shelf.proofs.Common.{cond_both, entries, entries_in, entries_sorted, EntryMap, EntryState, find, FinMap, from_entries, get, get-entries}
+use Rattle.mc_shelf.proofs.Common.{get-from_entries, is_sorted, IsKeyed, nat_list_cmp_total, none-some, same_Some, StandsIn}
 use Rattle.std.specs.Ordering.{eq_by_cmp}
 use Rattle.std.specs.Cmp.{tied_itself}
-use Rattle.std.specs.Cmp.Lexicographic.{nat_list_cmp_total}
-use Rattle.std.specs.FinMap.{FinMap, entries, entries_sorted, from_entries, find, get, get-entries, get-from_entries, is_sorted}
 use Rattle.std.specs.FinMap.Entries.{below_all}
 use Rattle.mc_command.proofs.ItemLemmas.{is_equal}
-use Rattle.mc_shelf.specs.States.{EntryState}
-use Rattle.mc_shelf.specs.KeyMaps.{EntryMap, entries_in, StandsIn, IsKeyed}
 use Rattle.mc_shelf.proofs.KeyLemmas.{order, same_key}
 
 abbrev pub same : List ℕ → List ℕ → Bool

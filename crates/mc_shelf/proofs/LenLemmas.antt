@@ -1,11 +1,7 @@
 -- How many items an index has.
 use Rattle.std.proofs.Common.{◌≡◌, ℕ, zero, suc, ◌+◌, ◌-◌, ◌≤◌, cond, List, [], ◌∷◌, Some, is_some, sym, refl, ap, ◌∙◌, arith}
-use Rattle.std.proofs.lemmas.Option.{none-some}
-use Rattle.std.specs.Cmp.Lexicographic.{nat_list_cmp_total}
-use Rattle.std.specs.FinMap.{entries, get, get-entries, len, len-empty, len-entries, len-remove, empty_of_len, remove, find}
-use Rattle.mc_command.specs.Plain.{Items, Entry}
-use Rattle.mc_shelf.specs.States.{EntryState}
-use Rattle.mc_shelf.specs.KeyMaps.{EntryMap, items_in, StandsIn, IsKeyed}
+use Rattle.mc_shelf.proofs.Common.{empty_of_len, entries, Entry, EntryMap, EntryState, find, get, get-entries, IsKeyed, Items, items_in, len, len-empty}
+use Rattle.mc_shelf.proofs.Common.{len-entries, len-remove, nat_list_cmp_total, none-some, remove, StandsIn}
 use Rattle.mc_shelf.proofs.KeyLemmas.{order}
 use Rattle.mc_shelf.proofs.LabelLemmas.{same_itself}
 use Rattle.mc_shelf.proofs.KeyMapLemmas.{item_there, keyed-remove, items-remove, items-empty}

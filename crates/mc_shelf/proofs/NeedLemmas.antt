@@ -1,16 +1,11 @@
 -- What a charge needs.
 use Rattle.std.proofs.Common.{◌≡◌, ℕ, ◌+◌, ◌-◌, ◌*◌, ◌/◌, ◌<◌, ◌≤◌, true, false, true≢false, ◌&&◌, not, eqb, eqb-true, eq-eqb, ltb, List, Option, Some, None, length, get_or, inl}
 use Rattle.std.proofs.Common.{inr, leb, sym, ap, subst, ◌∙◌, arith, refl}
-use Rattle.std.proofs.lemmas.Bool.{cases_lt, cond_both, le-leb, leb-true, leb-false}
+use Rattle.mc_shelf.proofs.Common.{AreChunksOf, cases_lt, ChunksState, class_holding, cond_both, Entry, IsClass, item_need, le-leb, leb-false, leb-true}
+use Rattle.mc_shelf.proofs.Common.{length-chunk_sizes, need_for, NeedState, of_class, position_or_len, same_need, size_in, size_of, size_of-last}
 use Rattle.std.proofs.lemmas.List.Sums.{fails_before_first, passes_at_first}
-use Rattle.std.specs.List.{position_or_len}
-use Rattle.mc_slab.specs.Classes.{IsClass, chunk_sizes, class_holding, size_of}
-use Rattle.mc_slab.specs.Needs.{NeedState, need_for, same_need, size_in}
-use Rattle.mc_command.specs.Plain.{Entry, item_need}
-use Rattle.mc_command.specs.Laws.{of_class}
+use Rattle.mc_slab.specs.Classes.{chunk_sizes}
 use Rattle.mc_shelf.specs.Plans.{dead_chunks, gives_way, has_need, is_gone}
-use Rattle.mc_slab.specs.Chunks.{ChunksState, AreChunksOf}
-use Rattle.mc_slab.proofs.ClassLemmas.{length-chunk_sizes, size_of-last}
 
 pub by_charge : (P : NeedState → Type 0) (charge : ℕ) → (charge ≤ 1048576 → P (record { class = class_holding charge; count = 1 }))
     → (1048576 < charge → P (record { class = 40; count = (charge + 1048575) / 1048576 })) → P (need_for charge)

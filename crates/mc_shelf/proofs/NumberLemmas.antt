@@ -1,21 +1,11 @@
 -- How many keys have a number, counted over the places of an index.
 use Rattle.std.proofs.Common.{◌≡◌, ℕ, zero, suc, ◌+◌, ◌-◌, ◌%◌, ◌^◌, ◌<◌, ◌≤◌, Bool, true, false, cond, eqb, List, [], ◌∷◌}
 use Rattle.std.proofs.Common.{length, drop, get_or, set, Option, Some, None, is_some, is_eq, refl, sym, ap, subst, ◌∙◌, arith, inl, inr}
-use Rattle.std.proofs.Math.Seq.{drop-nil}
-use Rattle.std.proofs.lemmas.Bool.{cases_eq, cond_both, eq-eqb, ne_eqb}
-use Rattle.std.proofs.lemmas.Option.{none-some}
-use Rattle.std.proofs.lemmas.List.{length-set, get_or-set_same, get_or-set_other}
+use Rattle.mc_shelf.proofs.Common.{cases_eq, cells, cond_both, content, count, drop-nil, empty, entries_of, Entry, entry_at, EntryState, eq-eqb, filled, get}
+use Rattle.mc_shelf.proofs.Common.{get-empty, get-from_entries, get-insert, get_or-set_other, get_or-set_same, hash_in, IndexState, insert, IsFirstFrom}
+use Rattle.mc_shelf.proofs.Common.{IsHashOf, IsKeyed, IsNext, Items, items_in, key_in, len, len-empty, len-insert, length-set, nat_list_cmp_total, ne_eqb}
+use Rattle.mc_shelf.proofs.Common.{none-some, Place, retain_keys, rows, ShelfContent}
 use Rattle.std.proofs.lemmas.Nat.{mod_below}
-use Rattle.std.specs.Cmp.Lexicographic.{nat_list_cmp_total}
-use Rattle.std.specs.FinMap.{empty, get, get-empty, get-from_entries, get-insert, insert, len, len-empty, len-insert, retain_keys}
-use Rattle.mc_hop.specs.Cells.{filled}
-use Rattle.mc_hop.specs.Contents.{rows, content}
-use Rattle.mc_grow.specs.Indexes.{IndexState, IsFirstFrom, IsNext, cells, count, entry_at}
-use Rattle.mc_grow.specs.declared.index.Place.{Place}
-use Rattle.mc_command.specs.Plain.{Items, Entry}
-use Rattle.mc_shelf.specs.States.{EntryState, ShelfContent}
-use Rattle.mc_shelf.specs.KeyMaps.{IsHashOf, IsKeyed, hash_in, items_in, key_in}
-use Rattle.mc_shelf.specs.Places.{entries_of}
 use Rattle.mc_shelf.specs.Numbers.{AreCounted, HasPlaces, keys_with, number_of}
 use Rattle.mc_shelf.proofs.KeyLemmas.{order, get_kept, same_maps}
 use Rattle.mc_shelf.proofs.LabelLemmas.{same_list}

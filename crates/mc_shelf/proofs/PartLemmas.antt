@@ -1,23 +1,12 @@
 -- Parts of a state: what they are together, and what a change of one of them makes of the state.
 use Rattle.std.proofs.Common.{◌≡◌, ◌≢◌, ℕ, zero, suc, ◌+◌, ◌-◌, ◌<◌, Bool, true, false, cond, not, eqb, eqb-true, true≢false, List, [], ◌∷◌, ◌++◌, length, length-set, map}
 use Rattle.std.proofs.Common.{Option, Some, None, slice_get, slice_set, refl, sym, ap, subst, ◌∙◌, arith, ◌⊎◌, inl, inr, ⊎_elim}
-use Rattle.std.proofs.lemmas.Bool.{cases_Bool, cond_both, eqb-false}
-use Rattle.std.proofs.lemmas.Option.{same_Some}
+use Rattle.mc_shelf.proofs.Common.{Answered, cases_Bool, cond_both, count-parted, count_of, DeskState, entries, Entry, eqb-false, find, get, get-entries}
+use Rattle.mc_shelf.proofs.Common.{get-from_entries, IsAt, IsHash, IsOnKey, Items, key_of, KeyStep, nat_list_cmp_total, option_or, other_keys, Plain, plain}
+use Rattle.mc_shelf.proofs.Common.{range_with_len, Reply, retain_keys, same_Some, ShelfContent, ShelfState}
 use Rattle.std.proofs.lemmas.List.FromFn.{get_or-map-range_with_len}
-use Rattle.std.specs.List.{range_with_len}
-use Rattle.std.specs.Option.{option_or}
-use Rattle.std.specs.Cmp.Lexicographic.{nat_list_cmp_total}
 use Rattle.std.specs.Ordering.{eq_by_cmp}
-use Rattle.std.specs.FinMap.{entries, get, find, get-entries, get-from_entries, retain_keys}
-use Rattle.mc_command.specs.declared.step.KeyStep.{KeyStep}
-use Rattle.mc_command.specs.declared.reply.Reply.{Reply}
-use Rattle.mc_command.specs.Commands.{key_of}
-use Rattle.mc_command.specs.Laws.{IsOnKey}
-use Rattle.mc_command.proofs.CountLemmas.{count-parted}
-use Rattle.mc_command.proofs.LawLemmas.{other_keys}
 use Rattle.mc_command.proofs.PageLemmas.{limit_stays}
-use Rattle.mc_command.specs.Plain.{Answered, Entry, Items, Plain, count_of, plain}
-use Rattle.mc_shelf.specs.States.{ShelfContent, ShelfState, DeskState, IsAt, IsHash}
 use Rattle.mc_shelf.specs.Plans.{IsTaken, IsSettled}
 use Rattle.mc_shelf.specs.Parts.{shelf_of, IsShelfOf, IsDeskOf, ArePartsOf, GoesTo, GoesByStep, GoesWithoutDesk}
 use Rattle.mc_shelf.specs.Unions.{all_entries, all_items, cut_of, plain_of}

@@ -1,17 +1,9 @@
 -- A block in parts, and which of them are blank.
 use Rattle.std.proofs.Common.{◌≡◌, ℕ, zero, suc, ◌+◌, ◌-◌, ◌<◌, ◌≤◌, ◌&&◌, Bool, true, false, List, [], ◌∷◌, length, take, drop, Some, None, slice_get, if◌then◌else◌, refl}
 use Rattle.std.proofs.Common.{sym, ap, subst, ◌∙◌, arith}
-use Rattle.std.proofs.Math.Seq.{drop-nil}
-use Rattle.std.proofs.lemmas.Option.{get_or_from_slice_get, same_Some, slice_get_within}
-use Rattle.std.proofs.lemmas.List.{drop_more, length-take-le}
+use Rattle.mc_shelf.proofs.Common.{charge, concat, drop-nil, drop_more, Entry, get_or_from_slice_get, item_need, length-take-le, list_all, need_for, number_of}
+use Rattle.mc_shelf.proofs.Common.{parts_of, pieces, same_Some, size_of, size_of-last, slice_get_within}
 use Rattle.std.proofs.lemmas.List.Folds.{list_all-append}
-use Rattle.std.specs.List.{concat, list_all}
-use Rattle.mc_slab.specs.Classes.{size_of}
-use Rattle.mc_slab.specs.Needs.{need_for}
-use Rattle.mc_slab.proofs.ClassLemmas.{size_of-last}
-use Rattle.mc_item.specs.Items.{pieces}
-use Rattle.mc_command.specs.Plain.{Entry, charge, item_need, number_of}
-use Rattle.mc_shelf.specs.States.{parts_of}
 use Rattle.mc_shelf.proofs.NeedLemmas.{by_charge}
 use Rattle.mc_command.specs.Words.{is_space}
 use Rattle.mc_command.proofs.NumberLemmas.{number_of-joined}

@@ -1,12 +1,6 @@
 -- What the place of a key says of the entry there.
 use Rattle.std.proofs.Common.{◌≡◌, ℕ, List, Some, sym, ap, subst, ◌∙◌}
-use Rattle.std.proofs.lemmas.Option.{same_Some}
-use Rattle.std.specs.FinMap.{get}
-use Rattle.mc_grow.specs.Indexes.{IndexState, entry_at}
-use Rattle.mc_grow.specs.declared.index.Place.{Place}
-use Rattle.mc_command.specs.Plain.{Entry}
-use Rattle.mc_shelf.specs.States.{EntryState}
-use Rattle.mc_shelf.specs.Places.{IsKeyAt, items_of}
+use Rattle.mc_shelf.proofs.Common.{Entry, entry_at, EntryState, get, IndexState, IsKeyAt, items_of, Place, same_Some}
 
 module _ (index : IndexState EntryState) (key : List ℕ) (place : Place) (here : IsKeyAt index key place) where
   pub key_there : (e : EntryState) → entry_at index place ≡ Some e → e.key ≡ key

@@ -1,29 +1,17 @@
 -- What the plan of a step says of the plain machine at the key.
 use Rattle.std.proofs.Common.{◌≡◌, ℕ, ◌≤◌, Bool, true, false, ◌&&◌, List, append-nil, Option, Some, None, is_some, is_none, eqb, ltb, if◌then◌else◌, refl, sym, ap, subst, ◌∙◌}
 use Rattle.std.proofs.Common.{ltb-true, ltb-false, true≢false}
-use Rattle.std.proofs.lemmas.Bool.{cond_both}
-use Rattle.std.specs.FinMap.{get, insert, remove}
-use Rattle.mc_time.specs.declared.expiry.Expiry.{Expiry}
-use Rattle.mc_time.specs.Death.{is_dead}
+use Rattle.mc_shelf.proofs.Common.{alive, Answered, Appended, block_of, Body, cas_row, changed, charge, cond_both, count_row, Deleted, Deletes, DeskState}
+use Rattle.mc_shelf.proofs.Common.{Draft, Entry, expiring, Expiry, get, Given, hit_of, insert, is_dead, IsAt, IsOnKey, keeps_chunk, key_of, KeyStep, number_of}
+use Rattle.mc_shelf.proofs.Common.{number_row, Outcome, Plain, Prepended, Reads, refusal_reply, Refuses, remove, Reply, Row, row_of, ShelfContent, store_row}
+use Rattle.mc_shelf.proofs.Common.{TooLarge, Touched, Touches, write_reply, Writes, written_block, wrote}
 use Rattle.mc_command.specs.declared.step.Verb.{Verb}
 use Rattle.mc_command.specs.declared.step.Verb.TheVariants.{Set, Add, Replace, Append, Prepend}
-use Rattle.mc_command.specs.declared.step.KeyStep.{KeyStep}
 use Rattle.mc_command.specs.declared.step.KeyStep.TheVariants.{Store, Cas, Count, Flush}
-use Rattle.mc_command.specs.declared.reply.Reply.{Reply}
-use Rattle.mc_command.specs.declared.reply.Reply.TheVariants.{Deleted, TooLarge, Touched}
-use Rattle.mc_command.specs.declared.row.Row.{Row}
-use Rattle.mc_command.specs.declared.row.Row.TheVariants.{Refuses, Reads, Touches, Deletes, Writes}
 use Rattle.mc_command.specs.declared.row.Refusal.TheVariants as refusal
-use Rattle.mc_command.specs.declared.row.Body.{Body}
-use Rattle.mc_command.specs.declared.row.Body.TheVariants.{Given, Appended, Prepended}
-use Rattle.mc_command.specs.declared.row.Draft.{Draft}
-use Rattle.mc_command.specs.Commands.{key_of}
-use Rattle.mc_command.specs.Plain.{Plain, Entry, Outcome, Answered, alive, block_of, cas_row, changed, charge, count_row, expiring, given, hit_of, keeps_chunk, number_of}
-use Rattle.mc_command.specs.Plain.{number_row, refusal_reply, row_of, store_row, write_reply, written_block, wrote}
-use Rattle.mc_command.specs.Laws.{IsOnKey}
+use Rattle.mc_command.specs.Plain.{given}
 use Rattle.mc_shelf.specs.declared.plan.Next.{Next}
 use Rattle.mc_shelf.specs.declared.plan.Next.TheVariants.{Answer, Expire, Discard, Write}
-use Rattle.mc_shelf.specs.States.{ShelfContent, DeskState, IsAt}
 use Rattle.mc_shelf.specs.Plans.{answered, block_in, charge_of, is_gone, made_block, next_by, next_of, row_at, stood}
 use Rattle.mc_shelf.proofs.StandLemmas.{base, wrote_too_large}
 

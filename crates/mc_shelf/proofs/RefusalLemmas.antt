@@ -1,21 +1,11 @@
 -- Where a step may be refused: its answer is one that memory is asked for.
 use Rattle.std.proofs.Common.{◌≡◌, ◌≢◌, ℕ, ◌-◌, ◌≤◌, ◌^◌, Bool, true, false, true≢false, List, Result, Ok, Err, IfOk, refl, sym, subst, ◌∙◌}
-use Rattle.mc_slab.specs.Needs.{need_for}
+use Rattle.mc_shelf.proofs.Common.{Answered, block_need, Body, CanStand, charge, CopiesBlock, DeskState, Draft, Given, has_room, IsAt, IsOnKey, IsSlab}
+use Rattle.mc_shelf.proofs.Common.{keeps_chunk, key_of, KeyStep, MayFail, need_for, Plain, plain, Reply, ShelfContent, Spent, StepFault, write_reply, wrote}
 use Rattle.mc_slab.specs.Slabs as slabs
-use Rattle.mc_slab.specs.Slabs.{IsSlab}
-use Rattle.mc_command.specs.declared.step.KeyStep.{KeyStep}
-use Rattle.mc_command.specs.declared.reply.Reply.{Reply}
-use Rattle.mc_command.specs.declared.row.Body.{Body}
-use Rattle.mc_command.specs.declared.row.Body.TheVariants.{Given}
-use Rattle.mc_command.specs.declared.row.Draft.{Draft}
-use Rattle.mc_command.specs.Commands.{key_of}
-use Rattle.mc_command.specs.Plain.{Plain, Answered, Spent, CopiesBlock, MayFail, plain, block_need, charge, has_room, keeps_chunk, write_reply, wrote}
-use Rattle.mc_command.specs.Laws.{IsOnKey}
 use Rattle.mc_shelf.specs.declared.plan.Next.{Next}
 use Rattle.mc_shelf.specs.declared.plan.Next.TheVariants.{Write}
-use Rattle.mc_command.specs.declared.step.StepFault.{StepFault}
 use Rattle.mc_command.specs.declared.step.StepFault.TheVariants.{NoMemory, NumbersSpent}
-use Rattle.mc_shelf.specs.States.{ShelfContent, DeskState, CanStand, IsAt}
 use Rattle.mc_shelf.specs.Plans.{CanWrite, IsSpent, IsTaken, MayWantMemory, NeedsPages, back_at, next_of, stood, writes}
 use Rattle.mc_shelf.proofs.StandLemmas.{wrote_kept, wrote_taken}
 use Rattle.mc_shelf.proofs.PlanLemmas.{block_at, found_in}

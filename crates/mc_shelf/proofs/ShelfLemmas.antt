@@ -1,13 +1,7 @@
 -- What an edit of its index makes of a shelf's content.
 use Rattle.std.proofs.Common.{◌≡◌, ℕ, List, Option, Some, None, is_some, true≢false, refl, sym, ap, subst, ◌∙◌}
-use Rattle.std.proofs.lemmas.Option.{same_Some, none-some}
-use Rattle.std.specs.FinMap.{get, insert, remove}
-use Rattle.mc_slab.specs.Chunks.{ChunksState}
-use Rattle.mc_command.specs.Plain.{Entry}
-use Rattle.mc_grow.specs.Indexes.{IndexState}
-use Rattle.mc_grow.specs.declared.index.Place.{Place}
-use Rattle.mc_shelf.specs.States.{EntryState, ShelfContent, Hashes, IsHash}
-use Rattle.mc_shelf.specs.Places.{items_of, hashes_of, IsChanged, KeyGoes}
+use Rattle.mc_shelf.proofs.Common.{ChunksState, Entry, EntryState, get, Hashes, hashes_of, IndexState, insert, IsChanged, IsHash, items_of, KeyGoes, none-some}
+use Rattle.mc_shelf.proofs.Common.{Place, remove, same_Some, ShelfContent}
 use Rattle.mc_shelf.specs.Plans.{IsDropped, IsKnown, IsPut, IsSought, OthersStay, with_item}
 use Rattle.mc_shelf.proofs.KeyLemmas.{get_gone, get_gone_other, get_put, get_put_other, put_same}
 

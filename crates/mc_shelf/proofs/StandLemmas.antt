@@ -2,26 +2,13 @@
 use Rattle.std.proofs.Common.{◌≡◌, ◌≢◌, ℕ, ◌+◌, ◌-◌, ◌*◌, ◌<◌, ◌≤◌, ◌^◌, Bool, true, false, leb, List, length, get_or, set, sum, Option, Some, None, eqb, if◌then◌else◌, refl, sym}
 use Rattle.std.proofs.Common.{ap, ◌∙◌, arith, get_or-set_same, get_or-set_other, lt-ltb, le-ltb, le-leb, eq-eqb, ne_eqb, eqb-true, subst, set-set, length-set}
 use lib.Seq.{set-get_or}
-use Rattle.std.proofs.lemmas.Bool.{cond_both, eqb-false}
-use Rattle.std.specs.FinMap.{get, insert, remove}
-use Rattle.mc_time.specs.declared.expiry.Expiry.{Expiry}
-use Rattle.mc_slab.specs.Classes.{IsClass, chunks_a_page}
-use Rattle.mc_slab.specs.Needs.{NeedState}
+use Rattle.mc_shelf.proofs.Common.{alive, Answered, block_need, changed, charge, chunks_a_page, chunks_a_page-least, chunks_in, cond_both, count-insert}
+use Rattle.mc_shelf.proofs.Common.{count-remove, count_of, DeskState, Entry, eqb-false, Expiry, get, given, has_room, insert, IsAt, IsClass, IsOnKey, IsSlab}
+use Rattle.mc_shelf.proofs.Common.{item_need, Items, key_of, KeyStep, made_ready, NeedState, NoChunk, of_class, on_key, out_of, Plain, plain, remove, Reply}
+use Rattle.mc_shelf.proofs.Common.{row_of, ShelfContent, SlabState, Spent, taken, TooLarge, with_chunk, without_dead, written, wrote}
 use Rattle.mc_slab.specs.Slabs as slabs
-use Rattle.mc_slab.specs.Slabs.{SlabState, IsSlab, out_of, made_ready, taken, given}
-use Rattle.mc_slab.proofs.ClassLemmas.{chunks_a_page-least}
 use Rattle.std.proofs.Math.Nat.{le-mul_of_pos_right}
-use Rattle.mc_command.specs.declared.step.KeyStep.{KeyStep}
-use Rattle.mc_command.proofs.CountLemmas.{count-insert, count-remove}
-use Rattle.mc_command.proofs.LawLemmas.{on_key}
-use Rattle.mc_command.specs.declared.reply.Reply.{Reply}
-use Rattle.mc_command.specs.declared.reply.Reply.TheVariants.{TooLarge, NoChunk}
-use Rattle.mc_command.specs.Commands.{key_of}
 use Rattle.mc_command.specs.Plain as machine
-use Rattle.mc_command.specs.Plain.{Plain, Items, Entry, Answered, Spent, plain, changed, charge, block_need, item_need, chunks_in, count_of, has_room, with_chunk}
-use Rattle.mc_command.specs.Plain.{without_dead, written, wrote, alive, row_of}
-use Rattle.mc_command.specs.Laws.{IsOnKey, of_class}
-use Rattle.mc_shelf.specs.States.{ShelfContent, DeskState, IsAt}
 use Rattle.mc_shelf.specs.Plans.{IsDropped, IsPut, row_at, stood}
 use Rattle.mc_shelf.proofs.KeyLemmas.{get_gone, get_put}
 

@@ -1,24 +1,11 @@
 -- A store: what a change of one of its shelves, or of all, makes of the state that its parts keep.
 use Rattle.std.proofs.Common.{◌≡◌, ℕ, zero, suc, ◌-◌, ◌^◌, ◌<◌, Bool, true, false, cond, eqb, ltb, List, length, map, replicate, Option, Some, slice_get, slice_index}
 use Rattle.std.proofs.Common.{slice_index_or, slice_set, refl, sym, ap, subst, ◌∙◌, arith, Result, Ok, Err, IfOk, OnErr}
-use Rattle.std.specs.Option.{option_map}
-use Rattle.std.proofs.lemmas.Bool.{cond-false, cond-true}
-use Rattle.std.proofs.lemmas.List.{get_or-replicate, length-map, length-replicate, map-set}
-use Rattle.std.proofs.lemmas.Option.{get_or_from_slice_get, slice_get-map, slice_get_read, same_Some}
-use Rattle.std.specs.FinMap.{get, get-empty}
-use Rattle.mc_slab.specs.Slabs.{untouched, out_of}
-use Rattle.mc_command.specs.declared.row.Row.{Row}
-use Rattle.mc_command.specs.declared.row.Row.TheVariants.{Writes}
-use Rattle.mc_command.specs.declared.step.KeyStep.{KeyStep}
-use Rattle.mc_command.proofs.LawLemmas.{on_key}
-use Rattle.mc_command.specs.declared.step.StepFault.{StepFault}
-use Rattle.mc_command.specs.declared.reply.Reply.{Reply}
-use Rattle.mc_command.specs.Commands.{key_of}
-use Rattle.mc_command.specs.Laws.{IsOnKey}
-use Rattle.mc_slab.specs.Needs.{need_for}
-use Rattle.mc_command.specs.Plain.{Answered, Spent, Entry, Outcome, Plain, alive, block_of, changed, charge, has_room, keeps_chunk, plain, row_of, starting, without_dead, written_block}
-use Rattle.mc_command.proofs.CountLemmas.{count-empty}
-use Rattle.mc_shelf.specs.States.{ShelfContent, ShelfState, DeskState, IsAt, nothing_held}
+use Rattle.mc_shelf.proofs.Common.{alive, Answered, block_of, changed, charge, cond-false, cond-true, count-empty, DeskState, Entry, get, get-empty}
+use Rattle.mc_shelf.proofs.Common.{get_or-replicate, get_or_from_slice_get, has_room, IsAt, IsOnKey, keeps_chunk, key_of, KeyStep, length-map, length-replicate}
+use Rattle.mc_shelf.proofs.Common.{map-set, need_for, nothing_held, on_key, option_map, out_of, Outcome, Plain, plain, Reply, Row, row_of, same_Some}
+use Rattle.mc_shelf.proofs.Common.{ShelfContent, ShelfState, slice_get-map, slice_get_read, Spent, starting, StepFault, untouched, without_dead, Writes}
+use Rattle.mc_shelf.proofs.Common.{written_block}
 use Rattle.mc_shelf.specs.Plans.{IsTaken, IsSpent}
 use Rattle.mc_shelf.specs.Parts.{shelf_of, IsShelfOf, IsDeskOf, ArePartsOf, GoesTo, GoesByStep}
 use Rattle.mc_shelf.specs.Unions.{lefts, plain_of}

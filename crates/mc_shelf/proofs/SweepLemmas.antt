@@ -1,27 +1,13 @@
 -- What a sweep over an index drops of a shelf, and gives back to a desk.
 use Rattle.std.proofs.Common.{◌≡◌, ◌≢◌, ℕ, ◌+◌, ◌<◌, ◌≤◌, true, false, cond, List, [], ◌∷◌, ◌++◌, get_or, Option, Some, None, is_some, is_none, refl, sym, ap, subst, ◌∙◌, arith}
 use Rattle.std.proofs.Common.{if◌then◌else◌, inl, inr}
-use Rattle.std.proofs.lemmas.Bool.{cases_lt, cond_both}
-use Rattle.std.proofs.lemmas.Option.{same_Some, none-some}
+use Rattle.mc_shelf.proofs.Common.{alive, cases_lt, cells, chunks_in, ChunksState, cond_both, count-remove, count_from, count_of, DeskState, empty, entries_of}
+use Rattle.mc_shelf.proofs.Common.{Entry, entry_at, EntryState, get, get-empty, get-remove, given, Hashes, hashes_of, IndexState, is_dead, IsClass, IsFirstFrom}
+use Rattle.mc_shelf.proofs.Common.{IsKeyed, IsNeed, IsNext, IsSlab, item_need, Items, items_of, KeepsLower, KeyGoes, living, nat_list_cmp_total, need_in}
+use Rattle.mc_shelf.proofs.Common.{NeedState, none-some, of_class, option_copied, out_of, Place, remove, same_Some, ShelfContent, ShelfState}
 use Rattle.std.specs.Borrow.{Bor}
-use Rattle.std.specs.Option.{option_copied}
-use Rattle.std.specs.FinMap.{empty, get, get-empty, get-remove, remove}
-use Rattle.std.specs.Cmp.Lexicographic.{nat_list_cmp_total}
-use Rattle.mc_time.specs.Death.{is_dead}
-use Rattle.mc_slab.specs.Classes.{IsClass}
-use Rattle.mc_slab.specs.Needs.{NeedState, IsNeed}
-use Rattle.mc_slab.specs.Chunks.{ChunksState, need_in}
-use Rattle.mc_slab.specs.Slabs.{IsSlab, out_of, given}
-use Rattle.mc_command.specs.Plain.{Items, Entry, alive, chunks_in, count_of, item_need, living}
-use Rattle.mc_command.specs.Laws.{of_class}
-use Rattle.mc_command.proofs.CountLemmas.{count-remove}
-use Rattle.mc_grow.specs.Indexes.{IndexState, IsFirstFrom, IsNext, KeepsLower, cells, count_from, entry_at}
-use Rattle.mc_grow.specs.declared.index.Place.{Place}
-use Rattle.mc_shelf.specs.States.{EntryState, Hashes, ShelfContent, ShelfState, DeskState}
 use Rattle.mc_shelf.specs.Counts.{DropsAlone, KeepsTable, counts_in, counts_of}
 use Rattle.mc_shelf.specs.declared.counts.ShelfCounts.{ShelfCounts}
-use Rattle.mc_shelf.specs.KeyMaps.{IsKeyed}
-use Rattle.mc_shelf.specs.Places.{KeyGoes, entries_of, hashes_of, items_of}
 use Rattle.mc_shelf.specs.Plans.{is_gone, item_in}
 use Rattle.mc_shelf.specs.Sweeps.{GivesFor, IsPurged, count_among}
 use Rattle.mc_shelf.specs.Deaths.{DieNoSooner, DiesNoSooner, NoneIsDead}

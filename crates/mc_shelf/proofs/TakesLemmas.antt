@@ -1,29 +1,15 @@
 -- What a shelf and a desk make of a plan is what the plain machine makes of the step.
 use Rattle.std.proofs.Common.{◌≡◌, ◌≢◌, ℕ, ◌+◌, ◌-◌, ◌<◌, ◌≤◌, ◌^◌, Bool, true, false, ◌&&◌, ◌||◌, List, [], decimal, Option, Some, None, Result, Ok, Err, IfOk, OnOk}
 use Rattle.std.proofs.Common.{is_some, is_none, ◌*◌, ◌==◌, eqb, eqb-true, if◌then◌else◌, refl, sym, ap, subst, ◌∙◌, arith, le-leb, lt-ltb, not, true≢false}
-use Rattle.std.proofs.lemmas.Bool.{and_parts, and_right, or_right}
-use Rattle.std.proofs.lemmas.Option.{same_Some}
-use Rattle.std.specs.FinMap.{empty, get, insert, remove}
-use Rattle.mc_time.specs.declared.expiry.Expiry.{Expiry}
-use Rattle.mc_slab.specs.Classes.{IsClass, chunks_a_page}
-use Rattle.mc_slab.specs.Needs.{NeedState, IsNeed, need_for, same_need}
+use Rattle.mc_shelf.proofs.Common.{alive, and_parts, and_right, Answered, block_need, block_of, Body, CanStand, changed, charge, chunks_a_page, chunks_in}
+use Rattle.mc_shelf.proofs.Common.{count-remove, count_of, Counted, DeskState, Draft, empty, Entry, Expiry, get, Given, given, has_room, insert, IsAt, IsClass}
+use Rattle.mc_shelf.proofs.Common.{IsHash, IsNeed, IsOnKey, IsSlab, item_need, keeps_chunk, key_of, KeyStep, made_ready, need_for, NeedState, NoChunk, of_class}
+use Rattle.mc_shelf.proofs.Common.{or_right, out_of, Plain, plain, remove, Reply, same_need, same_Some, ShelfContent, SlabState, taken, with_chunk, write_reply}
+use Rattle.mc_shelf.proofs.Common.{written, written_block, wrote}
 use Rattle.mc_slab.specs.Slabs as slabs
-use Rattle.mc_slab.specs.Slabs.{SlabState, IsSlab, given, made_ready, out_of, taken}
-use Rattle.mc_command.specs.declared.step.KeyStep.{KeyStep}
-use Rattle.mc_command.specs.declared.reply.Reply.{Reply}
-use Rattle.mc_command.specs.declared.reply.Reply.TheVariants.{NoChunk}
-use Rattle.mc_command.specs.declared.row.Body.{Body}
-use Rattle.mc_command.specs.declared.row.Body.TheVariants.{Given, Counted}
-use Rattle.mc_command.specs.declared.row.Draft.{Draft}
-use Rattle.mc_command.specs.Commands.{key_of}
-use Rattle.mc_command.specs.Plain.{Plain, Entry, Answered, plain, alive, block_need, block_of, changed, charge, chunks_in, count_of, has_room, item_need, keeps_chunk}
-use Rattle.mc_command.specs.Plain.{with_chunk, write_reply, written, written_block, wrote}
 use Rattle.mc_command.specs.Plain as machine
-use Rattle.mc_command.specs.Laws.{IsOnKey, of_class}
-use Rattle.mc_command.proofs.CountLemmas.{count-remove}
 use Rattle.mc_shelf.specs.declared.plan.Next.{Next}
 use Rattle.mc_shelf.specs.declared.plan.Next.TheVariants.{Answer, Expire, Discard, Write}
-use Rattle.mc_shelf.specs.States.{ShelfContent, DeskState, CanStand, IsAt, IsHash}
 use Rattle.mc_shelf.specs.declared.write.Write.{Write as Writing}
 use Rattle.mc_shelf.specs.Plans.{GivesBack, GivesChunks, gives_way, IsDropped, IsOut, IsPut, IsSpent, IsTaken, IsWriteOf, Takes, back_at}
 use Rattle.mc_shelf.specs.Plans.{block_beside, block_in, counts, dead_chunks, drafted, made_block, has_need, is_gone, next_of, reuses, row_at, stood, way_given}

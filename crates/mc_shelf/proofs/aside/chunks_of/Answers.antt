@@ -1,8 +1,6 @@
 use Rattle.std.proofs.Common.{◌<◌, List, rules, set, vec_len, refl, ap, subst, ◌∙◌}
-use Rattle.std.proofs.lemmas.Option.{slice_get_read}
-use Rattle.mc_slab.specs.Needs.{NeedState}
+use Rattle.mc_shelf.proofs.Common.{NeedState, ShelfState, slice_get_read}
 use Rattle.mc_shelf.specs.Asides.{AreOff}
-use Rattle.mc_shelf.specs.States.{ShelfState}
 use Rattle.mc_shelf.proofs.AsideLemmas.{off_at, set_same}
 use Rattle.mc_shelf.proofs.aside.chunks_of.Goals as goal
 

@@ -1,6 +1,5 @@
 use Rattle.std.proofs.Common.{◌≡◌, ℕ, sym, subst}
-use Rattle.mc_slab.specs.Classes.{IsClass}
-use Rattle.mc_slab.specs.Slabs.{SlabState, out_of}
+use Rattle.mc_shelf.proofs.Common.{IsClass, out_of, SlabState}
 use Rattle.mc_shelf.specs.Asides.{count_in}
 use Rattle.mc_shelf.proofs.AsideLemmas.{laid, seen_is_slab}
 use Rattle.mc_shelf.proofs.collector.Collector.lay_aside.Goals as goal

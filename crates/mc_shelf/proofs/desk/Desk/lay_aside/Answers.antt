@@ -1,6 +1,5 @@
 use Rattle.std.proofs.Common.{ap, ◌∙◌}
-use Rattle.mc_slab.specs.Slabs.{out_of}
-use Rattle.mc_shelf.specs.States.{DeskState}
+use Rattle.mc_shelf.proofs.Common.{DeskState, out_of}
 use Rattle.mc_shelf.proofs.FlushLemmas.{counted_all}
 use Rattle.mc_shelf.proofs.desk.Desk.lay_aside.Goals as goal
 

@@ -1,6 +1,5 @@
 use Rattle.std.proofs.Common.{◌≡◌, OnErr, true, sym, ap, subst}
-use Rattle.mc_slab.specs.Slabs.{SlabState, WantsPages, has_room_with, out_of, pages_of}
-use Rattle.mc_shelf.specs.States.{DeskState}
+use Rattle.mc_shelf.proofs.Common.{DeskState, has_room_with, out_of, pages_of, SlabState, WantsPages}
 use Rattle.mc_shelf.proofs.DeskLemmas.{fault_wants}
 use Rattle.mc_shelf.proofs.desk.Desk.take.Goals as goal
 use Rattle.mc_shelf.proofs.desk.Desk.take.Goals.{in-Ok, in-Err}

@@ -1,8 +1,5 @@
 use Rattle.std.proofs.Common.{◌≡◌, ◌-◌, [], ◌∷◌, ap, arith, ◌∙◌}
-use Rattle.mc_slab.specs.Chunks.{need_in}
-use Rattle.mc_slab.specs.Slabs.{out_of}
-use Rattle.mc_command.specs.Plain.{chunks_in}
-use Rattle.mc_shelf.specs.States.{DeskState}
+use Rattle.mc_shelf.proofs.Common.{chunks_in, DeskState, need_in, out_of}
 use Rattle.mc_shelf.specs.Sweeps.{count_among}
 use Rattle.mc_shelf.proofs.StandLemmas.{out-given, weight_here}
 use Rattle.mc_shelf.proofs.SweepLemmas.{among_join}

@@ -1,6 +1,5 @@
 use Rattle.std.proofs.Common.{◌≡◌, ℕ, ◌+◌, vec_len}
-use Rattle.mc_slab.specs.Classes.{IsClass}
-use Rattle.mc_slab.specs.Slabs.{out_of}
+use Rattle.mc_shelf.proofs.Common.{IsClass, out_of}
 use Rattle.mc_shelf.specs.Sweeps.{count_among}
 use Rattle.mc_shelf.proofs.desk.Desk.take_back.Given as goal
 

@@ -1,6 +1,5 @@
 use Rattle.std.proofs.Common.{◌≡◌, ◌≤◌, sym, ap, subst, arith}
-use Rattle.mc_slab.specs.Slabs.{SlabState, out_of, pages_of, unused}
-use Rattle.mc_shelf.specs.States.{DeskState}
+use Rattle.mc_shelf.proofs.Common.{DeskState, out_of, pages_of, SlabState, unused}
 use Rattle.mc_shelf.proofs.StandLemmas.{room_by_free}
 use Rattle.mc_shelf.proofs.DeskLemmas.{fault_wants}
 use Rattle.mc_shelf.proofs.desk.Desk.take_unused.Goals as goal

@@ -1,9 +1,5 @@
 use Rattle.std.proofs.Common.{◌≡◌, ap, sym, subst, ◌∙◌}
-use Rattle.std.specs.FinMap.{len}
-use Rattle.mc_grow.specs.Indexes.{IndexState, count}
-use Rattle.mc_shelf.specs.States.{EntryState}
-use Rattle.mc_shelf.specs.KeyMaps.{EntryMap, items_in}
-use Rattle.mc_shelf.specs.Places.{entries_of, items_of}
+use Rattle.mc_shelf.proofs.Common.{count, entries_of, EntryMap, EntryState, IndexState, items_in, items_of, len}
 use Rattle.mc_shelf.specs.Counts.{CaughtUp, counts_in}
 use Rattle.mc_shelf.proofs.LenLemmas.{len_items}
 use Rattle.mc_shelf.proofs.CountLemmas.{caught_up}

@@ -1,8 +1,5 @@
 use Rattle.std.proofs.Common.{◌≡◌, ◌++◌, Some, refl, sym, subst, rules}
-use Rattle.mc_command.specs.Plain.{Entry}
-use Rattle.mc_grow.specs.Indexes.{IndexState, entry_at}
-use Rattle.mc_shelf.specs.States.{EntryState}
-use Rattle.mc_shelf.specs.Places.{items_of}
+use Rattle.mc_shelf.proofs.Common.{Entry, entry_at, EntryState, IndexState, items_of}
 use Rattle.mc_shelf.specs.Plans.{drafted}
 use Rattle.mc_shelf.specs.Deaths.{DieNoSooner}
 use Rattle.mc_shelf.proofs.DeathLemmas.{sooner_changed}

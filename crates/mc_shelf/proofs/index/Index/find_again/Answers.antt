@@ -1,7 +1,5 @@
 use Rattle.std.proofs.Common.{subst}
-use Rattle.mc_grow.specs.Indexes.{IsFound}
-use Rattle.mc_shelf.specs.KeyMaps.{IsKeyed, hash_in, key_in}
-use Rattle.mc_shelf.specs.Places.{entries_of}
+use Rattle.mc_shelf.proofs.Common.{entries_of, hash_in, IsFound, IsKeyed, key_in}
 use Rattle.mc_shelf.proofs.IndexLemmas.{key_found}
 use Rattle.mc_shelf.proofs.index.Index.find_again.Goals as goal
 

@@ -1,11 +1,7 @@
 use Rattle.std.proofs.Common.{◌≡◌, None, ap, subst, sym}
-use Rattle.std.specs.FinMap.{get}
-use Rattle.mc_grow.specs.Indexes.{IndexState}
-use Rattle.mc_shelf.specs.States.{EntryState}
-use Rattle.mc_shelf.specs.Places.{KeyComes, items_of}
+use Rattle.mc_shelf.proofs.Common.{EntryState, filled, get, IndexState, items_of, KeyComes}
 use Rattle.mc_shelf.proofs.KeyMapLemmas.{no_item_entry}
 use Rattle.mc_shelf.proofs.IndexLemmas.{came, came_keyed, key_at}
-use Rattle.mc_hop.specs.Cells.{filled}
 use Rattle.mc_shelf.specs.Counts.{KeepsTable, counts_in}
 use Rattle.mc_shelf.proofs.CountLemmas.{unmoved}
 use Rattle.mc_shelf.proofs.DeathLemmas.{sooner_insert}

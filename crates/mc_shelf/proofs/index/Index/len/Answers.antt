@@ -1,8 +1,5 @@
 use Rattle.std.proofs.Common.{◌≡◌, sym, subst}
-use Rattle.std.specs.FinMap.{len}
-use Rattle.mc_grow.specs.Indexes.{IndexState}
-use Rattle.mc_shelf.specs.States.{EntryState}
-use Rattle.mc_shelf.specs.Places.{entries_of, items_of}
+use Rattle.mc_shelf.proofs.Common.{entries_of, EntryState, IndexState, items_of, len}
 use Rattle.mc_shelf.proofs.LenLemmas.{len_items}
 use Rattle.mc_shelf.proofs.index.Index.len.Goals as goal
 

@@ -1,8 +1,5 @@
 use Rattle.std.proofs.Common.{◌≡◌, Some, subst}
-use Rattle.std.specs.FinMap.{get}
-use Rattle.mc_grow.specs.Indexes.{IndexState}
-use Rattle.mc_shelf.specs.States.{EntryState}
-use Rattle.mc_shelf.specs.Places.{KeyGoes, items_of}
+use Rattle.mc_shelf.proofs.Common.{EntryState, get, IndexState, items_of, KeyGoes}
 use Rattle.mc_shelf.proofs.IndexLemmas.{gone, gone_item, gone_keyed}
 use Rattle.mc_shelf.specs.Counts.{KeepsTable, counts_in}
 use Rattle.mc_shelf.proofs.CountLemmas.{one_gone}

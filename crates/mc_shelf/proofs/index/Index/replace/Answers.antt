@@ -1,7 +1,5 @@
 use Rattle.std.proofs.Common.{◌≡◌, Some, refl, sym, ap, subst, ◌∙◌, rules}
-use Rattle.mc_grow.specs.Indexes.{IndexState, entry_at}
-use Rattle.mc_shelf.specs.States.{EntryState}
-use Rattle.mc_shelf.specs.Places.{IsKeyAt}
+use Rattle.mc_shelf.proofs.Common.{entry_at, EntryState, IndexState, IsKeyAt}
 use Rattle.mc_shelf.proofs.DeathLemmas.{sooner_changed}
 use Rattle.mc_shelf.proofs.IndexLemmas.{updated}
 use Rattle.mc_shelf.proofs.index.Index.replace.Goals as goal

@@ -1,8 +1,5 @@
 use Rattle.std.proofs.Common.{◌≡◌, sym, subst}
-use Rattle.std.specs.FinMap.{len}
-use Rattle.mc_grow.specs.Indexes.{IndexState, count}
-use Rattle.mc_shelf.specs.States.{EntryState}
-use Rattle.mc_shelf.specs.Places.{items_of}
+use Rattle.mc_shelf.proofs.Common.{count, EntryState, IndexState, items_of, len}
 use Rattle.mc_shelf.specs.Counts.{CaughtUp, counts_in}
 use Rattle.mc_shelf.proofs.CountLemmas.{reserved}
 use Rattle.mc_shelf.proofs.index.Index.reserve.Goals as goal

@@ -1,12 +1,8 @@
 use Rattle.std.proofs.Common.{◌≡◌, List, ℕ, Some, None, sym, ap, subst, ◌∙◌}
-use Rattle.std.specs.FinMap.{get}
-use Rattle.mc_command.specs.Commands.{key_of}
-use Rattle.mc_command.specs.Plain.{Entry}
+use Rattle.mc_shelf.proofs.Common.{DeskState, Entry, get, key_of, KeyStep, ShelfContent}
 use Rattle.mc_shelf.specs.Plans.{GivesBack, IsDropped, IsOut, IsPut}
 use Rattle.mc_shelf.proofs.ShelfLemmas.{others_same}
 use Rattle.mc_shelf.proofs.TakesLemmas.{discarded_is, expired_is, is_out, takes_answer, takes_discard, takes_expire}
-use Rattle.mc_command.specs.declared.step.KeyStep.{KeyStep}
-use Rattle.mc_shelf.specs.States.{DeskState, ShelfContent}
 use Rattle.mc_shelf.specs.declared.plan.Next.{Next}
 use Rattle.mc_shelf.specs.declared.plan.Plan.{Plan}
 use Rattle.mc_shelf.specs.declared.begun.Begun.TheVariants.{Done}

@@ -1,14 +1,6 @@
 use Rattle.std.proofs.Common.{◌≡◌, List, ℕ, Option, Some, None, inl, is_some, length, arith, sym, ap, subst, ◌∙◌}
-use Rattle.std.specs.FinMap.{get}
-use Rattle.mc_slab.specs.Needs.{need_for}
-use Rattle.mc_command.specs.declared.step.KeyStep.{KeyStep}
-use Rattle.mc_command.specs.declared.row.Body.{Body}
-use Rattle.mc_command.specs.declared.row.Body.TheVariants.{Given}
-use Rattle.mc_command.specs.declared.row.Draft.{Draft}
-use Rattle.mc_command.specs.Commands.{key_of}
-use Rattle.mc_command.specs.Plain.{Entry, block_need, block_of, charge}
-use Rattle.mc_shelf.specs.States.{EntryState, ShelfContent, ShelfState}
-use Rattle.mc_shelf.specs.Places.{IsChanged, items_of}
+use Rattle.mc_shelf.proofs.Common.{block_need, block_of, Body, charge, Draft, Entry, EntryState, get, Given, IsChanged, items_of, key_of, KeyStep, need_for}
+use Rattle.mc_shelf.proofs.Common.{ShelfContent, ShelfState}
 use Rattle.mc_shelf.specs.Plans.{IsPut, block_beside, drafted, with_item}
 use Rattle.mc_shelf.proofs.ShelfLemmas.{changed_put, content_of, known_sought, put_again, put_new}
 use Rattle.mc_shelf.specs.Counts.{KeepsTable, counts_in, counts_of}

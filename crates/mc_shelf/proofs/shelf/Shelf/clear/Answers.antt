@@ -1,7 +1,5 @@
 use Rattle.std.proofs.Common.{arith, sym, ap, subst, ◌∙◌}
-use Rattle.mc_grow.specs.Indexes.{IndexState}
-use Rattle.mc_shelf.specs.States.{EntryState, ShelfState}
-use Rattle.mc_shelf.specs.Places.{items_of}
+use Rattle.mc_shelf.proofs.Common.{EntryState, IndexState, items_of, ShelfState}
 use Rattle.mc_shelf.specs.Sweeps.{GivesFor}
 use Rattle.mc_shelf.proofs.DeathLemmas.{sooner_none}
 use Rattle.mc_shelf.proofs.ShelfLemmas.{content_of}

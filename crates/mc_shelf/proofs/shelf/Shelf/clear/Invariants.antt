@@ -1,6 +1,5 @@
 use Rattle.std.proofs.Common.{◌≡◌, ◌≤◌}
-use Rattle.mc_grow.specs.Indexes.{count_from}
-use Rattle.mc_shelf.specs.Places.{items_of}
+use Rattle.mc_shelf.proofs.Common.{count_from, items_of}
 use Rattle.mc_shelf.specs.Sweeps.{GivesFor}
 use Rattle.mc_shelf.specs.Counts.{DropsAlone, counts_in, counts_of}
 use Rattle.mc_shelf.proofs.SweepLemmas.{Below, IsNone}

@@ -1,8 +1,5 @@
 use Rattle.std.proofs.Common.{◌≡◌, Option, true, ap, sym, ◌∙◌}
-use Rattle.std.specs.FinMap.{get}
-use Rattle.mc_slab.specs.Chunks.{need_in}
-use Rattle.mc_slab.specs.Needs.{NeedState}
-use Rattle.mc_command.specs.Plain.{Entry}
+use Rattle.mc_shelf.proofs.Common.{Entry, get, need_in, NeedState}
 use Rattle.mc_shelf.specs.Plans.{has_need}
 use Rattle.mc_shelf.proofs.ExchangeLemmas.{gives_alike}
 use Rattle.mc_shelf.proofs.shelf.Shelf.exchanges.Goals as goal

@@ -1,8 +1,5 @@
 use Rattle.std.proofs.Common.{ap, subst, ◌∙◌}
-use Rattle.std.specs.FinMap.{get}
-use Rattle.mc_command.specs.Plain.{Entry}
-use Rattle.mc_shelf.specs.States.{ShelfState}
-use Rattle.mc_shelf.specs.Places.{IsChanged}
+use Rattle.mc_shelf.proofs.Common.{Entry, get, IsChanged, ShelfState}
 use Rattle.mc_shelf.proofs.PlaceLemmas.{there_item}
 use Rattle.mc_shelf.proofs.ShelfLemmas.{changed_put}
 use Rattle.mc_shelf.specs.Counts.{KeepsTable, counts_in, counts_of}

@@ -1,8 +1,5 @@
 use Rattle.std.proofs.Common.{◌≡◌, ◌++◌, List, ℕ, Some, None, sym, ap, ◌∙◌, subst}
-use Rattle.std.specs.FinMap.{get}
-use Rattle.mc_command.specs.Plain.{Entry, block_need, item_need}
-use Rattle.mc_shelf.specs.States.{ShelfState}
-use Rattle.mc_shelf.specs.Places.{items_of}
+use Rattle.mc_shelf.proofs.Common.{block_need, Entry, get, item_need, items_of, ShelfState}
 use Rattle.mc_shelf.specs.Plans.{block_in, drafted, with_item}
 use Rattle.mc_shelf.proofs.PlaceLemmas.{of_there}
 use Rattle.mc_shelf.proofs.ShelfLemmas.{changed_is}

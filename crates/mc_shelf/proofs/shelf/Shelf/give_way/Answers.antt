@@ -1,11 +1,5 @@
 use Rattle.std.proofs.Common.{◌≡◌, ◌≤◌, List, ℕ, Option, is_some, sym, ap, subst, ◌∙◌, arith}
-use Rattle.std.proofs.lemmas.Option.{none-some}
-use Rattle.std.specs.FinMap.{get}
-use Rattle.mc_slab.specs.Slabs.{SlabState, given, made_ready, unused}
-use Rattle.mc_command.specs.declared.row.Body.{Body}
-use Rattle.mc_command.specs.Commands.{key_of}
-use Rattle.mc_command.specs.Plain.{Entry, block_of}
-use Rattle.mc_shelf.specs.States.{DeskState}
+use Rattle.mc_shelf.proofs.Common.{block_of, Body, DeskState, Entry, get, given, key_of, made_ready, none-some, SlabState, unused}
 use Rattle.mc_shelf.specs.Plans.{GivesBack, IsDropped, IsPut, block_beside, block_in, drafted, left_of, made_block, written}
 use Rattle.mc_shelf.proofs.StandLemmas.{ready_unused}
 use Rattle.mc_shelf.proofs.TakesLemmas.{put_after_drop, way_desk}

@@ -1,9 +1,7 @@
 use Rattle.std.proofs.Common.{◌≡◌, ℕ, sym, ap, subst, arith, ◌∙◌}
-use Rattle.mc_slab.specs.Needs.{NeedState}
-use Rattle.mc_slab.specs.Slabs.{WantsPages, pages_wanted}
+use Rattle.mc_shelf.proofs.Common.{IfSome_then, NeedState, pages_wanted, WantsPages}
 use Rattle.mc_shelf.specs.Plans.{back_at}
 use Rattle.mc_shelf.proofs.TakesLemmas.{drafts}
-use Rattle.std.proofs.lemmas.Option.{IfSome_then}
 use Rattle.mc_shelf.proofs.shelf.Shelf.page_wanted.Goals as goal
 
 pub need_for-need-requires : goal.need_for-need-requires

@@ -1,7 +1,5 @@
 use Rattle.std.proofs.Common.{arith, refl, sym, subst, ◌∙◌}
-use Rattle.mc_grow.specs.Indexes.{IndexState}
-use Rattle.mc_shelf.specs.States.{EntryState, ShelfState}
-use Rattle.mc_shelf.specs.Places.{items_of}
+use Rattle.mc_shelf.proofs.Common.{EntryState, IndexState, items_of, ShelfState}
 use Rattle.mc_shelf.specs.Sweeps.{GivesFor, IsPurged}
 use Rattle.mc_shelf.specs.Counts.{DropsAlone, counts_in, counts_of}
 use Rattle.mc_shelf.proofs.CountLemmas.{drops_none}

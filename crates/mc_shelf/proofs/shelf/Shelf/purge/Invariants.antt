@@ -1,5 +1,4 @@
-use Rattle.mc_grow.specs.Indexes.{count_from}
-use Rattle.mc_shelf.specs.Places.{items_of}
+use Rattle.mc_shelf.proofs.Common.{count_from, items_of}
 use Rattle.mc_shelf.specs.Sweeps.{GivesFor}
 use Rattle.mc_shelf.proofs.SweepLemmas.{IsSwept}
 use Rattle.mc_shelf.proofs.shelf.Shelf.purge.Given as goal

@@ -1,10 +1,5 @@
 use Rattle.std.proofs.Common.{◌≡◌, ◌≤◌, ℕ, List, length, ap, sym, subst, ◌∙◌}
-use Rattle.mc_slab.specs.Needs.{need_for}
-use Rattle.mc_command.specs.declared.row.Body.{Body}
-use Rattle.mc_command.specs.declared.row.Body.TheVariants.{Given}
-use Rattle.mc_command.specs.Commands.{key_of}
-use Rattle.mc_command.specs.Plain.{block_of, charge}
-use Rattle.std.specs.FinMap.{get}
+use Rattle.mc_shelf.proofs.Common.{block_of, Body, charge, get, Given, key_of, need_for}
 use Rattle.mc_shelf.specs.Plans.{GivesBack, IsOut, block_beside, block_in, drafted, made_block}
 use Rattle.mc_shelf.proofs.ShelfLemmas.{known_sought, put_new}
 use Rattle.mc_shelf.proofs.shelf.Shelf.put.Goals as goal

@@ -1,9 +1,5 @@
 use Rattle.std.proofs.Common.{◌≡◌, List, ℕ, Some, ap, subst, sym, ◌∙◌}
-use Rattle.std.specs.FinMap.{get}
-use Rattle.mc_command.specs.Commands.{key_of}
-use Rattle.mc_command.specs.Plain.{block_of}
-use Rattle.mc_shelf.specs.States.{EntryState, ShelfState}
-use Rattle.mc_shelf.specs.Places.{IsChanged, hashes_of}
+use Rattle.mc_shelf.proofs.Common.{block_of, EntryState, get, hashes_of, IsChanged, key_of, ShelfState}
 use Rattle.mc_shelf.specs.Plans.{block_beside, block_in, drafted, item_in, made_block}
 use Rattle.mc_shelf.proofs.ShelfLemmas.{moved_is}
 use Rattle.mc_shelf.proofs.shelf.Shelf.put_into.Goals as goal

@@ -1,7 +1,5 @@
 use Rattle.std.proofs.Common.{sym, subst}
-use Rattle.mc_command.specs.Commands.{key_of}
-use Rattle.mc_command.specs.Plain.{Entry}
-use Rattle.mc_shelf.specs.States.{ShelfContent}
+use Rattle.mc_shelf.proofs.Common.{Entry, key_of, ShelfContent}
 use Rattle.mc_shelf.specs.Plans.{IsPut, block_beside, drafted}
 use Rattle.mc_shelf.proofs.ShelfLemmas.{put_new}
 use Rattle.mc_shelf.proofs.shelf.Shelf.put_whole.Goals as goal

@@ -1,9 +1,5 @@
 use Rattle.std.proofs.Common.{◌≡◌, ◌⊎◌, inl, inr, false, List, ℕ, None, ap, subst, sym, ◌∙◌}
-use Rattle.mc_command.specs.declared.row.Body.{Body}
-use Rattle.mc_command.specs.declared.row.Body.TheVariants.{Given, Appended, Prepended}
-use Rattle.mc_command.specs.Commands.{key_of}
-use Rattle.mc_command.specs.Plain.{Entry}
-use Rattle.mc_shelf.specs.States.{ShelfContent}
+use Rattle.mc_shelf.proofs.Common.{Appended, Body, Entry, Given, key_of, Prepended, ShelfContent}
 use Rattle.mc_shelf.specs.Plans.{IsPut, block_beside, counts, drafted, with_item}
 use Rattle.mc_shelf.proofs.ShelfLemmas.{known_sought, put_over}
 use Rattle.mc_shelf.proofs.shelf.Shelf.rewrite.Goals as goal

@@ -1,7 +1,5 @@
 use Rattle.std.proofs.Common.{rules, ◌≡◌, List, ℕ, None, true, false, is_some, Some, sym, ap, subst, ◌∙◌}
-use Rattle.std.specs.FinMap.{get}
-use Rattle.mc_command.specs.Commands.{key_of}
-use Rattle.mc_command.specs.Plain.{Entry}
+use Rattle.mc_shelf.proofs.Common.{Entry, get, key_of}
 use Rattle.mc_shelf.specs.Plans.{IsPut}
 use Rattle.mc_shelf.proofs.HitLemmas.{settled_expiring, settled_miss, settled_plain}
 use Rattle.mc_shelf.proofs.shelf.Shelf.settle_read.Goals as goal

@@ -1,9 +1,5 @@
 use Rattle.std.proofs.Common.{◌≡◌, arith, refl, sym, ap, subst, length, ◌∙◌, vec_len}
-use Rattle.std.specs.FinMap.{len}
-use Rattle.mc_command.specs.Plain.{count_of}
-use Rattle.mc_grow.specs.Indexes.{IndexState}
-use Rattle.mc_shelf.specs.States.{EntryState, ShelfState}
-use Rattle.mc_shelf.specs.Places.{items_of}
+use Rattle.mc_shelf.proofs.Common.{count_of, EntryState, IndexState, items_of, len, ShelfState}
 use Rattle.mc_shelf.specs.Sweeps.{TakesDead, count_among}
 use Rattle.mc_shelf.specs.Counts.{DropsAlone, counts_in, counts_of}
 use Rattle.mc_shelf.proofs.LenLemmas.{one_less}

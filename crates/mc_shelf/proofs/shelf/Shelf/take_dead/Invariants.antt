@@ -1,8 +1,5 @@
 use Rattle.std.proofs.Common.{◌≡◌, ℕ, ◌+◌, ◌≤◌, vec_len, vec_capacity}
-use Rattle.std.specs.FinMap.{len}
-use Rattle.mc_command.specs.Plain.{count_of}
-use Rattle.mc_grow.specs.Indexes.{count_from}
-use Rattle.mc_shelf.specs.Places.{items_of}
+use Rattle.mc_shelf.proofs.Common.{count_from, count_of, items_of, len}
 use Rattle.mc_shelf.specs.Sweeps.{count_among}
 use Rattle.mc_shelf.proofs.SweepLemmas.{IsSwept}
 use Rattle.mc_shelf.proofs.shelf.Shelf.take_dead.Given as goal

@@ -1,12 +1,7 @@
 use Rattle.std.proofs.Common.{inr, ◌<◌, ◌≡◌, ◌+◌, ◌≤◌, List, ℕ, true, false, arith, rules, length, refl, sym, ap, subst, ◌∙◌}
+use Rattle.mc_shelf.proofs.Common.{block_of, charge, DeskState, get, has_room_with, IsClass, item_need, key_of, need_for, NeedState, out_of, size_in, taken}
+use Rattle.mc_shelf.proofs.Common.{WantsPages}
 use Rattle.std.proofs.lemmas.Result.{IfErr-at_err}
-use Rattle.std.specs.FinMap.{get}
-use Rattle.mc_slab.specs.Needs.{NeedState, need_for, size_in}
-use Rattle.mc_slab.specs.Classes.{IsClass}
-use Rattle.mc_slab.specs.Slabs.{WantsPages, has_room_with, out_of, taken}
-use Rattle.mc_command.specs.Commands.{key_of}
-use Rattle.mc_command.specs.Plain.{block_of, charge, item_need}
-use Rattle.mc_shelf.specs.States.{DeskState}
 use Rattle.mc_shelf.specs.Plans.{GivesBack, IsDropped, IsOut, IsPut, back_at, block_beside, drafted, is_gone, left_of, way_given, written}
 use Rattle.mc_shelf.proofs.NeedLemmas.{chunks_size, need_class}
 use Rattle.mc_shelf.proofs.ShelfLemmas.{known_sought, put_over}

@@ -1,11 +1,5 @@
 use Rattle.std.proofs.Common.{◌≡◌, ◌++◌, inl, inr, List, ℕ, None, ap, subst, sym, ◌∙◌}
-use Rattle.std.specs.FinMap.{get}
-use Rattle.mc_command.specs.declared.step.KeyStep.{KeyStep}
-use Rattle.mc_command.specs.declared.row.Body.{Body}
-use Rattle.mc_command.specs.declared.row.Body.TheVariants.{Given, Appended}
-use Rattle.mc_command.specs.declared.row.Draft.{Draft}
-use Rattle.mc_command.specs.Commands.{key_of}
-use Rattle.mc_shelf.specs.States.{ShelfContent}
+use Rattle.mc_shelf.proofs.Common.{Appended, Body, Draft, get, Given, key_of, KeyStep, ShelfContent}
 use Rattle.mc_shelf.specs.Plans.{LiesInNeed, MayBeLeft, block_beside, block_in, drafted, with_item}
 use Rattle.mc_shelf.proofs.shelf.Shelf.write_over.Goals as goal
 

@@ -1,7 +1,5 @@
 use Rattle.std.proofs.Common.{List, refl, sym, ap, subst, ◌∙◌}
-use Rattle.mc_command.specs.Plain.{Answered}
-use Rattle.mc_command.specs.declared.reply.Reply.TheVariants.{Flushed}
-use Rattle.mc_shelf.specs.States.{ShelfState}
+use Rattle.mc_shelf.proofs.Common.{Answered, Flushed, ShelfState}
 use Rattle.mc_shelf.specs.Parts.{ArePartsOf}
 use Rattle.mc_shelf.specs.Unions.{plain_of}
 use Rattle.mc_shelf.proofs.PartLemmas.{are_kept, plain_is}
