@@ -146,7 +146,7 @@ step_is step now shelf desk s on at =
 
 module _ (key : List ℕ) (shelf : ShelfContent) (desk : DeskState) (s : Plain) (at : IsAt key shelf desk s) where
   -- the counts where the key's item is put
-  counts_put : (stands : Option Entry) (item : Entry) (class : ℕ)
+  pub counts_put : (stands : Option Entry) (item : Entry) (class : ℕ)
       → count_of (insert (base stands key s.items) key item) class + of_class key (get shelf.items key) class ≡ count_of s.items class + of_class key (Some item) class
   counts_put (Some old) item class = ap (λ (o : Option Entry). count_of (insert s.items key item) class + of_class key o class) (sym at.item) ∙ count-insert class s.items key item
   counts_put None item class =
@@ -266,45 +266,3 @@ pub pages_are : (t : Plain) (slab : SlabState) (need : NeedState) (back : ℕ) �
 pages_are t slab need back is is_class pages count =
     let unused = unused_is t slab need.class back is is_class pages count in
     λ i. pages_after need.class need.count (unused i) (pages i)
-
--- the item of a write
-abbrev pub item_of : (flags : ℕ) → Expiry → (block : List ℕ) → (unique updated : ℕ) → Entry
-item_of flags expiry block unique updated = record { flags = flags; expiry = expiry; block = block; unique = unique; updated = updated }
-
-module _ (key : List ℕ) (shelf : ShelfContent) (desk : DeskState) (s : Plain) (at : IsAt key shelf desk s)
-    (reply : Reply) (flags : ℕ) (expiry : Expiry) (block : List ℕ) (now : ℕ) (stands : Option Entry) (fits : charge key block ≤ shelf.greatest) (more : desk.next_unique < 2 ^ 64 - 1) where
-  abbrev under : Plain
-  under = record s { items = base stands key s.items }
-
-  fits_plain : charge key block ≤ s.greatest
-  fits_plain = rw at.greatest fits
-
-  more_plain : s.next_unique ≢ 2 ^ 64 - 1
-  more_plain last = let same = at.next_unique in absurd (omega (arith, same))
-
-  -- the item is put in other chunks, and the slab's account follows
-  pub at_wrote : (after : ShelfContent) (hash : ℕ) → IsPut key hash shelf after (item_of flags expiry block desk.next_unique now) → (slab : SlabState)
-      → has_room under (block_need key block) ≡ true → slab.limit ≡ desk.slab.limit
-      → (with_chunk under (block_need key block)).pages ≡ slab.pages
-      → ((class : ℕ) → IsClass class → out_of slab class + of_class key (get shelf.items key) class ≡ out_of desk.slab class + chunks_in (block_need key block) class)
-      → (new : Plain) × (wrote false reply key flags expiry block under now ≡ Answered reply new)
-      × IsAt key after (record { slab = slab; next_unique = desk.next_unique + 1 }) new
-  at_wrote after hash puts slab room limit pages outs =
-      let item = item_of flags expiry block s.next_unique now in
-      let seen : item ≡ item_of flags expiry block desk.next_unique now = ap (λ (n : ℕ). item_of flags expiry block n now) at.next_unique in (
-        written (with_chunk under (block_need key block)) key flags expiry block now,
-        wrote_taken reply key flags expiry block under now fits_plain more_plain room,
-        record {
-          greatest = at.greatest ∙ sym puts.others.greatest;
-          cut = at.cut ∙ sym puts.others.cut;
-          item = get_put (base stands key s.items) key item ∙ ap Some seen ∙ sym puts.item;
-          next_unique = ap (λ (n : ℕ). n + 1) at.next_unique;
-          limit = at.limit ∙ sym limit;
-          pages = pages;
-          out = λ other is.
-              let put = counts_put key shelf desk s at stands item other in
-              let moved = outs other is in
-              let out = at.out other is in
-              omega arith;
-        },
-      )

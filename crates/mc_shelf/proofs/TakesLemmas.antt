@@ -13,11 +13,12 @@ use Rattle.mc_shelf.specs.declared.plan.Next.TheVariants.{Answer, Expire, Discar
 use Rattle.mc_shelf.specs.declared.write.Write.{Write as Writing}
 use Rattle.mc_shelf.specs.Plans.{GivesBack, GivesChunks, gives_way, IsDropped, IsOut, IsPut, IsSpent, IsTaken, IsWriteOf, Takes, back_at}
 use Rattle.mc_shelf.specs.Plans.{block_beside, block_in, counts, dead_chunks, drafted, made_block, has_need, is_gone, next_of, reuses, row_at, stood, way_given}
-use Rattle.mc_shelf.proofs.StandLemmas.{base, step_is, at_none, at_dropped, at_put_again, at_wrote, given_taken, out-given, out-taken, out-way}
+use Rattle.mc_shelf.proofs.StandLemmas.{base, step_is, at_none, at_dropped, at_put_again, counts_put, given_taken, out-given, out-taken, out-way}
 use Rattle.mc_shelf.proofs.StandLemmas.{out_found, out_some, pages-way, pages_after, pages_are, pages_stay, room_by_free, room_is, taken_is_slab, weight, weight_here}
 use Rattle.mc_shelf.proofs.NeedLemmas.{needs_same}
 use Rattle.mc_shelf.proofs.ShelfLemmas.{others_same}
-use Rattle.mc_shelf.proofs.StandLemmas.{wrote_full, wrote_kept, wrote_spent}
+use Rattle.mc_shelf.proofs.StandLemmas.{wrote_full, wrote_kept, wrote_spent, wrote_taken}
+use Rattle.mc_shelf.proofs.KeyLemmas.{get_put}
 use Rattle.mc_shelf.proofs.PlanLemmas.{Does, IsDrafted, alive_found, block_at, dead_found, found_in, made_beside, next_does, row_does, row_speaks, wrote_at}
 
 -- what a plan says without a plain state
@@ -370,14 +371,26 @@ module _ {step : KeyStep} {now : ℕ} {shelf : ShelfContent} {desk : DeskState} 
           → IsAfter (record { slab = slab; next_unique = desk.next_unique + 1 })
       takes_other slab keeps room limit pages moved s at =
           let under = found_in shelf step now s in
-          let has : has_room under need ≡ true = room_found step now shelf desk is s at need is_need.is_class ∙ room in
-          let wrote =
-          at_wrote its_key shelf desk s at (write_reply draft.body) draft.flags draft.expiry block now its_stands
-          (subst (λ (n : ℕ). n ≤ shelf.greatest) drafted_is.size_is drafted_is.fits) more new own its_put slab
-          (subst (λ (n : NeedState). has_room under n ≡ true) need_charge has) limit
-          (subst (λ (n : NeedState). (with_chunk under n).pages ≡ slab.pages) need_charge (pages_found step now shelf desk is s at need is_need.is_class ∙ sym pages))
-          (subst (λ (n : NeedState). (other : ℕ) → IsClass other → out_of slab other + of_class its_key its_found other ≡ out_of desk.slab other + chunks_in n other) need_charge moved) in
-          (wrote.0, its_wrote s at ∙ ap (λ (b : Bool). machine.wrote b (write_reply draft.body) its_key draft.flags draft.expiry block under now) keeps ∙ wrote.1, wrote.2)
+          let item : Entry = drafted draft block s.next_unique now in
+          let has : has_room under (block_need its_key block) ≡ true =
+          subst (λ (n : NeedState). has_room under n ≡ true) need_charge (room_found step now shelf desk is s at need is_need.is_class ∙ room) in (
+            written (with_chunk under (block_need its_key block)) its_key draft.flags draft.expiry block now,
+            its_wrote s at ∙ ap (λ (b : Bool). machine.wrote b (write_reply draft.body) its_key draft.flags draft.expiry block under now) keeps
+                ∙ wrote_taken (write_reply draft.body) its_key draft.flags draft.expiry block under now (its_fits s at) (not_last s at) has,
+            record {
+              greatest = at.greatest ∙ sym puts.others.greatest;
+              cut = at.cut ∙ sym puts.others.cut;
+              item = get_put (base its_stands its_key s.items) its_key item ∙ ap (λ (n : ℕ). Some (drafted draft block n now)) at.next_unique ∙ sym its_put.item;
+              next_unique = ap (λ (n : ℕ). n + 1) at.next_unique;
+              limit = at.limit ∙ sym limit;
+              pages = subst (λ (n : NeedState). (with_chunk under n).pages ≡ slab.pages) need_charge (pages_found step now shelf desk is s at need is_need.is_class ∙ sym pages);
+              out = λ other is_other.
+                  let put = counts_put its_key shelf desk s at its_stands item other in
+                  let same = ap (λ (n : NeedState). chunks_in n other) need_charge in
+                  let out = at.out other is_other in
+                  omega (arith, put, same, out, moved other is_other);
+            },
+          )
 
       -- it goes into the chunks of the key's item
       pub takes_again : {reply : Reply} {desk' : DeskState} → Reuses true → reply ≡ write_reply draft.body → desk' ≡ record desk { next_unique = desk.next_unique + 1 }
