@@ -5,7 +5,7 @@ use Rattle.std.proofs.Common.{Option, Some, slice_get, Ok, Err, Result, refl, sy
 use Rattle.mc_shelf.proofs.Common.{chunks_a_page, chunks_in, ChunksState, cond_both, count-empty, count-remove, count_of, empty, Entry, EntryState, full_fault}
 use Rattle.mc_shelf.proofs.Common.{get, get_or-replicate, get_or_from_slice_get, given, has_room_with, IsClass, IsFull, IsNeed, IsSlab, item_need, Items}
 use Rattle.mc_shelf.proofs.Common.{made_ready, need_in, NeedState, of_class, out_of, pages_of, pages_wanted, Readies, same_Some, set-get_or, ShelfState}
-use Rattle.mc_shelf.proofs.Common.{SlabState, taken, Takes, TellsFull, unused, WantsPages}
+use Rattle.mc_shelf.proofs.Common.{SlabState, Takes, TellsFull, unused, WantsPages}
 use Rattle.std.proofs.lemmas.List.Sums.{sum_by-set}
 use Rattle.mc_slab.specs.Slabs as slabs
 use Rattle.mc_slab.specs.declared.slab.TakeFault.{TakeFault}
