@@ -1,15 +1,8 @@
 -- What a key that is absent tells of the history.
 use Rattle.std.proofs.Common.{◌≡◌, ⊎_elim, ℕ, Bool, true, false, List, [], ◌∷◌, Some, None, sym, refl, ap, ◌∙◌, subst}
-use Rattle.std.specs.FinMap.{get}
-use Rattle.mc_command.specs.declared.step.KeyStep.{KeyStep}
-use Rattle.mc_command.specs.declared.reply.Reply.TheVariants.{Stored}
-use Rattle.mc_command.specs.Commands.{key_of}
-use Rattle.mc_command.specs.Plain.{Plain}
-use Rattle.mc_command.specs.Plain.{Entry as Item}
-use Rattle.mc_shared.specs.History.{Beginning, Stepped, HistoryEntry, next, after, IsLegal}
-use Rattle.mc_shared.specs.Past.{Past, KeptBy}
-use Rattle.mc_shared.specs.Store.{IsShown}
-use Rattle.mc_laws.specs.Laws.{StandsIn, Has, MayChange, item_after, StoresAsGiven, IsTakenAway}
+use Rattle.mc_shared.proofs.Words.{get, KeyStep, Stored, key_of, Plain, Entry as Item, Beginning, Stepped, HistoryEntry, next, after, IsLegal, Past, KeptBy, IsShown}
+use Rattle.mc_laws.specs.Laws.{StandsIn, Has, MayChange, item_after}
+use Rattle.mc_laws.specs.Laws.{StoresAsGiven, IsTakenAway}
 use Rattle.mc_laws.proofs.KeyLawLemmas.{none_some}
 use Rattle.mc_laws.proofs.OrderLawLemmas.{keeps_all}
 use Rattle.mc_laws.proofs.ReadLawLemmas.{OthersStay, may_or_not, legal_parts, after_parts, stands_behind, spares, given_is_left}

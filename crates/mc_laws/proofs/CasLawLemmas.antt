@@ -1,28 +1,17 @@
 -- Unique numbers are drawn in the history's order.
-use Rattle.std.proofs.Common.{◌≡◌, ⊎_elim, ℕ, ℤ, ◌+◌, ◌≤◌, ◌<◌, Bool, true, false, cond, eqb, ltb, List, [], ◌∷◌, ◌++◌, Option, Some, None, sym, refl, ap, ◌∙◌, subst, arith, ne_eqb}
-use Rattle.std.specs.FinMap.{get, get-empty}
-use Rattle.std.specs.Ordering.{nat_cmp}
-use Rattle.std.specs.Cmp.Lexicographic.{slice_cmp}
-use mathlib.Core.Logic.{dite}
-use native.Mathlib.Decide.{ℕ_discrete}
-use Rattle.mc_time.specs.declared.expiry.Expiry.{Expiry}
-use Rattle.mc_time.specs.Death.{expiry_of}
-use Rattle.mc_slab.specs.Needs.{NeedState}
-use Rattle.mc_command.specs.declared.step.KeyStep.{KeyStep}
-use Rattle.mc_command.specs.declared.step.KeyStep.TheVariants.{Cas, Flush}
-use Rattle.mc_command.specs.declared.row.Row.{Row}
-use Rattle.mc_command.specs.declared.row.Row.TheVariants.{Refuses, Reads, Touches, Deletes, Writes}
-use Rattle.mc_command.specs.declared.row.Refusal.TheVariants as refusal
-use Rattle.mc_command.specs.declared.reply.Reply.{Reply}
-use Rattle.mc_command.specs.declared.reply.Reply.TheVariants.{Stored, Number, Hit, TooLarge, NoChunk}
-use Rattle.mc_command.specs.Commands.{key_of}
-use Rattle.mc_command.specs.Plain.{Plain, opening, Outcome, Answered, Spent, plain, stepped, changed, row_of, cas_row, given, written, with_chunk, has_room, block_need, charge}
-use Rattle.mc_command.specs.Plain.{without_dead, expiring, perhaps_expiring, keeps_chunk, write_reply, written_block, block_of, standing}
-use Rattle.mc_command.specs.Plain.{Entry as Item}
-use Rattle.mc_shared.specs.History.{Beginning, Operation, Stepped, Purged, HistoryEntry, left_by, next, IsRight, after, IsLegal}
-use Rattle.mc_laws.specs.Laws.{StandsIn, StandsBefore, HasItem, Wrote, HasDrawnNumbers}
-use Rattle.mc_laws.proofs.KeyLawLemmas.{none_some, get_put, some_is, alive_was, hit_shows, found_next}
+use Rattle.std.proofs.Common.{◌≡◌, ⊎_elim, ℕ, ℤ, ◌+◌, ◌≤◌, ◌<◌, Bool, true, false, cond, eqb, List, [], ◌∷◌, ◌++◌, Option, Some, None, sym, refl, ap, ◌∙◌, subst, arith}
+use Rattle.std.proofs.Common.{ne_eqb}
+use Rattle.mc_shared.proofs.Words.{get, get-empty, dite, ℕ_discrete, Expiry, expiry_of, KeyStep, Cas, Flush, Row, Reads, Touches, Deletes, Writes, Reply, Stored, Number}
+use Rattle.mc_shared.proofs.Words.{Hit, key_of, Plain, Outcome, Answered, Spent, plain, stepped, changed, row_of, cas_row, given, written, with_chunk, block_need}
+use Rattle.mc_shared.proofs.Words.{without_dead, expiring, keeps_chunk, write_reply, written_block, block_of, standing, Entry as Item, Beginning, Operation, Stepped}
+use Rattle.mc_shared.proofs.Words.{Purged, HistoryEntry, left_by, next, IsRight, after, IsLegal}
+use Rattle.mc_laws.specs.Laws.{StandsIn, StandsBefore, HasItem, Wrote, Found, HasDrawnNumbers}
+use Rattle.mc_shared.proofs.Words.{found-next, order, get_put}
+use Rattle.mc_command.specs.declared.row.Row.TheVariants.{Refuses}
+use Rattle.mc_command.specs.Plain.{opening, perhaps_expiring}
+use Rattle.mc_laws.proofs.KeyLawLemmas.{none_some, some_is, alive_was, hit_shows, wrote_so}
 use Rattle.mc_laws.proofs.ReadLawLemmas.{OthersStay, legal_parts, after_parts, decided_was}
+use Rattle.mc_command.specs.declared.row.Refusal.TheVariants as refusal
 
 -- ---- the next unique number after a step
 -- the item under a key has this number
@@ -46,15 +35,6 @@ perhaps_next item key (Some expiry) m = expiring_next item key expiry m
 same_le : (a b : ℕ) → b ≡ a → a ≤ b
 same_le a b is = omega (arith, is)
 
-write_rises : (too_large spent stays room : Bool) (reply : Reply) (old found new placed : Plain) (step : KeyStep) (now : ℕ) → found.next_unique ≡ old.next_unique
-    → new.next_unique ≡ old.next_unique + 1 → placed.next_unique ≡ old.next_unique + 1 → HasNumber new (key_of step) old.next_unique → HasNumber placed (key_of step) old.next_unique
-    → Rises old step now (cond too_large (Answered TooLarge found) (cond spent Spent (cond stays (Answered reply new) (cond room (Answered reply placed) (Answered NoChunk found)))))
-write_rises true spent stays room reply old found new placed step now f n p h k = (same_le _ _ f, λ w. absurd w)
-write_rises false true stays room reply old found new placed step now f n p h k = tt
-write_rises false false true room reply old found new placed step now f n p h k = (omega (arith, n), λ w. (omega (arith, n), h))
-write_rises false false false true reply old found new placed step now f n p h k = (omega (arith, p), λ w. (omega (arith, p), k))
-write_rises false false false false reply old found new placed step now f n p h k = (same_le _ _ f, λ w. absurd w)
-
 written_number : (m : Plain) (key : List ℕ) (flags : ℕ) (expiry : Expiry) (block : List ℕ) (now n : ℕ) → m.next_unique ≡ n → HasNumber (written m key flags expiry block now) key n
 written_number m key flags expiry block now n is i e =
     let put : Item = record { flags = flags; expiry = expiry; block = block; unique = m.next_unique; updated = now } in
@@ -73,17 +53,16 @@ changed_rises Deletes step item old found now f = (same_le _ _ f, λ w. absurd w
 changed_rises (Writes draft) step item old found now f =
     let key : List ℕ = key_of step in
     let b : List ℕ = written_block draft.body (block_of step) item in
-    let need : NeedState = block_need key b in
-    write_rises (ltb found.greatest (charge key b)) (eqb found.next_unique 18446744073709551615) (keeps_chunk draft.body key item) (has_room found need) (write_reply draft.body) old found
-    (written found key draft.flags draft.expiry b now) (written (with_chunk found need) key draft.flags draft.expiry b now) step now f
-    (ap (λ n. n + 1) f) (ap (λ n. n + 1) f)
-    (written_number found key draft.flags draft.expiry b now old.next_unique f)
-    (written_number (with_chunk found need) key draft.flags draft.expiry b now old.next_unique f)
+    wrote_so (Rises old step now) (keeps_chunk draft.body key item) (write_reply draft.body) key draft.flags draft.expiry b found now
+    (same_le _ _ f, λ w. absurd w) tt
+    (omega (arith, f), λ w. (omega (arith, f), written_number found key draft.flags draft.expiry b now old.next_unique f))
+    (omega (arith, f), λ w. (omega (arith, f), written_number (with_chunk found (block_need key b)) key draft.flags draft.expiry b now old.next_unique f))
+    (same_le _ _ f, λ w. absurd w)
 
 stepped_rises : (old : Plain) (step : KeyStep) (now : ℕ) → Rises old step now (stepped old step now)
 stepped_rises old step now =
     let item = standing old (key_of step) now in
-    changed_rises (row_of step now item) step item old (without_dead item (key_of step) old) now (found_next 0 0 [] item (key_of step) old)
+    changed_rises (row_of step now item) step item old (without_dead item (key_of step) old) now (found-next item (key_of step) old)
 
 flushed_next : (b : Bool) (once later : Plain) (n : ℕ) → once.next_unique ≡ n → later.next_unique ≡ n → (cond b once later).next_unique ≡ n
 flushed_next true once later n h k = h
@@ -121,57 +100,52 @@ module _ (began : Beginning) (key : List ℕ) where
   all_rise m [] legal = omega arith
   all_rise m (e ∷ es) legal = let one = never_falls m e.what legal.0 in let more = all_rise (next began m e.what) es legal.1 in omega (arith, one, more)
 
-  -- the key's number was drawn
-  Below : Plain → Type 0
-  Below m = (i : Item) → get m.items key ≡ Some i → i.unique < m.next_unique
+  -- what an item shows
+  abbrev pub shown : Item → Found
+  shown i = record { flags = i.flags; unique = i.unique; block = i.block }
 
-  -- the key's number is not below this one, nor is the next one
-  Above : ℕ → Plain → Type 0
-  Above n m = (n ≤ m.next_unique) × ((i : Item) → get m.items key ≡ Some i → n ≤ i.unique)
+  -- what is under the key is related so to the next number, which is no smaller than one
+  module _ (others_stay : OthersStay) (n : ℕ) (R : ℕ → Found → Type 0) (longer : (a b : ℕ) (f : Found) → a ≤ b → R a f → R b f)
+      (fresh : (a : ℕ) (f : Found) → n ≤ f.unique → f.unique < a → R a f) where
+    abbrev pub Holds : Plain → Type 0
+    Holds m = (n ≤ m.next_unique) × ((i : Item) → get m.items key ≡ Some i → R m.next_unique (shown i))
 
-  module _ (others_stay : OthersStay) where
-    below : (m : Plain) (what : Operation) → IsRight m what → Below m → Below (next began m what)
-    unfolding Below
-    below m what right low i is =
-        let up = never_falls m what right in ⊎_elim
-        (λ (h : HasItem m key i.flags i.unique i.block). let was = low h.0 h.1 in let number = h.3 in omega (arith, up, was, number))
-        (λ (w : Wrote key what × (i.unique ≡ m.next_unique)). let drew = (write_draws m what right w.0).0 in let number = w.1 in omega (arith, drew, number))
-        (decided_was others_stay began key i.flags i.unique i.block m what right (i, is, refl, refl, refl))
+    one_holds : (m : Plain) (what : Operation) → IsRight m what → Holds m → Holds (next began m what)
+    one_holds m what right high =
+        let up = never_falls m what right in
+        let least = high.0 in (
+          omega (arith, up, least),
+          λ i is. ⊎_elim
+              (λ (h : HasItem m key i.flags i.unique i.block).
+              longer m.next_unique _ (shown i) up (subst (R m.next_unique) (λ x. record { flags = h.2 x; unique = h.3 x; block = h.4 x }) (high.1 h.0 h.1)))
+              (λ (w : Wrote key what × (i.unique ≡ m.next_unique)).
+              let drew = (write_draws m what right w.0).0 in let number = w.1 in fresh _ (shown i) (omega (arith, least, number)) (omega (arith, drew, number)))
+              (decided_was others_stay began key i.flags i.unique i.block m what right (i, is, refl, refl, refl)),
+        )
 
-    above : (n : ℕ) (m : Plain) (what : Operation) → IsRight m what → Above n m → Above n (next began m what)
-    unfolding Above
-    above n m what right high = let up = never_falls m what right in let least = high.0 in (
-      omega (arith, up, least),
-      λ i is. ⊎_elim
-          (λ (h : HasItem m key i.flags i.unique i.block). let was = high.1 h.0 h.1 in let number = h.3 in omega (arith, was, number))
-          (λ (w : Wrote key what × (i.unique ≡ m.next_unique)). let number = w.1 in omega (arith, least, number))
-          (decided_was others_stay began key i.flags i.unique i.block m what right (i, is, refl, refl, refl)),
-    )
+    pub all_hold : (m : Plain) (es : List HistoryEntry) → IsLegal began m es → Holds m → Holds (after began m es)
+    all_hold m [] legal high = high
+    all_hold m (e ∷ es) legal high = all_hold (next began m e.what) es legal.1 (one_holds m e.what legal.0 high)
 
-    all_below : (m : Plain) (es : List HistoryEntry) → IsLegal began m es → Below m → Below (after began m es)
-    all_below m [] legal low = low
-    all_below m (e ∷ es) legal low = all_below (next began m e.what) es legal.1 (below m e.what legal.0 low)
-
-    all_above : (n : ℕ) (m : Plain) (es : List HistoryEntry) → IsLegal began m es → Above n m → Above n (after began m es)
-    all_above n m [] legal high = high
-    all_above n m (e ∷ es) legal high = all_above n (next began m e.what) es legal.1 (above n m e.what legal.0 high)
-
-    -- after a write every number of the key is new
-    fresh : (m : Plain) (b r : List HistoryEntry) (e : HistoryEntry) → IsLegal began m (b ++ e ∷ r) → Wrote key e.what → Above m.next_unique (after began m (b ++ e ∷ r))
-    unfolding Above
-    fresh m b r e legal wrote =
-        let parts = legal_parts began m b (e ∷ r) legal in
-        let front : Plain = after began m b in
-        let up = all_rise m b parts.0 in
-        let draws = write_draws front e.what parts.1.0 wrote in
-        let drew = draws.0 in
-        let here : Above m.next_unique (next began front e.what) = (omega (arith, up, drew), λ i is. let number = draws.1 i is in omega (arith, up, number)) in
-        subst (Above m.next_unique) (sym (after_parts began m b (e ∷ r))) (all_above m.next_unique (next began front e.what) r parts.1.1 here)
-
+-- after a write every number of the key is new
 pub written_numbers : OthersStay → (began : Beginning) (key : List ℕ) (m : Plain) (b r : List HistoryEntry) (e : HistoryEntry) → IsLegal began m (b ++ e ∷ r) → Wrote key e.what
     → (i : Item) → get (after began m (b ++ e ∷ r)).items key ≡ Some i → m.next_unique ≤ i.unique
-unfolding Above
-written_numbers stay began key m b r e legal wrote = (fresh began key stay m b r e legal wrote).1
+written_numbers stay began key m b r e legal wrote i is =
+    let parts = legal_parts began m b (e ∷ r) legal in
+    let front : Plain = after began m b in
+    let up = all_rise began key m b parts.0 in
+    let draws = write_draws began key front e.what parts.1.0 wrote in
+    let drew = draws.0 in
+    (all_hold began key stay m.next_unique (λ a f. m.next_unique ≤ f.unique) (λ a c f le least. least) (λ a f least lt. least) (next began front e.what) r parts.1.1
+    (omega (arith, up, drew), λ j at. let number = draws.1 j at in omega (arith, up, number))).1 i (ap (λ (s : Plain). get s.items key) (sym (after_parts began m b (e ∷ r))) ∙ is)
+
+-- numbers are drawn in every store
+pub new_drawn : (limit greatest : ℕ) → HasDrawnNumbers (opening limit greatest)
+new_drawn limit greatest key item is = absurd (none_some item (sym (get-empty order key) ∙ is))
+
+pub drawn_stay : OthersStay → (began : Beginning) (log : List HistoryEntry) → HasDrawnNumbers began.plain → IsLegal began began.plain log → HasDrawnNumbers (after began began.plain log)
+drawn_stay stay began log drawn legal key =
+    (all_hold began key stay 0 (λ a f. f.unique < a) (λ a b f le lt. omega (arith, le, lt)) (λ a f least lt. lt) began.plain log legal (omega arith, drawn key)).1
 
 -- ---- a cas that stored met its number
 abbrev Met : Plain → List ℕ → ℕ → Outcome → Type 0
@@ -179,12 +153,9 @@ Met m key n (Answered Stored new) = (i : Item) × (get m.items key ≡ Some i) �
 Met m key n (Answered reply new) = Unit {0}
 Met m key n Spent = Unit {0}
 
-met_reply : (m new : Plain) (key : List ℕ) (n : ℕ) (i : Item) (reply : Reply) → get m.items key ≡ Some i → i.unique ≡ n → Met m key n (Answered reply new)
-met_reply m new key n i Stored is number = (i, is, number)
-met_reply m new key n i reply is number = tt
-
 met : (m : Plain) (key : List ℕ) (n : ℕ) (i : Item) (o : Outcome) → get m.items key ≡ Some i → i.unique ≡ n → Met m key n o
-met m key n i (Answered reply new) is number = met_reply m new key n i reply is number
+met m key n i (Answered Stored new) is number = (i, is, number)
+met m key n i (Answered reply new) is number = tt
 met m key n i Spent is number = tt
 
 module _ (key : List ℕ) (flags : ℕ) (exptime : ℤ) (block : List ℕ) (n now : ℕ) where
@@ -204,7 +175,6 @@ module _ (key : List ℕ) (flags : ℕ) (exptime : ℤ) (block : List ℕ) (n no
 pub cas_is_of_read : OthersStay → (began : Beginning) (log : List HistoryEntry) (read cas other : HistoryEntry) (step : KeyStep) (then now flags unique more : ℕ) (exptime : ℤ) (block brought : List ℕ)
     → HasDrawnNumbers began.plain → IsLegal began began.plain log → (places : StandsBefore log read cas) → read.what ≡ Stepped step then (Hit flags unique block)
     → cas.what ≡ Stepped (Cas (key_of step) more exptime brought unique) now Stored → StandsIn places.between other → Wrote (key_of step) other.what → ⊥
-unfolding Below Above
 cas_is_of_read stay began log read cas other step then now flags unique more exptime block brought drawn legal places told met_is stands wrote =
     let key : List ℕ = key_of step in
     let front : List HistoryEntry = places.before ++ read ∷ places.between in
@@ -214,23 +184,14 @@ cas_is_of_read stay began log read cas other step then now flags unique more exp
     let whole = legal_parts began began.plain front (cas ∷ places.rest) (subst (IsLegal began began.plain) places.is legal) in
     let parts = legal_parts began began.plain places.before (read ∷ places.between) whole.0 in
     let right = subst (IsRight m0) told parts.1.0 in
-    let shown = hit_shows flags unique block m0 right.0 step then right.1 in
-    let low = all_below began key stay began.plain places.before parts.0 (drawn key) shown.0 shown.1 in
-    let number = shown.3 in
+    let shows = hit_shows flags unique block m0 right.0 step then right.1 in
+    let low = drawn_stay stay began places.before drawn parts.0 key shows.0 shows.1 in
+    let number = shows.3 in
     let up = never_falls began key m0 read.what parts.1.0 in
     let behind = subst (IsLegal began m1) stands.2 parts.1.1 in
-    let high = fresh began key stay m1 stands.0 stands.1 other behind wrote in
     let at_cas : m4 ≡ after began m1 (stands.0 ++ other ∷ stands.1) = after_parts began began.plain places.before (read ∷ places.between) ∙ ap (after began m1) stands.2 in
     let cas_right = subst (IsRight m4) met_is whole.1.0 in
     let met_item = cas_met key more exptime brought unique now m4 cas_right.0 cas_right.1 in
-    let least = high.1 met_item.0 (sym (ap (λ (s : Plain). get s.items key) at_cas) ∙ met_item.1) in
+    let least = written_numbers stay began key m1 stands.0 stands.1 other behind wrote met_item.0 (sym (ap (λ (s : Plain). get s.items key) at_cas) ∙ met_item.1) in
     let its = met_item.2 in
     omega (arith, low, number, up, least, its)
-
--- ---- numbers are drawn in every store
-pub new_drawn : (limit greatest : ℕ) → HasDrawnNumbers (opening limit greatest)
-new_drawn limit greatest key item is = absurd (none_some item (sym (get-empty (slice_cmp nat_cmp) key) ∙ is))
-
-pub drawn_stay : OthersStay → (began : Beginning) (log : List HistoryEntry) → HasDrawnNumbers began.plain → IsLegal began began.plain log → HasDrawnNumbers (after began began.plain log)
-unfolding Below
-drawn_stay stay began log drawn legal key = all_below began key stay began.plain log legal (drawn key)

@@ -1,35 +1,27 @@
 -- Counts add up.
-use Rattle.std.proofs.Common.{◌≡◌, ⊎_elim, ℕ, ◌+◌, ◌*◌, ◌%◌, ◌^◌, ◌≤◌, ◌<◌, Bool, true, false, cond, leb, ltb, eqb, ◌&&◌, List, [], ◌∷◌, ◌++◌, length, take, drop, Option, Some}
+use Rattle.std.proofs.Common.{◌≡◌, ⊎_elim, ℕ, ◌+◌, ◌*◌, ◌%◌, ◌^◌, ◌≤◌, ◌<◌, Bool, true, false, cond, leb, ◌&&◌, List, [], ◌∷◌, ◌++◌, length, take, drop, Option, Some}
 use Rattle.std.proofs.Common.{None, sym, refl, ap, ◌∙◌, subst, arith}
+use Rattle.mc_shared.proofs.Words.{get, dite, ℕ_discrete, Expiry, Counted, Number, Plain, Outcome, Answered, Spent, plain, changed, written, with_chunk, block_need}
+use Rattle.mc_shared.proofs.Words.{keeps_chunk, without_dead, standing, Entry as Item, total, Beginning, Operation, Stepped, HistoryEntry, left_by, next, IsRight, after}
+use Rattle.mc_shared.proofs.Words.{IsLegal, Past, held, same, Whole, KeptBy, get_put}
+use Rattle.mc_laws.specs.Laws.{StandsIn, MayChange}
 use Rattle.std.proofs.lemmas.Bool.{le-leb, leb-true}
 use Rattle.std.proofs.lemmas.Fmt.{digits_decimal, digits_value-decimal, decimal_nonempty, length-decimal-le}
-use Rattle.std.proofs.lemmas.Str.Parse.{IsNumeralModel, numerals_by_value, tells_all_ascii_digits}
 use Rattle.std.specs.Prelude.{decimal}
 use Rattle.std.proofs.Math.Seq.{drop-length, take-length}
 use Rattle.std.specs.List.{take_while, prefix_len, list_all}
-use Rattle.std.specs.FinMap.{get}
 use Rattle.std.specs.Char.{is_ascii_digit}
 use Rattle.std.specs.Str.{all_ascii_digits}
 use Rattle.std.specs.Str.Parse.{digits_value}
-use mathlib.Core.Logic.{dite}
-use native.Mathlib.Decide.{ℕ_discrete}
-use Rattle.mc_time.specs.declared.expiry.Expiry.{Expiry}
-use Rattle.mc_slab.specs.Needs.{NeedState}
 use Rattle.mc_command.specs.Words.{is_space, is_nonempty}
 use Rattle.mc_command.specs.Numbers.{number_up_to}
 use Rattle.mc_command.specs.declared.step.KeyStep.TheVariants.{Count}
-use Rattle.mc_command.specs.declared.row.Body.TheVariants.{Counted}
-use Rattle.mc_command.specs.declared.reply.Reply.TheVariants.{Number, TooLarge, NoChunk}
-use Rattle.mc_command.specs.Plain.{Plain, Outcome, Answered, Spent, plain, changed, count_row, number_row, number_of, written, with_chunk, has_room, block_need, charge}
-use Rattle.mc_command.specs.Plain.{keeps_chunk, without_dead, standing}
-use Rattle.mc_command.specs.Plain.{Entry as Item}
-use Rattle.mc_shared.specs.Sums.{total}
-use Rattle.mc_shared.specs.History.{Beginning, Operation, Stepped, HistoryEntry, left_by, next, IsRight, after, IsLegal}
-use Rattle.mc_shared.specs.Past.{Past, held, same, Whole, KeptBy}
-use Rattle.mc_laws.specs.Laws.{StandsIn, MayChange, IsNumber, IsCount, counts_by, counts_up}
-use Rattle.mc_laws.proofs.OrderLawLemmas.{one_name}
-use Rattle.mc_laws.proofs.KeyLawLemmas.{get_put, some_is, none_some, alive_was}
-use Rattle.mc_laws.proofs.ReadLawLemmas.{OthersStay, same_keys, may_or_not, stands_behind, spares, legal_parts, after_parts}
+use Rattle.mc_command.specs.Plain.{count_row, number_row, number_of}
+use Rattle.mc_laws.specs.Laws.{IsNumber, IsCount, counts_by, counts_up}
+use Rattle.mc_shared.proofs.NamedKept.{same_self, same_is}
+use Rattle.mc_command.proofs.NumberLemmas.{own, number-some}
+use Rattle.mc_laws.proofs.KeyLawLemmas.{some_is, none_some, alive_was, wrote_so}
+use Rattle.mc_laws.proofs.ReadLawLemmas.{OthersStay, may_or_not, stands_behind, spares, legal_parts, after_parts}
 use Rattle.mc_laws.proofs.OnlyLawLemmas.{whole_held}
 
 -- ---- a number's digits are that number
@@ -47,13 +39,6 @@ digits_front (d ∷ ds) h = let parts = both_true (is_ascii_digit d) (all_ascii_
 taken_whole : (ds : List ℕ) → all_ascii_digits ds ≡ true → take_while is_ascii_digit ds ≡ ds
 taken_whole ds h = ap (λ n. take n ds) (digits_front ds h) ∙ take-length ds
 
-up_to : (limit : ℕ) (ds : List ℕ) → 0 < length ds → all_ascii_digits ds ≡ true → digits_value 10 ds ≤ limit → number_up_to limit ds ≡ Some (digits_value 10 ds)
-up_to limit [] some digits le = absurd (omega (arith, some))
-up_to limit (d ∷ ds) some digits le =
-    let l : leb (digits_value 10 (d ∷ ds)) limit ≡ true = le-leb _ _ le in
-    ap (λ (t : Bool). cond (t && leb (digits_value 10 (d ∷ ds)) limit) (Some (digits_value 10 (d ∷ ds))) None) digits
-    ∙ ap (λ (t : Bool). cond t (Some (digits_value 10 (d ∷ ds))) None) l
-
 digits_number : (ds : List ℕ) (n : ℕ) → 0 < length ds → length ds ≤ 20 → all_ascii_digits ds ≡ true → digits_value 10 ds ≡ n → n < 2 ^ 64 → number_of ds ≡ Some n
 digits_number ds n some short digits value small =
     let l : leb (length ds) 20 ≡ true = le-leb _ _ short in
@@ -61,10 +46,7 @@ digits_number ds n some short digits value small =
     ap reads (taken_whole ds digits)
     ∙ ap (λ b. cond (b && list_all is_space (drop (length ds) ds)) (number_up_to 18446744073709551615 ds) None) l
     ∙ ap (λ r. cond (list_all is_space r) (number_up_to 18446744073709551615 ds) None) (drop-length ds)
-    ∙ up_to 18446744073709551615 ds some digits (omega (arith, value, small)) ∙ ap Some value
-
-own : IsNumeralModel (λ ds. all_ascii_digits ds ≡ true) (digits_value 10)
-own = numerals_by_value _ tells_all_ascii_digits
+    ∙ number-some 18446744073709551615 ds (own.to ds digits) (omega (arith, value, small)) some ∙ ap Some value
 
 decimal_number : (n : ℕ) → n < 2 ^ 64 → number_of (decimal n) ≡ Some n
 decimal_number n small =
@@ -97,28 +79,14 @@ written_number m key flags expiry now n small =
     let put : Item = record { flags = flags; expiry = expiry; block = decimal n; unique = m.next_unique; updated = now } in
     (put, get_put m.items key put, decimal_number n small)
 
-write_counts : (too_large spent stays room : Bool) (key : List ℕ) (n number : ℕ) (found new placed : Plain) → IsNumber new key n → IsNumber placed key n
-    → CountsTo key n (cond too_large (Answered TooLarge found) (cond spent Spent (cond stays (Answered (Number number) new) (cond room (Answered (Number number) placed) (Answered NoChunk found)))))
-write_counts true spent stays room key n number found new placed h k = tt
-write_counts false true stays room key n number found new placed h k = tt
-write_counts false false true room key n number found new placed h k = h
-write_counts false false false true key n number found new placed h k = k
-write_counts false false false false key n number found new placed h k = tt
-
 module _ (key : List ℕ) (by now n : ℕ) where
   abbrev sum : ℕ
   sum = (n + by) % 18446744073709551616
 
-  small_sum : sum < 2 ^ 64
-  small_sum = omega arith
-
   item_counts : (i : Item) (found : Plain) → CountsTo key sum (changed (number_row i true by (Some n)) (Count key true by) (Some i) found now)
   item_counts i found =
-      let b : List ℕ = decimal sum in
-      let need : NeedState = block_need key b in
-      write_counts (ltb found.greatest (charge key b)) (eqb found.next_unique 18446744073709551615) (keeps_chunk (Counted sum) key (Some i)) (has_room found need) key sum sum found
-      (written found key i.flags i.expiry b now) (written (with_chunk found need) key i.flags i.expiry b now)
-      (written_number found key i.flags i.expiry now sum small_sum) (written_number (with_chunk found need) key i.flags i.expiry now sum small_sum)
+      wrote_so (CountsTo key sum) (keeps_chunk (Counted sum) key (Some i)) (Number sum) key i.flags i.expiry (decimal sum) found now tt tt
+      (written_number found key i.flags i.expiry now sum (omega arith)) (written_number (with_chunk found (block_need key (decimal sum))) key i.flags i.expiry now sum (omega arith)) tt
 
   row_counts : (o : Option Item) (found : Plain) → ((i : Item) → o ≡ Some i → number_of i.block ≡ Some n) → CountsTo key sum (changed (count_row true by o) (Count key true by) o found now)
   row_counts None found is = tt
@@ -134,7 +102,7 @@ module _ (key : List ℕ) (by now n : ℕ) where
 -- ---- many counts
 module _ (others_stay : OthersStay) (began : Beginning) (key : List ℕ) where
   counts_no_more : (other : List ℕ) (by : ℕ) → (other ≡ key → ⊥) → same other key * by ≡ 0
-  counts_no_more other by ne = dite (ℕ_discrete (same other key) 0) (λ none. ap (λ n. n * by) none ∙ omega arith) (λ some. absurd (ne (same_keys other key some)))
+  counts_no_more other by ne = dite (ℕ_discrete (same other key) 0) (λ none. ap (λ n. n * by) none ∙ omega arith) (λ some. absurd (ne (same_is other key some)))
 
   not_counted : (what : Operation) → (MayChange began key what → ⊥) → counts_by key what ≡ 0
   not_counted (Stepped (Count other true by) now (Number number)) not_may = counts_no_more other by not_may
@@ -145,7 +113,7 @@ module _ (others_stay : OthersStay) (began : Beginning) (key : List ℕ) where
 
   count_next : (m : Plain) (what : Operation) (n : ℕ) → IsRight m what → IsCount key what → IsNumber m key n → IsNumber (next began m what) key ((n + counts_by key what) % (2 ^ 64))
   count_next m (Stepped (Count other true by) now (Number number)) n right is h =
-      let one : same other key ≡ 1 = ap (same other) (sym is) ∙ one_name other in
+      let one : same other key ≡ 1 = ap (same other) (sym is) ∙ same_self other in
       let by_is : by ≡ same other key * by = sym (ap (λ k. k * by) one ∙ omega arith) in
       let at_key : IsNumber right.0 key ((n + by) % (2 ^ 64)) =
       subst (λ k. IsNumber m k n → IsNumber right.0 k ((n + by) % (2 ^ 64))) is (step_counts other by now n m right.0 number right.1) h in
@@ -153,15 +121,9 @@ module _ (others_stay : OthersStay) (began : Beginning) (key : List ℕ) where
       (subst (λ o. IsNumber (left_by m o) key ((n + by) % (2 ^ 64))) (sym right.1) at_key)
   count_next m what n right is h = absurd is
 
-  small_of : (m : Plain) (n : ℕ) → IsNumber m key n → n < 2 ^ 64
-  small_of m n h = number_small h.0.block n h.2
-
-  sums_up : (n by more : ℕ) → ((n + by) % (2 ^ 64) + more) % (2 ^ 64) ≡ (n + (by + more)) % (2 ^ 64)
-  sums_up n by more = omega arith
-
   all_counted : (m : Plain) (es : List HistoryEntry) (n : ℕ) → IsLegal began m es → IsNumber m key n → ((e : HistoryEntry) → StandsIn es e → MayChange began key e.what → IsCount key e.what)
       → IsNumber (after began m es) key ((n + total (counts_up key) es) % (2 ^ 64))
-  all_counted m [] n legal h counts = let small = small_of m n h in
+  all_counted m [] n legal h counts = let small = number_small h.0.block n h.2 in
       let is : n ≡ (n + 0) % (2 ^ 64) = omega (arith, small) in subst (λ k. IsNumber m key k) is h
   all_counted m (e ∷ es) n legal h counts =
       let new : Plain = next began m e.what in
@@ -169,7 +131,8 @@ module _ (others_stay : OthersStay) (began : Beginning) (key : List ℕ) where
       let rest : (x : HistoryEntry) → StandsIn es x → MayChange began key x.what → IsCount key x.what = λ x s. counts x (stands_behind e x es s) in
       ⊎_elim
       (λ (may : MayChange began key e.what).
-      subst (λ k. IsNumber (after began new es) key k) (sums_up n (counts_by key e.what) (total (counts_up key) es))
+      let sums : ((n + counts_by key e.what) % (2 ^ 64) + total (counts_up key) es) % (2 ^ 64) ≡ (n + (counts_by key e.what + total (counts_up key) es)) % (2 ^ 64) = omega arith in
+      subst (λ k. IsNumber (after began new es) key k) sums
       (more ((n + counts_by key e.what) % (2 ^ 64)) legal.1 (count_next m e.what n legal.0 (counts e ([], es, refl) may) h) rest))
       (λ (not_may : MayChange began key e.what → ⊥).
       let none = not_counted e.what not_may in

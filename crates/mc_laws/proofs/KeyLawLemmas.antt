@@ -1,37 +1,19 @@
 -- What a step on a key leaves under it.
-use Rattle.std.proofs.Common.{◌≡◌, ◌⊎◌, inl, inr, ℕ, Bool, true, false, cond, eqb, ltb, List, [], Option, Some, None, nat_cmp, is_eq, sym, refl, ap, ◌∙◌, subst, ℤ}
-use Rattle.std.specs.Cmp.{tied_itself}
-use Rattle.std.specs.Cmp.Lexicographic.{slice_cmp, nat_list_cmp_total}
-use Rattle.std.specs.FinMap.{IsAntisymmetric, nat_cmp-IsAntisymmetric, slice_cmp-IsAntisymmetric, get, insert, remove, get-insert, get-remove}
-use Rattle.mc_time.specs.declared.expiry.Expiry.{Expiry}
-use Rattle.mc_time.specs.Death.{expiry_of, is_dead}
-use Rattle.mc_slab.specs.Needs.{NeedState}
+use Rattle.std.proofs.Common.{◌≡◌, ◌⊎◌, inl, inr, ℕ, Bool, true, false, cond, eqb, ltb, List, Option, Some, None, sym, refl, ap, ◌∙◌, subst, ℤ}
+use Rattle.mc_shared.proofs.Words.{get, Expiry, expiry_of, is_dead, KeyStep, Cas, Read, Delete, Flush, Row, Reads, Touches, Deletes, Writes, Counted, Reply, Stored, Hit}
+use Rattle.mc_shared.proofs.Words.{key_of, Plain, Outcome, Answered, Spent, plain, stepped, changed, row_of, given, cas_row, read_row, write_reply, written, with_chunk}
+use Rattle.mc_shared.proofs.Words.{block_need, without_dead, expiring, keeps_chunk, written_block, block_of, standing, alive, hit_of, Entry as Item, Stepped}
+use Rattle.mc_laws.specs.Laws.{HasItem}
+use Rattle.mc_shared.proofs.Words.{found-next, get_put, get_gone}
+use Rattle.mc_laws.specs.Laws.{Wrote, item_given}
 use Rattle.mc_command.specs.declared.step.Verb.TheVariants.{Set, Add, Replace}
-use Rattle.mc_command.specs.declared.step.KeyStep.{KeyStep}
-use Rattle.mc_command.specs.declared.step.KeyStep.TheVariants.{Store, Cas, Read, Delete, Flush}
-use Rattle.mc_command.specs.declared.row.Row.{Row}
-use Rattle.mc_command.specs.declared.row.Row.TheVariants.{Refuses, Reads, Touches, Deletes, Writes}
-use Rattle.mc_command.specs.declared.row.Refusal.TheVariants as refusal
+use Rattle.mc_command.specs.declared.step.KeyStep.TheVariants.{Store}
+use Rattle.mc_command.specs.declared.row.Row.TheVariants.{Refuses}
 use Rattle.mc_command.specs.declared.row.Body.{Body}
-use Rattle.mc_command.specs.declared.row.Body.TheVariants.{Given, Appended, Prepended, Counted}
-use Rattle.mc_command.specs.declared.reply.Reply.{Reply}
-use Rattle.mc_command.specs.declared.reply.Reply.TheVariants.{Stored, Hit, TooLarge, NoChunk}
-use Rattle.mc_command.specs.Commands.{key_of}
-use Rattle.mc_command.specs.Plain.{Plain, Items, Outcome, Answered, Spent, plain, stepped, changed, row_of, given, store_row, cas_row, read_row, delete_row, wrote, write_reply}
-use Rattle.mc_command.specs.Plain.{written, with_chunk, has_room, block_need, charge, without_dead, expiring, keeps_chunk, written_block, block_of, standing, alive, hit_of}
-use Rattle.mc_command.specs.Plain.{Entry as Item}
-use Rattle.mc_shared.specs.History.{Stepped}
-use Rattle.mc_laws.specs.Laws.{HasItem, Wrote, item_given}
-
--- ---- maps under keys
-pub exact_order : IsAntisymmetric (slice_cmp nat_cmp)
-exact_order = slice_cmp-IsAntisymmetric nat_cmp-IsAntisymmetric
-
-pub get_put : (items : Items) (key : List ℕ) (item : Item) → get (insert items key item) key ≡ Some item
-get_put items key item = get-insert nat_list_cmp_total items key item key ∙ ap (λ r. cond (is_eq r) (Some item) (get items key)) (tied_itself nat_list_cmp_total key)
-
-get_gone : (items : Items) (key : List ℕ) → get (remove items key) key ≡ None
-get_gone items key = get-remove nat_list_cmp_total items key key ∙ ap (λ r. cond (is_eq r) None (get items key)) (tied_itself nat_list_cmp_total key)
+use Rattle.mc_command.specs.declared.row.Body.TheVariants.{Given, Appended, Prepended}
+use Rattle.mc_command.specs.declared.reply.Reply.TheVariants.{TooLarge, NoChunk}
+use Rattle.mc_command.specs.Plain.{store_row, delete_row, wrote, has_room, charge}
+use Rattle.mc_command.specs.declared.row.Refusal.TheVariants as refusal
 
 pub some_is : {A : Type 0} (a b : A) → Some a ≡ Some b → a ≡ b
 some_is a b e = cc e
@@ -47,6 +29,21 @@ kept_was false o x e = absurd (none_some x e)
 pub alive_was : (cut : Option ℕ) (now : ℕ) (o : Option Item) (i : Item) → alive cut now o ≡ Some i → o ≡ Some i
 alive_was cut now None i e = e
 alive_was cut now (Some x) i e = elim (is_dead x.expiry x.updated cut now) as (λ b. cond b None (Some x) ≡ Some i → Some x ≡ Some i) [ true ↦ λ h. absurd (none_some i h) | false ↦ λ h. h ] e
+
+-- however a write comes out
+pub wrote_so : (P : Outcome → Type 0) (stays : Bool) (reply : Reply) (key : List ℕ) (flags : ℕ) (expiry : Expiry) (block : List ℕ) (m : Plain) (now : ℕ)
+    → P (Answered TooLarge m) → P Spent → P (Answered reply (written m key flags expiry block now))
+    → P (Answered reply (written (with_chunk m (block_need key block)) key flags expiry block now)) → P (Answered NoChunk m) → P (wrote stays reply key flags expiry block m now)
+wrote_so P stays reply key flags expiry block m now large spent kept taken none =
+    by_tests (ltb m.greatest (charge key block)) (eqb m.next_unique 18446744073709551615) stays (has_room m (block_need key block))
+  where
+    by_tests : (a b c d : Bool) → P (cond a (Answered TooLarge m) (cond b Spent (cond c (Answered reply (written m key flags expiry block now))
+        (cond d (Answered reply (written (with_chunk m (block_need key block)) key flags expiry block now)) (Answered NoChunk m)))))
+    by_tests true b c d = large
+    by_tests false true c d = spent
+    by_tests false false true d = kept
+    by_tests false false false true = taken
+    by_tests false false false false = none
 
 -- ---- what is left of a content under the step's key
 module _ (flags unique : ℕ) (block : List ℕ) where
@@ -73,26 +70,10 @@ module _ (flags unique : ℕ) (block : List ℕ) where
       let is : put ≡ h.0 = some_is put h.0 (sym (get_put old.items key put) ∙ h.1) in
       (i, stands i refl, ap (λ (x : Item). x.flags) is ∙ h.2, ap (λ (x : Item). x.unique) is ∙ h.3, ap (λ (x : Item). x.block) is ∙ h.4)
 
-  pub found_next : (item : Option Item) (key : List ℕ) (old : Plain) → (without_dead item key old).next_unique ≡ old.next_unique
-  found_next None key old = refl
-  found_next (Some i) key old = refl
-
   written_next : (m : Plain) (key : List ℕ) (f : ℕ) (expiry : Expiry) (b : List ℕ) (now : ℕ) → HasItem (written m key f expiry b now) key flags unique block → unique ≡ m.next_unique
   written_next m key f expiry b now h =
       let put : Item = record { flags = f; expiry = expiry; block = b; unique = m.next_unique; updated = now } in
       sym (ap (λ (x : Item). x.unique) (some_is put h.0 (sym (get_put m.items key put) ∙ h.1)) ∙ h.3)
-
-  write_traces : (too_large spent stays room : Bool) (reply : Reply) (old found new placed : Plain) (step : KeyStep) (now : ℕ)
-      → (HasItem found (key_of step) flags unique block → HasItem old (key_of step) flags unique block)
-      → (HasItem new (key_of step) flags unique block → unique ≡ old.next_unique)
-      → (HasItem placed (key_of step) flags unique block → unique ≡ old.next_unique)
-      → Wrote (key_of step) (Stepped step now reply)
-      → Traces old step now (cond too_large (Answered TooLarge found) (cond spent Spent (cond stays (Answered reply new) (cond room (Answered reply placed) (Answered NoChunk found)))))
-  write_traces true spent stays room reply old found new placed step now f n p w = λ h. inl (f h)
-  write_traces false true stays room reply old found new placed step now f n p w = tt
-  write_traces false false true room reply old found new placed step now f n p w = λ h. inr (w, n h)
-  write_traces false false false true reply old found new placed step now f n p w = λ h. inr (w, p h)
-  write_traces false false false false reply old found new placed step now f n p w = λ h. inl (f h)
 
   writes : (body : Body) (step : KeyStep) (now : ℕ) → Wrote (key_of step) (Stepped step now (write_reply body))
   writes Given step now = refl
@@ -112,14 +93,12 @@ module _ (flags unique : ℕ) (block : List ℕ) where
       let key : List ℕ = key_of step in
       let found : Plain = without_dead item key old in
       let b : List ℕ = written_block draft.body (block_of step) item in
-      let need : NeedState = block_need key b in
-      let next = found_next item key old in
-      write_traces (ltb found.greatest (charge key b)) (eqb found.next_unique 18446744073709551615) (keeps_chunk draft.body key item) (has_room found need) (write_reply draft.body) old found
-      (written found key draft.flags draft.expiry b now) (written (with_chunk found need) key draft.flags draft.expiry b now) step now
-      (found_traces item key old)
-      (λ h. written_next found key draft.flags draft.expiry b now h ∙ next)
-      (λ h. written_next (with_chunk found need) key draft.flags draft.expiry b now h ∙ next)
-      (writes draft.body step now)
+      let next = found-next item key old in
+      wrote_so (Traces old step now) (keeps_chunk draft.body key item) (write_reply draft.body) key draft.flags draft.expiry b found now
+      (λ h. inl (found_traces item key old h)) tt
+      (λ h. inr (writes draft.body step now, written_next found key draft.flags draft.expiry b now h ∙ next))
+      (λ h. inr (writes draft.body step now, written_next (with_chunk found (block_need key b)) key draft.flags draft.expiry b now h ∙ next))
+      (λ h. inl (found_traces item key old h))
 
   pub stepped_traces : (old : Plain) (step : KeyStep) (now : ℕ) → Traces old step now (stepped old step now)
   unfolding Stands
@@ -133,16 +112,11 @@ module _ (flags unique : ℕ) (block : List ℕ) where
   Shows old key (Answered reply new) = Unit {0}
   Shows old key Spent = Unit {0}
 
-  write_shows : (too_large spent stays room : Bool) (body : Body) (old found new placed : Plain) (key : List ℕ)
-      → Shows old key
-      (cond too_large (Answered TooLarge found) (cond spent Spent (cond stays (Answered (write_reply body) new) (cond room (Answered (write_reply body) placed) (Answered NoChunk found)))))
-  write_shows true spent stays room body old found new placed key = tt
-  write_shows false true stays room body old found new placed key = tt
-  write_shows false false true room body old found new placed key =
-      elim body as (λ (y : Body). Shows old key (Answered (write_reply y) new)) [ Given ↦ tt | Appended ↦ tt | Prepended ↦ tt | Counted n ↦ tt ]
-  write_shows false false false true body old found new placed key =
-      elim body as (λ (y : Body). Shows old key (Answered (write_reply y) placed)) [ Given ↦ tt | Appended ↦ tt | Prepended ↦ tt | Counted n ↦ tt ]
-  write_shows false false false false body old found new placed key = tt
+  write_shows : (body : Body) (old new : Plain) (key : List ℕ) → Shows old key (Answered (write_reply body) new)
+  write_shows Given old new key = tt
+  write_shows Appended old new key = tt
+  write_shows Prepended old new key = tt
+  write_shows (Counted number) old new key = tt
 
   changed_shows : (row : Row) (step : KeyStep) (item : Option Item) (old found : Plain) (now : ℕ) → Stands item (key_of step) old → Shows old (key_of step) (changed row step item found now)
   unfolding Stands
@@ -156,10 +130,8 @@ module _ (flags unique : ℕ) (block : List ℕ) where
   changed_shows (Touches expiry) step item old found now stands = tt
   changed_shows Deletes step item old found now stands = tt
   changed_shows (Writes draft) step item old found now stands =
-      let key : List ℕ = key_of step in
-      let b : List ℕ = written_block draft.body (block_of step) item in
-      let need : NeedState = block_need key b in
-      write_shows (ltb found.greatest (charge key b)) (eqb found.next_unique 18446744073709551615) (keeps_chunk draft.body key item) (has_room found need) draft.body old found _ _ key
+      wrote_so (Shows old (key_of step)) (keeps_chunk draft.body (key_of step) item) (write_reply draft.body) (key_of step) draft.flags draft.expiry (written_block draft.body (block_of step) item)
+      found now tt tt (write_shows draft.body old _ (key_of step)) (write_shows draft.body old _ (key_of step)) tt
 
   stepped_shows : (old : Plain) (step : KeyStep) (now : ℕ) → Shows old (key_of step) (stepped old step now)
   unfolding Stands
@@ -218,33 +190,20 @@ Gives key item (Answered reply new) = Unit {0}
 Gives key item Spent = Unit {0}
 
 module _ (key : List ℕ) (flags : ℕ) (expiry : Expiry) (block : List ℕ) (now : ℕ) where
-  item_of : ℕ → Item
+  abbrev item_of : ℕ → Item
   item_of unique = record { flags = flags; expiry = expiry; block = block; unique = unique; updated = now }
 
-  write_gives : (too_large spent room : Bool) (item : Item) (m new placed : Plain) → get new.items key ≡ Some item → get placed.items key ≡ Some item
-      → Gives key item (cond too_large (Answered TooLarge m) (cond spent Spent (cond false (Answered Stored new) (cond room (Answered Stored placed) (Answered NoChunk m)))))
-  write_gives true spent room item m new placed h k = tt
-  write_gives false true room item m new placed h k = tt
-  write_gives false false true item m new placed h k = k
-  write_gives false false false item m new placed h k = tt
-
   given_gives : (old : Plain) (o : Option Item) → Gives key (item_of old.next_unique) (wrote false Stored key flags expiry block (without_dead o key old) now)
-  unfolding item_of
   given_gives old o =
       let m : Plain = without_dead o key old in
-      let need : NeedState = block_need key block in
-      let next = found_next 0 0 [] o key old in
-      write_gives (ltb m.greatest (charge key block)) (eqb m.next_unique 18446744073709551615) (has_room m need) (item_of old.next_unique) m
-      (written m key flags expiry block now) (written (with_chunk m need) key flags expiry block now)
-      (get_put m.items key (item_of m.next_unique) ∙ ap (λ n. Some (item_of n)) next)
-      (get_put (with_chunk m need).items key (item_of (with_chunk m need).next_unique) ∙ ap (λ n. Some (item_of n)) next)
+      let gives = get_put m.items key (item_of m.next_unique) ∙ ap (λ n. Some (item_of n)) (found-next o key old) in
+      wrote_so (Gives key (item_of old.next_unique)) false Stored key flags expiry block m now tt tt gives gives tt
 
 module _ (key : List ℕ) (flags : ℕ) (exptime : ℤ) (block : List ℕ) (now : ℕ) where
-  stored : ℕ → Item
-  stored unique = record { flags = flags; expiry = expiry_of exptime now; block = block; unique = unique; updated = now }
+  abbrev stored : ℕ → Item
+  stored = item_of key flags (expiry_of exptime now) block now
 
   gives : (old : Plain) (o : Option Item) → Gives key (stored old.next_unique) (wrote false Stored key flags (expiry_of exptime now) block (without_dead o key old) now)
-  unfolding item_of stored
   gives old o = given_gives key flags (expiry_of exptime now) block now old o
 
   add_gives : (old : Plain) (o : Option Item)
@@ -268,7 +227,6 @@ module _ (key : List ℕ) (flags : ℕ) (exptime : ℤ) (block : List ℕ) (now 
   cas_gives known old (Some i) = cas_test (eqb i.unique known) known old (Some i)
 
 pub stored_gives : (step : KeyStep) (now : ℕ) (item : Item) (old : Plain) → item_given step now old.next_unique ≡ Some item → Gives (key_of step) item (plain old step now)
-unfolding stored
 stored_gives (Store Set key flags exptime block) now item old e =
     subst (λ (x : Item). Gives key x (plain old (Store Set key flags exptime block) now)) (some_is _ _ e) (gives key flags exptime block now old (standing old key now))
 stored_gives (Store Add key flags exptime block) now item old e =

@@ -1,12 +1,8 @@
 -- What the laws say of callers that meet, in the tests.
 use Rattle.std.proofs.Common.{◌≡◌, inl, inr, ℕ, List, [], ◌∷◌, sym, refl, ap, ◌∙◌, subst}
-use Rattle.mc_command.specs.declared.step.KeyStep.TheVariants.{Read}
-use Rattle.mc_command.specs.declared.reply.Reply.{Reply}
-use Rattle.mc_shared.specs.History.{Beginning, Stepped, HistoryEntry}
-use Rattle.mc_shared.specs.Past.{Past, spent, start, made, both}
-use Rattle.mc_shared.specs.Steps.{entry_of, next_name, Agrees}
-use Rattle.mc_shared.specs.Store.{with_call}
-use Rattle.mc_laws.specs.Laws.{Has, Knew, Found, hit, IsHit, IsNoOlder, HasDrawnNumbers, Call, PlainAnswers}
+use Rattle.mc_shared.proofs.Words.{Read, Reply, Beginning, Stepped, HistoryEntry, Past, spent, start, made, both, entry_of, next_name, Agrees, with_call}
+use Rattle.mc_laws.specs.Laws.{Has, Knew}
+use Rattle.mc_laws.specs.Laws.{Found, hit, IsHit, IsNoOlder, HasDrawnNumbers, Call, PlainAnswers}
 use Rattle.mc_laws.specs.Together.{two_callers, IsMixOf}
 
 abbrev pub KnownHits : Type 0

@@ -1,13 +1,13 @@
 -- What a history that keeps a past has beside it.
 use Rattle.std.proofs.Common.{◌≡◌, ◌≢◌, ◌⊎◌, inl, inr, ⊎_elim, ℕ, ◌≤◌, List, [], ◌∷◌, ◌++◌, sym, refl, ap, subst, arith}
-use mathlib.Core.Logic.{dite}
-use native.Mathlib.Decide.{ℕ_discrete}
-use Rattle.mc_shared.specs.Sums.{total}
-use Rattle.mc_shared.specs.History.{HistoryEntry}
-use Rattle.mc_shared.specs.Past.{Past, spent, start, call, made, both, held, callers, times, same, numbered, Whole, KeptBy}
-use Rattle.mc_laws.specs.Laws.{StandsIn, StandsBefore, Has}
-use Rattle.mc_laws.proofs.OrderLawLemmas.{one_name, sum_append, stands_in}
-use Rattle.mc_laws.proofs.ReadLawLemmas.{same_keys, none_stands, first_or_behind, stands_behind, around}
+use Rattle.mc_shared.proofs.Words.{dite, ℕ_discrete, total, HistoryEntry, Past, spent, start, call, made, both, held, callers, same, numbered, Whole, KeptBy}
+use Rattle.mc_laws.specs.Laws.{StandsIn}
+use Rattle.mc_laws.specs.Laws.{StandsBefore, Has}
+use Rattle.mc_shared.specs.Past.{times}
+use Rattle.mc_shared.proofs.Sums.{total-append, tail_is}
+use Rattle.mc_shared.proofs.NamedKept.{same_self, same_is}
+use Rattle.mc_laws.proofs.OrderLawLemmas.{stands_in}
+use Rattle.mc_laws.proofs.ReadLawLemmas.{none_stands, first_or_behind, stands_behind, around}
 
 module _ (f : HistoryEntry → ℕ) where
   -- something weighs where the sum is some
@@ -18,7 +18,7 @@ module _ (f : HistoryEntry → ℕ) where
       (λ weighs. (x, ([], es, refl), weighs))
 
   pub weight_in : (es : List HistoryEntry) (e : HistoryEntry) → StandsIn es e → f e ≤ total f es
-  weight_in es e s = let is : total f es ≡ total f (s.0 ++ e ∷ s.1) = ap (total f) s.2 in omega (arith, is, sum_append f s.0 (e ∷ s.1))
+  weight_in es e s = let is : total f es ≡ total f (s.0 ++ e ∷ s.1) = ap (total f) s.2 in omega (arith, is, total-append f s.0 (e ∷ s.1))
 
 -- what stands in two lists one after the other
 in_either : (xs ys : List HistoryEntry) (e : HistoryEntry) → StandsIn (xs ++ ys) e → StandsIn xs e ⊎ StandsIn ys e
@@ -41,26 +41,21 @@ held_has (both p q) e s = ⊎_elim (λ (l : StandsIn (held p) e). inl (held_has 
 abbrev label : HistoryEntry → List ℕ
 label e = e.number ∷ e.by
 
-labelled : HistoryEntry → HistoryEntry → ℕ
-labelled e x = numbered e.by e.number x
+abbrev labelled : HistoryEntry → HistoryEntry → ℕ
+labelled e = numbered e.by e.number
 
 one_label : (e x : HistoryEntry) → labelled e x ≢ 0 → label e ≡ label x
-unfolding labelled
-one_label e x h = same_keys (label e) (label x) h
-
-owner : (e x : HistoryEntry) → label e ≡ label x → e.by ≡ x.by
-owner e x is = cc is
+one_label e x h = same_is (label e) (label x) h
 
 module _ (log : List HistoryEntry) (p : Past) (kept : KeptBy log p) where
   -- of two places with one label there is one
   one_place : (e x : HistoryEntry) → StandsIn log e → StandsIn log x → labelled e x ≢ 0 → x ≡ e
-  unfolding labelled
   one_place e x s t weighs =
       let f : HistoryEntry → ℕ = numbered e.by e.number in
       let least = kept.once e.by e.number in
-      let here : f e ≡ 1 = one_name (label e) in
+      let here : f e ≡ 1 = same_self (label e) in
       let is : total f log ≡ total f (s.0 ++ e ∷ s.1) = ap (total f) s.2 in
-      let parts = sum_append f s.0 (e ∷ s.1) in
+      let parts = total-append f s.0 (e ∷ s.1) in
       ⊎_elim
       (λ (front : StandsIn s.0 x). let w = weight_in f s.0 x front in absurd (omega (arith, least, here, is, parts, w, weighs)))
       (λ (u : (x ≡ e) ⊎ StandsIn s.1 x). ⊎_elim (λ (same_entry : x ≡ e). same_entry)
@@ -68,10 +63,9 @@ module _ (log : List HistoryEntry) (p : Past) (kept : KeptBy log p) where
       (around s.0 e s.1 x (subst (λ es. StandsIn es x) s.2 t))
 
   is_held : (e : HistoryEntry) → StandsIn log e → total (labelled e) log ≡ total (labelled e) (held p) → StandsIn (held p) e
-  unfolding labelled
   is_held e s same_sums =
       let f : HistoryEntry → ℕ = labelled e in
-      let here : f e ≡ 1 = one_name (label e) in
+      let here : f e ≡ 1 = same_self (label e) in
       let w = weight_in f log e s in
       let found = find f (held p) (omega (arith, here, w, same_sums)) in
       let is = one_place e found.0 s (stands_in p log found.0 kept.ordered (held_has p found.0 found.1)) found.2 in
@@ -80,17 +74,16 @@ module _ (log : List HistoryEntry) (p : Past) (kept : KeptBy log p) where
 pub own_held : (log : List HistoryEntry) (p : Past) (e : HistoryEntry) → KeptBy log p → 1 ≤ times e.by (callers p) → StandsIn log e → StandsIn (held p) e
 own_held log p e kept holds s = is_held log p kept e s (kept.own (labelled e)
     (λ x none. dite (ℕ_discrete (labelled e x) 0) (λ z. z)
-    (λ weighs. let is : times e.by (callers p) ≡ times x.by (callers p) = ap (λ c. times c (callers p)) (owner e x (one_label e x weighs)) in absurd (omega (arith, is, none, holds)))))
+    (λ weighs. let is : times e.by (callers p) ≡ times x.by (callers p) = ap (λ c. times c (callers p)) (tail_is (one_label e x weighs)) in absurd (omega (arith, is, none, holds)))))
 
 pub whole_held : (log : List HistoryEntry) (p : Past) (e : HistoryEntry) → KeptBy log p → Whole p → StandsIn log e → StandsIn (held p) e
 whole_held log p e kept whole s = is_held log p kept e s (kept.whole whole (labelled e))
 
 pub once_only : (log : List HistoryEntry) (p : Past) (first second : HistoryEntry) → KeptBy log p → StandsBefore log first second → first.by ≡ second.by → first.number ≡ second.number → ⊥
-unfolding labelled
 once_only log p first second kept s by number =
     let f : HistoryEntry → ℕ = numbered first.by first.number in
     let least = kept.once first.by first.number in
-    let one : f first ≡ 1 = one_name (label first) in
-    let other : f second ≡ 1 = subst (λ (l : List ℕ). same (label first) l ≡ 1) (λ i. number i ∷ by i) (one_name (label first)) in
+    let one : f first ≡ 1 = same_self (label first) in
+    let other : f second ≡ 1 = subst (λ (l : List ℕ). same (label first) l ≡ 1) (λ i. number i ∷ by i) (same_self (label first)) in
     let is : total f log ≡ total f ((s.before ++ first ∷ s.between) ++ second ∷ s.rest) = ap (total f) s.is in
-    omega (arith, least, one, other, is, sum_append f (s.before ++ first ∷ s.between) (second ∷ s.rest), sum_append f s.before (first ∷ s.between))
+    omega (arith, least, one, other, is, total-append f (s.before ++ first ∷ s.between) (second ∷ s.rest), total-append f s.before (first ∷ s.between))

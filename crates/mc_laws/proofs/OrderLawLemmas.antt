@@ -1,11 +1,11 @@
 -- Where a kept past's entries stand.
-use Rattle.std.proofs.Common.{◌≡◌, inl, inr, ⊎_elim, ℕ, ◌+◌, ◌≤◌, ◌<◌, List, [], ◌∷◌, ◌++◌, cond, sym, refl, ap, ◌∙◌, subst, arith, append_assoc, eq-eqb}
-use Rattle.std.proofs.lemmas.List.{append-nil}
-use Rattle.mc_shared.specs.Sums.{total}
-use Rattle.mc_shared.specs.History.{Name, Operation, HistoryEntry}
-use Rattle.mc_shared.specs.Past.{Past, spent, start, call, made, both, name_of, held, Ordered, same, called_by, count_calls, KeptBy}
-use Rattle.mc_shared.specs.Steps.{entry_of}
-use Rattle.mc_laws.specs.Laws.{StandsIn, StandsBefore, Has, IsWithin, Knew, WentOn}
+use Rattle.std.proofs.Common.{◌≡◌, inl, inr, ⊎_elim, ◌+◌, ◌≤◌, ◌<◌, List, [], ◌∷◌, ◌++◌, sym, refl, ap, ◌∙◌, subst, arith, append_assoc}
+use Rattle.mc_shared.proofs.Words.{append-nil, Name, Operation, HistoryEntry, Past, spent, start, call, made, both, name_of, held, Ordered, called_by, count_calls}
+use Rattle.mc_shared.proofs.Words.{KeptBy, entry_of}
+use Rattle.mc_laws.specs.Laws.{StandsIn, StandsBefore, Has, Knew}
+use Rattle.mc_laws.specs.Laws.{IsWithin, WentOn}
+use Rattle.mc_shared.proofs.Sums.{total-append}
+use Rattle.mc_shared.proofs.NamedKept.{same_self}
 
 -- in a longer history it stands too
 pub stands_longer : (log more : List HistoryEntry) (e : HistoryEntry) → StandsIn log e → StandsIn (log ++ more) e
@@ -84,14 +84,6 @@ pub keeps_all : (log : List HistoryEntry) (p : Past) (e : HistoryEntry) → Kept
 keeps_all log p e kept has = stands_in p log e kept.ordered has
 
 -- ---- numbers
-pub one_name : (c : Name) → same c c ≡ 1
-one_name [] = refl
-one_name (x ∷ xs) = ap (λ b. cond b (same xs xs) 0) (eq-eqb x x refl) ∙ one_name xs
-
-pub sum_append : {A : Type 0} (f : A → ℕ) (xs ys : List A) → total f (xs ++ ys) ≡ total f xs + total f ys
-sum_append f [] ys = omega arith
-sum_append f (x ∷ xs) ys = let rest = sum_append f xs ys in omega (arith, rest)
-
 -- who goes on keeps its name, and holds no fewer calls
 record Grows (p q : Past) : Type 0 where
   name : name_of q ≡ name_of p
@@ -104,16 +96,16 @@ grows : (p q : Past) → WentOn p q → Grows p q
 grows p spent w = grows_same p spent w
 grows p (start c seen) w = grows_same p (start c seen) w
 grows p (call q e) w = ⊎_elim (grows_same p (call q e))
-    (λ (v : WentOn p q). let g = grows p q v in record { name = g.name; calls = λ c. let m = g.calls c in omega (arith, m, sum_append (called_by c) (held q) (e ∷ [])) }) w
+    (λ (v : WentOn p q). let g = grows p q v in record { name = g.name; calls = λ c. let m = g.calls c in omega (arith, m, total-append (called_by c) (held q) (e ∷ [])) }) w
 grows p (made q d) w = ⊎_elim (grows_same p (made q d)) (λ (v : WentOn p q). let g = grows p q v in record { name = g.name; calls = g.calls }) w
 grows p (both q o) w = ⊎_elim (grows_same p (both q o))
-    (λ (v : WentOn p q). let g = grows p q v in record { name = g.name; calls = λ c. let m = g.calls c in omega (arith, m, sum_append (called_by c) (held q) (held o)) }) w
+    (λ (v : WentOn p q). let g = grows p q v in record { name = g.name; calls = λ c. let m = g.calls c in omega (arith, m, total-append (called_by c) (held q) (held o)) }) w
 
 pub numbers_grow : (p q : Past) (first second : Operation) → WentOn (call p (entry_of p first)) q → ((entry_of q second).by ≡ (entry_of p first).by)
     × ((entry_of p first).number < (entry_of q second).number)
 numbers_grow p q first second w =
     let g = grows (call p (entry_of p first)) q w in
     let more = g.calls (name_of p) in
-    let one = one_name (name_of p) in
+    let one = same_self (name_of p) in
     let here : count_calls (name_of q) (held q) ≡ count_calls (name_of p) (held q) = ap (λ c. count_calls c (held q)) g.name in
-    (g.name, omega (arith, more, one, here, sum_append (called_by (name_of p)) (held p) (entry_of p first ∷ [])))
+    (g.name, omega (arith, more, one, here, total-append (called_by (name_of p)) (held p) (entry_of p first ∷ [])))

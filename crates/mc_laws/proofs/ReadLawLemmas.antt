@@ -1,26 +1,19 @@
 -- What a read is told, by the entries before it.
-use Rattle.std.proofs.Common.{◌≡◌, ◌≢◌, ◌⊎◌, inl, inr, ⊎_elim, ℕ, Bool, true, false, cond, eqb, List, [], ◌∷◌, ◌++◌, Some, None, sym, refl, ap, ◌∙◌, subst, arith, append_assoc, eq-eqb, ne_eqb}
-use Rattle.std.specs.Prelude.{is_some, not, ◌||◌}
-use Rattle.std.specs.Ordering.{nat_cmp}
-use Rattle.std.specs.Cmp.Lexicographic.{slice_cmp}
-use Rattle.std.specs.FinMap.{get, empty, retain_keys, get-empty, get-retain_keys}
-use mathlib.Core.Logic.{dite}
-use native.Mathlib.Decide.{ℕ_discrete}
-use Rattle.mc_command.specs.declared.step.KeyStep.{KeyStep}
-use Rattle.mc_command.specs.declared.step.KeyStep.TheVariants.{Read, Delete, Flush}
-use Rattle.mc_command.specs.declared.reply.Reply.{Reply}
-use Rattle.mc_command.specs.declared.reply.Reply.TheVariants.{Stored, Hit}
-use Rattle.mc_command.specs.Commands.{key_of}
-use Rattle.mc_command.specs.Plain.{Plain, Items, Answered, plain, stepped, alive, flushed}
-use Rattle.mc_command.specs.Plain.{Entry as Item}
+use Rattle.std.proofs.Common.{◌≡◌, ◌≢◌, ◌⊎◌, inl, inr, ⊎_elim, ℕ, Bool, true, false, cond, eqb, List, [], ◌∷◌, ◌++◌, Some, None, sym, refl, ap, ◌∙◌, subst, arith}
+use Rattle.std.proofs.Common.{append_assoc, ne_eqb}
+use Rattle.mc_shared.proofs.Words.{not, get, empty, retain_keys, get-empty, dite, ℕ_discrete, KeyStep, Read, Delete, Flush, Reply, Stored, Hit, key_of, Plain, Items}
+use Rattle.mc_shared.proofs.Words.{Answered, plain, stepped, alive, flushed, Entry as Item, Beginning, Operation, Stepped, Purged, HistoryEntry, shelf_in, left_by, next}
+use Rattle.mc_shared.proofs.Words.{IsRight, after, IsLegal, Past, same, Ordered, KeptBy, entry_of, with_call}
+use Rattle.mc_laws.specs.Laws.{StandsIn, StandsBefore, Has, MayChange, item_after}
+use Rattle.mc_shared.proofs.Words.{order, get_kept}
+use Rattle.mc_laws.specs.Laws.{item_given, HasItem, Wrote}
+use Rattle.std.specs.Prelude.{is_some, ◌||◌}
 use Rattle.mc_command.specs.Laws.{IsOnKey}
-use Rattle.mc_shared.specs.History.{Beginning, Operation, Stepped, Purged, HistoryEntry, shelf_in, left_by, next, IsRight, after, IsLegal}
-use Rattle.mc_shared.specs.Past.{Past, same, Ordered, KeptBy}
-use Rattle.mc_shared.specs.Steps.{entry_of}
-use Rattle.mc_shared.specs.Store.{with_call}
-use Rattle.mc_laws.specs.Laws.{StandsIn, StandsBefore, Has, MayChange, IsTold, ReadsLatest, ReadsWrite, item_after, read_of, item_given, HasItem, Wrote, IsWrittenIn}
-use Rattle.mc_laws.proofs.OrderLawLemmas.{one_name, stands_in}
-use Rattle.mc_laws.proofs.KeyLawLemmas.{exact_order, none_some, kept_was, Traces, stepped_traces, hit_shows, read_told, hit_leaves, deleted_drops, given_left}
+use Rattle.mc_laws.specs.Laws.{IsTold, ReadsLatest, ReadsWrite, read_of, IsWrittenIn}
+use Rattle.mc_laws.proofs.OrderLawLemmas.{stands_in}
+use Rattle.mc_laws.proofs.KeyLawLemmas.{none_some, kept_was, Traces, stepped_traces, hit_shows, read_told, hit_leaves, deleted_drops, given_left}
+use Rattle.mc_shared.proofs.Sums.{head_is, tail_is}
+use Rattle.mc_shared.proofs.NamedKept.{same_self, apart_or_one}
 
 -- the law of mc_command on other keys
 abbrev pub OthersStay : Type 0
@@ -28,18 +21,10 @@ OthersStay = (old new : Plain) (step : KeyStep) (now : ℕ) (reply : Reply) (oth
     → other ≢ key_of step → get new.items other ≡ get old.items other
 
 -- ---- keys
-pub same_keys : (c d : List ℕ) → same c d ≢ 0 → c ≡ d
-same_keys [] [] h = refl
-same_keys [] (y ∷ ys) h = absurd (h refl)
-same_keys (x ∷ xs) [] h = absurd (h refl)
-same_keys (x ∷ xs) (y ∷ ys) h = dite (ℕ_discrete x y)
-    (λ e. let rest : xs ≡ ys = same_keys xs ys (λ z. h (ap (λ b. cond b (same xs ys) 0) (eq-eqb x y e) ∙ z)) in λ i. e i ∷ rest i)
-    (λ ne. absurd (h (ap (λ b. cond b (same xs ys) 0) (ne_eqb x y ne))))
-
 one_or_other : (c d : List ℕ) → (c ≡ d) ⊎ (c ≢ d)
-one_or_other c d = dite (ℕ_discrete (same c d) 0)
-    (λ none. inr (λ is. let one : same c d ≡ 1 = subst (λ x. same c x ≡ 1) is (one_name c) in absurd (omega (arith, one, none))))
-    (λ some. inl (same_keys c d some))
+one_or_other c d = ⊎_elim
+    (λ (none : same c d ≡ 0). inr (λ is. let one : same c d ≡ 1 = subst (λ x. same c x ≡ 1) is (same_self c) in absurd (omega (arith, one, none))))
+    inl (apart_or_one c d)
 
 pub may_or_not : (began : Beginning) (key : List ℕ) (what : Operation) → MayChange began key what ⊎ (MayChange began key what → ⊥)
 may_or_not began key (Stepped (Flush delay) now reply) = inl tt
@@ -60,26 +45,14 @@ module _ (began : Beginning) where
 pub stands_behind : (x e : HistoryEntry) (es : List HistoryEntry) → StandsIn es e → StandsIn (x ∷ es) e
 stands_behind x e es s = (x ∷ s.0, s.1, ap (λ ys. x ∷ ys) s.2)
 
-heads : (x y : HistoryEntry) (xs ys : List HistoryEntry) → x ∷ xs ≡ y ∷ ys → x ≡ y
-heads x y xs ys e = cc e
-
-tails : (x y : HistoryEntry) (xs ys : List HistoryEntry) → x ∷ xs ≡ y ∷ ys → xs ≡ ys
-tails x y xs ys e = cc e
-
 -- what stands in a list is its first or stands behind it
-first_parts : (x e : HistoryEntry) (es before rest : List HistoryEntry) → x ∷ es ≡ before ++ e ∷ rest → (e ≡ x) ⊎ StandsIn es e
-first_parts x e es [] rest is = inl (sym (heads x e es rest is))
-first_parts x e es (y ∷ before) rest is = inr (before, rest, tails x y es (before ++ e ∷ rest) is)
-
 pub first_or_behind : (x e : HistoryEntry) (es : List HistoryEntry) → StandsIn (x ∷ es) e → (e ≡ x) ⊎ StandsIn es e
-first_or_behind x e es s = first_parts x e es s.0 s.1 s.2
-
-no_parts : (e : HistoryEntry) (before rest : List HistoryEntry) → [] ≡ before ++ e ∷ rest → ⊥
-no_parts e [] rest is = cc is
-no_parts e (x ∷ before) rest is = cc is
+first_or_behind x e es ([], rest, is) = inl (sym (head_is is))
+first_or_behind x e es (y ∷ before, rest, is) = inr (before, rest, tail_is is)
 
 pub none_stands : (e : HistoryEntry) → StandsIn [] e → ⊥
-none_stands e s = no_parts e s.0 s.1 s.2
+none_stands e ([], rest, is) = cc is
+none_stands e (x ∷ before, rest, is) = cc is
 
 -- what stands in a list stands before one of its places, at it, or behind it
 pub around : (before : List HistoryEntry) (at : HistoryEntry) (behind : List HistoryEntry) (e : HistoryEntry) → StandsIn (before ++ at ∷ behind) e → StandsIn before e ⊎ ((e ≡ at) ⊎ StandsIn behind e)
@@ -96,22 +69,14 @@ module _ (others_stay : OthersStay) (began : Beginning) (key : List ℕ) where
   apart_stays m step now reply on right ne =
       ap (λ o. get (left_by m o).items key) right.1 ∙ others_stay m right.0 step now reply key on right.1 ne
 
-  kept_in : (shelf now : ℕ) (m : Plain) → List ℕ → Bool
-  kept_in shelf now m k = not (eqb (shelf_in began k) shelf) || is_some (alive m.cut now (get m.items k))
-
-  purged_is : (m : Plain) (shelf now : ℕ) → get (next began m (Purged shelf now)).items key ≡ cond (kept_in shelf now m key) (get m.items key) None
-  unfolding kept_in
-  purged_is m shelf now = get-retain_keys m.items (kept_in shelf now m) key (λ x h. ap (kept_in shelf now m) (sym (exact_order key x h)))
-
   pub spares : (m : Plain) (what : Operation) → IsRight m what → (MayChange began key what → ⊥) → get (next began m what).items key ≡ get m.items key
-  unfolding kept_in
   spares m (Stepped (Flush delay) now reply) right not_may = absurd (not_may tt)
   spares m (Stepped (Read other) now (Hit flags unique block)) right not_may = ⊎_elim
       (λ (is : other ≡ key). ap (λ o. get (left_by m o).items key) right.1 ∙ subst (λ k. get right.0.items k ≡ get m.items k) is (hit_leaves m right.0 other now flags unique block right.1))
       (λ (ne : other ≢ key). apart_stays m (Read other) now (Hit flags unique block) tt right (λ e. ne (sym e)))
       (one_or_other other key)
   spares m (Stepped step now reply) right not_may = apart_stays m step now reply tt right (λ e. not_may (sym e))
-  spares m (Purged shelf now) right not_may = purged_is m shelf now
+  spares m (Purged shelf now) right not_may = get_kept m.items (λ k. not (eqb (shelf_in began k) shelf) || is_some (alive m.cut now (get m.items k))) key
       ∙ ap (λ b. cond (not b || is_some (alive m.cut now (get m.items key))) (get m.items key) None) (ne_eqb (shelf_in began key) shelf not_may)
 
   -- none of the entries may change the key's item
@@ -145,11 +110,10 @@ module _ (others_stay : OthersStay) (began : Beginning) (key : List ℕ) where
 
   -- ---- a read
   module _ (log : List HistoryEntry) (p : Past) (now : ℕ) (reply : Reply) where
-    read : HistoryEntry
+    abbrev read : HistoryEntry
     read = entry_of p (Stepped (Read key) now reply)
 
     told_front : (front rest : List HistoryEntry) → IsLegal began began.plain (front ++ read ∷ rest) → reply ≡ read_of began front now (item_after began front key)
-    unfolding read
     told_front front rest legal = let right = (legal_parts began began.plain front (read ∷ rest) legal).1.0 in
         read_told (after began began.plain front) right.0 key now reply right.1
 
@@ -183,7 +147,6 @@ module _ (others_stay : OthersStay) (began : Beginning) (key : List ℕ) where
 
     reads_latest : (known : HistoryEntry) → IsLegal began began.plain log → KeptBy log (with_call p (Read key) now reply) → Has p known → MayChange began key known.what
         → ReadsLatest began log p key now reply (entry_of p (Stepped (Read key) now reply))
-    unfolding read
     reads_latest known legal kept has may =
         let o = kept.ordered in
         ⊎_elim (latest_of o.0 o.1 o.2 legal o.3) (λ (none : Spared o.0). absurd (none known (stands_in p o.0 known o.3 has) may)) (last_or_none o.0)
@@ -196,27 +159,23 @@ read_latest stay began log p key now reply known = reads_latest stay began key l
 
 -- ---- what an entry left
 module _ (began : Beginning) (before behind : List HistoryEntry) (e : HistoryEntry) (legal : IsLegal began began.plain (before ++ e ∷ behind)) where
-  there : Plain
+  abbrev there : Plain
   there = after began began.plain before
 
   decided_right : (what : Operation) → e.what ≡ what → IsRight there what
-  unfolding there
   decided_right what is = subst (IsRight (after began began.plain before)) is (legal_parts began began.plain before (e ∷ behind) legal).1.0
 
   left_at : (what : Operation) (key : List ℕ) → e.what ≡ what → item_after began (before ++ e ∷ []) key ≡ get (next began there what).items key
-  unfolding there
   left_at what key is = ap (λ (s : Plain). get s.items key) (after_parts began began.plain before (e ∷ [])) ∙ ap (λ w. get (next began (after began began.plain before) w).items key) is
 
   given_at : (step : KeyStep) (then : ℕ) (item : Item) → e.what ≡ Stepped step then Stored
       → item_given step then (after began began.plain before).next_unique ≡ Some item → item_after began (before ++ e ∷ []) (key_of step) ≡ Some item
-  unfolding there
   given_at step then item is gives =
       let right = decided_right (Stepped step then Stored) is in
       left_at (Stepped step then Stored) (key_of step) is ∙ ap (λ o. get (left_by (after began began.plain before) o).items (key_of step)) right.1
       ∙ given_left step then item (after began began.plain before) right.0 gives right.1
 
   dropped_at : (key : List ℕ) (then : ℕ) (reply : Reply) → e.what ≡ Stepped (Delete key) then reply → item_after began (before ++ e ∷ []) key ≡ None
-  unfolding there
   dropped_at key then reply is =
       let right = decided_right (Stepped (Delete key) then reply) is in
       left_at (Stepped (Delete key) then reply) key is ∙ ap (λ o. get (left_by (after began began.plain before) o).items key) right.1
@@ -287,11 +246,11 @@ module _ (others_stay : OthersStay) (began : Beginning) (key : List ℕ) (flags 
       (one_or_other (key_of step) key)
 
   kept_item : (items : Items) (keep : List ℕ → Bool) (i : Item) → get (retain_keys items keep) key ≡ Some i → get items key ≡ Some i
-  kept_item items keep i is = kept_was (keep key) (get items key) i (sym (get-retain_keys items keep key (λ x h. ap keep (sym (exact_order key x h)))) ∙ is)
+  kept_item items keep i is = kept_was (keep key) (get items key) i (sym (get_kept items keep key) ∙ is)
 
   flushed_was : (b : Bool) (m once later : Plain) (i : Item) → once.items ≡ empty → (get later.items key ≡ Some i → get m.items key ≡ Some i)
       → get (cond b once later).items key ≡ Some i → get m.items key ≡ Some i
-  flushed_was true m once later i none keeps is = absurd (none_some i (sym (ap (λ (x : Items). get x key) none ∙ get-empty (slice_cmp nat_cmp) key) ∙ is))
+  flushed_was true m once later i none keeps is = absurd (none_some i (sym (ap (λ (x : Items). get x key) none ∙ get-empty order key) ∙ is))
   flushed_was false m once later i none keeps is = keeps is
 
   was : (m new : Plain) (step : KeyStep) (now : ℕ) (reply : Reply) → plain m step now ≡ Answered reply new → HasItem new key flags unique block → Was m (Stepped step now reply)

@@ -1,16 +1,14 @@
 -- One order of all calls.
 use Rattle.std.proofs.Common.{◌≡◌, ⊎_elim, ℕ, ◌+◌, ◌≤◌, List, [], ◌∷◌, ◌++◌, sym, refl, ap, ◌∙◌, subst, arith}
+use Rattle.mc_shared.proofs.Words.{Plain, Answered, total, Beginning, Name, Operation, Stepped, Purged, HistoryEntry, left_by, next, IsRight, after, IsLegal, Past, held}
+use Rattle.mc_shared.proofs.Words.{numbered, Whole, KeptBy, Agrees, IsAfter}
+use Rattle.mc_laws.specs.Laws.{StandsIn}
 use Rattle.std.specs.List.Sorted.{IsPermutation}
 use Rattle.std.proofs.lemmas.List.Sorted.{IsPermutation-refl, IsPermutation-sym, IsPermutation-cons, IsPermutation-middle, IsPermutation-trans}
-use Rattle.mc_command.specs.Plain.{Plain, Answered}
-use Rattle.mc_shared.specs.Sums.{total}
-use Rattle.mc_shared.specs.History.{Beginning, Name, Operation, Stepped, Purged, HistoryEntry, left_by, next, IsRight, after, IsLegal}
-use Rattle.mc_shared.specs.Past.{Past, held, numbered, Whole, KeptBy}
-use Rattle.mc_shared.specs.Steps.{Agrees}
-use Rattle.mc_shared.specs.Close.{IsAfter}
-use Rattle.mc_laws.specs.Laws.{StandsIn}
 use Rattle.mc_laws.specs.Together.{AnswersOne, AnswersEach, AreAnswered}
-use Rattle.mc_laws.proofs.OrderLawLemmas.{one_name, sum_append, stands_longer, knew_before, keeps_all}
+use Rattle.mc_shared.proofs.Sums.{total-append}
+use Rattle.mc_shared.proofs.NamedKept.{same_self}
+use Rattle.mc_laws.proofs.OrderLawLemmas.{stands_longer, knew_before, keeps_all}
 use Rattle.mc_laws.proofs.ReadLawLemmas.{stands_behind, around}
 use Rattle.mc_laws.proofs.OnlyLawLemmas.{weight_in, held_has, own_held, once_only}
 use Rattle.mc_laws.proofs.AloneLawLemmas.{count, none_left}
@@ -31,19 +29,17 @@ stands_in_rest [] rest e s = s
 stands_in_rest (x ∷ before) rest e s = stands_behind x e (before ++ rest) (stands_in_rest before rest e s)
 
 -- each entry has a label of its own
-Apart : List HistoryEntry → Type 0
+abbrev Apart : List HistoryEntry → Type 0
 Apart es = (c : Name) (n : ℕ) → total (numbered c n) es ≤ 1
 
 module _ (y : HistoryEntry) (ys : List HistoryEntry) where
   apart_rest : Apart (y ∷ ys) → Apart ys
-  unfolding Apart
   apart_rest apart c n = let least = apart c n in omega (arith, least)
 
   stands_once : Apart (y ∷ ys) → StandsIn ys y → ⊥
-  unfolding Apart
   stands_once apart s =
       let least = apart y.by y.number in
-      let one : numbered y.by y.number y ≡ 1 = one_name (y.number ∷ y.by) in
+      let one : numbered y.by y.number y ≡ 1 = same_self (y.number ∷ y.by) in
       let more = weight_in (numbered y.by y.number) ys y s in
       omega (arith, least, one, more)
 
@@ -62,7 +58,7 @@ module _ (y : HistoryEntry) (ys : List HistoryEntry) where
 one_fewer : (before rest xs : List HistoryEntry) (y : HistoryEntry) (n : ℕ) → xs ≡ before ++ y ∷ rest → count xs ≡ 1 + n → count (before ++ rest) ≡ n
 one_fewer before rest xs y n is counted =
     let whole : count xs ≡ count (before ++ y ∷ rest) = ap count is in
-    omega (arith, whole, counted, sum_append (λ (x : HistoryEntry). 1) before (y ∷ rest), sum_append (λ (x : HistoryEntry). 1) before rest)
+    omega (arith, whole, counted, total-append (λ (x : HistoryEntry). 1) before (y ∷ rest), total-append (λ (x : HistoryEntry). 1) before rest)
 
 permuted : (ys xs : List HistoryEntry) → Apart ys → ((e : HistoryEntry) → StandsIn ys e → StandsIn xs e) → count xs ≡ count ys → IsPermutation ys xs
 permuted [] xs apart all counted = subst (IsPermutation []) (sym (none_left xs (omega (arith, counted)))) (IsPermutation-refl [])
@@ -74,25 +70,26 @@ permuted (y ∷ ys) xs apart all counted =
 -- ---- a whole past
 module _ (log : List HistoryEntry) (p : Past) (kept : KeptBy log p) (whole : Whole p) where
   held_apart : Apart (held p)
-  unfolding Apart
   held_apart c n = let least = kept.once c n in let is = kept.whole whole (numbered c n) in omega (arith, least, is)
 
   whole_permuted : IsPermutation (held p) log
   whole_permuted = permuted (held p) log held_apart (λ e s. keeps_all log p e kept (held_has p e s)) (kept.whole whole (λ (x : HistoryEntry). 1))
 
 -- ---- the law's clauses
-history_answers : (began : Beginning) (log : List HistoryEntry) (p : Past) → IsLegal began began.plain log → KeptBy log p → AreAnswered began p log (after began began.plain log)
-history_answers began log p legal kept = record {
-  all = λ e. keeps_all log p e kept;
-  once = λ first second. once_only log p first second kept;
-  order = λ later known. knew_before log p later known kept;
-  own = λ e. own_held log p e kept;
-  exactly = whole_permuted log p kept;
-  answers = answers_each began began.plain log legal;
-}
+pub closed_order : (began : Beginning) (p : Past) (closed : Plain) → IsAfter began p closed → (calls : List HistoryEntry) × AreAnswered began p calls closed
+closed_order began p closed is = (
+  is.log,
+  subst (AreAnswered began p is.log) (sym is.state) record {
+    all = λ e. keeps_all is.log p e is.keeps;
+    once = λ first second. once_only is.log p first second is.keeps;
+    order = λ later known. knew_before is.log p later known is.keeps;
+    own = λ e. own_held is.log p e is.keeps;
+    exactly = whole_permuted is.log p is.keeps;
+    answers = answers_each began began.plain is.log is.legal;
+  },
+)
 
 pub one_order : (began : Beginning) (p : Past) → Agrees began p → (calls : List HistoryEntry) × (left : Plain) × AreAnswered began p calls left
-one_order began p agrees = (agrees.log, after began began.plain agrees.log, history_answers began agrees.log p agrees.legal agrees.keeps)
-
-pub closed_order : (began : Beginning) (p : Past) (closed : Plain) → IsAfter began p closed → (calls : List HistoryEntry) × AreAnswered began p calls closed
-closed_order began p closed is = (is.log, subst (AreAnswered began p is.log) (sym is.state) (history_answers began is.log p is.legal is.keeps))
+one_order began p agrees =
+    let closed = closed_order began p (after began began.plain agrees.log) (record { log = agrees.log; legal = agrees.legal; keeps = agrees.keeps; state = refl }) in
+    (closed.0, after began began.plain agrees.log, closed.1)

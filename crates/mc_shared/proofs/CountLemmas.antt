@@ -1,20 +1,10 @@
 -- The keys of each number are counted, shelf by shelf.
-use Rattle.std.proofs.Common.{◌≡◌, ◌≢◌, ℕ, zero, suc, ◌+◌, ◌*◌, ◌/◌, ◌%◌, ◌≤◌, ◌<◌, List, [], ◌∷◌, length, Some, get_or}
-use Rattle.std.proofs.Common.{slice_get, slice_index, set, replicate, refl, sym, ap, ◌∙◌, subst, arith, mod-lt, div-add-mod', ◌==◌, get_or-set_same, get_or-set_other}
-use Rattle.std.proofs.lemmas.Nat.{same_from_place, mul-add-lt, div_below, mod_below}
-use Rattle.std.proofs.lemmas.Option.{none-some}
-use mathlib.Core.Logic.{dite}
-use native.Mathlib.Decide.{ℕ_discrete}
-use Rattle.std.specs.FinMap.{empty, get-empty}
-use Rattle.mc_command.specs.Plain.{Plain, flushed}
-use Rattle.mc_shelf.specs.States.{ShelfState}
-use Rattle.mc_shelf.specs.Numbers.{AreCounted, HasPlaces, keys_with, number_of}
-use Rattle.mc_shelf.specs.Parts.{shelf_of, IsShelfOf}
-use Rattle.mc_shared.specs.Counted.{AreNone, AreAllOf, AreCountsOfAll, AreKeyCountsAt}
-use Rattle.mc_shelf.proofs.KeyLemmas.{order}
-use Rattle.mc_shared.specs.History.{Beginning}
-use Rattle.mc_shared.specs.Steps.{AreKeys}
-use Rattle.mc_shared.specs.View.{SeatView}
+use Rattle.std.proofs.Common.{◌≡◌, ◌≢◌, ℕ, zero, suc, ◌+◌, ◌*◌, ◌/◌, ◌%◌, ◌≤◌, ◌<◌, List, length, Some, get_or, slice_get, slice_index, set, replicate, refl, sym, ap}
+use Rattle.std.proofs.Common.{◌∙◌, subst, arith, mod-lt, div-add-mod', ◌==◌, get_or-set_same, get_or-set_other, length-set}
+use Rattle.mc_shared.proofs.Words.{same_from_place, mul-add-lt, div_below, mod_below, none-some, slice_get-get_or, dite, ℕ_discrete, empty, get-empty, Plain, flushed}
+use Rattle.mc_shared.proofs.Words.{ShelfState, keys_with, number_of, shelf_of, IsShelfOf, AreAllOf, AreCountsOfAll, AreKeyCountsAt, order, Beginning, AreKeys, SeatView}
+use Rattle.mc_shelf.specs.Numbers.{AreCounted, HasPlaces}
+use Rattle.mc_shared.specs.Counted.{AreNone}
 use Rattle.mc_shared.proofs.NumberLemmas.{count_none}
 use Rattle.mc_shared.proofs.NumberSteps.{shelf_named, own_at}
 use Rattle.mc_shared.proofs.NumberSweeps.{off_shelf}
@@ -25,10 +15,6 @@ zero_at zero n = refl
 zero_at (suc long) zero = refl
 zero_at (suc long) (suc n) = zero_at long n
 
-pub long_as : (long : ℕ) → length (replicate {A = ℕ} long 0) ≡ long
-long_as zero = refl
-long_as (suc long) = ap suc (long_as long)
-
 -- the first so many shelves were counted, and none of the others
 pub record CountsFirst (shelves : List ShelfState) (first : ℕ) (counts : List ℕ) : Type 0 where
   pub many : length counts ≡ 4096
@@ -38,24 +24,17 @@ pub record CountsFirst (shelves : List ShelfState) (first : ℕ) (counts : List 
   pub none : (hash_of : List ℕ → ℕ) (state : Plain) (all : AreAllOf hash_of state shelves)
       → (number : ℕ) → number < 4096 → first ≤ number % all.count → slice_index counts number ≡ 0
 
-pub counts_start : (shelves : List ShelfState) (counts : List ℕ) → AreNone counts → CountsFirst shelves 0 counts
-counts_start shelves counts are = record {
-  many = are.many;
-  counted = λ hash_of state all number low few. absurd (omega (arith, few));
-  none = λ hash_of state all number low few. are.none number;
-}
-
 module _ (hash_of : List ℕ → ℕ) (state : Plain) (shelves : List ShelfState) (all : AreAllOf hash_of state shelves) where
   abbrev start : Beginning
   start = record { shelves = all.count; hash_of = hash_of; plain = state }
 
   -- the next shelf's places are 0
-  pub next_places : (counts : List ℕ) (at : ℕ) (shelf : ShelfState) → slice_get shelves at ≡ Some shelf
+  pub next_places : (counts : List ℕ) (at : ℕ) (shelf : ShelfState) → at < length shelves → shelf ≡ get_or shelves at shelf
       → CountsFirst shelves at counts → HasPlaces shelf.content counts
-  next_places counts at shelf is first = record {
+  next_places counts at shelf low is first = record {
     many = first.many;
     zero = λ key item hash stands stored.
-        let part = all.parts.each at shelf is in
+        let part = all.parts.each at shelf (slice_get-get_or shelves at shelf low ∙ ap Some (sym is)) in
         let own : shelf_of hash_of all.count key ≡ at = dite (ℕ_discrete (shelf_of hash_of all.count key) at) (λ e. e)
         (λ other. absurd (none-some item (sym (part.apart key other) ∙ stands))) in
         let same : hash % 4096 % all.count ≡ at =
@@ -90,9 +69,9 @@ module _ (hash_of : List ℕ → ℕ) (state : Plain) (shelves : List ShelfState
       let none = off_shelf start at all.divides 0 shelf.content shelf.content state part number (λ own. omega (arith, own, behind)) in
       omega (arith, more, was, none)
 
-pub counts_next : (shelves : List ShelfState) (counts new : List ℕ) (at : ℕ) (shelf : ShelfState) → slice_get shelves at ≡ Some shelf
+pub counts_next : (shelves : List ShelfState) (counts new : List ℕ) (at : ℕ) (shelf : ShelfState) → at < length shelves → shelf ≡ get_or shelves at shelf
     → CountsFirst shelves at counts → AreCounted shelf.content counts new → CountsFirst shelves (at + 1) new
-counts_next shelves counts new at shelf is first added = record {
+counts_next shelves counts new at shelf low same first added = let is = slice_get-get_or shelves at shelf low ∙ ap Some (sym same) in record {
   many = added.many;
   counted = λ hash_of state all. next_counted hash_of state shelves all counts new at shelf is first added;
   none = λ hash_of state all. next_none hash_of state shelves all counts new at shelf is first added;
@@ -108,28 +87,20 @@ counts_all shelves counts at is first = record {
       first.counted hash_of state all number low (omega (arith, inside, long, is));
 }
 
--- the shelf at a place
-pub there_at : (shelves : List ShelfState) (at : ℕ) (shelf : ShelfState) → at < length shelves
-    → shelf ≡ get_or shelves at shelf → slice_get shelves at ≡ Some shelf
-there_at [] at shelf low is = absurd (omega (arith, low))
-there_at (x ∷ xs) zero shelf low is = ap Some (sym is)
-there_at (x ∷ xs) (suc at) shelf low is = there_at xs at shelf (omega (arith, low)) is
-
 -- ---- counts that words tell
 
-pub long_set : (counts : List ℕ) (n x : ℕ) → length (set counts n x) ≡ length counts
-long_set [] n x = refl
-long_set (y ∷ ys) zero x = refl
-long_set (y ∷ ys) (suc n) x = ap suc (long_set ys n x)
+-- the keys of one number more were counted
+keys_set : (start : Beginning) (v : SeatView) (counts : List ℕ) (number count n : ℕ) → number < length counts → AreKeys start v number count
+    → (n ≢ number → AreKeys start v n (slice_index counts n)) → AreKeys start v n (slice_index (set counts number count) n)
+keys_set start v counts number count n inside here others = dite (ℕ_discrete n number)
+    (λ e. subst (λ (k : ℕ). AreKeys start v k (slice_index (set counts number count) k)) (sym e)
+    (subst (AreKeys start v number) (sym (get_or-set_same counts number count 0 inside)) here))
+    (λ ne. subst (AreKeys start v n) (sym (get_or-set_other counts number n count 0 ne)) (others ne))
 
--- one number more
 pub keys_next : (start : Beginning) (v : SeatView) (counts : List ℕ) (number count : ℕ) → number < length counts
     → ((n : ℕ) → n < number → AreKeys start v n (slice_index counts n)) → AreKeys start v number count
     → (n : ℕ) → n < number + 1 → AreKeys start v n (slice_index (set counts number count) n)
-keys_next start v counts number count inside so here n low = dite (ℕ_discrete n number)
-    (λ e. subst (λ (k : ℕ). AreKeys start v k (slice_index (set counts number count) k)) (sym e)
-    (subst (AreKeys start v number) (sym (get_or-set_same counts number count 0 inside)) here))
-    (λ ne. subst (AreKeys start v n) (sym (get_or-set_other counts number n count 0 ne)) (so n (omega (arith, low, ne))))
+keys_next start v counts number count inside so here n low = keys_set start v counts number count n inside here (λ ne. so n (omega (arith, low, ne)))
 
 -- a flush at once leaves no key
 pub none_left : (hash_of : List ℕ → ℕ) (number delay now : ℕ) (m : Plain) → delay ≡ 0 → keys_with hash_of number (flushed delay m now).items ≡ 0
@@ -140,13 +111,13 @@ none_left hash_of number delay now m is =
 -- ---- counts that words of one shelf tell
 
 -- its numbers of the rows before one were read
-pub record ReadsRows (start : Beginning) (v : SeatView) (at row : ℕ) (counts : List ℕ) : Type 0 where
+pub record ReadsRows (start : Beginning) (v : SeatView) (shelves at row : ℕ) (counts : List ℕ) : Type 0 where
   pub many : length counts ≡ 4096
-  pub counted : (n : ℕ) → n < 4096 → n % start.shelves ≡ at → n / start.shelves < row → AreKeys start v n (slice_index counts n)
-  pub none : (n : ℕ) → n < 4096 → n % start.shelves ≢ at → slice_index counts n ≡ 0
+  pub counted : (n : ℕ) → n < 4096 → n % shelves ≡ at → n / shelves < row → AreKeys start v n (slice_index counts n)
+  pub none : (n : ℕ) → n < 4096 → n % shelves ≢ at → slice_index counts n ≡ 0
 
-pub rows_start : (start : Beginning) (v : SeatView) (at : ℕ) (counts : List ℕ) → AreNone counts → ReadsRows start v at 0 counts
-rows_start start v at counts are = record {
+pub rows_start : (start : Beginning) (v : SeatView) (shelves at : ℕ) (counts : List ℕ) → AreNone counts → ReadsRows start v shelves at 0 counts
+rows_start start v shelves at counts are = record {
   many = are.many;
   counted = λ n low own few. absurd (omega (arith, few));
   none = λ n low other. are.none n;
@@ -159,43 +130,32 @@ row_number shelves at row inside =
     let low = mod_below number shelves (omega (arith, inside)) in
     (same_from_place (number / shelves) (number % shelves) row at shelves low inside (div-add-mod' number shelves)).1
 
-pub row_below : (shelves at row : ℕ) → 4096 / shelves * shelves ≡ 4096 → at < shelves → row < 4096 / shelves → row * shelves + at < 4096
-row_below shelves at row divides inside low =
+pub row_below : (began shelves at row : ℕ) → shelves ≡ began → 4096 / began * began ≡ 4096 → at < shelves → row < 4096 / shelves → row * shelves + at < 4096
+row_below began shelves at row is divides inside low =
     let q : ℕ = 4096 / shelves in
     let less = mul-add-lt row shelves at q low inside in
     let all = native.Mathlib.Nat.mul_comm q shelves in
-    omega (arith, less, all, divides)
+    let whole : q * shelves ≡ 4096 = subst (λ (s : ℕ). 4096 / s * s ≡ 4096) (sym is) divides in
+    omega (arith, less, all, whole)
 
-pub rows_next : (start : Beginning) (v : SeatView) (at row : ℕ) (counts : List ℕ) (count : ℕ) → at < start.shelves → row * start.shelves + at < 4096
-    → ReadsRows start v at row counts → AreKeys start v (row * start.shelves + at) count → ReadsRows start v at (row + 1) (set counts (row * start.shelves + at) count)
-rows_next start v at row counts count inside below so here =
-    let number : ℕ = row * start.shelves + at in
+pub rows_next : (start : Beginning) (v : SeatView) (shelves at row : ℕ) (counts : List ℕ) (count : ℕ) → at < shelves → row * shelves + at < 4096
+    → ReadsRows start v shelves at row counts → AreKeys start v (row * shelves + at) count → ReadsRows start v shelves at (row + 1) (set counts (row * shelves + at) count)
+rows_next start v shelves at row counts count inside below so here =
+    let number : ℕ = row * shelves + at in
     let long = so.many in
     record {
-      many = long_set counts number count ∙ so.many;
-      counted = λ n low own few. dite (ℕ_discrete n number)
-          (λ e. subst (λ (k : ℕ). AreKeys start v k (slice_index (set counts number count) k)) (sym e)
-          (subst (AreKeys start v number) (sym (get_or-set_same counts number count 0 (omega (arith, long, below)))) here))
-          (λ ne. subst (AreKeys start v n) (sym (get_or-set_other counts number n count 0 ne))
-          (so.counted n low own
-          (let other : n / start.shelves ≢ row = (λ e. ne (sym (div-add-mod' n start.shelves) ∙ (λ i. e i * start.shelves + own i))) in omega (arith, few, other))));
-      none = λ n low other. get_or-set_other counts number n count 0 (λ e. other (ap (λ k. k % start.shelves) e ∙ row_number start.shelves at row inside))
-          ∙ so.none n low other;
+      many = length-set counts number count ∙ so.many;
+      counted = λ n low own few. keys_set start v counts number count n (omega (arith, long, below)) here (λ ne. so.counted n low own
+          (let other : n / shelves ≢ row = (λ e. ne (sym (div-add-mod' n shelves) ∙ (λ i. e i * shelves + own i))) in omega (arith, few, other)));
+      none = λ n low other. get_or-set_other counts number n count 0 (λ e. other (ap (λ k. k % shelves) e ∙ row_number shelves at row inside)) ∙ so.none n low other;
     }
 
--- the same by another name of the number of shelves
-pub next_row : (start : Beginning) (shelves : ℕ) → shelves ≡ start.shelves → (v : SeatView) (at row : ℕ) (counts : List ℕ) (count : ℕ) → at < shelves → row * shelves + at < 4096
-    → ReadsRows start v at row counts → AreKeys start v (row * shelves + at) count → ReadsRows start v at (row + 1) (set counts (row * shelves + at) count)
-next_row start shelves is v at row counts count inside below so here =
-    subst (λ (s : ℕ). ReadsRows start v at (row + 1) (set counts (row * s + at) count)) (sym is)
-    (rows_next start v at row counts count (subst (λ (s : ℕ). at < s) is inside) (subst (λ (s : ℕ). row * s + at < 4096) is below) so
-    (subst (λ (s : ℕ). AreKeys start v (row * s + at) count) is here))
-
-pub rows_all : (start : Beginning) (v : SeatView) (at row : ℕ) (counts : List ℕ) → 4096 / start.shelves * start.shelves ≡ 4096 → at < start.shelves → 4096 / start.shelves ≤ row
-    → ReadsRows start v at row counts → AreKeyCountsAt start v at counts
-rows_all start v at row counts divides inside all so = record {
+pub rows_all : (start : Beginning) (v : SeatView) (shelves at row : ℕ) (counts : List ℕ) → shelves ≡ start.shelves → 4096 / start.shelves * start.shelves ≡ 4096 → at < shelves
+    → 4096 / shelves ≤ row → ReadsRows start v shelves at row counts → AreKeyCountsAt start v at counts
+rows_all start v shelves at row counts is divides inside all so = record {
   many = so.many;
-  counted = λ n low own. so.counted n low own
-      (let q : ℕ = 4096 / start.shelves in let less : n / start.shelves < q = div_below n start.shelves q (omega (arith, inside)) (omega (arith, low, divides)) in omega (arith, less, all));
-  none = so.none;
+  counted = λ n low own. so.counted n low (ap (λ (s : ℕ). n % s) is ∙ own)
+      (let q : ℕ = 4096 / shelves in let whole : q * shelves ≡ 4096 = subst (λ (s : ℕ). 4096 / s * s ≡ 4096) (sym is) divides in
+      let less : n / shelves < q = div_below n shelves q (omega (arith, inside)) (omega (arith, low, whole)) in omega (arith, less, all));
+  none = λ n low other. so.none n low (λ own. other (ap (λ (s : ℕ). n % s) (sym is) ∙ own));
 }

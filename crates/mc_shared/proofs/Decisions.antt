@@ -1,31 +1,14 @@
 -- Which decisions are the plain machine's: those that take a state on by one shelf and the desk.
 use Rattle.std.proofs.Common.{◌≡◌, ◌≢◌, inl, inr, Bool, true, false, true≢false, Option, Some, None, ℕ, ◌<◌, List, [], ◌∷◌, Result, Err, sym, refl, ap, ◌∙◌, subst, arith}
-use Rattle.mc_time.specs.Death.{expiry_of}
-use Rattle.mc_time.specs.declared.expiry.Expiry.{Expiry}
-use Rattle.mc_command.specs.Plain.{Plain, Entry as Item, Outcome, MayFail, alive, changed, hit_of, plain, read_row, row_of, standing, stepped, without_dead}
-use Rattle.mc_command.specs.declared.step.KeyStep.{KeyStep}
-use Rattle.mc_command.specs.declared.step.KeyStep.TheVariants.{Read, ReadTouch}
-use Rattle.mc_command.specs.declared.reply.Reply.{Reply}
-use Rattle.mc_command.specs.declared.reply.Reply.TheVariants.{Miss}
-use Rattle.mc_shelf.specs.States.{ShelfContent, DeskState, IsHash, IsAt, CanStand}
-use Rattle.mc_command.specs.Commands.{key_of}
-use Rattle.std.specs.FinMap.{get}
-use Rattle.mc_command.specs.declared.row.Row.TheVariants.{Reads}
-use Rattle.mc_shelf.specs.Plans.{LookTakesMemory, answered, is_gone, next_by, next_of, row_at, writes}
-use Rattle.mc_shelf.specs.Parts.{IsShelfOf, IsDeskOf, GoesTo, GoesByStep, GoesWithoutDesk}
-use Rattle.mc_shared.specs.Bays.{Content, OfShelf, OfDesk}
-use Rattle.mc_shared.specs.History.{Beginning, start_of, Operation, Stepped, shelf_in, left_by, next, after, IsRight}
-use Rattle.mc_shared.specs.Rule.{Fits, AllFit, KeepsLimits, holds_bay}
-use Rattle.mc_shared.specs.View.{SeatView}
-use Rattle.mc_shared.specs.Steps.{Decides, Fitted, Mine}
-use Rattle.mc_shared.specs.Seats.{Sitter}
-use Rattle.mc_shared.specs.Shown.{SharedState}
-use Rattle.mc_shared.specs.Holds.{HoldsShelf, IsAsked}
+use Rattle.mc_shared.proofs.Words.{expiry_of, Expiry, Plain, Entry as Item, Outcome, MayFail, alive, changed, hit_of, plain, read_row, row_of, standing, stepped}
+use Rattle.mc_shared.proofs.Words.{without_dead, KeyStep, Read, ReadTouch, Reply, Miss, ShelfContent, DeskState, IsAt, CanStand, key_of, get, Reads, is_gone, next_of}
+use Rattle.mc_shared.proofs.Words.{writes, IsShelfOf, IsDeskOf, GoesTo, Content, OfShelf, OfDesk, Beginning, start_of, Operation, Stepped, shelf_in, left_by, next, after}
+use Rattle.mc_shared.proofs.Words.{IsRight, Fits, AllFit, KeepsLimits, holds_bay, SeatView, Decides, Fitted, Mine, Sitter, SharedState, HoldsShelf, IsAsked, StepFault}
+use Rattle.mc_shared.proofs.Words.{NoMemory, NumbersSpent, Past, CanCome, MayFailAfter, Refuses}
+use Rattle.mc_shelf.specs.Plans.{LookTakesMemory, answered, next_by, row_at}
+use Rattle.mc_shelf.specs.Parts.{GoesByStep, GoesWithoutDesk}
 use Rattle.mc_shared.specs.declared.ask.Ask.{Ask}
-use Rattle.mc_command.specs.declared.step.StepFault.{StepFault}
-use Rattle.mc_command.specs.declared.step.StepFault.TheVariants.{NoMemory, NumbersSpent}
-use Rattle.mc_shared.specs.Past.{Past}
-use Rattle.mc_shared.specs.Store.{CanCome, IsSpentAfter, MayFailAfter, Refuses}
+use Rattle.mc_shared.specs.Store.{IsSpentAfter}
 use Rattle.mc_shelf.specs.Hits.{is_read}
 use Rattle.mc_shared.proofs.StockedKept.{here}
 
@@ -186,25 +169,6 @@ part_held start at f d v is fitted =
     let fits : AllFit start m ((start.shelves, OfDesk d) ∷ (at, OfShelf f) ∷ []) =
     subst (AllFit start m) is fitted.fits in
     (start.hash_of, start.shelves, at, m, fits.1.0.1, fits.0.1)
-
--- a shelf that is held has each of its keys with the key's hash
-pub held_hash : (start : Beginning) (at : ℕ) (f : ShelfContent) (below : List (ℕ × Content))
-    (v : SeatView) → v.bays ≡ (at, OfShelf f) ∷ below → Fitted start v
-    → (key : List ℕ) → IsHash f key (start.hash_of key)
-held_hash start at f below v is fitted =
-    let m : Plain = after start start.plain fitted.log in
-    let fits : AllFit start m ((at, OfShelf f) ∷ below) = subst (AllFit start m) is fitted.fits in
-    fits.0.1.hashes
-
--- the same where the desk is held too
-pub under_hash : (start : Beginning) (at : ℕ) (f : ShelfContent) (d : DeskState) (v : SeatView)
-    → v.bays ≡ (start.shelves, OfDesk d) ∷ (at, OfShelf f) ∷ [] → Fitted start v
-    → (key : List ℕ) → IsHash f key (start.hash_of key)
-under_hash start at f d v is fitted =
-    let m : Plain = after start start.plain fitted.log in
-    let fits : AllFit start m ((start.shelves, OfDesk d) ∷ (at, OfShelf f) ∷ []) =
-    subst (AllFit start m) is fitted.fits in
-    fits.1.0.1.hashes
 
 -- what comes of a step in each state that a shelf and a desk stand for comes of it after some history,
 -- where they are held

@@ -1,15 +1,13 @@
 -- Shelves to whose places others of no items came are the parts of the state that a flush at once leaves.
-use Rattle.std.proofs.Common.{◌≡◌, ◌≢◌, ◌≤◌, ◌<◌, ℕ, zero, suc, ◌+◌, ◌-◌, List, [], ◌∷◌, ◌++◌, length, length-set}
-use Rattle.std.proofs.Common.{get_or, take, Some, None, slice_get, slice_set, refl, sym, ap, subst, ◌∙◌, arith, ⊎_elim}
-use Rattle.std.proofs.lemmas.List.{get_or-replicate, take_more}
-use Rattle.std.proofs.lemmas.Option.{get_or_from_slice_get, none-some, slice_get_within}
+use Rattle.std.proofs.Common.{◌≡◌, ◌≢◌, ◌≤◌, ◌<◌, ℕ, zero, suc, ◌+◌, ◌-◌, List, [], ◌∷◌, ◌++◌, length, length-set, get_or, take, Some, None, slice_get, slice_set, refl}
+use Rattle.std.proofs.Common.{sym, ap, subst, ◌∙◌, arith, ⊎_elim}
+use Rattle.mc_shared.proofs.Words.{none-some, empty, get, get-empty, Plain, flushed, DeskState, ShelfContent, ShelfState, ArePartsOf, IsShelfOf, order}
+use Rattle.std.proofs.lemmas.List.{get_or-replicate, take_more, take_all}
+use Rattle.std.proofs.lemmas.Option.{get_or_from_slice_get, slice_get_within}
 use Rattle.std.specs.Prelude.{Option, option_to_list}
-use Rattle.std.specs.FinMap.{empty, get, get-empty}
-use Rattle.mc_command.specs.Plain.{Plain, count_of, flushed}
+use Rattle.mc_command.specs.Plain.{count_of}
 use Rattle.mc_shelf.specs.Asides.{none_out}
-use Rattle.mc_shelf.specs.States.{DeskState, ShelfContent, ShelfState, nothing_held}
-use Rattle.mc_shelf.specs.Parts.{ArePartsOf, IsShelfOf}
-use Rattle.mc_shelf.proofs.KeyLemmas.{order}
+use Rattle.mc_shelf.specs.States.{nothing_held}
 use Rattle.mc_shelf.proofs.PartLemmas.{put_cases}
 use Rattle.mc_shared.specs.Emptied.{AreEmptied, IsEmptied}
 
@@ -50,9 +48,6 @@ pub record AreEmptiedTo (old : List ShelfState) (at : ℕ) (new aside : List She
   pub still : (k : ℕ) → at ≤ k → slice_get new k ≡ slice_get old k
   pub aside_is : aside ≡ take at old
 
-pub emptied_none : (old : List ShelfState) {aside : List ShelfState} → aside ≡ [] → AreEmptiedTo old 0 old aside
-emptied_none old is = record { number = refl; gone = λ k shelf less there. absurd (omega (arith, less)); still = λ k from. refl; aside_is = is }
-
 pub emptied_more : {old : List ShelfState} {at : ℕ} {new aside : List ShelfState} → AreEmptiedTo old at new aside
     → {was : ShelfState} (bare : ShelfState) {more : List ShelfState} → slice_get new at ≡ Some was
     → bare.content ≡ nothing_held was.content.greatest → more ≡ aside ++ was ∷ [] → AreEmptiedTo old (at + 1) (slice_set new at bare) more
@@ -78,16 +73,10 @@ emptied_more {old} {at} {new} {aside} to {was} bare {more} here holds more_is =
     other_stays (y ∷ ys) (suc at) x zero apart = refl
     other_stays (y ∷ ys) (suc at) x (suc k) apart = other_stays ys at x k (λ same. apart (ap suc same))
 
-take_whole : (xs : List ShelfState) (n : ℕ) → length xs ≤ n → take n xs ≡ xs
-take_whole [] zero l = refl
-take_whole [] (suc n) l = refl
-take_whole (x ∷ xs) zero l = absurd (omega (arith, l))
-take_whole (x ∷ xs) (suc n) l = ap (λ l. x ∷ l) (take_whole xs n (omega (arith, l)))
-
 pub emptied_all : {old : List ShelfState} {at : ℕ} {new aside : List ShelfState} → AreEmptiedTo old at new aside → length new ≤ at → AreEmptied old new × (aside ≡ old)
 emptied_all {old} {at} {new} to past = (
   record { number = to.number; each = λ k shelf there. to.gone k shelf (omega (arith, past, slice_get_within new k shelf there)) there },
-  to.aside_is ∙ take_whole old at (omega (arith, past, to.number)),
+  to.aside_is ∙ take_all at old (omega (arith, past, to.number)),
 )
 
 pub at_most_one : (r : Option ShelfState) → length (option_to_list r) ≤ 1

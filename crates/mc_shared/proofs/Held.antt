@@ -1,37 +1,18 @@
 -- A seat that holds one bay, or two.
-use Rattle.std.proofs.Common.{◌≡◌, ℕ, zero, suc, List, [], ◌∷◌, ◌++◌, None, Result, Ok, Err, replicate, refl, sym, ap, ◌∙◌, subst}
-use Rattle.atomic_table.specs.Table.{rest}
-use Rattle.mc_shared.specs.Bays.{Content, content_of, place}
-use Rattle.mc_shared.specs.Past.{Past, Lives, call}
-use Rattle.mc_shared.specs.View.{SeatView}
-use Rattle.mc_shared.specs.Steps.{Mine, Fitted, HasTaken, HoldsLast, HoldsThis, holding, without, decided_by, entry_of, loaded, newcomer, met, next_name}
-use Rattle.mc_shared.specs.declared.bay.Bay.{Bay}
-use Rattle.mc_shared.specs.declared.bay.Bay.TheVariants.{Desk}
+use Rattle.std.proofs.Common.{◌≡◌, ℕ, zero, suc, List, [], ◌∷◌, ◌++◌, None, Result, Ok, Err, replicate, refl, sym, ap, ◌∙◌, subst, ◌<◌, ◌-◌, ◌%◌, ◌^◌, arith}
+use Rattle.mc_shared.proofs.Words.{rest, Content, content_of, place, OfShelf, OfDesk, Past, Lives, call, SeatView, Mine, Fitted, HasTaken, HoldsThis, holding, without}
+use Rattle.mc_shared.proofs.Words.{decided_by, entry_of, loaded, newcomer, met, next_name, Agrees, Decides, Counts, MayAdd, MayCount, Bay, Desk, holds_one, holds_two}
+use Rattle.mc_shared.proofs.Words.{CanCome, Refuses, KeyStep, key_of, StepFault, NoMemory, NumbersSpent, Plain, Outcome, Spent, MayFail, plain, ShelfContent, DeskState}
+use Rattle.mc_shared.proofs.Words.{CanStand, IsAt, Reply, Beginning, Operation, Stepped, start_of, shelf_in, AreKeyCountsAt, AreCountsBy, len, SharedState, CallerState}
+use Rattle.mc_shared.proofs.Words.{HoldsShelf, HoldsBoth, caller_of, Sitter, IsTableOf, IsAnswered, MayDecide, StoreState, TableId}
+use Rattle.mc_shared.specs.Steps.{HoldsLast}
 use Rattle.mc_shared.proofs.NamedKept.{lives_start, lives_both}
-use Rattle.mc_shared.specs.Store.{resting, holds_one, holds_two}
-use Rattle.std.proofs.Common.{◌<◌, ◌-◌, ◌%◌, ◌^◌, arith}
-use Rattle.mc_command.specs.declared.step.KeyStep.{KeyStep}
-use Rattle.mc_command.specs.Commands.{key_of}
-use Rattle.mc_command.specs.declared.step.StepFault.{StepFault}
-use Rattle.mc_command.specs.declared.step.StepFault.TheVariants.{NoMemory, NumbersSpent}
-use Rattle.mc_command.specs.Plain.{Plain, Outcome, Spent, MayFail, plain}
+use Rattle.mc_shared.specs.Store.{resting}
 use Rattle.mc_shelf.specs.Plans.{IsSpent, MayWantMemory}
-use Rattle.mc_shelf.specs.States.{ShelfContent, DeskState, CanStand, IsAt}
-use Rattle.mc_shared.specs.Bays.{OfShelf, OfDesk}
-use Rattle.mc_command.specs.declared.reply.Reply.{Reply}
-use Rattle.mc_shared.specs.History.{Beginning, Operation, Stepped, start_of, shelf_in}
-use Rattle.mc_shared.specs.Counted.{AreKeyCountsAt, AreCountsBy}
-use Rattle.mc_shared.specs.Steps.{Agrees, Decides, Counts, MayAdd, MayCount}
-use Rattle.std.specs.FinMap.{len}
 use Rattle.mc_shared.proofs.NumberSteps.{may_add}
 use Rattle.mc_shared.proofs.NumberSweeps.{may_count_one, shelf_counted}
-use Rattle.mc_shared.specs.Store.{CanCome, Refuses}
-use Rattle.mc_shared.specs.Shown.{SharedState, CallerState}
-use Rattle.mc_shared.specs.Holds.{HoldsShelf, HoldsBoth, caller_of}
 use Rattle.mc_shared.proofs.Decisions.{can_stand, comes_after, refuses}
-use Rattle.mc_shared.specs.Seats.{Sitter, SameSeat, IsTableOf, IsSeatOf, IsAlive, IsAnswered, MayDecide}
-use Rattle.mc_shelf.specs.Stores.{StoreState}
-use Rattle.atomic_table.specs.Seated.{TableId}
+use Rattle.mc_shared.specs.Seats.{SameSeat, IsSeatOf, IsAlive}
 
 pub top_of : {S : Type 0} → (xs : List (ℕ × S)) (x : ℕ × S) (ys : List (ℕ × S)) → xs ≡ x ∷ ys → xs ≡ x ∷ rest xs
 top_of xs x ys e = e ∙ ap (λ zs. x ∷ rest zs) (sym e)
@@ -53,14 +34,15 @@ lives_on table began old new m alive same is past = record {
   lives = subst Lives (sym (ap (λ (n : Mine). n.0.past) is ∙ past)) alive.lives;
 }
 
--- a seat that was just made, and one that took in another's past
-pub new_rests : (me : Mine) (v : SeatView) → me ≡ (newcomer v, []) → (me.1 ≡ []) × (me.0.bays ≡ []) × Lives me.0.past × (me.0.surplus ≡ [])
-new_rests me v is = (ap (λ m. m.1) is, ap (λ m. m.0.bays) is, subst (λ (m : Mine). Lives m.0.past) (sym is) (lives_start (next_name v.past) v.past), ap (λ m. m.0.surplus) is)
+-- a seat that holds nothing, and whose caller lives: one that was just made, and one that took in another's past
+abbrev pub Rests : Mine → Type 0
+Rests m = (m.1 ≡ []) × (m.0.bays ≡ []) × Lives m.0.past × (m.0.surplus ≡ [])
 
-pub met_rests : (now me was : Mine) (o : SeatView) → now ≡ me → me ≡ (met was.0 o, was.1) → (was.1 ≡ []) × (was.0.bays ≡ []) × Lives was.0.past
-    × (was.0.surplus ≡ []) → (now.1 ≡ []) × (now.0.bays ≡ []) × Lives now.0.past × (now.0.surplus ≡ [])
-met_rests now me was o same is rests = let e : now ≡ (met was.0 o, was.1) = same ∙ is in
-    (ap (λ m. m.1) e ∙ rests.0, ap (λ m. m.0.bays) e ∙ rests.1, subst (λ (m : Mine). Lives m.0.past) (sym e) (lives_both was.0.past o.past rests.2), ap (λ m. m.0.surplus) e ∙ rests.3)
+pub new_rests : (me : Mine) (v : SeatView) → me ≡ (newcomer v, []) → Rests me
+new_rests me v is = subst Rests (sym is) (refl, refl, lives_start (next_name v.past) v.past, refl)
+
+pub met_rests : (now me was : Mine) (o : SeatView) → now ≡ me → me ≡ (met was.0 o, was.1) → Rests was → Rests now
+met_rests now me was o same is rests = subst Rests (sym (same ∙ is)) (rests.0, rests.1, lives_both was.0.past o.past rests.2, rests.3)
 
 pub two_held : (me : Mine) (p : Past) (b : ℕ) (y : Content) (at : ℕ) (x : Content) → me ≡ holds_two p b y at x
     → ((z : Content) × (me.0.bays ≡ (b, z) ∷ rest me.0.bays)) × (me.1 ≡ (place b, None) ∷ rest me.1)
@@ -70,97 +52,86 @@ two_held me p b y at x e = ((y, top_of me.0.bays (b, y) ((at, x) ∷ []) (ap (λ
 pub loaded_last : (me now : Mine) (surplus : List ℕ) (b : ℕ) → now ≡ loaded me surplus → HoldsLast me b → HoldsLast now b
 loaded_last me now surplus b is held = subst (λ (m : Mine). HoldsLast m b) (sym is) held
 
--- a hold of a shelf may decide what its shelf decides
-pub at_shelf : {K : Type 0} (hash_of : K → List ℕ → ℕ) (table : TableId) (began : StoreState K) (shared : SharedState K)
-    (seat : Sitter) (at : ℕ) (f : ShelfContent) (y : Content) (what : Operation) (still : List (ℕ × Content)) (surplus : List ℕ)
-    → record { table = table; began = began } ≡ shared → IsTableOf table began → HoldsShelf hash_of shared seat at f
-    → (at < began.settings.shelves → Decides (start_of hash_of began) ((at, OfShelf f) ∷ []) at y what still)
-    → Counts (start_of hash_of began) (holds_one seat.me.0.past at (OfShelf f)).0 what (decided_by (holds_one seat.me.0.past at (OfShelf f)) what still surplus).0
-    → MayDecide table began seat at (start_of hash_of began) y what still surplus
-at_shelf {K} hash_of table began shared seat at f y what still surplus is fit holds decides counts =
-    let h = subst (λ (s : SharedState K). HoldsShelf hash_of s seat at f) (sym is) holds in
-    record {
-      alive = record { seated = record { own = h.own; fit = fit }; lives = h.lives };
-      bay = (let l = h.inside in omega (arith, l));
-      held = one_held seat.me seat.me.0.past at (OfShelf f) h.held;
-      right = subst (λ bays. Decides (start_of hash_of began) bays at y what still) (sym (ap (λ (m : Mine). m.0.bays) h.held)) (decides h.inside);
-      counts = subst (λ (m : Mine). Counts (start_of hash_of began) m.0 what (decided_by m what still surplus).0) (sym h.held) counts;
-    }
+module _ {K : Type 0} (hash_of : K → List ℕ → ℕ) (table : TableId) (began : StoreState K) (shared : SharedState K) (is : record { table = table; began = began } ≡ shared)
+    (fit : IsTableOf table began) where
+  -- who holds a shelf lives
+  pub alive_at : (seat : Sitter) (at : ℕ) (f : ShelfContent) → HoldsShelf hash_of shared seat at f → IsAlive table began seat
+  alive_at seat at f holds =
+      let h = subst (λ (s : SharedState K). HoldsShelf hash_of s seat at f) (sym is) holds in
+      record { seated = record { own = h.own; fit = fit }; lives = h.lives }
 
--- who holds a shelf lives
-pub alive_at : {K : Type 0} (hash_of : K → List ℕ → ℕ) (table : TableId) (began : StoreState K) (shared : SharedState K) (seat : Sitter) (at : ℕ) (f : ShelfContent)
-    → record { table = table; began = began } ≡ shared → IsTableOf table began → HoldsShelf hash_of shared seat at f → IsAlive table began seat
-alive_at {K} hash_of table began shared seat at f is fit holds =
-    let h = subst (λ (s : SharedState K). HoldsShelf hash_of s seat at f) (sym is) holds in
-    record { seated = record { own = h.own; fit = fit }; lives = h.lives }
+  -- a hold of a shelf may decide what its shelf decides
+  pub at_shelf : (seat : Sitter) (at : ℕ) (f : ShelfContent) (y : Content) (what : Operation) (still : List (ℕ × Content)) (surplus : List ℕ) → HoldsShelf hash_of shared seat at f
+      → (at < began.settings.shelves → Decides (start_of hash_of began) ((at, OfShelf f) ∷ []) at y what still)
+      → Counts (start_of hash_of began) (holds_one seat.me.0.past at (OfShelf f)).0 what (decided_by (holds_one seat.me.0.past at (OfShelf f)) what still surplus).0
+      → MayDecide table began seat at (start_of hash_of began) y what still surplus
+  at_shelf seat at f y what still surplus holds decides counts =
+      let h = subst (λ (s : SharedState K). HoldsShelf hash_of s seat at f) (sym is) holds in
+      record {
+        alive = alive_at seat at f holds;
+        bay = (let l = h.inside in omega (arith, l));
+        held = one_held seat.me seat.me.0.past at (OfShelf f) h.held;
+        right = subst (λ bays. Decides (start_of hash_of began) bays at y what still) (sym (ap (λ (m : Mine). m.0.bays) h.held)) (decides h.inside);
+        counts = subst (λ (m : Mine). Counts (start_of hash_of began) m.0 what (decided_by m what still surplus).0) (sym h.held) counts;
+      }
 
--- and with the desk, when it was taken, holds both
-pub takes_desk : {K : Type 0} (hash_of : K → List ℕ → ℕ) (table : TableId) (began : StoreState K) (shared : SharedState K) (old new : Sitter) (at n : ℕ) (f : ShelfContent) (d : DeskState) (x : Bay)
-    → record { table = table; began = began } ≡ shared → n ≡ began.settings.shelves → x ≡ Desk d → SameSeat old new → HasTaken (start_of hash_of began) old.me n x new.me
-    → HoldsShelf hash_of shared old at f → HoldsBoth hash_of shared new at f d
-takes_desk {K} hash_of table began shared old new at n f d x is count desk same taken holds =
-    let h = subst (λ (s : SharedState K). HoldsShelf hash_of s old at f) (sym is) holds in
-    let past : new.me.0.past ≡ old.me.0.past = ap (λ (m : Mine). m.0.past) taken.1 in
-    subst (λ (s : SharedState K). HoldsBoth hash_of s new at f d) is record {
-      own = same.0 ∙ h.own;
-      lives = subst Lives (sym past) h.lives;
-      inside = h.inside;
-      held = taken.1 ∙ ap (λ (m : Mine). (holding m.0 n (content_of x), (place n, None) ∷ m.1)) h.held
-          ∙ ap (λ (y : Content). holds_two old.me.0.past n y at (OfShelf f)) (ap content_of desk)
-          ∙ ap (λ (k : ℕ). holds_two old.me.0.past k (OfDesk d) at (OfShelf f)) count
-          ∙ ap (λ (p : Past). holds_two p began.settings.shelves (OfDesk d) at (OfShelf f)) (sym past);
-      fits = subst (λ (m : Mine). Fitted (start_of hash_of began) m.0) (sym taken.1) taken.2;
-    }
+  -- and with the desk, when it was taken, holds both
+  pub takes_desk : (old new : Sitter) (at n : ℕ) (f : ShelfContent) (d : DeskState) (x : Bay) → n ≡ began.settings.shelves → x ≡ Desk d → SameSeat old new
+      → HasTaken (start_of hash_of began) old.me n x new.me → HoldsShelf hash_of shared old at f → HoldsBoth hash_of shared new at f d
+  takes_desk old new at n f d x count desk same taken holds =
+      let h = subst (λ (s : SharedState K). HoldsShelf hash_of s old at f) (sym is) holds in
+      let past : new.me.0.past ≡ old.me.0.past = ap (λ (m : Mine). m.0.past) taken.1 in
+      subst (λ (s : SharedState K). HoldsBoth hash_of s new at f d) is record {
+        own = same.0 ∙ h.own;
+        lives = subst Lives (sym past) h.lives;
+        inside = h.inside;
+        held = taken.1 ∙ ap (λ (m : Mine). (holding m.0 n (content_of x), (place n, None) ∷ m.1)) h.held
+            ∙ (λ i. holds_two (sym past i) (count i) (content_of (desk i)) at (OfShelf f));
+        fits = subst (λ (m : Mine). Fitted (start_of hash_of began) m.0) (sym taken.1) taken.2;
+      }
 
--- a hold of a shelf and the desk, where these words show too many, may decide what the desk decides
-pub at_both : {K : Type 0} (hash_of : K → List ℕ → ℕ) (table : TableId) (began : StoreState K) (shared : SharedState K)
-    (seat now : Sitter) (at n : ℕ) (f : ShelfContent) (d : DeskState) (y : Content) (what : Operation) (still : List (ℕ × Content)) (had surplus : List ℕ)
-    → record { table = table; began = began } ≡ shared → IsTableOf table began → began.settings.shelves ≡ n → HoldsBoth hash_of shared seat at f d
-    → SameSeat seat now → now.me ≡ loaded seat.me had
-    → (at < began.settings.shelves → Decides (start_of hash_of began) ((began.settings.shelves, OfDesk d) ∷ (at, OfShelf f) ∷ []) began.settings.shelves y what still)
-    → Counts (start_of hash_of began) (loaded (holds_two seat.me.0.past began.settings.shelves (OfDesk d) at (OfShelf f)) had).0 what
-    (decided_by (loaded (holds_two seat.me.0.past began.settings.shelves (OfDesk d) at (OfShelf f)) had) what still surplus).0
-    → MayDecide table began now n (start_of hash_of began) y what still surplus
-at_both {K} hash_of table began shared seat now at n f d y what still had surplus is fit desk holds same more decides counts =
-    let h = subst (λ (s : SharedState K). HoldsBoth hash_of s seat at f d) (sym is) holds in
-    let held : now.me ≡ loaded (holds_two seat.me.0.past began.settings.shelves (OfDesk d) at (OfShelf f)) had = more ∙ ap (λ (m : Mine). loaded m had) h.held in
-    subst (λ k. MayDecide table began now k (start_of hash_of began) y what still surplus) desk record {
-      alive = record { seated = record { own = same.0 ∙ h.own; fit = fit }; lives = subst (λ (m : Mine). Lives m.0.past) (sym more) h.lives };
-      bay = omega arith;
-      held = loaded_last seat.me now.me had began.settings.shelves more (two_held seat.me seat.me.0.past began.settings.shelves (OfDesk d) at (OfShelf f) h.held);
-      right = subst (λ bays. Decides (start_of hash_of began) bays began.settings.shelves y what still) (sym (ap (λ (m : Mine). m.0.bays) held)) (decides h.inside);
-      counts = subst (λ (m : Mine). Counts (start_of hash_of began) m.0 what (decided_by m what still surplus).0) (sym held) counts;
-    }
+  -- a hold of a shelf and the desk, where these words show too many, may decide what the desk decides
+  pub at_both : (seat now : Sitter) (at n : ℕ) (f : ShelfContent) (d : DeskState) (y : Content) (what : Operation) (still : List (ℕ × Content)) (had surplus : List ℕ)
+      → began.settings.shelves ≡ n → HoldsBoth hash_of shared seat at f d → SameSeat seat now → now.me ≡ loaded seat.me had
+      → (at < began.settings.shelves → Decides (start_of hash_of began) ((began.settings.shelves, OfDesk d) ∷ (at, OfShelf f) ∷ []) began.settings.shelves y what still)
+      → Counts (start_of hash_of began) (loaded (holds_two seat.me.0.past began.settings.shelves (OfDesk d) at (OfShelf f)) had).0 what
+      (decided_by (loaded (holds_two seat.me.0.past began.settings.shelves (OfDesk d) at (OfShelf f)) had) what still surplus).0
+      → MayDecide table began now n (start_of hash_of began) y what still surplus
+  at_both seat now at n f d y what still had surplus desk holds same more decides counts =
+      let h = subst (λ (s : SharedState K). HoldsBoth hash_of s seat at f d) (sym is) holds in
+      let held : now.me ≡ loaded (holds_two seat.me.0.past began.settings.shelves (OfDesk d) at (OfShelf f)) had = more ∙ ap (λ (m : Mine). loaded m had) h.held in
+      subst (λ k. MayDecide table began now k (start_of hash_of began) y what still surplus) desk record {
+        alive = record { seated = record { own = same.0 ∙ h.own; fit = fit }; lives = subst (λ (m : Mine). Lives m.0.past) (sym more) h.lives };
+        bay = omega arith;
+        held = loaded_last seat.me now.me had began.settings.shelves more (two_held seat.me seat.me.0.past began.settings.shelves (OfDesk d) at (OfShelf f) h.held);
+        right = subst (λ bays. Decides (start_of hash_of began) bays began.settings.shelves y what still) (sym (ap (λ (m : Mine). m.0.bays) held)) (decides h.inside);
+        counts = subst (λ (m : Mine). Counts (start_of hash_of began) m.0 what (decided_by m what still surplus).0) (sym held) counts;
+      }
 
--- a hold of a shelf and the desk may raise the word of a key of the shelf
-pub may_raise : {K : Type 0} (hash_of : K → List ℕ → ℕ) (table : TableId) (began : StoreState K) (shared : SharedState K)
-    (seat : Sitter) (at : ℕ) (f : ShelfContent) (d : DeskState)
-    → record { table = table; began = began } ≡ shared → IsTableOf table began → HoldsBoth hash_of shared seat at f d
-    → (hash : ℕ) (key : List ℕ) → hash ≡ hash_of began.hasher key → shelf_in (start_of hash_of began) key ≡ at → len f.items < 2 ^ 64 - 1
-    → MayAdd (start_of hash_of began) seat.me.0 (hash % 4096)
-may_raise {K} hash_of table began shared seat at f d is fit holds hash key hashed own small =
-    let h = subst (λ (s : SharedState K). HoldsBoth hash_of s seat at f d) (sym is) holds in
-    may_add (start_of hash_of began) at fit.divides hash key hashed own h.inside f d seat.me.0 (ap (λ (m : Mine). m.0.bays) h.held) (ap (λ (m : Mine). m.0.surplus) h.held) small
+  -- a hold of a shelf and the desk may raise the word of a key of the shelf
+  pub may_raise : (seat : Sitter) (at : ℕ) (f : ShelfContent) (d : DeskState) → HoldsBoth hash_of shared seat at f d → (hash : ℕ) (key : List ℕ) → hash ≡ hash_of began.hasher key
+      → shelf_in (start_of hash_of began) key ≡ at → len f.items < 2 ^ 64 - 1 → MayAdd (start_of hash_of began) seat.me.0 (hash % 4096)
+  may_raise seat at f d holds hash key hashed own small =
+      let h = subst (λ (s : SharedState K). HoldsBoth hash_of s seat at f d) (sym is) holds in
+      may_add (start_of hash_of began) at fit.divides hash key hashed own h.inside f d seat.me.0 (ap (λ (m : Mine). m.0.bays) h.held) (ap (λ (m : Mine). m.0.surplus) h.held) small
 
--- a hold of a shelf may read the words of the shelf's numbers
-pub reads_shelf : {K : Type 0} (hash_of : K → List ℕ → ℕ) (table : TableId) (began : StoreState K) (shared : SharedState K) (seat : Sitter) (at n : ℕ) (f : ShelfContent)
-    → record { table = table; began = began } ≡ shared → IsTableOf table began → n ≡ began.settings.shelves → HoldsShelf hash_of shared seat at f
-    → IsSeatOf table began seat × (at < n) × ((number : ℕ) → number < 4096 → number % n ≡ at → MayCount (start_of hash_of began) seat.me.0 number)
-reads_shelf {K} hash_of table began shared seat at n f is fit count holds =
-    let h = subst (λ (s : SharedState K). HoldsShelf hash_of s seat at f) (sym is) holds in (
-      record { own = h.own; fit = fit },
-      subst (λ (k : ℕ). at < k) (sym count) h.inside,
-      λ number low own. may_count_one (start_of hash_of began) fit.divides seat.me.0.past at (OfShelf f) seat.me h.held number low (subst (λ (k : ℕ). number % k ≡ at) count own),
-    )
+  -- a hold of a shelf may read the words of the shelf's numbers
+  pub reads_shelf : (seat : Sitter) (at n : ℕ) (f : ShelfContent) → n ≡ began.settings.shelves → HoldsShelf hash_of shared seat at f
+      → IsSeatOf table began seat × (at < n) × ((number : ℕ) → number < 4096 → number % n ≡ at → MayCount (start_of hash_of began) seat.me.0 number)
+  reads_shelf seat at n f count holds =
+      let h = subst (λ (s : SharedState K). HoldsShelf hash_of s seat at f) (sym is) holds in (
+        record { own = h.own; fit = fit },
+        subst (λ (k : ℕ). at < k) (sym count) h.inside,
+        λ number low own. may_count_one (start_of hash_of began) fit.divides seat.me.0.past at (OfShelf f) seat.me h.held number low (subst (λ (k : ℕ). number % k ≡ at) count own),
+      )
 
--- and so it has the shelf's counts
-pub counts_shelf : {K : Type 0} (hash_of : K → List ℕ → ℕ) (table : TableId) (began : StoreState K) (shared : SharedState K) (seat : Sitter) (at : ℕ) (f : ShelfContent) (counts : List ℕ)
-    → record { table = table; began = began } ≡ shared → IsTableOf table began → HoldsShelf hash_of shared seat at f → AreKeyCountsAt (start_of hash_of began) seat.me.0 at counts
-    → AreCountsBy (hash_of shared.began.hasher) f counts
-counts_shelf {K} hash_of table began shared seat at f counts is fit holds keys =
-    let h = subst (λ (s : SharedState K). HoldsShelf hash_of s seat at f) (sym is) holds in
-    subst (λ (s : SharedState K). AreCountsBy (hash_of s.began.hasher) f counts) is
-    (shelf_counted (start_of hash_of began) fit.divides seat.me.0.past at f seat.me counts h.held h.fits keys)
+  -- and so it has the shelf's counts
+  pub counts_shelf : (seat : Sitter) (at : ℕ) (f : ShelfContent) (counts : List ℕ) → HoldsShelf hash_of shared seat at f → AreKeyCountsAt (start_of hash_of began) seat.me.0 at counts
+      → AreCountsBy (hash_of shared.began.hasher) f counts
+  counts_shelf seat at f counts holds keys =
+      let h = subst (λ (s : SharedState K). HoldsShelf hash_of s seat at f) (sym is) holds in
+      subst (λ (s : SharedState K). AreCountsBy (hash_of s.began.hasher) f counts) is
+      (shelf_counted (start_of hash_of began) fit.divides seat.me.0.past at f seat.me counts h.held h.fits keys)
 
 -- what a hold of a shelf and the desk has after the desk went back with a decision
 pub decided_one : (me now then : Mine) (p : Past) (n : ℕ) (y : Content) (at : ℕ) (x z : Content) (what : Operation) (had surplus : List ℕ)
@@ -202,8 +173,8 @@ one_given me q at z held = (
 pub one_rests : (me end : Mine) (q : Past) (at : ℕ) (z : Content) → me ≡ holds_one q at z → end ≡ without me → end ≡ resting q
 one_rests me end q at z held given = given ∙ ap without held
 
-pub rests_so : (me : Mine) (q : Past) → Lives q → me ≡ resting q → (me.1 ≡ []) × (me.0.bays ≡ []) × Lives me.0.past × (me.0.surplus ≡ [])
-rests_so me q lives is = (ap (λ (m : Mine). m.1) is, ap (λ (m : Mine). m.0.bays) is, subst (λ (m : Mine). Lives m.0.past) (sym is) lives, ap (λ (m : Mine). m.0.surplus) is)
+pub rests_so : (me : Mine) (q : Past) → Lives q → me ≡ resting q → Rests me
+rests_so me q lives is = subst Rests (sym is) (refl, refl, lives, refl)
 
 -- a call was answered
 pub came_out : {E : Type 0} (start : Beginning) (old new : CallerState) (step : KeyStep) (now : ℕ) (reply told : Reply) (may : Beginning → Past → KeyStep → ℕ → E → Type 0)

@@ -1,15 +1,13 @@
 -- What a read is told of the item that is found standing under its key.
 use Rattle.std.proofs.Common.{◌≡◌, cond, Bool, true, false, ℕ, zero, suc, ◌-◌, ◌≤◌, List, [], ◌∷◌, length, drop, get_or, Option, Some, None, refl, ap, arith}
+use Rattle.mc_shared.proofs.Words.{is_dead, alive, Entry as Item, parts_of, is_gone}
 use Rattle.std.specs.Prelude.{is_none}
 use Rattle.std.specs.List.{concat}
-use Rattle.mc_time.specs.Death.{is_dead}
 use Rattle.mc_slab.specs.Classes.{size_of}
 use Rattle.mc_item.specs.Items.{front_of, pieces}
-use Rattle.mc_command.specs.Plain.{alive, item_need}
-use Rattle.mc_command.specs.Plain.{Entry as Item}
+use Rattle.mc_command.specs.Plain.{item_need}
 use Rattle.mc_shelf.specs.Lent.{HitState}
-use Rattle.mc_shelf.specs.States.{parts_of, stored}
-use Rattle.mc_shelf.specs.Plans.{is_gone}
+use Rattle.mc_shelf.specs.States.{stored}
 use Rattle.mc_shelf.specs.Hits.{found_of}
 use Rattle.mc_shelf.specs.declared.hit.Found.{Found}
 use Rattle.mc_shelf.specs.declared.hit.Found.TheVariants.{Nothing, Dead, Standing}

@@ -1,3 +1,4 @@
+pub mod Words
 pub mod Sums
 pub mod StoryKept
 pub mod NamedKept

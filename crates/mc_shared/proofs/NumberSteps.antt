@@ -1,23 +1,9 @@
 -- By how much the keys of each number change in a decision.
-use Rattle.std.proofs.Common.{◌≡◌, ◌≢◌, ◌==◌, ℕ, zero, suc, ◌+◌, ◌-◌, ◌*◌, ◌/◌, ◌%◌, ◌^◌, ◌≤◌, ◌<◌, true, false, cond, eqb, Option, Some, None, is_some, List, [], ◌∷◌, replicate}
-use Rattle.std.proofs.Common.{refl, sym, ap, ◌∙◌, subst, arith, eq-eqb, ne_eqb, mod-lt, div-add-mod'}
-use mathlib.Core.Logic.{dite}
-use native.Mathlib.Decide.{ℕ_discrete}
-use Rattle.std.specs.FinMap.{get, len, retain_keys, empty, get-empty}
-use Rattle.mc_command.specs.Plain.{Plain, Items}
-use Rattle.mc_shelf.specs.States.{ShelfContent, DeskState}
-use Rattle.mc_shelf.specs.Parts.{shelf_of, IsShelfOf, GoesTo}
-use Rattle.mc_shelf.proofs.KeyLemmas.{order, get_kept}
-use Rattle.mc_shared.specs.Sums.{total}
-use Rattle.mc_shelf.specs.Numbers.{number_of, keys_with}
-use Rattle.mc_shared.specs.Presence.{word_of}
-use Rattle.mc_shared.specs.History.{Beginning}
-use Rattle.mc_command.specs.Plain.{Entry}
-use Rattle.mc_shared.specs.Bays.{Content, OfShelf, OfDesk}
-use Rattle.mc_shared.specs.History.{Operation, shelf_in, next}
-use Rattle.mc_shared.specs.View.{SeatView}
-use Rattle.mc_shared.specs.Rule.{Fits, AllFit, holds_bay, times, named}
-use Rattle.mc_shared.specs.Steps.{Counts, MayAdd}
+use Rattle.std.proofs.Common.{◌≡◌, ◌≢◌, ◌==◌, ℕ, zero, suc, ◌+◌, ◌-◌, ◌*◌, ◌/◌, ◌%◌, ◌^◌, ◌≤◌, ◌<◌, true, false, cond, eqb, Option, Some, None, is_some, List, [], ◌∷◌}
+use Rattle.std.proofs.Common.{replicate, refl, sym, ap, ◌∙◌, subst, arith, eq-eqb, ne_eqb, mod-lt, div-add-mod'}
+use Rattle.mc_shared.proofs.Words.{dite, ℕ_discrete, get, len, retain_keys, empty, get-empty, Plain, Items, Entry, ShelfContent, DeskState, shelf_of, IsShelfOf, GoesTo}
+use Rattle.mc_shared.proofs.Words.{order, get_kept, total, number_of, keys_with, word_of, Beginning, Operation, shelf_in, next, Content, OfShelf, OfDesk, SeatView, Fits}
+use Rattle.mc_shared.proofs.Words.{AllFit, holds_bay, times, named, Counts, MayAdd}
 use Rattle.mc_shared.proofs.StockedKept.{here, elsewhere}
 use Rattle.mc_shared.proofs.WordLemmas.{words_apart}
 use Rattle.mc_shared.proofs.NumberLemmas.{there, kept_same, len_change, count_here, count_most, count_other}
@@ -59,14 +45,7 @@ module _ (start : Beginning) (at : ℕ) (q : ℕ) (divides : q * start.shelves �
   own_at m f part n is = ap (λ (i : Items). len i) (kept_same (λ key. number_of start.hash_of key == n) m.items f.items (λ key passes. sym (part.items key (of_shelf n key passes ∙ is))))
 
   module _ (m m' : Plain) (f f' : ShelfContent) (d' : DeskState) (part : IsShelfOf start.hash_of start.shelves m at f) (goes : GoesTo start.hash_of start.shelves at m m' f' d') where
-    -- numbers of the shelf
-    pub own_before : (n : ℕ) → n % start.shelves ≡ at → keys_with start.hash_of n m.items ≡ keys_with start.hash_of n f.items
-    own_before n is = ap (λ (i : Items). len i) (kept_same (λ key. number_of start.hash_of key == n) m.items f.items (λ key passes. sym (part.items key (of_shelf n key passes ∙ is))))
-
-    pub own_after : (n : ℕ) → n % start.shelves ≡ at → keys_with start.hash_of n m'.items ≡ keys_with start.hash_of n f'.items
-    own_after n is = ap (λ (i : Items). len i) (kept_same (λ key. number_of start.hash_of key == n) m'.items f'.items (λ key passes. sym (goes.own.items key (of_shelf n key passes ∙ is))))
-
-    -- those of the others
+    -- the numbers of the others stay
     pub others_stay : (n : ℕ) → n % start.shelves ≢ at → keys_with start.hash_of n m'.items ≡ keys_with start.hash_of n m.items
     others_stay n ne = ap (λ (i : Items). len i) (kept_same (λ key. number_of start.hash_of key == n) m'.items m.items (λ key passes.
         let other : ℕ = n % start.shelves in
@@ -85,108 +64,91 @@ named_not other word zero ne = refl
 named_not other word (suc k) ne = let rest = named_not other word k ne in let none : ◌≡◌ {A = ℕ} (cond (eqb other word) 1 0) 0 =
     ap (λ t. cond t 1 0) (ne_eqb other word ne) in omega (arith, rest, none)
 
-module _ (start : Beginning) (at : ℕ) (divides : 4096 / start.shelves * start.shelves ≡ 4096) (key : List ℕ) (own : shelf_in start key ≡ at) where
+-- nothing is named
+pub bare_names : (v : SeatView) (x : ℕ) → v.surplus ≡ [] → named x v ≡ 0
+bare_names v x bare = ap (total (λ y. cond (eqb x y) 1 0)) bare
+
+module _ (start : Beginning) (at : ℕ) (divides : 4096 / start.shelves * start.shelves ≡ 4096) (key : List ℕ) (own : shelf_in start key ≡ at)
+    (f f' : ShelfContent) (others : (other : List ℕ) → other ≢ key → get f'.items other ≡ get f.items other) where
   abbrev number : ℕ
   number = number_of start.hash_of key
 
   abbrev word : ℕ
   word = word_of start.shelves number
 
-  own_number : number % start.shelves ≡ at
-  own_number = shelf_named (start.hash_of key) start.shelves (4096 / start.shelves) divides ∙ own
+  -- the words show the keys after a step that leaves as many of its number as are named less
+  shows_after : (before left : ℕ) → keys_with start.hash_of number f.items + before ≡ keys_with start.hash_of number f'.items + left
+      → (v w : SeatView) (what : Operation) → v.surplus ≡ replicate before word → w.surplus ≡ replicate left word → (1 ≤ left → 1 ≤ times at w)
+      → ((m : Plain) → AllFit start m v.bays → IsShelfOf start.hash_of start.shelves m at f × ((d' : DeskState) × GoesTo start.hash_of start.shelves at m (next start m what) f' d'))
+      → Counts start v what w
+  shows_after before left counted v w what had has holds goes =
+      let own_number : number % start.shelves ≡ at = shelf_named (start.hash_of key) start.shelves (4096 / start.shelves) divides ∙ own in
+      let below : number < 4096 = mod-lt (start.hash_of key) (omega arith) in
+      let was : (x : ℕ) → named x v ≡ total (λ y. cond (eqb x y) 1 0) (replicate before word) = λ x. ap (total (λ y. cond (eqb x y) 1 0)) had in
+      let is : (x : ℕ) → named x w ≡ total (λ y. cond (eqb x y) 1 0) (replicate left word) = λ x. ap (total (λ y. cond (eqb x y) 1 0)) has in
+      record {
+        weighs = λ m fits n low. let g = goes m fits in let m' = next start m what in
+            dite (ℕ_discrete n number)
+            (λ e. subst (λ (k : ℕ). keys_with start.hash_of k m.items + named (word_of start.shelves k) v ≡ keys_with start.hash_of k m'.items + named (word_of start.shelves k) w) (sym e)
+            (let was' : named word v ≡ before = was word ∙ named_so word before in
+            let is' : named word w ≡ left = is word ∙ named_so word left in
+            let one = own_at start at (4096 / start.shelves) divides m f g.0 number own_number in
+            let two = own_at start at (4096 / start.shelves) divides m' f' g.1.1.own number own_number in omega (arith, was', is', one, two, counted)))
+            (λ ne. let apart : word_of start.shelves n ≢ word = (λ h. ne (words_apart start.shelves n number divides low below h)) in
+            let was' = was (word_of start.shelves n) ∙ named_not (word_of start.shelves n) word before apart in
+            let is' = is (word_of start.shelves n) ∙ named_not (word_of start.shelves n) word left apart in
+            let same : keys_with start.hash_of n m'.items ≡ keys_with start.hash_of n m.items = dite (ℕ_discrete (n % start.shelves) at)
+            (λ here. own_at start at (4096 / start.shelves) divides m' f' g.1.1.own n here
+            ∙ (count_other (λ k. number_of start.hash_of k == n) f'.items f.items key others (ne_eqb number n (λ h. ne (sym h)))
+            ∙ sym (own_at start at (4096 / start.shelves) divides m f g.0 n here)))
+            (λ off. others_stay start at (4096 / start.shelves) divides m m' f f' g.1.0 g.0 g.1.1 n off) in omega (arith, was', is', same));
+        owned = λ x some_named. dite (ℕ_discrete x word)
+            (λ e. record {
+              number = number;
+              below = below;
+              is = e;
+              held = subst (λ b. 1 ≤ times b w) (sym own_number) (holds (let all : named x w ≡ left = ap (λ y. named y w) e ∙ is word ∙ named_so word left in omega (arith, all, some_named)));
+            })
+            (λ ne. absurd (let none = is x ∙ named_not x word left ne in omega (arith, none, some_named)));
+      }
 
-  below : number < 4096
-  below = mod-lt (start.hash_of key) (omega arith)
+  here_counted : keys_with start.hash_of number f'.items + there (get f.items key) ≡ keys_with start.hash_of number f.items + there (get f'.items key)
+  here_counted = count_here (λ k. number_of start.hash_of k == number) f'.items f.items key others (eq-eqb number number refl)
 
-  module _ (f f' : ShelfContent) (others : (other : List ℕ) → other ≢ key → get f'.items other ≡ get f.items other) (before left : ℕ)
-      (is_left : left ≡ (before + len f.items) - len f'.items) (adds : is_some (get f.items key) ≡ false → before ≡ 1) where
-    balanced : len f'.items + there (get f.items key) ≡ len f.items + there (get f'.items key)
-    balanced = len_change f'.items f.items key others
-
+  module _ (before left : ℕ) (is_left : left ≡ (before + len f.items) - len f'.items) (adds : is_some (get f.items key) ≡ false → before ≡ 1) where
     few : (o : Option Entry) → there o ≤ 1
     few None = omega arith
     few (Some item) = omega arith
 
     pub enough : len f'.items ≤ before + len f.items
-    enough = let b = balanced in let one = few (get f'.items key) in
+    enough = let b = len_change f'.items f.items key others in let one = few (get f'.items key) in
         elim (is_some (get f.items key)) as (λ t. is_some (get f.items key) ≡ t → len f'.items ≤ before + len f.items) [
           | true ↦ λ e. (let t : there (get f.items key) ≡ 1 = ap (λ x. cond x 1 0) e in omega (arith, b, one, t))
           | false ↦ λ e. (let n = adds e in omega (arith, b, one, n))
         ] refl
 
-    counted : keys_with start.hash_of number f.items + before ≡ keys_with start.hash_of number f'.items + left
-    counted =
-        let here = count_here (λ k. number_of start.hash_of k == number) f'.items f.items key others (eq-eqb number number refl) in
-        let b = balanced in let e = enough in omega (arith, here, b, e, is_left)
-
-    -- the words show the keys after the step
     pub counts_step : (v w : SeatView) (what : Operation) (below_it : List (ℕ × Content)) → v.surplus ≡ replicate before word → w.surplus ≡ replicate left word → w.bays ≡ (at, OfShelf f') ∷ below_it
         → ((m : Plain) → AllFit start m v.bays → IsShelfOf start.hash_of start.shelves m at f × ((d' : DeskState) × GoesTo start.hash_of start.shelves at m (next start m what) f' d'))
         → Counts start v what w
-    counts_step v w what below_it had has holds goes = record {
-      weighs = λ m fits n low. let g = goes m fits in let m' = next start m what in
-          let was : named (word_of start.shelves n) v ≡ total (λ x. cond (eqb (word_of start.shelves n) x) 1 0) (replicate before word) =
-          ap (total (λ x. cond (eqb (word_of start.shelves n) x) 1 0)) had in
-          let is : named (word_of start.shelves n) w ≡ total (λ x. cond (eqb (word_of start.shelves n) x) 1 0) (replicate left word) =
-          ap (total (λ x. cond (eqb (word_of start.shelves n) x) 1 0)) has in
-          dite (ℕ_discrete n number)
-          (λ e. subst (λ (k : ℕ). keys_with start.hash_of k m.items + named (word_of start.shelves k) v ≡ keys_with start.hash_of k m'.items + named (word_of start.shelves k) w) (sym e)
-          (let was' : named word v ≡ before = ap (total (λ x. cond (eqb word x) 1 0)) had ∙ named_so word before in
-          let is' : named word w ≡ left = ap (total (λ x. cond (eqb word x) 1 0)) has ∙ named_so word left in
-          let one = own_before start at (4096 / start.shelves) divides m m' f f' g.1.0 g.0 g.1.1 number own_number in
-          let two = own_after start at (4096 / start.shelves) divides m m' f f' g.1.0 g.0 g.1.1 number own_number in
-          let c = counted in omega (arith, was', is', one, two, c)))
-          (λ ne. let apart : word_of start.shelves n ≢ word = (λ h. ne (words_apart start.shelves n number divides low below h)) in
-          let was' = named_not (word_of start.shelves n) word before apart in let is' = named_not (word_of start.shelves n) word left apart in
-          let same : keys_with start.hash_of n m'.items ≡ keys_with start.hash_of n m.items = dite (ℕ_discrete (n % start.shelves) at)
-          (λ here. own_after start at (4096 / start.shelves) divides m m' f f' g.1.0 g.0 g.1.1 n here
-          ∙ (count_other (λ k. number_of start.hash_of k == n) f'.items f.items key others (ne_eqb number n (λ h. ne (sym h)))
-          ∙ sym (own_before start at (4096 / start.shelves) divides m m' f f' g.1.0 g.0 g.1.1 n here)))
-          (λ off. others_stay start at (4096 / start.shelves) divides m m' f f' g.1.0 g.0 g.1.1 n off) in omega (arith, was, is, was', is', same));
-      owned = λ x some_named. dite (ℕ_discrete x word)
-          (λ e. record {
-            number = number;
-            below = below;
-            is = e;
-            held = (let one : holds_bay (number % start.shelves) (at, OfShelf f') ≡ 1 = ap (λ b. holds_bay b (at, OfShelf f')) own_number ∙ here at (OfShelf f') in
-                let all : times (number % start.shelves) w ≡ holds_bay (number % start.shelves) (at, OfShelf f') + total
-                (holds_bay (number % start.shelves)) below_it = ap (total (holds_bay (number % start.shelves))) holds in omega (arith, one, all));
-          })
-          (λ ne. absurd (let is : named x w ≡ 0 = ap (total (λ y. cond (eqb x y) 1 0)) has ∙ named_not x word left ne in omega (arith, is, some_named)));
-    }
+    counts_step v w what below_it had has holds =
+        shows_after before left (let h = here_counted in let b = len_change f'.items f.items key others in let e = enough in omega (arith, h, b, e, is_left)) v w what had has
+        (λ _. let all : times at w ≡ holds_bay at (at, OfShelf f') + total (holds_bay at) below_it = ap (total (holds_bay at)) holds in let one = here at (OfShelf f') in omega (arith, one, all))
 
-no_surplus : (v : SeatView) (x : ℕ) → v.surplus ≡ [] → named x v ≡ 0
-no_surplus v x bare = ap (total (λ y. cond (eqb x y) 1 0)) bare
-
--- a step that leaves an item where there was one, and none where there was none
-pub counts_settled : (start : Beginning) (at : ℕ) (divides : 4096 / start.shelves * start.shelves ≡ 4096) (key : List ℕ) (own : shelf_in start key ≡ at) (f f' : ShelfContent)
-    → ((other : List ℕ) → other ≢ key → get f'.items other ≡ get f.items other) → is_some (get f'.items key) ≡ is_some (get f.items key)
-    → (v w : SeatView) (what : Operation) → v.surplus ≡ [] → w.surplus ≡ []
-    → ((m : Plain) → AllFit start m v.bays → IsShelfOf start.hash_of start.shelves m at f × ((d' : DeskState) × GoesTo start.hash_of start.shelves at m (next start m what) f' d'))
-    → Counts start v what w
-counts_settled start at divides key own f f' others stands v w what had has goes = record {
-  weighs = λ m fits n low. let g = goes m fits in let m' = next start m what in
-      let was = no_surplus v (word_of start.shelves n) had in let is = no_surplus w (word_of start.shelves n) has in
-      let same : keys_with start.hash_of n m'.items ≡ keys_with start.hash_of n m.items = dite (ℕ_discrete (n % start.shelves) at)
-      (λ here. own_after start at (4096 / start.shelves) divides m m' f f' g.1.0 g.0 g.1.1 n here
-      ∙ (alike n ∙ sym (own_before start at (4096 / start.shelves) divides m m' f f' g.1.0 g.0 g.1.1 n here)))
-      (λ off. others_stay start at (4096 / start.shelves) divides m m' f f' g.1.0 g.0 g.1.1 n off) in omega (arith, was, is, same);
-  owned = λ x some_named. absurd (let z = no_surplus w x has in omega (arith, z, some_named));
-}
-  where
-    alike : (n : ℕ) → keys_with start.hash_of n f'.items ≡ keys_with start.hash_of n f.items
-    alike n = dite (ℕ_discrete (number_of start.hash_of key) n)
-        (λ e. let c = count_here (λ k. number_of start.hash_of k == n) f'.items f.items key others (eq-eqb (number_of start.hash_of key) n e) in
-        let t : there (get f'.items key) ≡ there (get f.items key) = ap (λ b. cond b 1 0) stands in omega (arith, c, t))
-        (λ ne. count_other (λ k. number_of start.hash_of k == n) f'.items f.items key others (ne_eqb (number_of start.hash_of key) n ne))
+  -- and where it leaves an item if there was one, and none if there was none
+  pub counts_settled : is_some (get f'.items key) ≡ is_some (get f.items key) → (v w : SeatView) (what : Operation) → v.surplus ≡ [] → w.surplus ≡ []
+      → ((m : Plain) → AllFit start m v.bays → IsShelfOf start.hash_of start.shelves m at f × ((d' : DeskState) × GoesTo start.hash_of start.shelves at m (next start m what) f' d'))
+      → Counts start v what w
+  counts_settled stands v w what had has =
+      shows_after 0 0 (let h = here_counted in let t : there (get f'.items key) ≡ there (get f.items key) = ap (λ b. cond b 1 0) stands in omega (arith, h, t)) v w what had has
+      (λ none. absurd (omega (arith, none)))
 
 -- a decision that changes nothing
 pub counts_same : (start : Beginning) (v w : SeatView) (what : Operation) → v.surplus ≡ [] → w.surplus ≡ [] → ((m : Plain) → AllFit start m v.bays → next start m what ≡ m) → Counts start v what w
 counts_same start v w what had has stays = record {
-  weighs = λ m fits n low. let was = no_surplus v (word_of start.shelves n) had in let is = no_surplus w (word_of start.shelves n) has in
+  weighs = λ m fits n low. let was = bare_names v (word_of start.shelves n) had in let is = bare_names w (word_of start.shelves n) has in
       let same : keys_with start.hash_of n (next start m what).items ≡ keys_with start.hash_of n m.items =
       ap (λ (z : Plain). keys_with start.hash_of n z.items) (stays m fits) in omega (arith, was, is, same);
-  owned = λ x some_named. absurd (let z = no_surplus w x has in omega (arith, z, some_named));
+  owned = λ x some_named. absurd (let z = bare_names w x has in omega (arith, z, some_named));
 }
 
 -- ---- one is added for a key that comes

@@ -1,34 +1,15 @@
 -- By how much the keys of each number change where many go at once.
-use Rattle.std.proofs.Common.{◌≡◌, ◌≢◌, ◌==◌, ℕ, suc, ◌+◌, ◌-◌, ◌*◌, ◌/◌, ◌%◌, ◌≤◌, ◌<◌, Bool, true, false, not, ◌||◌, cond, eqb, if◌then◌else◌, Option, Some, None, is_some, List, [], ◌∷◌}
-use Rattle.std.proofs.Common.{length, slice_get, slice_index, refl, sym, ap, ◌∙◌, subst, arith, mod-lt}
-use Rattle.std.proofs.lemmas.Option.{none-some}
-use mathlib.Core.Logic.{dite}
-use native.Mathlib.Decide.{ℕ_discrete}
-use Rattle.std.specs.FinMap.{get, len, retain_keys, empty, get-empty}
-use Rattle.mc_time.specs.Death.{moment_named}
-use Rattle.mc_command.specs.Plain.{Plain, Items, Entry, alive, flushed, living}
-use Rattle.mc_command.specs.declared.step.KeyStep.TheVariants.{Flush}
-use Rattle.mc_command.specs.declared.reply.Reply.TheVariants.{Flushed}
-use Rattle.mc_shelf.specs.States.{ShelfContent, ShelfState, DeskState}
-use Rattle.mc_shelf.specs.Numbers.{keys_with, number_of}
-use Rattle.mc_shelf.specs.Parts.{IsShelfOf, ArePartsOf, GoesTo}
-use Rattle.mc_shelf.proofs.KeyLemmas.{order, same_maps, get_kept}
-use Rattle.mc_shared.specs.Sums.{total}
-use Rattle.mc_shared.specs.Bays.{Content, OfShelf, OfDesk}
-use Rattle.mc_shared.specs.Presence.{word_of}
-use Rattle.mc_shared.specs.Spread.{spread, keys_in}
-use Rattle.mc_shared.specs.History.{Beginning, Operation, Purged, Stepped, shelf_in, next, after}
-use Rattle.mc_shared.specs.View.{SeatView}
-use Rattle.mc_shared.specs.Rule.{AllFit, holds_bay, times, named}
-use Rattle.mc_shared.specs.Past.{Past}
-use Rattle.mc_shared.specs.Counted.{AreKeyCounts, AreKeyCountsAt, AreCountsBy}
-use Rattle.mc_shared.specs.Steps.{Mine, Counts, MayCount, Fitted}
-use Rattle.mc_shared.specs.Stacks.{stacked, holds_all}
-use Rattle.mc_shared.specs.Store.{holds_one}
+use Rattle.std.proofs.Common.{◌≡◌, ◌≢◌, ◌==◌, ℕ, suc, ◌+◌, ◌-◌, ◌*◌, ◌/◌, ◌%◌, ◌≤◌, ◌<◌, Bool, true, false, not, ◌||◌, cond, eqb, if◌then◌else◌, Option, Some, None}
+use Rattle.std.proofs.Common.{is_some, List, [], ◌∷◌, length, slice_get, slice_index, refl, sym, ap, ◌∙◌, subst, arith, mod-lt}
+use Rattle.mc_shared.proofs.Words.{none-some, dite, ℕ_discrete, get, len, retain_keys, empty, get-empty, moment_named, Plain, Items, Entry, alive, flushed, living, Flush}
+use Rattle.mc_shared.proofs.Words.{Flushed, ShelfContent, ShelfState, DeskState, keys_with, number_of, IsShelfOf, ArePartsOf, GoesTo, order, same_maps, get_kept, total}
+use Rattle.mc_shared.proofs.Words.{Content, OfShelf, OfDesk, word_of, spread, keys_in, Beginning, Operation, Purged, Stepped, shelf_in, next, after, SeatView, AllFit}
+use Rattle.mc_shared.proofs.Words.{holds_bay, times, named, Past, AreKeyCountsAt, AreCountsBy, Mine, Counts, MayCount, Fitted, stacked, holds_all, holds_one}
+use Rattle.mc_shared.specs.Counted.{AreKeyCounts}
 use Rattle.mc_shared.proofs.WordLemmas.{number_inside}
 use Rattle.mc_shared.proofs.StockedKept.{here}
 use Rattle.mc_shared.proofs.NumberLemmas.{count_most, count_none}
-use Rattle.mc_shared.proofs.NumberSteps.{of_shelf, own_at, own_before, own_after, others_stay}
+use Rattle.mc_shared.proofs.NumberSteps.{of_shelf, own_at, others_stay, bare_names}
 use Rattle.mc_shared.proofs.SpreadLemmas.{AreApart, spread_names, spread_within}
 use Rattle.mc_shared.proofs.Stacked.{parts_held, has_on, all_fit}
 
@@ -84,7 +65,7 @@ counts_gone start apart gone v w what had has held weighed =
     ∙ spread_names start.shelves gone apart 0 4096 n (omega arith) (omega arith) (omega (arith, low)) in
     record {
       weighs = λ m fits n low.
-          let was : named (word_of start.shelves n) v ≡ 0 = ap (total (λ x. cond (eqb (word_of start.shelves n) x) 1 0)) had in
+          let was = bare_names v (word_of start.shelves n) had in
           let is = named_is n low in
           let e = weighed m fits n low in
           omega (arith, was, is, e);
@@ -146,8 +127,8 @@ module _ (start : Beginning) (at : ℕ) (divides : 4096 / start.shelves * start.
       let less = fewer (λ key. number_of start.hash_of key == n) f.items f'.items (purged_within m g) in
       dite (ℕ_discrete (n % start.shelves) at)
       (λ own.
-      let old = own_before start at (4096 / start.shelves) divides m (next start m what) f f' g.1.0 g.0 g.1.1 n own in
-      let new = own_after start at (4096 / start.shelves) divides m (next start m what) f f' g.1.0 g.0 g.1.1 n own in
+      let old = own_at start at (4096 / start.shelves) divides m f g.0 n own in
+      let new = own_at start at (4096 / start.shelves) divides (next start m what) f' g.1.1.own n own in
       omega (arith, was, less, old, new))
       (λ other.
       let none = off_shelf m g.0 n other in

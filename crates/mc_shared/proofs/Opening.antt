@@ -1,29 +1,13 @@
 -- The rule at the start.
 use Rattle.std.proofs.Common.{◌≡◌, ◌⊎◌, ℕ, zero, suc, ◌+◌, ◌*◌, ◌/◌, ◌≤◌, ◌<◌, set, length-set, get_or-set_other, get_or-set_same, Some, List, [], ◌∷◌, ◌++◌, length, map}
-use Rattle.std.proofs.Common.{replicate, get_or, slice_get, sym, refl, ap, ◌∙◌, subst, inl, inr, ⊎_elim, arith}
-use mathlib.Core.Logic.{dite}
-use native.Mathlib.Decide.{ℕ_discrete}
-use mathlib.Core.Option.{some, some-injective, some-ne-none}
-use lib.ListN.{get_elem?}
-use Rattle.atomic_table.specs.Table.{opening}
-use Rattle.mc_shelf.specs.States.{ShelfState, DeskState}
-use Rattle.mc_shelf.specs.Parts.{ArePartsOf}
-use Rattle.mc_shared.specs.declared.bay.Bay.TheVariants.{Shelf, Desk}
-use Rattle.mc_shared.specs.History.{Beginning, Name, start_of}
-use Rattle.mc_shared.specs.View.{SeatView, starting}
-use Rattle.mc_shared.specs.Past.{Sound, Lives, spent}
-use Rattle.mc_shared.specs.Past as past
-use Rattle.mc_shared.specs.Rule.{AllFit, Kept, AreFirst, AreFilled, named}
-use Rattle.mc_shared.specs.Steps.{Slot}
-use Rattle.mc_shared.specs.Bays.{place}
-use Rattle.mc_shared.specs.Store.{shelf_slot, desk_slot, slot_alone, spaced}
-use Rattle.mc_shared.specs.Presence.{word_of, words_with}
-use Rattle.mc_shared.specs.Counted.{AreAllOf, AreCountsOfAll}
+use Rattle.std.proofs.Common.{get_or, slice_get, sym, refl, ap, ◌∙◌, subst, inl, inr, ⊎_elim, arith}
+use Rattle.mc_shared.proofs.Words.{dite, ℕ_discrete, some, some-injective, some-ne-none, get_elem?, opening, ShelfState, DeskState, ArePartsOf, Shelf, Desk, Beginning}
+use Rattle.mc_shared.proofs.Words.{Name, start_of, SeatView, starting, Sound, Lives, spent, AllFit, Kept, AreFirst, AreFilled, named, Slot, place, shelf_slot, spaced}
+use Rattle.mc_shared.proofs.Words.{word_of, words_with, AreAllOf, AreCountsOfAll, TableId, StoreState, IsTableOf}
+use Rattle.mc_shared.specs.Store.{desk_slot, slot_alone}
 use Rattle.mc_shared.proofs.WordLemmas.{words_apart, word_behind, word_inside, bays_inside}
-use Rattle.atomic_table.specs.Seated.{TableId}
-use Rattle.mc_shelf.specs.Stores.{StoreState}
-use Rattle.mc_shared.specs.Seats.{IsTableOf}
 use Rattle.mc_shared.proofs.NamedKept.{sound_start}
+use Rattle.mc_shared.specs.Past as past
 
 only : (P : SeatView → Type 0) → P starting → (id : ℕ) (v : SeatView) → get_elem? (starting ∷ []) id ≡ some v → P v
 only P h zero v e = subst P (some-injective starting v e) h
@@ -32,15 +16,6 @@ only P h (suc id) v e = absurd (some-ne-none v (sym e))
 first_once : (c : Name) → past.times c ([] ∷ []) + 0 ≤ 1
 first_once [] = omega arith
 first_once (x ∷ c) = omega arith
-
-free_word : (n b : ℕ) → ◌≡◌ {A = ℕ} (get_or (replicate n 0) b 0) 0
-free_word zero b = refl
-free_word (suc n) zero = refl
-free_word (suc n) (suc b) = free_word n b
-
-long : (A : Type 0) (n : ℕ) (x : A) → length (replicate n x) ≡ n
-long A zero x = refl
-long A (suc n) x = ap suc (long A n x)
 
 abbrev slots : List ShelfState → DeskState → List Slot
 slots shelves desk = spaced (map {A = ShelfState} shelf_slot shelves) ++ slot_alone (desk_slot desk)
@@ -96,13 +71,6 @@ opens began shelves desk parts words first = record {
 }
 
 -- the words of numbers are set, one after another
-pub none_filled : (shelves : ℕ) (counts : List ℕ) → AreFilled shelves (replicate (words_with shelves) 0) counts 0
-none_filled shelves counts = record {
-  long = long ℕ (words_with shelves) 0;
-  free = λ b l. free_word (words_with shelves) (place b);
-  counts_set = λ n low _. absurd (omega (arith, low));
-}
-
 pub fills_one : (shelves : ℕ) (words counts : List ℕ) (number at c : ℕ) → 4096 / shelves * shelves ≡ 4096 → number < 4096
     → AreFilled shelves words counts number → at ≡ word_of shelves number → c ≡ get_or counts number 0
     → AreFilled shelves (set words at c) counts (number + 1)

@@ -1,26 +1,14 @@
 -- What keeps the presence words in step with the keys.
-use Rattle.std.proofs.Common.{◌≡◌, ◌≢◌, ℕ, ◌+◌, ◌%◌, ◌≤◌, ◌<◌, List, [], ◌∷◌, ◌++◌, length, replicate, get_or, set, cond, eqb, sym, refl, ap, ◌∙◌, subst, ⊎_elim, arith, get_or-set_other}
-use Rattle.std.proofs.Common.{get_or-set_same, eq-eqb, ne_eqb}
-use mathlib.Core.Logic.{dite}
-use mathlib.Core.Option.{some}
-use mathlib.Core.Option as maybe
-use native.Mathlib.Decide.{ℕ_discrete}
-use lib.ListN.{get_elem?}
-use Rattle.atomic_table.proofs.Lists.{at_set, at_snoc}
-use Rattle.mc_command.specs.Plain.{Plain}
-use Rattle.mc_shared.specs.declared.bay.Bay.{Bay}
-use Rattle.mc_shared.specs.Bays.{place}
-use Rattle.mc_shared.specs.Sums.{total}
-use Rattle.mc_shelf.specs.Numbers.{keys_with}
-use Rattle.mc_shared.specs.Presence.{word_of}
-use Rattle.mc_shared.specs.History.{Beginning, HistoryEntry}
-use Rattle.mc_shared.specs.Past.{name_of, Lives, Whole}
-use Rattle.mc_shared.specs.View.{SeatView}
-use Rattle.mc_shared.specs.Rule.{holds_bay, times, named, IsHeldWord, Present, Stocked, Story, Named}
-use Rattle.mc_shared.proofs.Sums.{sum_set, sum_two, total-append}
+use Rattle.std.proofs.Common.{◌≡◌, ◌≢◌, ℕ, ◌+◌, ◌%◌, ◌≤◌, ◌<◌, List, [], ◌∷◌, ◌++◌, length, replicate, get_or, set, cond, eqb, sym, refl, ap, ◌∙◌, subst, ⊎_elim, arith}
+use Rattle.std.proofs.Common.{get_or-set_other, get_or-set_same, eq-eqb, ne_eqb}
+use Rattle.mc_shared.proofs.Words.{dite, some, ℕ_discrete, get_elem?, Plain, Bay, place, total, keys_with, word_of, Beginning, HistoryEntry, name_of, Lives, Whole}
+use Rattle.mc_shared.proofs.Words.{SeatView, holds_bay, times, named, Present, Stocked, Story, Named}
+use Rattle.mc_shared.specs.Rule.{IsHeldWord}
+use Rattle.mc_shared.proofs.Sums.{sum_set, sum_two, total-append, each_set, each_snoc}
 use Rattle.mc_shared.proofs.NamedKept.{total_zero, total_one, alone}
 use Rattle.mc_shared.proofs.WordLemmas.{words_apart, word_behind}
-use Rattle.mc_shared.proofs.NumberSteps.{named_so, named_not}
+use Rattle.mc_shared.proofs.NumberSteps.{named_so, named_not, bare_names}
+use mathlib.Core.Option as maybe
 
 -- who holds no bay names no word
 pub names_none : (start : Beginning) (m : Plain) (words : List ℕ) (views : List SeatView) (id : ℕ) (v : SeatView) (word : ℕ) → Present start m words views
@@ -28,10 +16,6 @@ pub names_none : (start : Beginning) (m : Plain) (words : List ℕ) (views : Lis
 names_none start m words views id v word p at bare = dite (ℕ_discrete (named word v) 0) (λ z. z)
     (λ ne. let own = p.owned id v word at (omega (arith, ne)) in let held = own.held in let none : times (own.number % start.shelves) v ≡ 0 =
     ap (total (holds_bay (own.number % start.shelves))) bare in absurd (omega (arith, held, none)))
-
--- nor does one whose surplus is nothing
-pub bare_names : (v : SeatView) (word : ℕ) → v.surplus ≡ [] → named word v ≡ 0
-bare_names v word bare = ap (total (λ x. cond (eqb word x) 1 0)) bare
 
 -- a word of a bay may change
 pub held_more : (start : Beginning) (v w : SeatView) (word : ℕ) → ((c : ℕ) → times c v ≤ times c w) → IsHeldWord start v word → IsHeldWord start w word
@@ -47,8 +31,7 @@ pub present_step : (start : Beginning) (m m' : Plain) (words words' : List ℕ) 
 present_step start m m' words words' views id v w p at moves owns = record {
   divides = p.divides;
   counts = λ n l. let c = p.counts n l in let t = sum_set (named (word_of start.shelves n)) views id v w at in let e = moves n l in omega (arith, c, t, e);
-  owned = λ j u word e has. ⊎_elim (λ (t : (j ≡ id) × (w ≡ u)). subst (λ (z : SeatView). IsHeldWord start z word) t.1 (owns word (subst (λ (z : SeatView). 1 ≤ named word z) (sym t.1) has)))
-      (λ (t : (j ≢ id) × (get_elem? views j ≡ some u)). p.owned j u word t.1 has) (at_set views id j w u e);
+  owned = λ j u word e. each_set (λ (z : SeatView). (x : ℕ) → 1 ≤ named x z → IsHeldWord start z x) views id w (λ i y a x. p.owned i y x a) owns j u e word;
 }
 
 -- the words of bays are others
@@ -84,8 +67,8 @@ pub present_snoc : (start : Beginning) (m : Plain) (words : List ℕ) (views : L
 present_snoc start m words views u p bare = record {
   divides = p.divides;
   counts = λ n l. let c = p.counts n l in let e = bare_names u (word_of start.shelves n) bare in omega (arith, c, e, total-append (named (word_of start.shelves n)) views (u ∷ []));
-  owned = λ j x word e has. ⊎_elim (λ (a : get_elem? views j ≡ some x). p.owned j x word a has)
-      (λ (a : u ≡ x). absurd (let z : named word x ≡ 0 = subst (λ (y : SeatView). named word y ≡ 0) a (bare_names u word bare) in omega (arith, z, has))) (at_snoc views u x j e);
+  owned = λ j x word e. each_snoc (λ (z : SeatView). (y : ℕ) → 1 ≤ named y z → IsHeldWord start z y) views u (λ i z a y. p.owned i z y a)
+      (λ y has. absurd (let z = bare_names u y bare in omega (arith, z, has))) j x e word;
 }
 
 -- a seat that holds nothing goes

@@ -5,17 +5,17 @@ use mir.Syntax.{Sym, Lifetime}
 use base.Fml.{Lft}
 use denote.Ref.{ShrRef}
 use denote.RattleType.{RattleType}
+use denote.Param.Send.{IsSend, IsSync, AllSend, recorded_send, recorded_sync, struct_send, struct_sync, shr_send, view_sync, sendable}
+use Rattle.mc_slab.proofs.Sent.{chunks_send}
+use Rattle.mc_hop.specs.declared.hash.KeyHash.{Ghosts}
 use denote.Struct.Declared as struct
 use denote.Struct.Tuple as tuple
-use denote.Param.Send.{IsSend, IsSync, AllSend, recorded_send, recorded_sync, struct_send, struct_sync, shr_send, view_sync, sendable}
 use Rattle.std.proofs.Crossing as crossing
 use Rattle.std.specs.contracts.alloc.Global as heap
 use Rattle.std.proofs.alloc.Global.TheSendSync as heaps
 use Rattle.atomic_table.proofs.shared.Shared.TheSendSync as board
 use Rattle.atomic_table.proofs.owned.Table.TheSendSync as table
 use Rattle.atomic_table.proofs.shared.Seat.TheSendSync as seat
-use Rattle.mc_slab.proofs.Sent.{chunks_send}
-use Rattle.mc_hop.specs.declared.hash.KeyHash.{Ghosts}
 use Rattle.mc_shelf.specs.contracts.shelf.Shelf as shelf
 use Rattle.mc_shelf.specs.contracts.desk.Desk as desk
 use Rattle.mc_shared.proofs.boxed.Boxed.TheSendSync as boxed

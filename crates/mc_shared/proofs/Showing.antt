@@ -1,10 +1,6 @@
 -- What a number's word tells of a key.
 use Rattle.std.proofs.Common.{◌≡◌, ◌==◌, ℕ, eqb, List, [], eq-eqb}
-use Rattle.mc_shelf.specs.Numbers.{number_of}
-use Rattle.mc_shared.specs.History.{Beginning, after}
-use Rattle.mc_shared.specs.View.{SeatView}
-use Rattle.mc_shared.specs.Steps.{Shows}
-use Rattle.mc_shared.specs.Store.{IsShown}
+use Rattle.mc_shared.proofs.Words.{number_of, Beginning, after, SeatView, Shows, IsShown}
 use Rattle.mc_shared.proofs.NumberLemmas.{count_none, none_counted}
 use Rattle.mc_shared.proofs.NumberSteps.{eqb_true}
 

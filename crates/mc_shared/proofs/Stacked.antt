@@ -1,25 +1,12 @@
 -- Held shelves, and the step that changes them all.
-use Rattle.std.proofs.Common.{◌≡◌, ◌==◌, Bool, true, false, ℕ, zero, suc, ◌+◌, ◌≤◌, ◌<◌, None, Some, List, [], ◌∷◌, ◌++◌, length, slice_get, sym, refl, ap, ◌∙◌, subst, arith}
-use Rattle.atomic_table.specs.Table.{rest}
+use Rattle.std.proofs.Common.{◌≡◌, ◌==◌, Bool, true, false, ℕ, zero, suc, ◌+◌, ◌≤◌, ◌<◌, None, Some, List, [], ◌∷◌, ◌++◌, length, slice_get, sym, refl, ap, ◌∙◌, subst}
+use Rattle.std.proofs.Common.{arith}
+use Rattle.mc_shared.proofs.Words.{rest, empty, moment_named, Plain, flushed, living, Flush, Flushed, ShelfState, DeskState, IsShelfOf, ArePartsOf, Bay, Content, OfShelf}
+use Rattle.mc_shared.proofs.Words.{OfDesk, content_of, place, total, Beginning, Operation, Stepped, after, Fits, AllFit, KeepsLimits, holds_bay, Past, KeptBy, SeatView}
+use Rattle.mc_shared.proofs.Words.{Slot, Mine, HasTaken, HoldsThis, without, holding, decided_by, loaded, Fitted, Decides, stacked, holds_all}
 use Rattle.std.specs.Prelude.{if◌then◌else◌, take, drop}
 use Rattle.std.proofs.Math.Seq.{take-append_seam}
-use Rattle.std.specs.FinMap.{empty}
-use Rattle.mc_time.specs.Death.{moment_named}
-use Rattle.mc_command.specs.Plain.{Plain, flushed, living}
-use Rattle.mc_command.specs.declared.step.KeyStep.TheVariants.{Flush}
-use Rattle.mc_command.specs.declared.reply.Reply.TheVariants.{Flushed}
-use Rattle.mc_shelf.specs.States.{ShelfState, DeskState}
-use Rattle.mc_shelf.specs.Parts.{IsShelfOf, ArePartsOf}
-use Rattle.mc_shared.specs.declared.bay.Bay.{Bay}
-use Rattle.mc_shared.specs.Bays.{Content, OfShelf, OfDesk, content_of, place}
-use Rattle.mc_shared.specs.Sums.{total}
-use Rattle.mc_shared.specs.History.{Beginning, Operation, Stepped, after}
-use Rattle.mc_shared.specs.Rule.{Fits, AllFit, KeepsLimits, holds_bay}
-use Rattle.mc_shared.specs.Past.{Past}
-use Rattle.mc_shared.specs.View.{SeatView}
-use Rattle.mc_shared.specs.Steps.{Slot, Mine, HasTaken, HoldsThis, without, holding, decided_by, loaded, Fitted, Decides}
-use Rattle.mc_shared.specs.Stacks.{stacked_on, stacked, hollow, holds_all}
-use Rattle.mc_shared.specs.Past.{KeptBy}
+use Rattle.mc_shared.specs.Stacks.{stacked_on, hollow}
 use Rattle.mc_shared.specs.Close.{Gathered}
 use Rattle.mc_shared.proofs.StockedKept.{here, elsewhere}
 
@@ -96,18 +83,17 @@ none_else began m xs d c (OfDesk k) all none fits = let one : holds_bay c (began
 
 -- a flush leaves the greatest charge and the limit, at once or later
 flushed_limits : (began : Beginning) (m : Plain) (delay now : ℕ) → KeepsLimits began m → KeepsLimits began (flushed delay m now)
-flushed_limits began m delay now keeps = record {
-  greatest = either_greatest (delay == 0) m (record m { items = empty; cut = None }) (record m { items = living m.items m.cut now; cut = Some (moment_named delay now) }) refl refl ∙ keeps.greatest;
-  limit = either_limit (delay == 0) m (record m { items = empty; cut = None }) (record m { items = living m.items m.cut now; cut = Some (moment_named delay now) }) refl refl ∙ keeps.limit;
-}
+flushed_limits began m delay now keeps = record { greatest = either (delay == 0) (λ p. p.greatest) refl refl ∙ keeps.greatest; limit = either (delay == 0) (λ p. p.limit) refl refl ∙ keeps.limit }
   where
-    either_greatest : (now : Bool) (m a b : Plain) → a.greatest ≡ m.greatest → b.greatest ≡ m.greatest → (if now then a else b).greatest ≡ m.greatest
-    either_greatest true m a b e d = e
-    either_greatest false m a b e d = d
+    at_once : Plain
+    at_once = record m { items = empty; cut = None }
 
-    either_limit : (now : Bool) (m a b : Plain) → a.limit ≡ m.limit → b.limit ≡ m.limit → (if now then a else b).limit ≡ m.limit
-    either_limit true m a b e d = e
-    either_limit false m a b e d = d
+    later : Plain
+    later = record m { items = living m.items m.cut now; cut = Some (moment_named delay now) }
+
+    either : (b : Bool) (f : Plain → ℕ) → f at_once ≡ f m → f later ≡ f m → f (if b then at_once else later) ≡ f m
+    either true f e d = e
+    either false f e d = d
 
 -- with all shelves held, the desk decides a flush
 pub flushes : (began : Beginning) (xs ys : List ShelfState) (d d' : DeskState) (delay now : ℕ) → length xs ≡ began.shelves → 0 < began.shelves → length ys ≡ length xs

@@ -1,39 +1,23 @@
 -- Each atomic step keeps the rule.
-use Rattle.std.proofs.Common.{◌≡◌, ◌≢◌, ◌==◌, ℕ, zero, suc, ◌+◌, ◌-◌, ◌%◌, ◌^◌, ◌≤◌, ◌<◌, true, cond, eq-eqb, ◌∙◌, None, Some, List, [], ◌∷◌, ◌++◌, length, drop, replicate, get_or, set, eqb, sym}
-use Rattle.std.proofs.Common.{refl, ap, subst, inl, inr, ⊎_elim, arith}
-use mathlib.Core.Logic.{dite}
-use native.Mathlib.Decide.{ℕ_discrete}
-use mathlib.Core.Option.{none, some, some-ne-none}
-use mathlib.Core.Option as maybe
-use lib.ListN.{get_elem?}
+use Rattle.std.proofs.Common.{◌≡◌, ◌≢◌, ◌==◌, ℕ, zero, suc, ◌+◌, ◌-◌, ◌%◌, ◌^◌, ◌≤◌, ◌<◌, cond, eq-eqb, ◌∙◌, None, Some, List, [], ◌∷◌, ◌++◌, length, drop, replicate}
+use Rattle.std.proofs.Common.{get_or, set, eqb, sym, refl, ap, subst, inl, inr, ⊎_elim, arith}
+use Rattle.mc_shared.proofs.Words.{dite, ℕ_discrete, none, some, some-ne-none, get_elem?, either, get, Plain, Items, Answered, alive, changed, plain, row_of}
+use Rattle.mc_shared.proofs.Words.{without_dead, Read, Miss, step, Allows, rest, at_set, set_here, Bay, Shelf, Desk, Content, content_of, place, total, Beginning}
+use Rattle.mc_shared.proofs.Words.{HistoryEntry, Operation, Stepped, after, next, left_by, name_of, Lives, Whole, SeatView, Fits, AllFit, holds_bay, times, named, Story}
+use Rattle.mc_shared.proofs.Words.{Named, Stocked, Present, Kept, Slot, Mine, holding, entry_of, without, decided_by, Agrees, took, gave, decided, reloaded, added}
+use Rattle.mc_shared.proofs.Words.{counted, sought, Shows, MayAdd, MayCount, Decides, Counts, next_name, newcomer, met, number_of, keys_with, word_of}
 use lib.Seq.{set-get_or}
-use prog.Atomic.{either}
-use Rattle.std.specs.FinMap.{get}
-use Rattle.mc_command.specs.Plain.{Plain, Items, Answered, alive, changed, plain, row_of, without_dead}
-use Rattle.mc_command.specs.declared.step.KeyStep.TheVariants.{Read}
-use Rattle.mc_command.specs.declared.reply.Reply.TheVariants.{Miss}
 use Rattle.mc_shared.proofs.Sums.{sum_one, total-append}
-use Rattle.atomic_table.specs.Table.{State, Act, keeps, takes, gives, step, stepped, carried_after, Valid, Allows, Splits, Joins, rest}
-use Rattle.atomic_table.proofs.Lists.{at_set, set_here, set_again, exchanged}
-use Rattle.mc_shared.specs.declared.bay.Bay.{Bay}
-use Rattle.mc_shared.specs.declared.bay.Bay.TheVariants.{Shelf, Desk}
-use Rattle.mc_shared.specs.Bays.{Content, content_of, place}
-use Rattle.mc_shared.specs.Sums.{total}
-use Rattle.mc_shared.specs.History.{Beginning, HistoryEntry, Operation, Stepped, after, next, left_by}
-use Rattle.mc_shared.specs.Past.{name_of, Lives, Whole}
-use Rattle.mc_shared.specs.View.{SeatView}
-use Rattle.mc_shared.specs.Rule.{Fits, AllFit, holds_bay, times, named, Story, Named, Stocked, Present, Kept}
-use Rattle.mc_shared.specs.Steps.{Slot, Mine, IsAt, holding, entry_of, without, decided_by, called, Agrees, took, gave, decided, reloaded, added, lowered, counted, sought, Shows}
-use Rattle.mc_shared.specs.Steps.{MayAdd, MayCount, Decides, Counts, next_name, maker, newcomer, met, gone}
-use Rattle.mc_shelf.specs.Numbers.{number_of, keys_with}
-use Rattle.mc_shared.specs.Presence.{word_of}
+use Rattle.atomic_table.specs.Table.{State, Act, keeps, takes, gives, stepped, carried_after, Valid, Splits, Joins}
+use Rattle.atomic_table.proofs.Lists.{set_again, exchanged}
+use Rattle.mc_shared.specs.Steps.{IsAt, called, lowered, maker, gone}
 use Rattle.mc_shared.proofs.StoryKept.{after_snoc, story_same, story_call, story_made, story_both}
 use Rattle.mc_shared.proofs.NamedKept.{total_one, alone, kept_by, named_same, named_call, named_made, named_both}
 use Rattle.mc_shared.proofs.StockedKept.{stocked_take, stocked_give, stocked_same, stocked_snoc, stocked_word, held_word, inside}
 use Rattle.mc_shared.proofs.WordLemmas.{word_behind, word_inside}
-use Rattle.mc_shared.proofs.PresentKept.{bare_names, present_take, present_give, present_same, present_snoc, present_gone, present_raised, present_lowered, named_here, named_by_none}
+use Rattle.mc_shared.proofs.PresentKept.{present_take, present_give, present_same, present_snoc, present_gone, present_raised, present_lowered, named_here, named_by_none}
 use Rattle.mc_shared.proofs.NumberLemmas.{nothing_out, none_counted}
-use Rattle.mc_shared.proofs.NumberSteps.{named_so, keys_alike}
+use Rattle.mc_shared.proofs.NumberSteps.{named_so, keys_alike, bare_names}
 
 pub at_home : (began : Beginning) (m : Plain) (b : ℕ) (x : Bay) → Fits began m b (content_of x) → IsAt began.shelves b x
 at_home began m b (Shelf f) h = h.0
@@ -46,6 +30,12 @@ get_below : (views : List SeatView) (id : ℕ) (v : SeatView) → get_elem? view
 get_below [] id v e = absurd (some-ne-none v (sym e))
 get_below (x ∷ xs) zero v e = omega arith
 get_below (x ∷ xs) (suc id) v e = let l = get_below xs id v e in omega (arith, l)
+
+-- a word was read
+still : (began : Beginning) (s : State Slot SeatView) (id i : ℕ) (v : SeatView) → get_elem? s.views id ≡ some v → Kept began s
+    → Kept began record { words = set s.words i (get_or s.words i 0); homes = s.homes; views = set s.views id v }
+still began s id i v at = subst (λ (z : List ℕ × List SeatView). Kept began record { words = z.0; homes = s.homes; views = z.1 })
+    (λ j. (sym (set-get_or s.words i 0) j, sym (set_again s.views id v at) j))
 
 -- where the past is whole, a bay that is taken is held by this seat
 pub whole_holds : (began : Beginning) (s : State Slot SeatView) (k : Kept began s) (id : ℕ) (v : SeatView) → get_elem? s.views id ≡ some v → Whole v.past
@@ -90,16 +80,8 @@ takes_bay began slots id b me l lives s k deep at small = let n : ℕ = get_or s
         (λ ne. absurd (ne free)),
       ),
     ))
-    (λ busy. let low = k.stocked.low b l in (
-      v,
-      keeps,
-      tt,
-      subst (λ (z : List ℕ × List SeatView). Kept began record { words = z.0; homes = s.homes; views = z.1 }) (λ i. (sym (set-get_or s.words (place b) 0) i, sym (set_again s.views id v at) i)) k,
-      ((λ free. absurd (busy free)), (λ ne. (omega (arith, low, ne), refl, λ whole. whole_holds began s k id v at whole b l ne, agrees began k.log s.views id v k.story k.named at))),
-    ))
-
-abbrev Home : Type 0
-Home = List (maybe.Option Slot)
+    (λ busy. let low = k.stocked.low b l in let agreed = agrees began k.log s.views id v k.story k.named at in
+    (v, keeps, tt, still began s id (place b) v at k, ((λ free. absurd (busy free)), (λ ne. (omega (arith, low, ne), refl, λ whole. whole_holds began s k id v at whole b l ne, agreed)))))
 
 -- A bay is given back, and nothing is decided
 pub gives_bay : (began : Beginning) (slots id b : ℕ) (x : Bay) (me : Mine) → me.0.bays ≡ (b, content_of x) ∷ rest me.0.bays → me.1 ≡ (place b, Some x) ∷ rest me.1 → me.0.surplus ≡ []
@@ -184,13 +166,7 @@ joins_seats began id other v o bare s k at ne far = let w : SeatView = met v o i
 
 -- a load that changes nothing, and tells that a history keeps the past
 pub reloads : (began : Beginning) (slots id b : ℕ) (me : Mine) → Allows (Kept began) slots id me b (λ n. n) (reloaded began (step slots b 0 0 none) me)
-reloads began slots id b me s k deep at small = (
-  me.0,
-  keeps,
-  tt,
-  subst (λ (z : List ℕ × List SeatView). Kept began record { words = z.0; homes = s.homes; views = z.1 }) (λ i. (sym (set-get_or s.words b 0) i, sym (set_again s.views id me.0 at) i)) k,
-  (refl, agrees began k.log s.views id me.0 k.story k.named at),
-)
+reloads began slots id b me s k deep at small = (me.0, keeps, tt, still began s id b me.0 at k, (refl, agrees began k.log s.views id me.0 k.story k.named at))
 
 -- ---- the words of numbers
 
@@ -199,9 +175,6 @@ misses : (m : Plain) (key : List ℕ) (now : ℕ) → get m.items key ≡ None �
 misses m key now is =
     ap (λ item. changed (row_of (Read key) now item) (Read key) item (without_dead item key m) now) (ap (alive m.cut now) is)
     ∙ ap (λ (items : Items). Answered Miss (record m { items = items })) (nothing_out m.items key is)
-
-passes : (hash_of : List ℕ → ℕ) (key : List ℕ) (number : ℕ) → number_of hash_of key ≡ number → eqb (number_of hash_of key) number ≡ true
-passes hash_of key number is = eq-eqb (number_of hash_of key) number is
 
 -- one is added to a word
 pub adds_one : (began : Beginning) (slots id n : ℕ) (me : Mine) → MayAdd began me.0 n
@@ -278,13 +251,8 @@ counts_keys began slots id n me may s k deep at small = let v : SeatView = me.0 
     let counts : c ≡ keys_with began.hash_of n m.items + total (named word) s.views = k.present.counts n may.below in
     let here : total (named word) s.views ≡ named word v = named_here began m s.words s.homes s.views id v n k.present k.stocked at may.below may.inside may.held in
     let bare : named word v ≡ 0 = bare_names v word may.bare in
-    let is : c ≡ keys_with began.hash_of n m.items = omega (arith, counts, here, bare) in (
-      v,
-      keeps,
-      tt,
-      subst (λ (z : List ℕ × List SeatView). Kept began record { words = z.0; homes = s.homes; views = z.1 }) (λ i. (sym (set-get_or s.words word 0) i, sym (set_again s.views id v at) i)) k,
-      (refl, λ other fits. is ∙ keys_alike began k.present.divides n may.inside m other v.bays may.held (k.stocked.out id v at) fits),
-    )
+    let is : c ≡ keys_with began.hash_of n m.items = omega (arith, counts, here, bare) in
+    (v, keeps, tt, still began s id word v at k, (refl, λ other fits. is ∙ keys_alike began k.present.divides n may.inside m other v.bays may.held (k.stocked.out id v at) fits))
 
 -- a key is sought by its number's word
 pub seeks : (began : Beginning) (slots id : ℕ) (key : List ℕ) (now n : ℕ) (me : Mine) → n < 4096 → number_of began.hash_of key ≡ n → Lives me.0.past
@@ -301,7 +269,7 @@ seeks began slots id key now n me low is lives s k deep at small = let v : SeatV
     } in
     dite (ℕ_discrete c 0)
     (λ zero. let d : Operation = Stepped (Read key) now Miss in let e : HistoryEntry = entry_of v.past d in let w : SeatView = (called me d).0 in
-    let gone : get m.items key ≡ None = none_counted (λ q. number_of began.hash_of q == n) m.items (omega (arith, counts, zero)) key (passes began.hash_of key n is) in
+    let gone : get m.items key ≡ None = none_counted (λ q. number_of began.hash_of q == n) m.items (omega (arith, counts, zero)) key (eq-eqb (number_of began.hash_of key) n is) in
     let miss : plain m (Read key) now ≡ Answered Miss m = misses m key now gone in
     let stays : next began m d ≡ m = ap (left_by m) miss in
     let then : after began began.plain (k.log ++ e ∷ []) ≡ m = after_snoc began began.plain k.log e ∙ stays in
@@ -319,10 +287,4 @@ seeks began slots id key now n me low is lives s k deep at small = let v : SeatV
       },
       ((λ _. (refl, agrees began (k.log ++ e ∷ []) (set s.views id w) id w story named (set_here s.views id w (get_below s.views id v at)))), (λ some_has. absurd (some_has zero)), shows),
     ))
-    (λ some_has. (
-      v,
-      keeps,
-      tt,
-      subst (λ (z : List ℕ × List SeatView). Kept began record { words = z.0; homes = s.homes; views = z.1 }) (λ i. (sym (set-get_or s.words word 0) i, sym (set_again s.views id v at) i)) k,
-      ((λ zero. absurd (some_has zero)), (λ _. refl), shows),
-    ))
+    (λ some_has. (v, keeps, tt, still began s id word v at k, ((λ zero. absurd (some_has zero)), (λ _. refl), shows)))

@@ -1,21 +1,12 @@
 -- What keeps the bays in step with the items.
-use Rattle.std.proofs.Common.{◌≡◌, ◌≢◌, ℕ, ◌+◌, ◌≤◌, ◌<◌, Option, Some, List, [], ◌∷◌, ◌++◌, length, get_or, set, cond, sym, refl, ap, ◌∙◌, subst, ⊎_elim, arith, length-set}
-use Rattle.std.proofs.Common.{get_or-set_other, get_or-set_same, eq-eqb, ne_eqb}
-use mathlib.Core.Logic.{dite}
-use mathlib.Core.Option.{none, some}
-use mathlib.Core.Option as maybe
-use native.Mathlib.Decide.{ℕ_discrete}
-use lib.ListN.{get_elem?}
-use Rattle.atomic_table.proofs.Lists.{at_set, at_snoc, set_here, set_else}
-use Rattle.mc_shared.specs.declared.bay.Bay.{Bay}
-use Rattle.mc_shared.specs.Bays.{Content, OfShelf, OfDesk, content_of, place}
-use Rattle.mc_shared.specs.Sums.{total}
-use Rattle.mc_command.specs.Plain.{Plain}
-use Rattle.mc_shared.specs.History.{Beginning}
-use Rattle.mc_shared.specs.View.{SeatView}
-use Rattle.mc_shared.specs.Rule.{Fits, AllFit, KeepsLimits, holds_bay, times, Stocked}
-use Rattle.mc_shared.proofs.Sums.{sum_set, sum_one, sum_two, total-append}
+use Rattle.std.proofs.Common.{◌≡◌, ◌≢◌, ℕ, ◌+◌, ◌≤◌, ◌<◌, Option, Some, List, [], ◌∷◌, ◌++◌, length, get_or, set, cond, sym, refl, ap, ◌∙◌, subst, ⊎_elim, arith}
+use Rattle.std.proofs.Common.{length-set, get_or-set_other, get_or-set_same, eq-eqb, ne_eqb}
+use Rattle.mc_shared.proofs.Words.{dite, none, some, ℕ_discrete, get_elem?, at_set, set_here, Bay, Content, OfShelf, OfDesk, content_of, place, total, Plain, Beginning}
+use Rattle.mc_shared.proofs.Words.{SeatView, Fits, AllFit, KeepsLimits, holds_bay, times, Stocked}
+use Rattle.atomic_table.proofs.Lists.{set_else}
+use Rattle.mc_shared.proofs.Sums.{sum_set, sum_one, sum_two, total-append, each_set, each_snoc}
 use Rattle.mc_shared.proofs.WordLemmas.{bays_inside}
+use mathlib.Core.Option as maybe
 
 pub here : (b : ℕ) (x : Content) → holds_bay b (b, x) ≡ 1
 here b x = ap (λ t. cond t 1 0) (eq-eqb b b refl)
@@ -72,8 +63,7 @@ stocked_take began m words homes views id b v w x s at l zero_here is fits = rec
       (λ ne. let was = s.home c lc (sym (get_or-set_other words (place b) (place c) 1 0 (places_apart c b ne)) ∙ free) in
       (was.0, set_else homes (place b) (place c) none (places_apart c b ne) ∙ was.1, was.2));
   limits = s.limits;
-  out = λ j u e. ⊎_elim (λ (t : (j ≡ id) × (w ≡ u)). subst (λ (z : SeatView). AllFit began m z.bays) t.1 (subst (AllFit began m) (sym is) (fits, s.out id v at)))
-      (λ (t : (j ≢ id) × (get_elem? views j ≡ some u)). s.out j u t.1) (at_set views id j w u e);
+  out = each_set (λ (z : SeatView). AllFit began m z.bays) views id w s.out (subst (AllFit began m) (sym is) (fits, s.out id v at));
 }
 
 -- a bay is given back, perhaps with a decision: the items are m' from then on
@@ -126,8 +116,7 @@ stocked_same began m words homes views id v w s at same = record {
   taken = λ c lc. let t = s.taken c lc in let moved = sum_set (times c) views id v w at in let e : times c w ≡ times c v = ap (total (holds_bay c)) same in omega (arith, t, moved, e);
   home = s.home;
   limits = s.limits;
-  out = λ j u e. ⊎_elim (λ (t : (j ≡ id) × (w ≡ u)). subst (λ (z : SeatView). AllFit began m z.bays) t.1 (subst (AllFit began m) (sym same) (s.out id v at)))
-      (λ (t : (j ≢ id) × (get_elem? views j ≡ some u)). s.out j u t.1) (at_set views id j w u e);
+  out = each_set (λ (z : SeatView). AllFit began m z.bays) views id w s.out (subst (AllFit began m) (sym same) (s.out id v at));
 }
 
 pub stocked_snoc : (began : Beginning) (m : Plain) (words : List ℕ) (homes : List (maybe.Option (Option Bay))) (views : List SeatView) (u : SeatView)
@@ -139,7 +128,7 @@ stocked_snoc began m words homes views u s bare = record {
   taken = λ c lc. let t = s.taken c lc in let e : times c u ≡ 0 = ap (total (holds_bay c)) bare in omega (arith, t, e, total-append (times c) views (u ∷ []));
   home = s.home;
   limits = s.limits;
-  out = λ j x e. ⊎_elim (s.out j x) (λ (a : u ≡ x). subst (λ (z : SeatView). AllFit began m z.bays) a (subst (AllFit began m) (sym bare) tt)) (at_snoc views u x j e);
+  out = each_snoc (λ (z : SeatView). AllFit began m z.bays) views u s.out (subst (AllFit began m) (sym bare) tt);
 }
 
 -- a word that is no bay's may change

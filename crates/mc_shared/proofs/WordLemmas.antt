@@ -1,7 +1,6 @@
 -- Where the words of numbers lie.
 use Rattle.std.proofs.Common.{◌≡◌, ℕ, zero, suc, ◌+◌, ◌*◌, ◌/◌, ◌%◌, ◌≤◌, ◌<◌, sym, refl, ◌∙◌, arith, div-add-mod'}
-use Rattle.std.proofs.lemmas.Nat.{same_from_place, div_below, mod_below, mul-add-lt}
-use Rattle.mc_shared.specs.Bays.{place}
+use Rattle.mc_shared.proofs.Words.{same_from_place, div_below, mod_below, mul-add-lt, place}
 use Rattle.mc_shared.specs.Presence.{word_of, words_with}
 
 -- a number that divides 4096 isn't 0

@@ -1,9 +1,5 @@
 use Rattle.std.proofs.Common.{rules, arith, ◌≡◌, length, sym, ap, subst, ◌∙◌, ◌∷◌}
-use Rattle.mc_shared.specs.Past.{Whole}
-use Rattle.mc_shared.specs.History.{start_of}
-use Rattle.mc_shared.specs.declared.bay.Bay.TheVariants.{Desk}
-use Rattle.mc_shared.specs.Bays.{content_of}
-use Rattle.mc_shared.specs.Steps.{holding}
+use Rattle.mc_shared.proofs.Words.{Whole, start_of, Desk, content_of, holding}
 use Rattle.mc_shared.proofs.Stacked.{not_held, gathered}
 use Rattle.mc_shared.proofs.close.gather.Goals as goal
 

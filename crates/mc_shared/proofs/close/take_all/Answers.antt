@@ -1,9 +1,5 @@
 use Rattle.std.proofs.Common.{rules, arith, ◌≡◌, length, sym, ap, subst, ◌∙◌, ◌∷◌, None}
-use Rattle.mc_shared.specs.Past.{Whole}
-use Rattle.mc_shared.specs.declared.bay.Bay.TheVariants.{Shelf}
-use Rattle.mc_shared.specs.Bays.{content_of, place}
-use Rattle.mc_shared.specs.Steps.{holding}
-use Rattle.mc_shared.specs.Stacks.{holds_all}
+use Rattle.mc_shared.proofs.Words.{Whole, Shelf, content_of, place, holding, holds_all}
 use Rattle.mc_shared.proofs.Stacked.{take_top, not_held}
 use Rattle.mc_shared.proofs.close.take_all.Goals as goal
 

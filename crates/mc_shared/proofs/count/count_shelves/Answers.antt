@@ -1,18 +1,14 @@
-use Rattle.std.proofs.Common.{rules, arith, ◌≡◌, ◌≤◌, length, Some, slice_get}
-use Rattle.mc_shared.proofs.CountLemmas.{next_places, counts_next, counts_all, there_at}
+use Rattle.std.proofs.Common.{rules, arith, ◌≤◌, length}
+use Rattle.mc_shared.proofs.CountLemmas.{next_places, counts_next, counts_all}
 use Rattle.mc_shared.proofs.count.count_shelves.Goals as goal
 
 pub count_numbers-requires : goal.count_numbers-requires
 count_numbers-requires c =
-    let is : slice_get c.args.shelves.now c.loop-shelf.shelf-index ≡ Some c.shelf-item.result =
-    there_at c.args.shelves.now c.loop-shelf.shelf-index c.shelf-item.result (search rules) c.shelf-item.is in
-    next_places c.requires.0 c.requires.1 c.args.shelves.now c.requires.2 c.loop-shelf.counts c.loop-shelf.shelf-index c.shelf-item.result is c.loop-shelf.invariant
+    next_places c.requires.0 c.requires.1 c.args.shelves.now c.requires.2 c.loop-shelf.counts c.loop-shelf.shelf-index c.shelf-item.result (search rules) c.shelf-item.is c.loop-shelf.invariant
 
 pub loop-shelf-preserved : goal.loop-shelf-preserved
 loop-shelf-preserved c =
-    let is : slice_get c.args.shelves.now c.loop-shelf.shelf-index ≡ Some c.shelf-item.result =
-    there_at c.args.shelves.now c.loop-shelf.shelf-index c.shelf-item.result (search rules) c.shelf-item.is in
-    counts_next _ c.loop-shelf.counts _ c.loop-shelf.shelf-index c.shelf-item.result is c.loop-shelf.invariant c.count_numbers.ensures
+    counts_next c.args.shelves.now c.loop-shelf.counts _ c.loop-shelf.shelf-index c.shelf-item.result (search rules) c.shelf-item.is c.loop-shelf.invariant c.count_numbers.ensures
 
 pub returns : goal.returns
 returns c =

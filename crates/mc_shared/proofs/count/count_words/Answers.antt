@@ -1,7 +1,6 @@
-use Rattle.std.proofs.Common.{rules, arith, ◌≤◌, ◌<◌, refl, sym, ◌∙◌, subst}
-use Rattle.mc_shared.specs.History.{start_of}
-use Rattle.mc_shared.specs.Steps.{Mine, MayCount, AreKeys}
-use Rattle.mc_shared.proofs.CountLemmas.{keys_next, long_set}
+use Rattle.std.proofs.Common.{rules, arith, ◌≤◌, ◌<◌, refl, sym, ◌∙◌, subst, length-set}
+use Rattle.mc_shared.proofs.Words.{start_of, Mine, MayCount, AreKeys}
+use Rattle.mc_shared.proofs.CountLemmas.{keys_next}
 use Rattle.mc_shared.proofs.count.count_words.Goals as goal
 
 pub loop-number-init : goal.loop-number-init
@@ -24,7 +23,7 @@ loop-number-preserved g c =
       c.count.ensures.seat.1 ∙ inv.1,
       c.count.ensures.same ∙ inv.2,
       omega (arith, low),
-      long_set c.loop-number.counts number c.count.result ∙ long,
+      length-set c.loop-number.counts number c.count.result ∙ long,
       keys_next began c.args.seat.now.me.0 c.loop-number.counts number c.count.result (omega (arith, low, long)) inv.5
           (subst (λ (m : Mine). AreKeys began m.0 number c.count.result) inv.2 c.count.ensures.keys),
     )

@@ -1,6 +1,5 @@
 use Rattle.std.proofs.Common.{◌≡◌, ◌≤◌, ◌<◌, ℕ, length, slice_index}
-use Rattle.mc_shared.specs.History.{start_of}
-use Rattle.mc_shared.specs.Steps.{AreKeys}
+use Rattle.mc_shared.proofs.Words.{start_of, AreKeys}
 use Rattle.mc_shared.proofs.count.count_words.Given as goal
 
 abbrev pub invariant-loop-number : goal.invariant-loop-number

@@ -1,7 +1,5 @@
 use Rattle.std.proofs.Common.{rules, arith, ◌≡◌, ◌+◌, ◌-◌, ◌≤◌, ◌<◌, ◌++◌, ℕ, replicate, slice_index, sym, ap, ◌∙◌}
-use Rattle.mc_shared.specs.Presence.{word_of}
-use Rattle.mc_shared.specs.Spread.{spread}
-use Rattle.mc_shared.specs.Steps.{loaded}
+use Rattle.mc_shared.proofs.Words.{word_of, spread, loaded}
 use Rattle.mc_shared.proofs.SpreadLemmas.{spread_next, spread_end}
 use Rattle.mc_shared.proofs.count.lower_words.Goals as goal
 

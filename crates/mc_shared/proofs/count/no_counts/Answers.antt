@@ -1,5 +1,7 @@
-use Rattle.mc_shared.proofs.CountLemmas.{zero_at, long_as}
+use Rattle.std.proofs.Common.{ℕ}
+use Rattle.std.proofs.lemmas.List.{length-replicate}
+use Rattle.mc_shared.proofs.CountLemmas.{zero_at}
 use Rattle.mc_shared.proofs.count.no_counts.Goals as goal
 
 pub returns : goal.returns
-returns c = record { many = long_as 4096; none = zero_at 4096 }
+returns c = record { many = length-replicate {A = ℕ} 4096 0; none = zero_at 4096 }

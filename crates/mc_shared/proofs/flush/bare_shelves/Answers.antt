@@ -1,8 +1,6 @@
 use Rattle.std.proofs.Common.{arith, ap, subst, sym}
-use Rattle.std.specs.List.{All}
+use Rattle.mc_shared.proofs.Words.{All, IsBare, ShelfContent}
 use Rattle.std.proofs.lemmas.List.Elements.{All-push}
-use Rattle.mc_shelf.specs.Bare.{IsBare}
-use Rattle.mc_shelf.specs.States.{ShelfContent}
 use Rattle.mc_shared.proofs.flush.bare_shelves.Goals as goal
 
 pub loop-preserved : goal.loop-preserved

@@ -1,7 +1,6 @@
 use Rattle.std.proofs.Common.{arith, [], ◌∷◌, ◌++◌, ap, ◌∙◌}
+use Rattle.mc_shared.proofs.Words.{slice_get-get_or, IsBare}
 use Rattle.std.proofs.lemmas.List.Elements.{All-pop}
-use Rattle.std.proofs.lemmas.Option.{slice_get-get_or}
-use Rattle.mc_shelf.specs.Bare.{IsBare}
 use Rattle.mc_shared.proofs.EmptyLemmas.{at_most_one, emptied_all, emptied_more}
 use Rattle.mc_shared.proofs.flush.empty_boxes.Goals as goal
 

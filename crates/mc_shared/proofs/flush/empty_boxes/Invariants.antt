@@ -1,6 +1,5 @@
 use Rattle.std.proofs.Common.{◌≡◌, ◌≤◌, ◌+◌, length, vec_len, vec_capacity}
-use Rattle.std.specs.List.{All}
-use Rattle.mc_shelf.specs.Bare.{IsBare}
+use Rattle.mc_shared.proofs.Words.{All, IsBare}
 use Rattle.mc_shared.proofs.EmptyLemmas.{AreEmptiedTo}
 use Rattle.mc_shared.proofs.flush.empty_boxes.Given as goal
 

@@ -1,5 +1,5 @@
 use Rattle.std.proofs.Common.{arith}
-use Rattle.std.proofs.lemmas.Option.{slice_get-get_or}
+use Rattle.mc_shared.proofs.Words.{slice_get-get_or}
 use Rattle.mc_shelf.proofs.FlushLemmas.{flushed_none, flushed_more, flushed_all, out_before}
 use Rattle.mc_shared.proofs.flush.flush_boxes.Goals as goal
 

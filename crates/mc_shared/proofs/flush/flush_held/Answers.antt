@@ -1,7 +1,5 @@
 use Rattle.std.proofs.Common.{◌≡◌, ℕ, sym, subst}
-use Rattle.std.specs.Prelude.{IfSome}
-use Rattle.mc_command.specs.Plain.{flushed}
-use Rattle.mc_shelf.specs.Parts.{ArePartsOf}
+use Rattle.mc_shared.proofs.Words.{IfSome, flushed, ArePartsOf}
 use Rattle.mc_shared.proofs.flush.flush_held.Goals as goal
 
 pub returns-in-Some-clause-parts : goal.returns-in-Some-clause-parts

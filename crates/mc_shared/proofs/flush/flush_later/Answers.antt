@@ -1,6 +1,5 @@
 use Rattle.std.proofs.Common.{List, sym, ◌∙◌, subst}
-use Rattle.mc_shelf.specs.States.{ShelfState}
-use Rattle.mc_shelf.specs.Parts.{ArePartsOf}
+use Rattle.mc_shared.proofs.Words.{ShelfState, ArePartsOf}
 use Rattle.mc_shared.proofs.Stacked.{written_back}
 use Rattle.mc_shared.proofs.flush.flush_later.Goals as goal
 

@@ -1,8 +1,5 @@
 use Rattle.std.proofs.Common.{rules, arith, ◌≡◌, sym, ap, ◌∙◌, ◌∷◌, None}
-use Rattle.mc_shared.specs.declared.bay.Bay.TheVariants.{Shelf}
-use Rattle.mc_shared.specs.Bays.{content_of, place}
-use Rattle.mc_shared.specs.Steps.{holding}
-use Rattle.mc_shared.specs.Stacks.{holds_all}
+use Rattle.mc_shared.proofs.Words.{Shelf, content_of, place, holding, holds_all}
 use Rattle.mc_shared.proofs.Stacked.{take_top}
 use Rattle.mc_shared.proofs.flush.hold_all.Goals as goal
 

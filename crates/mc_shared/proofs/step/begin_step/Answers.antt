@@ -1,9 +1,7 @@
 use Rattle.std.proofs.Common.{◌≡◌, ℕ, Err, ap, refl, subst, sym, ◌∙◌}
-use Rattle.mc_command.specs.Commands.{key_of}
-use Rattle.mc_command.specs.declared.step.StepFault.{StepFault}
-use Rattle.mc_command.specs.declared.step.StepFault.TheVariants.{NoMemory, NumbersSpent}
+use Rattle.mc_shared.proofs.Words.{key_of, StepFault, NoMemory, NumbersSpent, next_of, writes}
 use Rattle.mc_shelf.specs.declared.plan.Next.{Next}
-use Rattle.mc_shelf.specs.Plans.{NeedsPages, next_of, writes}
+use Rattle.mc_shelf.specs.Plans.{NeedsPages}
 use Rattle.mc_shelf.proofs.TakesLemmas.{is_spent}
 use Rattle.mc_shelf.proofs.RefusalLemmas.{can_wants, needs_can, writes_some}
 use Rattle.mc_shared.specs.declared.ask.Looked.{Looked}

@@ -1,4 +1,4 @@
-use Rattle.mc_shared.specs.History.{start_of}
+use Rattle.mc_shared.proofs.Words.{start_of}
 use Rattle.mc_shared.proofs.steps.count.Given as goal
 
 abbrev pub ghosts-count_as : goal.ghosts-count_as

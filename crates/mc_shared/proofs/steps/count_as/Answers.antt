@@ -1,10 +1,5 @@
 use Rattle.std.proofs.Common.{arith, sym, ap, subst, ℕ}
-use Rattle.atomic_table.specs.Table.{Allows, step}
-use mathlib.Core.Option.{none}
-use Rattle.mc_shared.specs.History.{Beginning}
-use Rattle.mc_shared.specs.Presence.{word_of}
-use Rattle.mc_shared.specs.Rule.{Kept}
-use Rattle.mc_shared.specs.Steps.{counted}
+use Rattle.mc_shared.proofs.Words.{Allows, step, none, Beginning, word_of, Kept, counted}
 use Rattle.mc_shared.proofs.StepsKept.{counts_keys}
 use Rattle.mc_shared.proofs.WordLemmas.{word_inside}
 use Rattle.mc_shared.proofs.steps.count_as.Goals as goal

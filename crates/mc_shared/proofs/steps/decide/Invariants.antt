@@ -1,4 +1,4 @@
-use Rattle.mc_shared.specs.History.{start_of}
+use Rattle.mc_shared.proofs.Words.{start_of}
 use Rattle.mc_shared.specs.Decisions.{operation_of, still_of, surplus_of}
 use Rattle.mc_shared.proofs.steps.decide.Given as goal
 

@@ -1,12 +1,5 @@
 use Rattle.std.proofs.Common.{rules, ℕ, eqb, sym, ap, ◌∙◌, subst, Some, ◌∷◌}
-use Rattle.atomic_table.specs.Table.{rest, Allows, step}
-use mathlib.Core.Option.{none}
-use prog.Atomic.{either}
-use Rattle.mc_shared.specs.History.{Beginning, start_of}
-use Rattle.mc_shared.specs.Past.{Lives}
-use Rattle.mc_shared.specs.Rule.{Kept}
-use Rattle.mc_shared.specs.Bays.{content_of}
-use Rattle.mc_shared.specs.Steps.{Mine, Decides, Counts, decided, decided_by}
+use Rattle.mc_shared.proofs.Words.{rest, Allows, step, none, either, Beginning, start_of, Lives, Kept, content_of, Mine, Decides, Counts, decided, decided_by}
 use Rattle.mc_shared.proofs.StepsKept.{decides_bay}
 use Rattle.mc_shared.proofs.steps.decide_as.Goals as goal
 

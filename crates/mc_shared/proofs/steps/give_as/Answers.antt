@@ -1,10 +1,5 @@
 use Rattle.std.proofs.Common.{rules, ℕ, sym, ap, ◌∙◌, subst, Some, ◌∷◌}
-use Rattle.atomic_table.specs.Table.{rest, Allows, step}
-use mathlib.Core.Option.{none}
-use Rattle.mc_shared.specs.History.{Beginning, start_of}
-use Rattle.mc_shared.specs.Rule.{Kept}
-use Rattle.mc_shared.specs.Bays.{content_of}
-use Rattle.mc_shared.specs.Steps.{gave}
+use Rattle.mc_shared.proofs.Words.{rest, Allows, step, none, Beginning, start_of, Kept, content_of, gave}
 use Rattle.mc_shared.proofs.StepsKept.{gives_bay}
 use Rattle.mc_shared.proofs.steps.give_as.Goals as goal
 

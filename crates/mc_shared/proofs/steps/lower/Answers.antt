@@ -1,4 +1,4 @@
-use Rattle.mc_shared.specs.History.{start_of}
+use Rattle.mc_shared.proofs.Words.{start_of}
 use Rattle.mc_shared.proofs.StepsKept.{takes_many}
 use Rattle.mc_shared.proofs.steps.lower.Goals as goal
 

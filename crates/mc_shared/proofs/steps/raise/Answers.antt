@@ -1,9 +1,5 @@
 use Rattle.std.proofs.Common.{arith, sym, ◌+◌, ◌%◌, ◌^◌, subst, ℕ}
-use Rattle.atomic_table.specs.Table.{Allows, step}
-use mathlib.Core.Option.{none}
-use Rattle.mc_shared.specs.History.{start_of}
-use Rattle.mc_shared.specs.Rule.{Kept}
-use Rattle.mc_shared.specs.Steps.{added}
+use Rattle.mc_shared.proofs.Words.{Allows, step, none, start_of, Kept, added}
 use Rattle.mc_shared.proofs.StepsKept.{adds_one}
 use Rattle.mc_shared.proofs.WordLemmas.{word_inside}
 use Rattle.mc_shared.proofs.steps.raise.Goals as goal

@@ -1,4 +1,4 @@
-use Rattle.mc_shared.specs.History.{start_of}
+use Rattle.mc_shared.proofs.Words.{start_of}
 use Rattle.mc_shared.proofs.steps.reload.Given as goal
 
 abbrev pub ghosts-reload_as : goal.ghosts-reload_as

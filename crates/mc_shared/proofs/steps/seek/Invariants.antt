@@ -1,4 +1,4 @@
-use Rattle.mc_shared.specs.History.{start_of}
+use Rattle.mc_shared.proofs.Words.{start_of}
 use Rattle.mc_shared.proofs.steps.seek.Given as goal
 
 abbrev pub ghosts-seek_as : goal.ghosts-seek_as

@@ -1,11 +1,5 @@
 use Rattle.std.proofs.Common.{arith, sym, ap, subst, refl, ℕ, ◌%◌, ◌<◌, mod-lt}
-use Rattle.atomic_table.specs.Table.{Allows, step}
-use mathlib.Core.Option.{none}
-use Rattle.mc_shared.specs.History.{Beginning}
-use Rattle.mc_shelf.specs.Numbers.{number_of}
-use Rattle.mc_shared.specs.Presence.{word_of}
-use Rattle.mc_shared.specs.Rule.{Kept}
-use Rattle.mc_shared.specs.Steps.{sought}
+use Rattle.mc_shared.proofs.Words.{Allows, step, none, Beginning, number_of, word_of, Kept, sought}
 use Rattle.mc_shared.proofs.StepsKept.{seeks}
 use Rattle.mc_shared.proofs.WordLemmas.{word_inside}
 use Rattle.mc_shared.proofs.steps.seek_as.Goals as goal

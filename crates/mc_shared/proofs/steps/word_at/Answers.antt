@@ -1,5 +1,5 @@
 use Rattle.std.proofs.Common.{arith, ◌≡◌, ◌*◌, ◌/◌, ◌<◌, ℕ, sym, subst}
-use Rattle.mc_shared.specs.Presence.{words_with}
+use Rattle.mc_shared.proofs.Words.{words_with}
 use Rattle.mc_shared.proofs.steps.word_at.Goals as goal
 
 pub word_in-requires-clause-divides : goal.word_in-requires-clause-divides

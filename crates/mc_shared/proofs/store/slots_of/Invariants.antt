@@ -1,6 +1,5 @@
 use Rattle.std.proofs.Common.{◌≡◌, ◌++◌, map}
-use Rattle.mc_shelf.specs.States.{ShelfState}
-use Rattle.mc_shared.specs.Store.{shelf_slot, spaced}
+use Rattle.mc_shared.proofs.Words.{ShelfState, shelf_slot, spaced}
 use Rattle.mc_shared.proofs.store.slots_of.Given as goal
 
 abbrev pub invariant-loop-shelf : goal.invariant-loop-shelf

@@ -1,7 +1,5 @@
 use Rattle.std.proofs.Common.{sym, ap, ◌∙◌, subst, refl}
-use Rattle.std.specs.FinMap.{get}
-use Rattle.mc_command.specs.Plain.{alive, hit_of}
-use Rattle.mc_shelf.specs.Plans.{is_gone}
+use Rattle.mc_shared.proofs.Words.{get, alive, hit_of, is_gone}
 use Rattle.mc_shared.proofs.HitLemmas.{found_gone, found_stands}
 use Rattle.mc_shared.proofs.telling.tell_hit.Goals as goal
 

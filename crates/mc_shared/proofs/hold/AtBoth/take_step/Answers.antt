@@ -1,51 +1,54 @@
 use Rattle.std.proofs.Common.{arith, ◌≡◌, ◌+◌, ◌-◌, ◌%◌, ℕ, [], ◌∷◌, is_some, false, Err, replicate, refl, sym, ap, ◌∙◌, subst}
-use Rattle.std.specs.FinMap.{get, len}
-use Rattle.mc_command.specs.Commands.{key_of}
-use Rattle.mc_command.specs.Plain.{Plain}
-use Rattle.mc_shelf.specs.States.{ShelfState, ShelfContent, DeskState}
-use Rattle.mc_shelf.specs.Parts.{IsShelfOf, IsDeskOf}
-use Rattle.mc_shelf.specs.Numbers.{number_of}
+use Rattle.mc_shared.proofs.Words.{get, len, key_of, Plain, ShelfState, ShelfContent, DeskState, IsShelfOf, IsDeskOf, number_of, OfShelf, OfDesk, Operation, start_of}
+use Rattle.mc_shared.proofs.Words.{Stepped, Past, call, word_of, MayDecide, IsAnswered, SharedState, CallerState, Refuses, holds_one, holds_two, Mine, Agrees, HoldsThis}
+use Rattle.mc_shared.proofs.Words.{loaded, decided_by, entry_of, HoldsBoth, IsAsked, caller_of, StoreState}
 use Rattle.mc_shelf.specs.Plans.{IsTaken, finished, told_next}
 use Rattle.mc_shelf.proofs.PartLemmas.{goes_by_step}
-use Rattle.mc_shared.specs.Bays.{OfShelf, OfDesk}
-use Rattle.mc_shared.specs.History.{start_of, Stepped}
-use Rattle.mc_shared.specs.Past.{Past, call}
-use Rattle.mc_shared.specs.Presence.{word_of}
-use Rattle.mc_shared.specs.Seats.{MayDecide, IsAnswered}
-use Rattle.mc_shared.specs.Shown.{SharedState, CallerState}
-use Rattle.mc_shared.specs.Store.{Refuses, holds_two}
-use Rattle.mc_shared.specs.Steps.{Mine, Agrees, HoldsThis, loaded, decided_by, entry_of}
-use Rattle.mc_shared.specs.Holds.{BothHold, HoldsBoth, IsAsked, caller_of}
-use Rattle.mc_shelf.specs.Stores.{StoreState}
+use Rattle.mc_shared.specs.Holds.{BothHold}
 use Rattle.mc_shared.proofs.Decisions.{applies_step, goes_step}
 use Rattle.mc_shared.proofs.NumberSteps.{counts_step, enough}
-use Rattle.mc_shared.proofs.Held.{at_both, both_stand, may_raise, all_named, decided_one, last_held, one_given, one_rests, rests_so, came_out, refused_both}
+use Rattle.mc_shared.proofs.Held.{at_both, both_stand, may_raise, all_named, last_held, one_given, one_rests, rests_so, came_out, refused_both}
 use Rattle.mc_shared.proofs.hold.AtBoth.take_step.Goals as goal
-use goal.{After-len}
+use Rattle.mc_shared.proofs.hold.AtBoth.take_step.Goals.{After-deref_mut-2, After-len, After-lower_all, After-raise_for-word}
+
+-- what is held, as the shelf and the desk are lent
+holds : (g : _) → (c : After-deref_mut-2 g)
+    → HoldsBoth g.K.KeyHash.hash_of c.self.inside.shared.now c.self.inside.seat c.self.inside.at c.deref_mut.result.now.content c.deref_mut-2.result.now
+holds g c =
+    subst (λ (t : ShelfState × DeskState). HoldsBoth g.K.KeyHash.hash_of c.self.inside.shared.now c.self.inside.seat c.self.inside.at t.0.content t.1)
+    (λ i. (sym c.deref_mut.ensures.value i, sym c.deref_mut-2.ensures.value i)) c.self.invariant
+
+-- what is asked, of the shelf that is held
+is_asked : (g : _) → (c : After-deref_mut-2 g) → IsAsked g.K.KeyHash.hash_of c.self.inside.shared.now c.args.ask.now × (c.args.ask.now.at ≡ c.self.inside.at)
+is_asked g c = (
+  subst (λ (s : SharedState g.row.K.Denot). IsAsked g.K.KeyHash.hash_of s c.args.ask.now) (sym (ap (λ h. h.shared) c.self.view_is)) c.requires.asked,
+  sym (ap (λ h. h.at) c.self.view_is ∙ c.requires.at),
+)
+
+-- how many items there were, and that one is added for a key that comes
+was : (g : _) → (c : After-deref_mut-2 g) → c.len-before.result ≡ len c.deref_mut.result.now.content.items
+was g c = c.len-before.ensures.count ∙ ap (λ (s : ShelfState). len s.content.items) (c.deref.ensures ∙ sym c.deref_mut.ensures.value)
+
+adds : (g : _) → (c : After-raise_for-word g) → is_some (get c.deref_mut.result.now.content.items (key_of c.args.ask.now.step.now)) ≡ false → c.raise_for-word.result.1 ≡ 1
+adds g c none = c.raise_for-word.ensures.one.0
+    (c.may_come-comes.ensures (subst (λ (s : ShelfState). is_some (get s.content.items (key_of c.args.ask.now.step.now)) ≡ false) (c.deref_mut.ensures.value ∙ sym c.deref-2.ensures) none))
 
 pub begin_step-requires-clause-stands : goal.begin_step-requires-clause-stands
 begin_step-requires-clause-stands g c =
-    let hash_of = g.K.KeyHash.hash_of in
-    let ask = c.args.ask.now in
-    let h = subst (λ (t : ShelfState × DeskState). HoldsBoth hash_of c.self.inside.shared.now c.self.inside.seat c.self.inside.at t.0.content t.1)
-    (λ i. (sym c.deref_mut.ensures.value i, sym c.deref_mut-2.ensures.value i)) c.self.invariant in
-    let asked = subst (λ (s : SharedState g.row.K.Denot). IsAsked hash_of s ask) (sym (ap (λ h. h.shared) c.self.view_is)) c.requires.asked in
-    both_stand hash_of c.self.inside.shared.now c.self.inside.seat c.self.inside.at c.deref_mut.result.now.content c.deref_mut-2.result.now (key_of ask.step.now)
-    (asked.own ∙ sym (ap (λ h. h.at) c.self.view_is ∙ c.requires.at)) h
+    let lent = (goal.at.begin_step-requires-clause-stands g c).After-deref_mut-2 in
+    let asked = is_asked g lent in
+    both_stand g.K.KeyHash.hash_of c.self.inside.shared.now c.self.inside.seat c.self.inside.at c.deref_mut.result.now.content c.deref_mut-2.result.now
+    (key_of c.args.ask.now.step.now) (asked.0.own ∙ asked.1) (holds g lent)
 
 pub raise_for-word-requires-clause-may : goal.raise_for-word-requires-clause-may
 raise_for-word-requires-clause-may g c =
-    let hash_of = g.K.KeyHash.hash_of in
     let board = c.shared.inside.board.shared in
     let ask = c.args.ask.now in
-    let old = c.deref_mut.result.now.content in
-    let h = subst (λ (t : ShelfState × DeskState). HoldsBoth hash_of c.self.inside.shared.now c.self.inside.seat c.self.inside.at t.0.content t.1)
-    (λ i. (sym c.deref_mut.ensures.value i, sym c.deref_mut-2.ensures.value i)) c.self.invariant in
-    let asked = subst (λ (s : SharedState g.row.K.Denot). IsAsked hash_of s ask) (sym (c.shared.view_is ∙ ap (λ h. h.shared) c.self.view_is)) c.requires.asked in
-    let was : c.len-before.result ≡ len old.items = c.len-before.ensures.count ∙ ap (λ (s : ShelfState). len s.content.items) (c.deref.ensures ∙ sym c.deref_mut.ensures.value) in
-    let most = c.len-before.ensures.most in
-    may_raise hash_of board.table_id board.key.value c.self.inside.shared.now c.self.inside.seat c.self.inside.at old c.deref_mut-2.result.now
-    c.shared.view_is c.shared.invariant.0 h ask.hash (key_of ask.step.now) asked.hashed (asked.own ∙ sym (ap (λ h. h.at) c.self.view_is ∙ c.requires.at)) (omega (arith, was, most))
+    let lent = (goal.at.raise_for-word-requires-clause-may g c).After-deref_mut-2 in
+    let asked = subst (λ (s : SharedState g.row.K.Denot). IsAsked g.K.KeyHash.hash_of s ask) (sym c.shared.view_is) (is_asked g lent).0 in
+    may_raise g.K.KeyHash.hash_of board.table_id board.key.value c.self.inside.shared.now c.shared.view_is c.shared.invariant.0 c.self.inside.seat c.self.inside.at
+    c.deref_mut.result.now.content c.deref_mut-2.result.now (holds g lent) ask.hash (key_of ask.step.now) asked.hashed (asked.own ∙ (is_asked g lent).1)
+    (omega (arith, was g lent, c.len-before.ensures.most))
 
 pub decide-requires : goal.decide-requires
 decide-requires g c =
@@ -66,10 +69,9 @@ decide-requires g c =
     let reply = told_next plan.next begun in
     let what = Stepped step ask.moment reply in
     let inv = c.shared.invariant in
-    let h = subst (λ (t : ShelfState × DeskState). HoldsBoth hash_of c.self.inside.shared.now seat at t.0.content t.1)
-    (λ i. (sym c.deref_mut.ensures.value i, sym c.deref_mut-2.ensures.value i)) c.self.invariant in
-    let asked = subst (λ (s : SharedState g.row.K.Denot). IsAsked hash_of s ask) (sym (c.shared.view_is ∙ ap (λ h. h.shared) c.self.view_is)) c.requires.asked in
-    let own = asked.own ∙ sym (ap (λ h. h.at) c.self.view_is ∙ c.requires.at) in
+    let lent = (goal.at.decide-requires g c).After-deref_mut-2 in
+    let asked = subst (λ (s : SharedState g.row.K.Denot). IsAsked hash_of s ask) (sym c.shared.view_is) (is_asked g lent).0 in
+    let own = asked.own ∙ (is_asked g lent).1 in
     let taken : IsTaken step ask.moment (began.hash_of key) old from reply new to =
     subst (λ (h : ℕ). IsTaken step ask.moment h old from reply new to) asked.hashed c.in-Ok.ensures.took in
     let by_step = λ (m : Plain) (part : IsShelfOf began.hash_of began.shelves m at old) (desk : IsDeskOf m from).
@@ -78,152 +80,116 @@ decide-requires g c =
     let word : ℕ = c.raise_for-word.result.0 in
     let shelves : began.shelves ≡ c.shared.inside.settings.shelves = ap (λ s. s.shelves) inv.1 in
     let word_is : word ≡ word_of began.shelves (number_of began.hash_of key) = c.raise_for-word.ensures.word ∙ (λ i. word_of (sym shelves i) (asked.hashed i % 4096)) in
-    let was : c.len-before.result ≡ len old.items = c.len-before.ensures.count ∙ ap (λ (s : ShelfState). len s.content.items) (c.deref.ensures ∙ sym c.deref_mut.ensures.value) in
-    let adds : is_some (get old.items key) ≡ false → added ≡ 1 = λ none. c.raise_for-word.ensures.one.0
-    (c.may_come-comes.ensures (subst (λ (s : ShelfState). is_some (get s.content.items key) ≡ false) (c.deref_mut.ensures.value ∙ sym c.deref-2.ensures) none)) in
     let left : ℕ = (c.len-before.result + added) - len new.items in
-    let left_is : left ≡ (added + len old.items) - len new.items = ap (λ (k : ℕ). k - len new.items) (omega (arith, was)) in
+    let left_is : left ≡ (added + len old.items) - len new.items = ap (λ (k : ℕ). k - len new.items) (omega (arith, was g lent)) in
     let held = loaded (holds_two seat.me.0.past began.shelves (OfDesk from) at (OfShelf old)) (replicate added word) in
     record {
       may = subst
           (λ (t : DeskState × ShelfState). MayDecide board.table_id board.key.value c.raise_for-word.new.seat c.shared.inside.settings.shelves began
           (OfDesk t.0) what ((at, OfShelf (finished plan begun step t.1.content)) ∷ [])
           (replicate ((c.len-before.result + added) - len (finished plan begun step t.1.content).items) word)) (λ i. (sym c.of.ensures i, sym c.deref-in-Ok.ensures i))
-          (at_both hash_of board.table_id board.key.value c.self.inside.shared.now seat c.raise_for-word.new.seat at c.shared.inside.settings.shelves old from (OfDesk to) what ((at, OfShelf new) ∷ [])
-          (replicate added word) (replicate left word) c.shared.view_is inv.0 shelves h c.raise_for-word.ensures.seat c.raise_for-word.ensures.view
+          (at_both hash_of board.table_id board.key.value c.self.inside.shared.now c.shared.view_is inv.0 seat c.raise_for-word.new.seat at c.shared.inside.settings.shelves old from
+          (OfDesk to) what ((at, OfShelf new) ∷ []) (replicate added word) (replicate left word) shelves (holds g lent) c.raise_for-word.ensures.seat c.raise_for-word.ensures.view
           (applies_step began at old new from to step ask.moment reply by_step)
-          (counts_step began at inv.0.divides key own old new taken.others.items added left left_is adds held.0
+          (counts_step began at inv.0.divides key own old new taken.others.items added left left_is (adds g (goal.at.decide-requires g c).After-raise_for-word) held.0
           (decided_by held what ((at, OfShelf new) ∷ []) (replicate left word)).0 what [] (ap (replicate added) word_is) (ap (replicate left) word_is) refl
           (λ m fits. (fits.1.0.1, (to, goes_step began at old new from to step ask.moment reply by_step m fits.1.0.1 fits.0.1)))));
     }
 
+-- what the shelf holds in the end
+left_at : (g : _) → (c : After-len g) → c.len.result ≡ len (finished c.in-Ok.plan c.in-Ok.begun c.args.ask.now.step.now c.deref_mut-in-Ok.result.now.content).items
+left_at g c = c.len.ensures.count ∙ ap (λ (s : ShelfState). len s.content.items) c.deref-in-Ok-2.ensures ∙ ap (λ (s : ShelfContent). len s.items) c.finish-reply.ensures.content
+
 pub overflow_sub-had : goal.overflow_sub-had
 overflow_sub-had g c =
-    let hash_of = g.K.KeyHash.hash_of in
     let board = c.shared.inside.board.shared in
-    let began = start_of hash_of board.key.value in
-    let at = c.self.inside.at in
+    let at = goal.at.overflow_sub-had g c in
     let ask = c.args.ask.now in
-    let step = ask.step.now in
-    let key = key_of step in
-    let old = c.deref_mut.result.now.content in
-    let new = finished c.in-Ok.plan c.in-Ok.begun step c.begin_step.new.shelf.content in
-    let asked = subst (λ (s : SharedState g.row.K.Denot). IsAsked hash_of s ask) (sym (c.shared.view_is ∙ ap (λ h. h.shared) c.self.view_is)) c.requires.asked in
-    let own = asked.own ∙ sym (ap (λ h. h.at) c.self.view_is ∙ c.requires.at) in
-    let added : ℕ = c.raise_for-word.result.1 in
-    let was : c.len-before.result ≡ len old.items = c.len-before.ensures.count ∙ ap (λ (s : ShelfState). len s.content.items) (c.deref.ensures ∙ sym c.deref_mut.ensures.value) in
-    let is : c.len.result ≡ len new.items = is_left g c in
-    let adds : is_some (get old.items key) ≡ false → added ≡ 1 = λ none. c.raise_for-word.ensures.one.0
-    (c.may_come-comes.ensures (subst (λ (s : ShelfState). is_some (get s.content.items key) ≡ false) (c.deref_mut.ensures.value ∙ sym c.deref-2.ensures) none)) in
-    let most = enough began at c.shared.invariant.0.divides key own old new c.in-Ok.ensures.took.others.items added _ refl adds in omega (arith, was, is, most)
-  where
-    is_left : (g : _) → (c : After-len g) → c.len.result ≡ len (finished c.in-Ok.plan c.in-Ok.begun c.args.ask.now.step.now c.begin_step.new.shelf.content).items
-    is_left g c = c.len.ensures.count ∙ ap (λ (s : ShelfState). len s.content.items) c.deref-in-Ok-2.ensures
-        ∙ ap (λ (s : ShelfContent). len s.items)
-        (c.finish-reply.ensures.content ∙ ap (λ (s : ShelfState). finished c.in-Ok.plan c.in-Ok.begun c.args.ask.now.step.now s.content) c.deref_mut-in-Ok.ensures.value)
+    let new = finished c.in-Ok.plan c.in-Ok.begun ask.step.now c.begin_step.new.shelf.content in
+    let asked = subst (λ (s : SharedState g.row.K.Denot). IsAsked g.K.KeyHash.hash_of s ask) (sym c.shared.view_is) (is_asked g at.After-deref_mut-2).0 in
+    let is : c.len.result ≡ len new.items =
+    left_at g at.After-len ∙ ap (λ (s : ShelfState). len (finished c.in-Ok.plan c.in-Ok.begun ask.step.now s.content).items) c.deref_mut-in-Ok.ensures.value in
+    let most = enough (start_of g.K.KeyHash.hash_of board.key.value) c.self.inside.at c.shared.invariant.0.divides (key_of ask.step.now) (asked.own ∙ (is_asked g at.After-deref_mut-2).1)
+    c.deref_mut.result.now.content new c.in-Ok.ensures.took.others.items c.raise_for-word.result.1 _ refl (adds g at.After-raise_for-word) in
+    omega (arith, was g at.After-deref_mut-2, is, most)
+
+-- what was done, what the shelf holds behind it, and the past from then on
+abbrev what : (g : _) → After-lower_all g → Operation
+what g c = Stepped c.args.ask.now.step.now c.args.ask.now.moment (told_next c.in-Ok.plan.next c.in-Ok.begun)
+
+abbrev new : (g : _) → After-lower_all g → ShelfContent
+new g c = finished c.in-Ok.plan c.in-Ok.begun c.args.ask.now.step.now c.deref-in-Ok.result.now.content
+
+abbrev past : (g : _) → After-lower_all g → Past
+past g c = call c.self.inside.seat.me.0.past (entry_of c.self.inside.seat.me.0.past (what g c))
 
 pub lower_all-requires-clause-named : goal.lower_all-requires-clause-named
 lower_all-requires-clause-named g c =
-    let inside = c.self.inside in
-    let p = inside.seat.me.0.past in
     let step = c.args.ask.now.step.now in
-    let told = told_next c.in-Ok.plan.next c.in-Ok.begun in
-    let what = Stepped step c.args.ask.now.moment told in
     let new = finished c.in-Ok.plan c.in-Ok.begun step c.deref-in-Ok.result.now.content in
     let all : ℕ = c.len-before.result + c.raise_for-word.result.1 in
-    let content = c.finish-reply.ensures.content ∙ ap (λ (s : ShelfState). finished c.in-Ok.plan c.in-Ok.begun step s.content) (c.deref_mut-in-Ok.ensures.value ∙ sym c.deref-in-Ok.ensures) in
-    let left : c.len.result ≡ len new.items = c.len.ensures.count ∙ ap (λ (s : ShelfState). len s.content.items) c.deref-in-Ok-2.ensures ∙ ap (λ (s : ShelfContent). len s.items) content in (
+    let left : c.len.result ≡ len new.items = left_at g (goal.at.lower_all-requires-clause-named g c).After-len
+    ∙ ap (λ (s : ShelfState). len (finished c.in-Ok.plan c.in-Ok.begun step s.content).items) (c.deref_mut-in-Ok.ensures.value ∙ sym c.deref-in-Ok.ensures) in (
       [],
-      all_named c.raise_for-word.new.seat.me c.decide.new.seat.me what ((inside.at, OfShelf new) ∷ []) c.raise_for-word.result.0 (all - len new.items)
-          (all - c.len.result) c.decide.ensures.view.0 (ap (λ (k : ℕ). all - k) (sym left)),
+      all_named c.raise_for-word.new.seat.me c.decide.new.seat.me (Stepped step c.args.ask.now.moment (told_next c.in-Ok.plan.next c.in-Ok.begun)) ((c.self.inside.at, OfShelf new) ∷ [])
+          c.raise_for-word.result.0 (all - len new.items) (all - c.len.result) c.decide.ensures.view.0 (ap (λ (k : ℕ). all - k) (sym left)),
     )
+
+last : (g : _) → (c : After-lower_all g) → c.len.result ≡ len (finished c.in-Ok.plan c.in-Ok.begun c.args.ask.now.step.now c.deref_mut-in-Ok.result.now.content).items
+    → c.lower_all.new.seat.me ≡ holds_one (past g c) c.self.inside.at (OfShelf (new g c))
+last g c left =
+    let all : ℕ = c.len-before.result + c.raise_for-word.result.1 in
+    let same : c.len.result ≡ len (new g c).items = left
+    ∙ ap (λ (s : ShelfState). len (finished c.in-Ok.plan c.in-Ok.begun c.args.ask.now.step.now s.content).items) (c.deref_mut-in-Ok.ensures.value ∙ sym c.deref-in-Ok.ensures) in
+    last_held c.self.inside.seat.me c.raise_for-word.new.seat.me c.decide.new.seat.me c.lower_all.new.seat.me c.self.inside.seat.me.0.past c.self.inside.shared.now.began.settings.shelves
+    (OfDesk c.self.inside.desk.value) c.self.inside.at (OfShelf c.self.inside.shelf.value.content) (OfShelf (new g c)) (what g c)
+    (replicate c.raise_for-word.result.1 c.raise_for-word.result.0) c.raise_for-word.result.0 (all - len (new g c).items) (all - c.len.result)
+    c.self.invariant.held c.raise_for-word.ensures.view c.decide.ensures.view.0 (ap (λ (k : ℕ). all - k) (sym same)) c.lower_all.ensures.view
 
 pub give-requires-clause-held : goal.give-requires-clause-held
 give-requires-clause-held g c =
-    let inside = c.self.inside in
-    let p = inside.seat.me.0.past in
-    let step = c.args.ask.now.step.now in
-    let told = told_next c.in-Ok.plan.next c.in-Ok.begun in
-    let what = Stepped step c.args.ask.now.moment told in
-    let new = finished c.in-Ok.plan c.in-Ok.begun step c.deref-in-Ok.result.now.content in
-    let all : ℕ = c.len-before.result + c.raise_for-word.result.1 in
-    let content = c.finish-reply.ensures.content ∙ ap (λ (s : ShelfState). finished c.in-Ok.plan c.in-Ok.begun step s.content) (c.deref_mut-in-Ok.ensures.value ∙ sym c.deref-in-Ok.ensures) in
-    let left : c.len.result ≡ len new.items = c.len.ensures.count ∙ ap (λ (s : ShelfState). len s.content.items) c.deref-in-Ok-2.ensures ∙ ap (λ (s : ShelfContent). len s.items) content in
-    let last =
-    last_held inside.seat.me c.raise_for-word.new.seat.me c.decide.new.seat.me c.lower_all.new.seat.me p inside.shared.now.began.settings.shelves
-    (OfDesk inside.desk.value) inside.at (OfShelf inside.shelf.value.content) (OfShelf new) what
-    (replicate c.raise_for-word.result.1 c.raise_for-word.result.0) c.raise_for-word.result.0 (all - len new.items) (all - c.len.result)
-    c.self.invariant.held c.raise_for-word.ensures.view c.decide.ensures.view.0 (ap (λ (k : ℕ). all - k) (sym left)) c.lower_all.ensures.view in
-    let q = call p (entry_of p what) in
-    subst (λ (f : ShelfContent). HoldsThis c.lower_all.new.seat.me inside.at (OfShelf f)) (sym (ap (λ (s : ShelfState). s.content) c.of-in-Ok.ensures ∙ content))
-    (one_given c.lower_all.new.seat.me q inside.at (OfShelf new) last)
+    let at = goal.at.give-requires-clause-held g c in
+    let lowered = at.After-lower_all in
+    let content = c.finish-reply.ensures.content
+    ∙ ap (λ (s : ShelfState). finished c.in-Ok.plan c.in-Ok.begun c.args.ask.now.step.now s.content) (c.deref_mut-in-Ok.ensures.value ∙ sym c.deref-in-Ok.ensures) in
+    subst (λ (f : ShelfContent). HoldsThis c.lower_all.new.seat.me c.self.inside.at (OfShelf f)) (sym (ap (λ (s : ShelfState). s.content) c.of-in-Ok.ensures ∙ content))
+    (one_given c.lower_all.new.seat.me (past g lowered) c.self.inside.at (OfShelf (new g lowered)) (last g lowered (left_at g at.After-len)))
 
 pub invariant_of-result : goal.invariant_of-result
 invariant_of-result g c =
-    let inside = c.self.inside in
-    let p = inside.seat.me.0.past in
-    let step = c.args.ask.now.step.now in
-    let told = told_next c.in-Ok.plan.next c.in-Ok.begun in
-    let what = Stepped step c.args.ask.now.moment told in
-    let new = finished c.in-Ok.plan c.in-Ok.begun step c.deref-in-Ok.result.now.content in
-    let all : ℕ = c.len-before.result + c.raise_for-word.result.1 in
-    let content = c.finish-reply.ensures.content ∙ ap (λ (s : ShelfState). finished c.in-Ok.plan c.in-Ok.begun step s.content) (c.deref_mut-in-Ok.ensures.value ∙ sym c.deref-in-Ok.ensures) in
-    let left : c.len.result ≡ len new.items = c.len.ensures.count ∙ ap (λ (s : ShelfState). len s.content.items) c.deref-in-Ok-2.ensures ∙ ap (λ (s : ShelfContent). len s.items) content in
-    let last =
-    last_held inside.seat.me c.raise_for-word.new.seat.me c.decide.new.seat.me c.lower_all.new.seat.me p inside.shared.now.began.settings.shelves
-    (OfDesk inside.desk.value) inside.at (OfShelf inside.shelf.value.content) (OfShelf new) what
-    (replicate c.raise_for-word.result.1 c.raise_for-word.result.0) c.raise_for-word.result.0 (all - len new.items) (all - c.len.result)
-    c.self.invariant.held c.raise_for-word.ensures.view c.decide.ensures.view.0 (ap (λ (k : ℕ). all - k) (sym left)) c.lower_all.ensures.view in
-    let q = call p (entry_of p what) in
-    rests_so c.give.new.seat.me q c.self.invariant.lives (one_rests c.lower_all.new.seat.me c.give.new.seat.me q inside.at (OfShelf new) last c.give.ensures.view.0)
+    let at = goal.at.invariant_of-result g c in
+    let lowered = at.After-lower_all in
+    rests_so c.give.new.seat.me (past g lowered) c.self.invariant.lives
+    (one_rests c.lower_all.new.seat.me c.give.new.seat.me (past g lowered) c.self.inside.at (OfShelf (new g lowered)) (last g lowered (left_at g at.After-len)) c.give.ensures.view.0)
 
 pub returns-in-Ok : goal.returns-in-Ok
 returns-in-Ok g c =
-    let inside = c.self.inside in
-    let p = inside.seat.me.0.past in
-    let step = c.args.ask.now.step.now in
-    let told = told_next c.in-Ok.plan.next c.in-Ok.begun in
-    let what = Stepped step c.args.ask.now.moment told in
-    let new = finished c.in-Ok.plan c.in-Ok.begun step c.deref-in-Ok.result.now.content in
-    let all : ℕ = c.len-before.result + c.raise_for-word.result.1 in
-    let content = c.finish-reply.ensures.content ∙ ap (λ (s : ShelfState). finished c.in-Ok.plan c.in-Ok.begun step s.content) (c.deref_mut-in-Ok.ensures.value ∙ sym c.deref-in-Ok.ensures) in
-    let left : c.len.result ≡ len new.items = c.len.ensures.count ∙ ap (λ (s : ShelfState). len s.content.items) c.deref-in-Ok-2.ensures ∙ ap (λ (s : ShelfContent). len s.items) content in
-    let last =
-    last_held inside.seat.me c.raise_for-word.new.seat.me c.decide.new.seat.me c.lower_all.new.seat.me p inside.shared.now.began.settings.shelves
-    (OfDesk inside.desk.value) inside.at (OfShelf inside.shelf.value.content) (OfShelf new) what
-    (replicate c.raise_for-word.result.1 c.raise_for-word.result.0) c.raise_for-word.result.0 (all - len new.items) (all - c.len.result)
-    c.self.invariant.held c.raise_for-word.ensures.view c.decide.ensures.view.0 (ap (λ (k : ℕ). all - k) (sym left)) c.lower_all.ensures.view in
-    let q = call p (entry_of p what) in
+    let at = goal.at.returns-in-Ok g c in
+    let lowered = at.After-lower_all in
     let hash_of = g.K.KeyHash.hash_of in
     let self = c.args.self in
-    let rests = one_rests c.lower_all.new.seat.me c.give.new.seat.me q inside.at (OfShelf new) last c.give.ensures.view.0 in
-    let then =
-    decided_one inside.seat.me c.raise_for-word.new.seat.me c.decide.new.seat.me p inside.shared.now.began.settings.shelves
-    (OfDesk inside.desk.value) inside.at (OfShelf inside.shelf.value.content) (OfShelf new) what
-    (replicate c.raise_for-word.result.1 c.raise_for-word.result.0)
-    (replicate (all - len new.items) c.raise_for-word.result.0) c.self.invariant.held c.raise_for-word.ensures.view c.decide.ensures.view.0 in
+    let rests = one_rests c.lower_all.new.seat.me c.give.new.seat.me (past g lowered) c.self.inside.at (OfShelf (new g lowered)) (last g lowered (left_at g at.After-len)) c.give.ensures.view.0 in
+    let then = ap (λ (m : Mine). m.0.past) c.decide.ensures.view.0 ∙ ap (λ (m : Mine). call m.0.past (entry_of m.0.past (what g lowered))) c.raise_for-word.ensures.view in
     let seats = c.give.ensures.seat.0
     ∙ (c.lower_all.ensures.seat.0 ∙ (c.decide.ensures.seat.0 ∙ (c.raise_for-word.ensures.seat.0 ∙ (c.self.invariant.own ∙ ap (λ h. h.shared.table) c.self.view_is)))) in
     let agrees =
-    subst (λ (t : StoreState g.row.K.Denot × Past). Agrees (start_of hash_of t.0) (call t.1 (entry_of t.1 what)))
+    subst (λ (t : StoreState g.row.K.Denot × Past). Agrees (start_of hash_of t.0) (call t.1 (entry_of t.1 (what g lowered))))
     (λ i. (((c.shared.view_is ∙ ap (λ h. h.shared) c.self.view_is) i).began, (c.self.view_is i).past))
-    (subst (Agrees (start_of hash_of c.shared.inside.board.shared.key.value)) (ap (λ (m : Mine). m.0.past) then) c.decide.ensures.view.1) in
+    (subst (Agrees (start_of hash_of c.shared.inside.board.shared.key.value)) then c.decide.ensures.view.1) in
     came_out (start_of hash_of self.shared.began) (caller_of self.shared self.past)
-    (record { table = c.give.new.seat.table_id; past = c.give.new.seat.me.0.past }) step c.args.ask.now.moment c.finish-reply.result told Refuses
-    seats (ap (λ (m : Mine). m.0.past) rests ∙ (λ i. call (c.self.view_is i).past (entry_of (c.self.view_is i).past what))) c.finish-reply.ensures.reply agrees
+    (record { table = c.give.new.seat.table_id; past = c.give.new.seat.me.0.past }) c.args.ask.now.step.now c.args.ask.now.moment c.finish-reply.result
+    (told_next c.in-Ok.plan.next c.in-Ok.begun) Refuses
+    seats (ap (λ (m : Mine). m.0.past) rests ∙ (λ i. call (c.self.view_is i).past (entry_of (c.self.view_is i).past (what g lowered)))) c.finish-reply.ensures.reply agrees
 
 pub returns-in-Err : goal.returns-in-Err
 returns-in-Err g c =
     let hash_of = g.K.KeyHash.hash_of in
     let inside = c.self.inside in
     let ask = c.args.ask.now in
-    let h = subst (λ (t : ShelfState × DeskState). HoldsBoth hash_of inside.shared.now inside.seat inside.at t.0.content t.1)
-    (λ i. (sym c.deref_mut.ensures.value i, sym c.deref_mut-2.ensures.value i)) c.self.invariant in
-    let asked = subst (λ (s : SharedState g.row.K.Denot). IsAsked hash_of s ask) (sym (ap (λ h. h.shared) c.self.view_is)) c.requires.asked in
-    let own = asked.own ∙ sym (ap (λ h. h.at) c.self.view_is ∙ c.requires.at) in
+    let lent = (goal.at.returns-in-Err g c).After-deref_mut-2 in
     let new : CallerState = record { table = c.give-in-Err-2.new.seat.table_id; past = c.give-in-Err-2.new.seat.me.0.past } in
     subst (λ (t : BothHold g.row.K.Denot). IsAnswered (start_of hash_of t.shared.began) (caller_of t.shared t.past) ask.step.now ask.moment Refuses (Err c.in-Err.fault) new) c.self.view_is
     (refused_both hash_of inside.shared.now inside.seat new inside.at c.deref_mut.result.now.content c.deref_mut-2.result.now ask.step.now ask.moment
-    c.begin_step.result c.in-Err.fault own h (c.give-in-Err-2.ensures.seat.0 ∙ c.give-in-Err.ensures.seat.0)
+    c.begin_step.result c.in-Err.fault ((is_asked g lent).0.own ∙ (is_asked g lent).1) (holds g lent) (c.give-in-Err-2.ensures.seat.0 ∙ c.give-in-Err.ensures.seat.0)
     (ap (λ (m : Mine). m.0.past) c.give-in-Err-2.ensures.view.0 ∙ ap (λ (m : Mine). m.0.past) c.give-in-Err.ensures.view.0)
     c.in-Err.is c.begin_step.ensures.spent c.begin_step.ensures.refused)

@@ -1,9 +1,5 @@
 use Rattle.std.proofs.Common.{sym, ap, ◌∙◌, subst}
-use Rattle.mc_shelf.specs.States.{ShelfState}
-use Rattle.mc_shared.specs.History.{start_of}
-use Rattle.mc_shared.specs.Shown.{SharedState}
-use Rattle.mc_shared.specs.Store.{MayFailAfter}
-use Rattle.mc_shared.specs.Holds.{HoldsShelf, IsAsked, ShelfHold}
+use Rattle.mc_shared.proofs.Words.{ShelfState, start_of, SharedState, MayFailAfter, HoldsShelf, IsAsked, ShelfHold}
 use Rattle.mc_shared.proofs.Decisions.{look_fails}
 use Rattle.mc_shared.proofs.hold.AtShelf.look.Goals as goal
 

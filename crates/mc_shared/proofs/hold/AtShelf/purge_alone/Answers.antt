@@ -1,9 +1,5 @@
 use Rattle.std.proofs.Common.{rules, [], refl, sym, subst}
-use Rattle.mc_shelf.specs.States.{ShelfState}
-use Rattle.mc_shelf.specs.Parts.{IsShelfOf}
-use Rattle.mc_shared.specs.Bays.{OfShelf}
-use Rattle.mc_shared.specs.History.{start_of, Purged}
-use Rattle.mc_shared.specs.Seats.{MayDecide}
+use Rattle.mc_shared.proofs.Words.{ShelfState, IsShelfOf, OfShelf, start_of, Purged, MayDecide}
 use Rattle.mc_shared.proofs.Decisions.{changes_nothing}
 use Rattle.mc_shared.proofs.Held.{at_shelf}
 use Rattle.mc_shared.proofs.NumberSteps.{counts_same}
@@ -20,8 +16,8 @@ decide-requires g c =
     let inv = c.shared.invariant in
     record {
       may = subst (λ (s : ShelfState). MayDecide board.table_id board.key.value c.self.inside.seat at began (OfShelf s.content) what [] []) (sym c.of.ensures)
-          (at_shelf hash_of board.table_id board.key.value c.self.inside.shared.now c.self.inside.seat at shelf.content (OfShelf shelf.content) what [] []
-          c.shared.view_is inv.0 c.self.invariant
+          (at_shelf hash_of board.table_id board.key.value c.self.inside.shared.now c.shared.view_is inv.0 c.self.inside.seat at shelf.content (OfShelf shelf.content) what [] []
+          c.self.invariant
           (changes_nothing began at shelf.content what
           (λ m part. (
             tt,

@@ -1,17 +1,7 @@
 use Rattle.std.proofs.Common.{[], refl, sym, ap, ◌∙◌, subst}
-use Rattle.mc_command.specs.Commands.{key_of}
-use Rattle.mc_shelf.specs.States.{ShelfState}
-use Rattle.mc_shelf.specs.Plans.{IsPlan, IsSettled}
-use Rattle.mc_command.specs.Plain.{Plain}
-use Rattle.mc_shelf.specs.Parts.{IsShelfOf}
-use Rattle.mc_shelf.proofs.PartLemmas.{goes_without_desk}
-use Rattle.mc_shared.specs.Bays.{OfShelf}
-use Rattle.mc_shared.specs.Steps.{decided_by}
-use Rattle.mc_shared.specs.Store.{holds_one}
-use Rattle.mc_shared.specs.History.{start_of, Stepped}
-use Rattle.mc_shared.specs.Shown.{SharedState}
-use Rattle.mc_shared.specs.Seats.{MayDecide}
-use Rattle.mc_shared.specs.Holds.{HoldsShelf, IsAsked}
+use Rattle.mc_shared.proofs.Words.{key_of, ShelfState, IsSettled, Plain, IsShelfOf, goes_without_desk, OfShelf, decided_by, holds_one, start_of, Stepped, SharedState}
+use Rattle.mc_shared.proofs.Words.{MayDecide, HoldsShelf, IsAsked}
+use Rattle.mc_shelf.specs.Plans.{IsPlan}
 use Rattle.mc_shared.proofs.Decisions.{settles, goes_alone}
 use Rattle.mc_shared.proofs.NumberSteps.{counts_settled}
 use Rattle.mc_shared.proofs.Held.{at_shelf}
@@ -43,8 +33,7 @@ decide-requires g c =
     goes_without_desk step asked.on_key own part settled in
     record {
       may = subst (λ (s : ShelfState). MayDecide board.table_id board.key.value c.self.inside.seat at began (OfShelf s.content) what [] []) (sym c.of.ensures)
-          (at_shelf hash_of board.table_id board.key.value c.self.inside.shared.now c.self.inside.seat at old (OfShelf new) what [] []
-          c.shared.view_is inv.0
+          (at_shelf hash_of board.table_id board.key.value c.self.inside.shared.now c.shared.view_is inv.0 c.self.inside.seat at old (OfShelf new) what [] []
           (subst (λ (s : ShelfState). HoldsShelf hash_of c.self.inside.shared.now c.self.inside.seat at s.content) (sym here) c.self.invariant)
           (settles began at old new step ask.moment reply alone)
           (counts_settled began at inv.0.divides (key_of step) own old new settled.others.items settled.stands held.0 (decided_by held what [] []).0 what refl refl

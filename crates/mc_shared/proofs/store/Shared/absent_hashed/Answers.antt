@@ -1,8 +1,5 @@
 use Rattle.std.proofs.Common.{eqb, subst}
-use Rattle.mc_shelf.specs.Stores.{StoreState}
-use Rattle.mc_shared.specs.History.{start_of}
-use Rattle.mc_shared.specs.Past.{Past}
-use Rattle.mc_shared.specs.Store.{IsShown}
+use Rattle.mc_shared.proofs.Words.{StoreState, start_of, Past, IsShown}
 use Rattle.mc_shared.proofs.Showing.{shown}
 use Rattle.mc_shared.proofs.store.Shared.absent_hashed.Goals as goal
 

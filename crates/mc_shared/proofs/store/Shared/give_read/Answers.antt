@@ -1,17 +1,7 @@
 use Rattle.std.proofs.Common.{[], refl, sym, ◌∙◌, subst}
-use Rattle.mc_command.specs.Commands.{key_of}
-use Rattle.mc_command.specs.Plain.{Plain, hit_of}
-use Rattle.mc_shelf.specs.States.{ShelfState}
-use Rattle.mc_shelf.specs.Parts.{IsShelfOf}
-use Rattle.mc_shelf.specs.Plans.{IsSettled, stood}
-use Rattle.mc_shelf.proofs.PartLemmas.{goes_without_desk}
-use Rattle.mc_shared.specs.Bays.{OfShelf}
-use Rattle.mc_shared.specs.History.{start_of, Stepped}
-use Rattle.mc_shared.specs.Seats.{MayDecide}
-use Rattle.mc_shared.specs.Shown.{SharedState}
-use Rattle.mc_shared.specs.Steps.{decided_by}
-use Rattle.mc_shared.specs.Store.{holds_one}
-use Rattle.mc_shared.specs.Holds.{HoldsShelf, IsAsked}
+use Rattle.mc_shared.proofs.Words.{key_of, Plain, hit_of, ShelfState, IsShelfOf, IsSettled, goes_without_desk, OfShelf, start_of, Stepped, MayDecide, SharedState}
+use Rattle.mc_shared.proofs.Words.{decided_by, holds_one, HoldsShelf, IsAsked}
+use Rattle.mc_shelf.specs.Plans.{stood}
 use Rattle.mc_shared.proofs.Decisions.{settles, goes_alone}
 use Rattle.mc_shared.proofs.NumberSteps.{counts_settled}
 use Rattle.mc_shared.proofs.Held.{at_shelf}
@@ -45,8 +35,7 @@ decide-requires g c =
       may = subst
           (λ (t : ShelfState × ShelfState). MayDecide board.table_id board.key.value seat at began (OfShelf t.0.content)
           (Stepped step ask.moment (hit_of (stood t.1.content step ask.moment))) [] []) (λ i. (sym c.of.ensures i, told i))
-          (at_shelf hash_of board.table_id board.key.value c.args.self.now seat at old (OfShelf new) what [] []
-          c.self.view_is inv.0
+          (at_shelf hash_of board.table_id board.key.value c.args.self.now c.self.view_is inv.0 seat at old (OfShelf new) what [] []
           (subst (λ (s : ShelfState). HoldsShelf hash_of c.args.self.now seat at s.content) (sym here) c.requires.holds)
           (settles began at old new step ask.moment reply alone)
           (counts_settled began at inv.0.divides (key_of step) asked.own old new settled.others.items settled.stands held.0 (decided_by held what [] []).0 what refl refl
