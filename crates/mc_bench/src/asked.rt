@@ -94,7 +94,7 @@ pub enum Crew {
 }
 
 /// Tells which run the command line asks for: the program's name, the run's and what it takes. Other words ask for none.
-pub fn asked(words: &[String]) -> Option<Run>
+pub fn asked_run(words: &[String]) -> Option<Run>
     ensures { (length words.now ≢ 3) × (length words.now ≢ 4) × (length words.now ≢ 5)
         × (length words.now ≢ 6) × (length words.now ≢ 7) → IsNone result }
 {

@@ -42,7 +42,7 @@ pub struct Call {
 }
 
 /// Draws a call. Its block is the mark, which no other call has, or one of a few; its number may be what its caller has seen of the key.
-pub fn drawn(
+pub fn draw_call(
     alloc: Global,
     dice: &mut Dice,
     mark: u64,

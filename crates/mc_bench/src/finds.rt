@@ -103,7 +103,7 @@ impl Window {
     }
 
     /// Looks for the keys, and counts those that have an item. A processor may begin with a key before it is done with the one before.
-    fn found<S: Search>(&self, alloc: Global, sought: &mut S) -> u64 {
+    fn count_found<S: Search>(&self, alloc: Global, sought: &mut S) -> u64 {
         let mut found = 0u64;
         for (key, hash) in self.keys.iter().zip(self.hashes.iter()) {
             if sought.flags(alloc, key, *hash).is_some() {
@@ -177,7 +177,7 @@ fn tell<S: Search>(
         let found = if in_turn {
             window.found_in_turn(alloc, sought)
         } else {
-            window.found(alloc, sought)
+            window.count_found(alloc, sought)
         };
         let took = nanos(rt)?.wrapping_sub(began);
         println!(rt; "{name} {found} {took}")?;
@@ -219,7 +219,7 @@ fn run<S: Search + Drop>(
 }
 
 /// Finds in the indexes of shelves alone, or gets through a store.
-pub fn told(
+pub fn tell_finds(
     rt: &HostRuntime,
     alloc: Global,
     within: Within,

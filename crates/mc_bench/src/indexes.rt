@@ -36,7 +36,7 @@ impl Keyed for Entry {
 }
 
 /// Writes an item into chunks of the slab.
-fn written(slab: &mut Slab, alloc: Global, key: &[u8; 32]) -> Result<Entry, AllocError> {
+fn put_item(slab: &mut Slab, alloc: Global, key: &[u8; 32]) -> Result<Entry, AllocError> {
     let Some(need) = need_of(CHARGE as u64) else {
         return Err(AllocError);
     };
@@ -90,7 +90,7 @@ impl Indexes {
 impl Search for Indexes {
     fn put(&mut self, alloc: Global, key: &[u8; 32]) -> Result<(), AllocError> {
         let Indexes { slab, shelves } = self;
-        let entry = written(slab, alloc, key)?;
+        let entry = put_item(slab, alloc, key)?;
         match shelves.get_mut((fnv(key) % 64) as usize) {
             Some(index) => put(index, alloc, entry),
             None => Err(AllocError),

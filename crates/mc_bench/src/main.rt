@@ -35,23 +35,23 @@ mod record;
 mod steps;
 mod worlds;
 
-use asked::{Run, asked};
+use asked::{Run, asked_run};
 use std::{env, io};
 
 fn main(rt: HostRuntime) -> io::Result<()> {
     let alloc = rt.alloc();
     let words: Vec<String> = env::args(&rt)?.collect(alloc)?;
-    match asked(words.as_slice()) {
+    match asked_run(words.as_slice()) {
         Some(Run::Worlds { sessions, rounds }) => {
-            let bytes = worlds::told(alloc, sessions, rounds)?;
+            let bytes = worlds::serve_rounds(alloc, sessions, rounds)?;
             println!(rt; "{bytes}")
         }
         Some(Run::Steps(threaded)) => {
-            let answered = steps::answered(&rt, alloc, threaded)?;
+            let answered = steps::count_answered(&rt, alloc, threaded)?;
             println!(rt; "{answered}")
         }
         Some(Run::Record { seed, calls }) => {
-            for told in record::told(&rt, alloc, seed, calls)? {
+            for told in record::tell_calls(&rt, alloc, seed, calls)? {
                 print!(rt; "{told}")?;
             }
             Ok(())
@@ -62,7 +62,7 @@ fn main(rt: HostRuntime) -> io::Result<()> {
                 items,
                 windows,
             },
-        ) => finds::told(&rt, alloc, within, items, windows),
+        ) => finds::tell_finds(&rt, alloc, within, items, windows),
         None => Err(io::Error::from(io::ErrorKind::InvalidInput)),
     }
 }

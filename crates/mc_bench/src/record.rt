@@ -1,7 +1,7 @@
 //! Calls of many threads, and what they were answered.
 ghost use Rattle.std.specs.Prelude.{◌≡◌, IfOk};
 
-use crate::call::{Call, KEYS, drawn, tell_reply};
+use crate::call::{Call, KEYS, draw_call, tell_reply};
 use mc_command::Reply;
 use mc_hop::Fnv;
 use mc_shared::{Caller, Shared};
@@ -25,7 +25,7 @@ struct Script {
 ///
 /// The record is of the form that tests/history reads. A flush that is to come and tidying have no line: while the clock stands,
 /// no reply tells of them.
-pub fn told<R: Threads + Wait + Sync>(
+pub fn tell_calls<R: Threads + Wait + Sync>(
     rt: &R,
     alloc: Global,
     seed: u64,
@@ -111,7 +111,7 @@ fn calls<R: Wait>(
     let mut seen = [0; KEYS];
     let mut told = String::new(alloc);
     for turn in 0..u64::from(script.calls) {
-        let call = match drawn(
+        let call = match draw_call(
             alloc,
             &mut dice,
             turn.wrapping_mul(4).wrapping_add(number),

@@ -26,7 +26,7 @@ struct Load {
 }
 
 /// Takes the steps, and gives how many were answered as they should be.
-pub fn answered<R: Threads + Wait + Sync>(
+pub fn count_answered<R: Threads + Wait + Sync>(
     rt: &R,
     alloc: Global,
     threaded: Threaded,
@@ -39,7 +39,7 @@ pub fn answered<R: Threads + Wait + Sync>(
         settings,
     } = threaded;
     let load = Load { over, mix, rounds };
-    let mut store = filled(alloc, over, settings)?;
+    let mut store = fill_store(alloc, over, settings)?;
     match over {
         Over::Store => Ok(work(&mut store, alloc, load, 0)),
         _ => {
@@ -50,7 +50,7 @@ pub fn answered<R: Threads + Wait + Sync>(
 }
 
 /// A store that is set up so, with the keys of all threads.
-fn filled(alloc: Global, over: Over, settings: Settings) -> Result<Store<Fnv>, AllocError> {
+fn fill_store(alloc: Global, over: Over, settings: Settings) -> Result<Store<Fnv>, AllocError> {
     let mut store = Store::new(alloc, settings, Fnv)?;
     for thread in 0..4 {
         set_key(&mut store, alloc, Over::Own, thread);

@@ -13,7 +13,7 @@ use std::alloc::{AllocError, Global};
 const SENT: &[u8] = b"set key 0 0 1\r\nx\r\nget key\r\n";
 
 /// Opens the sessions and lets them have their rounds. Gives how many bytes they were told.
-pub fn told(alloc: Global, sessions: u16, rounds: u32) -> Result<u64, AllocError> {
+pub fn serve_rounds(alloc: Global, sessions: u16, rounds: u32) -> Result<u64, AllocError> {
     let settings = Settings {
         pages: 64,
         greatest: 1_048_576,
@@ -39,7 +39,7 @@ fn round(world: &mut World<Fnv>, alloc: Global, sessions: u16) -> Result<u64, Al
     for _ in 0..2 {
         turns(world, alloc, sessions)?;
     }
-    Ok(written(world, sessions))
+    Ok(take_output(world, sessions))
 }
 
 /// One turn of every session.
@@ -51,12 +51,12 @@ fn turns(world: &mut World<Fnv>, alloc: Global, sessions: u16) -> Result<(), All
 }
 
 /// Takes the output of every session, and gives how many bytes it was.
-fn written(world: &mut World<Fnv>, sessions: u16) -> u64 {
+fn take_output(world: &mut World<Fnv>, sessions: u16) -> u64 {
     let mut bytes: u64 = 0;
     for session in 0..sessions {
         let number = u32::from(session) + 1;
         let len = world.out(number).len();
-        world.sent(number, len);
+        world.drop_sent(number, len);
         bytes = bytes.saturating_add(len as u64);
     }
     bytes

@@ -35,7 +35,7 @@ impl<'a> Keys<'a> {
     }
 
     /// Makes the keys of `text` if it is known how many words it has. It costs nothing.
-    pub fn counted(text: &'a [u8], count: usize) -> Keys<'a>
+    pub fn with_count(text: &'a [u8], count: usize) -> Keys<'a>
         requires { count ≡ length (words text.now) }
         ensures { result ≡ words text.now }
     {

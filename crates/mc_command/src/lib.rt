@@ -52,7 +52,7 @@ pub use laws::{
     pages_stay, refused_without_room, the_dead_stay_dead, wanted_pages_are_least,
 };
 pub use lone::Lone;
-pub use number::{counted, number_of, number_up_to};
+pub use number::{count_up_or_down, number_of, number_up_to};
 pub use plain::{KeyTest, PlainStore};
 pub use reply::Reply;
 pub use row::{Body, Draft, Refusal, Row, Standing, row_of};

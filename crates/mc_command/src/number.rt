@@ -54,7 +54,7 @@ fn is_blank(text: &[u8]) -> bool
 
 /// Counts a number up by incr, which wraps at 2^64, or down by decr, which stops at 0
 /// (protocol.txt, "Increment/Decrement").
-pub fn counted(up: bool, by: u64, old: u64) -> u64
+pub fn count_up_or_down(up: bool, by: u64, old: u64) -> u64
     ensures { result ≡ counted up by old }
 {
     if up {

@@ -67,12 +67,12 @@ impl PlainStore {
         requires greatest { greatest ≤ 8388608 }
         ensures { IfOk result (λ store. store ≡ opening pages greatest) }
     {
-        PlainStore::starting(alloc, pages, greatest, 1)
+        PlainStore::with_next_number(alloc, pages, greatest, 1)
     }
 
     /// Makes the same, whose first write draws the unique number `next`, at least 1. At 2^64 - 1 the
     /// numbers are spent.
-    pub fn starting(
+    pub fn with_next_number(
         alloc: Global,
         pages: u32,
         greatest: u64,
@@ -97,7 +97,7 @@ impl PlainStore {
 
 impl PlainStore {
     /// Finds the item that stands under the key: one that isn't dead.
-    fn standing(&self, key: &[u8], now: Moment) -> Option<&Item>
+    fn standing_item(&self, key: &[u8], now: Moment) -> Option<&Item>
         ensures { option_copied result ≡ standing self.now key.now now }
     {
         match self.items.get(key) {
@@ -117,7 +117,7 @@ impl PlainStore {
     fn drop_dead(&mut self, key: &[u8], now: Moment)
         ensures { self.new ≡ found key.now self.old now }
     {
-        if self.standing(key, now).is_none() {
+        if self.standing_item(key, now).is_none() {
             self.remove(key);
         }
     }
@@ -135,18 +135,23 @@ impl PlainStore {
 // A step, by the protocol's table.
 impl PlainStore {
     /// Takes a step. A step that writes no item and hits none takes no memory.
-    fn taken(&mut self, alloc: Global, step: &KeyStep<'_>, now: Moment) -> Result<Reply, StepFault>
+    fn perform(
+        &mut self,
+        alloc: Global,
+        step: &KeyStep<'_>,
+        now: Moment,
+    ) -> Result<Reply, StepFault>
         requires { length (key_of step.now) ≤ longest_key }
         ensures { Ends (plain self.old step.now now) result self.old self.new }
     {
         match step {
             KeyStep::Flush { delay } => Ok(self.flush(*delay, now)),
-            _ => self.stepped(alloc, step, now),
+            _ => self.perform_row(alloc, step, now),
         }
     }
 
     /// Takes a step at its key, by its row.
-    fn stepped(
+    fn perform_row(
         &mut self,
         alloc: Global,
         step: &KeyStep<'_>,
@@ -155,7 +160,7 @@ impl PlainStore {
         requires { length (key_of step.now) ≤ longest_key }
         ensures { Ends (stepped self.old step.now now) result self.old self.new }
     {
-        let row = row_of(step, self.standing(step.key(), now), now);
+        let row = row_of(step, self.standing_item(step.key(), now), now);
         self.apply(alloc, row, step, now)
     }
 
@@ -222,7 +227,7 @@ impl PlainStore {
         ensures ok { IfOk result (λ reply. reply ≡ hit_of (standing self.now key.now now)) }
         ensures err { OnErr result (CopiesBlock (hit_of (standing self.now key.now now))) }
     {
-        match self.standing(key, now) {
+        match self.standing_item(key, now) {
             Some(item) => item.hit(alloc),
             None => Ok(Reply::Miss),
         }
@@ -269,6 +274,6 @@ impl Steps for PlainStore {
         ensures refused { result ≡ Err StepFault.NoMemory → MayFail (plain self.old step.now now) }
         ensures err { OnErr result (self.new ≡ self.old) }
     {
-        self.taken(alloc, step, now)
+        self.perform(alloc, step, now)
     }
 }

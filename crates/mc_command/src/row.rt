@@ -5,7 +5,7 @@ ghost use Rattle.mc_command.specs.Plain as machine;
 ghost use Rattle.mc_command.specs.Plain.{refusal_reply, write_reply};
 ghost use Rattle.mc_command.specs.Rows.{standing_in};
 
-use crate::number::counted;
+use crate::number::count_up_or_down;
 use crate::reply::Reply;
 use crate::step::{KeyStep, Verb};
 use mc_time::{Expiry, Moment, expiry_of};
@@ -143,7 +143,7 @@ pub fn row_of<T: Standing>(step: &KeyStep<'_>, item: Option<&T>, now: Moment) ->
 }
 
 /// Drafts a write of the step's own block.
-fn given(flags: u32, expiry: Expiry) -> Row
+fn draft_own(flags: u32, expiry: Expiry) -> Row
     ensures { result ≡ machine.given flags expiry }
 {
     Row::Writes(Draft {
@@ -154,7 +154,7 @@ fn given(flags: u32, expiry: Expiry) -> Row
 }
 
 /// Drafts a write that keeps the item's flags and its expiry.
-fn joined<T: Standing>(old: &T, body: Body) -> Row
+fn draft_joined<T: Standing>(old: &T, body: Body) -> Row
     ensures { result ≡ machine.joined (T.entry_of old.now) body }
 {
     Row::Writes(Draft {
@@ -170,14 +170,14 @@ fn store_row<T: Standing>(verb: Verb, flags: u32, expiry: Expiry, item: Option<&
 {
     match item {
         None => match verb {
-            Verb::Set | Verb::Add => given(flags, expiry),
+            Verb::Set | Verb::Add => draft_own(flags, expiry),
             Verb::Replace | Verb::Append | Verb::Prepend => Row::Refuses(Refusal::NotStored),
         },
         Some(old) => match verb {
-            Verb::Set | Verb::Replace => given(flags, expiry),
+            Verb::Set | Verb::Replace => draft_own(flags, expiry),
             Verb::Add => Row::Refuses(Refusal::NotStored),
-            Verb::Append => joined(old, Body::Appended),
-            Verb::Prepend => joined(old, Body::Prepended),
+            Verb::Append => draft_joined(old, Body::Appended),
+            Verb::Prepend => draft_joined(old, Body::Prepended),
         },
     }
 }
@@ -190,7 +190,7 @@ fn cas_row<T: Standing>(flags: u32, expiry: Expiry, unique: u64, item: Option<&T
         None => Row::Refuses(Refusal::NotFound),
         Some(old) => {
             if old.unique() == unique {
-                given(flags, expiry)
+                draft_own(flags, expiry)
             } else {
                 Row::Refuses(Refusal::Exists)
             }
@@ -236,7 +236,7 @@ fn count_row<T: Standing>(up: bool, by: u64, item: Option<&T>) -> Row
         None => Row::Refuses(Refusal::NotFound),
         Some(old) => match old.number() {
             None => Row::Refuses(Refusal::NotNumeric),
-            Some(number) => joined(old, Body::Counted(counted(up, by, number))),
+            Some(number) => draft_joined(old, Body::Counted(count_up_or_down(up, by, number))),
         },
     }
 }

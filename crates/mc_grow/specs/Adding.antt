@@ -8,8 +8,8 @@ use Rattle.mc_grow.specs.Indexes.{IndexState, left}
 
 -- No bucket can be had near a home: none of the 256 from it on is empty, or no entry can be moved into the empty one to which
 -- moves have come, before which each bucket from the home on has an entry.
-abbrev pub IsFull : {X : Type 0} → (X → ℕ) → ℕ → List (Option X) → (home : ℕ) → Type 0
-IsFull hash_of k items home =
+abbrev pub IsCrowded : {X : Type 0} → (X → ℕ) → ℕ → List (Option X) → (home : ℕ) → Type 0
+IsCrowded hash_of k items home =
     NoneFree items home (home + 256) ⊎ ((at : ℕ) × IsStuck hash_of k items home at × NoneFree items home at)
 
 -- no bucket within 31 of a home is empty
@@ -27,7 +27,7 @@ cells_of side = side.items ++ map Some side.strays
 
 -- an entry has come into the table, if a bucket could be had near its home
 pub record IsPlaced {X : Type 0} (hash_of : X → ℕ) (key_of : X → List ℕ) (k : ℕ) (entry : X) (old new : Side X) : Type 0 where
-  pub had : IsFull hash_of k old.items (home_in k (hash_of entry)) → ⊥
+  pub had : IsCrowded hash_of k old.items (home_in k (hash_of entry)) → ⊥
   pub placed : content hash_of key_of new.items
       ≡ insert (content hash_of key_of old.items) (hash_of entry ∷ key_of entry) entry
   pub strays : new.strays ≡ old.strays
@@ -37,7 +37,7 @@ pub record IsPlaced {X : Type 0} (hash_of : X → ℕ) (key_of : X → List ℕ)
 pub record IsStrayed {X : Type 0} (hash_of : X → ℕ) (key_of : X → List ℕ) (k : ℕ) (entry : X) (old new : Side X) : Type 0 where
   pub none_near : NoneNear old.items (home_in k (hash_of entry))
   pub same : content hash_of key_of new.items ≡ content hash_of key_of old.items
-  pub full : IsFull hash_of k new.items (home_in k (hash_of entry))
+  pub full : IsCrowded hash_of k new.items (home_in k (hash_of entry))
   pub strays : new.strays ≡ old.strays ++ (entry ∷ [])
 
 -- An entry was added by the rule. If an empty bucket is near its home it comes into the table, if

@@ -92,9 +92,9 @@ pub record IsUpdated {X R : Type 0} (hash_of : X → ℕ) (key_of : X → List �
   pub same_spare : new.spare ≡ old.spare
 
 -- what a search finds: the place of the entry, and none exactly where no entry has that hash and key
-abbrev pub IsFound : {X : Type 0} → (X → ℕ) → (X → List ℕ) → IndexState X → ℕ → List ℕ → Option Place → Type 0
-IsFound hash_of key_of index hash key None = get (holds hash_of key_of index) (hash ∷ key) ≡ None
-IsFound hash_of key_of index hash key (Some place) = IsPlaceOf hash_of key_of index hash key place
+abbrev pub IsFoundIn : {X : Type 0} → (X → ℕ) → (X → List ℕ) → IndexState X → ℕ → List ℕ → Option Place → Type 0
+IsFoundIn hash_of key_of index hash key None = get (holds hash_of key_of index) (hash ∷ key) ≡ None
+IsFoundIn hash_of key_of index hash key (Some place) = IsPlaceOf hash_of key_of index hash key place
 
 -- how many binary digits a number has that is at most the first one
 abbrev pub digits_in : ℕ → ℕ → ℕ

@@ -4,7 +4,7 @@ use Rattle.std.specs.List.{swap_remove}
 use Rattle.std.specs.FinMap.{insert}
 use Rattle.mc_hop.specs.Contents.{content}
 use Rattle.mc_hop.specs.Tables.{AreApart, home_in}
-use Rattle.mc_grow.specs.Adding.{IsAdded, IsFull, NoneNear, Side}
+use Rattle.mc_grow.specs.Adding.{IsAdded, IsCrowded, NoneNear, Side}
 
 -- the content is as it was, and no hash and key stands twice
 pub record HoldsAll {X : Type 0} (hash_of : X → ℕ) (key_of : X → List ℕ) (old new : List (Option X)) : Type 0 where
@@ -27,10 +27,10 @@ pub record IsTaken {X : Type 0} (hash_of : X → ℕ) (key_of : X → List ℕ) 
 abbrev pub IsOutcome : {X : Type 0} → (X → ℕ) → (X → List ℕ) → ℕ → (at : ℕ) → X → Bool → (old new : Side X) → Type 0
 IsOutcome hash_of key_of k at entry true old new =
     (content hash_of key_of new.items ≡ insert (content hash_of key_of old.items) (hash_of entry ∷ key_of entry) entry)
-    × (IsFull hash_of k old.items (home_in k (hash_of entry)) → ⊥) × (new.strays ≡ swap_remove old.strays at entry)
+    × (IsCrowded hash_of k old.items (home_in k (hash_of entry)) → ⊥) × (new.strays ≡ swap_remove old.strays at entry)
 IsOutcome hash_of key_of k at entry false old new =
     (content hash_of key_of new.items ≡ content hash_of key_of old.items)
-    × NoneNear old.items (home_in k (hash_of entry)) × IsFull hash_of k new.items (home_in k (hash_of entry)) × (new.strays ≡ old.strays)
+    × NoneNear old.items (home_in k (hash_of entry)) × IsCrowded hash_of k new.items (home_in k (hash_of entry)) × (new.strays ≡ old.strays)
 
 -- the stray of that number was tried
 pub record IsTried {X : Type 0} (hash_of : X → ℕ) (key_of : X → List ℕ) (k at : ℕ) (put : Bool) (old new : Side X) : Type 0 where

@@ -4,7 +4,7 @@ ghost use Rattle.std.specs.Prelude.{◌≡◌, ℕ, ◌^◌, ◌<◌, ◌∷◌,
 ghost use Rattle.std.specs.FinMap.{insert};
 ghost use Rattle.mc_hop.specs.Contents.{content};
 ghost use Rattle.mc_hop.specs.Tables.{IsAbsent, IsAt, home_in};
-ghost use Rattle.mc_grow.specs.Adding.{IsFull, NoneNear};
+ghost use Rattle.mc_grow.specs.Adding.{IsCrowded, NoneNear};
 
 use mc_displace::bring_near;
 use mc_hop::{Hop, Keyed};
@@ -20,14 +20,14 @@ pub(crate) fn add<T: Keyed + Drop>(table: &mut Hop<T>, entry: T) -> Result<usize
         (T.hash_of entry ∷ T.key_of entry) entry) }
     ensures place { IfOk result (λ at.
         slice_index_or table.new.items at None ≡ Some entry) }
-    ensures had { IsFull T.hash_of table.old.k table.old.items
+    ensures had { IsCrowded T.hash_of table.old.k table.old.items
         (home_in table.old.k (T.hash_of entry)) → IsErr result }
     ensures near { IfErr result (λ _.
         NoneNear table.old.items (home_in table.old.k (T.hash_of entry))) }
     ensures inside { IfOk result (λ at. at < 2 ^ 25) }
     ensures full { IfErr result (λ back. (back ≡ entry)
         × (content T.hash_of T.key_of table.new.items ≡ content T.hash_of T.key_of table.old.items)
-        × IsFull T.hash_of table.new.k table.new.items (home_in table.new.k (T.hash_of entry))) }
+        × IsCrowded T.hash_of table.new.k table.new.items (home_in table.new.k (T.hash_of entry))) }
 {
     // how many buckets there are, for the proof
     let _buckets = table.buckets();

@@ -4,7 +4,7 @@ ghost use Rattle.std.specs.Prelude.{◌≡◌, ℕ, List, Option, ◌+◌, ◌-�
 ghost use Rattle.std.specs.Prelude.{IsNone, option_copied, min, nat_lt, true, false, length};
 ghost use Rattle.std.specs.FinMap.{get, insert, len};
 ghost use Rattle.mc_hop.specs.Tables.{KeepsKey};
-ghost use Rattle.mc_grow.specs.Indexes.{IsNew, StandsAs, HasBegun, IsFilled, IsFound, IsNext, IsPlaceOf, IsUpdated};
+ghost use Rattle.mc_grow.specs.Indexes.{IsNew, StandsAs, HasBegun, IsFilled, IsFoundIn, IsNext, IsPlaceOf, IsUpdated};
 ghost use Rattle.mc_grow.specs.Parts.{IsFirstFilled, IsSpot, NoneFilledFrom};
 ghost use Rattle.mc_grow.specs.Indexes.{IsRemoved, cells, count, entry_at, holds, is_due, lags, left, most_reads};
 ghost use Rattle.mc_grow.specs.Adding.{AreMoved, IsInserted};
@@ -80,14 +80,14 @@ impl<T: Keyed + Drop> Index<T> {
     /// Finds the place of the entry of that hash and key. It reads at most 32 entries of each table, and of the strays as many as
     /// their count has binary digits.
     pub fn find(&self, hash: u64, key: &[u8]) -> Option<Place>
-        ensures { IsFound T.hash_of T.key_of self.now hash key.now result }
+        ensures { IsFoundIn T.hash_of T.key_of self.now hash key.now result }
     {
         self.find_counted(hash, key, &mut Uncounted)
     }
 
     /// Finds the place as `find` does, by the same reads, and counts the entries that it reads.
     pub fn find_counted<C: Counts>(&self, hash: u64, key: &[u8], reads: &mut C) -> Option<Place>
-        ensures found { IsFound T.hash_of T.key_of self.now hash key.now result }
+        ensures found { IsFoundIn T.hash_of T.key_of self.now hash key.now result }
         ensures reads { C.count reads.new ≤ C.count reads.old + most_reads self.now }
     {
         let first = drained_buckets(&self.draining);
@@ -109,7 +109,7 @@ impl<T: Keyed + Drop> Index<T> {
     /// Finds the place as `find` does, whatever the place is that it is given: it looks there
     /// first, which is one read if the entry was found there and has not moved since.
     pub fn find_again(&self, place: Place, hash: u64, key: &[u8]) -> Option<Place>
-        ensures { IsFound T.hash_of T.key_of self.now hash key.now result }
+        ensures { IsFoundIn T.hash_of T.key_of self.now hash key.now result }
     {
         // what holds of every index, for the proof
         let _ = &self.table;
@@ -122,8 +122,8 @@ impl<T: Keyed + Drop> Index<T> {
     /// States that all searches for one hash and key find one place, or none does. It does nothing.
     pub fn one_place_is_found(&self)
         ensures { (hash : ℕ) (key : List ℕ) (one other : Option Place) →
-            IsFound T.hash_of T.key_of self.now hash key one →
-            IsFound T.hash_of T.key_of self.now hash key other → one ≡ other }
+            IsFoundIn T.hash_of T.key_of self.now hash key one →
+            IsFoundIn T.hash_of T.key_of self.now hash key other → one ≡ other }
     {
         let _ = &self.strays;
     }
@@ -209,7 +209,7 @@ impl<T: Keyed + Drop> Index<T> {
     }
 
     /// Counts the entries of the old table, which are left to move.
-    pub fn left(&self) -> usize
+    pub fn entries_to_move(&self) -> usize
         ensures value { result ≡ left self.now }
         ensures rests { self.now.growing ≡ false → result ≡ 0 }
     {

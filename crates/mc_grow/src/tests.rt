@@ -27,7 +27,11 @@ fn entries_stand_in_three_parts(rt: HostRuntime) -> Result<(), Fail> {
     let index = growing(rt.alloc())?;
     assert!(rt; index.is_growing(), "no growth has begun");
     assert!(rt; index.len() == 67, "{} entries", index.len());
-    assert!(rt; index.left() == 32, "{} in the old table", index.left());
+    assert!(rt;
+        index.entries_to_move() == 32,
+        "{} in the old table",
+        index.entries_to_move()
+    );
     assert!(rt; index.strays() == 3, "{} strays", index.strays());
     assert!(rt; index.homes() == 128, "{} homes", index.homes());
     for hash in 0..MARKS {

@@ -2,7 +2,7 @@
 use Rattle.std.proofs.Common.{◌≡◌, ℕ, Bool, false, ◌<◌, ◌≤◌, ◌+◌, ◌-◌, List, [], ◌++◌, length, take, drop, refl, sym, ap, ◌∙◌, subst, arith, append_assoc, append-nil, Option, Result, Ok, Err}
 use Rattle.std.proofs.lemmas.List.{length-append, take-append-drop, take-append-le}
 use Rattle.std.proofs.Math.Seq.{take-append-add}
-use Rattle.mc_guests.specs.Links.{LinkState, asked, grown, took, failed, Takes}
+use Rattle.mc_guests.specs.Links.{LinkState, asked, grown, took, failed, IsWrite}
 use Rattle.mc_guests.specs.Gathered.{GatheringState, whole, turned, IsFront, HandsOn, FailsBelow, Flushes, Gathers}
 use Rattle.mc_guests.proofs.LinkLemmas.{grown_nothing, grown_twice}
 use Rattle.mc_guests.specs.declared.link.Took.{Took}
@@ -14,7 +14,7 @@ took_twice link a b = ap (λ (t : Option (List ℕ)). record link { taken = t })
 
 -- a front of what is gathered was taken
 pub hands_front : (n : ℕ) (inside old : GatheringState) (bytes gathered : List ℕ) (link : LinkState) → inside ≡ old
-    → bytes ≡ inside.gathered → gathered ≡ drop n inside.gathered → Takes inside.link bytes (Ok (TookBytes n)) link
+    → bytes ≡ inside.gathered → gathered ≡ drop n inside.gathered → IsWrite inside.link bytes (Ok (TookBytes n)) link
     → HandsOn old.gathered old (record { link = link; gathered = gathered; was_read = inside.was_read })
 hands_front n inside old bytes gathered link is same rest takes =
     subst (λ (s : GatheringState). HandsOn s.gathered s (record { link = link; gathered = gathered; was_read = inside.was_read })) is (record {
@@ -26,7 +26,7 @@ hands_front n inside old bytes gathered link is same rest takes =
 
 -- all that is gathered was taken, and a front of the bytes behind it, of which a front was handed on
 pub sends_front : (n : ℕ) (inside old : GatheringState) (gathered front bytes rest : List ℕ) (link : LinkState) → inside ≡ old
-    → gathered ≡ inside.gathered → IsFront front bytes → rest ≡ [] → length inside.gathered < n → Takes inside.link (gathered ++ front) (Ok (TookBytes n)) link
+    → gathered ≡ inside.gathered → IsFront front bytes → rest ≡ [] → length inside.gathered < n → IsWrite inside.link (gathered ++ front) (Ok (TookBytes n)) link
     → (n - length inside.gathered ≤ length bytes) × HandsOn (old.gathered ++ take (n - length inside.gathered) bytes) old (record { link = link; gathered = rest; was_read = inside.was_read })
 sends_front n inside old gathered front bytes rest link is same (behind, whole) none more takes =
     let m = n - length inside.gathered in
@@ -49,7 +49,7 @@ sends_front n inside old gathered front bytes rest link is same (behind, whole) 
 
 -- no more was taken than is gathered
 pub sends_less : (n : ℕ) (inside old : GatheringState) (gathered bytes rest : List ℕ) (link : LinkState) → inside ≡ old
-    → gathered ≡ inside.gathered → rest ≡ drop n inside.gathered → n ≤ length inside.gathered → Takes inside.link (gathered ++ bytes) (Ok (TookBytes n)) link
+    → gathered ≡ inside.gathered → rest ≡ drop n inside.gathered → n ≤ length inside.gathered → IsWrite inside.link (gathered ++ bytes) (Ok (TookBytes n)) link
     → HandsOn old.gathered old (record { link = link; gathered = rest; was_read = inside.was_read })
 sends_less n inside old gathered bytes rest link is same left low takes =
     hands_front n inside old inside.gathered rest link is refl left (
@@ -125,7 +125,7 @@ fails_same old new fails =
 
 -- so a gathering is a link
 pub gathers_takes : (old new : GatheringState) (bytes : List ℕ) (result : Result Took LinkFault) → Gathers (turned false old) bytes result new
-    → Takes (whole old) bytes result (whole new)
+    → IsWrite (whole old) bytes result (whole new)
 gathers_takes old new bytes (Ok (TookBytes n)) gathers = (
   gathers.0,
   tells (old.gathered ++ take n bytes) (turned false old) new gathers.1

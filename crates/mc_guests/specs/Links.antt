@@ -57,8 +57,8 @@ GivesPiece old piece (Ok End) new = (piece ≡ []) × (new ≡ ended (asked true
 GivesPiece old piece (Err fault) new = (piece ≡ []) × (new ≡ failed (asked true old))
 
 -- what a write does
-abbrev pub Takes : LinkState → List ℕ → Result Took LinkFault → LinkState → Type 0
-Takes old bytes (Ok (TookBytes n)) new =
+abbrev pub IsWrite : LinkState → List ℕ → Result Took LinkFault → LinkState → Type 0
+IsWrite old bytes (Ok (TookBytes n)) new =
     (n ≤ length bytes) × (new ≡ took (asked false old) (take n bytes))
-Takes old bytes (Ok TookNone) new = new ≡ asked false old
-Takes old bytes (Err fault) new = new ≡ failed (asked false old)
+IsWrite old bytes (Ok TookNone) new = new ≡ asked false old
+IsWrite old bytes (Err fault) new = new ≡ failed (asked false old)

@@ -1,7 +1,7 @@
 //! Few large writes in the place of many small ones.
 ghost use Rattle.mc_parse.specs.Queues.{first_piece};
 ghost use Rattle.std.specs.Prelude.{◌≡◌, ◌≤◌, ◌↔◌, ◌-◌, ◌^◌, ◌++◌, [], Ok, IsTrue, IsFalse, true, false};
-ghost use Rattle.mc_guests.specs.Links.{Gives, Takes};
+ghost use Rattle.mc_guests.specs.Links.{Gives, IsWrite};
 ghost use Rattle.mc_guests.specs.Gathered.{over, whole, turned, IsFront, Flushes, Gathers, AfterAll};
 ghost use Rattle.mc_guests.specs.Gathered.{WaitsBelow};
 
@@ -186,7 +186,7 @@ impl<L: Link + Drop> Link for Gathering<L> {
     /// Gathers the bytes, or hands on what is gathered and then takes a front of them, if the link
     /// below took all before it.
     fn try_write(&mut self, bytes: &[u8]) -> Result<Took, LinkFault>
-        ensures takes { Takes (whole self.old) bytes.now result (whole self.new) }
+        ensures takes { IsWrite (whole self.old) bytes.now result (whole self.new) }
         ensures full { self.old.link.faults ≡ 2 ^ 64 - 1 → result ≡ Ok Took.Later }
         ensures gathers { Gathers (turned false self.old) bytes.now result self.new }
         ensures asks { (self.old.link.faults ≡ 2 ^ 64 - 1 → ⊥) → result ≡ Ok Took.Later →
@@ -210,7 +210,7 @@ impl<L: Link + Drop> Link for Gathering<L> {
         self.link.faults()
     }
 
-    fn reserved(&self) -> usize {
+    fn capacity(&self) -> usize {
         self.gathered.capacity()
     }
 }

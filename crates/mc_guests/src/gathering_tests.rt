@@ -34,11 +34,11 @@ impl Model for Narrow {
 }
 
 impl Narrow {
-    ghost use Rattle.mc_guests.specs.Links.{Takes};
+    ghost use Rattle.mc_guests.specs.Links.{IsWrite};
 
     /// Takes a front of the bytes.
     fn take(&mut self, bytes: &[u8]) -> Result<Took, LinkFault>
-        ensures { Takes self.old bytes.now result self.new }
+        ensures { IsWrite self.old bytes.now result self.new }
     {
         self.was_read = false;
         let count = bytes.len().min(self.width);

@@ -94,12 +94,12 @@ impl<L: Link + Drop> Guest<L> {
     }
 
     /// Counts the bytes of memory that are reserved for its session, and for what its link has still to hand on.
-    pub(crate) fn reserved(&self) -> usize
+    pub(crate) fn capacity(&self) -> usize
         ensures unread { length self.now.session.unread.bytes ≤ result }
         ensures out { length self.now.session.out ≤ result }
     {
-        let link = self.tap.link.reserved();
-        self.session.reserved().saturating_add(link)
+        let link = self.tap.link.capacity();
+        self.session.capacity().saturating_add(link)
     }
 
     /// Gives back the memory that is kept for its session beyond that of two first pieces, if
@@ -116,7 +116,7 @@ impl<L: Link + Drop> Guest<L> {
     pub(crate) fn give_up(&mut self) {
         self.session.close();
         let waiting = self.session.out().len();
-        self.session.sent(waiting);
+        self.session.drop_sent(waiting);
     }
 
     /// Counts the bytes of the unit that is read now, if its line announces a block, whether or not
@@ -124,17 +124,17 @@ impl<L: Link + Drop> Guest<L> {
     pub(crate) fn unit(&self) -> usize
         ensures { self.now.session.unread.bytes ≡ [] → result ≡ 0 }
     {
-        self.session.announced()
+        self.session.announced_bytes()
     }
 
     /// Counts the bytes of the unit whose block is to be read next, whether or not they came; none
     /// if output is to be written first.
-    pub(crate) fn announced(&self) -> usize
+    pub(crate) fn announced_bytes(&self) -> usize
         ensures unread { self.now.session.unread.bytes ≡ [] → result ≡ 0 }
         ensures out { (self.now.session.out ≡ [] → ⊥) → result ≡ 0 }
     {
         if self.session.out().is_empty() {
-            self.session.announced()
+            self.session.announced_bytes()
         } else {
             0
         }
@@ -176,7 +176,7 @@ impl<L: Link + Drop> Guest<L> {
                 if taken == 0 {
                     return Visit::Later;
                 }
-                self.session.sent(taken);
+                self.session.drop_sent(taken);
                 Visit::Wrote
             }
             Ok(Took::Later) => Visit::Later,

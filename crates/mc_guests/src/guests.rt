@@ -190,7 +190,7 @@ impl<L: Link + Drop> Guests<L> {
     }
 
     /// Counts those that are kept waiting.
-    pub fn waiting(&self) -> usize {
+    pub fn waiting_guests(&self) -> usize {
         self.budget.waiting
     }
 

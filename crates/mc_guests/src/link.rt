@@ -28,7 +28,7 @@ pub struct LinkFault;
 /// and taken as they were, and counts; if no more faults can be counted, both calls answer `Later`.
 pub trait Link {
     ghost use Rattle.std.specs.Prelude.{◌≡◌, ◌-◌, ◌^◌, ◌++◌, Ok};
-    ghost use Rattle.mc_guests.specs.Links.{LinkState, Gives, Takes};
+    ghost use Rattle.mc_guests.specs.Links.{LinkState, Gives, IsWrite};
 
     /// What it gave and took until now, how often it failed, whether it is at its end, and whether it was
     /// last asked to give and not to take.
@@ -41,12 +41,12 @@ pub trait Link {
 
     /// Takes a front of these bytes if it has room.
     fn try_write(&mut self, bytes: &[u8]) -> Result<Took, LinkFault>
-        ensures takes { Takes (shown self.old) bytes.now result (shown self.new) }
+        ensures takes { IsWrite (shown self.old) bytes.now result (shown self.new) }
         ensures full { (shown self.old).faults ≡ 2 ^ 64 - 1 → result ≡ Ok Took.Later };
 
     /// Takes a front of two texts, one behind the other, if it has room.
     fn try_write_both(&mut self, first: &[u8], second: &[u8]) -> Result<Took, LinkFault>
-        ensures takes { Takes (shown self.old) (first.now ++ second.now) result (shown self.new) }
+        ensures takes { IsWrite (shown self.old) (first.now ++ second.now) result (shown self.new) }
         ensures full { (shown self.old).faults ≡ 2 ^ 64 - 1 → result ≡ Ok Took.Later }
     {
         if first.is_empty() {
@@ -61,7 +61,7 @@ pub trait Link {
         ensures { result ≡ (shown self.now).faults };
 
     /// Counts the bytes of memory that are reserved for what it took and has still to hand on.
-    fn reserved(&self) -> usize {
+    fn capacity(&self) -> usize {
         0
     }
 }

@@ -120,7 +120,7 @@ impl<L: Link + Drop> Weighed<L> {
         ensures none { result ≡ None →
             IsKeptWaiting S.Steps now self.old self.new store.old store.new }
     {
-        let wanted = self.wanted(alloc, store, now, budget);
+        let wanted = self.wanted_bytes(alloc, store, now, budget);
         if !self.may_go_on(wanted, now, budget) {
             return None;
         }
@@ -164,11 +164,17 @@ impl<L: Link + Drop> Weighed<L> {
     }
 
     /// Counts the bytes that its next visit may have it hold, if they are many.
-    fn wanted<S: Steps>(&self, alloc: Global, store: &mut S, now: Moment, budget: &Budget) -> usize
+    fn wanted_bytes<S: Steps>(
+        &self,
+        alloc: Global,
+        store: &mut S,
+        now: Moment,
+        budget: &Budget,
+    ) -> usize
         ensures { MayAsk S.Steps now store.old store.new }
     {
         if self.unit > LITTLE {
-            let announced = self.guest.announced();
+            let announced = self.guest.announced_bytes();
             if announced > LITTLE {
                 return announced;
             }
@@ -237,7 +243,7 @@ impl<L: Link + Drop> Weighed<L> {
             }
             Visit::Served | Visit::Broken | Visit::Refused => {}
         }
-        let reserved = self.guest.reserved();
+        let reserved = self.guest.capacity();
         let counted = if self.has_leave {
             reserved.max(self.unit)
         } else {

@@ -29,7 +29,7 @@ fn empty_list(alloc: Global, len: usize) -> Result<Vec<Cell>, AllocError>
 }
 
 /// Puts a number below a tag.
-fn tagged(tag: u32, number: usize) -> u32
+fn tag_number(tag: u32, number: usize) -> u32
     requires tag { tag < 128 }
     requires small { number < 2 ^ 25 }
     ensures number { result % 2 ^ 25 ≡ number }
@@ -65,7 +65,7 @@ fn set_number(cells: &mut Vec<Cell>, at: usize, number: usize)
     ensures len { vec_len cells.new ≡ vec_len cells.old }
 {
     let tag = tag_of(cells, at);
-    cells[at].tagged = tagged(tag, number);
+    cells[at].tagged = tag_number(tag, number);
 }
 
 /// Sets the number of a bucket, and its tag. Its word stays.
@@ -77,7 +77,7 @@ fn set_tagged(cells: &mut Vec<Cell>, at: usize, number: usize, tag: u32)
     ensures tags { tags_of cells.new.items ≡ slice_set (tags_of cells.old.items) at tag }
     ensures words { words_of cells.new.items ≡ words_of cells.old.items }
 {
-    cells[at].tagged = tagged(tag, number);
+    cells[at].tagged = tag_number(tag, number);
 }
 
 /// Sets the word of a bucket. Its number and its tag stay.

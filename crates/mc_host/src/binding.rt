@@ -41,7 +41,7 @@ impl From<AllocError> for Wanting {
 }
 
 /// Binds the listener, whose accepts wait.
-pub fn bound<R: Net>(rt: &R, address: SocketAddr) -> io::Result<TcpListener> {
+pub fn bind_listener<R: Net>(rt: &R, address: SocketAddr) -> io::Result<TcpListener> {
     // std's listener lets 128 connections wait, this one as many as the system allows
     let listener = TcpListener::from(mio::net::TcpListener::bind(rt, address)?);
     listener.set_nonblocking(false)?;
@@ -75,7 +75,7 @@ pub fn bound_all<R: Net>(rt: &R, alloc: Global, endpoints: &Endpoints) -> Result
 fn bound_at<R: Net>(rt: &R, endpoint: Endpoint) -> Result<TcpListener, End>
     ensures { IfErr result (EndsUnboundAt endpoint) }
 {
-    match bound(rt, SocketAddr::from((endpoint.address, endpoint.port))) {
+    match bind_listener(rt, SocketAddr::from((endpoint.address, endpoint.port))) {
         Ok(listener) => Ok(listener),
         Err(error) => Err(End::without(endpoint, &error)),
     }

@@ -10,7 +10,7 @@ const LIMITS: &str = "/proc/self/limits";
 const DESCRIPTORS: &str = "Max open files";
 
 /// Gives how many descriptors the process may have, if the system tells and there is a limit.
-pub fn allowed<R: Files + AllocGlobal>(rt: &R) -> Option<u64> {
+pub fn most_descriptors<R: Files + AllocGlobal>(rt: &R) -> Option<u64> {
     let text = fs::read_to_string(rt, LIMITS).ok()?;
     number_behind(text.as_str(), DESCRIPTORS)
 }

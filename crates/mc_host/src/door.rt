@@ -24,7 +24,11 @@ pub struct Door {
 
 /// Listens at the place that is asked for; nowhere if none is. The program ends if it can't, or
 /// memory runs out.
-pub fn opened<R: Net>(rt: &R, alloc: Global, asked: Option<Endpoint>) -> Result<Option<Door>, End>
+pub fn open_door<R: Net>(
+    rt: &R,
+    alloc: Global,
+    asked: Option<Endpoint>,
+) -> Result<Option<Door>, End>
     ensures { IfErr result (EndsWithoutDoor asked) }
 {
     let Some(endpoint) = asked else {

@@ -83,7 +83,7 @@ impl Obstacle {
         if error.kind() == io::ErrorKind::AddrNotAvailable {
             return Obstacle::NotHere;
         }
-        unnamed(error)
+        unnamed_obstacle(error)
     }
 
     /// Gives the words for it, which stand behind the address.
@@ -101,7 +101,7 @@ impl Obstacle {
 }
 
 /// Tells want of descriptors from what has no name here.
-fn unnamed(error: &io::Error) -> Obstacle
+fn unnamed_obstacle(error: &io::Error) -> Obstacle
     ensures { IsUnnamed result }
 {
     match error.raw_os_error() {

@@ -29,8 +29,8 @@ mod end;
 #[cfg(test)]
 mod tests;
 
-pub use binding::{Listeners, Wanting, bound, bound_all, look_for_descriptors, sockets_of};
+pub use binding::{Listeners, Wanting, bind_listener, bound_all, look_for_descriptors, sockets_of};
 pub use clock::AskedClock;
-pub use descriptors::allowed;
-pub use door::{Door, opened};
+pub use descriptors::most_descriptors;
+pub use door::{Door, open_door};
 pub use end::{End, Obstacle, Refusal, ending};

@@ -180,7 +180,7 @@ fn an_item_gives_back_its_numbers(rt: HostRuntime) -> Result<(), Fail> {
         assert_eq!(rt; item.flags(), flags);
         assert!(rt; item.expiry() == expiry);
         assert_eq!(rt; item.unique(), unique);
-        assert_eq!(rt; item.updated().seconds(), updated);
+        assert_eq!(rt; item.updated_at().seconds(), updated);
     }
     Ok(())
 }
@@ -242,7 +242,7 @@ fn has_head(rt: &impl Abort, item: &Item, key: &[u8], numbers: Numbers) {
     assert_eq!(rt; item.flags(), numbers.flags);
     assert!(rt; item.expiry() == numbers.expiry);
     assert_eq!(rt; item.unique(), numbers.unique);
-    assert_eq!(rt; item.updated().seconds(), numbers.updated);
+    assert_eq!(rt; item.updated_at().seconds(), numbers.updated);
 }
 
 #[test]
@@ -322,7 +322,7 @@ fn a_number_takes_the_place_of_a_block(rt: HostRuntime) -> Result<(), Fail> {
         assert_eq!(rt; item.hash(), 11);
         assert_eq!(rt; item.flags(), 7);
         assert_eq!(rt; item.unique(), 2);
-        assert_eq!(rt; item.updated().seconds(), 9);
+        assert_eq!(rt; item.updated_at().seconds(), 9);
     }
     Ok(())
 }
@@ -348,7 +348,7 @@ fn an_expiry_is_set_alone(rt: HostRuntime) -> Result<(), Fail> {
         is_block(&rt, &item, b"block");
         assert_eq!(rt; item.hash(), 11);
         assert_eq!(rt; item.unique(), 3);
-        assert_eq!(rt; item.updated().seconds(), 4);
+        assert_eq!(rt; item.updated_at().seconds(), 4);
     }
     Ok(())
 }

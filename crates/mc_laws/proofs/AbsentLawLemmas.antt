@@ -1,7 +1,7 @@
 -- What a key that is absent tells of the history.
 use Rattle.std.proofs.Common.{◌≡◌, ⊎_elim, ℕ, Bool, true, false, List, [], ◌∷◌, Some, None, sym, refl, ap, ◌∙◌, subst}
 use Rattle.mc_shared.proofs.Words.{get, KeyStep, Stored, key_of, Plain, Entry as Item, Beginning, Stepped, HistoryEntry, next, after, IsLegal, Past, KeptBy, IsShown}
-use Rattle.mc_laws.specs.Laws.{StandsIn, Has, MayChange, item_after}
+use Rattle.mc_laws.specs.Laws.{StandsInLog, Has, MayChange, item_after}
 use Rattle.mc_laws.specs.Laws.{StoresAsGiven, IsTakenAway}
 use Rattle.mc_laws.proofs.KeyLawLemmas.{none_some}
 use Rattle.mc_laws.proofs.OrderLawLemmas.{keeps_all}
@@ -19,7 +19,7 @@ never_absent began p key true shown has = absurd (has shown.log shown.legal show
 -- what was there, and is no more, an entry took away
 module _ (others_stay : OthersStay) (began : Beginning) (key : List ℕ) where
   taken_away : (m : Plain) (es : List HistoryEntry) (item : Item) → IsLegal began m es → get m.items key ≡ Some item → get (after began m es).items key ≡ None
-      → (other : HistoryEntry) × StandsIn es other × MayChange began key other.what
+      → (other : HistoryEntry) × StandsInLog es other × MayChange began key other.what
   taken_away m [] item legal has none = absurd (none_some item (sym none ∙ has))
   taken_away m (e ∷ es) item legal has none = ⊎_elim
       (λ (may : MayChange began key e.what). (e, ([], es, refl), may))
@@ -32,7 +32,7 @@ pub known_taken_away : OthersStay → (began : Beginning) (p : Past) (step : Key
     → StoresAsGiven step then → IsShown began p (key_of step) true → IsTakenAway began p (key_of step) write
 known_taken_away others_stay began p step then write has wrote given shown =
     let key = key_of step in
-    let stands : StandsIn shown.log write = keeps_all shown.log p write shown.keeps has in
+    let stands : StandsInLog shown.log write = keeps_all shown.log p write shown.keeps has in
     let before = stands.0 in
     let rest = stands.1 in
     let m = after began began.plain before in

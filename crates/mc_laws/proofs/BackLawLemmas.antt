@@ -2,7 +2,7 @@
 use Rattle.std.proofs.Common.{◌≡◌, ℕ, suc, ◌<◌, List, ◌∷◌, ◌++◌, sym, refl, ap, ◌∙◌, subst, arith}
 use Rattle.mc_shared.proofs.Words.{get, KeyStep, Read, ReadTouch, Reply, key_of, Plain, Answered, plain, Beginning, Operation, Stepped, HistoryEntry, next, IsRight}
 use Rattle.mc_shared.proofs.Words.{after, IsLegal, Past, Agrees}
-use Rattle.mc_laws.specs.Laws.{StandsIn, StandsBefore, Knew, HasItem, Wrote, Found, hit, IsHit, IsNoOlder, HasDrawnNumbers}
+use Rattle.mc_laws.specs.Laws.{StandsInLog, StandsBefore, CallerKnew, HasItem, Wrote, Found, hit, IsHit, IsNoOlder, HasDrawnNumbers}
 use Rattle.mc_laws.proofs.KeyLawLemmas.{some_is, hit_shows}
 use Rattle.mc_laws.proofs.OrderLawLemmas.{knew_before}
 use Rattle.mc_laws.proofs.ReadLawLemmas.{OthersStay, legal_parts, after_parts}
@@ -42,12 +42,12 @@ hits_in_order stay began log first second key was is drawn legal places first_hi
     (there.1 tells.0 (ap (λ (s : Plain). get s.items key) (sym (after_parts began began.plain places.before (first ∷ places.between))) ∙ tells.1))
 
 pub known_hits : OthersStay → (began : Beginning) (p : Past) (first second : HistoryEntry) (key : List ℕ) (was is : Found) → HasDrawnNumbers began.plain
-    → Agrees began p → Knew p second first → IsHit key was first.what → IsHit key is second.what → IsNoOlder was is
+    → Agrees began p → CallerKnew p second first → IsHit key was first.what → IsHit key is second.what → IsNoOlder was is
 known_hits stay began p first second key was is drawn agrees knew =
     hits_in_order stay began agrees.log first second key was is drawn agrees.legal (knew_before agrees.log p second first agrees.keeps knew)
 
 pub hits_round_a_write : OthersStay → (began : Beginning) (log : List HistoryEntry) (first second write : HistoryEntry) (key : List ℕ) (was is : Found) → HasDrawnNumbers began.plain
-    → IsLegal began began.plain log → (places : StandsBefore log first second) → IsHit key was first.what → IsHit key is second.what → StandsIn places.between write → Wrote key write.what
+    → IsLegal began began.plain log → (places : StandsBefore log first second) → IsHit key was first.what → IsHit key is second.what → StandsInLog places.between write → Wrote key write.what
     → was.unique < is.unique
 hits_round_a_write stay began log first second write key was is drawn legal places first_hits second_hits stands wrote =
     let front : List HistoryEntry = places.before ++ first ∷ places.between in

@@ -5,7 +5,7 @@ use Rattle.mc_shared.proofs.Words.{get, get-empty, dite, ℕ_discrete, Expiry, e
 use Rattle.mc_shared.proofs.Words.{Hit, key_of, Plain, Outcome, Answered, Spent, plain, stepped, changed, row_of, cas_row, given, written, with_chunk, block_need}
 use Rattle.mc_shared.proofs.Words.{without_dead, expiring, keeps_chunk, write_reply, written_block, block_of, standing, Entry as Item, Beginning, Operation, Stepped}
 use Rattle.mc_shared.proofs.Words.{Purged, HistoryEntry, left_by, next, IsRight, after, IsLegal}
-use Rattle.mc_laws.specs.Laws.{StandsIn, StandsBefore, HasItem, Wrote, Found, HasDrawnNumbers}
+use Rattle.mc_laws.specs.Laws.{StandsInLog, StandsBefore, HasItem, Wrote, Found, HasDrawnNumbers}
 use Rattle.mc_shared.proofs.Words.{found-next, order, get_put}
 use Rattle.mc_command.specs.declared.row.Row.TheVariants.{Refuses}
 use Rattle.mc_command.specs.Plain.{opening, perhaps_expiring}
@@ -174,7 +174,7 @@ module _ (key : List ℕ) (flags : ℕ) (exptime : ℤ) (block : List ℕ) (n no
 
 pub cas_is_of_read : OthersStay → (began : Beginning) (log : List HistoryEntry) (read cas other : HistoryEntry) (step : KeyStep) (then now flags unique more : ℕ) (exptime : ℤ) (block brought : List ℕ)
     → HasDrawnNumbers began.plain → IsLegal began began.plain log → (places : StandsBefore log read cas) → read.what ≡ Stepped step then (Hit flags unique block)
-    → cas.what ≡ Stepped (Cas (key_of step) more exptime brought unique) now Stored → StandsIn places.between other → Wrote (key_of step) other.what → ⊥
+    → cas.what ≡ Stepped (Cas (key_of step) more exptime brought unique) now Stored → StandsInLog places.between other → Wrote (key_of step) other.what → ⊥
 cas_is_of_read stay began log read cas other step then now flags unique more exptime block brought drawn legal places told met_is stands wrote =
     let key : List ℕ = key_of step in
     let front : List HistoryEntry = places.before ++ read ∷ places.between in

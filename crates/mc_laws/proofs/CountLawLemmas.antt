@@ -4,7 +4,7 @@ use Rattle.std.proofs.Common.{None, sym, refl, ap, ◌∙◌, subst, arith}
 use Rattle.mc_shared.proofs.Words.{get, dite, ℕ_discrete, Expiry, Counted, Number, Plain, Outcome, Answered, Spent, plain, changed, written, with_chunk, block_need}
 use Rattle.mc_shared.proofs.Words.{keeps_chunk, without_dead, standing, Entry as Item, total, Beginning, Operation, Stepped, HistoryEntry, left_by, next, IsRight, after}
 use Rattle.mc_shared.proofs.Words.{IsLegal, Past, held, same, Whole, KeptBy, get_put}
-use Rattle.mc_laws.specs.Laws.{StandsIn, MayChange}
+use Rattle.mc_laws.specs.Laws.{StandsInLog, MayChange}
 use Rattle.std.proofs.lemmas.Bool.{le-leb, leb-true}
 use Rattle.std.proofs.lemmas.Fmt.{digits_decimal, digits_value-decimal, decimal_nonempty, length-decimal-le}
 use Rattle.std.specs.Prelude.{decimal}
@@ -121,14 +121,14 @@ module _ (others_stay : OthersStay) (began : Beginning) (key : List ℕ) where
       (subst (λ o. IsNumber (left_by m o) key ((n + by) % (2 ^ 64))) (sym right.1) at_key)
   count_next m what n right is h = absurd is
 
-  all_counted : (m : Plain) (es : List HistoryEntry) (n : ℕ) → IsLegal began m es → IsNumber m key n → ((e : HistoryEntry) → StandsIn es e → MayChange began key e.what → IsCount key e.what)
+  all_counted : (m : Plain) (es : List HistoryEntry) (n : ℕ) → IsLegal began m es → IsNumber m key n → ((e : HistoryEntry) → StandsInLog es e → MayChange began key e.what → IsCount key e.what)
       → IsNumber (after began m es) key ((n + total (counts_up key) es) % (2 ^ 64))
   all_counted m [] n legal h counts = let small = number_small h.0.block n h.2 in
       let is : n ≡ (n + 0) % (2 ^ 64) = omega (arith, small) in subst (λ k. IsNumber m key k) is h
   all_counted m (e ∷ es) n legal h counts =
       let new : Plain = next began m e.what in
       let more = all_counted new es in
-      let rest : (x : HistoryEntry) → StandsIn es x → MayChange began key x.what → IsCount key x.what = λ x s. counts x (stands_behind e x es s) in
+      let rest : (x : HistoryEntry) → StandsInLog es x → MayChange began key x.what → IsCount key x.what = λ x s. counts x (stands_behind e x es s) in
       ⊎_elim
       (λ (may : MayChange began key e.what).
       let sums : ((n + counts_by key e.what) % (2 ^ 64) + total (counts_up key) es) % (2 ^ 64) ≡ (n + (counts_by key e.what + total (counts_up key) es)) % (2 ^ 64) = omega arith in
@@ -141,14 +141,14 @@ module _ (others_stay : OthersStay) (began : Beginning) (key : List ℕ) where
       (may_or_not began key e.what)
 
 pub counts_add_up : OthersStay → (began : Beginning) (front es : List HistoryEntry) (key : List ℕ) (n : ℕ) → IsLegal began began.plain (front ++ es) → IsNumber (after began began.plain front) key n
-    → ((e : HistoryEntry) → StandsIn es e → MayChange began key e.what → IsCount key e.what)
+    → ((e : HistoryEntry) → StandsInLog es e → MayChange began key e.what → IsCount key e.what)
     → IsNumber (after began began.plain (front ++ es)) key ((n + total (counts_up key) es) % (2 ^ 64))
 counts_add_up stay began front es key n legal h counts =
     subst (λ (s : Plain). IsNumber s key ((n + total (counts_up key) es) % (2 ^ 64))) (sym (after_parts began began.plain front es))
     (all_counted stay began key (after began began.plain front) es n (legal_parts began began.plain front es legal).1 h counts)
 
 pub whole_counts : OthersStay → (began : Beginning) (log : List HistoryEntry) (p : Past) (key : List ℕ) (n : ℕ) → IsLegal began began.plain log → KeptBy log p → Whole p → IsNumber began.plain key n
-    → ((e : HistoryEntry) → StandsIn (held p) e → MayChange began key e.what → IsCount key e.what)
+    → ((e : HistoryEntry) → StandsInLog (held p) e → MayChange began key e.what → IsCount key e.what)
     → IsNumber (after began began.plain log) key ((n + total (counts_up key) (held p)) % (2 ^ 64))
 whole_counts stay began log p key n legal kept whole h counts =
     subst (λ k. IsNumber (after began began.plain log) key ((n + k) % (2 ^ 64))) (kept.whole whole (counts_up key))

@@ -1,13 +1,13 @@
 -- What the laws say of callers that meet, in the tests.
 use Rattle.std.proofs.Common.{◌≡◌, inl, inr, ℕ, List, [], ◌∷◌, sym, refl, ap, ◌∙◌, subst}
 use Rattle.mc_shared.proofs.Words.{Read, Reply, Beginning, Stepped, HistoryEntry, Past, spent, start, made, both, entry_of, next_name, Agrees, with_call}
-use Rattle.mc_laws.specs.Laws.{Has, Knew}
+use Rattle.mc_laws.specs.Laws.{Has, CallerKnew}
 use Rattle.mc_laws.specs.Laws.{Found, hit, IsHit, IsNoOlder, HasDrawnNumbers, Call, PlainAnswers}
 use Rattle.mc_laws.specs.Together.{two_callers, IsMixOf}
 
 abbrev pub KnownHits : Type 0
 KnownHits = (began : Beginning) (p : Past) (first second : HistoryEntry) (key : List ℕ) (was is : Found) → HasDrawnNumbers began.plain
-    → Agrees began p → Knew p second first → IsHit key was first.what → IsHit key is second.what → IsNoOlder was is
+    → Agrees began p → CallerKnew p second first → IsHit key was first.what → IsHit key is second.what → IsNoOlder was is
 
 -- a caller read, another took it in and read
 pub reads_of_two : KnownHits → (began : Beginning) (key : List ℕ) (now : ℕ) (first second : Reply) (me me_then other met other_then : Past) → HasDrawnNumbers began.plain

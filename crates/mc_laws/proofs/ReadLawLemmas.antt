@@ -4,7 +4,7 @@ use Rattle.std.proofs.Common.{append_assoc, ne_eqb}
 use Rattle.mc_shared.proofs.Words.{not, get, empty, retain_keys, get-empty, dite, ℕ_discrete, KeyStep, Read, Delete, Flush, Reply, Stored, Hit, key_of, Plain, Items}
 use Rattle.mc_shared.proofs.Words.{Answered, plain, stepped, alive, flushed, Entry as Item, Beginning, Operation, Stepped, Purged, HistoryEntry, shelf_in, left_by, next}
 use Rattle.mc_shared.proofs.Words.{IsRight, after, IsLegal, Past, same, Ordered, KeptBy, entry_of, with_call}
-use Rattle.mc_laws.specs.Laws.{StandsIn, StandsBefore, Has, MayChange, item_after}
+use Rattle.mc_laws.specs.Laws.{StandsInLog, StandsBefore, Has, MayChange, item_after}
 use Rattle.mc_shared.proofs.Words.{order, get_kept}
 use Rattle.mc_laws.specs.Laws.{item_given, HasItem, Wrote}
 use Rattle.std.specs.Prelude.{is_some, ◌||◌}
@@ -42,24 +42,24 @@ module _ (began : Beginning) where
   after_parts m [] ys = refl
   after_parts m (x ∷ xs) ys = after_parts (next began m x.what) xs ys
 
-pub stands_behind : (x e : HistoryEntry) (es : List HistoryEntry) → StandsIn es e → StandsIn (x ∷ es) e
+pub stands_behind : (x e : HistoryEntry) (es : List HistoryEntry) → StandsInLog es e → StandsInLog (x ∷ es) e
 stands_behind x e es s = (x ∷ s.0, s.1, ap (λ ys. x ∷ ys) s.2)
 
 -- what stands in a list is its first or stands behind it
-pub first_or_behind : (x e : HistoryEntry) (es : List HistoryEntry) → StandsIn (x ∷ es) e → (e ≡ x) ⊎ StandsIn es e
+pub first_or_behind : (x e : HistoryEntry) (es : List HistoryEntry) → StandsInLog (x ∷ es) e → (e ≡ x) ⊎ StandsInLog es e
 first_or_behind x e es ([], rest, is) = inl (sym (head_is is))
 first_or_behind x e es (y ∷ before, rest, is) = inr (before, rest, tail_is is)
 
-pub none_stands : (e : HistoryEntry) → StandsIn [] e → ⊥
+pub none_stands : (e : HistoryEntry) → StandsInLog [] e → ⊥
 none_stands e ([], rest, is) = cc is
 none_stands e (x ∷ before, rest, is) = cc is
 
 -- what stands in a list stands before one of its places, at it, or behind it
-pub around : (before : List HistoryEntry) (at : HistoryEntry) (behind : List HistoryEntry) (e : HistoryEntry) → StandsIn (before ++ at ∷ behind) e → StandsIn before e ⊎ ((e ≡ at) ⊎ StandsIn behind e)
+pub around : (before : List HistoryEntry) (at : HistoryEntry) (behind : List HistoryEntry) (e : HistoryEntry) → StandsInLog (before ++ at ∷ behind) e → StandsInLog before e ⊎ ((e ≡ at) ⊎ StandsInLog behind e)
 around [] at behind e s = inr (first_or_behind at e behind s)
 around (x ∷ before) at behind e s = ⊎_elim
     (λ (is : e ≡ x). inl ([], before, ap (λ y. y ∷ before) (sym is)))
-    (λ (more : StandsIn (before ++ at ∷ behind) e). ⊎_elim (λ (front : StandsIn before e). inl (stands_behind x e before front)) inr (around before at behind e more))
+    (λ (more : StandsInLog (before ++ at ∷ behind) e). ⊎_elim (λ (front : StandsInLog before e). inl (stands_behind x e before front)) inr (around before at behind e more))
     (first_or_behind x e (before ++ at ∷ behind) s)
 
 module _ (others_stay : OthersStay) (began : Beginning) (key : List ℕ) where
@@ -81,7 +81,7 @@ module _ (others_stay : OthersStay) (began : Beginning) (key : List ℕ) where
 
   -- none of the entries may change the key's item
   abbrev Spared : List HistoryEntry → Type 0
-  Spared es = (e : HistoryEntry) → StandsIn es e → MayChange began key e.what → ⊥
+  Spared es = (e : HistoryEntry) → StandsInLog es e → MayChange began key e.what → ⊥
 
   all_spare : (m : Plain) (es : List HistoryEntry) → IsLegal began m es → Spared es → get (after began m es).items key ≡ get m.items key
   all_spare m [] legal spared = refl
@@ -104,7 +104,7 @@ module _ (others_stay : OthersStay) (began : Beginning) (key : List ℕ) where
       (λ (all : Spared es). ⊎_elim
       (λ (may : MayChange began key x.what). inl (record { before = []; last = x; between = es; is = refl; changes = may; spared = all }))
       (λ (not_may : MayChange began key x.what → ⊥). inr
-      (λ e s. ⊎_elim (λ (is : e ≡ x). subst (λ (y : HistoryEntry). MayChange began key y.what → ⊥) (sym is) not_may) (λ (t : StandsIn es e). all e t) (first_or_behind x e es s)))
+      (λ e s. ⊎_elim (λ (is : e ≡ x). subst (λ (y : HistoryEntry). MayChange began key y.what → ⊥) (sym is) not_may) (λ (t : StandsInLog es e). all e t) (first_or_behind x e es s)))
       (may_or_not began key x.what))
       (last_or_none es)
 
@@ -141,8 +141,8 @@ module _ (others_stay : OthersStay) (began : Beginning) (key : List ℕ) where
             told = told_last l.before l.between rest l.last (subst (IsLegal began began.plain) whole legal) l.spared;
           };
           latest = λ e has may. ⊎_elim inr
-              (λ (t : (e ≡ l.last) ⊎ StandsIn l.between e). ⊎_elim inl (λ (s : StandsIn l.between e). absurd (l.spared e s may)) t)
-              (around l.before l.last l.between e (subst (λ es. StandsIn es e) l.is (stands_in p front e ordered has)));
+              (λ (t : (e ≡ l.last) ⊎ StandsInLog l.between e). ⊎_elim inl (λ (s : StandsInLog l.between e). absurd (l.spared e s may)) t)
+              (around l.before l.last l.between e (subst (λ es. StandsInLog es e) l.is (stands_in p front e ordered has)));
         }
 
     reads_latest : (known : HistoryEntry) → IsLegal began began.plain log → KeptBy log (with_call p (Read key) now reply) → Has p known → MayChange began key known.what
@@ -212,7 +212,7 @@ write_read stay began log p now reply step then write legal kept has stored on =
     (λ (is : write ≡ r.last).
     let told = subst (λ (e : HistoryEntry). IsTold began log key now reply e read) (sym is) r.is_told in
     record { places = told.places; given = gives told.places; told = inl told.told })
-    (λ (s : StandsIn places.before write).
+    (λ (s : StandsInLog places.before write).
     let stands : StandsBefore log write read = record {
       before = s.0;
       between = s.1 ++ r.last ∷ places.between;

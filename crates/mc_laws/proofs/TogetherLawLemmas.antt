@@ -2,7 +2,7 @@
 use Rattle.std.proofs.Common.{◌≡◌, ⊎_elim, ℕ, ◌+◌, ◌≤◌, List, [], ◌∷◌, ◌++◌, sym, refl, ap, ◌∙◌, subst, arith}
 use Rattle.mc_shared.proofs.Words.{Plain, Answered, total, Beginning, Name, Operation, Stepped, Purged, HistoryEntry, left_by, next, IsRight, after, IsLegal, Past, held}
 use Rattle.mc_shared.proofs.Words.{numbered, Whole, KeptBy, Agrees, IsAfter}
-use Rattle.mc_laws.specs.Laws.{StandsIn}
+use Rattle.mc_laws.specs.Laws.{StandsInLog}
 use Rattle.std.specs.List.Sorted.{IsPermutation}
 use Rattle.std.proofs.lemmas.List.Sorted.{IsPermutation-refl, IsPermutation-sym, IsPermutation-cons, IsPermutation-middle, IsPermutation-trans}
 use Rattle.mc_laws.specs.Together.{AnswersOne, AnswersEach, AreAnswered}
@@ -24,7 +24,7 @@ module _ (began : Beginning) where
   answers_each m (e ∷ es) legal = (next began m e.what, answers_one m e.what legal.0, answers_each (next began m e.what) es legal.1)
 
 -- ---- a list has what another has, each once
-stands_in_rest : (before rest : List HistoryEntry) (e : HistoryEntry) → StandsIn rest e → StandsIn (before ++ rest) e
+stands_in_rest : (before rest : List HistoryEntry) (e : HistoryEntry) → StandsInLog rest e → StandsInLog (before ++ rest) e
 stands_in_rest [] rest e s = s
 stands_in_rest (x ∷ before) rest e s = stands_behind x e (before ++ rest) (stands_in_rest before rest e s)
 
@@ -36,18 +36,18 @@ module _ (y : HistoryEntry) (ys : List HistoryEntry) where
   apart_rest : Apart (y ∷ ys) → Apart ys
   apart_rest apart c n = let least = apart c n in omega (arith, least)
 
-  stands_once : Apart (y ∷ ys) → StandsIn ys y → ⊥
+  stands_once : Apart (y ∷ ys) → StandsInLog ys y → ⊥
   stands_once apart s =
       let least = apart y.by y.number in
       let one : numbered y.by y.number y ≡ 1 = same_self (y.number ∷ y.by) in
       let more = weight_in (numbered y.by y.number) ys y s in
       omega (arith, least, one, more)
 
-  others_stand : (before rest : List HistoryEntry) → Apart (y ∷ ys) → ((e : HistoryEntry) → StandsIn (y ∷ ys) e → StandsIn (before ++ y ∷ rest) e)
-      → (e : HistoryEntry) → StandsIn ys e → StandsIn (before ++ rest) e
+  others_stand : (before rest : List HistoryEntry) → Apart (y ∷ ys) → ((e : HistoryEntry) → StandsInLog (y ∷ ys) e → StandsInLog (before ++ y ∷ rest) e)
+      → (e : HistoryEntry) → StandsInLog ys e → StandsInLog (before ++ rest) e
   others_stand before rest apart all e s = ⊎_elim
-      (λ (front : StandsIn before e). stands_longer before rest e front)
-      (λ t. ⊎_elim (λ (is : e ≡ y). absurd (stands_once apart (subst (StandsIn ys) is s))) (λ (behind : StandsIn rest e). stands_in_rest before rest e behind) t)
+      (λ (front : StandsInLog before e). stands_longer before rest e front)
+      (λ t. ⊎_elim (λ (is : e ≡ y). absurd (stands_once apart (subst (StandsInLog ys) is s))) (λ (behind : StandsInLog rest e). stands_in_rest before rest e behind) t)
       (around before y rest e (all e (stands_behind y e ys s)))
 
   one_more : (before rest xs : List HistoryEntry) → xs ≡ before ++ y ∷ rest → IsPermutation ys (before ++ rest) → IsPermutation (y ∷ ys) xs
@@ -60,12 +60,12 @@ one_fewer before rest xs y n is counted =
     let whole : count xs ≡ count (before ++ y ∷ rest) = ap count is in
     omega (arith, whole, counted, total-append (λ (x : HistoryEntry). 1) before (y ∷ rest), total-append (λ (x : HistoryEntry). 1) before rest)
 
-permuted : (ys xs : List HistoryEntry) → Apart ys → ((e : HistoryEntry) → StandsIn ys e → StandsIn xs e) → count xs ≡ count ys → IsPermutation ys xs
+permuted : (ys xs : List HistoryEntry) → Apart ys → ((e : HistoryEntry) → StandsInLog ys e → StandsInLog xs e) → count xs ≡ count ys → IsPermutation ys xs
 permuted [] xs apart all counted = subst (IsPermutation []) (sym (none_left xs (omega (arith, counted)))) (IsPermutation-refl [])
 permuted (y ∷ ys) xs apart all counted =
     let s = all y ([], ys, refl) in
     one_more y ys s.0 s.1 xs s.2
-    (permuted ys (s.0 ++ s.1) (apart_rest y ys apart) (others_stand y ys s.0 s.1 apart (λ e t. subst (λ es. StandsIn es e) s.2 (all e t))) (one_fewer s.0 s.1 xs y (count ys) s.2 counted))
+    (permuted ys (s.0 ++ s.1) (apart_rest y ys apart) (others_stand y ys s.0 s.1 apart (λ e t. subst (λ es. StandsInLog es e) s.2 (all e t))) (one_fewer s.0 s.1 xs y (count ys) s.2 counted))
 
 -- ---- a whole past
 module _ (log : List HistoryEntry) (p : Past) (kept : KeptBy log p) (whole : Whole p) where

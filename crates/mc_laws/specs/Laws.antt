@@ -17,8 +17,8 @@ use Rattle.mc_shared.specs.Store.{with_call}
 -- ---- where entries stand
 
 -- an entry stands in a history
-abbrev pub StandsIn : List HistoryEntry → HistoryEntry → Type 0
-StandsIn log e =
+abbrev pub StandsInLog : List HistoryEntry → HistoryEntry → Type 0
+StandsInLog log e =
     (before : List HistoryEntry) × (rest : List HistoryEntry) × (log ≡ before ++ e ∷ rest)
 
 -- an entry stands in a history before another
@@ -39,17 +39,17 @@ Has (made p d) e = Has p e
 Has (both p q) e = Has p e ⊎ Has q e
 
 -- a past is within another: it is that one, or one that went into it, held or seen
-abbrev pub IsWithin : Past → Past → Type 0
-IsWithin p spent = p ≡ spent
-IsWithin p (start c seen) = (p ≡ start c seen) ⊎ IsWithin p seen
-IsWithin p (call q e) = (p ≡ call q e) ⊎ IsWithin p q
-IsWithin p (made q d) = (p ≡ made q d) ⊎ IsWithin p q
-IsWithin p (both q o) = (p ≡ both q o) ⊎ (IsWithin p q ⊎ IsWithin p o)
+abbrev pub PastIsWithin : Past → Past → Type 0
+PastIsWithin p spent = p ≡ spent
+PastIsWithin p (start c seen) = (p ≡ start c seen) ⊎ PastIsWithin p seen
+PastIsWithin p (call q e) = (p ≡ call q e) ⊎ PastIsWithin p q
+PastIsWithin p (made q d) = (p ≡ made q d) ⊎ PastIsWithin p q
+PastIsWithin p (both q o) = (p ≡ both q o) ⊎ (PastIsWithin p q ⊎ PastIsWithin p o)
 
 -- The caller of a call knew of another when it made it: that was its own, or one that its maker had
 -- before it made it, or one of a caller that was joined into it.
-abbrev pub Knew : Past → (later known : HistoryEntry) → Type 0
-Knew p later known = (before : Past) × IsWithin (call before later) p × Has before known
+abbrev pub CallerKnew : Past → (later known : HistoryEntry) → Type 0
+CallerKnew p later known = (before : Past) × PastIsWithin (call before later) p × Has before known
 
 -- a caller had the past, and went on to the other
 abbrev pub WentOn : Past → Past → Type 0
@@ -108,7 +108,7 @@ pub record IsTold (began : Beginning) (log : List HistoryEntry) (key : List ℕ)
     (last read : HistoryEntry) : Type 0 where
   pub places : StandsBefore log last read
   pub changes : MayChange began key last.what
-  pub spared : (e : HistoryEntry) → StandsIn places.between e → MayChange began key e.what → ⊥
+  pub spared : (e : HistoryEntry) → StandsInLog places.between e → MayChange began key e.what → ⊥
   pub told : reply ≡ read_of began (places.before ++ last ∷ places.between) now
       (item_after began (places.before ++ last ∷ []) key)
 
@@ -119,7 +119,7 @@ pub record ReadsLatest (began : Beginning) (log : List HistoryEntry) (p : Past) 
   pub last : HistoryEntry
   pub is_told : IsTold began log key now reply last read
   pub latest : (e : HistoryEntry) → Has p e → MayChange began key e.what
-      → (e ≡ last) ⊎ StandsIn is_told.places.before e
+      → (e ≡ last) ⊎ StandsInLog is_told.places.before e
 
 -- the item that a step stores as it was given, at a moment and under a unique number
 abbrev pub item_given : KeyStep → (now unique : ℕ) → Option Item
@@ -152,7 +152,7 @@ pub record ReadsWrite (began : Beginning) (log : List HistoryEntry) (now : ℕ) 
       → item_after began (places.before ++ write ∷ []) (key_of step) ≡ Some item
   pub told : (reply ≡ read_of began (places.before ++ write ∷ places.between) now
       (item_after began (places.before ++ write ∷ []) (key_of step)))
-      ⊎ ((other : HistoryEntry) × StandsIn places.between other
+      ⊎ ((other : HistoryEntry) × StandsInLog places.between other
       × MayChange began (key_of step) other.what)
 
 -- a step that, if it is answered Stored, stores an item as it was given: a set, an add, a replace
@@ -167,9 +167,9 @@ pub record IsTakenAway (began : Beginning) (p : Past) (key : List ℕ) (write : 
     pub log : List HistoryEntry
     pub legal : IsLegal began began.plain log
     pub keeps : KeptBy log p
-    pub stands : StandsIn log write
+    pub stands : StandsInLog log write
     pub other : HistoryEntry
-    pub behind : StandsIn stands.1 other
+    pub behind : StandsInLog stands.1 other
     pub changes : MayChange began key other.what
 
 -- an item with this content is under a key

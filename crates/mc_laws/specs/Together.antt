@@ -5,7 +5,7 @@ use Rattle.mc_command.specs.Plain.{Plain, Answered, plain}
 use Rattle.mc_command.specs.Purge.{purged}
 use Rattle.mc_shared.specs.History.{Beginning, Operation, Stepped, Purged, HistoryEntry, shelf_in}
 use Rattle.mc_shared.specs.Past.{Past, spent, start, made, both, held, callers, times, Whole}
-use Rattle.mc_laws.specs.Laws.{StandsIn, StandsBefore, Has, Knew, Call, with_calls}
+use Rattle.mc_laws.specs.Laws.{StandsInLog, StandsBefore, Has, CallerKnew, Call, with_calls}
 
 -- the plain machine, asked for a step, gives that reply and leaves that state; a purge, which has no
 -- reply, drops the dead items of its shelf
@@ -27,12 +27,12 @@ AnswersEach began old (e ∷ es) left =
 -- this state.
 pub record AreAnswered (began : Beginning) (p : Past) (calls : List HistoryEntry) (left : Plain) : Type
     0 where
-  pub all : (e : HistoryEntry) → Has p e → StandsIn calls e
+  pub all : (e : HistoryEntry) → Has p e → StandsInLog calls e
   pub once : (first second : HistoryEntry) → StandsBefore calls first second
       → first.by ≡ second.by → first.number ≡ second.number → ⊥
-  pub order : (later known : HistoryEntry) → Knew p later known → StandsBefore calls known later
-  pub own : (e : HistoryEntry) → 1 ≤ times e.by (callers p) → StandsIn calls e
-      → StandsIn (held p) e
+  pub order : (later known : HistoryEntry) → CallerKnew p later known → StandsBefore calls known later
+  pub own : (e : HistoryEntry) → 1 ≤ times e.by (callers p) → StandsInLog calls e
+      → StandsInLog (held p) e
   pub exactly : Whole p → IsPermutation (held p) calls
   pub answers : AnswersEach began began.plain calls left
 

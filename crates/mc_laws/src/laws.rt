@@ -19,7 +19,7 @@ ghost use Rattle.mc_shared.specs.Past as past;
 ghost use Rattle.mc_shared.specs.Steps.{entry_of, Agrees};
 ghost use Rattle.mc_shared.specs.Store.{with_call, IsShown};
 ghost use Rattle.mc_shared.specs.Close.{IsAfter};
-ghost use Rattle.mc_laws.specs.Laws.{StandsIn, StandsBefore, Has, IsWithin, Knew, WentOn};
+ghost use Rattle.mc_laws.specs.Laws.{StandsInLog, StandsBefore, Has, PastIsWithin, CallerKnew, WentOn};
 ghost use Rattle.mc_laws.specs.Laws.{IsAlone, Call, with_calls, PlainAnswers};
 ghost use Rattle.mc_laws.specs.Laws.{MayChange, ReadsLatest, ReadsWrite, item_after, item_given};
 ghost use Rattle.mc_laws.specs.Laws.{Found, IsHit, IsNoOlder, HasItem, Wrote, HasDrawnNumbers};
@@ -55,9 +55,9 @@ pub fn callers_share_a_plain_store()
 /// before all that follows the join.
 pub fn calls_keep_their_order()
     ensures stands { (log : List HistoryEntry) (p : Past) (e : HistoryEntry) →
-        KeptBy log p → Has p e → StandsIn log e }
+        KeptBy log p → Has p e → StandsInLog log e }
     ensures order { (log : List HistoryEntry) (p q r : Past) (e first : HistoryEntry) →
-        KeptBy log r → IsWithin (call q e) r → IsWithin p q → Has p first →
+        KeptBy log r → PastIsWithin (call q e) r → PastIsWithin p q → Has p first →
         StandsBefore log first e }
     ensures numbers { (p q : Past) (first second : Operation) →
         WentOn (call p (entry_of p first)) q →
@@ -73,9 +73,9 @@ pub fn a_history_has_nothing_else()
         KeptBy log p → StandsBefore log first second → first.by ≡ second.by →
         first.number ≡ second.number → ⊥ }
     ensures own { (log : List HistoryEntry) (p : Past) (e : HistoryEntry) →
-        KeptBy log p → 1 ≤ times e.by (callers p) → StandsIn log e → StandsIn (held p) e }
+        KeptBy log p → 1 ≤ times e.by (callers p) → StandsInLog log e → StandsInLog (held p) e }
     ensures whole { (log : List HistoryEntry) (p : Past) (e : HistoryEntry) →
-        KeptBy log p → Whole p → StandsIn log e → StandsIn (held p) e }
+        KeptBy log p → Whole p → StandsInLog log e → StandsInLog (held p) e }
 {}
 
 /// States that a caller reads what it knows to be stored: its own writes, those of its maker before
@@ -156,7 +156,7 @@ pub fn a_caller_reads_what_it_knows()
 pub fn no_read_goes_back()
     ensures known { (began : Beginning) (p : Past) (first second : HistoryEntry) (key : List ℕ)
         (was is : Found) →
-        HasDrawnNumbers began.plain → Agrees began p → Knew p second first →
+        HasDrawnNumbers began.plain → Agrees began p → CallerKnew p second first →
         IsHit key was first.what → IsHit key is second.what → IsNoOlder was is }
     ensures history { (began : Beginning) (log : List HistoryEntry) (first second : HistoryEntry)
         (key : List ℕ) (was is : Found) →
@@ -168,7 +168,7 @@ pub fn no_read_goes_back()
         HasDrawnNumbers began.plain → IsLegal began began.plain log →
         (places : StandsBefore log first second) →
         IsHit key was first.what → IsHit key is second.what →
-        StandsIn places.between other → Wrote key other.what → was.unique < is.unique }
+        StandsInLog places.between other → Wrote key other.what → was.unique < is.unique }
 {
     other_keys_stay();
 }
@@ -215,7 +215,7 @@ pub fn a_cas_is_of_what_was_read()
         read.what ≡ Stepped step then (Reply.Hit flags unique block) →
         cas.what
         ≡ Stepped (KeyStep.Cas (key_of step) more exptime brought unique) now Reply.Stored →
-        StandsIn places.between other → Wrote (key_of step) other.what → ⊥ }
+        StandsInLog places.between other → Wrote (key_of step) other.what → ⊥ }
 {
     other_keys_stay();
 }
@@ -227,13 +227,13 @@ pub fn no_count_is_lost()
     ensures counted { (began : Beginning) (front log : List HistoryEntry) (key : List ℕ) (n : ℕ) →
         IsLegal began began.plain (front ++ log) →
         IsNumber (after began began.plain front) key n →
-        ((e : HistoryEntry) → StandsIn log e → MayChange began key e.what → IsCount key e.what) →
+        ((e : HistoryEntry) → StandsInLog log e → MayChange began key e.what → IsCount key e.what) →
         IsNumber (after began began.plain (front ++ log)) key
         ((n + total (counts_up key) log) % (2 ^ 64)) }
     ensures whole { (began : Beginning) (log : List HistoryEntry) (p : Past) (key : List ℕ)
         (n : ℕ) →
         IsLegal began began.plain log → KeptBy log p → Whole p → IsNumber began.plain key n →
-        ((e : HistoryEntry) → StandsIn (held p) e → MayChange began key e.what →
+        ((e : HistoryEntry) → StandsInLog (held p) e → MayChange began key e.what →
         IsCount key e.what) →
         IsNumber (after began began.plain log) key
         ((n + total (counts_up key) (held p)) % (2 ^ 64)) }

@@ -1,7 +1,7 @@
 //! A request over HTTP and its answer, on a connection whose calls wait.
 
 use crate::answer::Answer;
-use crate::request::{QuitAccess, asked};
+use crate::request::{QuitAccess, read_request};
 use std::io::{self, ErrorKind, Read, Write};
 use std::net::TcpStream;
 use std::time::{Clock, Duration, Instant};
@@ -30,7 +30,7 @@ impl Limit {
     }
 
     /// Gives what is left of it, a millisecond at least, and nothing if none is.
-    fn left<R: Clock>(&self, rt: &R) -> Option<Duration> {
+    fn time_left<R: Clock>(&self, rt: &R) -> Option<Duration> {
         let time = self.since.elapsed(rt).ok()?;
         let left = Duration::from_millis(LIMIT).checked_sub(time)?;
         if left < Duration::from_millis(1) {
@@ -51,7 +51,7 @@ pub fn request_of<R: Clock>(
     let limit = Limit::new(rt)?;
     let mut came = 0usize;
     for _piece in 0..LONGEST {
-        let Some(left) = limit.left(rt) else {
+        let Some(left) = limit.time_left(rt) else {
             return Some(Answer::TooSlow);
         };
         stream.set_read_timeout(Some(left)).ok()?;
@@ -63,7 +63,7 @@ pub fn request_of<R: Clock>(
             Err(error) if is_late(&error) => return Some(Answer::TooSlow),
             Err(_) => return None,
         }
-        if let Some(answer) = asked(front_of(buffer, came), access) {
+        if let Some(answer) = read_request(front_of(buffer, came), access) {
             return Some(answer);
         }
         if came >= buffer.len() {
@@ -98,7 +98,7 @@ pub fn send<R: Clock>(rt: &R, stream: &mut TcpStream, text: &[u8]) {
     };
     let mut rest = text;
     for _piece in 0..text.len() {
-        let Some(left) = limit.left(rt) else {
+        let Some(left) = limit.time_left(rt) else {
             return;
         };
         if rest.is_empty() || stream.set_write_timeout(Some(left)).is_err() {
@@ -124,7 +124,7 @@ pub fn pass_rest<R: Clock>(rt: &R, stream: &mut TcpStream, buffer: &mut [u8]) {
         return;
     };
     for _piece in 0..PASSED {
-        let Some(left) = limit.left(rt) else {
+        let Some(left) = limit.time_left(rt) else {
             return;
         };
         if stream.set_read_timeout(Some(left)).is_err() {

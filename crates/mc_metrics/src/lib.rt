@@ -36,4 +36,4 @@ pub use exchange::{LONGEST, pass_rest, request_of, send};
 pub use family::{Family, Kind, Samples};
 pub use page::page_of;
 pub use reading::{Figure, Reading, SlabFigure, SlabReading, TablesReading, bytes_of, number_at};
-pub use request::{QuitAccess, asked};
+pub use request::{QuitAccess, read_request};

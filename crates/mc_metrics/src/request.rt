@@ -54,7 +54,7 @@ impl QuitAccess {
 /// Says how the request is answered with which the bytes begin, of a peer that may ask so much;
 /// nothing if it isn't whole yet. One that is none, whatever bytes follow, and one of more than 64
 /// fields, are bad.
-pub fn asked(bytes: &[u8], access: QuitAccess) -> Option<Answer>
+pub fn read_request(bytes: &[u8], access: QuitAccess) -> Option<Answer>
     ensures found { (head : RequestHead) (rest : List ℕ) → ReadsRequest bytes.now head rest
         → length head.fields ≤ most_fields
         → result ≡ Some (answer_to access head.method head.target) }

@@ -45,7 +45,7 @@ impl AskedAddress {
                 port: None,
             });
         }
-        if let Some(inside) = bracketed(text) {
+        if let Some(inside) = strip_brackets(text) {
             let address = IpAddr::V6(inside.parse::<Ipv6Addr>().ok()?);
             return Some(AskedAddress {
                 address,
@@ -63,7 +63,7 @@ impl AskedAddress {
 }
 
 /// Gives what stands between `[` and `]`.
-fn bracketed(text: &str) -> Option<&str> {
+fn strip_brackets(text: &str) -> Option<&str> {
     text.strip_prefix('[')?.strip_suffix(']')
 }
 

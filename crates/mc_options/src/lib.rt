@@ -22,4 +22,4 @@ mod options;
 mod unserved;
 
 pub use endpoints::{AskedAddress, Endpoint, Endpoints};
-pub use options::{Asked, AskedPlace, Options, Unfit, parsed};
+pub use options::{Asked, AskedPlace, Options, Unfit, parse_options};

@@ -163,8 +163,8 @@ impl Asked {
             IsAskedFor self.shelves 64 256 settings.shelves) }
         ensures none { result ≡ None → AsksNoShelfCount self.shelves }
     {
-        let pages = taken(self.pages, PAGES, Settings::MOST_PAGES);
-        let shelves = taken(self.shelves, SHELVES, Settings::MOST_SHELVES);
+        let pages = asked_or_usual(self.pages, PAGES, Settings::MOST_PAGES);
+        let shelves = asked_or_usual(self.shelves, SHELVES, Settings::MOST_SHELVES);
         Settings::new(pages, greatest_of(self.greatest), shelves)
     }
 }
@@ -192,10 +192,10 @@ impl Options {
             now: asked.now.map(Moment::from_seconds_at_most),
             settings,
             endpoints,
-            workers: taken(asked.workers, WORKERS, MOST_WORKERS),
-            connections: taken(asked.connections, CONNECTIONS, MOST_CONNECTIONS),
+            workers: asked_or_usual(asked.workers, WORKERS, MOST_WORKERS),
+            connections: asked_or_usual(asked.connections, CONNECTIONS, MOST_CONNECTIONS),
             idle_timeout: timeout(asked.idle_timeout, LONGEST_TIMEOUT),
-            buffers: taken(asked.buffers, BUFFERS, MOST_BUFFERS),
+            buffers: asked_or_usual(asked.buffers, BUFFERS, MOST_BUFFERS),
             scrapes: scrape_place(asked.scrapes),
             may_quit: asked.may_quit,
             verbose: asked.verbose,
@@ -218,7 +218,7 @@ fn scrape_place(asked: Option<AskedPlace>) -> Option<Endpoint>
 }
 
 /// Gives the number that is asked for, brought into 1 to `most`, and the usual one if none is.
-fn taken(asked: Option<u32>, usual: u32, most: u32) -> u32
+fn asked_or_usual(asked: Option<u32>, usual: u32, most: u32) -> u32
     requires { IsUpTo most usual }
     ensures { IsAskedFor asked usual most result }
 {
@@ -250,7 +250,7 @@ fn timeout(asked: Option<u32>, longest: u32) -> u32
 }
 
 /// Reads the words of the command line, the program's own name first.
-pub fn parsed(alloc: Global, words: &[String]) -> Result<Options, Unfit>
+pub fn parse_options(alloc: Global, words: &[String]) -> Result<Options, Unfit>
     ensures workers { IfOk result (λ options. 1 ≤ options.workers × options.workers ≤ 64) }
     ensures connections { IfOk result (λ options.
         1 ≤ options.connections × options.connections ≤ 65536) }

@@ -26,7 +26,7 @@ fn flag<'a>(short: char, long: &'a str, instead: &'a str) -> Unserved<'a> {
 }
 
 /// Makes an option that a word follows.
-fn valued<'a>(short: char, long: &'a str, instead: &'a str) -> Unserved<'a> {
+fn with_word<'a>(short: char, long: &'a str, instead: &'a str) -> Unserved<'a> {
     Unserved {
         short,
         long,
@@ -38,7 +38,7 @@ fn valued<'a>(short: char, long: &'a str, instead: &'a str) -> Unserved<'a> {
 /// Gives the options that aren't served.
 pub fn not_served<'a>() -> [Unserved<'a>; 26] {
     [
-        valued(
+        with_word(
             'u',
             "user",
             "start it as that user; the service of systemd has a user of its own",
@@ -48,23 +48,23 @@ pub fn not_served<'a>() -> [Unserved<'a>; 26] {
             "daemon",
             "it stays in the foreground; let systemd start it, or 'setsid mcserver &'",
         ),
-        valued(
+        with_word(
             'P',
             "pidfile",
             "let what starts it write its number down, as 'echo $!' does",
         ),
-        valued(
+        with_word(
             's',
             "unix-socket",
             "it listens at a TCP port; '-l 127.0.0.1' keeps others out",
         ),
-        valued('a', "unix-mask", "there is no UNIX socket; leave it out"),
+        with_word('a', "unix-mask", "there is no UNIX socket; leave it out"),
         flag(
             'S',
             "enable-sasl",
             "there are no passwords; listen at 127.0.0.1, or behind a tunnel",
         ),
-        valued(
+        with_word(
             'Y',
             "auth-file",
             "there are no passwords; listen at 127.0.0.1, or behind a tunnel",
@@ -74,17 +74,17 @@ pub fn not_served<'a>() -> [Unserved<'a>; 26] {
             "enable-ssl",
             "there is no encryption; put a tunnel before it, as stunnel is one",
         ),
-        valued(
+        with_word(
             'o',
             "extended",
             "of these options there is idle_timeout alone, as '--idle-timeout'; leave the others out",
         ),
-        valued(
+        with_word(
             'f',
             "slab-growth-factor",
             "the sizes of chunks are fixed; leave it out",
         ),
-        valued(
+        with_word(
             'n',
             "slab-min-size",
             "the sizes of chunks are fixed; leave it out",
@@ -104,17 +104,17 @@ pub fn not_served<'a>() -> [Unserved<'a>; 26] {
             "enable-coredumps",
             "'ulimit -c', or 'LimitCORE=' in the service, allows core files",
         ),
-        valued(
+        with_word(
             'R',
             "max-reqs-per-event",
             "sessions take turns of one command; leave it out",
         ),
-        valued(
+        with_word(
             'b',
             "listen-backlog",
             "the system's net.core.somaxconn bounds it; leave it out",
         ),
-        valued(
+        with_word(
             'B',
             "protocol",
             "the text protocol is the only one; leave it out",
@@ -136,17 +136,17 @@ pub fn not_served<'a>() -> [Unserved<'a>; 26] {
             "no command dumps keys; leave it out",
         ),
         flag('W', "disable-watch", "no command watches; leave it out"),
-        valued(
+        with_word(
             'D',
             "prefix-delimiter",
             "nothing is counted by prefixes; leave it out",
         ),
-        valued(
+        with_word(
             'e',
             "memory-file",
             "nothing is kept over a restart; leave it out",
         ),
-        valued(
+        with_word(
             'N',
             "napi-ids",
             "connections are dealt to the workers turn about; leave it out",
@@ -170,13 +170,13 @@ impl Unserved<'_> {
 pub fn with_unserved<'a>(alloc: Global, command: Command<'a>) -> Result<Command<'a>, AllocError> {
     let mut command = command;
     for option in not_served() {
-        command = command.arg(hidden(alloc, option))?;
+        command = command.arg(hidden_argument(alloc, option))?;
     }
     Ok(command)
 }
 
 /// Makes the argument of an option that help doesn't show.
-fn hidden<'a>(alloc: Global, option: Unserved<'a>) -> Arg<'a> {
+fn hidden_argument<'a>(alloc: Global, option: Unserved<'a>) -> Arg<'a> {
     let action = if option.takes_value {
         ArgAction::Set
     } else {

@@ -36,11 +36,11 @@ impl Ahead {
     }
 
     /// Counts the bytes of the unit, if its line announces a block; else none.
-    pub fn announced(&self) -> usize
+    pub fn announced_bytes(&self) -> usize
         ensures { (greatest : ℕ) → Knows greatest self.now [] → result ≡ 0 }
     {
         match self {
-            Ahead::Line(note) => note.announced(),
+            Ahead::Line(note) => note.announced_bytes(),
             Ahead::Searched(_) => 0,
         }
     }

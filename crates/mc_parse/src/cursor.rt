@@ -78,7 +78,7 @@ impl Cursor {
     {
         let (line, _) = unread.split_at(self.to);
         let (_, text) = line.split_at(self.from);
-        let keys = Keys::counted(text, self.left);
+        let keys = Keys::with_count(text, self.left);
         let with_unique = self.with_unique;
         let command = match self.exptime {
             None => Command::Get { keys, with_unique },

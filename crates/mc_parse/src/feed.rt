@@ -60,7 +60,7 @@ impl Feed {
     {
         let skipped = (piece.len() as u64).min(self.passed);
         let (_, kept) = piece.split_at(skipped as usize);
-        self.unread.push_part(kept, self.ahead.announced())?;
+        self.unread.push_part(kept, self.ahead.announced_bytes())?;
         self.passed -= skipped;
         self.ahead = self.ahead.after(self.greatest, self.unread.as_slice());
         Ok(())
@@ -78,7 +78,7 @@ impl Feed {
         ensures err { OnErr result (self.new ≡ self.old) }
         ensures asked { OnErr result (source.new ≡ source.old) }
     {
-        let whole = self.ahead.announced();
+        let whole = self.ahead.announced_bytes();
         match self.unread.push_part_from(source, room, whole) {
             Ok(answer) => {
                 let dropped = self.passed.min(self.unread.len() as u64);
@@ -131,7 +131,7 @@ impl Feed {
 
     /// Passes over the unit that the unread bytes begin with, which `peek` found to be spelled by `len` bytes. The bytes
     /// that a fault passes over are dropped as they come. It takes no memory.
-    pub fn done(&mut self, len: usize)
+    pub fn skip_unit(&mut self, len: usize)
         requires { HasUnit self.old len }
         ensures { ReadsUnit self.old len self.new }
     {
@@ -168,7 +168,7 @@ impl Feed {
     }
 
     /// Counts the bytes of the stream that are held: the unread ones. Those that are passed over never are.
-    pub fn held(&self) -> usize
+    pub fn held_bytes(&self) -> usize
         ensures unread { result ≡ length self.now.bytes }
         ensures settled { IsSettled self.now }
         ensures passing { 0 < self.now.passed → result ≡ 0 }
@@ -177,16 +177,16 @@ impl Feed {
     }
 
     /// Counts the bytes of memory that are filled: the unread ones, and of those that were read at most as many.
-    pub fn filled(&self) -> usize
+    pub fn filled_bytes(&self) -> usize
         ensures least { length self.now.bytes ≤ result }
         ensures most { result ≤ 2 * length self.now.bytes }
         ensures passing { 0 < self.now.passed → result ≡ 0 }
     {
-        self.unread.filled()
+        self.unread.filled_bytes()
     }
 
     /// Counts the bytes of memory that are reserved, filled or not: at most 65536 if no byte is unread.
-    pub fn reserved(&self) -> usize
+    pub fn capacity(&self) -> usize
         ensures filled { length self.now.bytes ≤ result }
         ensures empty { self.now.bytes ≡ [] → result ≤ kept_in_feed }
     {
@@ -205,10 +205,10 @@ impl Feed {
 
     /// Counts the bytes of the unit that the unread bytes begin with, if its line announces a block, whether or not they
     /// came; else none.
-    pub fn announced(&self) -> usize
+    pub fn announced_bytes(&self) -> usize
         ensures { self.now.bytes ≡ [] → result ≡ 0 }
     {
-        self.ahead.announced()
+        self.ahead.announced_bytes()
     }
 
     /// Finds what `peek` finds. What else is said there follows from the two clauses.

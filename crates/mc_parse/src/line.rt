@@ -77,7 +77,7 @@ fn store_line(greatest: u64, verb: Verb, text: &[u8], args: &[u8]) -> Result<Not
         key,
         flags,
         exptime,
-        block: fitting(greatest, word, len)?,
+        block: check_charge(greatest, word, len)?,
         quiet,
     })
 }
@@ -103,7 +103,7 @@ fn cas_line(greatest: u64, text: &[u8], args: &[u8]) -> Result<Noted, LineFault>
         key,
         flags,
         exptime,
-        block: fitting(greatest, word, len)?,
+        block: check_charge(greatest, word, len)?,
         unique,
         quiet,
     })
@@ -264,7 +264,7 @@ fn noreply(word: &[u8], rest: &[u8]) -> Result<bool, LineFault>
 }
 
 /// Lets a block of `len` bytes pass, unless its item would be charged more than `greatest`.
-fn fitting(greatest: u64, key: &[u8], len: u32) -> Result<u32, LineFault>
+fn check_charge(greatest: u64, key: &[u8], len: u32) -> Result<u32, LineFault>
     ensures { result ≡ fitting greatest key.now len }
 {
     let len_wide = u64::from(len);
@@ -316,7 +316,7 @@ fn keys_formed(text: &[u8]) -> Result<Keys<'_>, LineFault>
     if count == 0 {
         return Err(LineFault::Unknown);
     }
-    Ok(Keys::counted(text, count))
+    Ok(Keys::with_count(text, count))
 }
 
 /// Returns whether a word is a key. A word of a line holds no space and no line feed, so its length is all that is asked.

@@ -50,11 +50,11 @@ pub const NAMES: [(&[u8], Name); 17] = [
 pub(crate) fn name_of(word: &[u8]) -> Option<Name>
     ensures { result ≡ name_of word.now }
 {
-    named(&NAMES, word)
+    find_name(&NAMES, word)
 }
 
 /// Finds what the first row with this word names.
-fn named(rows: &[(&[u8], Name)], word: &[u8]) -> Option<Name>
+fn find_name(rows: &[(&[u8], Name)], word: &[u8]) -> Option<Name>
     ensures { result ≡ named (λ name. name.now) rows.now word.now }
 {
     row_named(rows, word)

@@ -61,7 +61,7 @@ impl KeySpan {
         ensures { result ≡ keys_at text.now self.now }
     {
         let (_, behind) = text.split_at(self.from);
-        Keys::counted(behind, self.count)
+        Keys::with_count(behind, self.count)
     }
 }
 
@@ -144,7 +144,7 @@ pub fn lend<'a>(noted: &Noted, text: &'a [u8], block: &'a [u8]) -> Command<'a>
 
 /// Returns how long the block is that a noted command announces.
 #[inline]
-fn announced(noted: &Noted) -> Option<u32>
+fn announced_block(noted: &Noted) -> Option<u32>
     ensures { result ≡ block_in noted.now }
 {
     match noted {
@@ -195,9 +195,9 @@ impl Note {
     }
 
     /// Counts the bytes of the line and of the block that it announces; none if it announces no block.
-    pub fn announced(&self) -> usize {
+    pub fn announced_bytes(&self) -> usize {
         match self.said {
-            Ok(noted) => match announced(&noted) {
+            Ok(noted) => match announced_block(&noted) {
                 Some(len) => self.end.saturating_add(3).saturating_add(len as usize),
                 None => 0,
             },
@@ -217,7 +217,7 @@ impl Note {
         let (text, _) = unread.split_at(self.to);
         match self.said {
             Err(fault) => Peek::Bad(fault, self.end + 1),
-            Ok(noted) => match announced(&noted) {
+            Ok(noted) => match announced_block(&noted) {
                 None => Peek::Whole(lend(&noted, text, &[]), self.end + 1),
                 Some(len) => block_peeked(&noted, text, unread, self.end, len as usize),
             },

@@ -74,7 +74,7 @@ impl<const KEPT: usize> Queue<KEPT> {
 
     /// Counts the bytes of memory that are filled: those that weren't taken yet, and of those that were taken at most as
     /// many.
-    pub fn filled(&self) -> usize
+    pub fn filled_bytes(&self) -> usize
         ensures least { length self.now ≤ result }
         ensures most { result ≤ 2 * length self.now }
     {

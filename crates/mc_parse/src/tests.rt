@@ -49,18 +49,18 @@ fn len_of(peek: Peek<'_>) -> Option<usize>
 /// Passes over the unit that the unread bytes begin with, and says how many bytes spelled it.
 fn pass_unit(feed: &mut Feed) -> Option<usize> {
     let len = len_of(feed.peek())?;
-    feed.done(len);
+    feed.skip_unit(len);
     Some(len)
 }
 
 /// Pushes a piece. Returns whether the feed was as before if that was refused, and pushes it then.
 fn push_at_last(feed: &mut Feed, piece: &[u8]) -> Result<bool, AllocError> {
-    let held = feed.held();
+    let held = feed.held_bytes();
     let found = len_of(feed.peek());
     if feed.push(piece).is_ok() {
         return Ok(true);
     }
-    let is_same = feed.held() == held && len_of(feed.peek()) == found;
+    let is_same = feed.held_bytes() == held && len_of(feed.peek()) == found;
     feed.push(piece)?;
     Ok(is_same)
 }
@@ -102,12 +102,12 @@ impl Source for Well {
 /// Takes a piece from a source. Returns whether the feed and the source were as before if that was refused, and takes it
 /// then.
 fn take_at_last(feed: &mut Feed, well: &mut Well, room: usize) -> Result<bool, AllocError> {
-    let held = feed.held();
+    let held = feed.held_bytes();
     let left = well.left;
     if feed.push_from(well, room).is_ok() {
         return Ok(true);
     }
-    let is_same = feed.held() == held && well.left == left;
+    let is_same = feed.held_bytes() == held && well.left == left;
     feed.push_from(well, room)?;
     Ok(is_same)
 }
@@ -115,7 +115,7 @@ fn take_at_last(feed: &mut Feed, well: &mut Well, room: usize) -> Result<bool, A
 /// Takes up to `n` bytes away. Returns whether what is left is this, and what is held at most twice as much.
 fn consume_to(queue: &mut Queue<65536>, n: usize, left: &[u8]) -> bool {
     queue.consume(queue.len().min(n));
-    queue.as_slice() == left && queue.len() == left.len() && queue.filled() <= 2 * left.len()
+    queue.as_slice() == left && queue.len() == left.len() && queue.filled_bytes() <= 2 * left.len()
 }
 
 #[test]
@@ -147,9 +147,9 @@ fn a_large_queue_gives_its_memory_back(rt: HostRuntime) -> Result<(), AllocError
     }
     assert!(rt; queue.capacity() >= 131072);
     queue.consume(queue.len().min(131071));
-    assert_eq!(rt; queue.filled(), 1);
+    assert_eq!(rt; queue.filled_bytes(), 1);
     queue.clear();
-    assert!(rt; queue.capacity() <= 65536 && queue.filled() == 0);
+    assert!(rt; queue.capacity() <= 65536 && queue.filled_bytes() == 0);
     Ok(())
 }
 
@@ -324,21 +324,21 @@ fn a_block_that_is_passed_over(rt: HostRuntime) -> Result<(), AllocError> {
         )
     );
     assert_eq!(rt; pass_unit(&mut feed), Some(15));
-    assert_eq!(rt; feed.held(), 0);
+    assert_eq!(rt; feed.held_bytes(), 0);
     for _ in 0..199 {
         assert!(rt; push_at_last(&mut feed, b"x")?);
-        assert!(rt; feed.held() == 0 && feed.filled() == 0);
+        assert!(rt; feed.held_bytes() == 0 && feed.filled_bytes() == 0);
         assert!(rt; matches!(feed.peek(), Peek::More));
     }
     assert!(rt; push_at_last(&mut feed, b"version\r\nqu")?);
     assert!(rt; matches!(feed.peek(), Peek::Whole(Command::Lone(Lone::Version), 9)));
     assert_eq!(rt; pass_unit(&mut feed), Some(9));
-    assert_eq!(rt; feed.held(), 2);
+    assert_eq!(rt; feed.held_bytes(), 2);
     assert!(rt; matches!(feed.peek(), Peek::More));
     assert!(rt; push_at_last(&mut feed, b"it\r\n")?);
     assert!(rt; matches!(feed.peek(), Peek::Whole(Command::Lone(Lone::Quit), 6)));
     feed.clear();
-    assert_eq!(rt; feed.held(), 0);
+    assert_eq!(rt; feed.held_bytes(), 0);
     Ok(())
 }
 
@@ -348,7 +348,7 @@ fn what_is_passed_over_is_never_held(rt: HostRuntime) -> Result<(), AllocError> 
     let mut feed = Feed::new(rt.alloc(), GREATEST);
     let line = b"set a 0 0 2097152\r\n";
     assert!(rt; push_at_last(&mut feed, line)?);
-    assert_eq!(rt; feed.held(), line.len());
+    assert_eq!(rt; feed.held_bytes(), line.len());
     assert!(rt;
         matches!(
             feed.peek(),
@@ -359,12 +359,12 @@ fn what_is_passed_over_is_never_held(rt: HostRuntime) -> Result<(), AllocError> 
     let piece = [b'x'; 16384];
     for _ in 0..128 {
         assert!(rt; push_at_last(&mut feed, &piece)?);
-        assert!(rt; feed.held() == 0 && matches!(feed.peek(), Peek::More));
+        assert!(rt; feed.held_bytes() == 0 && matches!(feed.peek(), Peek::More));
     }
     assert!(rt; push_at_last(&mut feed, b"\r\n")?);
-    assert!(rt; feed.held() == 0 && matches!(feed.peek(), Peek::More));
+    assert!(rt; feed.held_bytes() == 0 && matches!(feed.peek(), Peek::More));
     assert!(rt; push_at_last(&mut feed, b"version\r\n")?);
-    assert_eq!(rt; feed.held(), 9);
+    assert_eq!(rt; feed.held_bytes(), 9);
     assert!(rt; matches!(feed.peek(), Peek::Whole(Command::Lone(Lone::Version), 9)));
     Ok(())
 }
@@ -377,7 +377,7 @@ fn what_is_passed_over_of_a_source_is_never_held(rt: HostRuntime) -> Result<(), 
     let mut well = Well { left: 2097154 };
     for _ in 0..129 {
         assert!(rt; take_at_last(&mut feed, &mut well, 16384)?);
-        assert!(rt; feed.held() == 0 && feed.filled() == 0);
+        assert!(rt; feed.held_bytes() == 0 && feed.filled_bytes() == 0);
     }
     assert!(rt; push_at_last(&mut feed, b"version\r\n")?);
     assert!(rt; matches!(feed.peek(), Peek::Whole(Command::Lone(Lone::Version), 9)));
@@ -388,16 +388,16 @@ fn what_is_passed_over_of_a_source_is_never_held(rt: HostRuntime) -> Result<(), 
 #[test]
 fn a_block_is_announced_by_its_line(rt: HostRuntime) -> Result<(), AllocError> {
     let mut feed = Feed::new(rt.alloc(), GREATEST);
-    assert_eq!(rt; feed.announced(), 0);
+    assert_eq!(rt; feed.announced_bytes(), 0);
     feed.push(b"set a 0 0 100000\r\n")?;
-    assert_eq!(rt; feed.announced(), 100020);
+    assert_eq!(rt; feed.announced_bytes(), 100020);
     for _ in 0..2 {
         feed.push(&[b'x'; 8192])?;
     }
-    assert!(rt; feed.reserved() >= 100020 && feed.rest() >= 100020);
+    assert!(rt; feed.capacity() >= 100020 && feed.rest() >= 100020);
     feed.clear();
-    assert_eq!(rt; feed.announced(), 0);
-    assert!(rt; feed.rest() <= FIRST_PIECE && feed.reserved() <= FIRST_PIECE);
+    assert_eq!(rt; feed.announced_bytes(), 0);
+    assert!(rt; feed.rest() <= FIRST_PIECE && feed.capacity() <= FIRST_PIECE);
     Ok(())
 }
 
@@ -468,7 +468,7 @@ fn a_stream_in_pieces_of_one_byte(rt: HostRuntime) -> Result<(), AllocError> {
         let is_whole = pass_unit(&mut feed).is_some();
         assert!(rt; is_whole == lasts.contains(&place), "at {place}");
     }
-    assert_eq!(rt; feed.held(), 0);
+    assert_eq!(rt; feed.held_bytes(), 0);
     Ok(())
 }
 
@@ -481,7 +481,7 @@ fn the_longest_line_in_pieces(rt: HostRuntime) -> Result<(), AllocError> {
         assert!(rt; matches!(feed.peek(), Peek::More));
         assert!(rt; push_at_last(&mut feed, &spaces)?);
     }
-    assert_eq!(rt; feed.held(), 65536);
+    assert_eq!(rt; feed.held_bytes(), 65536);
     assert!(rt; matches!(feed.peek(), Peek::More));
     assert!(rt; push_at_last(&mut feed, b"\n")?);
     assert!(rt;

@@ -19,5 +19,5 @@ mod steps;
 mod steps_tests;
 
 pub use steps::{
-    Ask, Row, Want, asked, filled, first_unlike, is_same, is_wanted, set, step_of, told_of,
+    Ask, Row, Want, ask_step, filled_block, first_unlike, is_same, is_wanted, set, step_of, told_of,
 };

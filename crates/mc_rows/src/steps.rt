@@ -83,7 +83,7 @@ pub fn step_of<'a>(key: &'a [u8], ask: Ask<'a>) -> KeyStep<'a>
 }
 
 /// Names a reply.
-fn told(reply: &Reply) -> &'static str {
+fn reply_word(reply: &Reply) -> &'static str {
     match reply {
         Reply::Stored => "stored",
         Reply::NotStored => "not stored",
@@ -104,7 +104,7 @@ fn told(reply: &Reply) -> &'static str {
 /// Names what came of a step.
 pub fn told_of(taken: &Result<Reply, StepFault>) -> &'static str {
     match taken {
-        Ok(reply) => told(reply),
+        Ok(reply) => reply_word(reply),
         Err(StepFault::NumbersSpent) => "numbers spent",
         Err(StepFault::NoMemory) => "no memory",
     }
@@ -126,7 +126,7 @@ fn parts(reply: &Reply) -> (u32, u64, &[u8]) {
 
 /// Returns whether two replies are the same.
 pub fn is_same(reply: &Reply, other: &Reply) -> bool {
-    told(reply) == told(other) && parts(reply) == parts(other)
+    reply_word(reply) == reply_word(other) && parts(reply) == parts(other)
 }
 
 /// Returns whether what came of a step is what is wanted.
@@ -147,7 +147,7 @@ fn has(taken: &Result<Reply, StepFault>, wanted: (u32, u64, &[u8])) -> bool {
 }
 
 /// Takes a step, again if memory is refused.
-pub fn asked<S: Steps>(
+pub fn ask_step<S: Steps>(
     store: &mut S,
     alloc: Global,
     step: &KeyStep<'_>,
@@ -163,7 +163,7 @@ pub fn asked<S: Steps>(
 
 /// Takes a step, again if memory is refused, and answers nothing if the refusal changed the
 /// key's item.
-fn taken<S: Steps>(
+fn take_again<S: Steps>(
     store: &mut S,
     alloc: Global,
     key: &[u8],
@@ -174,11 +174,11 @@ fn taken<S: Steps>(
     requires step { length (key_of step.now) ≤ 250 }
 {
     let read = step_of(key, Ask::Get);
-    let before = asked(store, alloc, &read, now)?;
+    let before = ask_step(store, alloc, &read, now)?;
     if let Ok(reply) = store.step(alloc, step, now) {
         return Ok(Some(reply));
     }
-    let after = asked(store, alloc, &read, now)?;
+    let after = ask_step(store, alloc, &read, now)?;
     if !is_same(&before, &after) {
         return Ok(None);
     }
@@ -199,7 +199,7 @@ pub fn first_unlike<S: Steps>(
         }
         let now = Moment::from_seconds_at_most(*seconds);
         let step = step_of(key, *ask);
-        match taken(store, alloc, key, &step, now)? {
+        match take_again(store, alloc, key, &step, now)? {
             None => return Ok(Some((*seconds, "changed by a refused step"))),
             Some(reply) => {
                 let answer = Ok(reply);
@@ -213,7 +213,7 @@ pub fn first_unlike<S: Steps>(
 }
 
 /// Makes so many bytes, asked for again if memory is refused.
-pub fn filled(alloc: Global, len: usize) -> Result<Vec<u8>, AllocError> {
+pub fn filled_block(alloc: Global, len: usize) -> Result<Vec<u8>, AllocError> {
     match vec![in alloc; b'x'; len] {
         Err(_) => vec![in alloc; b'x'; len],
         bytes => bytes,

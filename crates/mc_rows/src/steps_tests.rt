@@ -4,7 +4,7 @@
 
 ghost use Rattle.std.specs.Prelude.{◌≤◌};
 
-use crate::steps::{Ask, Row, Want, asked, filled, first_unlike, set, step_of, told_of};
+use crate::steps::{Ask, Row, Want, ask_step, filled_block, first_unlike, set, step_of, told_of};
 use mc_command::{PlainStore, Steps, Verb};
 use mc_time::Moment;
 use std::alloc::{AllocError, Global};
@@ -155,7 +155,7 @@ fn what_is_too_large_is_not_written(rt: HostRuntime) -> Result<(), Fail> {
 
 #[test]
 fn a_full_chunk_is_not_written_over(rt: HostRuntime) -> Result<(), Fail> {
-    let large = filled(rt.alloc(), 600000)?;
+    let large = filled_block(rt.alloc(), 600000)?;
     let large = large.as_slice();
     let rows: [Row<'_>; 7] = [
         set(1000, b"a", 0, large, "stored"),
@@ -171,7 +171,7 @@ fn a_full_chunk_is_not_written_over(rt: HostRuntime) -> Result<(), Fail> {
 
 #[test]
 fn the_dead_hold_their_chunks_until_they_are_dropped(rt: HostRuntime) -> Result<(), Fail> {
-    let large = filled(rt.alloc(), 600000)?;
+    let large = filled_block(rt.alloc(), 600000)?;
     let large = large.as_slice();
     let rows: [Row<'_>; 8] = [
         set(1000, b"a", 10, large, "stored"),
@@ -205,10 +205,10 @@ fn a_number_asks_room_where_its_class_changes(rt: HostRuntime) -> Result<(), Fai
 
 #[test]
 fn large_items_take_whole_pages(rt: HostRuntime) -> Result<(), Fail> {
-    let three = filled(rt.alloc(), 3000000)?;
-    let two = filled(rt.alloc(), 2000000)?;
+    let three = filled_block(rt.alloc(), 3000000)?;
+    let two = filled_block(rt.alloc(), 2000000)?;
     // 48 bytes, a key of 1 and this block are a page.
-    let one = filled(rt.alloc(), 1048527)?;
+    let one = filled_block(rt.alloc(), 1048527)?;
     let rows: [Row<'_>; 7] = [
         set(1000, b"b", 0, three.as_slice(), "stored"),
         set(1000, b"s", 0, b"x", "no chunk"),
@@ -223,8 +223,8 @@ fn large_items_take_whole_pages(rt: HostRuntime) -> Result<(), Fail> {
 
 #[test]
 fn the_largest_item_takes_eight_pages(rt: HostRuntime) -> Result<(), Fail> {
-    let most = filled(rt.alloc(), 8388559)?;
-    let more = filled(rt.alloc(), 8388560)?;
+    let most = filled_block(rt.alloc(), 8388559)?;
+    let more = filled_block(rt.alloc(), 8388560)?;
     let rows: [Row<'_>; 3] = [
         set(1000, b"k", 0, most.as_slice(), "stored"),
         set(1000, b"k", 0, more.as_slice(), "too large"),
@@ -249,7 +249,7 @@ fn spaced(alloc: Global, len: usize) -> Result<Vec<u8>, AllocError> {
 #[test]
 fn a_long_number_gives_its_pages_back_where_it_is_counted(rt: HostRuntime) -> Result<(), Fail> {
     let number = spaced(rt.alloc(), 2000000)?;
-    let large = filled(rt.alloc(), 600000)?;
+    let large = filled_block(rt.alloc(), 600000)?;
     let rows: [Row<'_>; 6] = [
         set(1000, b"n", 0, number.as_slice(), "stored"),
         (1000, b"n", Ask::Incr(1), Want::Number(8)),
@@ -274,12 +274,12 @@ fn a_long_number_asks_room_where_it_is_counted(rt: HostRuntime) -> Result<(), Fa
 
 #[test]
 fn what_is_not_written_takes_no_memory(rt: HostRuntime) -> Result<(), Fail> {
-    let large = filled(rt.alloc(), 600000)?;
+    let large = filled_block(rt.alloc(), 600000)?;
     let large = large.as_slice();
     let mut store = PlainStore::new(rt.alloc(), 1, 700000)?;
     let now = Moment::from_seconds_at_most(1000);
     let step = step_of(b"a", Ask::Store(Verb::Set, 0, large));
-    let _ = asked(&mut store, rt.alloc(), &step, now)?;
+    let _ = ask_step(&mut store, rt.alloc(), &step, now)?;
     let asks: [(&[u8], Ask<'_>, &'static str); 4] = [
         (b"a", Ask::Store(Verb::Append, 0, large), "too large"),
         (b"a", Ask::Store(Verb::Prepend, 0, large), "too large"),

@@ -21,7 +21,7 @@ pub struct Full {
 
 impl Full {
     /// Gives how many chunks were wanted at most.
-    fn wanted(&self) -> u32 {
+    fn wanted_chunks(&self) -> u32 {
         match &self.stock {
             Some(stock) => stock.need.count(),
             None => self.most,
@@ -35,7 +35,7 @@ impl Display for Full {
             Some(stock) => write!(f, "{stock}")?,
             None => write!(f, "no chunk is left for an item that grows")?,
         }
-        match (self.wanted(), self.pages) {
+        match (self.wanted_chunks(), self.pages) {
             (1, 1) => write!(f, ", and the one page of -m is given out"),
             (1, pages) => write!(f, ", and all {pages} pages of -m are given out"),
             (_, 1) => write!(f, ", and -m has one page"),

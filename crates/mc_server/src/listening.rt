@@ -8,8 +8,8 @@ use crate::logger::{Notice, write_lines};
 use crate::metrics::{Counts, LONGEST, Observer, Teller};
 use mc_hop::Fnv;
 use mc_host::{
-    AskedClock, Door, End, Listeners, Refusal, Wanting, allowed, bound_all, look_for_descriptors,
-    opened, sockets_of,
+    AskedClock, Door, End, Listeners, Refusal, Wanting, bound_all, look_for_descriptors,
+    most_descriptors, open_door, sockets_of,
 };
 use mc_options::Options;
 use mc_session::ServeFault;
@@ -82,7 +82,7 @@ where
     requires { clock.now.asked ≡ options.now }
     ensures { EndsListening options.endpoints options.scrapes options.may_quit result }
 {
-    let door = match opened(rt, rt.alloc(), options.scrapes) {
+    let door = match open_door(rt, rt.alloc(), options.scrapes) {
         Ok(door) => door,
         Err(end) => return end,
     };
@@ -141,7 +141,7 @@ where
         notice: Notice {
             stderr,
             options,
-            descriptors: allowed(rt),
+            descriptors: most_descriptors(rt),
         },
         arrivals: &arrivals,
         log: &log,
@@ -200,7 +200,7 @@ fn make_posts<R: Net>(rt: &R, alloc: Global, options: &Options) -> Result<Posts,
     let mut inboxes = Vec::new(alloc);
     let mut all_counts = Vec::new(alloc);
     for worker in 0..options.workers {
-        let (poll, waker) = watched(rt)?;
+        let (poll, waker) = make_poll(rt)?;
         let events = Events::with_capacity(alloc, EVENTS)?;
         let counts = new_counts(alloc)?;
         let told = counts.clone().map_err(|_| AllocError)?;
@@ -247,7 +247,7 @@ fn new_counts(alloc: Global) -> Result<Arc<Counts>, AllocError> {
 }
 
 /// A set of sources, and what wakes the one who waits for them.
-fn watched<R: Net>(rt: &R) -> io::Result<(Poll, Waker)> {
+fn make_poll<R: Net>(rt: &R) -> io::Result<(Poll, Waker)> {
     let poll = Poll::new(rt)?;
     let waker = Waker::new(poll.registry(), WAKER)?;
     Ok((poll, waker))

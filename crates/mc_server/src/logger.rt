@@ -75,7 +75,7 @@ impl Logger<'_> {
         };
         self.turn = turn.wrapping_add(1);
         self.tell_dropped(dropped);
-        if written(self.stderr, line).is_err() {
+        if write_line(self.stderr, line).is_err() {
             log.drop_line();
         }
         true
@@ -145,7 +145,7 @@ fn pages_of(bytes: u64) -> u32 {
 }
 
 /// Writes a line.
-fn written(stderr: Stderr, line: Line) -> io::Result<()> {
+fn write_line(stderr: Stderr, line: Line) -> io::Result<()> {
     match line {
         Line::Opened { number, peer } => {
             eprintln!(stderr; "mcserver: connection {number} from {peer} opened")

@@ -44,19 +44,19 @@ use std::process::ExitCode;
 use std::{env, io};
 
 fn main(rt: HostRuntime) -> ExitCode {
-    let end = match asked(&rt) {
+    let end = match read_options(&rt) {
         Ok(options) => run(&rt, rt.stderr(), options, &mut rt.stdin(), &mut rt.stdout()),
         Err(end) => end,
     };
-    said(&rt, &end)
+    tell_end(&rt, &end)
 }
 
 /// What the command line asks for; or how the program ends without it.
-fn asked(rt: &HostRuntime) -> Result<Options, End> {
+fn read_options(rt: &HostRuntime) -> Result<Options, End> {
     let words = words(rt)?;
-    match mc_options::parsed(rt.alloc(), words.as_slice()) {
+    match mc_options::parse_options(rt.alloc(), words.as_slice()) {
         Ok(options) => Ok(options),
-        Err(Unfit::Told(error)) => Err(End::of_options(&error, &printed(rt, &error))),
+        Err(Unfit::Told(error)) => Err(End::of_options(&error, &print_fault(rt, &error))),
         Err(Unfit::Shelves) => Err(End::BadShelves),
     }
 }
@@ -70,7 +70,7 @@ fn words(rt: &HostRuntime) -> Result<Vec<String>, End> {
 
 /// Prints what `clap` says of the command line: help on standard output, a mistake on standard
 /// error. Of want of memory it says nothing.
-fn printed(rt: &HostRuntime, error: &clap::Error) -> io::Result<()> {
+fn print_fault(rt: &HostRuntime, error: &clap::Error) -> io::Result<()> {
     if error.kind() == ErrorKind::OutOfMemory {
         return Ok(());
     }
@@ -78,7 +78,7 @@ fn printed(rt: &HostRuntime, error: &clap::Error) -> io::Result<()> {
 }
 
 /// Says how the program ends, and gives its status.
-fn said(rt: &HostRuntime, end: &End) -> ExitCode
+fn tell_end(rt: &HostRuntime, end: &End) -> ExitCode
     ensures { exit_status result ≡ status_of end.now }
 {
     let (status, text) = end.ending();

@@ -4,7 +4,7 @@ use crate::asker::Asker;
 use crate::metrics::Counts;
 use mc_guests::NoTally;
 use mc_hop::Fnv;
-use mc_host::bound;
+use mc_host::bind_listener;
 use mc_shared::Shared;
 use mc_shelf::Settings;
 use mc_sockets::{
@@ -32,7 +32,7 @@ where
     R: Net<Listener = TcpListener, Stream = TcpStream> + AllocGlobal + Wait + Clock,
 {
     let alloc = rt.alloc();
-    let listener = bound(rt, SocketAddr::from((Ipv4Addr::LOCALHOST, 0)))?;
+    let listener = bind_listener(rt, SocketAddr::from((Ipv4Addr::LOCALHOST, 0)))?;
     let address = SocketAddr::from((Ipv4Addr::LOCALHOST, listener.local_addr()?.port()));
     let mut client = TcpStream::connect(rt, address)?;
     client.write_all(input)?;

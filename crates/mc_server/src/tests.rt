@@ -71,7 +71,7 @@ fn keeps_the_clock_that_is_asked_for(rt: HostRuntime) -> Result<(), Fail> {
         let mut writer = Sip::new(alloc, 5);
         let end = served(alloc, now, &mut reader, &mut writer)?;
         assert!(rt; matches!(end, End::Served(Ok(()))));
-        assert!(rt; writer.taken() == wanted.as_bytes());
+        assert!(rt; writer.taken_bytes() == wanted.as_bytes());
     }
     Ok(())
 }
@@ -84,7 +84,7 @@ fn tells_each_read_that_fails(rt: HostRuntime) -> Result<(), Fail> {
         let mut writer = Sip::new(alloc, 5);
         let end = served(alloc, None, &mut reader, &mut writer)?;
         assert!(rt; matches!(end, End::Served(Err(ServeFault::Read))));
-        assert!(rt; ALIVE.as_bytes().starts_with(writer.taken()));
+        assert!(rt; ALIVE.as_bytes().starts_with(writer.taken_bytes()));
         assert!(rt; end.ending() == (1, "mcserver: read fault"));
     }
     Ok(())
@@ -98,8 +98,8 @@ fn tells_each_write_that_fails(rt: HostRuntime) -> Result<(), Fail> {
         let mut writer = Sip::failing(alloc, 0, calls, ErrorKind::BrokenPipe)?;
         let end = served(alloc, None, &mut reader, &mut writer)?;
         assert!(rt; matches!(end, End::Served(Err(ServeFault::Write))));
-        assert!(rt; writer.taken().len() == calls);
-        assert!(rt; ALIVE.as_bytes().starts_with(writer.taken()));
+        assert!(rt; writer.taken_bytes().len() == calls);
+        assert!(rt; ALIVE.as_bytes().starts_with(writer.taken_bytes()));
     }
     Ok(())
 }

@@ -9,7 +9,7 @@ use Rattle.mc_parse.specs.Units.{ProtocolUnit, Request, Fault, LongLine, Spells}
 use Rattle.mc_parse.specs.Feeds.{Unread, pushed, settled, TakesPiece}
 use Rattle.mc_parse.specs.Sources.{Brings}
 use Rattle.mc_parse.specs.Peeks.{BeginsWithNone}
-use Rattle.mc_session.specs.Answers.{IsWithin, at_start, inside}
+use Rattle.mc_session.specs.Answers.{IsWithinUnit, at_start, inside}
 use Rattle.mc_session.specs.Turns.{SessionState, fed, FedPiece}
 
 abbrev unread_of : ℕ → ℕ → List ℕ → Unread
@@ -58,7 +58,7 @@ front_stays u front rest more some parts =
     rw (none, drop-append-le u.passed u.bytes more (omega arith)) (ap (λ bytes. bytes ++ more) parts ∙ append_assoc front rest more)
 
 -- the turns of the first unit are as many
-pub within_more : (u : Unread) (taken : ℕ) (more : List ℕ) → IsWithin u taken → IsWithin (pushed u more) taken
+pub within_more : (u : Unread) (taken : ℕ) (more : List ℕ) → IsWithinUnit u taken → IsWithinUnit (pushed u more) taken
 within_more u taken more at_start = at_start
 within_more u taken more (inside unit front rest parts spelled due few) =
     inside unit front (rest ++ more) (front_stays u front rest more (spells_bytes u.greatest unit front spelled) parts) spelled due few
@@ -70,9 +70,9 @@ either_way P (Err e) old more new ok err p q = subst P (sym err) q
 
 -- so it is with what a source brought, or with nothing where it was refused
 pub brought_within : {S A E : Type 0} (gives : S → List ℕ → A → S → Type 0) (before after : S) (r : Result A E) (u new : Unread) (taken : ℕ)
-    → IfOk r (λ answer. Brings gives before after answer (TakesPiece u new)) → OnErr r (new ≡ u) → IsWithin u taken → IsWithin new taken
-brought_within gives before after (Ok answer) u new taken ok err is = subst (λ (v : Unread). IsWithin v taken) (sym ok.becomes.0) (within_more u taken ok.piece is)
-brought_within gives before after (Err refused) u new taken ok err is = subst (λ (v : Unread). IsWithin v taken) (sym err) is
+    → IfOk r (λ answer. Brings gives before after answer (TakesPiece u new)) → OnErr r (new ≡ u) → IsWithinUnit u taken → IsWithinUnit new taken
+brought_within gives before after (Ok answer) u new taken ok err is = subst (λ (v : Unread). IsWithinUnit v taken) (sym ok.becomes.0) (within_more u taken ok.piece is)
+brought_within gives before after (Err refused) u new taken ok err is = subst (λ (v : Unread). IsWithinUnit v taken) (sym err) is
 
 -- a session of these parts
 abbrev pub session_of : Unread → ℕ → List ℕ → Bool → SessionState

@@ -11,7 +11,7 @@ use Rattle.mc_parse.specs.Feeds.{Unread, read}
 use Rattle.mc_session.specs.declared.after_turn.AfterTurn.{AfterTurn}
 use Rattle.mc_session.specs.declared.after_turn.AfterTurn.TheVariants.{Step, Read, Close}
 use Rattle.mc_session.specs.Turns.{SessionState, TakesTurn, DecidesStep, Answers, turn_count, moved, closed, NoTurnDue}
-use Rattle.mc_session.specs.Answers.{next_of, gone_on, MayGoOn, AnswersFound, Tells, DecidesFound, IsWithin, at_start, inside}
+use Rattle.mc_session.specs.Answers.{next_of, gone_on, MayGoOn, AnswersFound, Tells, DecidesFound, IsWithinUnit, at_start, inside}
 use Rattle.mc_session.proofs.LeftLemmas.{next_left, all_left, answers_left, step_left}
 
 -- a unit has a first turn
@@ -28,7 +28,7 @@ pub record IsDue (unit : ProtocolUnit) (taken : ℕ) : Type 0 where
 abbrev pub OneSpelling : Type 0
 OneSpelling = (greatest : ℕ) (u v : ProtocolUnit) (a b x y : List ℕ) → Spells greatest u a → Spells greatest v b → a ++ x ≡ b ++ y → (u ≡ v) × (a ≡ b)
 
-pub due_within : (law : OneSpelling) (u : Unread) (taken : ℕ) (unit : ProtocolUnit) (front rest : List ℕ) → IsWithin u taken
+pub due_within : (law : OneSpelling) (u : Unread) (taken : ℕ) (unit : ProtocolUnit) (front rest : List ℕ) → IsWithinUnit u taken
     → drop u.passed u.bytes ≡ front ++ rest → Spells u.greatest unit front → IsDue unit taken
 due_within law u taken unit front rest at_start parts spelled = record { due = first_due unit; few = λ some. absurd (omega (arith, some)) }
 due_within law u taken unit front rest (inside other more behind is spells due few) parts spelled =
@@ -47,7 +47,7 @@ gone_on_moved s unit len text false false = refl
 
 -- where more turns of the unit come next, they are due
 goes_on : (s : SessionState) (unit : ProtocolUnit) (len : ℕ) (last whole : Bool) → len ≤ length s.unread.bytes → s.unread.passed ≡ 0 → ((s.taken + 1 == turn_count unit) ≡ whole)
-    → (whole ≡ false → IsWithin s.unread (s.taken + 1)) → MayGoOn (if last then Close else if whole then Read len (passed_after unit) else Step) s
+    → (whole ≡ false → IsWithinUnit s.unread (s.taken + 1)) → MayGoOn (if last then Close else if whole then Read len (passed_after unit) else Step) s
 goes_on s unit len true whole within none test more = tt
 goes_on s unit len false true within none test more = (within, none)
 goes_on s unit len false false within none test more = more refl
@@ -73,7 +73,7 @@ whole_parts : (u : Unread) (len : ℕ) → u.passed ≡ 0 → drop u.passed u.by
 whole_parts u len none = rw none (sym (take-append-drop len u.bytes))
 
 pub next_found : (law : OneSpelling) (u : Unread) (taken : ℕ) (found : Option (ProtocolUnit × ℕ)) (unit : ProtocolUnit) (len : ℕ) → FoundLeft u taken found
-    → IsWithin u taken → found ≡ Some (unit, len)
+    → IsWithinUnit u taken → found ≡ Some (unit, len)
     → (whole : ProtocolUnit) × IsNext u taken unit len whole
 next_found law u taken found unit len peeked within is =
     let here : (u.passed ≡ 0) × IsLeft u.greatest taken (unit, len) u.bytes = subst (FoundLeft u taken) is peeked in
@@ -89,7 +89,7 @@ none_found u taken (Some found) peeked none =
     absurd (none.none peeked.1.unit (take found.1 u.bytes) (drop found.1 u.bytes) (whole_parts u found.1 peeked.0) peeked.1.spelled.spelled)
 
 module _ {S : Type 0} (relations : Relations S) (now : ℕ) (law : OneSpelling) (old : SessionState) (before after : S) (found : Option (ProtocolUnit × ℕ))
-    (peeked : FoundLeft old.unread old.taken found) (within : IsWithin old.unread old.taken) (opens : IsTrue old.is_open) where
+    (peeked : FoundLeft old.unread old.taken found) (within : IsWithinUnit old.unread old.taken) (opens : IsTrue old.is_open) where
   turn_of : (answered : AnswersFound relations now found before after) (whole : ProtocolUnit) → IsNext old.unread old.taken answered.unit answered.len whole
       → TakesTurn relations now old (moved old whole (drop answered.len old.unread.bytes) answered.text) before after
   turn_of answered whole is = record {
@@ -152,7 +152,7 @@ module _ {S : Type 0} (relations : Relations S) (now : ℕ) (law : OneSpelling) 
         subst (λ n. n < 2 ^ 64) all tells.few)
         (cases_lt 0 old.taken)
 
-    more_due : (whole : ProtocolUnit) → IsNext old.unread old.taken tells.answered.unit tells.answered.len whole → (old.taken + 1 == turn_count whole) ≡ false → IsWithin old.unread (old.taken + 1)
+    more_due : (whole : ProtocolUnit) → IsNext old.unread old.taken tells.answered.unit tells.answered.len whole → (old.taken + 1 == turn_count whole) ≡ false → IsWithinUnit old.unread (old.taken + 1)
     more_due whole is more =
         inside whole (take tells.answered.len old.unread.bytes) (drop tells.answered.len old.unread.bytes) is.parts is.spelled
         (lt_of_other (old.taken + 1) (turn_count whole) (omega (arith, is.due)) (eqb-false _ _ more)) (few_turns whole is)

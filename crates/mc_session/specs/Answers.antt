@@ -84,15 +84,15 @@ pub record Tells {S : Type 0} (relations : Relations S) (now : ℕ)
   pub told : new ≡ old ++ answered.text
 
 -- so many turns of the first unit were taken, and more are due; how many they are can be counted
-pub data IsWithin : Unread → ℕ → Type 0 where
-  at_start : {unread : Unread} → IsWithin unread 0
+pub data IsWithinUnit : Unread → ℕ → Type 0 where
+  at_start : {unread : Unread} → IsWithinUnit unread 0
   inside : {unread : Unread} {taken : ℕ} (unit : ProtocolUnit) (front rest : List ℕ)
       → to_read unread ≡ front ++ rest → Spells unread.greatest unit front → taken < turn_count unit
-      → turn_count unit < 2 ^ 64 → IsWithin unread taken
+      → turn_count unit < 2 ^ 64 → IsWithinUnit unread taken
 
 -- the session may go on so: there are that many bytes and none is to be passed over, or more turns
 -- of its first unit are due
 abbrev pub MayGoOn : AfterTurn → SessionState → Type 0
-MayGoOn Step s = IsWithin s.unread (s.taken + 1)
+MayGoOn Step s = IsWithinUnit s.unread (s.taken + 1)
 MayGoOn (Read len passed) s = (len ≤ length s.unread.bytes) × (s.unread.passed ≡ 0)
 MayGoOn Close s = Unit {0}

@@ -75,7 +75,7 @@ impl<S: Steps> Endpoint<S> for Session {
     }
 
     fn wrote(&mut self, _store: &mut S, n: usize) {
-        self.sent(n);
+        self.drop_sent(n);
     }
 
     fn take_turn(&mut self, alloc: Global, store: &mut S, now: Moment) -> Result<Turn, AllocError> {

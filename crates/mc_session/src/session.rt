@@ -55,7 +55,7 @@ pub struct Session {
 
 impl Model for Session {
     ghost use Rattle.mc_session.specs.Turns.{SessionState};
-    ghost use Rattle.mc_session.specs.Answers.{IsWithin};
+    ghost use Rattle.mc_session.specs.Answers.{IsWithinUnit};
 
     ghost Value = { SessionState };
 
@@ -66,7 +66,7 @@ impl Model for Session {
       is_open = s.is_open;
     } };
 
-    ghost invariant = { λ s. IsWithin s.feed s.taken };
+    ghost invariant = { λ s. IsWithinUnit s.feed s.taken };
 }
 
 impl Session {
@@ -169,7 +169,7 @@ impl Session {
     fn has_nothing_unread(&self) -> bool
         ensures { IsTrue result → NoTurnDue self.now }
     {
-        self.feed.held() == 0
+        self.feed.held_bytes() == 0
     }
 
     /// Goes on with what comes after a turn.
@@ -207,21 +207,21 @@ impl Session {
 
     /// Counts the bytes of output that are held in memory: those that are to be written, and of
     /// those that were sent at most as many.
-    pub fn held(&self) -> usize
+    pub fn held_bytes(&self) -> usize
         ensures least { length self.now.out ≤ result }
         ensures most { result ≤ 2 * length self.now.out }
     {
-        self.out.filled()
+        self.out.filled_bytes()
     }
 
     /// Counts the bytes of memory that are reserved for what is unread and for the output, filled
     /// or not: at most 196608 if there is neither.
-    pub fn reserved(&self) -> usize
+    pub fn capacity(&self) -> usize
         ensures unread { length self.now.unread.bytes ≤ result }
         ensures out { length self.now.out ≤ result }
         ensures empty { self.now.unread.bytes ≡ [] → self.now.out ≡ [] → result ≤ kept_empty }
     {
-        self.feed.reserved().saturating_add(self.out.capacity())
+        self.feed.capacity().saturating_add(self.out.capacity())
     }
 
     /// Gives back the memory that is kept beyond that of two first pieces, if nothing is unread
@@ -236,10 +236,10 @@ impl Session {
 
     /// Counts the bytes of the unit that the unread bytes begin with, if its line announces a
     /// block, whether or not they came; else none.
-    pub fn announced(&self) -> usize
+    pub fn announced_bytes(&self) -> usize
         ensures { self.now.unread.bytes ≡ [] → result ≡ 0 }
     {
-        self.feed.announced()
+        self.feed.announced_bytes()
     }
 
     /// Lends the key of the next turn, if that is one of a retrieval.
@@ -263,7 +263,7 @@ impl Session {
     /// Drops the first `n` bytes of the output, which were written. What is left is moved only
     /// if it is no longer than what was written, so that each byte that is written pays for one
     /// that is moved.
-    pub fn sent(&mut self, n: usize)
+    pub fn drop_sent(&mut self, n: usize)
         requires { n ≤ length self.old.out }
         ensures { self.new ≡ sent self.old n }
     {

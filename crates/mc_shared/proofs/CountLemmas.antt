@@ -3,7 +3,7 @@ use Rattle.std.proofs.Common.{◌≡◌, ◌≢◌, ℕ, zero, suc, ◌+◌, ◌
 use Rattle.std.proofs.Common.{◌∙◌, subst, arith, mod-lt, div-add-mod', ◌==◌, get_or-set_same, get_or-set_other, length-set}
 use Rattle.mc_shared.proofs.Words.{same_from_place, mul-add-lt, div_below, mod_below, none-some, slice_get-get_or, dite, ℕ_discrete, empty, get-empty, Plain, flushed}
 use Rattle.mc_shared.proofs.Words.{ShelfState, keys_with, number_of, shelf_of, IsShelfOf, AreAllOf, AreCountsOfAll, AreKeyCountsAt, order, Beginning, AreKeys, SeatView}
-use Rattle.mc_shelf.specs.Numbers.{AreCounted, HasPlaces}
+use Rattle.mc_shelf.specs.Numbers.{KeysAreCounted, HasPlaces}
 use Rattle.mc_shared.specs.Counted.{AreNone}
 use Rattle.mc_shared.proofs.NumberLemmas.{count_none}
 use Rattle.mc_shared.proofs.NumberSteps.{shelf_named, own_at}
@@ -43,7 +43,7 @@ module _ (hash_of : List ℕ → ℕ) (state : Plain) (shelves : List ShelfState
   }
 
   next_counted : (counts new : List ℕ) (at : ℕ) (shelf : ShelfState) → slice_get shelves at ≡ Some shelf
-      → CountsFirst shelves at counts → AreCounted shelf.content counts new
+      → CountsFirst shelves at counts → KeysAreCounted shelf.content counts new
       → (number : ℕ) → number < 4096 → number % all.count < at + 1
       → slice_index new number ≡ keys_with hash_of number state.items
   next_counted counts new at shelf is first added number low few =
@@ -60,7 +60,7 @@ module _ (hash_of : List ℕ → ℕ) (state : Plain) (shelves : List ShelfState
       omega (arith, more, was, none))
 
   next_none : (counts new : List ℕ) (at : ℕ) (shelf : ShelfState) → slice_get shelves at ≡ Some shelf
-      → CountsFirst shelves at counts → AreCounted shelf.content counts new
+      → CountsFirst shelves at counts → KeysAreCounted shelf.content counts new
       → (number : ℕ) → number < 4096 → at + 1 ≤ number % all.count → slice_index new number ≡ 0
   next_none counts new at shelf is first added number low behind =
       let part : IsShelfOf hash_of all.count state at shelf.content = all.parts.each at shelf is in
@@ -70,7 +70,7 @@ module _ (hash_of : List ℕ → ℕ) (state : Plain) (shelves : List ShelfState
       omega (arith, more, was, none)
 
 pub counts_next : (shelves : List ShelfState) (counts new : List ℕ) (at : ℕ) (shelf : ShelfState) → at < length shelves → shelf ≡ get_or shelves at shelf
-    → CountsFirst shelves at counts → AreCounted shelf.content counts new → CountsFirst shelves (at + 1) new
+    → CountsFirst shelves at counts → KeysAreCounted shelf.content counts new → CountsFirst shelves (at + 1) new
 counts_next shelves counts new at shelf low same first added = let is = slice_get-get_or shelves at shelf low ∙ ap Some (sym same) in record {
   many = added.many;
   counted = λ hash_of state all. next_counted hash_of state shelves all counts new at shelf is first added;

@@ -1,9 +1,9 @@
 -- Which decisions are the plain machine's: those that take a state on by one shelf and the desk.
 use Rattle.std.proofs.Common.{◌≡◌, ◌≢◌, inl, inr, Bool, true, false, true≢false, Option, Some, None, ℕ, ◌<◌, List, [], ◌∷◌, Result, Err, sym, refl, ap, ◌∙◌, subst, arith}
 use Rattle.mc_shared.proofs.Words.{expiry_of, Expiry, Plain, Entry as Item, Outcome, MayFail, alive, changed, hit_of, plain, read_row, row_of, standing, stepped}
-use Rattle.mc_shared.proofs.Words.{without_dead, KeyStep, Read, ReadTouch, Reply, Miss, ShelfContent, DeskState, IsAt, CanStand, key_of, get, Reads, is_gone, next_of}
+use Rattle.mc_shared.proofs.Words.{without_dead, KeyStep, Read, ReadTouch, Reply, Miss, ShelfContent, DeskState, StandsAt, CanStandAt, key_of, get, Reads, is_gone, next_of}
 use Rattle.mc_shared.proofs.Words.{writes, IsShelfOf, IsDeskOf, GoesTo, Content, OfShelf, OfDesk, Beginning, start_of, Operation, Stepped, shelf_in, left_by, next, after}
-use Rattle.mc_shared.proofs.Words.{IsRight, Fits, AllFit, KeepsLimits, holds_bay, SeatView, Decides, Fitted, Mine, Sitter, SharedState, HoldsShelf, IsAsked, StepFault}
+use Rattle.mc_shared.proofs.Words.{IsRight, FitsBay, AllFit, KeepsLimits, holds_bay, SeatView, Decides, Fitted, Mine, Sitter, SharedState, HoldsShelf, IsAsked, StepFault}
 use Rattle.mc_shared.proofs.Words.{NoMemory, NumbersSpent, Past, CanCome, MayFailAfter, Refuses}
 use Rattle.mc_shelf.specs.Plans.{LookTakesMemory, answered, next_by, row_at}
 use Rattle.mc_shelf.specs.Parts.{GoesByStep, GoesWithoutDesk}
@@ -46,8 +46,8 @@ module _ (start : Beginning) (at : ℕ) where
         let goes = alone m part in
         subst (λ new. Goes m new f' d) (sym (ap (left_by m) goes.answered)) (goes.goes d is)
 
-    settled_else : (m : Plain) → IsPart m f → (c : ℕ) (z : Content) → c ≢ at → Fits start m c z
-        → Fits start (next start m what) c z
+    settled_else : (m : Plain) → IsPart m f → (c : ℕ) (z : Content) → c ≢ at → FitsBay start m c z
+        → FitsBay start (next start m what) c z
     settled_else m part c (OfShelf g) ne fits =
         let desk = (alone m part).some_desk in
         (fits.0, (goes_alone m part desk.0 desk.1).others c g ne fits.1)
@@ -78,9 +78,9 @@ module _ (start : Beginning) (at : ℕ) where
     places = λ c. refl;
     right = λ m h. (same m h.0.1).0;
     limits = λ m h. subst (KeepsLimits start) (sym (same m h.0.1).1);
-    given = λ m h. subst (λ n. Fits start n at (OfShelf f)) (sym (same m h.0.1).1) h.0;
+    given = λ m h. subst (λ n. FitsBay start n at (OfShelf f)) (sym (same m h.0.1).1) h.0;
     kept = λ m h. tt;
-    others = λ m h c z none. subst (λ n. Fits start n c z) (sym (same m h.0.1).1);
+    others = λ m h c z none. subst (λ n. FitsBay start n c z) (sym (same m h.0.1).1);
   }
 
   -- ---- decided by giving back the desk, while the shelf is held
@@ -92,7 +92,7 @@ module _ (start : Beginning) (at : ℕ) where
     both = (start.shelves, OfDesk d) ∷ (at, OfShelf f) ∷ []
 
     applied_else : (m : Plain) → AllFit start m both → (c : ℕ) (z : Content) → c ≢ at
-        → c ≢ start.shelves → Fits start m c z → Fits start (next start m what) c z
+        → c ≢ start.shelves → FitsBay start m c z → FitsBay start (next start m what) c z
     applied_else m h c (OfShelf g) ne ne' fits =
         (fits.0, (goes m h.1.0.1 h.0.1).others c g ne fits.1)
     applied_else m h c (OfDesk e) ne ne' fits = absurd (ne' fits.0)
@@ -137,7 +137,7 @@ module _ (start : Beginning) (at : ℕ) where
 -- a state that a shelf and a desk fit
 pub stands : (start : Beginning) (m : Plain) (at : ℕ) (f : ShelfContent) (d : DeskState)
     (key : List ℕ) → shelf_in start key ≡ at → IsShelfOf start.hash_of start.shelves m at f
-    → IsDeskOf m d → IsAt key f d m
+    → IsDeskOf m d → StandsAt key f d m
 stands start m at f d key own part desk = record {
   greatest = sym part.greatest;
   cut = sym part.cut;
@@ -152,7 +152,7 @@ stands start m at f d key own part desk = record {
 pub can_stand : (start : Beginning) (at : ℕ) (f : ShelfContent) (d : DeskState) (key : List ℕ)
     → shelf_in start key ≡ at → (v : SeatView)
     → v.bays ≡ (start.shelves, OfDesk d) ∷ (at, OfShelf f) ∷ [] → Fitted start v
-    → CanStand key f d
+    → CanStandAt key f d
 can_stand start at f d key own v is fitted =
     let m : Plain = after start start.plain fitted.log in
     let fits : AllFit start m ((start.shelves, OfDesk d) ∷ (at, OfShelf f) ∷ []) =
@@ -175,7 +175,7 @@ part_held start at f d v is fitted =
 pub comes_after : (start : Beginning) (at : ℕ) (f : ShelfContent) (d : DeskState) (step : KeyStep)
     (now : ℕ) → shelf_in start (key_of step) ≡ at → (v : SeatView)
     → v.bays ≡ (start.shelves, OfDesk d) ∷ (at, OfShelf f) ∷ [] → Fitted start v
-    → (so : Outcome → Type 0) → ((m : Plain) → IsAt (key_of step) f d m → so (plain m step now))
+    → (so : Outcome → Type 0) → ((m : Plain) → StandsAt (key_of step) f d m → so (plain m step now))
     → CanCome start v.past step now so
 comes_after start at f d step now own v is fitted so comes =
     let m : Plain = after start start.plain fitted.log in

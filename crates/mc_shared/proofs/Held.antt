@@ -3,7 +3,7 @@ use Rattle.std.proofs.Common.{◌≡◌, ℕ, zero, suc, List, [], ◌∷◌, �
 use Rattle.mc_shared.proofs.Words.{rest, Content, content_of, place, OfShelf, OfDesk, Past, Lives, call, SeatView, Mine, Fitted, HasTaken, HoldsThis, holding, without}
 use Rattle.mc_shared.proofs.Words.{decided_by, entry_of, loaded, newcomer, met, next_name, Agrees, Decides, Counts, MayAdd, MayCount, Bay, Desk, holds_one, holds_two}
 use Rattle.mc_shared.proofs.Words.{CanCome, Refuses, KeyStep, key_of, StepFault, NoMemory, NumbersSpent, Plain, Outcome, Spent, MayFail, plain, ShelfContent, DeskState}
-use Rattle.mc_shared.proofs.Words.{CanStand, IsAt, Reply, Beginning, Operation, Stepped, start_of, shelf_in, AreKeyCountsAt, AreCountsBy, len, SharedState, CallerState}
+use Rattle.mc_shared.proofs.Words.{CanStandAt, StandsAt, Reply, Beginning, Operation, Stepped, start_of, shelf_in, AreKeyCountsAt, AreCountsBy, len, SharedState, CallerState}
 use Rattle.mc_shared.proofs.Words.{HoldsShelf, HoldsBoth, caller_of, Sitter, IsTableOf, IsAnswered, MayDecide, StoreState, TableId}
 use Rattle.mc_shared.specs.Steps.{HoldsLast}
 use Rattle.mc_shared.proofs.NamedKept.{lives_start, lives_both}
@@ -190,14 +190,14 @@ came_out start old new step now reply told may table past is agrees =
 
 -- what is held stands for a state
 pub both_stand : {K : Type 0} (hash_of : K → List ℕ → ℕ) (shared : SharedState K) (seat : Sitter) (at : ℕ) (f : ShelfContent) (d : DeskState) (key : List ℕ)
-    → shelf_in (start_of hash_of shared.began) key ≡ at → HoldsBoth hash_of shared seat at f d → CanStand key f d
+    → shelf_in (start_of hash_of shared.began) key ≡ at → HoldsBoth hash_of shared seat at f d → CanStandAt key f d
 both_stand hash_of shared seat at f d key own h =
     can_stand (start_of hash_of shared.began) at f d key own seat.me.0 (ap (λ (m : Mine). m.0.bays) h.held) h.fits
 
 -- what comes of a step in each state that is held comes of it after some history
 pub both_come : {K : Type 0} (hash_of : K → List ℕ → ℕ) (shared : SharedState K) (seat : Sitter) (at : ℕ) (f : ShelfContent) (d : DeskState) (step : KeyStep) (now : ℕ)
     → shelf_in (start_of hash_of shared.began) (key_of step) ≡ at → HoldsBoth hash_of shared seat at f d
-    → (so : Outcome → Type 0) → ((m : Plain) → IsAt (key_of step) f d m → so (plain m step now)) → CanCome (start_of hash_of shared.began) seat.me.0.past step now so
+    → (so : Outcome → Type 0) → ((m : Plain) → StandsAt (key_of step) f d m → so (plain m step now)) → CanCome (start_of hash_of shared.began) seat.me.0.past step now so
 both_come hash_of shared seat at f d step now own h so comes =
     comes_after (start_of hash_of shared.began) at f d step now own seat.me.0 (ap (λ (m : Mine). m.0.bays) h.held) h.fits so comes
 

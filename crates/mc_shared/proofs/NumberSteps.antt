@@ -2,7 +2,7 @@
 use Rattle.std.proofs.Common.{◌≡◌, ◌≢◌, ◌==◌, ℕ, zero, suc, ◌+◌, ◌-◌, ◌*◌, ◌/◌, ◌%◌, ◌^◌, ◌≤◌, ◌<◌, true, false, cond, eqb, Option, Some, None, is_some, List, [], ◌∷◌}
 use Rattle.std.proofs.Common.{replicate, refl, sym, ap, ◌∙◌, subst, arith, eq-eqb, ne_eqb, mod-lt, div-add-mod'}
 use Rattle.mc_shared.proofs.Words.{dite, ℕ_discrete, get, len, retain_keys, empty, get-empty, Plain, Items, Entry, ShelfContent, DeskState, shelf_of, IsShelfOf, GoesTo}
-use Rattle.mc_shared.proofs.Words.{order, get_kept, total, number_of, keys_with, word_of, Beginning, Operation, shelf_in, next, Content, OfShelf, OfDesk, SeatView, Fits}
+use Rattle.mc_shared.proofs.Words.{order, get_kept, total, number_of, keys_with, word_of, Beginning, Operation, shelf_in, next, Content, OfShelf, OfDesk, SeatView, FitsBay}
 use Rattle.mc_shared.proofs.Words.{AllFit, holds_bay, times, named, Counts, MayAdd}
 use Rattle.mc_shared.proofs.StockedKept.{here, elsewhere}
 use Rattle.mc_shared.proofs.WordLemmas.{words_apart}
@@ -174,7 +174,7 @@ may_add start at divides hash key hashed own low f d v bays bare small =
 -- ---- how many keys have a number whose shelf is held
 
 module _ (start : Beginning) (divides : 4096 / start.shelves * start.shelves ≡ 4096) (n : ℕ) (inside : n % start.shelves < start.shelves) (m m' : Plain) where
-  of_bay : (b : ℕ) (x : Content) → n % start.shelves ≡ b → Fits start m b x → Fits start m' b x → keys_with start.hash_of n m.items ≡ keys_with start.hash_of n m'.items
+  of_bay : (b : ℕ) (x : Content) → n % start.shelves ≡ b → FitsBay start m b x → FitsBay start m' b x → keys_with start.hash_of n m.items ≡ keys_with start.hash_of n m'.items
   of_bay b (OfShelf f) is fits fits' = own_at start b (4096 / start.shelves) divides m f fits.1 n is ∙ sym (own_at start b (4096 / start.shelves) divides m' f fits'.1 n is)
   of_bay b (OfDesk d) is fits fits' = absurd (let e = fits.0 in omega (arith, inside, is, e))
 

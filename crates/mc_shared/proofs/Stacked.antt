@@ -2,7 +2,7 @@
 use Rattle.std.proofs.Common.{◌≡◌, ◌==◌, Bool, true, false, ℕ, zero, suc, ◌+◌, ◌≤◌, ◌<◌, None, Some, List, [], ◌∷◌, ◌++◌, length, slice_get, sym, refl, ap, ◌∙◌, subst}
 use Rattle.std.proofs.Common.{arith}
 use Rattle.mc_shared.proofs.Words.{rest, empty, moment_named, Plain, flushed, living, Flush, Flushed, ShelfState, DeskState, IsShelfOf, ArePartsOf, Bay, Content, OfShelf}
-use Rattle.mc_shared.proofs.Words.{OfDesk, content_of, place, total, Beginning, Operation, Stepped, after, Fits, AllFit, KeepsLimits, holds_bay, Past, KeptBy, SeatView}
+use Rattle.mc_shared.proofs.Words.{OfDesk, content_of, place, total, Beginning, Operation, Stepped, after, FitsBay, AllFit, KeepsLimits, holds_bay, Past, KeptBy, SeatView}
 use Rattle.mc_shared.proofs.Words.{Slot, Mine, HasTaken, HoldsThis, without, holding, decided_by, loaded, Fitted, Decides, stacked, holds_all}
 use Rattle.std.specs.Prelude.{if◌then◌else◌, take, drop}
 use Rattle.std.proofs.Math.Seq.{take-append_seam}
@@ -76,7 +76,7 @@ parts_held began m xs d all some h =
     }
 
 none_else : (began : Beginning) (m : Plain) (xs : List ShelfState) (d : DeskState) (c : ℕ) (z : Content) → length xs ≡ began.shelves
-    → total (holds_bay c) ((began.shelves, OfDesk d) ∷ stacked xs) ≡ 0 → Fits began m c z → ⊥
+    → total (holds_bay c) ((began.shelves, OfDesk d) ∷ stacked xs) ≡ 0 → FitsBay began m c z → ⊥
 none_else began m xs d c (OfShelf f) all none fits = let l = fits.0 in let has = has_on 0 c xs [] (omega arith) (omega (arith, l, all)) in omega (arith, none, has)
 none_else began m xs d c (OfDesk k) all none fits = let one : holds_bay c (began.shelves, OfDesk d) ≡ 1 = ap (λ k. holds_bay k (began.shelves, OfDesk d)) fits.0
     ∙ here began.shelves (OfDesk d) in omega (arith, none, one)

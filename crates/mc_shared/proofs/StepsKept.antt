@@ -3,14 +3,14 @@ use Rattle.std.proofs.Common.{◌≡◌, ◌≢◌, ◌==◌, ℕ, zero, suc, �
 use Rattle.std.proofs.Common.{get_or, set, eqb, sym, refl, ap, subst, inl, inr, ⊎_elim, arith}
 use Rattle.mc_shared.proofs.Words.{dite, ℕ_discrete, none, some, some-ne-none, get_elem?, either, get, Plain, Items, Answered, alive, changed, plain, row_of}
 use Rattle.mc_shared.proofs.Words.{without_dead, Read, Miss, step, Allows, rest, at_set, set_here, Bay, Shelf, Desk, Content, content_of, place, total, Beginning}
-use Rattle.mc_shared.proofs.Words.{HistoryEntry, Operation, Stepped, after, next, left_by, name_of, Lives, Whole, SeatView, Fits, AllFit, holds_bay, times, named, Story}
+use Rattle.mc_shared.proofs.Words.{HistoryEntry, Operation, Stepped, after, next, left_by, name_of, Lives, Whole, SeatView, FitsBay, AllFit, holds_bay, times, named, Story}
 use Rattle.mc_shared.proofs.Words.{Named, Stocked, Present, Kept, Slot, Mine, holding, entry_of, without, decided_by, Agrees, took, gave, decided, reloaded, added}
 use Rattle.mc_shared.proofs.Words.{counted, sought, Shows, MayAdd, MayCount, Decides, Counts, next_name, newcomer, met, number_of, keys_with, word_of}
 use lib.Seq.{set-get_or}
 use Rattle.mc_shared.proofs.Sums.{sum_one, total-append}
 use Rattle.atomic_table.specs.Table.{State, Act, keeps, takes, gives, stepped, carried_after, Valid, Splits, Joins}
 use Rattle.atomic_table.proofs.Lists.{set_again, exchanged}
-use Rattle.mc_shared.specs.Steps.{IsAt, called, lowered, maker, gone}
+use Rattle.mc_shared.specs.Steps.{BelongsAt, called, lowered, maker, gone}
 use Rattle.mc_shared.proofs.StoryKept.{after_snoc, story_same, story_call, story_made, story_both}
 use Rattle.mc_shared.proofs.NamedKept.{total_one, alone, kept_by, named_same, named_call, named_made, named_both}
 use Rattle.mc_shared.proofs.StockedKept.{stocked_take, stocked_give, stocked_same, stocked_snoc, stocked_word, held_word, inside}
@@ -19,7 +19,7 @@ use Rattle.mc_shared.proofs.PresentKept.{present_take, present_give, present_sam
 use Rattle.mc_shared.proofs.NumberLemmas.{nothing_out, none_counted}
 use Rattle.mc_shared.proofs.NumberSteps.{named_so, keys_alike, bare_names}
 
-pub at_home : (began : Beginning) (m : Plain) (b : ℕ) (x : Bay) → Fits began m b (content_of x) → IsAt began.shelves b x
+pub at_home : (began : Beginning) (m : Plain) (b : ℕ) (x : Bay) → FitsBay began m b (content_of x) → BelongsAt began.shelves b x
 at_home began m b (Shelf f) h = h.0
 at_home began m b (Desk n) h = h.0
 

@@ -2,7 +2,7 @@
 use Rattle.std.proofs.Common.{◌≡◌, ◌≢◌, ℕ, ◌+◌, ◌≤◌, ◌<◌, Option, Some, List, [], ◌∷◌, ◌++◌, length, get_or, set, cond, sym, refl, ap, ◌∙◌, subst, ⊎_elim, arith}
 use Rattle.std.proofs.Common.{length-set, get_or-set_other, get_or-set_same, eq-eqb, ne_eqb}
 use Rattle.mc_shared.proofs.Words.{dite, none, some, ℕ_discrete, get_elem?, at_set, set_here, Bay, Content, OfShelf, OfDesk, content_of, place, total, Plain, Beginning}
-use Rattle.mc_shared.proofs.Words.{SeatView, Fits, AllFit, KeepsLimits, holds_bay, times, Stocked}
+use Rattle.mc_shared.proofs.Words.{SeatView, FitsBay, AllFit, KeepsLimits, holds_bay, times, Stocked}
 use Rattle.atomic_table.proofs.Lists.{set_else}
 use Rattle.mc_shared.proofs.Sums.{sum_set, sum_one, sum_two, total-append, each_set, each_snoc}
 use Rattle.mc_shared.proofs.WordLemmas.{bays_inside}
@@ -14,7 +14,7 @@ here b x = ap (λ t. cond t 1 0) (eq-eqb b b refl)
 pub elsewhere : (b c : ℕ) (x : Content) → c ≢ b → holds_bay c (b, x) ≡ 0
 elsewhere b c x ne = ap (λ t. cond t 1 0) (ne_eqb c b ne)
 
-pub inside : (began : Beginning) (m : Plain) (b : ℕ) (x : Content) → Fits began m b x → b < began.shelves + 1
+pub inside : (began : Beginning) (m : Plain) (b : ℕ) (x : Content) → FitsBay began m b x → b < began.shelves + 1
 inside began m b (OfShelf f) h = let l = h.0 in omega (arith, l)
 inside began m b (OfDesk n) h = let l = h.0 in omega (arith, l)
 
@@ -24,7 +24,7 @@ places_apart c b ne e = ne (omega (arith, e))
 
 -- what fits still fits, where each bay in the list may be told so
 pub all_still : (began : Beginning) (m m' : Plain) (xs : List (ℕ × Content))
-    → ((b : ℕ) (x : Content) → 1 ≤ total (holds_bay b) xs → Fits began m b x → Fits began m' b x) → AllFit began m xs → AllFit began m' xs
+    → ((b : ℕ) (x : Content) → 1 ≤ total (holds_bay b) xs → FitsBay began m b x → FitsBay began m' b x) → AllFit began m xs → AllFit began m' xs
 all_still began m m' [] keep h = tt
 all_still began m m' (x ∷ xs) keep h = (
   keep x.0 x.1 (let one = here x.0 x.1 in omega (arith, one)) h.0,
@@ -39,7 +39,7 @@ apart began m words homes views id j v u b s ne at other l has = let two = sum_t
 -- a free bay is taken: its word was 0
 pub stocked_take : (began : Beginning) (m : Plain) (words : List ℕ) (homes : List (maybe.Option (Option Bay))) (views : List SeatView) (id b : ℕ)
     (v w : SeatView) (x : Content) → Stocked began m words homes views
-    → get_elem? views id ≡ some v → b < began.shelves + 1 → get_or words (place b) 0 ≡ 0 → w.bays ≡ (b, x) ∷ v.bays → Fits began m b x
+    → get_elem? views id ≡ some v → b < began.shelves + 1 → get_or words (place b) 0 ≡ 0 → w.bays ≡ (b, x) ∷ v.bays → FitsBay began m b x
     → Stocked began m (set words (place b) 1) (set homes (place b) none) (set views id w)
 stocked_take began m words homes views id b v w x s at l zero_here is fits = record {
   wide = length-set words (place b) 1 ∙ s.wide;
@@ -69,8 +69,8 @@ stocked_take began m words homes views id b v w x s at l zero_here is fits = rec
 -- a bay is given back, perhaps with a decision: the items are m' from then on
 pub stocked_give : (began : Beginning) (m m' : Plain) (words : List ℕ) (homes : List (maybe.Option (Option Bay))) (views : List SeatView) (id b : ℕ)
     (v w : SeatView) (x : Content) (x' : Bay) (xs : List (ℕ × Content)) → Stocked began m words homes views
-    → get_elem? views id ≡ some v → v.bays ≡ (b, x) ∷ xs → ((c : ℕ) → times c w ≡ total (holds_bay c) xs) → Fits began m' b (content_of x') → AllFit began m' w.bays
-    → ((c : ℕ) (y : Content) → times c v ≡ 0 → Fits began m c y → Fits began m' c y) → KeepsLimits began m'
+    → get_elem? views id ≡ some v → v.bays ≡ (b, x) ∷ xs → ((c : ℕ) → times c w ≡ total (holds_bay c) xs) → FitsBay began m' b (content_of x') → AllFit began m' w.bays
+    → ((c : ℕ) (y : Content) → times c v ≡ 0 → FitsBay began m c y → FitsBay began m' c y) → KeepsLimits began m'
     → Stocked began m' (set words (place b) 0) (set homes (place b) (some (Some x'))) (set views id w)
 stocked_give began m m' words homes views id b v w x x' xs s at is rests fits kept others limits = let l : b < began.shelves + 1 =
     inside began m' b (content_of x') fits in let lw : place b < length words = let e2 = s.wide in let room = bays_inside began.shelves in omega arith in
@@ -88,7 +88,7 @@ stocked_give began m m' words homes views id b v w x x' xs s at is rests fits ke
           let z : get_or (set words (place b) 0) (place c) 0 ≡ 0 = ap (λ k. get_or (set words (place b) 0) (place k) 0) e ∙ gone in omega (arith, f, low, one, z))
           (λ ne. let none_here = elsewhere b c x ne in let now = get_or-set_other words (place b) (place c) 0 0 (places_apart c b ne) in omega (arith, f, none_here, now));
       home = λ c lc free. dite (ℕ_discrete c b)
-          (λ e. (x', ap (λ k. get_elem? (set homes (place b) (some (Some x'))) (place k)) e ∙ set_here homes (place b) (some (Some x')) lh, subst (λ k. Fits began m' k (content_of x')) (sym e) fits))
+          (λ e. (x', ap (λ k. get_elem? (set homes (place b) (some (Some x'))) (place k)) e ∙ set_here homes (place b) (some (Some x')) lh, subst (λ k. FitsBay began m' k (content_of x')) (sym e) fits))
           (λ ne. let free' : get_or words (place c) 0 ≡ 0 = sym (get_or-set_other words (place b) (place c) 0 0 (places_apart c b ne)) ∙ free in let was = s.home c lc free' in
           let not_mine : times c v ≡ 0 = (let o = sum_one (times c) views id v at in let t = s.taken c lc in omega (arith, o, t, free')) in
           (was.0, set_else homes (place b) (place c) (some (Some x')) (places_apart c b ne) ∙ was.1, others c (content_of was.0) not_mine was.2));
@@ -102,7 +102,7 @@ stocked_give began m m' words homes views id b v w x x' xs s at is rests fits ke
 pub held_word : (began : Beginning) (m : Plain) (words : List ℕ) (homes : List (maybe.Option (Option Bay))) (views : List SeatView) (id b : ℕ) (v : SeatView)
     (x : Content) (xs : List (ℕ × Content)) → Stocked began m words homes views
     → get_elem? views id ≡ some v → v.bays ≡ (b, x) ∷ xs → get_or words (place b) 0 ≡ 1
-held_word began m words homes views id b v x xs s at is = let fit : Fits began m b x = (subst (AllFit began m) is (s.out id v at)).0 in let l =
+held_word began m words homes views id b v x xs s at is = let fit : FitsBay began m b x = (subst (AllFit began m) is (s.out id v at)).0 in let l =
     inside began m b x fit in let t = s.taken b l in let low = s.low b l in let o = sum_one (times b) views id v at in
     let has : times b v ≡ holds_bay b (b, x) + total (holds_bay b) xs = ap (total (holds_bay b)) is in let one = here b x in omega (arith, t, low, o, has, one)
 

@@ -5,7 +5,7 @@ pub use Rattle.mc_command.specs.Plain.{written, with_chunk, block_need, keeps_ch
 pub use Rattle.mc_command.specs.Plain.{living}
 pub use Rattle.mc_shared.specs.Past.{Past, KeptBy, Whole, call, spent, held, start, made, both, same, Lives, callers, name_of, makes, Ordered, numbered, called_by}
 pub use Rattle.mc_shared.specs.Past.{count_calls, Sound}
-pub use Rattle.mc_shelf.specs.States.{ShelfState, DeskState, ShelfContent, parts_of, IsAt, CanStand}
+pub use Rattle.mc_shelf.specs.States.{ShelfState, DeskState, ShelfContent, parts_of, StandsAt, CanStandAt}
 pub use Rattle.mc_shared.specs.Sums.{total}
 pub use Rattle.std.specs.FinMap.{get, get-empty, empty, len, retain_keys}
 pub use mathlib.Core.Logic.{dite}
@@ -17,7 +17,7 @@ pub use Rattle.mc_command.specs.Commands.{key_of}
 pub use Rattle.mc_shared.specs.Bays.{OfShelf, content_of, place, Content, OfDesk}
 pub use Rattle.mc_shelf.specs.Parts.{ArePartsOf, IsShelfOf, GoesTo, shelf_of, IsDeskOf}
 pub use Rattle.mc_shared.specs.Presence.{word_of, words_with}
-pub use Rattle.mc_shared.specs.Rule.{Kept, AllFit, holds_bay, Fits, times, named, Story, KeepsLimits, Named, Stocked, AreFirst, AreFilled, Present}
+pub use Rattle.mc_shared.specs.Rule.{Kept, AllFit, holds_bay, FitsBay, times, named, Story, KeepsLimits, Named, Stocked, AreFirst, AreFilled, Present}
 pub use mathlib.Core.Option.{none, some, some-ne-none, some-injective}
 pub use Rattle.mc_shared.specs.Stacks.{holds_all, stacked}
 pub use Rattle.atomic_table.specs.Table.{step, Allows, rest, opening}
@@ -43,7 +43,7 @@ pub use Rattle.std.specs.List.{All}
 pub use Rattle.mc_time.specs.Death.{expiry_of, is_dead, moment_named}
 pub use Rattle.mc_command.specs.declared.row.Row.TheVariants.{Reads, Touches, Deletes, Writes}
 pub use Rattle.std.proofs.lemmas.Option.{none-some, slice_get-get_or}
-pub use Rattle.mc_shelf.specs.Plans.{is_gone, next_of, writes, IsSettled}
+pub use Rattle.mc_shelf.specs.Plans.{is_gone, next_of, writes, PlanIsSettled}
 pub use Rattle.mc_command.specs.declared.step.StepFault.{StepFault}
 pub use Rattle.mc_command.specs.declared.step.StepFault.TheVariants.{NoMemory, NumbersSpent}
 pub use Rattle.std.proofs.lemmas.List.{append-nil}

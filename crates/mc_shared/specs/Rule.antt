@@ -17,10 +17,10 @@ use Rattle.mc_shelf.specs.Numbers.{keys_with}
 use Rattle.mc_shared.specs.Presence.{word_of, words_with}
 
 -- the bay b holds what the state says
-abbrev pub Fits : Beginning → Plain → ℕ → Content → Type 0
-Fits start m b (OfShelf shelf) =
+abbrev pub FitsBay : Beginning → Plain → ℕ → Content → Type 0
+FitsBay start m b (OfShelf shelf) =
     (b < start.shelves) × IsShelfOf start.hash_of start.shelves m b shelf
-Fits start m b (OfDesk desk) = (b ≡ start.shelves) × IsDeskOf m desk
+FitsBay start m b (OfDesk desk) = (b ≡ start.shelves) × IsDeskOf m desk
 
 -- the greatest charge and the limit of pages are what they began as
 pub record KeepsLimits (start : Beginning) (m : Plain) : Type 0 where
@@ -29,7 +29,7 @@ pub record KeepsLimits (start : Beginning) (m : Plain) : Type 0 where
 
 abbrev pub AllFit : Beginning → Plain → List (ℕ × Content) → Type 0
 AllFit start m [] = Unit {0}
-AllFit start m (x ∷ xs) = Fits start m x.0 x.1 × AllFit start m xs
+AllFit start m (x ∷ xs) = FitsBay start m x.0 x.1 × AllFit start m xs
 
 -- how often the bay b is held
 abbrev pub holds_bay : ℕ → ℕ × Content → ℕ
@@ -72,7 +72,7 @@ pub record Stocked (start : Beginning) (m : Plain) (words : List ℕ)
   pub low : (b : ℕ) → b < start.shelves + 1 → slice_index words (place b) ≤ 1
   pub taken : (b : ℕ) → b < start.shelves + 1 → total (times b) views ≡ slice_index words (place b)
   pub home : (b : ℕ) → b < start.shelves + 1 → slice_index words (place b) ≡ 0 → (x : Bay)
-      × (get_elem? homes (place b) ≡ some (some (Some x))) × Fits start m b (content_of x)
+      × (get_elem? homes (place b) ≡ some (some (Some x))) × FitsBay start m b (content_of x)
   pub limits : KeepsLimits start m
   pub out : (id : ℕ) (v : SeatView) → get_elem? views id ≡ some v → AllFit start m v.bays
 

@@ -13,7 +13,7 @@ use Rattle.mc_shared.specs.History.{Beginning, Name, HistoryEntry, Operation, St
 use Rattle.mc_shared.specs.Past.{Past, spent, start, call, made, both, name_of, held, makes, count_calls, count_made, KeptBy, Whole}
 use Rattle.mc_shared.specs.View.{SeatView}
 use Rattle.mc_shared.specs.Presence.{word_of}
-use Rattle.mc_shared.specs.Rule.{Fits, AllFit, KeepsLimits, holds_bay, times, named, IsHeldWord}
+use Rattle.mc_shared.specs.Rule.{FitsBay, AllFit, KeepsLimits, holds_bay, times, named, IsHeldWord}
 
 abbrev pub Slot : Type 0
 Slot = Option Bay
@@ -22,9 +22,9 @@ abbrev pub Mine : Type 0
 Mine = Me Slot SeatView
 
 -- what belongs in the bay b, where there are so many shelves
-abbrev pub IsAt : ℕ → ℕ → Bay → Type 0
-IsAt shelves b (Shelf shelf) = b < shelves
-IsAt shelves b (Desk desk) = b ≡ shelves
+abbrev pub BelongsAt : ℕ → ℕ → Bay → Type 0
+BelongsAt shelves b (Shelf shelf) = b < shelves
+BelongsAt shelves b (Desk desk) = b ≡ shelves
 
 abbrev pub holding : SeatView → ℕ → Content → SeatView
 holding v b x = record v { bays = (b, x) ∷ v.bays }
@@ -85,7 +85,7 @@ IsBusy began m b word m' =
 
 -- the word was 0, and the bay is held from then on; or it was 1
 abbrev pub took : Beginning → (bay : ℕ) → Step Slot → Mine → ℕ → Mine → Type 0
-took began b st m n m' = (n ≡ 0 → (x : Bay) × IsAt began.shelves b x
+took began b st m n m' = (n ≡ 0 → (x : Bay) × BelongsAt began.shelves b x
     × (m' ≡ (holding m.0 b (content_of x), (st.word, Some x) ∷ m.1))
     × Fitted began (holding m.0 b (content_of x)))
     × (n ≢ 0 → IsBusy began m b n m')
@@ -102,7 +102,7 @@ decided began what bays surplus st m n m' =
 -- the bay is held from then on with its content, and all that is held fits some such history
 abbrev pub HasTaken : Beginning → Mine → ℕ → Bay → Mine → Type 0
 HasTaken began m b x m' =
-    IsAt began.shelves b x × (m' ≡ (holding m.0 b (content_of x), (place b, None) ∷ m.1))
+    BelongsAt began.shelves b x × (m' ≡ (holding m.0 b (content_of x), (place b, None) ∷ m.1))
     × Fitted began (holding m.0 b (content_of x))
 
 -- the last bay taken was given back with a decision, and these are still held
@@ -119,10 +119,10 @@ pub record Decides (start : Beginning) (bays : List (ℕ × Content)) (b : ℕ) 
   pub right : (m : Plain) → AllFit start m bays → IsRight m what
   pub limits : (m : Plain) → AllFit start m bays → KeepsLimits start m
       → KeepsLimits start (next start m what)
-  pub given : (m : Plain) → AllFit start m bays → Fits start (next start m what) b y
+  pub given : (m : Plain) → AllFit start m bays → FitsBay start (next start m what) b y
   pub kept : (m : Plain) → AllFit start m bays → AllFit start (next start m what) still
   pub others : (m : Plain) → AllFit start m bays → (c : ℕ) (z : Content)
-      → total (holds_bay c) bays ≡ 0 → Fits start m c z → Fits start (next start m what) c z
+      → total (holds_bay c) bays ≡ 0 → FitsBay start m c z → FitsBay start (next start m what) c z
 
 -- Whatever the state is, if what is held fits it: the words show the keys after the decision, with
 -- what shows too many before and after it, and each that does is of a shelf that is still held

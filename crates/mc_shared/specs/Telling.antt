@@ -20,8 +20,8 @@ use Rattle.mc_shared.specs.declared.telling.Sought.{Sought}
 use Rattle.mc_shared.specs.declared.telling.Sought.TheVariants.{Told, Nothing, Deferred}
 
 -- an item stands in a shelf under a step's key
-abbrev pub Stands : ShelfContent → KeyStep → (now : ℕ) → Type 0
-Stands shelf step now = (item : Entry) × (stood shelf step now ≡ Some item)
+abbrev pub ItemStands : ShelfContent → KeyStep → (now : ℕ) → Type 0
+ItemStands shelf step now = (item : Entry) × (stood shelf step now ≡ Some item)
 
 -- What was told of the item of a read that was sought in a shelf: a hit of it where it stands. If
 -- the key has none, or a dead one, nothing was told; only a dead one is deferred.
@@ -29,7 +29,7 @@ abbrev pub IsSought
     : {A : Type 0} → (told : A → Reply → A → Type 0) → ShelfContent → KeyStep → (now : ℕ)
     → (before : A) → Sought → (after : A) → Type 0
 IsSought told shelf step now before (Told place) after =
-    Stands shelf step now × told before (hit_of (stood shelf step now)) after
+    ItemStands shelf step now × told before (hit_of (stood shelf step now)) after
 IsSought told shelf step now before Nothing after =
     (get shelf.items (key_of step) ≡ None) × (after ≡ before)
 IsSought told shelf step now before Deferred after =

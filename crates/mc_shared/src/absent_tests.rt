@@ -4,7 +4,7 @@ use crate::store::{Caller, Shared};
 use crate::tests::{MANY, ONE, SOME};
 use mc_command::{KeyStep, Reply, StepFault, Verb};
 use mc_hop::{Constant, Fnv, KeyHash};
-use mc_rows::{Ask, filled, step_of, told_of};
+use mc_rows::{Ask, filled_block, step_of, told_of};
 use mc_shelf::Settings;
 use mc_time::Moment;
 use std::alloc::{AllocError, Global};
@@ -184,8 +184,8 @@ fn a_key_that_finds_no_chunk_is_absent(rt: HostRuntime) -> Result<(), Fail> {
         shelves: 64,
     };
     let mut sole = Sole::open(&rt, alloc, small, (Fnv, Fnv))?;
-    let block = match filled(alloc, 600000) {
-        Err(_) => filled(alloc, 600000)?,
+    let block = match filled_block(alloc, 600000) {
+        Err(_) => filled_block(alloc, 600000)?,
         Ok(block) => block,
     };
     assert_eq!(rt; sole.set(alloc, b"b", block.as_slice()), "stored");

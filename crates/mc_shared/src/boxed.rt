@@ -1,6 +1,6 @@
 //! A value on the heap.
 ghost use Rattle.std.specs.Prelude.{◌≡◌, IfOk};
-ghost use Rattle.mc_shelf.specs.Numbers.{HasPlaces, AreCounted};
+ghost use Rattle.mc_shelf.specs.Numbers.{HasPlaces, KeysAreCounted};
 ghost use Rattle.mc_shelf.specs.Bare.{IsBare};
 ghost use Rattle.mc_shelf.specs.States.{nothing_held};
 ghost use Rattle.mc_shelf.specs.Sweeps.{AreOut, GivesFor};
@@ -72,7 +72,7 @@ impl Boxed<Shelf> {
     /// Counts the shelf's keys of each number, as its own `count_numbers` does.
     pub(crate) fn count_numbers(&self, counts: &mut [u64])
         requires { HasPlaces self.now.content counts.old }
-        ensures { AreCounted self.now.content counts.old counts.new }
+        ensures { KeysAreCounted self.now.content counts.old counts.new }
     {
         self.inner.count_numbers(counts);
     }

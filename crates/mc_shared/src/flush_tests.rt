@@ -2,7 +2,7 @@
 //! too few are. If an allocation is refused the steps are asked again.
 
 use crate::tests::Trial;
-use mc_rows::{Ask, Row, Want, filled, first_unlike, set};
+use mc_rows::{Ask, Row, Want, filled_block, first_unlike, set};
 use mc_shelf::Settings;
 use std::test::*;
 
@@ -24,7 +24,7 @@ const MISS: Row<'static> = (1000, b"b", Ask::Get, Want::Told("miss"));
 #[test]
 fn a_flush_frees_all_chunks(rt: HostRuntime) -> Result<(), Fail> {
     let alloc = rt.alloc();
-    let page = filled(alloc, ONE)?;
+    let page = filled_block(alloc, ONE)?;
     let page = page.as_slice();
     let mut trial = Trial::open_so(&rt, alloc, THREE)?;
     let rows: [Row<'_>; 9] = [
@@ -46,7 +46,7 @@ fn a_flush_frees_all_chunks(rt: HostRuntime) -> Result<(), Fail> {
 #[test]
 fn each_flush_frees_all_chunks(rt: HostRuntime) -> Result<(), Fail> {
     let alloc = rt.alloc();
-    let page = filled(alloc, ONE)?;
+    let page = filled_block(alloc, ONE)?;
     let page = page.as_slice();
     let mut trial = Trial::open_so(&rt, alloc, THREE)?;
     let rows: [Row<'_>; 9] = [

@@ -2,7 +2,7 @@
 //! gives the caller back, and none can be dropped.
 ghost use Rattle.std.specs.Prelude.{◌≡◌, ◌<◌, ℕ, IfOk, IfErr};
 ghost use Rattle.mc_shared.specs.History.{start_of};
-ghost use Rattle.mc_shared.specs.Steps.{Agrees, IsAt};
+ghost use Rattle.mc_shared.specs.Steps.{Agrees, BelongsAt};
 ghost use Rattle.mc_shelf.specs.States.{ShelfContent};
 ghost use Rattle.mc_shared.specs.Holds.{HoldsBoth, HoldsShelf, caller_of, without_desk};
 ghost use Rattle.mc_shared.specs.declared.bay.Bay.{Bay as Held};
@@ -233,7 +233,7 @@ impl<'a, K: KeyHash + Drop> AtBoth<'a, K> {
 
 /// The shelf that lies in a bay of one.
 pub(crate) fn shelf_from(bay: Bay, at: usize, shelves: usize) -> Box<Shelf>
-    requires { IsAt shelves at bay × (at < shelves) }
+    requires { BelongsAt shelves at bay × (at < shelves) }
     ensures { bay ≡ Held.Shelf result.value }
 {
     match bay {
@@ -244,7 +244,7 @@ pub(crate) fn shelf_from(bay: Bay, at: usize, shelves: usize) -> Box<Shelf>
 
 /// The desk that lies in its bay.
 pub(crate) fn desk_from(bay: Bay, shelves: usize) -> Box<Desk>
-    requires { IsAt shelves shelves bay }
+    requires { BelongsAt shelves shelves bay }
     ensures { bay ≡ Held.Desk result.value }
 {
     match bay {

@@ -2,7 +2,7 @@
 
 use crate::tests::Trial;
 use mc_command::Verb;
-use mc_rows::{Ask, Row, Want, filled, first_unlike, set};
+use mc_rows::{Ask, Row, Want, filled_block, first_unlike, set};
 use mc_shelf::Settings;
 use std::process::Abort;
 use std::test::*;
@@ -25,9 +25,9 @@ fn join<'a>(verb: Verb, block: &'a [u8]) -> Row<'a> {
 #[test]
 fn joins_of_pages_are_answered(rt: HostRuntime) -> Result<(), Fail> {
     let alloc = rt.alloc();
-    let first = filled(alloc, 1_500_000)?;
-    let second = filled(alloc, 900_000)?;
-    let mut all = filled(alloc, 2_400_002)?;
+    let first = filled_block(alloc, 1_500_000)?;
+    let second = filled_block(alloc, 900_000)?;
+    let mut all = filled_block(alloc, 2_400_002)?;
     if let Some(first) = all.get_mut(0) {
         *first = b'a';
     }

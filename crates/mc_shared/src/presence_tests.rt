@@ -3,7 +3,7 @@
 
 use crate::tests::Trial;
 use mc_command::Verb;
-use mc_rows::{Ask, asked, step_of, told_of};
+use mc_rows::{Ask, ask_step, step_of, told_of};
 use mc_time::Moment;
 use std::alloc::Global;
 use std::sync::Wait;
@@ -107,7 +107,7 @@ fn is_told<R: Wait>(
     }
     let now = Moment::from_seconds_at_most(seconds);
     let step = step_of(key, ask);
-    told_of(&asked(trial, alloc, &step, now)) == want
+    told_of(&ask_step(trial, alloc, &step, now)) == want
 }
 
 /// Does what a play says, and returns whether that came of it.

@@ -5,8 +5,8 @@ ghost use Rattle.mc_command.specs.Commands.{key_of};
 ghost use Rattle.mc_command.specs.Laws.{IsOnKey};
 ghost use Rattle.mc_command.specs.declared.step.KeyStep.{KeyStep as Step};
 ghost use Rattle.mc_command.specs.declared.reply.Reply.{Reply as Told};
-ghost use Rattle.mc_shelf.specs.States.{IsHash, CanStand};
-ghost use Rattle.mc_shelf.specs.Plans.{CanFinish, IsPlan, IsSpent, IsTaken, MayWantMemory, finished, told_next, wants_desk};
+ghost use Rattle.mc_shelf.specs.States.{IsHash, CanStandAt};
+ghost use Rattle.mc_shelf.specs.Plans.{CanFinish, IsPlan, IsSpent, StepTaken, MayWantMemory, finished, told_next, wants_desk};
 ghost use Rattle.mc_shelf.specs.Hits.{is_read};
 ghost use Rattle.mc_shared.specs.History.{start_of};
 ghost use Rattle.mc_shared.specs.Steps.{Agrees};
@@ -48,7 +48,7 @@ impl<'a, K: KeyHash + Drop> AtShelf<'a, K> {
         self.grows = Some(self.at);
         match self.shelf.look(alloc, ask.step, ask.hash, ask.moment) {
             Ok(plan) => {
-                if self.shelf.left() == 0 {
+                if self.shelf.entries_to_move() == 0 {
                     self.grows = None;
                 }
                 Ok(Looked::Planned(plan))
@@ -238,8 +238,8 @@ fn begin_step<'k>(
     requires on_key { IsOnKey ask.now.step.now }
     requires key { length (key_of ask.now.step.now) ≤ 250 }
     requires hash { IsHash shelf.old.content (key_of ask.now.step.now) ask.now.hash }
-    requires stands { CanStand (key_of ask.now.step.now) shelf.old.content desk.old }
-    ensures took { IfOk result (λ begun. IsTaken ask.now.step.now ask.now.moment ask.now.hash
+    requires stands { CanStandAt (key_of ask.now.step.now) shelf.old.content desk.old }
+    ensures took { IfOk result (λ begun. StepTaken ask.now.step.now ask.now.moment ask.now.hash
         shelf.old.content desk.old (told_next begun.0.next begun.1)
         (finished begun.0 begun.1 ask.now.step.now shelf.new.content) desk.new) }
     ensures left { IfOk result (λ begun.
@@ -434,7 +434,7 @@ impl<K: KeyHash + Drop> Shared<K> {
     {
         match self.step_by(&Once, alloc, caller, step, now) {
             Ok(reply) => Ok(reply),
-            Err(untaken) => Err(told(untaken)),
+            Err(untaken) => Err(fault_of(untaken)),
         }
     }
 
@@ -482,7 +482,7 @@ impl<K: KeyHash + Drop> Shared<K> {
 }
 
 /// Why a step that was tried wasn't taken.
-fn told(untaken: Untaken<Busy>) -> TryFault
+fn fault_of(untaken: Untaken<Busy>) -> TryFault
     ensures { result ≡ told_of untaken }
 {
     match untaken {

@@ -7,7 +7,7 @@ use crate::store::{Caller, Shared};
 use crate::tests::{MANY, ONE, SOME};
 use mc_command::Verb;
 use mc_hop::Fnv;
-use mc_rows::{Ask, filled};
+use mc_rows::{Ask, filled_block};
 use mc_shelf::{Settings, ShelfCounts};
 use mc_slab::{Account, Class, class_of};
 use std::alloc::Global;
@@ -79,8 +79,8 @@ const TIDY: Row = (1010, b"a", Act::Tidy);
 
 /// Sets a third item, of 1049 bytes with its head, which lies in a chunk of 1184.
 fn set_third<R: Wait>(sole: &mut Sole<'_, R, Fnv>, alloc: Global) -> Result<&'static str, Fail> {
-    let block = match filled(alloc, 1000) {
-        Err(_) => filled(alloc, 1000)?,
+    let block = match filled_block(alloc, 1000) {
+        Err(_) => filled_block(alloc, 1000)?,
         Ok(block) => block,
     };
     Ok(sole.set(alloc, b"b", block.as_slice()))

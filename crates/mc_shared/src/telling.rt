@@ -15,7 +15,7 @@ ghost use Rattle.mc_shared.specs.Steps.{Agrees};
 ghost use Rattle.mc_shared.specs.Store.{HasCalled, MayFailAfter, Refuses};
 ghost use Rattle.mc_shared.specs.Seats.{IsAnswered, IsFree, MayAsk};
 ghost use Rattle.mc_shared.specs.Holds.{HoldsShelf, IsAsked};
-ghost use Rattle.mc_shared.specs.Telling.{CameOfRead, IsSought, IsTold, Stands};
+ghost use Rattle.mc_shared.specs.Telling.{CameOfRead, IsSought, IsTold, ItemStands};
 
 use crate::ask::{Ask, Untaken};
 use crate::bay::Bay;
@@ -94,7 +94,7 @@ fn tell_hit<A: Answer>(shelf: &Shelf, ask: &Ask<'_>, answer: &mut A) -> Result<S
     requires { IsHash shelf.now.content (key_of ask.now.step.now) ask.now.hash }
     ensures sought { IfOk result (λ sought. IsSought A.told shelf.now.content ask.now.step.now
         ask.now.moment answer.old sought answer.new) }
-    ensures stands { OnErr result (Stands shelf.now.content ask.now.step.now ask.now.moment) }
+    ensures stands { OnErr result (ItemStands shelf.now.content ask.now.step.now ask.now.moment) }
     ensures err { OnErr result (answer.new ≡ answer.old) }
 {
     match shelf.find(ask.step.key(), ask.hash, ask.moment) {
@@ -204,7 +204,7 @@ impl<K: KeyHash + Drop> Shared<K> {
         let Caller { seat, grows } = caller;
         let shelf = self.take_shelf(patience.rt, seat, ask.at);
         patience.gate.inside(ask.at);
-        *grows = growing(&*shelf, ask.at);
+        *grows = growing_shelf(&*shelf, ask.at);
         match tell_hit(&*shelf, ask, answer) {
             Ok(Sought::Told(place)) => {
                 self.give_read(seat, shelf, ask, Some(place));
@@ -284,6 +284,10 @@ impl<K: KeyHash + Drop> Shared<K> {
 }
 
 /// Names a shelf if entries of it are left to move.
-fn growing(shelf: &Shelf, at: u32) -> Option<u32> {
-    if shelf.left() == 0 { None } else { Some(at) }
+fn growing_shelf(shelf: &Shelf, at: u32) -> Option<u32> {
+    if shelf.entries_to_move() == 0 {
+        None
+    } else {
+        Some(at)
+    }
 }

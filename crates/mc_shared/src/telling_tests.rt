@@ -2,7 +2,7 @@
 
 use crate::tests::{LARGE, Trial};
 use mc_command::{Answer, Block, Bytes, KeyStep, Reply, StepFault, Steps, Unanswered, Verb};
-use mc_rows::{Ask, Row, Want, filled, first_unlike, set, step_of};
+use mc_rows::{Ask, Row, Want, filled_block, first_unlike, set, step_of};
 use mc_time::Moment;
 use std::alloc::{AllocError, Global};
 use std::marker::Model;
@@ -209,7 +209,7 @@ impl Answer for Counter {
 /// Makes a block of three pages, with `y` on both sides of where the first page ends that has a key of
 /// one byte, and `z` where the second does.
 fn large_block(alloc: Global) -> Result<Vec<u8>, AllocError> {
-    let mut block = filled(alloc, 2_500_000)?;
+    let mut block = filled_block(alloc, 2_500_000)?;
     for (at, byte) in block.iter_mut().enumerate() {
         if at == 1_048_526 || at == 1_048_527 {
             *byte = b'y';

@@ -16,15 +16,15 @@ pub use Rattle.mc_command.specs.declared.row.Row.{Row}
 pub use Rattle.mc_command.specs.declared.row.Row.TheVariants.{Deletes, Reads, Refuses, Touches, Writes}
 pub use Rattle.mc_command.specs.declared.step.KeyStep.{KeyStep}
 pub use Rattle.mc_command.specs.declared.step.StepFault.{StepFault}
-pub use Rattle.mc_grow.specs.Indexes.{cells, count, count_from, entry_at, IndexState, is_due, IsFirstFrom, IsFound, IsNew, IsNext, IsPlaceOf, IsUpdated, KeepsLower}
+pub use Rattle.mc_grow.specs.Indexes.{cells, count, count_from, entry_at, IndexState, is_due, IsFirstFrom, IsFoundIn, IsNew, IsNext, IsPlaceOf, IsUpdated, KeepsLower}
 pub use Rattle.mc_grow.specs.Indexes.{lags, left, StandsAs}
 pub use Rattle.mc_grow.specs.declared.index.Place.{Place}
 pub use Rattle.mc_hop.specs.Cells.{filled}
 pub use Rattle.mc_hop.specs.Contents.{content, rows}
 pub use Rattle.mc_item.specs.Items.{charge_of, pieces}
-pub use Rattle.mc_shelf.specs.KeyMaps.{entries_in, EntryMap, hash_in, hashes_in, IsHashOf, IsKeyed, items_in, key_in, StandsIn}
-pub use Rattle.mc_shelf.specs.Places.{entries_of, hashes_of, IsChanged, IsKeyAt, IsKeyFound, items_of, KeyComes, KeyGoes}
-pub use Rattle.mc_shelf.specs.States.{CanStand, charge_in, DeskState, EntryState, Hashes, IsAt, IsHash, nothing_held, parts_of, ShelfContent, ShelfState}
+pub use Rattle.mc_shelf.specs.KeyMaps.{entries_in, EntryMap, hash_in, hashes_in, IsHashOf, EntriesAreKeyed, items_in, key_in, StandsIn}
+pub use Rattle.mc_shelf.specs.Places.{entries_of, hashes_of, ItemIsChanged, IsKeyAt, IsKeyFound, items_of, KeyComes, KeyGoes}
+pub use Rattle.mc_shelf.specs.States.{CanStandAt, charge_in, DeskState, EntryState, Hashes, StandsAt, IsHash, nothing_held, parts_of, ShelfContent, ShelfState}
 pub use Rattle.mc_slab.proofs.ClassLemmas.{chunks_a_page-least, length-chunk_sizes, size_of-last}
 pub use Rattle.mc_slab.specs.Chunks.{AreChunks, AreChunksOf, ChunksState, need_in}
 pub use Rattle.mc_slab.specs.Classes.{chunks_a_page, class_holding, IsClass, size_of}

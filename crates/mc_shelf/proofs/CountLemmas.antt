@@ -3,14 +3,14 @@ use Rattle.std.proofs.Common.{◌≡◌, ℕ, ◌+◌, ◌*◌, ◌-◌, ◌≤�
 use Rattle.std.proofs.Common.{List, Result, Ok, Err, length, refl, sym, ap}
 use Rattle.std.proofs.Common.{subst, ◌∙◌, arith, ⊎_elim}
 use Rattle.std.specs.Prelude.{min, nat_lt, OnOk, OnErr}
-use Rattle.mc_shelf.proofs.Common.{and_parts, count, entries_of, Entry, EntryMap, EntryState, filled, hash_in, IndexState, is_due, IsChanged, items_in}
+use Rattle.mc_shelf.proofs.Common.{and_parts, count, entries_of, Entry, EntryMap, EntryState, filled, hash_in, IndexState, is_due, ItemIsChanged, items_in}
 use Rattle.mc_shelf.proofs.Common.{items_of, key_in, lags, left, len, ltb-false, ltb-true, StandsAs}
 use Rattle.std.proofs.lemmas.Grind.{pow_more}
 use Rattle.mc_grow.specs.Indexes as grow
 use Rattle.mc_grow.specs.Adding.{AreMoved}
 use Rattle.mc_grow.proofs.CellLemmas.{count_parts}
 use Rattle.mc_shelf.specs.declared.counts.ShelfCounts.{ShelfCounts}
-use Rattle.mc_shelf.specs.Counts.{CaughtUp, DropsAlone, GoesOn, IsDue, IsLoaded, KeepsTable, MovesFew, counts_in}
+use Rattle.mc_shelf.specs.Counts.{CaughtUp, DropsAlone, GoesOn, GrowthIsDue, IsLoaded, KeepsTable, MovesFew, counts_in}
 
 -- ---- an index after a change
 
@@ -67,7 +67,7 @@ module _ (old : ShelfCounts) (mid new : IndexState EntryState) (caught : CaughtU
     same : counts_in new ≡ counts_in mid
     same = ap counts_in is
 
-  was_due : is_due mid ≡ true → IsDue (counts_in mid) × (mid.growing ≡ false)
+  was_due : is_due mid ≡ true → GrowthIsDue (counts_in mid) × (mid.growing ≡ false)
   was_due e =
       let homes = 2 ^ mid.k in
       let four = 4 * (count mid + 1) in
@@ -77,11 +77,11 @@ module _ (old : ShelfCounts) (mid new : IndexState EntryState) (caught : CaughtU
         why.0,
       )
 
-  due_before : IsDue (counts_in mid) → mid.growing ≡ false → IsDue old × (old.growing ≡ true → old.left ≤ 8)
+  due_before : GrowthIsDue (counts_in mid) → mid.growing ≡ false → GrowthIsDue old × (old.growing ≡ true → old.left ≤ 8)
   due_before due over =
-      elim (old.growing) as (λ b. old.growing ≡ b → IsDue old × (old.growing ≡ true → old.left ≤ 8)) [
+      elim (old.growing) as (λ b. old.growing ≡ b → GrowthIsDue old × (old.growing ≡ true → old.left ≤ 8)) [
         | true ↦ λ runs. let last = caught.ends runs over in (inl last.1, λ _. last.0)
-        | false ↦ λ rests. (subst (λ (c : ShelfCounts). IsDue c) (caught.rests rests) due, λ runs. absurd (true≢false (sym runs ∙ rests)))
+        | false ↦ λ rests. (subst (λ (c : ShelfCounts). GrowthIsDue c) (caught.rests rests) due, λ runs. absurd (true≢false (sym runs ∙ rests)))
       ] refl
 
   begins_so : is_due mid ≡ true → grow.HasBegun mid new → MovesFew 8 old (counts_in new)
@@ -130,7 +130,7 @@ kept_then old mid new one none = record {
 pub ruleset table_rules = (kept, kept_one, kept_whole)
 
 -- an item was changed
-pub changed_kept : (old new : IndexState EntryState) (key : List ℕ) (item : Entry) → IsChanged old new key item → KeepsTable 0 (counts_in old) (counts_in new)
+pub changed_kept : (old new : IndexState EntryState) (key : List ℕ) (item : Entry) → ItemIsChanged old new key item → KeepsTable 0 (counts_in old) (counts_in new)
 changed_kept old new key item is = unmoved old new is.same_k is.same_growing is.same_left
 
 -- a step: room is made for an entry first, and then the key's own may go

@@ -1,7 +1,7 @@
 -- The soonest expiry and write of items, as one comes, changes or goes.
 use Rattle.std.proofs.Common.{◌≡◌, ℕ, List, [], ◌∷◌, Option, Some, None, is_eq, sym, ap, subst, ◌∙◌, refl, arith}
 use Rattle.mc_shelf.proofs.Common.{cells, cond_both, count, empty, Entry, EntryState, filled, from_entries, get, get-empty, get-insert, get-remove, hash_in}
-use Rattle.mc_shelf.proofs.Common.{hashes_in, hashes_of, IndexState, insert, IsChanged, Items, items_in, items_of, key_in, nat_list_cmp_total, none-some}
+use Rattle.mc_shelf.proofs.Common.{hashes_in, hashes_of, IndexState, insert, ItemIsChanged, Items, items_in, items_of, key_in, nat_list_cmp_total, none-some}
 use Rattle.mc_shelf.proofs.Common.{remove, rows, same_Some}
 use Rattle.mc_shelf.specs.Deaths.{DiesNoSooner, DieNoSooner}
 use Rattle.mc_shelf.specs.declared.soonest.Soonest.{Soonest}
@@ -19,7 +19,7 @@ sooner_insert a b old new key item is held others one at found there =
     cond_both (is_eq (order at key)) (Some item) (get old at) (λ o. o ≡ Some found → DiesNoSooner b found)
     (λ _ e. subst (DiesNoSooner b) (same_Some item found e) one) (λ _ e. others found (held at found e)) (sym (ap (λ (m : Items). get m at) is ∙ get-insert nat_list_cmp_total old key item at) ∙ there)
 
-pub sooner_changed : (a b : Soonest) {old new : IndexState EntryState} {key : List ℕ} {item : Entry} → IsChanged old new key item → DieNoSooner a (items_of old)
+pub sooner_changed : (a b : Soonest) {old new : IndexState EntryState} {key : List ℕ} {item : Entry} → ItemIsChanged old new key item → DieNoSooner a (items_of old)
     → ((other : Entry) → DiesNoSooner a other → DiesNoSooner b other) → DiesNoSooner b item → DieNoSooner b (items_of new)
 sooner_changed a b {old} {new} {key} {item} is = sooner_insert a b (items_of old) (items_of new) key item is.items
 

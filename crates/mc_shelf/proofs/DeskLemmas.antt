@@ -1,8 +1,8 @@
 -- Which plans need the desk: those of a step that drops an item, writes one, finds no chunk, or finds the numbers spent.
 use Rattle.std.proofs.Common.{◌≡◌, ◌≢◌, ◌↔◌, ◌⊎◌, Result, Err, IfErr, ℕ, ◌+◌, ◌-◌, ◌≤◌, ◌^◌, Bool, true, false, true≢false, ◌&&◌, List, Option, Some, None, is_some, is_none, eqb}
 use Rattle.std.proofs.Common.{ltb, le-ltb, inl, inr, if◌then◌else◌, refl, sym, ap, subst, ◌∙◌, arith}
-use Rattle.mc_shelf.proofs.Common.{Answered, block_need, CanStand, charge, cond_both, Deletes, DeskState, Draft, Entry, Expiry, full_fault, get, has_room_with}
-use Rattle.mc_shelf.proofs.Common.{hit_of, IsAt, IsOnKey, keeps_chunk, key_of, KeyStep, NeedState, NoChunk, none-some, out_of, Outcome, pages_of, Plain, plain}
+use Rattle.mc_shelf.proofs.Common.{Answered, block_need, CanStandAt, charge, cond_both, Deletes, DeskState, Draft, Entry, Expiry, full_fault, get, has_room_with}
+use Rattle.mc_shelf.proofs.Common.{hit_of, StandsAt, IsOnKey, keeps_chunk, key_of, KeyStep, NeedState, NoChunk, none-some, out_of, Outcome, pages_of, Plain, plain}
 use Rattle.mc_shelf.proofs.Common.{Reads, refusal_reply, Refuses, Reply, Row, ShelfContent, SlabState, Spent, TellsFull, TooLarge, Touches, WantsPages}
 use Rattle.mc_shelf.proofs.Common.{with_chunk, write_reply, Writes, written}
 use Rattle.mc_slab.specs.declared.slab.TakeFault.{TakeFault}
@@ -61,7 +61,7 @@ module _ (key : List ℕ) (s : Plain) where
 
 -- ---- plans
 
-module _ (shelf : ShelfContent) (desk : DeskState) (step : KeyStep) (now : ℕ) (on : IsOnKey step) (s : Plain) (at : IsAt (key_of step) shelf desk s) where
+module _ (shelf : ShelfContent) (desk : DeskState) (step : KeyStep) (now : ℕ) (on : IsOnKey step) (s : Plain) (at : StandsAt (key_of step) shelf desk s) where
   abbrev its_key : List ℕ
   its_key = key_of step
 
@@ -130,7 +130,7 @@ module _ (shelf : ShelfContent) (desk : DeskState) (step : KeyStep) (now : ℕ) 
   needs_wanted next is needs = refl
 
 -- the desk is wanted exactly where each plain state needs it
-pub wanted_exactly : (shelf : ShelfContent) (desk : DeskState) (step : KeyStep) (now : ℕ) → IsOnKey step → CanStand (key_of step) shelf desk → (next : Next)
+pub wanted_exactly : (shelf : ShelfContent) (desk : DeskState) (step : KeyStep) (now : ℕ) → IsOnKey step → CanStandAt (key_of step) shelf desk → (next : Next)
     → next ≡ next_of shelf step now → (wants_desk next ≡ true) ↔ WantsDesk step now shelf desk
 wanted_exactly shelf desk step now on can next is =
     ((λ wants s at. wanted_needs shelf desk step now on s at next is wants), (λ needs. needs_wanted shelf desk step now on can.plain can.stands next is (needs can.plain can.stands)))

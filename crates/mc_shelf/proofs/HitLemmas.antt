@@ -4,7 +4,7 @@ use Rattle.mc_shelf.proofs.Common.{alive, cond_both, Entry, Expiry, get, hit_of,
 use Rattle.mc_command.specs.declared.step.KeyStep.TheVariants.{Read, ReadTouch}
 use Rattle.mc_shelf.specs.declared.plan.Next.{Next}
 use Rattle.mc_shelf.specs.declared.plan.Next.TheVariants.{Answer, Expire}
-use Rattle.mc_shelf.specs.Plans.{IsKnown, IsPut, IsSettled, is_gone, next_by, next_of, stood}
+use Rattle.mc_shelf.specs.Plans.{IsKnown, IsPut, PlanIsSettled, is_gone, next_by, next_of, stood}
 use Rattle.mc_shelf.specs.Hits.{is_read, read_expiry}
 use Rattle.mc_shelf.proofs.ShelfLemmas.{others_same}
 use Rattle.mc_shelf.proofs.TakesLemmas.{takes_answer, takes_expire}
@@ -51,7 +51,7 @@ module _ (step : KeyStep) (now own : ℕ) (old : ShelfContent) (place : Option P
       (λ i. next_by (lives i) old.greatest step stands (row_read step now stands read i))
       ∙ next_by_read old.greatest step (read_expiry step now) stands
 
-  answers_so : reading (read_expiry step now) stands ≡ Answer (hit_of stands) → IsSettled step now own old (hit_of stands) old
+  answers_so : reading (read_expiry step now) stands ≡ Answer (hit_of stands) → PlanIsSettled step now own old (hit_of stands) old
   answers_so is = record {
     takes = λ desk. takes_answer step now old desk (on_key step read) (hit_of stands) (sym (next_is ∙ is));
     stands = refl;
@@ -60,7 +60,7 @@ module _ (step : KeyStep) (now own : ℕ) (old : ShelfContent) (place : Option P
   }
 
   -- a read that sets no expiry
-  pub settled_plain : read_expiry step now ≡ None → IsSettled step now own old (hit_of stands) old
+  pub settled_plain : read_expiry step now ≡ None → PlanIsSettled step now own old (hit_of stands) old
   settled_plain none = answers_so (ap (λ (e : Option Expiry). reading e stands) none)
 
   nothing_read : (e : Option Expiry) → reading e None ≡ Answer (hit_of None)
@@ -72,7 +72,7 @@ module _ (step : KeyStep) (now own : ℕ) (old : ShelfContent) (place : Option P
   nothing_there (Some item) e = absurd (true≢false e)
 
   -- a read of a key that has no item
-  pub settled_miss : is_some place ≡ false → IsSettled step now own old (hit_of stands) old
+  pub settled_miss : is_some place ≡ false → PlanIsSettled step now own old (hit_of stands) old
   settled_miss none =
       let found = nothing_there (get old.items (key_of step)) (sym known.place ∙ none) in
       let nothing : stands ≡ None = ap (alive old.cut now) found in
@@ -85,7 +85,7 @@ module _ (step : KeyStep) (now own : ℕ) (old : ShelfContent) (place : Option P
   -- a read that sets the expiry of the item that it finds
   pub settled_expiring : (expiry : Expiry) (new : ShelfContent) → read_expiry step now ≡ Some expiry → is_some place ≡ true
       → ((item : Entry) → get old.items (key_of step) ≡ Some item → IsPut (key_of step) own old new (record item { expiry = expiry }))
-      → IsSettled step now own old (hit_of stands) new
+      → PlanIsSettled step now own old (hit_of stands) new
   settled_expiring expiry new sets some puts =
       let there = some_there (get old.items (key_of step)) (sym known.place ∙ some) in
       let item = there.0 in

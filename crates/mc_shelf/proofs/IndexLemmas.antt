@@ -1,7 +1,7 @@
 -- What a search in an index and a change of its entries say of the items and the hashes under its keys.
 use Rattle.std.proofs.Common.{◌≡◌, ℕ, zero, suc, ◌+◌, ◌^◌, ◌≤◌, true, false, cond, List, [], ◌∷◌, ◌++◌, replicate, get_or, Option, Some, None, sym, refl, ap, subst, ◌∙◌, arith, inl, inr}
 use Rattle.mc_shelf.proofs.Common.{cases_lt, cells, cond_both, empty, entries_of, Entry, entry_at, EntryState, find, from_entries, get, get-from_entries}
-use Rattle.mc_shelf.proofs.Common.{hash_in, hashes_in, hashes_of, IndexState, insert, IsChanged, IsFound, IsHashOf, IsKeyAt, IsKeyed, IsKeyFound, IsNew}
+use Rattle.mc_shelf.proofs.Common.{hash_in, hashes_in, hashes_of, IndexState, insert, ItemIsChanged, IsFoundIn, IsHashOf, IsKeyAt, EntriesAreKeyed, IsKeyFound, IsNew}
 use Rattle.mc_shelf.proofs.Common.{IsPlaceOf, IsUpdated, items_in, items_of, KeepsLower, key_in, KeyComes, KeyGoes, left, nat_list_cmp_total, none-some, Place}
 use Rattle.mc_shelf.proofs.Common.{remove, rows, same_Some, StandsIn}
 use Rattle.mc_shelf.proofs.KeyLemmas.{order, get_gone}
@@ -60,7 +60,7 @@ pub numbered : (index : IndexState EntryState) (label : List ℕ) (e : EntryStat
 numbered index label e is = in_bucket (cells index) label e (sym (get-from_entries nat_list_cmp_total (rows hash_in key_in (cells index)) label) ∙ is)
 
 -- the key of each entry has an item, and the entry's hash
-module _ (index : IndexState EntryState) (keyed : IsKeyed (entries_of index)) (number : ℕ) (e : EntryState) (is : get_or (cells index) number None ≡ Some e) where
+module _ (index : IndexState EntryState) (keyed : EntriesAreKeyed (entries_of index)) (number : ℕ) (e : EntryState) (is : get_or (cells index) number None ≡ Some e) where
   its_label : (x : EntryState) × (get (entries_of index) (e.hash ∷ e.key) ≡ Some x)
   its_label =
       let one = first (cells index) number e is in
@@ -85,7 +85,7 @@ new_empty k index is = ap entries_of is ∙ ap from_entries (no_rows (2 ^ k + 25
 
 -- ---- a search
 
-module _ (index : IndexState EntryState) (keyed : IsKeyed (entries_of index)) (hash : ℕ) (key : List ℕ) where
+module _ (index : IndexState EntryState) (keyed : EntriesAreKeyed (entries_of index)) (hash : ℕ) (key : List ℕ) where
   pub key_at : (place : Place) → IsPlaceOf hash_in key_in index hash key place → IsKeyAt index key place
   key_at place at = record {
     entry = at.entry;
@@ -96,20 +96,20 @@ module _ (index : IndexState EntryState) (keyed : IsKeyed (entries_of index)) (h
     hash = hash_there _ keyed hash key at.entry at.held;
   }
 
-  pub key_found : IsHashOf (entries_of index) key hash → (found : Option Place) → IsFound hash_in key_in index hash key found → IsKeyFound index key found
+  pub key_found : IsHashOf (entries_of index) key hash → (found : Option Place) → IsFoundIn hash_in key_in index hash key found → IsKeyFound index key found
   key_found right None none = not_found _ keyed hash key right none
   key_found right (Some place) at = key_at place at
 
 -- ---- changes
 
-module _ (old new : IndexState EntryState) (keyed : IsKeyed (entries_of old)) where
+module _ (old new : IndexState EntryState) (keyed : EntriesAreKeyed (entries_of old)) where
   -- an entry comes
   module _ (e : EntryState) (absent : get (items_of old) e.key ≡ None) (is : entries_of new ≡ insert (entries_of old) (e.hash ∷ e.key) e) where
     right : IsHashOf (entries_of old) e.key e.hash
     right stored found = absurd (none-some stored (sym (hash_absent _ keyed e.key absent) ∙ found))
 
-    pub came_keyed : IsKeyed (entries_of new)
-    came_keyed = subst IsKeyed (sym is) (keyed-insert _ keyed e right)
+    pub came_keyed : EntriesAreKeyed (entries_of new)
+    came_keyed = subst EntriesAreKeyed (sym is) (keyed-insert _ keyed e right)
 
     pub came : KeyComes old new e
     came = record { items = ap items_in is ∙ items-insert _ keyed e right; hashes = ap hashes_in is ∙ hashes-insert _ keyed e right }
@@ -129,8 +129,8 @@ module _ (old new : IndexState EntryState) (keyed : IsKeyed (entries_of old)) wh
     hash_right : IsHashOf (entries_of old) given.key given.hash
     hash_right = found_hash _ keyed given.hash given.key e stood
 
-    pub changed_keyed : IsKeyed (entries_of new)
-    changed_keyed = subst IsKeyed (sym now) (keyed-insert _ keyed given hash_right)
+    pub changed_keyed : EntriesAreKeyed (entries_of new)
+    changed_keyed = subst EntriesAreKeyed (sym now) (keyed-insert _ keyed given hash_right)
 
     pub changed_items : items_of new ≡ insert (items_of old) given.key given.item
     changed_items = ap items_in now ∙ items-insert _ keyed given hash_right
@@ -138,7 +138,7 @@ module _ (old new : IndexState EntryState) (keyed : IsKeyed (entries_of old)) wh
     pub same_hashes : hashes_of new ≡ hashes_of old
     same_hashes = ap hashes_in now ∙ hashes-replace _ keyed e given stood
 
-    pub changed : (key : List ℕ) → e.key ≡ key → new.k ≡ old.k → new.growing ≡ old.growing → new.spare ≡ old.spare → left new ≡ left old → IsChanged old new key given.item
+    pub changed : (key : List ℕ) → e.key ≡ key → new.k ≡ old.k → new.growing ≡ old.growing → new.spare ≡ old.spare → left new ≡ left old → ItemIsChanged old new key given.item
     changed key is_key same_k same_growing spare rest =
         record {
           items = changed_items ∙ ap (λ k. insert (items_of old) k given.item) (same_key ∙ is_key);
@@ -174,21 +174,21 @@ module _ (old new : IndexState EntryState) (keyed : IsKeyed (entries_of old)) wh
     pub gone_item : get (items_of old) e.key ≡ Some e.item
     gone_item = item_there _ keyed e.hash e.key e held
 
-    pub gone_keyed : IsKeyed (entries_of new)
-    gone_keyed = subst IsKeyed (sym is) (keyed-remove _ keyed e held)
+    pub gone_keyed : EntriesAreKeyed (entries_of new)
+    gone_keyed = subst EntriesAreKeyed (sym is) (keyed-remove _ keyed e held)
 
     pub gone : KeyGoes old new e.key
     gone = record { items = ap items_in is ∙ items-remove _ keyed e held; hashes = ap hashes_in is ∙ hashes-remove _ keyed e held }
 
 -- the entry of a key becomes one of its hash and key
-pub updated : {old shown new : IndexState EntryState} {key : List ℕ} {place : Place} {R : Type 0} {post : EntryState → EntryState × R → Type 0} {answer : R} → old ≡ shown → IsKeyed (entries_of old)
+pub updated : {old shown new : IndexState EntryState} {key : List ℕ} {place : Place} {R : Type 0} {post : EntryState → EntryState × R → Type 0} {answer : R} → old ≡ shown → EntriesAreKeyed (entries_of old)
     → (at : IsKeyAt shown key place) (is : IsUpdated hash_in key_in post at.entry place old new answer) {one : EntryState} → is.given ≡ one → one.hash ≡ at.entry.hash → one.key ≡ at.entry.key
-    → IsKeyed (entries_of new) × IsChanged shown new key one.item
+    → EntriesAreKeyed (entries_of new) × ItemIsChanged shown new key one.item
 updated {old} {shown} {new} {key} view keyed at is {one} becomes same_hash same_key =
     let held = subst (λ (s : IndexState EntryState). StandsIn (entries_of s) at.entry) (sym view) at.held in
     let hashes = ap (λ (e : EntryState). e.hash) becomes ∙ same_hash in
     let keys = ap (λ (e : EntryState). e.key) becomes ∙ same_key in
     let change = changed old new keyed at.entry is.given held hashes keys is.content key at.same_key is.same_k is.same_growing is.same_spare is.same_left in (
       changed_keyed old new keyed at.entry is.given held hashes keys is.content,
-      subst (λ (i : Entry). IsChanged shown new key i) (ap (λ (e : EntryState). e.item) becomes) (subst (λ (s : IndexState EntryState). IsChanged s new key is.given.item) view change),
+      subst (λ (i : Entry). ItemIsChanged shown new key i) (ap (λ (e : EntryState). e.item) becomes) (subst (λ (s : IndexState EntryState). ItemIsChanged s new key is.given.item) view change),
     )

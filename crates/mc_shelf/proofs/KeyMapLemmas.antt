@@ -2,14 +2,14 @@
 -- change of one entry makes of these.
 use Rattle.std.proofs.Common.{◌≡◌, ℕ, false, cond, List, [], ◌∷◌, drop, get_or, Option, Some, None, sym, refl, ap, ◌∙◌}
 use Rattle.mc_shelf.proofs.Common.{cond_both, content, empty, Entry, EntryMap, EntryState, false_from_ne_true, find, get, get-empty, get-from_entries}
-use Rattle.mc_shelf.proofs.Common.{get-insert, get-remove, hashes_in, insert, IsHashOf, IsKeyed, items_in, nat_list_cmp_total, none-some, remove, rows}
+use Rattle.mc_shelf.proofs.Common.{get-insert, get-remove, hashes_in, insert, IsHashOf, EntriesAreKeyed, items_in, nat_list_cmp_total, none-some, remove, rows}
 use Rattle.mc_shelf.proofs.Common.{same_Some, StandsIn, true≢false}
 use Rattle.mc_shelf.proofs.KeyLemmas.{order, same_maps}
 use Rattle.mc_shelf.proofs.LabelLemmas.{same, same_list, same_itself, none_by, own, own_key, same_label, Held, parts_in, held, part_there, no_part, no_entry, part_same}
 
 -- ---- items and hashes under a key
 
-module _ (m : EntryMap) (keyed : IsKeyed m) where
+module _ (m : EntryMap) (keyed : EntriesAreKeyed m) where
   -- an entry's item and hash are those under its key
   pub item_there : (hash : ℕ) (key : List ℕ) (e : EntryState) → get m (hash ∷ key) ≡ Some e → get (items_in m) key ≡ Some e.item
   item_there = part_there (λ e. e.item) m keyed
@@ -63,7 +63,7 @@ apart hash key e other = false_from_ne_true (same (hash ∷ key) (e.hash ∷ e.k
     (λ t. true≢false (sym (ap (λ q. same q e.key) (ap (drop 1) (same_list (hash ∷ key) (e.hash ∷ e.key) t)) ∙ same_itself e.key) ∙ other))
 
 -- where the entries of one key have changed, and no others, so have its parts
-part_changed : {X : Type 0} (part : EntryState → X) (m n : EntryMap) → IsKeyed m → IsKeyed n → (e : EntryState) (now : Option EntryState) (o : Option X)
+part_changed : {X : Type 0} (part : EntryState → X) (m n : EntryMap) → EntriesAreKeyed m → EntriesAreKeyed n → (e : EntryState) (now : Option EntryState) (o : Option X)
     → ((q : List ℕ) → get n q ≡ cond (same q (e.hash ∷ e.key)) now (get m q)) → get (parts_in part n) e.key ≡ o
     → (q : List ℕ) → get (parts_in part n) q ≡ cond (same q e.key) o (get (parts_in part m) q)
 part_changed part m n km kn e now o at there q = cond_both (same q e.key) o (get (parts_in part m) q) (λ r. get (parts_in part n) q ≡ r)
@@ -71,7 +71,7 @@ part_changed part m n km kn e now o at there q = cond_both (same q e.key) o (get
     (λ f. part_same part n m kn km q (λ hash. at (hash ∷ q) ∙ ap (λ b. cond b now (get m (hash ∷ q))) (apart hash q e f)))
 
 -- an entry comes whose key has no other hash
-module _ (m : EntryMap) (keyed : IsKeyed m) (e : EntryState) (right : IsHashOf m e.key e.hash) where
+module _ (m : EntryMap) (keyed : EntriesAreKeyed m) (e : EntryState) (right : IsHashOf m e.key e.hash) where
   abbrev more : EntryMap
   more = insert m (e.hash ∷ e.key) e
 
@@ -101,7 +101,7 @@ module _ (m : EntryMap) (keyed : IsKeyed m) (e : EntryState) (right : IsHashOf m
       (λ _ new. its_hash a at_a (keys ∙ ap (λ (d : EntryState). d.key) new) ∙ sym (ap (λ (d : EntryState). d.hash) new))
       (λ old_b. keyed.one_hash a b old_a old_b keys))
 
-  pub keyed-insert : IsKeyed (insert m (e.hash ∷ e.key) e)
+  pub keyed-insert : EntriesAreKeyed (insert m (e.hash ∷ e.key) e)
   keyed-insert = record {
     labelled = λ at a is. new_or_old at a is (λ q new. q ∙ sym (ap (λ (d : EntryState). d.hash ∷ d.key) new)) (keyed.labelled at a);
     one_hash = more_hash;
@@ -119,7 +119,7 @@ module _ (m : EntryMap) (keyed : IsKeyed m) (e : EntryState) (right : IsHashOf m
   hashes-insert = part-insert (λ e. e.hash)
 
 -- an entry goes
-module _ (m : EntryMap) (keyed : IsKeyed m) (e : EntryState) (there : StandsIn m e) where
+module _ (m : EntryMap) (keyed : EntriesAreKeyed m) (e : EntryState) (there : StandsIn m e) where
   abbrev fewer : EntryMap
   fewer = remove m (e.hash ∷ e.key)
 
@@ -140,7 +140,7 @@ module _ (m : EntryMap) (keyed : IsKeyed m) (e : EntryState) (there : StandsIn m
       let one : a.hash ∷ a.key ≡ e.hash ∷ e.key = same_label m keyed a e (own m keyed (hash ∷ e.key) a old) there (own_key m keyed hash e.key a old) in
       none-some a (sym gone ∙ ap (get fewer) (sym (keyed.labelled (hash ∷ e.key) a old ∙ one)) ∙ is))
 
-  pub keyed-remove : IsKeyed (remove m (e.hash ∷ e.key))
+  pub keyed-remove : EntriesAreKeyed (remove m (e.hash ∷ e.key))
   keyed-remove = record {
     labelled = λ at a is. keyed.labelled at a (stood at a is);
     one_hash = λ a b at_a at_b. keyed.one_hash a b (stood (a.hash ∷ a.key) a at_a) (stood (b.hash ∷ b.key) b at_b);
@@ -158,7 +158,7 @@ module _ (m : EntryMap) (keyed : IsKeyed m) (e : EntryState) (there : StandsIn m
   hashes-remove = part-remove (λ e. e.hash)
 
 -- an entry takes the place of one of its hash and key: the hashes stay
-pub hashes-replace : (m : EntryMap) → IsKeyed m → (old new : EntryState) → get m (new.hash ∷ new.key) ≡ Some old → hashes_in (insert m (new.hash ∷ new.key) new) ≡ hashes_in m
+pub hashes-replace : (m : EntryMap) → EntriesAreKeyed m → (old new : EntryState) → get m (new.hash ∷ new.key) ≡ Some old → hashes_in (insert m (new.hash ∷ new.key) new) ≡ hashes_in m
 hashes-replace m keyed old new there =
     let right : IsHashOf m new.key new.hash = found_hash m keyed new.hash new.key old there in
     let hash : get (hashes_in m) new.key ≡ Some new.hash = hash_there m keyed new.hash new.key old there ∙ ap (λ q. Some (get_or q 0 0)) (sym (keyed.labelled (new.hash ∷ new.key) old there)) in
@@ -167,7 +167,7 @@ hashes-replace m keyed old new there =
 
 -- ---- no entry
 
-pub keyed-empty : IsKeyed empty
+pub keyed-empty : EntriesAreKeyed empty
 keyed-empty = record {
   labelled = λ at e is. absurd (none-some e (sym (get-empty order at) ∙ is));
   one_hash = λ a b at_a at_b keys. absurd (none-some a (sym (get-empty order (a.hash ∷ a.key)) ∙ at_a));

@@ -1,7 +1,7 @@
 -- Entries under their labels, a hash and a key in one list, in one finite map: what stands of one part of them under the keys alone.
 use Rattle.std.proofs.Common.{◌≡◌, ℕ, Bool, true, false, cond, ◌&&◌, T, List, [], ◌∷◌, map, drop, Option, Some, None, Ordering, Less, Equal, Greater, is_eq, is_lt, sym, refl, ap, ◌∙◌}
 use Rattle.mc_shelf.proofs.Common.{cond_both, entries, entries_in, entries_sorted, EntryMap, EntryState, find, FinMap, from_entries, get, get-entries}
-use Rattle.mc_shelf.proofs.Common.{get-from_entries, is_sorted, IsKeyed, nat_list_cmp_total, none-some, same_Some, StandsIn}
+use Rattle.mc_shelf.proofs.Common.{get-from_entries, is_sorted, EntriesAreKeyed, nat_list_cmp_total, none-some, same_Some, StandsIn}
 use Rattle.std.specs.Ordering.{eq_by_cmp}
 use Rattle.std.specs.Cmp.{tied_itself}
 use Rattle.std.specs.FinMap.Entries.{below_all}
@@ -27,7 +27,7 @@ pub none_by : {A : Type 0} (o : Option A) → ((x : A) → o ≡ Some x → ⊥)
 none_by None never = refl
 none_by (Some x) never = absurd (never x refl)
 
-module _ (m : EntryMap) (keyed : IsKeyed m) where
+module _ (m : EntryMap) (keyed : EntriesAreKeyed m) where
   -- an entry stands under its own label
   pub own : (at : List ℕ) (e : EntryState) → get m at ≡ Some e → StandsIn m e
   own at e is = ap (get m) (sym (keyed.labelled at e is)) ∙ is
@@ -117,7 +117,7 @@ module _ {X : Type 0} (part : EntryState → X) where
       none-some (part p.1) (sym none ∙ ap (λ b. cond b (Some (part p.1)) (find order e.key (pairs es))) tied))
       (λ _ is. not_missed es at e is (rest_none (same e.key p.1.key) (part p.1) (find order e.key (pairs es)) none)) found
 
-  module _ (m : EntryMap) (keyed : IsKeyed m) where
+  module _ (m : EntryMap) (keyed : EntriesAreKeyed m) where
     at_key : (key : List ℕ) → get (parts_in m) key ≡ find order key (pairs (entries m))
     at_key key = get-from_entries nat_list_cmp_total (pairs (entries m)) key
 
@@ -148,7 +148,7 @@ module _ {X : Type 0} (part : EntryState → X) where
     no_entry key none hash = none_by _ (λ e is. none-some (part e) (sym none ∙ part_there hash key e is))
 
   -- two maps with the same entries of a key have the same under it
-  pub part_same : (m n : EntryMap) → IsKeyed m → IsKeyed n → (key : List ℕ) → ((hash : ℕ) → get m (hash ∷ key) ≡ get n (hash ∷ key)) → get (parts_in m) key ≡ get (parts_in n) key
+  pub part_same : (m n : EntryMap) → EntriesAreKeyed m → EntriesAreKeyed n → (key : List ℕ) → ((hash : ℕ) → get m (hash ∷ key) ≡ get n (hash ∷ key)) → get (parts_in m) key ≡ get (parts_in n) key
   part_same m n km kn key alike = elim (get (parts_in n) key) as (λ o. get (parts_in n) key ≡ o → get (parts_in m) key ≡ o) [
     | None ↦ λ is. no_part m km key (λ hash. alike hash ∙ no_entry n kn key is hash)
     | Some x ↦ λ is.

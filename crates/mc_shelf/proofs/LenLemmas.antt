@@ -1,6 +1,6 @@
 -- How many items an index has.
 use Rattle.std.proofs.Common.{◌≡◌, ℕ, zero, suc, ◌+◌, ◌-◌, ◌≤◌, cond, List, [], ◌∷◌, Some, is_some, sym, refl, ap, ◌∙◌, arith}
-use Rattle.mc_shelf.proofs.Common.{empty_of_len, entries, Entry, EntryMap, EntryState, find, get, get-entries, IsKeyed, Items, items_in, len, len-empty}
+use Rattle.mc_shelf.proofs.Common.{empty_of_len, entries, Entry, EntryMap, EntryState, find, get, get-entries, EntriesAreKeyed, Items, items_in, len, len-empty}
 use Rattle.mc_shelf.proofs.Common.{len-entries, len-remove, nat_list_cmp_total, none-some, remove, StandsIn}
 use Rattle.mc_shelf.proofs.KeyLemmas.{order}
 use Rattle.mc_shelf.proofs.LabelLemmas.{same_itself}
@@ -23,7 +23,7 @@ one_less old new key item there is =
     let gone : len new ≡ len old - 1 = ap (λ (i : Items). len i) is ∙ len-remove nat_list_cmp_total old key ∙ ap (λ o. cond (is_some o) (len old - 1) (len old)) there in
     omega (arith, gone, some_len old key item there)
 
-pub len_items : (n : ℕ) (m : EntryMap) → IsKeyed m → len m ≡ n → len (items_in m) ≡ n
+pub len_items : (n : ℕ) (m : EntryMap) → EntriesAreKeyed m → len m ≡ n → len (items_in m) ≡ n
 len_items zero m keyed is = ap (λ (k : EntryMap). len (items_in k)) (empty_of_len m is) ∙ ap (λ (i : Items). len i) items-empty ∙ len-empty order Entry
 len_items (suc n) m keyed is =
     let first = some_entry m (entries m) refl n is in

@@ -3,10 +3,10 @@ use Rattle.std.proofs.Common.{◌≡◌, ℕ, zero, suc, ◌+◌, ◌-◌, ◌%�
 use Rattle.std.proofs.Common.{length, drop, get_or, set, Option, Some, None, is_some, is_eq, refl, sym, ap, subst, ◌∙◌, arith, inl, inr}
 use Rattle.mc_shelf.proofs.Common.{cases_eq, cells, cond_both, content, count, drop-nil, empty, entries_of, Entry, entry_at, EntryState, eq-eqb, filled, get}
 use Rattle.mc_shelf.proofs.Common.{get-empty, get-from_entries, get-insert, get_or-set_other, get_or-set_same, hash_in, IndexState, insert, IsFirstFrom}
-use Rattle.mc_shelf.proofs.Common.{IsHashOf, IsKeyed, IsNext, Items, items_in, key_in, len, len-empty, len-insert, length-set, nat_list_cmp_total, ne_eqb}
+use Rattle.mc_shelf.proofs.Common.{IsHashOf, EntriesAreKeyed, IsNext, Items, items_in, key_in, len, len-empty, len-insert, length-set, nat_list_cmp_total, ne_eqb}
 use Rattle.mc_shelf.proofs.Common.{none-some, Place, retain_keys, rows, ShelfContent}
 use Rattle.std.proofs.lemmas.Nat.{mod_below}
-use Rattle.mc_shelf.specs.Numbers.{AreCounted, HasPlaces, keys_with, number_of}
+use Rattle.mc_shelf.specs.Numbers.{KeysAreCounted, HasPlaces, keys_with, number_of}
 use Rattle.mc_shelf.proofs.KeyLemmas.{order, get_kept, same_maps}
 use Rattle.mc_shelf.proofs.LabelLemmas.{same_list}
 use Rattle.mc_shelf.proofs.KeyMapLemmas.{hash_held, items-empty, items-insert, labelled-content, not_found}
@@ -125,7 +125,7 @@ module _ (hash_of : List ℕ → ℕ) (n : ℕ) where
       let there = in_bucket xs label e (sym (get-from_entries nat_list_cmp_total (rows hash_in key_in xs) label) ∙ is) in
       fit there.0 e there.1
 
-  keyed_fit : (xs : List (Option EntryState)) → AreFit xs → IsKeyed (map_of xs)
+  keyed_fit : (xs : List (Option EntryState)) → AreFit xs → EntriesAreKeyed (map_of xs)
   keyed_fit xs fit = record {
     labelled = labelled-content hash_in key_in xs;
     one_hash = λ a b at_a at_b keys. entry_fits xs fit (a.hash ∷ a.key) a at_a ∙ ap hash_of keys ∙ sym (entry_fits xs fit (b.hash ∷ b.key) b at_b);
@@ -157,7 +157,7 @@ module _ (hash_of : List ℕ → ℕ) (n : ℕ) where
   cells_keys (Some e ∷ xs) fit all =
       let later : AreFit xs = λ at. fit (suc at) in
       let m = map_of xs in
-      let keyed : IsKeyed m = keyed_fit xs later in
+      let keyed : EntriesAreKeyed m = keyed_fit xs later in
       let new = fresh e xs all in
       let own : e.hash ≡ hash_of e.key = fit 0 e refl in
       let right : IsHashOf m e.key e.hash = λ stored is.
@@ -220,15 +220,15 @@ module _ (index : IndexState EntryState) (at number : ℕ) (place : Place) (firs
       omega (arith, had, most, zero_there, first.from, first.below)
 
 -- the count of each entry's number was 0
-pub counts_zero : (greatest : ℕ) (cut : Option ℕ) (index : IndexState EntryState) → IsKeyed (entries_of index) → (counts : List ℕ) → HasPlaces (content_of greatest cut index) counts
+pub counts_zero : (greatest : ℕ) (cut : Option ℕ) (index : IndexState EntryState) → EntriesAreKeyed (entries_of index) → (counts : List ℕ) → HasPlaces (content_of greatest cut index) counts
     → (number : ℕ) (e : EntryState) → get_or (cells index) number None ≡ Some e → get_or counts (e.hash % 4096) 0 ≡ 0
 counts_zero greatest cut index keyed counts places number e is =
     let item = item_here index keyed number e is in
     places.zero e.key item.0.item e.hash item.1 (hash_here index keyed number e is)
 
 -- at the end
-pub all_counted : (greatest : ℕ) (cut : Option ℕ) (index : IndexState EntryState) → IsKeyed (entries_of index) → len (entries_of index) ≡ count index → (at : ℕ) → IsNext index at None
-    → (old new : List ℕ) → Counting index at old new → AreCounted (content_of greatest cut index) old new
+pub all_counted : (greatest : ℕ) (cut : Option ℕ) (index : IndexState EntryState) → EntriesAreKeyed (entries_of index) → len (entries_of index) ≡ count index → (at : ℕ) → IsNext index at None
+    → (old new : List ℕ) → Counting index at old new → KeysAreCounted (content_of greatest cut index) old new
 all_counted greatest cut index keyed once at none old new held = record {
   many = held.many;
   counted = λ hash_of fits n below.
@@ -239,7 +239,7 @@ all_counted greatest cut index keyed once at none old new held = record {
 }
 
 -- where there are no items, nothing is counted
-pub none_counted : (shelf : ShelfContent) (counts : List ℕ) → shelf.items ≡ empty → length counts ≡ 4096 → AreCounted shelf counts counts
+pub none_counted : (shelf : ShelfContent) (counts : List ℕ) → shelf.items ≡ empty → length counts ≡ 4096 → KeysAreCounted shelf counts counts
 none_counted shelf counts none many = record {
   many = many;
   counted = λ hash_of fits n below. let zero_keys = keys_none hash_of n shelf.items none in omega (arith, zero_keys);

@@ -2,12 +2,12 @@
 use Rattle.std.proofs.Common.{◌≡◌, ◌≢◌, ℕ, zero, suc, ◌+◌, ◌-◌, ◌<◌, Bool, true, false, cond, not, eqb, eqb-true, true≢false, List, [], ◌∷◌, ◌++◌, length, length-set, map}
 use Rattle.std.proofs.Common.{Option, Some, None, slice_get, slice_set, refl, sym, ap, subst, ◌∙◌, arith, ◌⊎◌, inl, inr, ⊎_elim}
 use Rattle.mc_shelf.proofs.Common.{Answered, cases_Bool, cond_both, count-parted, count_of, DeskState, entries, Entry, eqb-false, find, get, get-entries}
-use Rattle.mc_shelf.proofs.Common.{get-from_entries, IsAt, IsHash, IsOnKey, Items, key_of, KeyStep, nat_list_cmp_total, option_or, other_keys, Plain, plain}
+use Rattle.mc_shelf.proofs.Common.{get-from_entries, StandsAt, IsHash, IsOnKey, Items, key_of, KeyStep, nat_list_cmp_total, option_or, other_keys, Plain, plain}
 use Rattle.mc_shelf.proofs.Common.{range_with_len, Reply, retain_keys, same_Some, ShelfContent, ShelfState}
 use Rattle.std.proofs.lemmas.List.FromFn.{get_or-map-range_with_len}
 use Rattle.std.specs.Ordering.{eq_by_cmp}
 use Rattle.mc_command.proofs.PageLemmas.{limit_stays}
-use Rattle.mc_shelf.specs.Plans.{IsTaken, IsSettled}
+use Rattle.mc_shelf.specs.Plans.{StepTaken, PlanIsSettled}
 use Rattle.mc_shelf.specs.Parts.{shelf_of, IsShelfOf, IsDeskOf, ArePartsOf, GoesTo, GoesByStep, GoesWithoutDesk}
 use Rattle.mc_shelf.specs.Unions.{all_entries, all_items, cut_of, plain_of}
 use Rattle.mc_shelf.specs.declared.settings.Settings.{Settings}
@@ -123,7 +123,7 @@ parts_go {hash_of} {count} {at} {old} {new} {list} shelf parts goes = record {
 -- a step on one of the shelf's keys
 module _ {hash_of : List ℕ → ℕ} {count at : ℕ} {state : Plain} {shelf : ShelfContent} {desk : DeskState} (step : KeyStep)
     (mine : shelf_of hash_of count (key_of step) ≡ at) (fits : IsShelfOf hash_of count state at shelf) (account : IsDeskOf state desk) where
-  pub is_at : IsAt (key_of step) shelf desk state
+  pub is_at : StandsAt (key_of step) shelf desk state
   is_at = record {
     greatest = sym fits.greatest;
     cut = sym fits.cut;
@@ -135,14 +135,14 @@ module _ {hash_of : List ℕ → ℕ} {count at : ℕ} {state : Plain} {shelf : 
   }
 
   module _ {now : ℕ} {reply : Reply} {shelf' : ShelfContent} {desk' : DeskState} (on : IsOnKey step)
-      (taken : IsTaken step now (hash_of (key_of step)) shelf desk reply shelf' desk') where
+      (taken : StepTaken step now (hash_of (key_of step)) shelf desk reply shelf' desk') where
     abbrev new : Plain
     new = (taken.takes state is_at).0
 
     answered : plain state step now ≡ Answered reply new
     answered = (taken.takes state is_at).1
 
-    stands : IsAt (key_of step) shelf' desk' new
+    stands : StandsAt (key_of step) shelf' desk' new
     stands = (taken.takes state is_at).2
 
     same_greatest : state.greatest ≡ new.greatest
@@ -213,7 +213,7 @@ same_answer reply a b same = cc
 
 pub goes_without_desk : {hash_of : List ℕ → ℕ} {shelves at now : ℕ} {state : Plain} {reply : Reply} {old new : ShelfContent} (step : KeyStep) → IsOnKey step
     → shelf_of hash_of shelves (key_of step) ≡ at
-    → IsShelfOf hash_of shelves state at old → IsSettled step now (hash_of (key_of step)) old reply new → GoesWithoutDesk hash_of shelves at step now state reply new
+    → IsShelfOf hash_of shelves state at old → PlanIsSettled step now (hash_of (key_of step)) old reply new → GoesWithoutDesk hash_of shelves at step now state reply new
 goes_without_desk {hash_of} {shelves} {at} {now} {state} {reply} {old} {new} step on mine fits settled =
     let by = λ (desk : DeskState) (account : IsDeskOf state desk).
     goes_by_step step mine fits account on (record { takes = settled.takes desk; others = settled.others; hash = settled.hash }) in

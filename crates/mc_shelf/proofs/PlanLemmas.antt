@@ -2,7 +2,7 @@
 use Rattle.std.proofs.Common.{◌≡◌, ℕ, ◌≤◌, Bool, true, false, ◌&&◌, List, append-nil, Option, Some, None, is_some, is_none, eqb, ltb, if◌then◌else◌, refl, sym, ap, subst, ◌∙◌}
 use Rattle.std.proofs.Common.{ltb-true, ltb-false, true≢false}
 use Rattle.mc_shelf.proofs.Common.{alive, Answered, Appended, block_of, Body, cas_row, changed, charge, cond_both, count_row, Deleted, Deletes, DeskState}
-use Rattle.mc_shelf.proofs.Common.{Draft, Entry, expiring, Expiry, get, Given, hit_of, insert, is_dead, IsAt, IsOnKey, keeps_chunk, key_of, KeyStep, number_of}
+use Rattle.mc_shelf.proofs.Common.{Draft, Entry, expiring, Expiry, get, Given, hit_of, insert, is_dead, StandsAt, IsOnKey, keeps_chunk, key_of, KeyStep, number_of}
 use Rattle.mc_shelf.proofs.Common.{number_row, Outcome, Plain, Prepended, Reads, refusal_reply, Refuses, remove, Reply, Row, row_of, ShelfContent, store_row}
 use Rattle.mc_shelf.proofs.Common.{TooLarge, Touched, Touches, write_reply, Writes, written_block, wrote}
 use Rattle.mc_command.specs.declared.step.Verb.{Verb}
@@ -149,7 +149,7 @@ module _ (shelf : ShelfContent) (step : KeyStep) (now : ℕ) where
   row_does s same (Writes draft) speaks = writes_does s same draft speaks
 
   -- what the plain machine does, by what comes next
-  pub next_does : (desk : DeskState) (s : Plain) → IsOnKey step → IsAt key shelf desk s → (outcome : Outcome) → outcome ≡ changed (row_at shelf step now) step stands (found_in shelf step now s) now
+  pub next_does : (desk : DeskState) (s : Plain) → IsOnKey step → StandsAt key shelf desk s → (outcome : Outcome) → outcome ≡ changed (row_at shelf step now) step stands (found_in shelf step now s) now
       → (next : Next) → next ≡ next_of shelf step now → Does s outcome next
   next_does desk s on at outcome outcome_is next next_is =
       subst (λ (o : Outcome). Does s o next) (sym outcome_is)

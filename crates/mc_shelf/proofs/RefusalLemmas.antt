@@ -1,12 +1,12 @@
 -- Where a step may be refused: its answer is one that memory is asked for.
 use Rattle.std.proofs.Common.{◌≡◌, ◌≢◌, ℕ, ◌-◌, ◌≤◌, ◌^◌, Bool, true, false, true≢false, List, Result, Ok, Err, IfOk, refl, sym, subst, ◌∙◌}
-use Rattle.mc_shelf.proofs.Common.{Answered, block_need, Body, CanStand, charge, CopiesBlock, DeskState, Draft, Given, has_room, IsAt, IsOnKey, IsSlab}
+use Rattle.mc_shelf.proofs.Common.{Answered, block_need, Body, CanStandAt, charge, CopiesBlock, DeskState, Draft, Given, has_room, StandsAt, IsOnKey, IsSlab}
 use Rattle.mc_shelf.proofs.Common.{keeps_chunk, key_of, KeyStep, MayFail, need_for, Plain, plain, Reply, ShelfContent, Spent, StepFault, write_reply, wrote}
 use Rattle.mc_slab.specs.Slabs as slabs
 use Rattle.mc_shelf.specs.declared.plan.Next.{Next}
 use Rattle.mc_shelf.specs.declared.plan.Next.TheVariants.{Write}
 use Rattle.mc_command.specs.declared.step.StepFault.TheVariants.{NoMemory, NumbersSpent}
-use Rattle.mc_shelf.specs.Plans.{CanWrite, IsSpent, IsTaken, MayWantMemory, NeedsPages, back_at, next_of, stood, writes}
+use Rattle.mc_shelf.specs.Plans.{CanWrite, IsSpent, StepTaken, MayWantMemory, NeedsPages, back_at, next_of, stood, writes}
 use Rattle.mc_shelf.proofs.StandLemmas.{wrote_kept, wrote_taken}
 use Rattle.mc_shelf.proofs.PlanLemmas.{block_at, found_in}
 use Rattle.mc_shelf.proofs.NeedLemmas.{need_class}
@@ -20,7 +20,7 @@ reply_copies body = tt
 module _ (step : KeyStep) (now : ℕ) (shelf : ShelfContent) (desk : DeskState) (on : IsOnKey step)
     (is : IsSlab desk.slab) (size : ℕ) (draft : Draft) (next : Write size draft ≡ next_of shelf step now)
     (more : desk.next_unique ≢ 2 ^ 64 - 1) (chunks : slabs.has_room_with desk.slab (need_for size) (back_at shelf (key_of step) now (need_for size)) ≡ true)
-    (s : Plain) (at : IsAt (key_of step) shelf desk s) where
+    (s : Plain) (at : StandsAt (key_of step) shelf desk s) where
   abbrev under : Plain
   under = found_in shelf step now s
 
@@ -49,14 +49,14 @@ needs_can next shelf key now desk needs = record { size = needs.size; draft = ne
 
 -- where a step is taken, or may be refused, the numbers are not spent
 pub taken_not_spent : (step : KeyStep) (now own : ℕ) (shelf : ShelfContent) (desk : DeskState) (reply : Reply) (new : ShelfContent) (desk' : DeskState)
-    → CanStand (key_of step) shelf desk → IsTaken step now own shelf desk reply new desk' → IsSpent step now shelf desk → ⊥
+    → CanStandAt (key_of step) shelf desk → StepTaken step now own shelf desk reply new desk' → IsSpent step now shelf desk → ⊥
 taken_not_spent step now own shelf desk reply new desk' can took spent =
     let there = took.takes can.plain can.stands in apart reply there.0 (sym there.1 ∙ spent can.plain can.stands)
   where
     apart : (reply : Reply) (t : Plain) → Answered reply t ≡ Spent → ⊥
     apart reply t e = cc
 
-pub wants_not_spent : (step : KeyStep) (now : ℕ) (shelf : ShelfContent) (desk : DeskState) → CanStand (key_of step) shelf desk → MayWantMemory step now shelf desk → IsSpent step now shelf desk → ⊥
+pub wants_not_spent : (step : KeyStep) (now : ℕ) (shelf : ShelfContent) (desk : DeskState) → CanStandAt (key_of step) shelf desk → MayWantMemory step now shelf desk → IsSpent step now shelf desk → ⊥
 wants_not_spent step now shelf desk can wants spent = subst MayFail (spent can.plain can.stands) (wants can.plain can.stands)
 
 -- a plan that can be taken wants memory

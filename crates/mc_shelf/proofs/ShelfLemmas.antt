@@ -1,19 +1,19 @@
 -- What an edit of its index makes of a shelf's content.
 use Rattle.std.proofs.Common.{◌≡◌, ℕ, List, Option, Some, None, is_some, true≢false, refl, sym, ap, subst, ◌∙◌}
-use Rattle.mc_shelf.proofs.Common.{ChunksState, Entry, EntryState, get, Hashes, hashes_of, IndexState, insert, IsChanged, IsHash, items_of, KeyGoes, none-some}
+use Rattle.mc_shelf.proofs.Common.{ChunksState, Entry, EntryState, get, Hashes, hashes_of, IndexState, insert, ItemIsChanged, IsHash, items_of, KeyGoes, none-some}
 use Rattle.mc_shelf.proofs.Common.{Place, remove, same_Some, ShelfContent}
-use Rattle.mc_shelf.specs.Plans.{IsDropped, IsKnown, IsPut, IsSought, OthersStay, with_item}
+use Rattle.mc_shelf.specs.Plans.{IsDropped, IsKnown, IsPut, IsSought, OtherKeysStay, with_item}
 use Rattle.mc_shelf.proofs.KeyLemmas.{get_gone, get_gone_other, get_put, get_put_other, put_same}
 
 -- the content of a shelf over an index
 abbrev pub content_of : (greatest : ℕ) → (cut : Option ℕ) → IndexState EntryState → ShelfContent
 content_of greatest cut index = record { greatest = greatest; items = items_of index; hashes = hashes_of index; cut = cut }
 
-pub others_same : (key : List ℕ) (shelf : ShelfContent) → OthersStay key shelf shelf
+pub others_same : (key : List ℕ) (shelf : ShelfContent) → OtherKeysStay key shelf shelf
 others_same key shelf = record { greatest = refl; cut = refl; items = λ other apart. refl; hashes = λ other apart. refl }
 
 module _ (key : List ℕ) (own : ℕ) (old : ShelfContent) where
-  put_there : (mid : ShelfContent) (item : Entry) → OthersStay key old mid → IsHash mid key own → IsPut key own old (with_item None key own item mid) item
+  put_there : (mid : ShelfContent) (item : Entry) → OtherKeysStay key old mid → IsHash mid key own → IsPut key own old (with_item None key own item mid) item
   put_there mid item others hash = record {
     item = get_put mid.items key item;
     others = record {
@@ -48,19 +48,19 @@ module _ (key : List ℕ) (own : ℕ) (old : ShelfContent) where
 
 module _ (greatest : ℕ) (cut : Option ℕ) (old : ShelfContent) (was : IndexState EntryState) (old_is : content_of greatest cut was ≡ old) (key : List ℕ) (own : ℕ) (new : IndexState EntryState) where
   -- the content after the key's item was changed, and after an entry came under the key
-  pub changed_is : (item : Entry) → IsChanged was new key item → content_of greatest cut new ≡ with_item None key own item old
+  pub changed_is : (item : Entry) → ItemIsChanged was new key item → content_of greatest cut new ≡ with_item None key own item old
   changed_is item is =
       (λ i. record { greatest = greatest; items = is.items i; hashes = is.hashes i; cut = cut })
       ∙ ap (with_item None key own item) old_is
 
   -- and where the item was put into others: the hash is the one that the key has
-  pub moved_is : (chunks : ChunksState) (item : Entry) → get old.hashes key ≡ Some own → IsChanged was new key item → content_of greatest cut new ≡ with_item (Some chunks) key own item old
+  pub moved_is : (chunks : ChunksState) (item : Entry) → get old.hashes key ≡ Some own → ItemIsChanged was new key item → content_of greatest cut new ≡ with_item (Some chunks) key own item old
   moved_is chunks item has is =
       changed_is item is
       ∙ ap (λ (h : Hashes). record { greatest = old.greatest; items = insert old.items key item; hashes = h; cut = old.cut }) (sym (put_same old.hashes key own has))
 
   -- the key's item was changed
-  pub changed_put : (item : Entry) → IsHash old key own → IsChanged was new key item → IsPut key own old (content_of greatest cut new) item
+  pub changed_put : (item : Entry) → IsHash old key own → ItemIsChanged was new key item → IsPut key own old (content_of greatest cut new) item
   changed_put item has is = subst (λ (s : ShelfContent). IsPut key own old s item) (sym (changed_is item is)) (put_over key own old item has)
 
   -- the key's entry was removed

@@ -3,7 +3,7 @@ use Rattle.std.proofs.Common.{◌≡◌, ◌≢◌, ℕ, ◌+◌, ◌-◌, ◌*�
 use Rattle.std.proofs.Common.{ap, ◌∙◌, arith, get_or-set_same, get_or-set_other, lt-ltb, le-ltb, le-leb, eq-eqb, ne_eqb, eqb-true, subst, set-set, length-set}
 use lib.Seq.{set-get_or}
 use Rattle.mc_shelf.proofs.Common.{alive, Answered, block_need, changed, charge, chunks_a_page, chunks_a_page-least, chunks_in, cond_both, count-insert}
-use Rattle.mc_shelf.proofs.Common.{count-remove, count_of, DeskState, Entry, eqb-false, Expiry, get, given, has_room, insert, IsAt, IsClass, IsOnKey, IsSlab}
+use Rattle.mc_shelf.proofs.Common.{count-remove, count_of, DeskState, Entry, eqb-false, Expiry, get, given, has_room, insert, StandsAt, IsClass, IsOnKey, IsSlab}
 use Rattle.mc_shelf.proofs.Common.{item_need, Items, key_of, KeyStep, made_ready, NeedState, NoChunk, of_class, on_key, out_of, Plain, plain, remove, Reply}
 use Rattle.mc_shelf.proofs.Common.{row_of, ShelfContent, SlabState, Spent, taken, TooLarge, with_chunk, without_dead, written, wrote}
 use Rattle.mc_slab.specs.Slabs as slabs
@@ -136,7 +136,7 @@ base_is None key s = refl
 base_is (Some item) key s = refl
 
 -- a step, by the item that stands on the shelf
-pub step_is : (step : KeyStep) (now : ℕ) (shelf : ShelfContent) (desk : DeskState) (s : Plain) → IsOnKey step → IsAt (key_of step) shelf desk s →
+pub step_is : (step : KeyStep) (now : ℕ) (shelf : ShelfContent) (desk : DeskState) (s : Plain) → IsOnKey step → StandsAt (key_of step) shelf desk s →
     plain s step now ≡ changed (row_at shelf step now) step (stood shelf step now) (record s { items = base (stood shelf step now) (key_of step) s.items }) now
 step_is step now shelf desk s on at =
     let key = key_of step in
@@ -144,7 +144,7 @@ step_is step now shelf desk s on at =
     ∙ ap (λ (stands : Option Entry). changed (row_of step now stands) step stands (without_dead stands key s) now) (λ i. alive (at.cut i) now (at.item i))
     ∙ ap (λ (t : Plain). changed (row_at shelf step now) step (stood shelf step now) t now) (base_is (stood shelf step now) key s)
 
-module _ (key : List ℕ) (shelf : ShelfContent) (desk : DeskState) (s : Plain) (at : IsAt key shelf desk s) where
+module _ (key : List ℕ) (shelf : ShelfContent) (desk : DeskState) (s : Plain) (at : StandsAt key shelf desk s) where
   -- the counts where the key's item is put
   pub counts_put : (stands : Option Entry) (item : Entry) (class : ℕ)
       → count_of (insert (base stands key s.items) key item) class + of_class key (get shelf.items key) class ≡ count_of s.items class + of_class key (Some item) class
@@ -157,7 +157,7 @@ module _ (key : List ℕ) (shelf : ShelfContent) (desk : DeskState) (s : Plain) 
       omega arith
 
   -- no item was there, and none is
-  pub at_none : get shelf.items key ≡ None → IsAt key shelf desk (record s { items = remove s.items key })
+  pub at_none : get shelf.items key ≡ None → StandsAt key shelf desk (record s { items = remove s.items key })
   at_none none = record {
     greatest = at.greatest;
     cut = at.cut;
@@ -174,7 +174,7 @@ module _ (key : List ℕ) (shelf : ShelfContent) (desk : DeskState) (s : Plain) 
 
   -- the key's item is dropped
   pub at_dropped : (new : ShelfContent) (hash : ℕ) (old : Entry) → IsDropped key hash shelf new → get shelf.items key ≡ Some old → IsSlab desk.slab → IsClass (item_need key old).class →
-      IsAt key new (record desk { slab = given desk.slab (item_need key old).class (item_need key old).count }) (record s { items = remove s.items key })
+      StandsAt key new (record desk { slab = given desk.slab (item_need key old).class (item_need key old).count }) (record s { items = remove s.items key })
   at_dropped new hash old dropped found is is_class = record {
     greatest = at.greatest ∙ sym dropped.others.greatest;
     cut = at.cut ∙ sym dropped.others.cut;
@@ -210,7 +210,7 @@ module _ (key : List ℕ) (shelf : ShelfContent) (desk : DeskState) (s : Plain) 
 
   -- the key's item is put there again, of the same need
   pub at_put_again : (after : ShelfContent) (hash : ℕ) (old new : Entry) → IsPut key hash shelf after new → get shelf.items key ≡ Some old → item_need key new ≡ item_need key old → (n : ℕ) →
-      IsAt key after (record desk { next_unique = n }) (record s { items = insert s.items key new; next_unique = n })
+      StandsAt key after (record desk { next_unique = n }) (record s { items = insert s.items key new; next_unique = n })
   at_put_again after hash old new puts found same n = record {
     greatest = at.greatest ∙ sym puts.others.greatest;
     cut = at.cut ∙ sym puts.others.cut;

@@ -2,11 +2,11 @@
 use Rattle.std.proofs.Common.{◌≡◌, ℕ, zero, suc, ◌-◌, ◌^◌, ◌<◌, Bool, true, false, cond, eqb, ltb, List, length, map, replicate, Option, Some, slice_get, slice_index}
 use Rattle.std.proofs.Common.{slice_index_or, slice_set, refl, sym, ap, subst, ◌∙◌, arith, Result, Ok, Err, IfOk, OnErr}
 use Rattle.mc_shelf.proofs.Common.{alive, Answered, block_of, changed, charge, cond-false, cond-true, count-empty, DeskState, Entry, get, get-empty}
-use Rattle.mc_shelf.proofs.Common.{get_or-replicate, get_or_from_slice_get, has_room, IsAt, IsOnKey, keeps_chunk, key_of, KeyStep, length-map, length-replicate}
+use Rattle.mc_shelf.proofs.Common.{get_or-replicate, get_or_from_slice_get, has_room, StandsAt, IsOnKey, keeps_chunk, key_of, KeyStep, length-map, length-replicate}
 use Rattle.mc_shelf.proofs.Common.{map-set, need_for, nothing_held, on_key, option_map, out_of, Outcome, Plain, plain, Reply, Row, row_of, same_Some}
 use Rattle.mc_shelf.proofs.Common.{ShelfContent, ShelfState, slice_get-map, slice_get_read, Spent, starting, StepFault, untouched, without_dead, Writes}
 use Rattle.mc_shelf.proofs.Common.{written_block}
-use Rattle.mc_shelf.specs.Plans.{IsTaken, IsSpent}
+use Rattle.mc_shelf.specs.Plans.{StepTaken, IsSpent}
 use Rattle.mc_shelf.specs.Parts.{shelf_of, IsShelfOf, IsDeskOf, ArePartsOf, GoesTo, GoesByStep}
 use Rattle.mc_shelf.specs.Unions.{lefts, plain_of}
 use Rattle.mc_shelf.specs.declared.settings.Settings.{Settings}
@@ -72,7 +72,7 @@ changed_spent (Writes draft) step item a b now greatest number is =
     not_written (ltb b.greatest size) (eqb b.next_unique (2 ^ 64 - 1)) _ _ fits none
 changed_spent row step item a b now greatest number is = cc
 
-pub spent_there : (step : KeyStep) (now : ℕ) {shelf : ShelfContent} {desk : DeskState} {a : Plain} → IsOnKey step → IsAt (key_of step) shelf desk a
+pub spent_there : (step : KeyStep) (now : ℕ) {shelf : ShelfContent} {desk : DeskState} {a : Plain} → IsOnKey step → StandsAt (key_of step) shelf desk a
     → plain a step now ≡ Spent → IsSpent step now shelf desk
 spent_there step now {shelf} {desk} {a} on at_a is b at_b =
     let key = key_of step in
@@ -125,7 +125,7 @@ module _ {hash_of : List ℕ → ℕ} {list : List ShelfState} {desk : DeskState
     module _ {hash : ℕ} (step : KeyStep) (now : ℕ) (shelf' : ShelfState) (desk' : DeskState) (mine : shelf_of hash_of settings.shelves (key_of step) ≡ at)
         (hashed : hash ≡ hash_of (key_of step)) (on : IsOnKey step) where
       abbrev IsTakenHere : Reply → Type 0
-      IsTakenHere reply = IsTaken step now hash shelf.content desk reply shelf'.content desk'
+      IsTakenHere reply = StepTaken step now hash shelf.content desk reply shelf'.content desk'
 
       abbrev IsAsBefore : Type 0
       IsAsBefore = (shelf'.content ≡ shelf.content) × (desk' ≡ desk)
@@ -133,7 +133,7 @@ module _ {hash_of : List ℕ → ℕ} {list : List ShelfState} {desk : DeskState
       goes : (reply : Reply) → IsTakenHere reply → GoesByStep hash_of settings.shelves at step now state reply shelf'.content desk'
       goes reply took =
           goes_by_step step mine (parts.each at shelf here) parts.account on
-          (subst (λ (h : ℕ). IsTaken step now h shelf.content desk reply shelf'.content desk') hashed took)
+          (subst (λ (h : ℕ). StepTaken step now h shelf.content desk reply shelf'.content desk') hashed took)
 
       pub parts_stepped : (result : Result Reply StepFault) → IfOk result IsTakenHere → OnErr result IsAsBefore
           → ArePartsOf hash_of (plain_of settings (slice_set list at shelf') desk') (slice_set list at shelf') settings.shelves desk'

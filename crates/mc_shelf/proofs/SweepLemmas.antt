@@ -3,7 +3,7 @@ use Rattle.std.proofs.Common.{◌≡◌, ◌≢◌, ℕ, ◌+◌, ◌<◌, ◌�
 use Rattle.std.proofs.Common.{if◌then◌else◌, inl, inr}
 use Rattle.mc_shelf.proofs.Common.{alive, cases_lt, cells, chunks_in, ChunksState, cond_both, count-remove, count_from, count_of, DeskState, empty, entries_of}
 use Rattle.mc_shelf.proofs.Common.{Entry, entry_at, EntryState, get, get-empty, get-remove, given, Hashes, hashes_of, IndexState, is_dead, IsClass, IsFirstFrom}
-use Rattle.mc_shelf.proofs.Common.{IsKeyed, IsNeed, IsNext, IsSlab, item_need, Items, items_of, KeepsLower, KeyGoes, living, nat_list_cmp_total, need_in}
+use Rattle.mc_shelf.proofs.Common.{EntriesAreKeyed, IsNeed, IsNext, IsSlab, item_need, Items, items_of, KeepsLower, KeyGoes, living, nat_list_cmp_total, need_in}
 use Rattle.mc_shelf.proofs.Common.{NeedState, none-some, of_class, option_copied, out_of, Place, remove, same_Some, ShelfContent, ShelfState}
 use Rattle.std.specs.Borrow.{Bor}
 use Rattle.mc_shelf.specs.Counts.{DropsAlone, KeepsTable, counts_in, counts_of}
@@ -131,7 +131,7 @@ module _ {index : IndexState EntryState} {at number : ℕ} {place : Place} (firs
     below_removed keeps k e lt there = below_skipped k e lt (sym (keeps.lower k (omega (arith, first.same))) ∙ there)
 
 -- where no number is left, each item is of such an entry
-pub items_all : (P : EntryState → Type 0) (index : IndexState EntryState) → IsKeyed (entries_of index) → (at : ℕ) → Below index at P → IsNext index at None
+pub items_all : (P : EntryState → Type 0) (index : IndexState EntryState) → EntriesAreKeyed (entries_of index) → (at : ℕ) → Below index at P → IsNext index at None
     → (key : List ℕ) (item : Entry) → get (items_of index) key ≡ Some item → (e : EntryState) × (P e) × (e.item ≡ item)
 items_all P index keyed at below none key item found =
     let held = item_held _ keyed key item found in
@@ -195,7 +195,7 @@ counted_one items new key item all old chunks found new_is need_is all_is class 
 abbrev pub Stays : (cut : Option ℕ) → (now : ℕ) → Soonest → EntryState → Type 0
 Stays cut now soonest e = (is_dead e.item.expiry e.item.updated cut now ≡ false) × DiesNoSooner soonest e.item
 
-pub purged : (now : ℕ) (old : ShelfContent) (greatest : ℕ) (cut : Option ℕ) (index : IndexState EntryState) → IsKeyed (entries_of index)
+pub purged : (now : ℕ) (old : ShelfContent) (greatest : ℕ) (cut : Option ℕ) (index : IndexState EntryState) → EntriesAreKeyed (entries_of index)
     → Swept now old (content_of greatest cut index) → NoneIsDead now cut (items_of index) → IsPurged now old (content_of greatest cut index)
 purged now old greatest cut index keyed swept none =
     let items = items_of index in
@@ -253,7 +253,7 @@ module _ {now : ℕ} {old : ShelfState} {greatest : ℕ} {cut : Option ℕ} {ind
     }
 
   -- at the end
-  pub swept_all : IsKeyed (entries_of index) → IsNext index at None → IsPurged now old.content (content_of greatest cut index) × DieNoSooner soonest (items_of index)
+  pub swept_all : EntriesAreKeyed (entries_of index) → IsNext index at None → IsPurged now old.content (content_of greatest cut index) × DieNoSooner soonest (items_of index)
   swept_all keyed none =
       let all = items_all (Stays cut now soonest) index keyed at held.below none in (
         purged now old.content greatest cut index keyed held.swept
@@ -265,7 +265,7 @@ module _ {now : ℕ} {old : ShelfState} {greatest : ℕ} {cut : Option ℕ} {ind
 abbrev pub IsNone : EntryState → Type 0
 IsNone e = ⊥
 
-pub cleared : (index : IndexState EntryState) → IsKeyed (entries_of index) → (at : ℕ) → Below index at IsNone → IsNext index at None → (items_of index ≡ empty) × (hashes_of index ≡ empty)
+pub cleared : (index : IndexState EntryState) → EntriesAreKeyed (entries_of index) → (at : ℕ) → Below index at IsNone → IsNext index at None → (items_of index ≡ empty) × (hashes_of index ≡ empty)
 cleared index keyed at below none =
     let gone : (key : List ℕ) → get (items_of index) key ≡ None =
     λ key. elim (get (items_of index) key) as

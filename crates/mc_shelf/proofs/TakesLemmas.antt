@@ -1,8 +1,8 @@
 -- What a shelf and a desk make of a plan is what the plain machine makes of the step.
 use Rattle.std.proofs.Common.{◌≡◌, ◌≢◌, ℕ, ◌+◌, ◌-◌, ◌<◌, ◌≤◌, ◌^◌, Bool, true, false, ◌&&◌, ◌||◌, List, [], decimal, Option, Some, None, Result, Ok, Err, IfOk, OnOk}
 use Rattle.std.proofs.Common.{is_some, is_none, ◌*◌, ◌==◌, eqb, eqb-true, if◌then◌else◌, refl, sym, ap, subst, ◌∙◌, arith, le-leb, lt-ltb, not, true≢false}
-use Rattle.mc_shelf.proofs.Common.{alive, and_parts, and_right, Answered, block_need, block_of, Body, CanStand, changed, charge, chunks_a_page, chunks_in}
-use Rattle.mc_shelf.proofs.Common.{count-remove, count_of, Counted, DeskState, Draft, empty, Entry, Expiry, get, Given, given, has_room, insert, IsAt, IsClass}
+use Rattle.mc_shelf.proofs.Common.{alive, and_parts, and_right, Answered, block_need, block_of, Body, CanStandAt, changed, charge, chunks_a_page, chunks_in}
+use Rattle.mc_shelf.proofs.Common.{count-remove, count_of, Counted, DeskState, Draft, empty, Entry, Expiry, get, Given, given, has_room, insert, StandsAt, IsClass}
 use Rattle.mc_shelf.proofs.Common.{IsHash, IsNeed, IsOnKey, IsSlab, item_need, keeps_chunk, key_of, KeyStep, made_ready, need_for, NeedState, NoChunk, of_class}
 use Rattle.mc_shelf.proofs.Common.{or_right, out_of, Plain, plain, remove, Reply, same_need, same_Some, ShelfContent, SlabState, taken, with_chunk, write_reply}
 use Rattle.mc_shelf.proofs.Common.{written, written_block, wrote}
@@ -11,7 +11,7 @@ use Rattle.mc_command.specs.Plain as machine
 use Rattle.mc_shelf.specs.declared.plan.Next.{Next}
 use Rattle.mc_shelf.specs.declared.plan.Next.TheVariants.{Answer, Expire, Discard, Write}
 use Rattle.mc_shelf.specs.declared.write.Write.{Write as Writing}
-use Rattle.mc_shelf.specs.Plans.{GivesBack, GivesChunks, gives_way, IsDropped, IsOut, IsPut, IsSpent, IsTaken, IsWriteOf, Takes, back_at}
+use Rattle.mc_shelf.specs.Plans.{GivesBack, GivesChunks, gives_way, IsDropped, IsOut, IsPut, IsSpent, StepTaken, IsWriteOf, TakesStepAtKey, back_at}
 use Rattle.mc_shelf.specs.Plans.{block_beside, block_in, counts, dead_chunks, drafted, made_block, has_need, is_gone, next_of, reuses, row_at, stood, way_given}
 use Rattle.mc_shelf.proofs.StandLemmas.{base, step_is, at_none, at_dropped, at_put_again, counts_put, given_taken, out-given, out-taken, out-way}
 use Rattle.mc_shelf.proofs.StandLemmas.{out_found, out_some, pages-way, pages_after, pages_are, pages_stay, room_by_free, room_is, taken_is_slab, weight, weight_here}
@@ -41,10 +41,10 @@ module _ (shelf : ShelfContent) (step : KeyStep) (now : ℕ) where
   discarded_is reply is = let d = does_yet (Discard reply) is in (d.0, d.1)
 
 -- the chunks of the key's item are out
-pub is_out : (key : List ℕ) (shelf : ShelfContent) (desk : DeskState) → CanStand key shelf desk → IsOut key shelf desk
+pub is_out : (key : List ℕ) (shelf : ShelfContent) (desk : DeskState) → CanStandAt key shelf desk → IsOut key shelf desk
 is_out key shelf desk can item found is_class = out_some key shelf desk can.plain can.stands item found is_class
 
-pub is_out_taken : (key : List ℕ) (shelf : ShelfContent) (desk : DeskState) (need : NeedState) → CanStand key shelf desk
+pub is_out_taken : (key : List ℕ) (shelf : ShelfContent) (desk : DeskState) (need : NeedState) → CanStandAt key shelf desk
     → IsSlab desk.slab → IsClass need.class → (n : ℕ) → IsOut key shelf (record { slab = taken desk.slab need; next_unique = n })
 is_out_taken key shelf desk need can is is_class n item found is_item =
     let before = is_out key shelf desk can item found is_item in
@@ -63,23 +63,23 @@ module _ (step : KeyStep) (now : ℕ) (shelf : ShelfContent) (desk : DeskState) 
   abbrev stands : Option Entry
   stands = stood shelf step now
 
-  does_at : (next : Next) → next ≡ next_of shelf step now → (s : Plain) → IsAt key shelf desk s → Does shelf step now s (plain s step now) next
+  does_at : (next : Next) → next ≡ next_of shelf step now → (s : Plain) → StandsAt key shelf desk s → Does shelf step now s (plain s step now) next
   does_at next is s at = next_does shelf step now desk s on at (plain s step now) (step_is step now shelf desk s on at) next is
 
   -- where no dead item is found, the step finds the state as it is
-  at_under : (s : Plain) → IsAt key shelf desk s → is_gone shelf.cut now found ≡ false → IsAt key shelf desk (found_in shelf step now s)
+  at_under : (s : Plain) → StandsAt key shelf desk s → is_gone shelf.cut now found ≡ false → StandsAt key shelf desk (found_in shelf step now s)
   at_under s at alive = by found stands refl refl alive
     where
-      by : (f st : Option Entry) → found ≡ f → stands ≡ st → is_some f && is_none st ≡ false → IsAt key shelf desk (record s { items = base st key s.items })
+      by : (f st : Option Entry) → found ≡ f → stands ≡ st → is_some f && is_none st ≡ false → StandsAt key shelf desk (record s { items = base st key s.items })
       by f (Some item) is stood none = at
       by None None is stood none = at_none key shelf desk s at is
       by (Some dead) None is stood none = absurd (true≢false none)
 
-  pub takes_answer : (reply : Reply) → Answer reply ≡ next_of shelf step now → Takes step now shelf desk reply shelf desk
+  pub takes_answer : (reply : Reply) → Answer reply ≡ next_of shelf step now → TakesStepAtKey step now shelf desk reply shelf desk
   takes_answer reply is s at = let d = does_at (Answer reply) is s at in (found_in shelf step now s, d.0, at_under s at d.1)
 
   pub takes_expire : (expiry : Expiry) (reply : Reply) (own : ℕ) (new : ShelfContent)
-      → ((item : Entry) → found ≡ Some item → IsPut key own shelf new (record item { expiry = expiry })) → Expire expiry reply ≡ next_of shelf step now → Takes step now shelf desk reply new desk
+      → ((item : Entry) → found ≡ Some item → IsPut key own shelf new (record item { expiry = expiry })) → Expire expiry reply ≡ next_of shelf step now → TakesStepAtKey step now shelf desk reply new desk
   takes_expire expiry reply own new puts is s at =
       let d = does_at (Expire expiry reply) is s at in
       let item = d.0 in
@@ -90,15 +90,15 @@ module _ (step : KeyStep) (now : ℕ) (shelf : ShelfContent) (desk : DeskState) 
         at_put_again key shelf desk s at new own item (record item { expiry = expiry }) (puts item there) there refl desk.next_unique,
       )
 
-  dropped_at : (s : Plain) → IsAt key shelf desk s → (old : Entry) (own : ℕ) (new : ShelfContent) (desk' : DeskState) → found ≡ Some old
-      → IsDropped key own shelf new → GivesBack key found desk desk' → IsAt key new desk' (record s { items = remove s.items key })
+  dropped_at : (s : Plain) → StandsAt key shelf desk s → (old : Entry) (own : ℕ) (new : ShelfContent) (desk' : DeskState) → found ≡ Some old
+      → IsDropped key own shelf new → GivesBack key found desk desk' → StandsAt key new desk' (record s { items = remove s.items key })
   dropped_at s at old own new desk' there dropped back =
       let one : GivesChunks (item_need key old) desk desk' = subst (λ (o : Option Entry). GivesBack key o desk desk') there back in
-      subst (λ (d : DeskState). IsAt key new d (record s { items = remove s.items key })) (sym one.given_is)
+      subst (λ (d : DeskState). StandsAt key new d (record s { items = remove s.items key })) (sym one.given_is)
       (at_dropped key shelf desk s at new own old dropped there one.is_slab one.is_need.is_class)
 
   pub takes_discard : (reply : Reply) (own : ℕ) (new : ShelfContent) (desk' : DeskState) → ((item : Entry) → found ≡ Some item → IsDropped key own shelf new)
-      → GivesBack key found desk desk' → Discard reply ≡ next_of shelf step now → Takes step now shelf desk reply new desk'
+      → GivesBack key found desk desk' → Discard reply ≡ next_of shelf step now → TakesStepAtKey step now shelf desk reply new desk'
   takes_discard reply own new desk' dropped back is s at =
       let d = does_at (Discard reply) is s at in
       (record s { items = remove s.items key }, d.2, dropped_at s at d.0 own new desk' d.1 (dropped d.0 d.1) back)
@@ -153,7 +153,7 @@ pub stands_not_gone : (cut : Option ℕ) (now : ℕ) (f : Option Entry) (old : E
 stands_not_gone cut now f old e = and_right (is_some f) (is_none (alive cut now f)) (ap is_none e)
 
 -- what the slab has out of a class, by what a step finds
-module _ (step : KeyStep) (now : ℕ) (shelf : ShelfContent) (desk : DeskState) (is : IsSlab desk.slab) (s : Plain) (at : IsAt (key_of step) shelf desk s) where
+module _ (step : KeyStep) (now : ℕ) (shelf : ShelfContent) (desk : DeskState) (is : IsSlab desk.slab) (s : Plain) (at : StandsAt (key_of step) shelf desk s) where
   pub count_base : (class : ℕ) → IsClass class
       → count_of (found_in shelf step now s).items class + dead_chunks shelf.cut now (key_of step) (get shelf.items (key_of step)) class ≡ out_of desk.slab class
   count_base class is_class = by (stood shelf step now) refl
@@ -181,10 +181,10 @@ module _ (step : KeyStep) (now : ℕ) (shelf : ShelfContent) (desk : DeskState) 
   pages_found need is_class = pages_are (found_in shelf step now s) desk.slab need (back_at shelf (key_of step) now need) is is_class at.pages (count_base need.class is_class)
 
 module _ (step : KeyStep) (now : ℕ) (shelf : ShelfContent) (desk : DeskState) (on : IsOnKey step) (size : ℕ) (draft : Draft) (next : Write size draft ≡ next_of shelf step now) where
-  pub wrote_is : (s : Plain) → IsAt (key_of step) shelf desk s → plain s step now ≡ wrote_at shelf step now draft s
+  pub wrote_is : (s : Plain) → StandsAt (key_of step) shelf desk s → plain s step now ≡ wrote_at shelf step now draft s
   wrote_is s at = (does_at step now shelf desk on (Write size draft) next s at).0
 
-  pub fits_plain : (s : Plain) → IsAt (key_of step) shelf desk s → charge (key_of step) (block_at shelf step now draft) ≤ s.greatest
+  pub fits_plain : (s : Plain) → StandsAt (key_of step) shelf desk s → charge (key_of step) (block_at shelf step now draft) ≤ s.greatest
   fits_plain s at =
       let drafted_is = drafts shelf step now size draft next in
       rw at.greatest (subst (λ (n : ℕ). n ≤ shelf.greatest) drafted_is.size_is drafted_is.fits)
@@ -305,28 +305,28 @@ module _ {step : KeyStep} {now : ℕ} {shelf : ShelfContent} {desk : DeskState} 
       (way.0, way.1, way.3, way.4, drafted_is.given none, subst (λ (n : NeedState). gives_way shelf.cut now its_key its_found n ≡ true) w.need_is (λ i. not (other i) && lt-ltb 0 back some i))
 
   module _ (is_need : IsNeed need) (is : IsSlab desk.slab) (more : desk.next_unique < 2 ^ 64 - 1) where
-    its_wrote : (s : Plain) → IsAt its_key shelf desk s → plain s step now ≡ wrote_at shelf step now draft s
+    its_wrote : (s : Plain) → StandsAt its_key shelf desk s → plain s step now ≡ wrote_at shelf step now draft s
     its_wrote = wrote_is step now shelf desk w.on size draft w.next
 
-    its_fits : (s : Plain) → IsAt its_key shelf desk s → charge its_key block ≤ s.greatest
+    its_fits : (s : Plain) → StandsAt its_key shelf desk s → charge its_key block ≤ s.greatest
     its_fits = fits_plain step now shelf desk w.on size draft w.next
 
-    not_last : (s : Plain) → IsAt its_key shelf desk s → s.next_unique ≢ 2 ^ 64 - 1
+    not_last : (s : Plain) → StandsAt its_key shelf desk s → s.next_unique ≢ 2 ^ 64 - 1
     not_last s at e = let same = at.next_unique in absurd (omega (arith, same))
 
     -- the chunks can't be had: a dead item is dropped, and one that isn't dead stays
     pub takes_full : {own : ℕ} {new : ShelfContent} {desk' : DeskState} → Reuses false → slabs.has_room_with desk.slab need back ≡ false → IsHash shelf its_key own
         → (is_gone shelf.cut now its_found ≡ true → IsDropped its_key own shelf new × GivesBack its_key its_found desk desk')
-        → (is_gone shelf.cut now its_found ≡ false → (new ≡ shelf) × (desk' ≡ desk)) → IsTaken step now own shelf desk NoChunk new desk'
+        → (is_gone shelf.cut now its_found ≡ false → (new ≡ shelf) × (desk' ≡ desk)) → StepTaken step now own shelf desk NoChunk new desk'
     takes_full {own} {new} {desk'} e room has dead alive = by (is_gone shelf.cut now its_found) refl
       where
-        full : (s : Plain) → IsAt its_key shelf desk s → plain s step now ≡ Answered NoChunk (found_in shelf step now s)
+        full : (s : Plain) → StandsAt its_key shelf desk s → plain s step now ≡ Answered NoChunk (found_in shelf step now s)
         full s at =
             its_wrote s at ∙ ap (λ (b : Bool). machine.wrote b (write_reply draft.body) its_key draft.flags draft.expiry block (found_in shelf step now s) now) (keeps_none e)
             ∙ wrote_full (write_reply draft.body) its_key draft.flags draft.expiry block (found_in shelf step now s) now (its_fits s at) (not_last s at)
             (subst (λ (n : NeedState). has_room (found_in shelf step now s) n ≡ false) need_charge (room_found step now shelf desk is s at need is_need.is_class ∙ room))
 
-        by : (b : Bool) → is_gone shelf.cut now its_found ≡ b → IsTaken step now own shelf desk NoChunk new desk'
+        by : (b : Bool) → is_gone shelf.cut now its_found ≡ b → StepTaken step now own shelf desk NoChunk new desk'
         by true gone =
             let there = dead_found shelf step now its_found its_stands gone in
             let both = dead gone in
@@ -334,7 +334,7 @@ module _ {step : KeyStep} {now : ℕ} {shelf : ShelfContent} {desk : DeskState} 
               takes = λ s at. (
                 found_in shelf step now s,
                 full s at,
-                subst (λ (o : Option Entry). IsAt its_key new desk' (record s { items = base o its_key s.items })) (sym there.1)
+                subst (λ (o : Option Entry). StandsAt its_key new desk' (record s { items = base o its_key s.items })) (sym there.1)
                     (dropped_at step now shelf desk w.on s at there.0.0 own new desk' there.0.1 both.0 both.1),
               );
               others = both.0.others;
@@ -342,8 +342,8 @@ module _ {step : KeyStep} {now : ℕ} {shelf : ShelfContent} {desk : DeskState} 
             }
         by false gone =
             let both = alive gone in
-            subst (λ (d : DeskState). IsTaken step now own shelf desk NoChunk new d) (sym both.1)
-            (subst (λ (t : ShelfContent). IsTaken step now own shelf desk NoChunk t desk) (sym both.0)
+            subst (λ (d : DeskState). StepTaken step now own shelf desk NoChunk new d) (sym both.1)
+            (subst (λ (t : ShelfContent). StepTaken step now own shelf desk NoChunk t desk) (sym both.0)
             (record { takes = λ s at. (found_in shelf step now s, full s at, at_under step now shelf desk w.on s at gone); others = others_same its_key shelf; hash = has }))
 
     -- the item was put
@@ -355,11 +355,11 @@ module _ {step : KeyStep} {now : ℕ} {shelf : ShelfContent} {desk : DeskState} 
       its_put = subst (λ (e : Entry). IsPut its_key own shelf new e) (λ i. drafted draft (beside_is i) (drawn i) now) puts
 
       abbrev IsAfter : DeskState → Type 0
-      IsAfter desk' = Takes step now shelf desk (write_reply draft.body) new desk'
+      IsAfter desk' = TakesStepAtKey step now shelf desk (write_reply draft.body) new desk'
 
-      its_taken : {reply : Reply} {desk' after : DeskState} → reply ≡ write_reply draft.body → desk' ≡ after → IsAfter after → IsTaken step now own shelf desk reply new desk'
+      its_taken : {reply : Reply} {desk' after : DeskState} → reply ≡ write_reply draft.body → desk' ≡ after → IsAfter after → StepTaken step now own shelf desk reply new desk'
       its_taken {reply} {desk'} told same takes = record {
-        takes = subst (λ (r : Reply). Takes step now shelf desk r new desk') (sym told) (subst (λ (d : DeskState). IsAfter d) (sym same) takes);
+        takes = subst (λ (r : Reply). TakesStepAtKey step now shelf desk r new desk') (sym told) (subst (λ (d : DeskState). IsAfter d) (sym same) takes);
         others = puts.others;
         hash = puts.hash;
       }
@@ -394,7 +394,7 @@ module _ {step : KeyStep} {now : ℕ} {shelf : ShelfContent} {desk : DeskState} 
 
       -- it goes into the chunks of the key's item
       pub takes_again : {reply : Reply} {desk' : DeskState} → Reuses true → reply ≡ write_reply draft.body → desk' ≡ record desk { next_unique = desk.next_unique + 1 }
-          → IsTaken step now own shelf desk reply new desk'
+          → StepTaken step now own shelf desk reply new desk'
       takes_again e told same = its_taken told same (λ s at. by s at its_stands refl)
         where
           old : Entry
@@ -403,8 +403,8 @@ module _ {step : KeyStep} {now : ℕ} {shelf : ShelfContent} {desk : DeskState} 
           there : its_found ≡ Some old
           there = (reused_is e).1
 
-          by : (s : Plain) → IsAt its_key shelf desk s → (st : Option Entry) → its_stands ≡ st → (after : Plain) × (plain s step now ≡ Answered (write_reply draft.body) after)
-              × IsAt its_key new (record desk { next_unique = desk.next_unique + 1 }) after
+          by : (s : Plain) → StandsAt its_key shelf desk s → (st : Option Entry) → its_stands ≡ st → (after : Plain) × (plain s step now ≡ Answered (write_reply draft.body) after)
+              × StandsAt its_key new (record desk { next_unique = desk.next_unique + 1 }) after
           by s at None none =
               let keeps : keeps_chunk draft.body its_key its_stands ≡ false = ap (λ (b : Body). keeps_chunk b its_key its_stands) (drafted_is.given none) in
               let of : (other : ℕ) → of_class its_key its_found other ≡ chunks_in need other = λ other. ap (λ (o : Option Entry). of_class its_key o other) there
@@ -437,7 +437,7 @@ module _ {step : KeyStep} {now : ℕ} {shelf : ShelfContent} {desk : DeskState} 
 
       -- it goes into others, while the old one, if there is one, has its own, which go back then
       pub takes_anew : {reply : Reply} {mid desk' : DeskState} → Reuses false → back ≡ 0 → slabs.has_room_with desk.slab need back ≡ true → reply ≡ write_reply draft.body
-          → mid ≡ record { slab = taken desk.slab need; next_unique = desk.next_unique + 1 } → GivesBack its_key its_found mid desk' → IsTaken step now own shelf desk reply new desk'
+          → mid ≡ record { slab = taken desk.slab need; next_unique = desk.next_unique + 1 } → GivesBack its_key its_found mid desk' → StepTaken step now own shelf desk reply new desk'
       takes_anew {reply} {mid} {desk'} e none room told mid_is gives =
           let after = outs_after its_found (desk.next_unique + 1) desk' (subst (λ (d : DeskState). GivesBack its_key its_found d desk') mid_is gives) in
           its_taken told (λ i. record { slab = desk'.slab; next_unique = after.0 i })
@@ -469,7 +469,7 @@ module _ {step : KeyStep} {now : ℕ} {shelf : ShelfContent} {desk : DeskState} 
 
       -- a dead item gives way to it
       pub takes_way : {reply : Reply} {desk' : DeskState} → Reuses false → 0 < back → slabs.has_room_with desk.slab need back ≡ true → reply ≡ write_reply draft.body
-          → desk' ≡ way_given need back desk → IsTaken step now own shelf desk reply new desk'
+          → desk' ≡ way_given need back desk → StepTaken step now own shelf desk reply new desk'
       takes_way e some room told same =
           let way = way_is e some in
           let is_class = is_need.is_class in
@@ -486,7 +486,7 @@ module _ {step : KeyStep} {now : ℕ} {shelf : ShelfContent} {desk : DeskState} 
 
       -- it goes into the chunks of the key's item, which isn't dead, where as many others are unused
       pub takes_in_place : {reply : Reply} {desk' : DeskState} → Reuses false → has_need its_key its_found need ≡ true → need.count ≤ slabs.unused desk.slab need.class
-          → reply ≡ write_reply draft.body → desk' ≡ record desk { next_unique = desk.next_unique + 1 } → IsTaken step now own shelf desk reply new desk'
+          → reply ≡ write_reply draft.body → desk' ≡ record desk { next_unique = desk.next_unique + 1 } → StepTaken step now own shelf desk reply new desk'
       takes_in_place {reply} {desk'} e has free told same =
           let there = need_of_found its_key its_found need has in
           let none = dead_alive shelf.cut now its_key its_found need.class (and_false (has_need its_key its_found need) (counts draft.body) (is_gone shelf.cut now its_found) e has) in

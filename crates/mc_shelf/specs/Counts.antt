@@ -61,15 +61,15 @@ IsLoaded counts = 3 * counts.homes < 4 * (counts.items + 1)
 
 -- A growth is due before one item more comes: by that load, or if none runs, an item is a stray,
 -- and there is one for every four homes.
-abbrev pub IsDue : ShelfCounts → Type 0
-IsDue counts =
+abbrev pub GrowthIsDue : ShelfCounts → Type 0
+GrowthIsDue counts =
     IsLoaded counts
     ⊎ ((counts.growing ≡ false) × (0 < counts.strays) × (counts.homes ≤ 4 * (counts.items + 1)))
 
 -- A growth that is due has begun: the homes have doubled, and at most all items are left to move. One that ran before is over,
 -- for which the last 8 were moved at most.
 pub record Begins (old new : ShelfCounts) : Type 0 where
-  pub due : IsDue old
+  pub due : GrowthIsDue old
   pub last : old.growing ≡ true → old.left ≤ 8
   pub homes : new.homes ≡ 2 * old.homes
   pub growing : new.growing ≡ true

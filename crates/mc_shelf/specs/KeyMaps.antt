@@ -38,6 +38,6 @@ abbrev pub StandsIn : EntryMap → EntryState → Type 0
 StandsIn m e = get m (e.hash ∷ e.key) ≡ Some e
 
 -- all entries stand so, and those of one key under one hash
-pub record IsKeyed (m : EntryMap) : Type 0 where
+pub record EntriesAreKeyed (m : EntryMap) : Type 0 where
   pub labelled : (at : List ℕ) (e : EntryState) → get m at ≡ Some e → at ≡ e.hash ∷ e.key
   pub one_hash : (a b : EntryState) → StandsIn m a → StandsIn m b → a.key ≡ b.key → a.hash ≡ b.hash

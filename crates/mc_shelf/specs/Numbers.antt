@@ -23,7 +23,7 @@ pub record HasPlaces (shelf : ShelfContent) (counts : List ℕ) : Type 0 where
       → get shelf.hashes key ≡ Some hash → slice_index counts (hash % 4096) ≡ 0
 
 -- the keys of a shelf were counted: the place of each number has so many more as keys have it
-pub record AreCounted (shelf : ShelfContent) (old new : List ℕ) : Type 0 where
+pub record KeysAreCounted (shelf : ShelfContent) (old new : List ℕ) : Type 0 where
   pub many : length new ≡ 4096
   pub counted : (hash_of : List ℕ → ℕ) → AreHashes shelf hash_of
       → (number : ℕ) → number < 4096

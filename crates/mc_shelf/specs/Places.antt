@@ -56,7 +56,7 @@ pub record KeyGoes (old new : IndexState EntryState) (key : List ℕ) : Type 0 w
   pub hashes : hashes_of new ≡ remove (hashes_of old) key
 
 -- the item under a key, which is in the index, has become this one, and nothing else has changed
-pub record IsChanged (old new : IndexState EntryState) (key : List ℕ) (item : Entry) : Type 0 where
+pub record ItemIsChanged (old new : IndexState EntryState) (key : List ℕ) (item : Entry) : Type 0 where
   pub items : items_of new ≡ insert (items_of old) key item
   pub hashes : hashes_of new ≡ hashes_of old
   pub same_k : new.k ≡ old.k

@@ -20,7 +20,7 @@ use Rattle.mc_slab.specs.Slabs.{IsSlab, WantsPages, out_of, has_room_with, made_
 use Rattle.mc_command.specs.Commands.{key_of}
 use Rattle.mc_command.specs.Plain.{Plain, Entry, Outcome, Answered, Spent, MayFail, plain, charge, item_need, alive, hit_of, refusal_reply, block_of, written_block, write_reply, row_of}
 use Rattle.mc_command.specs.Laws.{IsOnKey, of_class}
-use Rattle.mc_shelf.specs.States.{EntryState, ShelfContent, ShelfState, DeskState, IsAt, IsHash}
+use Rattle.mc_shelf.specs.States.{EntryState, ShelfContent, ShelfState, DeskState, StandsAt, IsHash}
 use Rattle.mc_grow.specs.declared.index.Place.{Place}
 use Rattle.mc_shelf.specs.declared.plan.Next.{Next}
 use Rattle.mc_shelf.specs.declared.plan.Next.TheVariants.{Answer, Expire, Discard, Write}
@@ -169,17 +169,17 @@ HasRoom plan shelf step =
 
 -- a step with that answer is what the plain machine does at the key: of each plain state that stands for the shelf and the
 -- desk before, it makes one that stands for them after
-abbrev pub Takes : KeyStep → ℕ → ShelfContent → DeskState → Reply → ShelfContent → DeskState → Type 0
-Takes step now shelf desk reply shelf' desk' =
-    (s : Plain) → IsAt (key_of step) shelf desk s
-    → (new : Plain) × (plain s step now ≡ Answered reply new) × IsAt (key_of step) shelf' desk' new
+abbrev pub TakesStepAtKey : KeyStep → ℕ → ShelfContent → DeskState → Reply → ShelfContent → DeskState → Type 0
+TakesStepAtKey step now shelf desk reply shelf' desk' =
+    (s : Plain) → StandsAt (key_of step) shelf desk s
+    → (new : Plain) × (plain s step now ≡ Answered reply new) × StandsAt (key_of step) shelf' desk' new
 
 -- the plain machine is out of unique numbers
 abbrev pub IsSpent : KeyStep → ℕ → ShelfContent → DeskState → Type 0
-IsSpent step now shelf desk = (s : Plain) → IsAt (key_of step) shelf desk s → plain s step now ≡ Spent
+IsSpent step now shelf desk = (s : Plain) → StandsAt (key_of step) shelf desk s → plain s step now ≡ Spent
 
 -- what stands under the other keys stays, and all else that the shelf holds
-pub record OthersStay (key : List ℕ) (old new : ShelfContent) : Type 0 where
+pub record OtherKeysStay (key : List ℕ) (old new : ShelfContent) : Type 0 where
   pub greatest : new.greatest ≡ old.greatest
   pub cut : new.cut ≡ old.cut
   pub items : (other : List ℕ) → other ≢ key → get new.items other ≡ get old.items other
@@ -188,32 +188,32 @@ pub record OthersStay (key : List ℕ) (old new : ShelfContent) : Type 0 where
 -- this item was put under the key, whose hash is this one, and the other keys stay
 pub record IsPut (key : List ℕ) (own : ℕ) (old new : ShelfContent) (one : Entry) : Type 0 where
   pub item : get new.items key ≡ Some one
-  pub others : OthersStay key old new
+  pub others : OtherKeysStay key old new
   pub hash : IsHash new key own
 
 -- the key's item was dropped, and the other keys stay
 pub record IsDropped (key : List ℕ) (own : ℕ) (old new : ShelfContent) : Type 0 where
   pub item : get new.items key ≡ None
-  pub others : OthersStay key old new
+  pub others : OtherKeysStay key old new
   pub hash : IsHash new key own
 
 -- a step was taken: as by the plain machine at its key, the other keys stay, and the key's hash is this one
-pub record IsTaken (step : KeyStep) (now own : ℕ) (old : ShelfContent) (desk : DeskState) (reply : Reply) (new : ShelfContent) (desk' : DeskState) : Type 0 where
-  pub takes : Takes step now old desk reply new desk'
-  pub others : OthersStay (key_of step) old new
+pub record StepTaken (step : KeyStep) (now own : ℕ) (old : ShelfContent) (desk : DeskState) (reply : Reply) (new : ShelfContent) (desk' : DeskState) : Type 0 where
+  pub takes : TakesStepAtKey step now old desk reply new desk'
+  pub others : OtherKeysStay (key_of step) old new
   pub hash : IsHash new (key_of step) own
 
 -- a plan that needs no desk was settled, whatever desk there is
-pub record IsSettled (step : KeyStep) (now own : ℕ) (old : ShelfContent) (reply : Reply) (new : ShelfContent) : Type 0 where
-  pub takes : (desk : DeskState) → Takes step now old desk reply new desk
+pub record PlanIsSettled (step : KeyStep) (now own : ℕ) (old : ShelfContent) (reply : Reply) (new : ShelfContent) : Type 0 where
+  pub takes : (desk : DeskState) → TakesStepAtKey step now old desk reply new desk
   pub stands : is_some (get new.items (key_of step)) ≡ is_some (get old.items (key_of step))
-  pub others : OthersStay (key_of step) old new
+  pub others : OtherKeysStay (key_of step) old new
   pub hash : IsHash new (key_of step) own
 
 -- a step that may be refused memory: it is answered with a copy of a block, or writes
 abbrev pub MayWantMemory : KeyStep → ℕ → ShelfContent → DeskState → Type 0
 MayWantMemory step now shelf desk =
-    (s : Plain) → IsAt (key_of step) shelf desk s → MayFail (plain s step now)
+    (s : Plain) → StandsAt (key_of step) shelf desk s → MayFail (plain s step now)
 
 -- a look takes memory: it copies the block of a hit, or makes room for an entry that a write puts in
 abbrev pub LookTakesMemory : KeyStep → ℕ → ShelfContent → Type 0
@@ -339,14 +339,14 @@ pub record LiesInNeed (key block : List ℕ) (shelf : ShelfState) : Type 0 where
 
 -- chunks are ready for the block that a body makes beside a key's item: those that wait, or else the
 -- item's own, and then the block is one that may be left to be written there
-abbrev pub IsReady : Option ChunksState → Body → (key block : List ℕ) → ShelfState → Type 0
-IsReady None body key block shelf = MayBeLeft body × LiesInNeed key block shelf
-IsReady (Some chunks) body key block shelf = AreChunksFor chunks key block shelf
+abbrev pub ChunksAreReady : Option ChunksState → Body → (key block : List ℕ) → ShelfState → Type 0
+ChunksAreReady None body key block shelf = MayBeLeft body × LiesInNeed key block shelf
+ChunksAreReady (Some chunks) body key block shelf = AreChunksFor chunks key block shelf
 
 -- what stood under a key, where it had this item: the entry of the key and the item, or none
-abbrev pub IsBefore : (key : List ℕ) → Option Entry → Option EntryState → Type 0
-IsBefore key found None = found ≡ None
-IsBefore key found (Some entry) = (entry.key ≡ key) × (found ≡ Some entry.item)
+abbrev pub StoodBefore : (key : List ℕ) → Option Entry → Option EntryState → Type 0
+StoodBefore key found None = found ≡ None
+StoodBefore key found (Some entry) = (entry.key ≡ key) × (found ≡ Some entry.item)
 
 -- what is known of a key that may have lost its item since it was looked up: its hash, if the shelf
 -- has the key, and by a place where it may be
@@ -360,7 +360,7 @@ pub record CanWriteBlock (write : Writing) (rest : Unwritten) (step : KeyStep) (
   where
     pub short : length (key_of step) ≤ 250
     pub sought : IsSought shelf.content (key_of step) write.hash write.place
-    pub ready : IsReady rest.chunks write.draft.body (key_of step)
+    pub ready : ChunksAreReady rest.chunks write.draft.body (key_of step)
         (block_beside shelf.content step write.draft) shelf
 
 -- what is left of a step that comes next so can be done; nothing is asked unless it writes
@@ -490,4 +490,4 @@ NeedsDesk key old Spent = Unit {0}
 -- of each plain state that stands for the shelf and the desk, the step's outcome needs the desk
 abbrev pub WantsDesk : KeyStep → ℕ → ShelfContent → DeskState → Type 0
 WantsDesk step now shelf desk =
-    (s : Plain) → IsAt (key_of step) shelf desk s → NeedsDesk (key_of step) s (plain s step now)
+    (s : Plain) → StandsAt (key_of step) shelf desk s → NeedsDesk (key_of step) s (plain s step now)

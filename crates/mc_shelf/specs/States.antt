@@ -154,7 +154,7 @@ coded_desk =
     (λ _. refl)
 
 -- a plain state whose item at the key is this shelf's, and whose pages, counts and numbers this desk keeps
-pub record IsAt (key : List ℕ) (shelf : ShelfContent) (desk : DeskState) (s : Plain) : Type 0 where
+pub record StandsAt (key : List ℕ) (shelf : ShelfContent) (desk : DeskState) (s : Plain) : Type 0 where
   pub greatest : s.greatest ≡ shelf.greatest
   pub cut : s.cut ≡ shelf.cut
   pub item : get s.items key ≡ get shelf.items key
@@ -164,6 +164,6 @@ pub record IsAt (key : List ℕ) (shelf : ShelfContent) (desk : DeskState) (s : 
   pub out : (class : ℕ) → IsClass class → out_of desk.slab class ≡ count_of s.items class
 
 -- there is such a state
-pub record CanStand (key : List ℕ) (shelf : ShelfContent) (desk : DeskState) : Type 0 where
+pub record CanStandAt (key : List ℕ) (shelf : ShelfContent) (desk : DeskState) : Type 0 where
   pub plain : Plain
-  pub stands : IsAt key shelf desk plain
+  pub stands : StandsAt key shelf desk plain

@@ -49,7 +49,7 @@ pub enum Begun {
 
 impl Begun {
     /// Gives the answer of a write that was begun.
-    fn told(&self, draft: &Draft) -> Reply
+    fn begun_reply(&self, draft: &Draft) -> Reply
         ensures { result ≡ write_told draft.now.body self.now }
     {
         match self {
@@ -77,7 +77,7 @@ impl Shelf {
             Next::Expire(_, reply) => mem::replace(reply, Reply::Miss),
             Next::Discard(reply) => mem::replace(reply, Reply::Miss),
             Next::Write(charge, draft) => {
-                let reply = begun.told(draft);
+                let reply = begun.begun_reply(draft);
                 if let Begun::Left(rest) = begun {
                     let write = Write {
                         hash: plan.hash,

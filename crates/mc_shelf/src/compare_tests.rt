@@ -8,7 +8,7 @@ ghost use Rattle.mc_command.specs.Commands.{key_of};
 use crate::{Settings, Store};
 use mc_command::{Bytes, KeyStep, KeyTest, PlainStore, StepFault, Verb};
 use mc_hop::{Constant, Fnv, KeyHash};
-use mc_rows::{asked, is_same};
+use mc_rows::{ask_step, is_same};
 use mc_testing::Dice;
 use mc_time::Moment;
 use std::alloc::{AllocError, Global};
@@ -133,8 +133,8 @@ fn is_answered_alike<K: KeyHash + Drop>(
 ) -> Result<bool, StepFault>
     requires { length (key_of step.now) ≤ 250 }
 {
-    let reply = asked(store, alloc, step, now)?;
-    let wanted = asked(plain, alloc, step, now)?;
+    let reply = ask_step(store, alloc, step, now)?;
+    let wanted = ask_step(plain, alloc, step, now)?;
     Ok(is_same(&reply, &wanted))
 }
 

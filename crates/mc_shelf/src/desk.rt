@@ -64,7 +64,7 @@ pub struct Wanted {
 impl Desk {
     /// Makes a desk of that many pages, 1 to 65536, none of which has gone to a class. Its first number is `next`, at least
     /// 1. The one error is a refused allocation.
-    pub fn starting(alloc: Global, pages: u32, next: u64) -> Result<Desk, AllocError>
+    pub fn with_next_number(alloc: Global, pages: u32, next: u64) -> Result<Desk, AllocError>
         requires pages { (1 ≤ pages) × (pages ≤ 65536) }
         requires next { 1 ≤ next }
         ensures { IfOk result (λ desk.
@@ -127,7 +127,7 @@ impl Desk {
     {
         let class = need.class();
         let count = u64::from(need.count());
-        let at_hand = self.unused(class) + back;
+        let at_hand = self.unused_chunks(class) + back;
         if count <= at_hand {
             return true;
         }
@@ -136,7 +136,7 @@ impl Desk {
     }
 
     /// Counts the chunks of the class's pages that aren't out.
-    fn unused(&self, class: Class) -> u64
+    fn unused_chunks(&self, class: Class) -> u64
         ensures value { result ≡ unused self.now.slab class }
         ensures most { result < 2 ^ 46 }
         ensures slab { IsSlab self.now.slab }
@@ -150,7 +150,7 @@ impl Desk {
     pub(crate) fn has_unused(&self, need: Need) -> bool
         ensures { result ≡ true → need.count ≤ unused self.now.slab need.class }
     {
-        u64::from(need.count()) <= self.unused(need.class())
+        u64::from(need.count()) <= self.unused_chunks(need.class())
     }
 
     /// Counts the pages that a need's class wants for it, once so many of its chunks came back: 0 to 8.
@@ -159,13 +159,13 @@ impl Desk {
         ensures value { result ≡ pages_wanted self.now.slab need back }
         ensures most { result ≤ 8 }
     {
-        let at_hand = self.unused(need.class()) + back;
+        let at_hand = self.unused_chunks(need.class()) + back;
         u64::from(need.count()).saturating_sub(at_hand) as u32
     }
 
     /// Tells which pages a need asks for, once so many chunks of its class came back; none if it
     /// asks for none, or can't be had.
-    pub(crate) fn wanted(&self, need: Need, back: u64) -> Option<Wanted>
+    pub(crate) fn wanted_pages(&self, need: Need, back: u64) -> Option<Wanted>
         requires { back ≤ 8 }
         ensures wanted { IfSome result (λ wanted. WantsPages self.now.slab need back
             × (wanted ≡ record {

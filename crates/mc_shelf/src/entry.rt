@@ -157,10 +157,10 @@ impl Entry {
     }
 
     /// Reads when its block was last written.
-    pub fn updated(&self) -> Moment
+    pub fn updated_at(&self) -> Moment
         ensures { result ≡ self.now.item.updated }
     {
-        self.item.updated()
+        self.item.updated_at()
     }
 
     /// Finds what its chunks serve.

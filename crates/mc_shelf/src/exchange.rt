@@ -86,7 +86,7 @@ impl Shelf {
         if !joins(draft.body) {
             return None;
         }
-        let item = self.planned(plan)?;
+        let item = self.planned_entry(plan)?;
         pages_of_join(draft.body, item.need(), self.need_for(charge))
     }
 

@@ -6,7 +6,7 @@ ghost use Rattle.std.specs.FinMap.{get};
 ghost use Rattle.mc_command.specs.Commands.{key_of};
 ghost use Rattle.mc_command.specs.Plain.{hit_of, item_need};
 ghost use Rattle.mc_shelf.specs.States.{IsHash, parts_of};
-ghost use Rattle.mc_shelf.specs.Plans.{IsKnown, IsSettled, is_gone, stood};
+ghost use Rattle.mc_shelf.specs.Plans.{IsKnown, PlanIsSettled, is_gone, stood};
 ghost use Rattle.mc_shelf.specs.Hits.{found_of, is_read, read_expiry};
 
 use crate::entry::Entry;
@@ -107,7 +107,7 @@ impl Shelf {
         let Some(entry) = self.index.get(place) else {
             return Found::Nothing;
         };
-        if is_dead(entry.expiry(), entry.updated(), self.cut, now) {
+        if is_dead(entry.expiry(), entry.updated_at(), self.cut, now) {
             return Found::Dead;
         }
         Found::Standing(Hit { entry, place })
@@ -122,7 +122,7 @@ impl Shelf {
         requires known { IsKnown self.old.content (key_of step.now) hash place }
         requires alive { is_gone self.old.content.cut now
             (get self.old.content.items (key_of step.now)) ≡ false }
-        ensures { IsSettled step.now now hash self.old.content
+        ensures { PlanIsSettled step.now now hash self.old.content
             (hit_of (stood self.old.content step.now now)) self.new.content }
     {
         if place.is_some() {

@@ -9,10 +9,10 @@ ghost use Rattle.mc_shelf.specs.Plans.{drafted};
 ghost use Rattle.mc_grow.specs.Indexes.{IsFilled, IsNext, KeepsLower, count, entry_at, left};
 ghost use Rattle.mc_shelf.specs.Counts.{CaughtUp, FitTogether, KeepsTable, MovesFew, counts_in};
 ghost use Rattle.mc_shelf.specs.Deaths.{DieNoSooner, NoneIsDead};
-ghost use Rattle.mc_shelf.specs.KeyMaps.{IsHashOf, IsKeyed};
+ghost use Rattle.mc_shelf.specs.KeyMaps.{IsHashOf, EntriesAreKeyed};
 ghost use Rattle.mc_shelf.specs.States.{EntryState};
 ghost use Rattle.mc_shelf.specs.Places.{
-  IsChanged,
+  ItemIsChanged,
   IsEntryOf,
   IsKeyAt,
   IsKeyFound,
@@ -61,7 +61,7 @@ pub(crate) struct Index {
 impl Model for Index {
     ghost use Rattle.mc_grow.specs.Indexes.{IndexState, coded_index};
     ghost use Rattle.mc_shelf.specs.States.{EntryState, coded_entry_state};
-    ghost use Rattle.mc_shelf.specs.KeyMaps.{IsKeyed};
+    ghost use Rattle.mc_shelf.specs.KeyMaps.{EntriesAreKeyed};
     ghost use Rattle.mc_shelf.specs.Places.{entries_of, items_of};
     ghost use Rattle.mc_shelf.specs.Deaths.{DieNoSooner};
 
@@ -71,7 +71,7 @@ impl Model for Index {
 
     ghost view = { λ i. i.entries };
 
-    ghost invariant = { λ i. IsKeyed (entries_of i.entries)
+    ghost invariant = { λ i. EntriesAreKeyed (entries_of i.entries)
         × DieNoSooner i.soonest (items_of i.entries) };
 }
 
@@ -112,7 +112,7 @@ impl Index {
     }
 
     /// Lends the entry whose place a search has found.
-    pub(crate) fn found(&self, found: Option<Place>) -> Option<&Entry>
+    pub(crate) fn found_entry(&self, found: Option<Place>) -> Option<&Entry>
         ensures { (key : List ℕ) → IsKeyFound self.now key found → IsEntryOf self.now key result }
     {
         self.get(found?)
@@ -158,7 +158,7 @@ impl Index {
         ensures room { self.old.spare ≤ self.new.spare + 1 }
         ensures table { KeepsTable 0 (counts_in self.old) (counts_in self.new) }
     {
-        self.soonest = self.soonest.with(entry.expiry(), entry.updated());
+        self.soonest = self.soonest.with(entry.expiry(), entry.updated_at());
         self.entries.insert_reserved(entry)
     }
 
@@ -166,7 +166,7 @@ impl Index {
     pub(crate) fn set_expiry(&mut self, place: Place, expiry: Expiry)
         requires { (key : List ℕ) × IsKeyAt self.old key place }
         ensures { (key : List ℕ) (at : IsKeyAt self.old key place) →
-            IsChanged self.old self.new key (record at.entry.item { expiry = expiry }) }
+            ItemIsChanged self.old self.new key (record at.entry.item { expiry = expiry }) }
     {
         self.soonest = self.soonest.with_expiry(expiry);
         self.entries.update(place, |mut entry| {
@@ -180,9 +180,9 @@ impl Index {
         requires key { IsKeyAt self.old entry.key place }
         requires hash { IsHashOf (entries_of self.old) entry.key entry.hash }
         ensures before { entry_at self.old place ≡ Some result }
-        ensures changed { IsChanged self.old self.new entry.entry.key entry.entry.item }
+        ensures changed { ItemIsChanged self.old self.new entry.entry.key entry.entry.item }
     {
-        self.soonest = self.soonest.with(entry.expiry(), entry.updated());
+        self.soonest = self.soonest.with(entry.expiry(), entry.updated_at());
         self.entries.update(place, |before| (entry, before))
     }
 
@@ -200,7 +200,7 @@ impl Index {
         requires short { length key.now ≤ 250 }
         requires need { (at : IsKeyAt self.old key.now place) →
             item_need key.now at.entry.item ≡ need_for (charge key.now block.now) }
-        ensures { IsChanged self.old self.new key.now
+        ensures { ItemIsChanged self.old self.new key.now
             (drafted write.now.draft block.now unique write.now.moment) }
     {
         let Write {
@@ -233,7 +233,7 @@ impl Index {
             item_need entry.key entry.item
             ≡ need_for (charge entry.key (entry.item.block ++ block.now)) }
         ensures { (key : List ℕ) (at : IsKeyAt self.old key place) →
-            IsChanged self.old self.new key (drafted write.now.draft
+            ItemIsChanged self.old self.new key (drafted write.now.draft
             (at.entry.item.block ++ block.now) unique write.now.moment) }
     {
         let Write { moment, draft, .. } = *write;
@@ -262,7 +262,7 @@ impl Index {
     /// sweep goes on at the number after it, and if it removed the entry, at the number itself.
     pub(crate) fn filled_from(&self, at: usize) -> Option<(usize, Place)>
         ensures next { IsNext self.now at result }
-        ensures keyed { IsKeyed (entries_of self.now) }
+        ensures keyed { EntriesAreKeyed (entries_of self.now) }
         ensures fits { IfSome result (λ found. found.0 + 1 < 2 ^ 64) }
     {
         self.entries.filled_from(at)
@@ -340,10 +340,10 @@ impl Index {
     }
 
     /// Counts the entries of an old table, which are left to move.
-    pub(crate) fn left(&self) -> usize
+    pub(crate) fn entries_to_move(&self) -> usize
         ensures { result ≡ left self.now }
     {
-        self.entries.left()
+        self.entries.entries_to_move()
     }
 
     /// Counts the items.
@@ -365,7 +365,7 @@ impl Index {
             items: self.len() as u64,
             homes: self.entries.homes() as u64,
             growing: self.entries.is_growing(),
-            left: self.entries.left() as u64,
+            left: self.entries.entries_to_move() as u64,
             strays: self.entries.strays() as u64,
         }
     }
@@ -383,7 +383,7 @@ impl Index {
     /// walks no entry.
     pub(crate) fn may_have_dead(&self, cut: Option<u64>, now: Moment) -> bool
         ensures none { result ≡ false → NoneIsDead now cut (items_of self.now) }
-        ensures keyed { IsKeyed (entries_of self.now) }
+        ensures keyed { EntriesAreKeyed (entries_of self.now) }
     {
         self.soonest.may_be_dead(cut, now)
     }
@@ -420,7 +420,7 @@ fn read_all(entries: &[(usize, Option<&Entry>)], from: usize) -> usize {
     let mut end = from;
     for (behind, entry) in entries {
         if let Some(entry) = entry {
-            read ^= entry.hash() ^ entry.updated().seconds();
+            read ^= entry.hash() ^ entry.updated_at().seconds();
         }
         end = *behind;
     }

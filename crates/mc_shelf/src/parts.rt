@@ -10,8 +10,8 @@ ghost use Rattle.mc_command.specs.Laws.{IsOnKey};
 ghost use Rattle.mc_shelf.specs.States.{ShelfContent, DeskState, nothing_held};
 ghost use Rattle.mc_slab.specs.Slabs.{IsSlab};
 ghost use Rattle.mc_shelf.specs.Plans.{
-  IsTaken,
-  IsSettled,
+  StepTaken,
+  PlanIsSettled,
   IsSpent,
   MayWantMemory,
   NeedsPages,
@@ -46,13 +46,13 @@ pub fn steps_change_one_shelf()
         (now : ℕ) (reply : Reply) (old new : ShelfContent) (desk desk' : DeskState) →
         IsOnKey step → shelf_of hash_of shelves (key_of step) ≡ at →
         IsShelfOf hash_of shelves state at old → IsDeskOf state desk →
-        IsTaken step now (hash_of (key_of step)) old desk reply new desk' →
+        StepTaken step now (hash_of (key_of step)) old desk reply new desk' →
         GoesByStep hash_of shelves at step now state reply new desk' }
     ensures settled { (hash_of : List ℕ → ℕ) (shelves at : ℕ) (state : Plain) (step : KeyStep)
         (now : ℕ) (reply : Reply) (old new : ShelfContent) →
         IsOnKey step → shelf_of hash_of shelves (key_of step) ≡ at →
         IsShelfOf hash_of shelves state at old →
-        IsSettled step now (hash_of (key_of step)) old reply new →
+        PlanIsSettled step now (hash_of (key_of step)) old reply new →
         GoesWithoutDesk hash_of shelves at step now state reply new }
 {}
 

@@ -9,7 +9,7 @@ ghost use Rattle.mc_command.specs.Commands.{key_of};
 ghost use Rattle.mc_command.specs.Plain as machine;
 ghost use Rattle.mc_command.specs.Plain.{hit_of, row_of};
 ghost use Rattle.mc_shelf.specs.declared.plan.Next.TheVariants.{Answer};
-ghost use Rattle.mc_shelf.specs.States.{CanStand, DeskState, ShelfContent};
+ghost use Rattle.mc_shelf.specs.States.{CanStandAt, DeskState, ShelfContent};
 ghost use Rattle.mc_shelf.specs.Plans as plans;
 ghost use Rattle.mc_shelf.specs.Plans.{
   IsPlan,
@@ -81,7 +81,7 @@ impl<'a> Plan<'a> {
     pub fn needs_desk(&self) -> bool
         ensures told { result ≡ wants_desk self.now.next }
         ensures needed { (shelf : ShelfContent) (desk : DeskState) (step : Step) (now : ℕ) →
-            IsPlan self.now shelf step now → CanStand (key_of step) shelf desk →
+            IsPlan self.now shelf step now → CanStandAt (key_of step) shelf desk →
             (result ≡ true) ↔ WantsDesk step now shelf desk }
     {
         match self.next {
@@ -125,17 +125,17 @@ pub(crate) fn next_of(
         × (row_of step.now now (machine.alive cut now (item_in found.entry)) ≡ Reads expiry)) }
 {
     let dead = is_gone(found, cut, now);
-    let item = standing(found, dead);
+    let item = standing_entry(found, dead);
     match command::row_of(step, item, now) {
-        Row::Refuses(refusal) => Ok(answered(dead, refusal.reply())),
-        Row::Reads(None) => Ok(answered(dead, hit(alloc, item)?)),
+        Row::Refuses(refusal) => Ok(answer_alone(dead, refusal.reply())),
+        Row::Reads(None) => Ok(answer_alone(dead, hit(alloc, item)?)),
         Row::Reads(Some(expiry)) => Ok(Next::Expire(expiry, hit(alloc, item)?)),
         Row::Touches(expiry) => Ok(Next::Expire(expiry, Reply::Touched)),
         Row::Deletes => Ok(Next::Discard(Reply::Deleted)),
         Row::Writes(draft) => {
             let charge = charge_of(step, item, draft);
             if greatest < charge {
-                Ok(answered(dead, Reply::TooLarge))
+                Ok(answer_alone(dead, Reply::TooLarge))
             } else {
                 Ok(Next::Write(charge, draft))
             }
@@ -144,7 +144,7 @@ pub(crate) fn next_of(
 }
 
 /// Gives an answer that leaves the key's item. A dead one is dropped.
-fn answered(dead: bool, reply: Reply) -> Next
+fn answer_alone(dead: bool, reply: Reply) -> Next
     ensures { result ≡ plans.answered dead reply }
 {
     if dead {
@@ -163,13 +163,13 @@ fn hit(alloc: Global, item: Option<&Entry>) -> Result<Reply, AllocError>
         Some(old) => Ok(Reply::Hit {
             flags: old.flags(),
             unique: old.unique(),
-            block: copied(alloc, old)?,
+            block: copy_block(alloc, old)?,
         }),
     }
 }
 
 /// Copies the block of an item.
-fn copied(alloc: Global, item: &Entry) -> Result<Block, AllocError>
+fn copy_block(alloc: Global, item: &Entry) -> Result<Block, AllocError>
     ensures { IfOk result (λ block. block ≡ item.now.item.block) }
 {
     let mut block = Vec::with_capacity(alloc, item.block_len())?;
@@ -178,7 +178,7 @@ fn copied(alloc: Global, item: &Entry) -> Result<Block, AllocError>
 }
 
 /// Lends the item that stands: the one that is found, unless it is dead.
-fn standing<'a>(found: Option<&'a Entry>, dead: bool) -> Option<&'a Entry>
+fn standing_entry<'a>(found: Option<&'a Entry>, dead: bool) -> Option<&'a Entry>
     ensures { (cut : Option ℕ) (now : ℕ) → dead ≡ is_gone cut now (item_in found.entry) →
         item_in result ≡ machine.alive cut now (item_in found.entry) }
 {
@@ -190,7 +190,7 @@ pub(crate) fn is_gone(found: Option<&Entry>, cut: Option<u64>, now: Moment) -> b
     ensures { result ≡ is_gone cut now (item_in found.entry) }
 {
     match found {
-        Some(entry) => is_dead(entry.expiry(), entry.updated(), cut, now),
+        Some(entry) => is_dead(entry.expiry(), entry.updated_at(), cut, now),
         None => false,
     }
 }

@@ -11,8 +11,8 @@ ghost use Rattle.mc_command.specs.declared.row.Row.TheVariants.{Reads};
 ghost use Rattle.mc_command.specs.Commands.{key_of};
 ghost use Rattle.mc_command.specs.Plain.{Entry as Item};
 ghost use Rattle.mc_shelf.specs.Counts.{DropsAlone, FitTogether, KeepsTable, MovesFew, counts_of};
-ghost use Rattle.mc_shelf.specs.States.{CanStand, nothing_held};
-ghost use Rattle.mc_shelf.specs.Numbers.{AreCounted, HasPlaces};
+ghost use Rattle.mc_shelf.specs.States.{CanStandAt, nothing_held};
+ghost use Rattle.mc_shelf.specs.Numbers.{KeysAreCounted, HasPlaces};
 ghost use Rattle.mc_shelf.specs.Plans.{
   CanFinish,
   CanLook,
@@ -25,9 +25,9 @@ ghost use Rattle.mc_shelf.specs.Plans.{
   IsOut,
   IsPlan,
   IsPut,
-  IsSettled,
+  PlanIsSettled,
   IsSpent,
-  IsTaken,
+  StepTaken,
   LookTakesMemory,
   MayWantMemory,
   NeedsPages,
@@ -136,7 +136,7 @@ impl Shelf {
     /// walks nothing.
     pub fn count_numbers(&self, counts: &mut [u64])
         requires { HasPlaces self.now.content counts.old }
-        ensures { AreCounted self.now.content counts.old counts.new }
+        ensures { KeysAreCounted self.now.content counts.old counts.new }
     {
         if self.index.is_empty() {
             return;
@@ -164,9 +164,9 @@ impl Shelf {
         desk: &mut Desk,
     ) -> Result<Reply, StepFault>
         requires look { CanLook step.now hash self.old.content }
-        requires stands { CanStand (key_of step.now) self.old.content desk.old }
+        requires stands { CanStandAt (key_of step.now) self.old.content desk.old }
         ensures took { IfOk result (λ reply.
-            IsTaken step.now now hash self.old.content desk.old reply self.new.content desk.new) }
+            StepTaken step.now now hash self.old.content desk.old reply self.new.content desk.new) }
         ensures spent { result ≡ Err StepFault.NumbersSpent
             ↔ IsSpent step.now now self.old.content desk.old }
         ensures err { OnErr result
@@ -213,7 +213,7 @@ impl Shelf {
     pub fn settle(&mut self, plan: Plan<'_>) -> Reply
         requires { CanSettle plan self.old.content }
         ensures told { (step : Step) (now : ℕ) → IsPlan plan.entry self.old.content step now →
-            IsSettled step now plan.entry.hash self.old.content result self.new.content }
+            PlanIsSettled step now plan.entry.hash self.old.content result self.new.content }
         ensures table { KeepsTable 0 (counts_of self.old) (counts_of self.new) }
     {
         let Plan {
@@ -249,8 +249,8 @@ impl Shelf {
         requires room { CanWrite plan.next self.old.content (key_of step.now) plan.moment desk.old →
             HasRoom plan self.old step.now }
         requires key { length (key_of step.now) ≤ 250 }
-        requires stands { CanStand (key_of step.now) self.old.content desk.old }
-        ensures took { IfOk result (λ reply. IsTaken step.now plan.entry.moment plan.entry.hash
+        requires stands { CanStandAt (key_of step.now) self.old.content desk.old }
+        ensures took { IfOk result (λ reply. StepTaken step.now plan.entry.moment plan.entry.hash
             self.old.content desk.old reply self.new.content desk.new) }
         ensures spent { result ≡ Err StepFault.NumbersSpent
             ↔ ((writes plan.entry.next ≡ true) × has_no_number desk.old) }
@@ -296,7 +296,7 @@ impl Shelf {
             return None;
         };
         let need = self.need_for(charge);
-        desk.wanted(need, self.back(plan, need))
+        desk.wanted_pages(need, self.back(plan, need))
     }
 
     /// Does what a plan's step needs the desk for; `finish` does the rest over the same plan, before the shelf is asked for
@@ -326,8 +326,8 @@ impl Shelf {
         requires room { CanWrite plan.now.next self.old.content (key_of step.now) plan.now.moment
             desk.old → HasRoom plan.now self.old step.now }
         requires key { length (key_of step.now) ≤ 250 }
-        requires stands { CanStand (key_of step.now) self.old.content desk.old }
-        ensures took { IfOk result (λ begun. IsTaken step.now plan.now.moment plan.now.hash
+        requires stands { CanStandAt (key_of step.now) self.old.content desk.old }
+        ensures took { IfOk result (λ begun. StepTaken step.now plan.now.moment plan.now.hash
             self.old.content desk.old (told_next plan.now.next begun)
             (finished plan.now begun step.now self.new.content) desk.new) }
         ensures left { IfOk result (λ begun. CanFinish plan.now begun step.now self.new) }
@@ -405,10 +405,10 @@ impl Shelf {
     }
 
     /// Counts the entries of an old table that are left to move.
-    pub fn left(&self) -> usize
+    pub fn entries_to_move(&self) -> usize
         ensures { result ≡ self.now.left }
     {
-        self.index.left()
+        self.index.entries_to_move()
     }
 
     /// Counts the items, the homes of the table that new entries go to, the entries of an old table
@@ -437,7 +437,7 @@ impl Shelf {
         ensures most { self.now.content.greatest ≤ 8388608 }
     {
         let place = self.index.find(hash, step.key());
-        let found = self.index.found(place);
+        let found = self.index.found_entry(place);
         let next = next_of(alloc, step, found, self.greatest, self.cut, now)?;
         Ok(Plan {
             key: Bytes::of(step.key()),
@@ -455,11 +455,11 @@ impl Shelf {
         ensures key { IfSome result (λ entry. entry.now.key ≡ key.now) }
     {
         let found = self.index.find_again(place, hash, key);
-        self.index.found(found)
+        self.index.found_entry(found)
     }
 
     /// Lends the entry of a plan's key, if it has the key.
-    pub(crate) fn planned(&self, plan: &Plan<'_>) -> Option<&Entry>
+    pub(crate) fn planned_entry(&self, plan: &Plan<'_>) -> Option<&Entry>
         requires { (step : Step) × (now : ℕ) × IsPlan plan.now self.now.content step now }
         ensures item { item_in result ≡ get self.now.content.items plan.now.key }
         ensures key { IfSome result (λ entry. entry.now.key ≡ plan.now.key) }
@@ -480,7 +480,7 @@ impl Shelf {
             return false;
         }
         let need = self.need_for(charge);
-        gives_way(self.planned(plan), need, self.cut, plan.moment)
+        gives_way(self.planned_entry(plan), need, self.cut, plan.moment)
     }
 
     /// Counts the chunks of a need's class that come back if the key's item is dropped for being
@@ -490,7 +490,7 @@ impl Shelf {
         ensures value { result ≡ back_at self.now.content plan.now.key plan.now.moment need }
         ensures most { result ≤ 8 }
     {
-        dead_chunks(self.planned(plan), need, self.cut, plan.moment)
+        dead_chunks(self.planned_entry(plan), need, self.cut, plan.moment)
     }
 
     /// Makes room for an entry, if a plan can be taken that puts it in.

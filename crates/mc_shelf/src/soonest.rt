@@ -60,7 +60,7 @@ impl Soonest {
     {
         match found {
             None => self,
-            Some(entry) => self.with(entry.expiry(), entry.updated()),
+            Some(entry) => self.with(entry.expiry(), entry.updated_at()),
         }
     }
 

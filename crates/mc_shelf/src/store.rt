@@ -80,12 +80,12 @@ impl<K: KeyHash + Drop> Store<K> {
         ensures hasher { IfOk result (λ store. store.hasher ≡ hasher) }
         ensures left { IfOk result (λ store. store.left ≡ replicate settings.shelves 0) }
     {
-        Store::starting(alloc, settings, hasher, 1)
+        Store::with_next_number(alloc, settings, hasher, 1)
     }
 
     /// Makes the same, whose first write draws the unique number `next`, at least 1. At 2^64 - 1 the
     /// numbers are spent. The one error is a refused allocation.
-    pub fn starting(
+    pub fn with_next_number(
         alloc: Global,
         settings: Settings,
         hasher: K,
@@ -99,7 +99,7 @@ impl<K: KeyHash + Drop> Store<K> {
         ensures left { IfOk result (λ store. store.left ≡ replicate settings.shelves 0) }
     {
         let shelves = parts::empty_shelves(alloc, settings.shelves, settings.greatest)?;
-        let desk = Desk::starting(alloc, settings.pages, next)?;
+        let desk = Desk::with_next_number(alloc, settings.pages, next)?;
         Ok(Store {
             parts: StoreParts {
                 settings,

@@ -9,7 +9,7 @@ ghost use Rattle.mc_slab.specs.Chunks.{need_in};
 ghost use Rattle.mc_command.specs.Commands.{key_of};
 ghost use Rattle.mc_command.specs.Plain.{block_of, charge, write_reply};
 ghost use Rattle.mc_shelf.specs.Counts.{KeepsTable, counts_of};
-ghost use Rattle.mc_shelf.specs.States.{CanStand};
+ghost use Rattle.mc_shelf.specs.States.{CanStandAt};
 ghost use Rattle.mc_shelf.specs.Plans as plans;
 ghost use Rattle.mc_shelf.specs.Plans.{
   CanGiveWay,
@@ -18,12 +18,12 @@ ghost use Rattle.mc_shelf.specs.Plans.{
   CanWrite,
   CanWriteBlock,
   GivesBack,
-  IsBefore,
+  StoodBefore,
   IsDropped,
   IsKnown,
   IsOut,
   IsPut,
-  IsTaken,
+  StepTaken,
   IsWriteOf,
   IsSought,
   LiesInNeed,
@@ -147,8 +147,20 @@ impl Write {
     {
         let block = step.block();
         match (self.draft.body, old) {
-            (Body::Appended, Some(old)) => self.appended(chunks, unique, step.key(), old, block),
-            (Body::Prepended, Some(old)) => self.prepended(chunks, unique, step.key(), block, old),
+            (Body::Appended, Some(old)) => self.append_block(
+                chunks,
+                unique,
+                step.key(),
+                old,
+                block,
+            ),
+            (Body::Prepended, Some(old)) => self.prepend_block(
+                chunks,
+                unique,
+                step.key(),
+                block,
+                old,
+            ),
             (Body::Counted(number), _) => {
                 let mut buffer = Buffer::new();
                 let digits = buffer.format(number).as_bytes();
@@ -159,7 +171,7 @@ impl Write {
     }
 
     /// Makes the entry whose block is an old item's, followed by `block`.
-    fn appended<'a>(
+    fn append_block<'a>(
         &self,
         chunks: Chunks,
         unique: u64,
@@ -185,7 +197,7 @@ impl Write {
     }
 
     /// Makes the entry whose block is `block`, followed by an old item's.
-    fn prepended<'a>(
+    fn prepend_block<'a>(
         &self,
         chunks: Chunks,
         unique: u64,
@@ -342,8 +354,8 @@ impl Shelf {
             (key_of step.now) write.now.moment desk.old →
             PutsEntry (Next.Write write.now.charge write.now.draft) self.old.content
             (key_of step.now) write.now.moment → 1 ≤ self.old.room }
-        requires stands { CanStand (key_of step.now) self.old.content desk.old }
-        ensures took { IfOk result (λ begun. IsTaken step.now write.now.moment write.now.hash
+        requires stands { CanStandAt (key_of step.now) self.old.content desk.old }
+        ensures took { IfOk result (λ begun. StepTaken step.now write.now.moment write.now.hash
             self.old.content desk.old (write_told write.now.draft.body begun)
             (written write.now (left_of begun) step.now self.new.content) desk.new) }
         ensures left { IfOk result (λ begun.
@@ -650,12 +662,12 @@ impl Shelf {
             write.now.hash (drafted write.now.draft
             (block_beside self.old.content step.now write.now.draft)
             unique write.now.moment) self.old.content }
-        ensures before { IsBefore (key_of step.now)
+        ensures before { StoodBefore (key_of step.now)
             (get self.old.content.items (key_of step.now)) result }
         ensures table { KeepsTable 0 (counts_of self.old) (counts_of self.new) }
     {
         let place = self.index.find_again(write.place, write.hash, step.key());
-        let old = self.index.found(place);
+        let old = self.index.found_entry(place);
         let entry = write.entry_in(chunks, unique, step, old);
         match place {
             Some(place) => Some(self.index.replace(place, entry)),

@@ -64,7 +64,7 @@ impl Run {
     }
 
     /// Writes its memory, of zeros.
-    fn written(self) -> Run
+    fn write_memory(self) -> Run
         ensures { result ≡ self.entry }
     {
         let Run {
@@ -75,7 +75,7 @@ impl Run {
         Run {
             class,
             count,
-            memory: written(memory, class, count),
+            memory: zero_memory(memory, class, count),
         }
     }
 
@@ -116,7 +116,7 @@ fn memory_of(alloc: Global, class: Class, count: u32) -> Result<Memory, AllocErr
 }
 
 /// Writes memory, of zeros.
-fn written(memory: Memory, class: Class, count: u32) -> Memory
+fn zero_memory(memory: Memory, class: Class, count: u32) -> Memory
     requires class { IsClass class }
     requires memory { IsMemoryOf class count memory }
     ensures { IsMemoryOf class count result }
@@ -202,7 +202,7 @@ impl Runs {
     /// Asks for the memory of so many chunks of the class, but for those of the pages that are
     /// brought, if they are of the class. What isn't wanted of them is let go. Refused, all is
     /// let go.
-    pub(crate) fn provided(
+    pub(crate) fn provide(
         alloc: Global,
         class: Class,
         count: u32,
@@ -210,13 +210,13 @@ impl Runs {
     ) -> Result<Runs, AllocError>
         ensures { IfOk result (λ runs. runs ≡ record { class = class; count = count }) }
     {
-        brought(alloc, class, pages)
-            .kept(count)
-            .filled(alloc, count)
+        runs_of_pages(alloc, class, pages)
+            .keep_at_most(count)
+            .fill_up(alloc, count)
     }
 
     /// Lets runs go until at most so many chunks are to be cut.
-    fn kept(self, most: u32) -> Runs
+    fn keep_at_most(self, most: u32) -> Runs
         ensures class { result.class ≡ self.class }
         ensures most { result.count ≤ most }
     {
@@ -232,7 +232,7 @@ impl Runs {
     }
 
     /// Asks for the memory that is wanting to so many chunks.
-    fn filled(self, alloc: Global, count: u32) -> Result<Runs, AllocError>
+    fn fill_up(self, alloc: Global, count: u32) -> Result<Runs, AllocError>
         requires { self.count ≤ count }
         ensures { IfOk result (λ runs. runs ≡ record { class = self.class; count = count }) }
     {
@@ -272,7 +272,7 @@ impl Runs {
         ensures { self.new ≡ self.old }
     {
         if let Some(run) = self.runs.pop() {
-            self.runs.push_reserved(run.written());
+            self.runs.push_reserved(run.write_memory());
         }
     }
 
@@ -295,7 +295,7 @@ impl Runs {
 }
 
 /// The runs of the pages that are brought, if they are of the class.
-fn brought(alloc: Global, class: Class, pages: Option<Pages>) -> Runs
+fn runs_of_pages(alloc: Global, class: Class, pages: Option<Pages>) -> Runs
     ensures { result.class ≡ class }
 {
     match pages {
@@ -355,7 +355,7 @@ impl Pages {
         ensures { IfOk result (λ pages. pages ≡ record { class = class; count = count }) }
     {
         let chunks = class.chunks_a_page() * count;
-        let mut runs = Runs::provided(alloc, class, chunks, None)?;
+        let mut runs = Runs::provide(alloc, class, chunks, None)?;
         runs.write_next();
         Ok(Pages { count, runs })
     }

@@ -121,7 +121,7 @@ impl Sheet {
             × (1048576 + length result.1.value.1 ≡ length sheet.value.1) }
     {
         let node = mem::replace(&mut sheet.node, Node::Hollow);
-        let (node, behind) = parted(node);
+        let (node, behind) = part_node(node);
         sheet.node = node;
         (sheet, behind)
     }
@@ -158,7 +158,7 @@ fn before(node: Node, behind: Box<Sheet>) -> Node
 }
 
 /// The node of the first chunk, and what lay behind it.
-fn parted(node: Node) -> (Node, Box<Sheet>)
+fn part_node(node: Node) -> (Node, Box<Sheet>)
     requires { 2 ≤ (sheets_in node).0 }
     ensures one { ((sheets_in result.0).0 ≡ 1)
         × (length (sheets_in result.0).1 ≡ 1048576) }

@@ -183,12 +183,12 @@ impl Slab {
 
     /// Counts the class's chunks that aren't out: those that came back, and those that are still to be cut of its pages. With
     /// those that are out they are all chunks of its pages.
-    pub fn unused(&self, class: Class) -> u32
+    pub fn unused_chunks(&self, class: Class) -> u32
         ensures value { result ≡ unused self.now class }
         ensures account { out_of self.now class + result ≡ chunks_of self.now class }
         ensures is_slab { IsSlab self.now }
     {
-        self.stocks[class.index()].unused()
+        self.stocks[class.index()].unused_chunks()
     }
 
     /// Counts the pages that no class has yet.

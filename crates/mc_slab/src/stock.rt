@@ -75,7 +75,7 @@ impl Stock {
     }
 
     /// Counts its chunks that aren't out: the free ones, and those that are to be cut.
-    pub(crate) fn unused(&self) -> u32
+    pub(crate) fn unused_chunks(&self) -> u32
         ensures value { result ≡ all_chunks self.now - self.now.out }
         ensures all { self.now.out + result ≡ all_chunks self.now }
     {
@@ -108,7 +108,7 @@ impl Stock {
         ensures err { OnErr result (self.new ≡ self.old) }
     {
         let chunks = count * self.class.chunks_a_page();
-        let runs = Runs::provided(alloc, self.class, chunks, pages)?;
+        let runs = Runs::provide(alloc, self.class, chunks, pages)?;
         // There is room for all: those that are out, free or to be cut, and those of the new pages.
         let more = self.out + self.uncut.count() + chunks;
         self.free.reserve_exact(more as usize)?;

@@ -133,7 +133,7 @@ fn filling_and_emptying_leaves_the_same_account(rt: HostRuntime) -> Result<(), F
         fill_and_empty(&rt, alloc, &mut slab, need, full)?;
         let empty = Account { pages: 2, out: 0 };
         assert!(rt; slab.account(need.class()) == empty);
-        assert_eq!(rt; slab.unused(need.class()), 20);
+        assert_eq!(rt; slab.unused_chunks(need.class()), 20);
         assert_eq!(rt; slab.pages_left(), 0);
     }
     Ok(())

@@ -142,7 +142,7 @@ impl Door {
         if self.spare.is_some() {
             return self.let_in(stream, peer);
         }
-        if let Some(mut connection) = self.counted(stream, peer) {
+        if let Some(mut connection) = self.count_connection(stream, peer) {
             connection.note(Parting::NoDescriptor);
         }
         self.spare = self.listener.try_clone().ok();
@@ -151,7 +151,7 @@ impl Door {
 
     /// Lets a connection in, unless there are as many as there may be: it is then told so, and closed.
     fn let_in(&mut self, stream: std::net::TcpStream, peer: SocketAddr) -> Came {
-        let Some(mut connection) = self.counted(stream, peer) else {
+        let Some(mut connection) = self.count_connection(stream, peer) else {
             return Came::Nothing;
         };
         if connection.is_one_too_many() {
@@ -180,7 +180,11 @@ impl Door {
     }
 
     /// Counts a connection, of which no call waits.
-    fn counted(&mut self, stream: std::net::TcpStream, peer: SocketAddr) -> Option<Connection> {
+    fn count_connection(
+        &mut self,
+        stream: std::net::TcpStream,
+        peer: SocketAddr,
+    ) -> Option<Connection> {
         stream.set_nonblocking(true).ok()?;
         let crowd = self.crowd.clone().ok()?;
         let stream = TcpStream::from_std(stream);

@@ -105,7 +105,7 @@ impl Crowd {
     }
 
     /// Says how many were accepted.
-    pub fn accepted(&self) -> u64 {
+    pub fn accepted_count(&self) -> u64 {
         self.accepted.load(Ordering::SeqCst)
     }
 

@@ -103,7 +103,7 @@ impl Lines {
         }
         let turn = self.dealt.fetch_add(1, Ordering::SeqCst);
         if let Some(slot) = self.slot(turn) {
-            let dropped = self.dropped();
+            let dropped = self.take_dropped();
             slot.fill(Waiting { line, dropped });
         }
     }
@@ -121,7 +121,7 @@ impl Lines {
     }
 
     /// Gives how many lines were dropped of which nobody has told, and counts anew.
-    pub fn dropped(&self) -> u64 {
+    pub fn take_dropped(&self) -> u64 {
         if self.dropped.load(Ordering::SeqCst) == 0 {
             return 0;
         }

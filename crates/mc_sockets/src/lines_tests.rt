@@ -31,6 +31,6 @@ fn lines_without_a_place_are_counted(rt: HostRuntime) -> Result<(), Fail> {
     for (turn, expected) in rows {
         assert!(rt; told(lines.take(turn)) == expected);
     }
-    assert_eq!(rt; (lines.dropped(), lines.dropped()), (1, 0));
+    assert_eq!(rt; (lines.take_dropped(), lines.take_dropped()), (1, 0));
     Ok(())
 }

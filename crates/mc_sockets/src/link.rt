@@ -48,8 +48,8 @@ impl Link for SocketLink {
         self.gathering.faults()
     }
 
-    fn reserved(&self) -> usize {
-        self.gathering.reserved()
+    fn capacity(&self) -> usize {
+        self.gathering.capacity()
     }
 }
 

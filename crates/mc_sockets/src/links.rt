@@ -197,7 +197,7 @@ impl<'a, R: Wait + Clock> SocketLinks<'a, R> {
         let _ = connection.stream.set_nodelay(true);
         let readiness = Rc::new(self.alloc, Cell::new(Readiness::NEW)).ok()?;
         let counts = self.counts.clone().ok()?;
-        let Common { yard, moved } = self.shared()?;
+        let Common { yard, moved } = self.shared_parts()?;
         let at = self.settle(&yard, readiness.clone().ok()?)?;
         let all = Interest::READABLE | Interest::WRITABLE | Interest::PRIORITY;
         let token = Token(at.saturating_add(1));
@@ -238,7 +238,7 @@ impl<'a, R: Wait + Clock> SocketLinks<'a, R> {
     }
 
     /// Gives what the links share, which is made for the first one.
-    fn shared(&mut self) -> Option<Common> {
+    fn shared_parts(&mut self) -> Option<Common> {
         if let Some(common) = &self.common {
             return common.another();
         }

@@ -71,7 +71,7 @@ impl Log {
 
     /// Gives how many lines were dropped of which nobody has told, and counts anew.
     pub fn take_dropped(&self) -> u64 {
-        self.lines.dropped()
+        self.lines.take_dropped()
     }
 
     /// Notes a step that was refused as no chunk is left, and has that told if it is the first in a

@@ -95,7 +95,7 @@ impl Sip {
     }
 
     /// Lends the bytes that it took.
-    pub fn taken(&self) -> &[u8] {
+    pub fn taken_bytes(&self) -> &[u8] {
         self.taken.as_slice()
     }
 

@@ -23,10 +23,10 @@ fn sips(rt: HostRuntime) -> Result<(), Fail> {
     for (bytes, len) in [("abc", 2), ("d", 1), ("", 0)] {
         assert!(rt; writer.write(bytes.as_bytes())? == len);
     }
-    assert!(rt; writer.taken() == b"abd".as_slice());
+    assert!(rt; writer.taken_bytes() == b"abd".as_slice());
     let mut writer = Sip::failing(rt.alloc(), 1, 1, ErrorKind::Other)?;
     assert!(rt; writer.write(b"abc")? == 1);
     assert!(rt; writer.write(b"bc").is_err());
-    assert!(rt; writer.taken() == b"a".as_slice());
+    assert!(rt; writer.taken_bytes() == b"a".as_slice());
     Ok(())
 }

@@ -6,7 +6,7 @@ use crate::worker::Worker;
 use mc_command::{Answer, Bytes, KeyStep, Reply, StepFault, Steps, Verb};
 use mc_guests::{Outcome, Tally};
 use mc_hop::Fnv;
-use mc_rows::{Ask, filled, step_of};
+use mc_rows::{Ask, filled_block, step_of};
 use mc_shared::{NoGate, Shared};
 use mc_shelf::{Settings, Store};
 use mc_time::{Fixed, Moment};
@@ -144,7 +144,7 @@ fn a_tally_hears_how_each_step_came_out(rt: HostRuntime) -> Result<(), Fail> {
 
 /// What is heard of a set of a block of so many bytes, where `a` has the one page.
 fn heard_of_set(alloc: Global, length: usize, way: Way) -> Result<Hearing, AllocError> {
-    let (large, block) = (filled(alloc, 600000)?, filled(alloc, length)?);
+    let (large, block) = (filled_block(alloc, 600000)?, filled_block(alloc, length)?);
     let mut store = Store::new(alloc, SETTINGS, Fnv)?;
     let set = Ask::Store(Verb::Set, 0, large.as_slice());
     take(&mut store, alloc, b"a", set, Way::Answered);
@@ -169,7 +169,7 @@ fn a_tally_hears_of_sets_that_store_nothing(rt: HostRuntime) -> Result<(), Fail>
 /// What is heard of a set if the unique numbers are spent.
 fn heard_of_none(alloc: Global, way: Way) -> Result<Hearing, AllocError> {
     let heard = Heard::nothing();
-    let store = Store::starting(alloc, SETTINGS, Fnv, 18446744073709551615)?;
+    let store = Store::with_next_number(alloc, SETTINGS, Fnv, 18446744073709551615)?;
     let mut counting = Counting::new(store, &heard);
     take(
         &mut counting,

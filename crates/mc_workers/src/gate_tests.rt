@@ -131,8 +131,8 @@ fn both_get<R: Threads + Wait + Sync>(
     shared.join(&mut me, other);
     Met {
         gave_up: gave_up.load(Ordering::SeqCst) == 1,
-        first: first.told(),
-        second: second.told(),
+        first: first.right_and_wrong(),
+        second: second.right_and_wrong(),
     }
 }
 

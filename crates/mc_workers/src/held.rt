@@ -33,7 +33,7 @@ impl Seen {
     }
 
     /// Tells how many bytes were right and how many were wrong.
-    pub fn told(&self) -> (u64, u64) {
+    pub fn right_and_wrong(&self) -> (u64, u64) {
         (self.right(), self.wrong.load(Ordering::SeqCst))
     }
 }
@@ -72,7 +72,7 @@ impl<'a> Model for HeldLink<'a> {
 
 impl<'a> HeldLink<'a> {
     ghost use Rattle.std.specs.Prelude.{◌≡◌, ◌∷◌, [], Ok};
-    ghost use Rattle.mc_guests.specs.Links.{Gives, Takes};
+    ghost use Rattle.mc_guests.specs.Links.{Gives, IsWrite};
 
     /// Makes a link that gives this input, and of which this output is expected.
     pub fn new(alloc: Global, input: &'a [u8], expected: &'a [u8], seen: &'a Seen) -> HeldLink<'a> {
@@ -128,7 +128,7 @@ impl<'a> HeldLink<'a> {
 
     /// Takes the first byte, if there is one.
     fn take(&mut self, bytes: &[u8]) -> Result<Took, LinkFault>
-        ensures { Takes self.old bytes.now result self.new }
+        ensures { IsWrite self.old bytes.now result self.new }
     {
         self.was_read = false;
         if bytes.is_empty() {

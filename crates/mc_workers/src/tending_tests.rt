@@ -3,7 +3,7 @@
 use crate::tending::Tending;
 use mc_command::{Steps, Verb};
 use mc_hop::Fnv;
-use mc_rows::{Ask, filled, step_of, told_of};
+use mc_rows::{Ask, filled_block, step_of, told_of};
 use mc_shared::{NoGate, Shared};
 use mc_shelf::Settings;
 use mc_time::Moment;
@@ -58,7 +58,7 @@ fn told_after<R: Wait>(
     first: u32,
     tidyings: u32,
 ) -> Result<&'static str, Fail> {
-    let large = filled(alloc, 600000)?;
+    let large = filled_block(alloc, 600000)?;
     let set_b = step_of(b"b", Ask::Store(Verb::Set, 10, large.as_slice()));
     let set_c = step_of(b"c", Ask::Store(Verb::Set, 0, large.as_slice()));
     let (shared, caller) = Shared::new(alloc, settings, Fnv)?;

@@ -32,7 +32,7 @@ fn served<R: Wait>(
     let (shared, caller) = Shared::over(alloc, Store::new(alloc, SETTINGS, Fnv)?)?;
     let mut links = HeldLinks::one(HeldLink::new(alloc, input, expected, &seen));
     let (_caller, end) = work(rt, alloc, &shared, caller, &mut links, &NoGate, &Fixed(now));
-    Ok((end, seen.told()))
+    Ok((end, seen.right_and_wrong()))
 }
 
 /// One session that was served.
@@ -152,8 +152,8 @@ fn served_with_fault<R: Wait>(rt: &R, alloc: Global, call: u64) -> Result<Faulty
     let found = found_by(&shared.step(rt, alloc, &mut caller, &read, now));
     Ok(Faulty {
         end,
-        first: seen[0].told(),
-        second: seen[1].told(),
+        first: seen[0].right_and_wrong(),
+        second: seen[1].right_and_wrong(),
         found,
     })
 }

@@ -170,7 +170,7 @@ fn make_room<L: Link + Drop, Q: Links<L>>(
 fn end_hoarders<L: Link + Drop, Q: Links<L>>(guests: &mut Guests<L>, links: &mut Q, now: Moment)
     ensures { guests.new ≡ guests.old }
 {
-    for _one in 0..guests.waiting().min(ENDED) {
+    for _one in 0..guests.waiting_guests().min(ENDED) {
         match guests.hoarder(now) {
             Some(number) => links.end(number),
             None => return,

@@ -1,7 +1,7 @@
 -- A session's connection follows from its own events and from what its steps are answered.
 use Rattle.mc_world.proofs.Words.{◌≡◌, inl, inr, ℕ, ◌==◌, Bool, true, false, List, [], ◌∷◌, ◌++◌, length, Option, Some, None, nat_lt, refl, sym, ap, ◌∙◌, subst, if◌then◌else◌, slice_get, MatchBool}
 use Rattle.mc_world.proofs.Words.{MatchOption, option_map, eqb-true, eqb-false, steps, Command, Plain, KeyStep, ProtocolUnit, Request, Fault, LongLine, reply_text, plain_text, fault_text, long_text}
-use Rattle.mc_world.proofs.Words.{spent_text, Answers, AnswersStep, Connection, IsNext, HasNoNext, fresh, with_piece, after_turn, ended, PlainWorld, in_plain, numbered, if_open, open_connection}
+use Rattle.mc_world.proofs.Words.{spent_text, Answers, AnswersStep, Connection, IsNextTurn, HasNoNext, fresh, with_piece, after_turn, ended, PlainWorld, in_plain, numbered, if_open, open_connection}
 use Rattle.mc_world.proofs.Words.{at_connection, Turns, Happens, Runs, named, step_of, Answer, Replied, NumbersSpent, answer_in, answers_in, AnswersNext, AnswersOf, RunsAnswering, HasAnswers}
 use Rattle.mc_world.proofs.Words.{is_number, events_of, Leaves, Event, Open, Piece, Turn, Close}
 use Rattle.mc_world.proofs.ConnectionLemmas.{next_in, next_is, none_is, no_next}
@@ -68,7 +68,7 @@ module _ (hash : List ℕ → ℕ) (shelves n : ℕ) (old new : PlainWorld) (c :
   left same none = (c, same ∙ here, ap (λ (l : List Answer). (c, l ++ others)) none)
 
   -- the answers are those of the one next turn
-  next_answers : (unit : ProtocolUnit) (at : ℕ) → IsNext c unit at → AnswersNext old c some → some ≡ answers_in old (step_of unit at)
+  next_answers : (unit : ProtocolUnit) (at : ℕ) → IsNextTurn c unit at → AnswersNext old c some → some ≡ answers_in old (step_of unit at)
   next_answers unit at next (inl (none, is)) = absurd (no_next c unit at next none)
   next_answers unit at next (inr (other, to, after, is)) = let one : ProtocolUnit × ℕ = (other, to) in let it : ProtocolUnit × ℕ = (unit, at) in
       let both : Some one ≡ Some it = sym (next_is c other to after) ∙ next_is c unit at next in let same : one ≡ it = cc in

@@ -4,7 +4,7 @@ use Rattle.mc_world.proofs.Words.{Unread, same_spelling, same_units, some_units,
 use Rattle.mc_world.proofs.Words.{false, not, List, [], ◌∷◌, ◌++◌, length, drop, Option, Some, None, refl, sym, ap, ◌∙◌, subst, arith, length-append, length-drop, append_assoc, if◌then◌else◌}
 use Rattle.mc_world.proofs.Words.{slice_get, MatchBool, ◌-◌, slice_set, eqb-true, eqb-false, drop-append-le, append-nil, append_cancel_left, slice_get_past, Relations, ProtocolUnit, Request, Fault}
 use Rattle.mc_world.proofs.Words.{LongLine, Spells, AreUnits, is_last, passed_after, settled, pushed, SessionState, to_read, HasUnits, turn_count, turns_from, turns, closed, fed, TakesTurn, NoTurnDue}
-use Rattle.mc_world.proofs.Words.{StandAll, StandsAs, PlainWorld, WorldState, numbered, if_open, put, changed, open_connection, open_session, Connection, IsNext, HasNoNext, Follows, IsAmong, at_start}
+use Rattle.mc_world.proofs.Words.{StandAll, WorldStandsAs, PlainWorld, WorldState, numbered, if_open, put, changed, open_connection, open_session, Connection, IsNextTurn, HasNoNext, Follows, IsAmong, at_start}
 use Rattle.mc_world.proofs.Words.{inside, IsRest, shut, Stands, with_piece, after_turn, ended}
 
 -- the grammar's laws, of which those of a world follow
@@ -122,7 +122,7 @@ rest_idle c s rest none =
 
 -- the unit that stands first in what is left of a connection has its next turn, where one of its turns is left
 pub next_of : (c : Connection) (s : SessionState) → IsRest c s → (unit : ProtocolUnit) (front more : List ℕ)
-    → drop s.unread.passed s.unread.bytes ≡ front ++ more → Spells s.unread.greatest unit front → s.taken < turn_count unit → IsNext c unit s.taken
+    → drop s.unread.passed s.unread.bytes ≡ front ++ more → Spells s.unread.greatest unit front → s.taken < turn_count unit → IsNextTurn c unit s.taken
 next_of c s rest unit front more parts spelled less = let us = first_units s.unread.greatest s.unread.passed s.unread.bytes unit front more parts spelled in
     let are = are_joined c.greatest c.passed c.stream rest.read (unit ∷ us.0) s.unread rest.follows us.1 in
     record { units = rest.read ++ unit ∷ us.0; are = are; next = turn_behind rest.read us.0 unit s.taken c.taken rest.taken less }
@@ -139,14 +139,14 @@ some_left {u = u} {t = t} unit front more (inside other begin end e spells less)
     subst (λ (v : ProtocolUnit). t < turn_count v) (the_grammar.apart u.greatest other unit begin front end more spells spelled (sym e ∙ parts)).0 less
 
 -- the turn that is next in a session is next in its connection
-first_next : (c : Connection) (s : SessionState) → IsRest c s → (unit : ProtocolUnit) (units : List ProtocolUnit) → HasUnits s.unread (unit ∷ units) → IsNext c unit s.taken
+first_next : (c : Connection) (s : SessionState) → IsRest c s → (unit : ProtocolUnit) (units : List ProtocolUnit) → HasUnits s.unread (unit ∷ units) → IsNextTurn c unit s.taken
 first_next c s rest unit units h = next_of c s rest unit h.0 h.1 h.2 h.3 (some_left unit h.0 h.1 rest.among h.2 h.3)
 
-due_by : (c : Connection) (s : SessionState) → IsRest c s → (units : List ProtocolUnit) → HasUnits s.unread units → (NoTurnDue s → ⊥) → (unit : ProtocolUnit) × (at : ℕ) × IsNext c unit at
+due_by : (c : Connection) (s : SessionState) → IsRest c s → (units : List ProtocolUnit) → HasUnits s.unread units → (NoTurnDue s → ⊥) → (unit : ProtocolUnit) × (at : ℕ) × IsNextTurn c unit at
 due_by c s rest [] h due = absurd (due h)
 due_by c s rest (unit ∷ units) h due = (unit, s.taken, first_next c s rest unit units h)
 
-pub rest_due : (c : Connection) (s : SessionState) → IsRest c s → (NoTurnDue s → ⊥) → (unit : ProtocolUnit) × (at : ℕ) × IsNext c unit at
+pub rest_due : (c : Connection) (s : SessionState) → IsRest c s → (NoTurnDue s → ⊥) → (unit : ProtocolUnit) × (at : ℕ) × IsNextTurn c unit at
 rest_due c s rest due = let units = the_grammar.some s.unread.greatest s.unread.passed s.unread.bytes in due_by c s rest units.0 units.1 due
 
 -- the next turn of a connection, or that it has none, is one thing
@@ -157,13 +157,13 @@ units_one : (c : Connection) (units : List ProtocolUnit) → AreUnits c.greatest
 unfolding next_in
 units_one c units are = let some = the_grammar.some c.greatest c.passed c.stream in ap (λ us. slice_get (turns us) c.taken) (the_grammar.same c.greatest c.passed c.stream some.0 units some.1 are)
 
-pub next_is : (c : Connection) (unit : ProtocolUnit) (at : ℕ) → IsNext c unit at → next_in c ≡ Some (unit, at)
+pub next_is : (c : Connection) (unit : ProtocolUnit) (at : ℕ) → IsNextTurn c unit at → next_in c ≡ Some (unit, at)
 next_is c unit at next = units_one c next.units next.are ∙ next.next
 
 pub none_is : (c : Connection) → HasNoNext c → next_in c ≡ None
 none_is c none = units_one c none.units none.are ∙ none.none
 
-pub no_next : (c : Connection) (unit : ProtocolUnit) (at : ℕ) → IsNext c unit at → HasNoNext c → ⊥
+pub no_next : (c : Connection) (unit : ProtocolUnit) (at : ℕ) → IsNextTurn c unit at → HasNoNext c → ⊥
 no_next c unit at next none = let one : Option (ProtocolUnit × ℕ) = Some (unit, at) in let both : one ≡ None = sym (next_is c unit at next) ∙ none_is c none in cc
 
 idle_by : (c : Connection) (s : SessionState) → IsRest c s → (units : List ProtocolUnit) → HasUnits s.unread units → HasNoNext c → NoTurnDue s
@@ -176,7 +176,7 @@ due_both c s stands is = let rest : (s.is_open ≡ true) × IsRest c s = subst (
 
 -- A turn of an open session is the next turn of its connection's stream.
 module _ {S : Type 0} (relations : Relations S) (now : ℕ) (c : Connection) (s new : SessionState) (before after : S) (rest : IsRest c s) (takes : TakesTurn relations now s new before after) where
-  pub is_next : IsNext c takes.unit s.taken
+  pub is_next : IsNextTurn c takes.unit s.taken
   is_next = next_of c s rest takes.unit takes.front takes.rest takes.parts takes.spelled takes.due
 
   abbrev told : List ℕ
@@ -240,7 +240,7 @@ all_one (c ∷ cs) (s ∷ ss) [] x y = absurd y
 all_one (c ∷ cs) (s ∷ ss) (r ∷ rs) x y = ap (λ (z : SessionState). z ∷ ss) (stand_one_at c s r c.is_open x.0 y.0) ∙ ap (λ l. r ∷ l) (all_one cs ss rs x.1 y.1)
 
 -- a plain world stands as one state only
-pub stands_one : {K : Type 0} (p : PlainWorld) (a b : WorldState K) → StandsAs p a → StandsAs p b → b.settings ≡ a.settings → b.hasher ≡ a.hasher → b ≡ a
+pub stands_one : {K : Type 0} (p : PlainWorld) (a b : WorldState K) → WorldStandsAs p a → WorldStandsAs p b → b.settings ≡ a.settings → b.hasher ≡ a.hasher → b ≡ a
 stands_one p a b x y settings hasher = let same = all_one p.connections b.sessions a.sessions y.sessions x.sessions in
     λ i. record { settings = settings i; hasher = hasher i; state = (y.state ∙ sym x.state) i; moment = (y.now ∙ sym x.now) i; sessions = same i }
 

@@ -2,8 +2,8 @@
 -- taken out or cut, or change places. First, how one element of a list is changed, by its number.
 use Rattle.mc_world.proofs.Words.{◌≡◌, ℕ, zero, suc, ◌-◌, ◌≤◌, ◌==◌, Bool, true, false, List, [], ◌∷◌, ◌++◌, length, Option, Some, None, slice_get, slice_set, option_map, refl, sym, ap, ◌∙◌, subst}
 use Rattle.mc_world.proofs.Words.{arith, if◌then◌else◌, eqb-true, eqb-false, length-set, numbered, if_open, put, changed, ◌⊎◌, inl, inr, append_assoc, MatchOption, nat_lt, length-append, Plain}
-use Rattle.mc_world.proofs.Words.{ProtocolUnit, Request, Answers, Connection, IsNext, HasNoNext, fresh, with_piece, after_turn, ended, PlainWorld, in_plain, open_connection, at_connection, NextTurn}
-use Rattle.mc_world.proofs.Words.{Turns, Happens, named, Runs, with_end, Decides, TakesMemory, GivesUp, in_front, with_front, Event, Open, Piece, Turn, Clock, Grow, Purge, Close, IfSome, ◌↔◌, KeyStep}
+use Rattle.mc_world.proofs.Words.{ProtocolUnit, Request, Answers, Connection, IsNextTurn, HasNoNext, fresh, with_piece, after_turn, ended, PlainWorld, in_plain, open_connection, at_connection, NextTurn}
+use Rattle.mc_world.proofs.Words.{Turns, Happens, named, Runs, with_end, EventDecides, TakesMemory, GivesUp, in_front, with_front, Event, Open, Piece, Turn, Clock, Grow, Purge, Close, IfSome, ◌↔◌, KeyStep}
 use Rattle.mc_world.proofs.Words.{Fault, LongLine, plain_text, AnswersStep, step_of, NextHasNoStep, DecidesNoStep, IsApart}
 use Rattle.mc_world.proofs.ChainLemmas as chain
 
@@ -165,8 +165,8 @@ abbrev pub KeepsFront : (Connection → Connection) → Type 0
 KeepsFront f = (bytes : List ℕ) (c : Connection) → f (in_front bytes c) ≡ in_front bytes (f c)
 
 -- a connection has the turns of one that is alike
-pub next_alike : (c d : Connection) (unit : ProtocolUnit) (at : ℕ) → silent c ≡ silent d → IsNext c unit at → IsNext d unit at
-next_alike c d unit at alike next = let there : IsNext (silent d) unit at = subst (λ (e : Connection). IsNext e unit at) alike (record { units = next.units; are = next.are; next = next.next }) in
+pub next_alike : (c d : Connection) (unit : ProtocolUnit) (at : ℕ) → silent c ≡ silent d → IsNextTurn c unit at → IsNextTurn d unit at
+next_alike c d unit at alike next = let there : IsNextTurn (silent d) unit at = subst (λ (e : Connection). IsNextTurn e unit at) alike (record { units = next.units; are = next.are; next = next.next }) in
     record { units = there.units; are = there.are; next = there.next }
 
 no_next_alike : (c d : Connection) → silent c ≡ silent d → HasNoNext c → HasNoNext d
@@ -334,7 +334,7 @@ module _ (hash : List ℕ → ℕ) (shelves n : ℕ) (bytes : List ℕ) where
   found w k c is = alike_some (open_connection k (Fronted w).connections) (open_connection k w.connections) (front_alike n k bytes w.connections) c is
 
   -- and so does one that is given up
-  decides_fronted : (w : PlainWorld) (event : Event) (state : Plain) → Decides w event state → Decides (Fronted w) event state
+  decides_fronted : (w : PlainWorld) (event : Event) (state : Plain) → EventDecides w event state → EventDecides (Fronted w) event state
   decides_fronted w (Turn k) state (c, is, turn) = let (d, there, same) = found w k c is in let next = next_alike c d (Request turn.command) turn.at same turn.next in
       (d, there, record { command = turn.command; at = turn.at; step = turn.step; reply = turn.reply; next = next; is_step = turn.is_step; replied = turn.replied })
   decides_fronted w event state h = h

@@ -2,7 +2,7 @@
 -- session, in front of its output and of its connection's.
 use Rattle.mc_world.proofs.Words.{◌≡◌, ℕ, zero, suc, ◌≤◌, Bool, true, false, List, [], ◌∷◌, ◌++◌, length, take, Option, Some, None, refl, sym, ap, ◌∙◌, subst, arith, append_assoc, if◌then◌else◌}
 use Rattle.mc_world.proofs.Words.{option_map, take-append-drop, SessionState, sent, Writes, nothing, front, Connection, PlainWorld, WorldState, numbered, output_of, open_session, IsIdle, IsClosed}
-use Rattle.mc_world.proofs.Words.{StandAll, StandsAs, RunsIn, Told, with_written, in_front, with_front, in_world, with_sent, Event, Seat, ◌+◌, ◌<◌, length-append, ◌⊎◌, inl, inr, ◌^◌, Result, Ok, Err}
+use Rattle.mc_world.proofs.Words.{StandAll, WorldStandsAs, RunsIn, Told, with_written, in_front, with_front, in_world, with_sent, Event, Seat, ◌+◌, ◌<◌, length-append, ◌⊎◌, inl, inr, ◌^◌, Result, Ok, Err}
 use Rattle.mc_world.proofs.Words.{OnOk, mod-eq_of_lt, lt-ltb, IsAtEnd, Appends-nil, Appends-trans, Consumes-trans, Settings, Exchange, Wrote, Exchanges, HasEnded, Refusal, no_turn, no_piece}
 use Rattle.mc_world.proofs.Words.{FallsShort, ServeFault, fresh, ended, Runs, at_connection, Happens, RunsUntil, named, with_end, GivesUp, next_session, waiting, most_waiting, most_turns, shelf_of}
 use Rattle.mc_world.proofs.Words.{turn_events, IsService, starts, turn, piece, write, scene, IsRefusal, refused_turn, refused_piece, UntilRefused, Served, ServedAll, seat, one_more, Begins, HasServed}
@@ -23,7 +23,7 @@ abbrev with_sessions : {K : Type 0} → WorldState K → List SessionState → W
 with_sessions w sessions = record w { sessions = sessions }
 
 -- they stand so too
-pub put_on : {K : Type 0} (n : ℕ) (bytes : List ℕ) (p : PlainWorld) (w : WorldState K) → StandsAs p w → StandsAs (with_front n bytes p) (with_written n bytes w)
+pub put_on : {K : Type 0} (n : ℕ) (bytes : List ℕ) (p : PlainWorld) (w : WorldState K) → WorldStandsAs p w → WorldStandsAs (with_front n bytes p) (with_written n bytes w)
 put_on n bytes p w stands = record { greatest = stands.greatest; state = stands.state; now = stands.now; sessions = stand_out (λ o. bytes ++ o) p.connections w.sessions n stands.sessions }
 
 -- what stands with bytes in front is something that stands without, with the bytes in front
@@ -42,7 +42,7 @@ parts bytes (suc zero) (c ∷ cs) (s ∷ ss) all = let part = part_by bytes c s 
     (d ∷ cs, (part.0, all.1), λ i. record c { out = part.1 i } ∷ cs)
 parts bytes (suc (suc n)) (c ∷ cs) (s ∷ ss) all = let (ds, stand, is) = parts bytes (suc n) cs ss all.1 in (c ∷ ds, (all.0, stand), ap (λ (l : List Connection). c ∷ l) is)
 
-pub fronts : {K : Type 0} (n : ℕ) (bytes : List ℕ) (p : PlainWorld) (w : WorldState K) → StandsAs p (with_written n bytes w) → (q : PlainWorld) × (with_front n bytes q ≡ p) × StandsAs q w
+pub fronts : {K : Type 0} (n : ℕ) (bytes : List ℕ) (p : PlainWorld) (w : WorldState K) → WorldStandsAs p (with_written n bytes w) → (q : PlainWorld) × (with_front n bytes q ≡ p) × WorldStandsAs q w
 fronts n bytes p w stands = let (ds, stand, is) = parts bytes n p.connections w.sessions (subst (StandAll p.connections) (changed_is n w.sessions (before bytes)) stands.sessions) in
     (with_connections p ds, ap (with_connections p) (changed_is n ds (in_front bytes) ∙ is), record { greatest = stands.greatest; state = stands.state; now = stands.now; sessions = stand })
 
@@ -206,7 +206,7 @@ given_ends false n mid last event names is = ends_by n mid last (named event) na
 module _ {K : Type 0} (hash_of : K → List ℕ → ℕ) where
   -- what is told of events and of one that is refused behind them
   abbrev TellsUntil : WorldState K → List Event → Bool → Event → WorldState K → Type 0
-  TellsUntil old events decided event new = (plain : PlainWorld) → StandsAs plain old → RunsUntil hash_of old plain events decided event new
+  TellsUntil old events decided event new = (plain : PlainWorld) → WorldStandsAs plain old → RunsUntil hash_of old plain events decided event new
 
   -- so it is behind others, with bytes in front, and with a close behind it that does nothing
   module _ (before : List Event) (decided : Bool) (event : Event) where
@@ -228,7 +228,7 @@ module _ {K : Type 0} (hash_of : K → List ℕ → ℕ) where
       → TellsUntil first events decided event old → TellsUntil first events decided event new
   until_closed first {new = new} events decided event n names told each plain stands = let (mid, runs, (last, gives, there, takes)) = each plain stands in
       let (after, (closed, is, same), ends) = told.told last there in
-      (mid, runs, (last, gives, subst (λ (v : PlainWorld). StandsAs v new) (same ∙ is ∙ given_ends decided n mid last event names gives) ends, takes))
+      (mid, runs, (last, gives, subst (λ (v : PlainWorld). WorldStandsAs v new) (same ∙ is ∙ given_ends decided n mid last event names gives) ends, takes))
 
   -- what memory was refused for, as an event of the session
   module _ (may_give : ℕ → Type 0) (n : ℕ) (first : WorldState K) where

@@ -2,7 +2,7 @@
 use Rattle.mc_world.proofs.Words.{◌≡◌, inl, inr, ℕ, List, Bool, true, false, Option, Some, None, Result, Ok, Err, IfErr, OnOk, OnErr, IsTrue, IsFalse, MatchOption, slice_get, refl, ap, ◌-◌, get_or}
 use Rattle.mc_world.proofs.Words.{slice_set, sym, ◌∙◌, arith, add-one, if◌then◌else◌, set-get_or, get_or_from_slice_get, Command, steps, plain, Spent, KeyStep, Relations, ProtocolUnit, Request, Fault}
 use Rattle.mc_world.proofs.Words.{LongLine, plain_text, SessionState, Answers, AnswersStep, TakesTurn, closed, DecidesStep, TurnIsDue, FindsNoTurn, FindsClosed, SessionTurn, TurnFault, Store}
-use Rattle.mc_world.proofs.Words.{HoldSame, TookStep, Did, Idle, Closed, WorldState, open_session, in_plain, numbered, if_open, put, changed, TurnBy, TurnOf, DecidedOf, IsDue, Done, Undone}
+use Rattle.mc_world.proofs.Words.{HoldSame, TookStep, Did, Idle, Closed, WorldState, open_session, in_plain, numbered, if_open, put, changed, TurnBy, TurnOf, DecidedOf, SessionIsDue, Done, Undone}
 use Rattle.mc_world.proofs.Words.{at_session, IsOpenAt, TurnGiven, Turn, IsIdle}
 
 -- a store's steps
@@ -55,7 +55,7 @@ module _ {K : Type 0} (n now : ℕ) (old new : List SessionState) (b a : Store K
   decided_kept true undecided decides = (decided_seen n now old b a (decides refl)).0
   decided_kept false undecided decides = let same = undecided refl in (same.settings, same.hasher)
 
-  pub result_undone : (r : Result SessionTurn TurnFault) → OnErr r (new ≡ at_session old n closed) → OnErr r (IsDue n old)
+  pub result_undone : (r : Result SessionTurn TurnFault) → OnErr r (new ≡ at_session old n closed) → OnErr r (SessionIsDue n old)
       → IfErr r (λ fault. IsFalse fault.decided → HoldSame b a) → IfErr r (λ fault. IsTrue fault.decided → DecidedOf in_store n now old b a)
       → IfErr r (λ fault. Undone fault.decided (with_store old b) (Turn n) (with_store new a))
   result_undone (Ok t) shut due undecided decides = tt
@@ -89,7 +89,7 @@ module _ {S : Type 0} (relations : Relations S) (n now : ℕ) (old : List Sessio
   is_open : IsFalse x.is_open → ⊥
   is_open shut = let e : true ≡ false = sym opens ∙ shut in cc
 
-  is_due : TakesTurn relations now x y before after → IsDue n old
+  is_due : TakesTurn relations now x y before after → SessionIsDue n old
   is_due turn = (x, found, λ none. none.none turn.unit turn.front turn.rest turn.parts turn.spelled)
 
   turn_of : (t : SessionTurn) → (t ≡ Did → TakesTurn relations now x y before after) → (t ≡ Idle → FindsNoTurn x y before after) → (t ≡ Closed → FindsClosed x y before after)

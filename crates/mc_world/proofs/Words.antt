@@ -31,16 +31,16 @@ pub use Rattle.mc_shelf.specs.Stores.{StoreState, HoldSame, TookStep}
 pub use Rattle.mc_shelf.specs.declared.settings.Settings.{Settings}
 pub use Rattle.mc_shelf.specs.declared.store.Store.{Store}
 pub use Rattle.mc_world.specs.Chains.{Chain}
-pub use Rattle.mc_world.specs.Connections.{Connection, IsNext, HasNoNext, Follows, IsAmong, at_start, inside, IsRest, shut, Stands, with_piece, after_turn, ended, fresh}
+pub use Rattle.mc_world.specs.Connections.{Connection, IsNextTurn, HasNoNext, Follows, IsAmong, at_start, inside, IsRest, shut, Stands, with_piece, after_turn, ended, fresh}
 pub use Rattle.mc_world.specs.Laws.{Grammar, step_of, NextHasNoStep, DecidesNoStep, IsApart, Answer, Replied, NumbersSpent, answer_in, answers_in, AnswersNext, AnswersOf, RunsAnswering, HasAnswers}
 pub use Rattle.mc_world.specs.Laws.{is_number, events_of, Leaves}
 pub use Rattle.mc_world.specs.Refusals.{EventOutcome, was_done, was_refused, refusals, Goes, RunsThrough, ToldThrough}
 pub use Rattle.mc_world.specs.Rounds.{in_world, with_sent, seat, one_more, Begins, HasServed}
 pub use Rattle.mc_world.specs.Serving.{in_front, with_front, turn_events, with_written, next_session, waiting, most_waiting, most_turns, shelf_of, IsService, starts, turn, piece, write, scene}
 pub use Rattle.mc_world.specs.Serving.{IsRefusal, refused_turn, refused_piece, UntilRefused, Served, ServedAll, Came}
-pub use Rattle.mc_world.specs.Sessions.{at_session, TurnBy, Done, sessions_ended, DecidedIn, Takes, Undone, TurnOf, DecidedOf, IsDue, IsOpenAt, TurnGiven, state_of}
-pub use Rattle.mc_world.specs.Worlds.{StandAll, StandsAs, PlainWorld, WorldState, numbered, if_open, put, changed, open_connection, open_session, in_plain, at_connection, NextTurn, Turns, Happens}
-pub use Rattle.mc_world.specs.Worlds.{named, Runs, with_end, Decides, TakesMemory, GivesUp, RunsIn, Told, Refuses, RunsUntil, ToldRefused, ToldUntil, CanStand, output_of, IsIdle, IsClosed}
+pub use Rattle.mc_world.specs.Sessions.{at_session, TurnBy, Done, sessions_ended, DecidedIn, EventTakesMemory, Undone, TurnOf, DecidedOf, SessionIsDue, IsOpenAt, TurnGiven, state_of}
+pub use Rattle.mc_world.specs.Worlds.{StandAll, WorldStandsAs, PlainWorld, WorldState, numbered, if_open, put, changed, open_connection, open_session, in_plain, at_connection, NextTurn, Turns, Happens}
+pub use Rattle.mc_world.specs.Worlds.{named, Runs, with_end, EventDecides, TakesMemory, GivesUp, RunsIn, Told, Refuses, RunsUntil, ToldRefused, ToldUntil, CanStand, output_of, IsIdle, IsClosed}
 pub use Rattle.mc_world.specs.declared.event.Event.{Event}
 pub use Rattle.mc_world.specs.declared.event.Event.TheVariants.{Open, Piece, Turn, Clock, Grow, Purge, Close}
 pub use Rattle.mc_world.specs.declared.event.Refused.{Refused}

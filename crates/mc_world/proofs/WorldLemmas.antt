@@ -1,18 +1,18 @@
 -- What is told of some events and then of others, and of one that is refused behind some; and that what one event makes
 -- of the sessions is what it makes of the connections.
 use Rattle.mc_world.proofs.Words.{◌≡◌, ℕ, zero, suc, ◌+◌, ◌<◌, Bool, List, [], ◌∷◌, ◌++◌, length, take, get_or, slice_get, Some, None, refl, sym, ap, ◌∙◌, subst, Result, Ok, Err, is_err, OnOk, IfErr}
-use Rattle.mc_world.proofs.Words.{true, false, arith, if◌then◌else◌, take_more, Settings, TurnFault, Plain, PlainWorld, WorldState, Happens, Runs, StandsAs, RunsIn, Told, named, Refuses, RunsUntil}
-use Rattle.mc_world.proofs.Words.{ToldRefused, ToldUntil, CanStand, with_end, Decides, GivesUp, Event, Turn, Open, Close, Refused, turn_events, EventOutcome, was_done, was_refused, refusals, Goes}
+use Rattle.mc_world.proofs.Words.{true, false, arith, if◌then◌else◌, take_more, Settings, TurnFault, Plain, PlainWorld, WorldState, Happens, Runs, WorldStandsAs, RunsIn, Told, named, Refuses, RunsUntil}
+use Rattle.mc_world.proofs.Words.{ToldRefused, ToldUntil, CanStand, with_end, EventDecides, GivesUp, Event, Turn, Open, Close, Refused, turn_events, EventOutcome, was_done, was_refused, refusals, Goes}
 use Rattle.mc_world.proofs.Words.{RunsThrough, ToldThrough, inl, inr, drop, Option, MatchOption, nat_lt, slice_get_within, steps, Request, SessionState, opened, fed, closed, sent, Connection, IsRest}
 use Rattle.mc_world.proofs.Words.{Stands, at_start, fresh, with_piece, after_turn, ended, in_plain, put, changed, numbered, open_connection, open_session, Turns, StandAll, TakesMemory, at_session}
-use Rattle.mc_world.proofs.Words.{TurnBy, Done, sessions_ended, DecidedIn, Takes, Undone, Piece}
+use Rattle.mc_world.proofs.Words.{TurnBy, Done, sessions_ended, DecidedIn, EventTakesMemory, Undone, Piece}
 use Rattle.mc_world.proofs.ChainLemmas as chain
 use Rattle.mc_world.proofs.ConnectionLemmas.{stands_one, rest_fed, rest_closed, rest_idle, rest_due, next_of, is_next, stands_after, AreOpen, Opens, stand_length, stand_open, stand_put, stand_more}
 use Rattle.mc_world.proofs.ConnectionLemmas.{stand_changed, stand_out, less}
 use Rattle.mc_world.proofs.EventLemmas.{change, number, grown}
 
 -- at another moment
-pub moment_stands : {K : Type 0} {first : PlainWorld} {old : WorldState K} (now : ℕ) → StandsAs first old → StandsAs (record first { now = now }) (record old { moment = now })
+pub moment_stands : {K : Type 0} {first : PlainWorld} {old : WorldState K} (now : ℕ) → WorldStandsAs first old → WorldStandsAs (record first { now = now }) (record old { moment = now })
 moment_stands now stands = record { greatest = stands.greatest; state = stands.state; now = refl; sessions = stands.sessions }
 
 -- with the hasher and settings that a world still has
@@ -31,7 +31,7 @@ refuses_only hash_of old new first (suc at) decided e event here until = let non
 module _ {K : Type 0} {hash_of : K → List ℕ → ℕ} where
   -- what is told, from its parts
   pub told_by : {old new : WorldState K} {events : List Event} → new.settings ≡ old.settings → new.hasher ≡ old.hasher
-      → ((first : PlainWorld) → StandsAs first old → (last : PlainWorld) × RunsIn hash_of old first events last × StandsAs last new) → Told hash_of old events new
+      → ((first : PlainWorld) → WorldStandsAs first old → (last : PlainWorld) × RunsIn hash_of old first events last × WorldStandsAs last new) → Told hash_of old events new
   told_by settings hasher told = record { settings = settings; hasher = hasher; told = told }
 
   -- no event
@@ -101,7 +101,7 @@ module _ {K : Type 0} {hash_of : K → List ℕ → ℕ} where
 
   through_on : {count refused : ℕ} {old mid new : WorldState K} {events : List Event} (event : Event) (outcome : EventOutcome) → count + refusals (outcome ∷ []) ≡ refused
       → ToldThrough hash_of count old events mid → new.settings ≡ mid.settings → new.hasher ≡ mid.hasher
-      → ((first : PlainWorld) → StandsAs first mid → (last : PlainWorld) × Goes (hash_of mid.hasher) mid.settings.shelves first event outcome last × StandsAs last new)
+      → ((first : PlainWorld) → WorldStandsAs first mid → (last : PlainWorld) × Goes (hash_of mid.hasher) mid.settings.shelves first event outcome last × WorldStandsAs last new)
       → ToldThrough hash_of refused old (events ++ event ∷ []) new
   through_on {old = old} {mid = mid} {events = events} event outcome is told settings hasher goes = record {
     settings = settings ∙ told.settings;
@@ -134,7 +134,7 @@ module _ {K : Type 0} {hash_of : K → List ℕ → ℕ} where
 
 -- A single event that is refused memory.
 -- where no step is decided nothing is done
-nothing_done : (decided : Bool) (first last : PlainWorld) (event : Event) → ((state : Plain) → Decides first event state → ⊥) → GivesUp decided first event last → last ≡ with_end (named event) first
+nothing_done : (decided : Bool) (first last : PlainWorld) (event : Event) → ((state : Plain) → EventDecides first event state → ⊥) → GivesUp decided first event last → last ≡ with_end (named event) first
 nothing_done true first last event none (state, decides, is) = absurd (none state decides)
 nothing_done false first last event none is = is
 
@@ -142,7 +142,7 @@ module _ {K : Type 0} (hash_of : K → List ℕ → ℕ) where
   pub open_refused : (refused : Refused) (old new : WorldState K) → CanStand old → ToldUntil hash_of refused old (Open ∷ []) new → new ≡ old
   open_refused refused old new can until = let (last, gives, ends, takes) = (until_only until).told can.plain can.stands in
       let same = nothing_done refused.decided can.plain last Open (λ state decides. decides) gives in
-      stands_one can.plain old new can.stands (subst (λ (p : PlainWorld). StandsAs p new) same ends) until.settings until.hasher
+      stands_one can.plain old new can.stands (subst (λ (p : PlainWorld). WorldStandsAs p new) same ends) until.settings until.hasher
 
   -- so a close is done
   pub closes : (n : ℕ) (r : Result (Unit {0}) Refused) (old new : WorldState K) → OnOk r (Told hash_of old (Close n ∷ []) new)
@@ -156,11 +156,11 @@ module _ {K : Type 0} (hash_of : K → List ℕ → ℕ) where
 abbrev plain_of : {K : Type 0} → WorldState K → List Connection → PlainWorld
 plain_of w cs = record { greatest = w.settings.greatest; state = w.state; now = w.moment; connections = cs }
 
-plain_stands : {K : Type 0} (w : WorldState K) (cs : List Connection) → StandAll cs w.sessions → StandsAs (plain_of w cs) w
+plain_stands : {K : Type 0} (w : WorldState K) (cs : List Connection) → StandAll cs w.sessions → WorldStandsAs (plain_of w cs) w
 plain_stands w cs all = record { greatest = refl; state = refl; now = refl; sessions = all }
 
 -- and there is no other
-is_plain : {K : Type 0} (first : PlainWorld) (w : WorldState K) → StandsAs first w → plain_of w first.connections ≡ first
+is_plain : {K : Type 0} (first : PlainWorld) (w : WorldState K) → WorldStandsAs first w → plain_of w first.connections ≡ first
 is_plain first w stands = λ i. record { greatest = stands.greatest i; state = stands.state i; now = stands.now i; connections = first.connections }
 
 -- a session that was just opened is what is left of a fresh connection
@@ -245,14 +245,14 @@ module _ {K : Type 0} (hash_of : K → List ℕ → ℕ) where
       (plain_of new ds, subst Ran (is_plain first old stands) (plain_of new ds, happens, refl), plain_stands new ds all))
 
   -- its step is decided, and it takes memory, where the connection's does
-  decides_in : (old : WorldState K) (cs : List Connection) (state : Plain) (event : Event) → StandAll cs old.sessions → DecidedIn old event state → Decides (plain_of old cs) event state
+  decides_in : (old : WorldState K) (cs : List Connection) (state : Plain) (event : Event) → StandAll cs old.sessions → DecidedIn old event state → EventDecides (plain_of old cs) event state
   decides_in old cs state (Turn n) all (s, is, decides) = let (c, there, rest) = open_both cs old.sessions n s all is in
       let less = slice_get_within (steps decides.command) s.taken decides.step decides.is_step in
       let next = next_of c s rest (Request decides.command) decides.front decides.rest decides.parts decides.spelled (omega (arith, less)) in
       (c, there, record { command = decides.command; at = s.taken; step = decides.step; reply = decides.reply; next = next; is_step = decides.is_step; replied = decides.took_it })
   decides_in old cs state event all h = h
 
-  takes_memory : (old : WorldState K) (cs : List Connection) (event : Event) → StandAll cs old.sessions → Takes old event → TakesMemory (plain_of old cs) event
+  takes_memory : (old : WorldState K) (cs : List Connection) (event : Event) → StandAll cs old.sessions → EventTakesMemory old event → TakesMemory (plain_of old cs) event
   takes_memory old cs Open all h = let same = stand_length cs old.sessions all in omega (arith, h, same)
   takes_memory old cs (Piece n piece) all (s, is) = let (c, there, rest) = open_both cs old.sessions n s all is in (c, there)
   takes_memory old cs (Turn n) all (s, is, due) = let (c, there, rest) = open_both cs old.sessions n s all is in let next = rest_due c s rest due in (c, there, next.0, next.1, next.2)
@@ -265,7 +265,7 @@ module _ {K : Type 0} (hash_of : K → List ℕ → ℕ) where
   gives_up true old new cs event all undone is = (new.state, decides_in old cs new.state event all (undone.decides refl), is)
   gives_up false old new cs event all undone is = is ∙ ap (λ (s : Plain). with_end (named event) (record (plain_of old cs) { state = s })) (undone.undecided refl)
 
-  refuses : (decided : Bool) (old new : WorldState K) (event : Event) → Undone decided old event new → (first : PlainWorld) → StandsAs first old → Refuses hash_of first decided event new
+  refuses : (decided : Bool) (old new : WorldState K) (event : Event) → Undone decided old event new → (first : PlainWorld) → WorldStandsAs first old → Refuses hash_of first decided event new
   refuses decided old new event undone first stands = let cs = first.connections in let ds = change (number (named event)) cs ended in
       let is = ap (λ (w : WorldState K). plain_of w ds) (set_up_as old new undone.settings undone.hasher undone.moment) ∙ end_plain (record (plain_of old cs) { state = new.state }) (named event) in
       let all = subst (StandAll ds) (sym undone.sessions) (end_stands cs old.sessions (named event) stands.sessions) in

@@ -18,7 +18,7 @@ pub record Connection : Type 0 where
   pub is_open : Bool
 
 -- the next turn of a connection's stream
-pub record IsNext (connection : Connection) (unit : ProtocolUnit) (at : ℕ) : Type 0 where
+pub record IsNextTurn (connection : Connection) (unit : ProtocolUnit) (at : ℕ) : Type 0 where
   pub units : List ProtocolUnit
   pub are : AreUnits connection.greatest connection.passed connection.stream units
   pub next : slice_get (turns units) connection.taken ≡ Some (unit, at)

@@ -11,7 +11,7 @@ use Rattle.mc_parse.specs.Units.{ProtocolUnit, Request, Fault, LongLine, Spells}
 use Rattle.mc_parse.specs.Streams.{AreUnits}
 use Rattle.mc_parse.specs.Feeds.{Unread, settled, pushed}
 use Rattle.mc_session.specs.Turns.{to_read, HasUnits}
-use Rattle.mc_world.specs.Connections.{Connection, IsNext, HasNoNext}
+use Rattle.mc_world.specs.Connections.{Connection, IsNextTurn, HasNoNext}
 use Rattle.mc_world.specs.Worlds.{PlainWorld, numbered, open_connection, named, Happens, Runs}
 use Rattle.mc_world.specs.declared.event.Event.{Event}
 use Rattle.mc_world.specs.declared.event.Event.TheVariants.{Open, Piece, Turn, Clock, Grow, Purge, Close}
@@ -25,7 +25,7 @@ step_of LongLine at = None
 
 -- the connection's next turn has no step, if there is a next turn
 abbrev pub NextHasNoStep : Connection → Type 0
-NextHasNoStep connection = (unit : ProtocolUnit) (at : ℕ) → IsNext connection unit at
+NextHasNoStep connection = (unit : ProtocolUnit) (at : ℕ) → IsNextTurn connection unit at
     → step_of unit at ≡ None
 
 -- the event is one of that session and decides no step there: a piece, a close, or a turn that
@@ -74,7 +74,7 @@ answers_in world (Some step) = answer_in (plain world.state step world.now) ∷ 
 abbrev pub AnswersNext : PlainWorld → Connection → List Answer → Type 0
 AnswersNext world connection answers =
     (HasNoNext connection × (answers ≡ []))
-    ⊎ ((unit : ProtocolUnit) × (at : ℕ) × IsNext connection unit at
+    ⊎ ((unit : ProtocolUnit) × (at : ℕ) × IsNextTurn connection unit at
     × (answers ≡ answers_in world (step_of unit at)))
 
 -- what the event is answered, if it is a turn of that session

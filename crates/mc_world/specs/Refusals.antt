@@ -1,6 +1,6 @@
 -- A run that goes on past refusals of memory.
 use Rattle.std.specs.Prelude.{◌≡◌, ℕ, suc, Bool, List, [], ◌∷◌}
-use Rattle.mc_world.specs.Worlds.{PlainWorld, WorldState, Happens, GivesUp, TakesMemory, StandsAs}
+use Rattle.mc_world.specs.Worlds.{PlainWorld, WorldState, Happens, GivesUp, TakesMemory, WorldStandsAs}
 use Rattle.mc_world.specs.declared.event.Event.{Event}
 
 -- How an event went: it was done as it is; or memory ran out in it, and the step of its turn was
@@ -39,6 +39,6 @@ pub record ToldThrough {K : Type 0} (hash_of : K → List ℕ → ℕ) (refused 
   pub hasher : new.hasher ≡ old.hasher
   pub outcomes : List EventOutcome
   pub count : refusals outcomes ≡ refused
-  pub told : (first : PlainWorld) → StandsAs first old → (last : PlainWorld)
+  pub told : (first : PlainWorld) → WorldStandsAs first old → (last : PlainWorld)
       × RunsThrough (hash_of old.hasher) old.settings.shelves first events outcomes last
-      × StandsAs last new
+      × WorldStandsAs last new

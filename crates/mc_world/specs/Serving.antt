@@ -2,7 +2,7 @@
 use Rattle.std.specs.Prelude.{◌≡◌, ◌⊎◌, ℕ, ◌+◌, ◌%◌, ◌^◌, ◌<◌, ◌≤◌, max, Bool, List, [], ◌∷◌, ◌++◌, length, Option}
 use Rattle.std.specs.Io.KnownBytes.{Appends, Consumes, IsAtEnd}
 use Rattle.mc_world.specs.Connections.{Connection}
-use Rattle.mc_world.specs.Worlds.{PlainWorld, WorldState, numbered, changed, output_of, IsIdle, IsClosed, StandsAs, Told, RunsUntil}
+use Rattle.mc_world.specs.Worlds.{PlainWorld, WorldState, numbered, changed, output_of, IsIdle, IsClosed, WorldStandsAs, Told, RunsUntil}
 use Rattle.mc_world.specs.declared.event.Event.{Event}
 use Rattle.mc_world.specs.declared.event.Event.TheVariants.{Open, Piece, Turn, Clock, Grow, Close}
 
@@ -15,13 +15,13 @@ abbrev pub most_waiting : ℕ
 most_waiting = 65536
 
 -- a world, what is left to be read, and what was written
-pub record Scene (K : Type 0) : Type 0 where
+pub record WorldScene (K : Type 0) : Type 0 where
   pub world : WorldState K
   pub reader : Option (List ℕ)
   pub writer : Option (List ℕ)
 
 -- the scene of a world, what is left to be read, and what was written
-abbrev pub scene : {K : Type 0} → WorldState K → Option (List ℕ) → Option (List ℕ) → Scene K
+abbrev pub scene : {K : Type 0} → WorldState K → Option (List ℕ) → Option (List ℕ) → WorldScene K
 scene world reader writer = record { world = world; reader = reader; writer = writer }
 
 -- the session that is opened next
@@ -103,7 +103,7 @@ module _ {K : Type 0} (hash_of : K → List ℕ → ℕ) (may_give : ℕ → Typ
   -- A session was served until memory ran out: what came before the refused event, and that event,
   -- which takes memory. Its step, if it is a turn, stands in the store and its text isn't told, or
   -- nothing of it was done; and the session is closed.
-  pub record UntilRefused (old_reader old_writer : Option (List ℕ)) (new : Scene K) : Type 0 where
+  pub record UntilRefused (old_reader old_writer : Option (List ℕ)) (new : WorldScene K) : Type 0 where
     pub events : List Event
     pub read : List ℕ
     pub written : List ℕ
@@ -118,12 +118,12 @@ module _ {K : Type 0} (hash_of : K → List ℕ → ℕ) (may_give : ℕ → Typ
     pub few : turns + calls ≤ most_turns
     pub consumes : Consumes old_reader new.reader (read ++ brings)
     pub appends : Appends old_writer new.writer written
-    pub told : (first : PlainWorld) → StandsAs first old
+    pub told : (first : PlainWorld) → WorldStandsAs first old
         → RunsUntil hash_of old first (events ++ before) decided event
         (with_written n written new.world)
 
 -- A session of a world was served, which opened it: the scene before, and after.
-module _ {K : Type 0} (hash_of : K → List ℕ → ℕ) (may_give : ℕ → Type 0) (old new : Scene K) where
+module _ {K : Type 0} (hash_of : K → List ℕ → ℕ) (may_give : ℕ → Type 0) (old new : WorldScene K) where
   -- the events that came until the close, what was read, which is their pieces joined, and what was
   -- written
   pub record Came : Type 0 where

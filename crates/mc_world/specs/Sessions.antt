@@ -46,8 +46,8 @@ DecidedOf relations n now old before after = (session : SessionState)
     × (open_session n old ≡ Some session) × DecidesStep relations now session before after
 
 -- a turn of it is due
-abbrev pub IsDue : ℕ → List SessionState → Type 0
-IsDue n sessions = (session : SessionState) × (open_session n sessions ≡ Some session)
+abbrev pub SessionIsDue : ℕ → List SessionState → Type 0
+SessionIsDue n sessions = (session : SessionState) × (open_session n sessions ≡ Some session)
     × (NoTurnDue session → ⊥)
 
 -- the session of that number stands at this place, and is open
@@ -64,11 +64,11 @@ pub record TurnGiven {S : Type 0} (relations : Relations S) (n now : ℕ)
     (result : Result SessionTurn TurnFault) (old new : List SessionState) (before after : S)
     : Type 0 where
   pub ok : OnOk result (TurnOf relations n now old new before after)
-  pub did : result ≡ Ok Did → IsDue n old
+  pub did : result ≡ Ok Did → SessionIsDue n old
   pub idle : result ≡ Ok Idle → IsIdle (numbered n old) × (new ≡ old) × (after ≡ before)
   pub closed : result ≡ Ok Closed → (open_session n old ≡ None) × (new ≡ old) × (after ≡ before)
   pub err : OnErr result (new ≡ at_session old n ended)
-  pub due : OnErr result (IsDue n old)
+  pub due : OnErr result (SessionIsDue n old)
   pub undecided : IfErr result (λ fault. IsFalse fault.decided → relations.same before after)
   pub decided : IfErr result (λ fault. IsTrue fault.decided →
       DecidedOf relations n now old before after)
@@ -113,14 +113,14 @@ DecidedIn old (Close n) state = ⊥
 
 -- the event takes memory: it opens a session, brings a piece to one that is open, or gives one a
 -- turn that is due
-abbrev pub Takes : {K : Type 0} → WorldState K → Event → Type 0
-Takes old Open = length old.sessions < 65535
-Takes old (Piece n piece) = IsOpened n old.sessions
-Takes old (Turn n) = IsDue n old.sessions
-Takes old (Clock now) = ⊥
-Takes old (Grow shelf) = ⊥
-Takes old (Purge shelf) = ⊥
-Takes old (Close n) = ⊥
+abbrev pub EventTakesMemory : {K : Type 0} → WorldState K → Event → Type 0
+EventTakesMemory old Open = length old.sessions < 65535
+EventTakesMemory old (Piece n piece) = IsOpened n old.sessions
+EventTakesMemory old (Turn n) = SessionIsDue n old.sessions
+EventTakesMemory old (Clock now) = ⊥
+EventTakesMemory old (Grow shelf) = ⊥
+EventTakesMemory old (Purge shelf) = ⊥
+EventTakesMemory old (Close n) = ⊥
 
 -- what is left when memory ran out in an event
 pub record Undone {K : Type 0} (decided : Bool) (old : WorldState K) (event : Event)
@@ -129,7 +129,7 @@ pub record Undone {K : Type 0} (decided : Bool) (old : WorldState K) (event : Ev
   pub hasher : new.hasher ≡ old.hasher
   pub moment : new.moment ≡ old.moment
   pub sessions : new.sessions ≡ sessions_ended (named event) old.sessions
-  pub takes : Takes old event
+  pub takes : EventTakesMemory old event
   pub undecided : IsFalse decided → new.state ≡ old.state
   pub decides : IsTrue decided → DecidedIn old event new.state
 

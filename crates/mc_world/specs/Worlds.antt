@@ -15,7 +15,7 @@ use Rattle.mc_shelf.specs.Stores.{coded_settings}
 use Rattle.mc_shelf.specs.declared.settings.Settings.{Settings}
 use Rattle.mc_command.specs.Purge.{purged}
 use Rattle.mc_world.specs.Chains.{Chain}
-use Rattle.mc_world.specs.Connections.{Connection, IsNext, HasNoNext, Stands, fresh, with_piece, after_turn, ended}
+use Rattle.mc_world.specs.Connections.{Connection, IsNextTurn, HasNoNext, Stands, fresh, with_piece, after_turn, ended}
 use Rattle.mc_world.specs.declared.event.Event.{Event}
 use Rattle.mc_world.specs.declared.event.Event.TheVariants.{Open, Piece, Turn, Clock, Grow, Purge, Close}
 use Rattle.mc_world.specs.declared.event.Refused.{Refused}
@@ -131,7 +131,7 @@ pub record NextTurn (old : PlainWorld) (connection : Connection) (state : Plain)
   pub unit : ProtocolUnit
   pub at : ℕ
   pub text : List ℕ
-  pub next : IsNext connection unit at
+  pub next : IsNextTurn connection unit at
   pub answers : Answers in_plain unit at old.now old.state state text
 
 -- the next turn is taken, if there is one
@@ -198,20 +198,20 @@ pub record NextStep (old : PlainWorld) (connection : Connection) (state : Plain)
   pub at : ℕ
   pub step : KeyStep
   pub reply : Reply
-  pub next : IsNext connection (Request command) at
+  pub next : IsNextTurn connection (Request command) at
   pub is_step : slice_get (steps command) at ≡ Some step
   pub replied : replies old.state step old.now reply state
 
 -- the step of the open connection that an event gives a turn
-abbrev pub Decides : PlainWorld → Event → Plain → Type 0
-Decides old Open state = ⊥
-Decides old (Piece n piece) state = ⊥
-Decides old (Turn n) state = (connection : Connection)
+abbrev pub EventDecides : PlainWorld → Event → Plain → Type 0
+EventDecides old Open state = ⊥
+EventDecides old (Piece n piece) state = ⊥
+EventDecides old (Turn n) state = (connection : Connection)
     × (open_connection n old.connections ≡ Some connection) × NextStep old connection state
-Decides old (Clock now) state = ⊥
-Decides old (Grow shelf) state = ⊥
-Decides old (Purge shelf) state = ⊥
-Decides old (Close n) state = ⊥
+EventDecides old (Clock now) state = ⊥
+EventDecides old (Grow shelf) state = ⊥
+EventDecides old (Purge shelf) state = ⊥
+EventDecides old (Close n) state = ⊥
 
 -- the event takes memory: it opens a session, brings a piece to one that is open, or gives one a
 -- turn that is due
@@ -221,7 +221,7 @@ TakesMemory old (Piece n piece) = (connection : Connection)
     × (open_connection n old.connections ≡ Some connection)
 TakesMemory old (Turn n) = (connection : Connection)
     × (open_connection n old.connections ≡ Some connection) × (unit : ProtocolUnit) × (at : ℕ)
-    × IsNext connection unit at
+    × IsNextTurn connection unit at
 TakesMemory old (Clock now) = ⊥
 TakesMemory old (Grow shelf) = ⊥
 TakesMemory old (Purge shelf) = ⊥
@@ -230,12 +230,12 @@ TakesMemory old (Close n) = ⊥
 -- Memory ran out in an event: its turn's step was decided and isn't told, or nothing was done; and
 -- its session is closed.
 abbrev pub GivesUp : Bool → PlainWorld → Event → PlainWorld → Type 0
-GivesUp true old event new = (state : Plain) × Decides old event state
+GivesUp true old event new = (state : Plain) × EventDecides old event state
     × (new ≡ with_end (named event) (record old { state = state }))
 GivesUp false old event new = new ≡ with_end (named event) old
 
 -- the plain world stands so
-pub record StandsAs {K : Type 0} (plain : PlainWorld) (world : WorldState K) : Type 0 where
+pub record WorldStandsAs {K : Type 0} (plain : PlainWorld) (world : WorldState K) : Type 0 where
   pub greatest : world.settings.greatest ≡ plain.greatest
   pub state : world.state ≡ plain.state
   pub now : world.moment ≡ plain.now
@@ -244,7 +244,7 @@ pub record StandsAs {K : Type 0} (plain : PlainWorld) (world : WorldState K) : T
 -- there is such a plain world
 pub record CanStand {K : Type 0} (world : WorldState K) : Type 0 where
   pub plain : PlainWorld
-  pub stands : StandsAs plain world
+  pub stands : WorldStandsAs plain world
 
 -- The keys of a world have their hashes.
 module _ {K : Type 0} (hash_of : K → List ℕ → ℕ) where
@@ -258,19 +258,19 @@ module _ {K : Type 0} (hash_of : K → List ℕ → ℕ) where
   pub record Told (old : WorldState K) (events : List Event) (new : WorldState K) : Type 0 where
     pub settings : new.settings ≡ old.settings
     pub hasher : new.hasher ≡ old.hasher
-    pub told : (first : PlainWorld) → StandsAs first old → (last : PlainWorld)
-        × RunsIn old first events last × StandsAs last new
+    pub told : (first : PlainWorld) → WorldStandsAs first old → (last : PlainWorld)
+        × RunsIn old first events last × WorldStandsAs last new
 
   -- an event that takes memory, which runs out in it
   abbrev pub Refuses : PlainWorld → Bool → Event → WorldState K → Type 0
   Refuses first decided event new = (last : PlainWorld) × GivesUp decided first event last
-      × StandsAs last new × TakesMemory first event
+      × WorldStandsAs last new × TakesMemory first event
 
   pub record ToldRefused (decided : Bool) (old : WorldState K) (event : Event)
       (new : WorldState K) : Type 0 where
     pub settings : new.settings ≡ old.settings
     pub hasher : new.hasher ≡ old.hasher
-    pub told : (first : PlainWorld) → StandsAs first old → Refuses first decided event new
+    pub told : (first : PlainWorld) → WorldStandsAs first old → Refuses first decided event new
 
   -- events, and then one that is refused
   abbrev pub RunsUntil : WorldState K → PlainWorld → List Event → Bool → Event → WorldState K
@@ -286,5 +286,5 @@ module _ {K : Type 0} (hash_of : K → List ℕ → ℕ) where
     pub event : Event
     pub here : slice_get events refused.at ≡ Some event
     pub session : refused.session ≡ named event
-    pub told : (first : PlainWorld) → StandsAs first old
+    pub told : (first : PlainWorld) → WorldStandsAs first old
         → RunsUntil old first (take refused.at events) refused.decided event new

@@ -3,7 +3,7 @@
 ghost use Rattle.std.specs.Prelude.{◌≡◌, ℕ, List, ◌∷◌, ◌++◌, ◌↔◌, Some, true};
 ghost use Rattle.mc_session.specs.Turns.{SessionState, NoTurnDue};
 ghost use Rattle.mc_world.specs.Connections.{Connection, Stands, HasNoNext};
-ghost use Rattle.mc_world.specs.Worlds.{PlainWorld, WorldState, StandsAs, Runs, numbered};
+ghost use Rattle.mc_world.specs.Worlds.{PlainWorld, WorldState, WorldStandsAs, Runs, numbered};
 ghost use Rattle.mc_world.specs.Laws.{RunAlike, DecidesNoStepBehind, IsApart};
 ghost use Rattle.mc_world.specs.Laws.{Answer, HasAnswers, Leaves};
 ghost use Rattle.mc_world.specs.Laws.{Grammar};
@@ -55,7 +55,7 @@ pub fn a_session_follows_its_own_answers()
 #[tactic(auto, using(crate::proofs::ConnectionLemmas::stands_one))]
 pub fn a_plain_world_stands_one_way<K: KeyHash>()
     ensures { (plain : PlainWorld) (one other : WorldState K) →
-        StandsAs plain one → StandsAs plain other →
+        WorldStandsAs plain one → WorldStandsAs plain other →
         other.settings ≡ one.settings → other.hasher ≡ one.hasher → other ≡ one }
 {}
 

@@ -1,6 +1,6 @@
 ghost use Rattle.std.specs.Prelude.{◌≡◌, IfErr, OnOk, Ok, None};
 ghost use Rattle.mc_world.specs.Worlds.{numbered, open_session, IsIdle};
-ghost use Rattle.mc_world.specs.Sessions.{Done, Undone, IsDue, state_of};
+ghost use Rattle.mc_world.specs.Sessions.{Done, Undone, SessionIsDue, state_of};
 
 use crate::event::Event;
 use crate::sessions::Sessions;
@@ -50,7 +50,7 @@ impl<K: KeyHash + Drop> Parts<K> {
     pub fn turn(&mut self, alloc: Global, number: u32) -> Result<Turn, TurnFault>
         ensures ok { OnOk result
             (Done K.hash_of (state_of self.old) (Event.Turn number) (state_of self.new)) }
-        ensures did { result ≡ Ok Turn.Did → IsDue number self.old.sessions }
+        ensures did { result ≡ Ok Turn.Did → SessionIsDue number self.old.sessions }
         ensures idle { result ≡ Ok Turn.Idle →
             IsIdle (numbered number self.old.sessions) × (state_of self.new ≡ state_of self.old) }
         ensures closed { result ≡ Ok Turn.Closed →

@@ -55,9 +55,12 @@ impl<K: KeyHash + Drop> Asker<K> {
 
     /// Opens the next session, and asks by that. One that is refused memory isn't opened, and is opened when it is asked for again.
     fn open_next(&mut self, rt: &impl Abort, alloc: Global) {
-        let opened = self.world.opened();
+        let opened = self.world.session_count();
         if self.world.run(alloc, &[Event::Open]).is_err() {
-            assert!(rt; self.world.opened() == opened, "a refused session is there");
+            assert!(rt;
+                self.world.session_count() == opened,
+                "a refused session is there"
+            );
             let again = self.world.run(alloc, &[Event::Open]);
             assert!(rt; again.is_ok(), "a second refusal");
         }
@@ -75,7 +78,7 @@ impl<K: KeyHash + Drop> Asker<K> {
         let out = self.world.out(self.session);
         assert!(rt; out == text, "another text");
         let written = out.len();
-        self.world.sent(self.session, written);
+        self.world.drop_sent(self.session, written);
     }
 
     /// Its session was refused and is closed with no text. Another one asks from then on.

@@ -79,7 +79,7 @@ fn begin<K: KeyHash + Drop>(alloc: Global, world: &mut World<K>) -> Result<u32, 
         (fault ≡ ServeFault.NoMemory) × (world.new ≡ world.old)) }
 {
     world.stands();
-    let session = world.opened() as u32 + 1;
+    let session = world.session_count() as u32 + 1;
     match world.run(alloc, &[Event::Open]) {
         Ok(()) => Ok(session),
         Err(_) => Err(ServeFault::NoMemory),

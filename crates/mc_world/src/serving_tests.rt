@@ -33,7 +33,7 @@ fn run(
 ) -> Result<(Result<(), ServeFault>, Vec<u8>), AllocError> {
     let mut reader = Drip::failing(input, reads, ErrorKind::Other);
     let mut writer = Sip::failing(alloc, 1000, writes, ErrorKind::Other)?;
-    if world.opened() >= 65535 {
+    if world.session_count() >= 65535 {
         return Err(AllocError);
     }
     let clock = Fixed(Moment::from_seconds(1000));
@@ -87,7 +87,7 @@ fn is_left_well(
         return Ok(());
     }
     assert!(rt; matches!(ended, Err(ServeFault::NoMemory)));
-    assert!(rt; world.opened() == 0 || world.is_closed(1));
+    assert!(rt; world.session_count() == 0 || world.is_closed(1));
     next_is_served(rt, alloc, world)
 }
 
@@ -284,7 +284,7 @@ fn session_writes(
 
 /// Three sessions were opened, and are closed with nothing to be written.
 fn three_are_closed(rt: &impl Abort, world: &World<Fnv>) {
-    assert!(rt; world.opened() == 3);
+    assert!(rt; world.session_count() == 3);
     for session in 1..4 {
         assert!(rt; world.is_closed(session) && world.out(session).is_empty());
     }

@@ -106,7 +106,7 @@ impl Sessions {
     }
 
     /// Finds the session of a number, open or closed.
-    fn numbered(&self, number: u32) -> Option<&Session>
+    fn session_at(&self, number: u32) -> Option<&Session>
         ensures { option_copied result ≡ numbered number self.now }
     {
         if number == 0 {
@@ -119,14 +119,14 @@ impl Sessions {
     pub fn out(&self, number: u32) -> &[u8]
         ensures { result.now ≡ output_of (numbered number self.now) }
     {
-        match self.numbered(number) {
+        match self.session_at(number) {
             Some(session) => session.out(),
             None => &[],
         }
     }
 
     /// Drops the first `n` bytes of a session's output, which were written.
-    pub fn sent(&mut self, number: u32, n: usize)
+    pub fn drop_sent(&mut self, number: u32, n: usize)
         requires { n ≤ length (output_of (numbered number self.old)) }
         ensures { self.new ≡ changed number self.old (λ s. sent s n) (numbered number self.old) }
     {
@@ -134,7 +134,7 @@ impl Sessions {
             return;
         }
         if let Some(session) = self.list.get_mut((number - 1) as usize) {
-            session.sent(n);
+            session.drop_sent(n);
         }
     }
 
@@ -142,7 +142,7 @@ impl Sessions {
     pub fn is_idle(&self, number: u32) -> bool
         ensures { IsTrue result ↔ IsIdle (numbered number self.now) }
     {
-        match self.numbered(number) {
+        match self.session_at(number) {
             Some(session) => session.is_idle(),
             None => false,
         }
@@ -152,7 +152,7 @@ impl Sessions {
     pub fn is_closed(&self, number: u32) -> bool
         ensures { IsTrue result ↔ IsClosed (numbered number self.now) }
     {
-        match self.numbered(number) {
+        match self.session_at(number) {
             Some(session) => session.is_closed(),
             None => false,
         }

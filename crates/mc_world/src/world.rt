@@ -6,7 +6,7 @@ ghost use Rattle.mc_world.specs.Worlds.{CanStand, Told, ToldRefused, ToldUntil};
 ghost use Rattle.mc_world.specs.Worlds.{numbered, open_session, changed};
 ghost use Rattle.mc_world.specs.Worlds.{output_of, IsIdle, IsClosed};
 ghost use Rattle.mc_world.specs.Refusals.{ToldThrough};
-ghost use Rattle.mc_world.specs.Sessions.{IsDue};
+ghost use Rattle.mc_world.specs.Sessions.{SessionIsDue};
 
 use crate::event::{Ended, Event, Refused};
 use crate::parts::Parts;
@@ -56,12 +56,12 @@ impl<K: KeyHash + Drop> World<K> {
           sessions = [];
         }) }
     {
-        World::starting(alloc, settings, hasher, now, 1)
+        World::with_next_number(alloc, settings, hasher, now, 1)
     }
 
     /// Makes the same, whose first write draws the unique number `next`, at least 1. At 2^64 - 1 the
     /// numbers are spent. The one error is a refused allocation.
-    pub fn starting(
+    pub fn with_next_number(
         alloc: Global,
         settings: Settings,
         hasher: K,
@@ -79,7 +79,7 @@ impl<K: KeyHash + Drop> World<K> {
     {
         Ok(World {
             parts: Parts {
-                store: Store::starting(alloc, settings, hasher, next)?,
+                store: Store::with_next_number(alloc, settings, hasher, next)?,
                 moment: now,
                 sessions: Sessions::new(alloc),
             },
@@ -131,7 +131,7 @@ impl<K: KeyHash + Drop> World<K> {
     #[tactic(auto, using(crate::proofs::WorldLemmas::told_refused))]
     pub fn turn(&mut self, alloc: Global, session: u32) -> Result<Turn, Refused>
         ensures ok { OnOk result (Told K.hash_of self.old (Event.Turn session ∷ []) self.new) }
-        ensures did { result ≡ Ok Turn.Did → IsDue session self.old.sessions }
+        ensures did { result ≡ Ok Turn.Did → SessionIsDue session self.old.sessions }
         ensures idle { result ≡ Ok Turn.Idle →
             IsIdle (numbered session self.old.sessions) × (self.new ≡ self.old) }
         ensures closed { result ≡ Ok Turn.Closed →
@@ -165,7 +165,7 @@ impl<K: KeyHash + Drop> World<K> {
     }
 
     /// Counts the sessions that were opened. The last one has this number.
-    pub fn opened(&self) -> usize
+    pub fn session_count(&self) -> usize
         ensures { result ≡ length self.now.sessions }
     {
         self.parts.sessions.count()
@@ -186,7 +186,7 @@ impl<K: KeyHash + Drop> World<K> {
     }
 
     /// Drops the first `n` bytes of a session's output, which were written.
-    pub fn sent(&mut self, session: u32, n: usize)
+    pub fn drop_sent(&mut self, session: u32, n: usize)
         requires { n ≤ length (output_of (numbered session self.old.sessions)) }
         ensures { self.new ≡ record self.old {
           sessions =
@@ -194,7 +194,7 @@ impl<K: KeyHash + Drop> World<K> {
               (numbered session self.old.sessions);
         } }
     {
-        self.parts.sessions.sent(session, n);
+        self.parts.sessions.drop_sent(session, n);
     }
 
     /// Returns whether a session is open and no turn is due until more bytes come. It parses the
@@ -233,7 +233,7 @@ impl<K: KeyHash + Drop> World<K> {
     #[tactic(auto, using(crate::proofs::WorldLemmas::result_rules))]
     fn give_turn(&mut self, alloc: Global, session: u32) -> Result<Turn, TurnFault>
         ensures ok { OnOk result (Told K.hash_of self.old (Event.Turn session ∷ []) self.new) }
-        ensures did { result ≡ Ok Turn.Did → IsDue session self.old.sessions }
+        ensures did { result ≡ Ok Turn.Did → SessionIsDue session self.old.sessions }
         ensures idle { result ≡ Ok Turn.Idle →
             IsIdle (numbered session self.old.sessions) × (self.new ≡ self.old) }
         ensures closed { result ≡ Ok Turn.Closed →

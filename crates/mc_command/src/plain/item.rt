@@ -100,7 +100,7 @@ impl<'a> LentWrite<'a> {
     }
 
     /// Makes its block.
-    pub(crate) fn made(&self, alloc: Global) -> Result<Written, AllocError>
+    pub(crate) fn make_block(&self, alloc: Global) -> Result<Written, AllocError>
         ensures { IfOk result (λ written. written ≡ self.now) }
     {
         let mut bytes = Vec::with_capacity(alloc, self.front.len() + self.back.len())?;
@@ -116,7 +116,7 @@ impl<'a> LentWrite<'a> {
 
 /// Lends the write of a draft, by the block that the step brings, that of the item that stands, and
 /// the digits of the number that it is counted to.
-pub(crate) fn drafted<'a>(
+pub(crate) fn lend_write<'a>(
     draft: Draft,
     block: &'a [u8],
     old: &'a [u8],
@@ -125,15 +125,15 @@ pub(crate) fn drafted<'a>(
     ensures { result ≡ made draft block.now old.now digits.now }
 {
     match draft.body {
-        Body::Given => lent(draft, &[], block),
-        Body::Appended => lent(draft, old, block),
-        Body::Prepended => lent(draft, block, old),
-        Body::Counted(_) => lent(draft, &[], digits),
+        Body::Given => lend_slices(draft, &[], block),
+        Body::Appended => lend_slices(draft, old, block),
+        Body::Prepended => lend_slices(draft, block, old),
+        Body::Counted(_) => lend_slices(draft, &[], digits),
     }
 }
 
 /// Lends the write of a draft, whose block is one slice and then the other.
-fn lent<'a>(draft: Draft, front: &'a [u8], back: &'a [u8]) -> LentWrite<'a>
+fn lend_slices<'a>(draft: Draft, front: &'a [u8], back: &'a [u8]) -> LentWrite<'a>
     ensures { result ≡ record {
       flags = draft.flags;
       expiry = draft.expiry;

@@ -26,7 +26,7 @@ impl PlainStore {
         ensures { result ≡ has_room (found key.now self.now now) need }
     {
         let left = u64::from(self.pages_left()) * u64::from(need.class().chunks_a_page());
-        u64::from(need.count()) <= self.unused(key, need.class(), now) + left
+        u64::from(need.count()) <= self.unused_chunks(key, need.class(), now) + left
     }
 
     /// Counts the pages that its class wants for a need, once the key's item is dropped if it is
@@ -34,7 +34,7 @@ impl PlainStore {
     pub(super) fn pages_wanted(&self, key: &[u8], need: Need, now: Moment) -> u32
         ensures { result ≡ need.count - unused (found key.now self.now now) need.class }
     {
-        u64::from(need.count()).saturating_sub(self.unused(key, need.class(), now)) as u32
+        u64::from(need.count()).saturating_sub(self.unused_chunks(key, need.class(), now)) as u32
     }
 
     /// Gives the class so many pages more.
@@ -65,7 +65,7 @@ impl PlainStore {
 
     /// Counts the chunks of the class's pages that no item has, once the key's item is dropped if
     /// it is dead.
-    fn unused(&self, key: &[u8], class: Class, now: Moment) -> u64
+    fn unused_chunks(&self, key: &[u8], class: Class, now: Moment) -> u64
         ensures value { result ≡ unused (found key.now self.now now) class }
         ensures range { result ≤ 2 ^ 50 }
     {
@@ -80,7 +80,7 @@ impl PlainStore {
             (dead_item (standing self.now key.now now) key.now self.now) class }
         ensures range { result ≤ 2 ^ 45 }
     {
-        if self.standing(key, now).is_some() {
+        if self.standing_item(key, now).is_some() {
             return 0;
         }
         match self.items.get(key) {

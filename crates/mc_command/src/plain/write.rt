@@ -11,7 +11,7 @@ ghost use Rattle.mc_command.specs.Steps.{Ends, Prepares, IsReady, StaysIn, needs
 ghost use Rattle.mc_command.specs.Steps.{number_in, block_in, found, drafting, writing, rewritten, placed, done};
 
 use crate::plain::PlainStore;
-use crate::plain::item::{Item, LentWrite, Written, drafted};
+use crate::plain::item::{Item, LentWrite, Written, lend_write};
 use crate::reply::Reply;
 use crate::row::{Body, Draft};
 use crate::step::StepFault;
@@ -46,10 +46,10 @@ impl PlainStore {
     {
         let mut buffer = Buffer::new();
         let digits = buffer.format(number_in(draft.body)).as_bytes();
-        let item = self.standing(key, now);
-        let write = drafted(draft, block, block_in(item), digits);
+        let item = self.standing_item(key, now);
+        let write = lend_write(draft, block, block_in(item), digits);
         let stays = stays(draft.body, key, item, &write);
-        let next = self.prepared(alloc, key, &write, stays, draft.body.reply(), now)?;
+        let next = self.prepare(alloc, key, &write, stays, draft.body.reply(), now)?;
         self.finish(alloc, key, next, now)
     }
 
@@ -75,7 +75,7 @@ impl PlainStore {
     /// Finds out what comes of a write, and makes its block if it can be made: its charge is not
     /// too large, a unique number is left, and it has chunks. A write that `stays` goes into those
     /// of the item that stands.
-    pub(super) fn prepared(
+    pub(super) fn prepare(
         &self,
         alloc: Global,
         key: &[u8],
@@ -96,12 +96,12 @@ impl PlainStore {
             return Err(StepFault::NumbersSpent);
         }
         if stays {
-            return Ok(Next::Rewrite(reply, write.made(alloc)?));
+            return Ok(Next::Rewrite(reply, write.make_block(alloc)?));
         }
         if !self.has_room(key, need, now) {
             return Ok(Next::Answer(Reply::NoChunk));
         }
-        Ok(Next::Place(reply, need, write.made(alloc)?))
+        Ok(Next::Place(reply, need, write.make_block(alloc)?))
     }
 
     /// Does what comes of a write. If nothing is written, the key's dead item is dropped.

@@ -34,11 +34,11 @@ impl Observer<'_> {
         let tables = self.asker.tables(rt);
         let slabs = self.slabs(rt, alloc)?;
         Ok(Reading {
-            counts: self.counted(),
-            closed: self.closed(alloc)?,
+            counts: self.sum_counts(),
+            closed: self.closed_counts(alloc)?,
             uptime: self.uptime(rt),
             connections: u64::from(self.crowd.open()),
-            accepted: self.crowd.accepted(),
+            accepted: self.crowd.accepted_count(),
             most: u64::from(self.crowd.most()),
             tables,
             limit: u64::from(self.pages) * PAGE,
@@ -48,7 +48,7 @@ impl Observer<'_> {
     }
 
     /// Adds up what the workers counted.
-    fn counted(&self) -> [u64; COUNTED] {
+    fn sum_counts(&self) -> [u64; COUNTED] {
         let mut sums = [0u64; COUNTED];
         for at in 0..COUNTED {
             for counts in &self.counts {
@@ -59,7 +59,7 @@ impl Observer<'_> {
     }
 
     /// Gives how many connections were closed for each reason.
-    fn closed(&self, alloc: Global) -> Result<Vec<u64>, AllocError> {
+    fn closed_counts(&self, alloc: Global) -> Result<Vec<u64>, AllocError> {
         let mut closed = Vec::with_capacity(alloc, PARTINGS)?;
         for place in 0..PARTINGS {
             closed.push(self.crowd.closed_at(place))?;

@@ -8,8 +8,8 @@ use crate::settings::Settings;
 use crate::store::{Store, StoreParts};
 use mc_command::Verb;
 use mc_hop::Constant;
+use mc_rows::{Ask, ask_step, filled_block, step_of};
 use mc_slab::need_of;
-use mc_rows::{Ask, asked, filled, step_of};
 use mc_time::Moment;
 use std::test::*;
 
@@ -33,12 +33,12 @@ fn open(alloc: Global) -> Result<Store<Constant>, AllocError> {
 fn put(store: &mut Store<Constant>, alloc: Global, number: u8, block: &[u8]) {
     let key = [b'k', number];
     let step = step_of(&key, Ask::Store(Verb::Set, 0, block));
-    let _ = asked(store, alloc, &step, Moment::from_seconds_at_most(1000));
+    let _ = ask_step(store, alloc, &step, Moment::from_seconds_at_most(1000));
 }
 
 /// Such a store of a large item and 60 small ones, so many of them before it.
 fn store_of(alloc: Global, before: u8) -> Result<Store<Constant>, AllocError> {
-    let large = filled(alloc, LARGE)?;
+    let large = filled_block(alloc, LARGE)?;
     let mut store = open(alloc)?;
     for number in 0..before {
         put(&mut store, alloc, number, b"small");

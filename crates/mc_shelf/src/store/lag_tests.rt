@@ -5,7 +5,7 @@ ghost use Rattle.std.specs.Prelude.{◌≡◌, ◌≤◌, length};
 use super::*;
 use crate::counts::ShelfCounts;
 use mc_command::Verb;
-use mc_rows::{Ask, asked, filled, step_of};
+use mc_rows::{Ask, ask_step, filled_block, step_of};
 use std::test::*;
 
 /// Gives keys of each length another hash. All of them go to the first shelf, and each to a home of
@@ -46,13 +46,13 @@ fn front(bytes: &[u8], len: usize) -> &[u8]
 
 /// A store with keys of each length from 1 to that, at most 250.
 fn store_of(alloc: Global, keys: usize) -> Result<Store<ByLength>, AllocError> {
-    let long = filled(alloc, 250)?;
+    let long = filled_block(alloc, 250)?;
     let mut store = open(alloc)?;
     let now = Moment::from_seconds_at_most(1000);
     for before in 0..keys {
         let key = front(long.as_slice(), before + 1);
         let step = step_of(key, Ask::Store(Verb::Set, 0, b"x"));
-        let _ = asked(&mut store, alloc, &step, now);
+        let _ = ask_step(&mut store, alloc, &step, now);
     }
     Ok(store)
 }

@@ -6,7 +6,7 @@ use super::*;
 use crate::purge::Purging;
 use mc_command::Verb;
 use mc_hop::Constant;
-use mc_rows::{Ask, Row, Want, asked, filled, first_unlike, set, step_of};
+use mc_rows::{Ask, Row, Want, ask_step, filled_block, first_unlike, set, step_of};
 use std::test::*;
 
 /// Gives keys of each length another hash, all of the first shelf. Lengths that are alike modulo 16 have one number, 256 times the
@@ -162,13 +162,13 @@ fn store_of<K: KeyHash + Drop + Copy>(
     hasher: K,
     many: usize,
 ) -> Result<Store<K>, AllocError> {
-    let long = filled(alloc, 250)?;
+    let long = filled_block(alloc, 250)?;
     let mut store = open(alloc, hasher)?;
     let now = Moment::from_seconds_at_most(1000);
     for before in 0..many {
         let key = front(long.as_slice(), before + 1);
         let step = step_of(key, Ask::Store(Verb::Set, 0, b"x"));
-        let _ = asked(&mut store, alloc, &step, now);
+        let _ = ask_step(&mut store, alloc, &step, now);
         let _ = store.grow(0, 2);
     }
     Ok(store)

@@ -7,8 +7,8 @@ ghost use Rattle.std.specs.Prelude.{◌≤◌, length};
 use super::*;
 use mc_command::{Bytes, Verb};
 use mc_hop::Fnv;
+use mc_rows::{Ask, Row, Want, ask_step, filled_block, first_unlike, set};
 use mc_slab::{Account, class_of};
-use mc_rows::{Ask, Row, Want, asked, filled, first_unlike, set};
 use std::process::Abort;
 use std::test::*;
 
@@ -78,7 +78,7 @@ fn set_flags(store: &mut Store<Fnv>, alloc: Global, flags: u32) -> bool {
         block: Bytes::of(b"x"),
     };
     let now = Moment::from_seconds_at_most(1000);
-    asked(store, alloc, &step, now).is_ok()
+    ask_step(store, alloc, &step, now).is_ok()
 }
 
 /// The flags of the key `k`.
@@ -87,7 +87,7 @@ fn flags_of(store: &mut Store<Fnv>, alloc: Global) -> Option<u32> {
         key: Bytes::of(b"k"),
     };
     let now = Moment::from_seconds_at_most(1000);
-    match asked(store, alloc, &step, now) {
+    match ask_step(store, alloc, &step, now) {
         Ok(Reply::Hit { flags, .. }) => Some(flags),
         _ => None,
     }
@@ -128,9 +128,9 @@ fn the_account_of_the_class_stays(rt: HostRuntime) -> Result<(), Fail> {
 /// A page has one chunk of a block of 600,000 bytes. With one page there is none free beside the item's, and the old item stays.
 #[test]
 fn no_chunk_is_free_and_no_page_left(rt: HostRuntime) -> Result<(), Fail> {
-    let large = filled(rt.alloc(), 600_000)?;
+    let large = filled_block(rt.alloc(), 600_000)?;
     let large = large.as_slice();
-    let larger = filled(rt.alloc(), 600_001)?;
+    let larger = filled_block(rt.alloc(), 600_001)?;
     let larger = larger.as_slice();
     let rows: [Row<'_>; 4] = [
         set(1000, b"k", 0, large, "stored"),
@@ -148,9 +148,9 @@ fn no_chunk_is_free_and_no_page_left(rt: HostRuntime) -> Result<(), Fail> {
 /// refused it leaves the old item. From there on a chunk is free, and no page more is taken.
 #[test]
 fn no_chunk_is_free_and_a_page_comes(rt: HostRuntime) -> Result<(), Fail> {
-    let large = filled(rt.alloc(), 600_000)?;
+    let large = filled_block(rt.alloc(), 600_000)?;
     let large = large.as_slice();
-    let larger = filled(rt.alloc(), 600_001)?;
+    let larger = filled_block(rt.alloc(), 600_001)?;
     let larger = larger.as_slice();
     let rows: [Row<'_>; 5] = [
         set(1000, b"k", 0, large, "stored"),
@@ -223,7 +223,7 @@ fn a_join_is_of_its_moment(rt: HostRuntime) -> Result<(), Fail> {
 /// same.
 #[test]
 fn a_join_wants_a_free_chunk(rt: HostRuntime) -> Result<(), Fail> {
-    let large = filled(rt.alloc(), 600_000)?;
+    let large = filled_block(rt.alloc(), 600_000)?;
     let large = large.as_slice();
     let rows: [Row<'_>; 4] = [
         set(1000, b"k", 0, large, "stored"),
@@ -240,9 +240,9 @@ fn a_join_wants_a_free_chunk(rt: HostRuntime) -> Result<(), Fail> {
 /// The first join takes the second page. From there on a chunk is free, and joins stay in theirs.
 #[test]
 fn a_join_takes_a_page_once(rt: HostRuntime) -> Result<(), Fail> {
-    let first = filled(rt.alloc(), 600_000)?;
-    let more = filled(rt.alloc(), 50_000)?;
-    let whole = filled(rt.alloc(), 700_000)?;
+    let first = filled_block(rt.alloc(), 600_000)?;
+    let more = filled_block(rt.alloc(), 50_000)?;
+    let whole = filled_block(rt.alloc(), 700_000)?;
     let rows: [Row<'_>; 4] = [
         set(1000, b"k", 0, first.as_slice(), "stored"),
         join(1000, Verb::Append, more.as_slice(), "stored"),

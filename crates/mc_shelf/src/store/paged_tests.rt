@@ -6,8 +6,8 @@ use super::tests::{asked_in_parts, goes_alike};
 use super::*;
 use mc_command::Verb;
 use mc_hop::Fnv;
+use mc_rows::{Ask, Row, Want, ask_step, filled_block, first_unlike, set, step_of};
 use mc_slab::{Account, class_of};
-use mc_rows::{Ask, Row, Want, asked, filled, first_unlike, set, step_of};
 use std::process::Abort;
 use std::test::*;
 
@@ -65,8 +65,8 @@ fn account(store: &Store<Fnv>) -> (u32, u32) {
 /// An item that isn't dead keeps its pages until the new one has its own.
 #[test]
 fn one_that_stands_gives_its_pages_last(rt: HostRuntime) -> Result<(), Fail> {
-    let two = filled(rt.alloc(), TWO)?;
-    let three = filled(rt.alloc(), THREE)?;
+    let two = filled_block(rt.alloc(), TWO)?;
+    let three = filled_block(rt.alloc(), THREE)?;
     let rows: [Row<'_>; 5] = [
         set(1000, b"k", 0, two.as_slice(), "stored"),
         set(1000, b"k", 0, three.as_slice(), "no chunk"),
@@ -80,9 +80,9 @@ fn one_that_stands_gives_its_pages_last(rt: HostRuntime) -> Result<(), Fail> {
 /// A dead item of three pages gives way to one of two, and the third serves another.
 #[test]
 fn a_dead_one_gives_way_to_a_shorter(rt: HostRuntime) -> Result<(), Fail> {
-    let one = filled(rt.alloc(), ONE)?;
-    let two = filled(rt.alloc(), TWO)?;
-    let three = filled(rt.alloc(), THREE)?;
+    let one = filled_block(rt.alloc(), ONE)?;
+    let two = filled_block(rt.alloc(), TWO)?;
+    let three = filled_block(rt.alloc(), THREE)?;
     let rows: [Row<'_>; 5] = [
         set(1000, b"k", 10, three.as_slice(), "stored"),
         set(1010, b"k", 0, two.as_slice(), "stored"),
@@ -96,8 +96,8 @@ fn a_dead_one_gives_way_to_a_shorter(rt: HostRuntime) -> Result<(), Fail> {
 /// A dead item of two pages gives way to one of three, for which one page comes.
 #[test]
 fn a_dead_one_gives_way_to_a_longer(rt: HostRuntime) -> Result<(), Fail> {
-    let two = filled(rt.alloc(), TWO)?;
-    let three = filled(rt.alloc(), THREE)?;
+    let two = filled_block(rt.alloc(), TWO)?;
+    let three = filled_block(rt.alloc(), THREE)?;
     let rows: [Row<'_>; 3] = [
         set(1000, b"k", 10, two.as_slice(), "stored"),
         set(1010, b"k", 0, three.as_slice(), "stored"),
@@ -109,9 +109,9 @@ fn a_dead_one_gives_way_to_a_longer(rt: HostRuntime) -> Result<(), Fail> {
 /// The dead item goes even if its pages, too, are too few.
 #[test]
 fn a_dead_one_goes_where_no_room_is(rt: HostRuntime) -> Result<(), Fail> {
-    let one = filled(rt.alloc(), ONE)?;
-    let two = filled(rt.alloc(), TWO)?;
-    let three = filled(rt.alloc(), THREE)?;
+    let one = filled_block(rt.alloc(), ONE)?;
+    let two = filled_block(rt.alloc(), TWO)?;
+    let three = filled_block(rt.alloc(), THREE)?;
     let rows: [Row<'_>; 4] = [
         set(1000, b"k", 10, two.as_slice(), "stored"),
         set(1000, b"b", 0, one.as_slice(), "stored"),
@@ -130,10 +130,10 @@ fn join<'a>(verb: Verb, block: &'a [u8]) -> Row<'a> {
 /// A block that lies in several pages is joined of others.
 #[test]
 fn joins_go_over_pages(rt: HostRuntime) -> Result<(), Fail> {
-    let middle = filled(rt.alloc(), 1_000_000)?;
-    let end = filled(rt.alloc(), 1_500_000)?;
-    let front = filled(rt.alloc(), 500_000)?;
-    let three = filled(rt.alloc(), THREE)?;
+    let middle = filled_block(rt.alloc(), 1_000_000)?;
+    let end = filled_block(rt.alloc(), 1_500_000)?;
+    let front = filled_block(rt.alloc(), 500_000)?;
+    let three = filled_block(rt.alloc(), THREE)?;
     let rows: [Row<'_>; 4] = [
         set(1000, b"k", 0, middle.as_slice(), "stored"),
         join(Verb::Append, end.as_slice()),
@@ -146,10 +146,10 @@ fn joins_go_over_pages(rt: HostRuntime) -> Result<(), Fail> {
 /// What is appended to an item of two pages stays in them while as many are free. One that needs three finds too few.
 #[test]
 fn joins_stay_in_their_pages(rt: HostRuntime) -> Result<(), Fail> {
-    let first = filled(rt.alloc(), 1_500_000)?;
-    let second = filled(rt.alloc(), 400_000)?;
-    let third = filled(rt.alloc(), 100_000)?;
-    let two = filled(rt.alloc(), TWO)?;
+    let first = filled_block(rt.alloc(), 1_500_000)?;
+    let second = filled_block(rt.alloc(), 400_000)?;
+    let third = filled_block(rt.alloc(), 100_000)?;
+    let two = filled_block(rt.alloc(), TWO)?;
     let rows: [Row<'_>; 5] = [
         set(1000, b"k", 0, first.as_slice(), "stored"),
         join(Verb::Append, second.as_slice()),
@@ -167,7 +167,7 @@ fn joins_stay_in_their_pages(rt: HostRuntime) -> Result<(), Fail> {
 
 /// Makes so many bytes, of which the first and the last are others.
 fn bounded(alloc: Global, many: usize) -> Result<Vec<u8>, AllocError> {
-    let mut bytes = filled(alloc, many)?;
+    let mut bytes = filled_block(alloc, many)?;
     if let Some(first) = bytes.get_mut(0) {
         *first = b'a';
     }
@@ -181,8 +181,8 @@ fn bounded(alloc: Global, many: usize) -> Result<Vec<u8>, AllocError> {
 #[test]
 fn joins_of_pages_go_in_two_parts(rt: HostRuntime) -> Result<(), Fail> {
     let alloc = rt.alloc();
-    let first = filled(alloc, 1_500_000)?;
-    let second = filled(alloc, 900_000)?;
+    let first = filled_block(alloc, 1_500_000)?;
+    let second = filled_block(alloc, 900_000)?;
     let all = bounded(alloc, 2_400_002)?;
     let rows: [Row<'_>; 5] = [
         set(1000, b"k", 0, first.as_slice(), "stored"),
@@ -205,9 +205,9 @@ fn joins_of_pages_go_in_two_parts(rt: HostRuntime) -> Result<(), Fail> {
 #[test]
 fn a_join_of_pages_is_left(rt: HostRuntime) -> Result<(), Fail> {
     let alloc = rt.alloc();
-    let small = filled(alloc, 400_000)?;
-    let large = filled(alloc, 700_000)?;
-    let larger = filled(alloc, 1_000_000)?;
+    let small = filled_block(alloc, 400_000)?;
+    let large = filled_block(alloc, 700_000)?;
+    let larger = filled_block(alloc, 1_000_000)?;
     // What is joined, and whether it is left: to one chunk, to two pages that are to be three, to three that are copied for what comes
     // before, and to three that stay.
     let rows: [(Verb, &[u8], bool); 5] = [
@@ -220,7 +220,7 @@ fn a_join_of_pages_is_left(rt: HostRuntime) -> Result<(), Fail> {
     let mut store = open(alloc, 16)?;
     let now = Moment::from_seconds_at_most(1000);
     let step = step_of(b"k", Ask::Store(Verb::Set, 0, small.as_slice()));
-    let _ = asked(&mut store, alloc, &step, now);
+    let _ = ask_step(&mut store, alloc, &step, now);
     for (verb, block, want) in rows {
         let step = step_of(b"k", Ask::Store(verb, 0, block));
         let mut left = false;

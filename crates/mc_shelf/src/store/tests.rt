@@ -5,16 +5,18 @@
 ghost use Rattle.std.specs.Prelude.{◌≡◌, ◌≤◌, length, IfOk, OnErr};
 ghost use Rattle.mc_command.specs.Commands.{key_of};
 ghost use Rattle.mc_command.specs.Laws.{IsOnKey};
-ghost use Rattle.mc_shelf.specs.States.{CanStand};
-ghost use Rattle.mc_shelf.specs.Plans.{CanLook, IsTaken};
+ghost use Rattle.mc_shelf.specs.States.{CanStandAt};
+ghost use Rattle.mc_shelf.specs.Plans.{CanLook, StepTaken};
 
 use super::*;
 use crate::begun::Begun;
 use crate::exchange::Brought;
 use mc_command::Verb;
 use mc_hop::{Constant, Fnv};
+use mc_rows::{
+    Ask, Row, Want, ask_step, filled_block, first_unlike, is_wanted, set, step_of, told_of,
+};
 use mc_slab::class_of;
-use mc_rows::{Ask, Row, Want, asked, filled, first_unlike, is_wanted, set, step_of, told_of};
 use std::process::Abort;
 use std::test::*;
 
@@ -80,8 +82,8 @@ fn open_at_the_last(alloc: Global) -> Result<Store<Fnv>, AllocError> {
         greatest: 1048576,
         shelves: 64,
     };
-    match Store::starting(alloc, settings, Fnv, u64::MAX - 1) {
-        Err(_) => Store::starting(alloc, settings, Fnv, u64::MAX - 1),
+    match Store::with_next_number(alloc, settings, Fnv, u64::MAX - 1) {
+        Err(_) => Store::with_next_number(alloc, settings, Fnv, u64::MAX - 1),
         made => made,
     }
 }
@@ -297,7 +299,7 @@ fn a_chunk_that_is_not_left_is_told(rt: HostRuntime) -> Result<(), Fail> {
 
 #[test]
 fn a_chunk_that_comes_back_serves_another_shelf(rt: HostRuntime) -> Result<(), Fail> {
-    let large = filled(rt.alloc(), 600000)?;
+    let large = filled_block(rt.alloc(), 600000)?;
     let large = large.as_slice();
     let rows: [Row<'_>; 10] = [
         set(1000, b"a", 0, large, "stored"),
@@ -318,7 +320,7 @@ fn a_chunk_that_comes_back_serves_another_shelf(rt: HostRuntime) -> Result<(), F
 
 #[test]
 fn a_purge_drops_the_dead_of_one_shelf(rt: HostRuntime) -> Result<(), Fail> {
-    let large = filled(rt.alloc(), 600000)?;
+    let large = filled_block(rt.alloc(), 600000)?;
     let large = large.as_slice();
     let now = Moment::from_seconds_at_most(1010);
     let mut store = open(rt.alloc(), 1)?;
@@ -432,7 +434,7 @@ fn answered(store: &mut Store<Constant>, alloc: Global, key: u8, ask: Ask<'_>) -
     let key = [key];
     let step = step_of(&key, ask);
     let now = Moment::from_seconds_at_most(1000);
-    told_of(&asked(store, alloc, &step, now))
+    told_of(&ask_step(store, alloc, &step, now))
 }
 
 /// Keys of one hash, of which a table takes 32, and the others are strays. The table of 64 homes
@@ -479,8 +481,8 @@ fn step_in_parts(
     left: &mut bool,
 ) -> Result<Reply, StepFault>
     requires look { CanLook step.now hash shelf.old.content }
-    requires stands { CanStand (key_of step.now) shelf.old.content desk.old }
-    ensures took { IfOk result (λ reply. IsTaken step.now now hash shelf.old.content desk.old
+    requires stands { CanStandAt (key_of step.now) shelf.old.content desk.old }
+    ensures took { IfOk result (λ reply. StepTaken step.now now hash shelf.old.content desk.old
         reply shelf.new.content desk.new) }
     ensures err { OnErr result
         ((shelf.new.content ≡ shelf.old.content) × (desk.new ≡ desk.old)) }
@@ -561,7 +563,7 @@ pub(super) fn goes_alike(
     let now = Moment::from_seconds_at_most(seconds);
     let step = step_of(key, ask);
     let mut left = false;
-    is_wanted(&asked(whole, alloc, &step, now), want)
+    is_wanted(&ask_step(whole, alloc, &step, now), want)
         && is_wanted(&asked_in_parts(parted, alloc, &step, now, &mut left), want)
         && are_alike(&whole.parts.desk, &parted.parts.desk)
 }

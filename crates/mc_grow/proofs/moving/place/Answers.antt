@@ -1,4 +1,4 @@
-use Rattle.mc_grow.proofs.Words.{ℕ, ◌∷◌, ◌++◌, [], map, Some, inr, subst, sym, ap, ◌∙◌, IsAbsent, home_in, absent_of, IsFull}
+use Rattle.mc_grow.proofs.Words.{ℕ, ◌∷◌, ◌++◌, [], map, Some, inr, subst, sym, ap, ◌∙◌, IsAbsent, home_in, absent_of, IsCrowded}
 use Rattle.mc_grow.proofs.MoveLemmas.{in_first, new_to_each, strayed}
 use Rattle.mc_grow.proofs.moving.place.Goals as goal
 
@@ -20,7 +20,7 @@ returns-clause-added g c =
     inr (record {
       none_near = c.in-Err.ensures.near;
       same = c.in-Err.ensures.full.1;
-      full = subst (λ (k : ℕ). IsFull g.T.Keyed.hash_of k c.add.new.table.items (home_in k (g.T.Keyed.hash_of c.args.entry))) c.add.ensures.size.0 c.in-Err.ensures.full.2;
+      full = subst (λ (k : ℕ). IsCrowded g.T.Keyed.hash_of k c.add.new.table.items (home_in k (g.T.Keyed.hash_of c.args.entry))) c.add.ensures.size.0 c.in-Err.ensures.full.2;
       strays = c.push_reserved.ensures.items ∙ ap (λ (e : g.row.T.Denot). c.args.strays.now.items ++ (e ∷ [])) c.in-Err.ensures.full.0;
     })
 

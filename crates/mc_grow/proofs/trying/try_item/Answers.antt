@@ -1,4 +1,4 @@
-use Rattle.mc_grow.proofs.Words.{true≢false, ◌<◌, ◌++◌, length, map, Some, ℕ, List, subst, sym, arith, home_in, absent_of, swapped, IsFull, HoldsAll, rules, ap, get_or, ◌∙◌}
+use Rattle.mc_grow.proofs.Words.{true≢false, ◌<◌, ◌++◌, length, map, Some, ℕ, List, subst, sym, arith, home_in, absent_of, swapped, IsCrowded, HoldsAll, rules, ap, get_or, ◌∙◌}
 use Rattle.mc_grow.proofs.MoveLemmas.{instead}
 use Rattle.mc_grow.proofs.StrayLemmas.{stray_is_new, stray_put}
 use Rattle.mc_grow.proofs.trying.try_item.Goals as goal
@@ -42,7 +42,7 @@ returns g c =
         outcome = (
           c.in-Err.ensures.full.1,
           c.in-Err.ensures.near,
-          subst (λ (k : ℕ). IsFull g.T.Keyed.hash_of k c.add.new.table.items (home_in k (g.T.Keyed.hash_of c.swap_remove-entry.result))) c.add.ensures.size.0 c.in-Err.ensures.full.2,
+          subst (λ (k : ℕ). IsCrowded g.T.Keyed.hash_of k c.add.new.table.items (home_in k (g.T.Keyed.hash_of c.swap_remove-entry.result))) c.add.ensures.size.0 c.in-Err.ensures.full.2,
           back,
         );
       };

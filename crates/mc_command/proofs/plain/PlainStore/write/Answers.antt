@@ -4,28 +4,28 @@ use Rattle.mc_command.specs.Steps.{number_in}
 use Rattle.mc_command.proofs.WriteLemmas.{draft-is, draft-stays, Ends-refused, Ends-finished}
 use Rattle.mc_command.proofs.plain.PlainStore.write.Goals as goal
 
-pub prepared-requires-clause-stays : goal.prepared-requires-clause-stays
-prepared-requires-clause-stays c =
+pub prepare-requires-clause-stays : goal.prepare-requires-clause-stays
+prepare-requires-clause-stays c =
     let digits : c.as_bytes-digits.result.now ≡ decimal (number_in c.args.draft.body) = search rules in
     draft-stays c.args.draft c.args.key.now c.args.block.now c.block_in.result.now c.as_bytes-digits.result.now c.args.self.now c.args.now
-    c.standing-item.result c.drafted-write.result c.stays-stays.result
-    c.standing-item.ensures c.block_in.ensures digits c.drafted-write.ensures c.stays-stays.ensures
+    c.standing_item-item.result c.lend_write-write.result c.stays-stays.result
+    c.standing_item-item.ensures c.block_in.ensures digits c.lend_write-write.ensures c.stays-stays.ensures
 
 pub returns-in_err-next : goal.returns-in_err-next
 returns-in_err-next c =
     let digits : c.as_bytes-digits.result.now ≡ decimal (number_in c.args.draft.body) = search rules in
     let fault : c.from_residual.result ≡ Err c.in_err-next.field-0.0 = search rules in
-    Ends-refused _ _ c.prepared.result c.in_err-next.field-0.0 c.from_residual.result c.args.key.now c.args.self.now c.args.now
-    (draft-is c.args.draft c.args.key.now c.args.block.now c.block_in.result.now c.as_bytes-digits.result.now c.args.self.now c.args.now c.standing-item.result
-    c.drafted-write.result c.stays-stays.result
-    c.standing-item.ensures c.block_in.ensures digits c.drafted-write.ensures c.stays-stays.ensures c.reply.result c.reply.ensures)
-    c.prepared.ensures c.in_err-next.was fault
+    Ends-refused _ _ c.prepare.result c.in_err-next.field-0.0 c.from_residual.result c.args.key.now c.args.self.now c.args.now
+    (draft-is c.args.draft c.args.key.now c.args.block.now c.block_in.result.now c.as_bytes-digits.result.now c.args.self.now c.args.now c.standing_item-item.result
+    c.lend_write-write.result c.stays-stays.result
+    c.standing_item-item.ensures c.block_in.ensures digits c.lend_write-write.ensures c.stays-stays.ensures c.reply.result c.reply.ensures)
+    c.prepare.ensures c.in_err-next.was fault
 
 pub returns : goal.returns
 returns c =
     let digits : c.as_bytes-digits.result.now ≡ decimal (number_in c.args.draft.body) = search rules in
     Ends-finished _ _ c.in_ok-next.next c.finish.result c.args.key.now c.args.self.now c.finish.new.self c.args.now
-    (draft-is c.args.draft c.args.key.now c.args.block.now c.block_in.result.now c.as_bytes-digits.result.now c.args.self.now c.args.now c.standing-item.result
-    c.drafted-write.result c.stays-stays.result
-    c.standing-item.ensures c.block_in.ensures digits c.drafted-write.ensures c.stays-stays.ensures c.reply.result c.reply.ensures)
+    (draft-is c.args.draft c.args.key.now c.args.block.now c.block_in.result.now c.as_bytes-digits.result.now c.args.self.now c.args.now c.standing_item-item.result
+    c.lend_write-write.result c.stays-stays.result
+    c.standing_item-item.ensures c.block_in.ensures digits c.lend_write-write.ensures c.stays-stays.ensures c.reply.result c.reply.ensures)
     c.in_ok-next.ensures c.finish.ensures

@@ -5,7 +5,7 @@ use Rattle.mc_options.proofs.options.Asked.settings.Goals as goal
 
 pub returns-clause-none : goal.returns-clause-none
 returns-clause-none c = λ none.
-    no_shelf_count c.args.self.shelves c.taken-shelves.result c.taken-shelves.ensures (λ fits.
+    no_shelf_count c.args.self.shelves c.asked_or_usual-shelves.result c.asked_or_usual-shelves.ensures (λ fits.
     let some : IsSome {T = Settings} None =
-    subst (IsSome {T = Settings}) none (c.new.ensures.exactly.1 (c.taken-pages.ensures.range, c.greatest_of.ensures.range, fits)) in
+    subst (IsSome {T = Settings}) none (c.new.ensures.exactly.1 (c.asked_or_usual-pages.ensures.range, c.greatest_of.ensures.range, fits)) in
     true≢false (sym some))

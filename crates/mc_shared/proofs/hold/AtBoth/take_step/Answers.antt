@@ -2,7 +2,7 @@ use Rattle.std.proofs.Common.{arith, ◌≡◌, ◌+◌, ◌-◌, ◌%◌, ℕ, 
 use Rattle.mc_shared.proofs.Words.{get, len, key_of, Plain, ShelfState, ShelfContent, DeskState, IsShelfOf, IsDeskOf, number_of, OfShelf, OfDesk, Operation, start_of}
 use Rattle.mc_shared.proofs.Words.{Stepped, Past, call, word_of, MayDecide, IsAnswered, SharedState, CallerState, Refuses, holds_one, holds_two, Mine, Agrees, HoldsThis}
 use Rattle.mc_shared.proofs.Words.{loaded, decided_by, entry_of, HoldsBoth, IsAsked, caller_of, StoreState}
-use Rattle.mc_shelf.specs.Plans.{IsTaken, finished, told_next}
+use Rattle.mc_shelf.specs.Plans.{StepTaken, finished, told_next}
 use Rattle.mc_shelf.proofs.PartLemmas.{goes_by_step}
 use Rattle.mc_shared.specs.Holds.{BothHold}
 use Rattle.mc_shared.proofs.Decisions.{applies_step, goes_step}
@@ -72,8 +72,8 @@ decide-requires g c =
     let lent = (goal.at.decide-requires g c).After-deref_mut-2 in
     let asked = subst (λ (s : SharedState g.row.K.Denot). IsAsked hash_of s ask) (sym c.shared.view_is) (is_asked g lent).0 in
     let own = asked.own ∙ (is_asked g lent).1 in
-    let taken : IsTaken step ask.moment (began.hash_of key) old from reply new to =
-    subst (λ (h : ℕ). IsTaken step ask.moment h old from reply new to) asked.hashed c.in-Ok.ensures.took in
+    let taken : StepTaken step ask.moment (began.hash_of key) old from reply new to =
+    subst (λ (h : ℕ). StepTaken step ask.moment h old from reply new to) asked.hashed c.in-Ok.ensures.took in
     let by_step = λ (m : Plain) (part : IsShelfOf began.hash_of began.shelves m at old) (desk : IsDeskOf m from).
     goes_by_step step own part desk asked.on_key taken in
     let added : ℕ = c.raise_for-word.result.1 in

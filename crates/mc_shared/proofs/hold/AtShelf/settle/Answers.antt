@@ -1,5 +1,5 @@
 use Rattle.std.proofs.Common.{[], refl, sym, ap, ◌∙◌, subst}
-use Rattle.mc_shared.proofs.Words.{key_of, ShelfState, IsSettled, Plain, IsShelfOf, goes_without_desk, OfShelf, decided_by, holds_one, start_of, Stepped, SharedState}
+use Rattle.mc_shared.proofs.Words.{key_of, ShelfState, PlanIsSettled, Plain, IsShelfOf, goes_without_desk, OfShelf, decided_by, holds_one, start_of, Stepped, SharedState}
 use Rattle.mc_shared.proofs.Words.{MayDecide, HoldsShelf, IsAsked}
 use Rattle.mc_shelf.specs.Plans.{IsPlan}
 use Rattle.mc_shared.proofs.Decisions.{settles, goes_alone}
@@ -23,8 +23,8 @@ decide-requires g c =
     let asked = subst (λ (s : SharedState g.row.K.Denot). IsAsked hash_of s ask) (sym (c.shared.view_is ∙ ap (λ h. h.shared) c.self.view_is)) c.requires.asked in
     let own = asked.own ∙ sym (ap (λ h. h.at) c.self.view_is ∙ c.requires.at) in
     let plan = subst (λ (s : ShelfState). IsPlan c.args.plan s.content step ask.moment) (sym (here ∙ ap (λ h. h.shelf) c.self.view_is)) c.requires.plan.is_plan in
-    let settled : IsSettled step ask.moment (began.hash_of (key_of step)) old reply new =
-    subst (λ h. IsSettled step ask.moment h old reply new) (c.requires.plan.hashed ∙ asked.hashed) (c.settle-reply.ensures.told step ask.moment plan) in
+    let settled : PlanIsSettled step ask.moment (began.hash_of (key_of step)) old reply new =
+    subst (λ h. PlanIsSettled step ask.moment h old reply new) (c.requires.plan.hashed ∙ asked.hashed) (c.settle-reply.ensures.told step ask.moment plan) in
     let what = Stepped step ask.moment reply in
     let held = holds_one c.self.inside.seat.me.0.past at (OfShelf old) in
     let alone =

@@ -1,5 +1,5 @@
 use Rattle.std.proofs.Common.{[], refl, sym, ◌∙◌, subst}
-use Rattle.mc_shared.proofs.Words.{key_of, Plain, hit_of, ShelfState, IsShelfOf, IsSettled, goes_without_desk, OfShelf, start_of, Stepped, MayDecide, SharedState}
+use Rattle.mc_shared.proofs.Words.{key_of, Plain, hit_of, ShelfState, IsShelfOf, PlanIsSettled, goes_without_desk, OfShelf, start_of, Stepped, MayDecide, SharedState}
 use Rattle.mc_shared.proofs.Words.{decided_by, holds_one, HoldsShelf, IsAsked}
 use Rattle.mc_shelf.specs.Plans.{stood}
 use Rattle.mc_shared.proofs.Decisions.{settles, goes_alone}
@@ -22,8 +22,8 @@ decide-requires g c =
     let reply = hit_of (stood old step ask.moment) in
     let inv = c.self.invariant in
     let asked = subst (λ (s : SharedState g.row.K.Denot). IsAsked hash_of s ask) (sym c.self.view_is) c.requires.asked in
-    let settled : IsSettled step ask.moment (began.hash_of (key_of step)) old reply new =
-    subst (λ h. IsSettled step ask.moment h old reply new) asked.hashed c.settle_read.ensures in
+    let settled : PlanIsSettled step ask.moment (began.hash_of (key_of step)) old reply new =
+    subst (λ h. PlanIsSettled step ask.moment h old reply new) asked.hashed c.settle_read.ensures in
     let what = Stepped step ask.moment reply in
     let held = holds_one seat.me.0.past at (OfShelf old) in
     let alone =

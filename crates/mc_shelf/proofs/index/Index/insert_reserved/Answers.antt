@@ -20,7 +20,7 @@ invariant_of-self c =
       came_keyed inside.entries c.insert_reserved.new.self c.self.invariant.0 entry absent c.insert_reserved.ensures.content,
       sooner_insert inside.soonest c.with-self-inside.result (items_of inside.entries) (items_of c.insert_reserved.new.self) entry.key entry.item comes.items c.self.invariant.1
           c.with-self-inside.ensures.others
-          (c.with-self-inside.ensures.one entry.item (sym c.expiry.ensures) (sym c.updated.ensures)),
+          (c.with-self-inside.ensures.one entry.item (sym c.expiry.ensures) (sym c.updated_at.ensures)),
     )
 
 pub returns-clause-inserted : goal.returns-clause-inserted

@@ -1,5 +1,5 @@
 use Rattle.std.proofs.Common.{ap, ◌∙◌, subst, sym}
-use Rattle.mc_shelf.specs.KeyMaps.{IsKeyed, hashes_in, items_in}
+use Rattle.mc_shelf.specs.KeyMaps.{EntriesAreKeyed, hashes_in, items_in}
 use Rattle.mc_shelf.proofs.KeyMapLemmas.{hashes-empty, items-empty, keyed-empty}
 use Rattle.mc_shelf.proofs.IndexLemmas.{new_empty}
 use Rattle.mc_shelf.proofs.DeathLemmas.{sooner_none}
@@ -12,4 +12,4 @@ pub returns-clause-hashes : goal.returns-clause-hashes
 returns-clause-hashes c = ap hashes_in (new_empty 6 c.in_ok-new.field-0 c.in_ok-new.ensures) ∙ hashes-empty
 
 pub invariant_of-result : goal.invariant_of-result
-invariant_of-result c = (subst IsKeyed (sym (new_empty 6 c.in_ok-new.field-0 c.in_ok-new.ensures)) keyed-empty, sooner_none _ _ (returns-clause-items c))
+invariant_of-result c = (subst EntriesAreKeyed (sym (new_empty 6 c.in_ok-new.field-0 c.in_ok-new.ensures)) keyed-empty, sooner_none _ _ (returns-clause-items c))

@@ -1,5 +1,5 @@
 use Rattle.std.proofs.Common.{◌≡◌, List, ℕ, Option, Some, None, inl, is_some, length, arith, sym, ap, subst, ◌∙◌}
-use Rattle.mc_shelf.proofs.Common.{block_need, block_of, Body, charge, Draft, Entry, EntryState, get, Given, IsChanged, items_of, key_of, KeyStep, need_for}
+use Rattle.mc_shelf.proofs.Common.{block_need, block_of, Body, charge, Draft, Entry, EntryState, get, Given, ItemIsChanged, items_of, key_of, KeyStep, need_for}
 use Rattle.mc_shelf.proofs.Common.{ShelfContent, ShelfState}
 use Rattle.mc_shelf.specs.Plans.{IsPut, block_beside, drafted, with_item}
 use Rattle.mc_shelf.proofs.ShelfLemmas.{changed_put, content_of, known_sought, put_again, put_new}
@@ -15,7 +15,7 @@ head_put c =
     let key : c.head_of-entry.result.key ≡ key_of c.args.step.now = ap (λ (e : EntryState). e.key) c.head_of-entry.ensures.value ∙ c.key-in-Some.ensures in
     changed_put inside.greatest inside.cut c.args.self.now.content inside.index (ap (λ (s : ShelfState). s.content) c.self.view_is) (key_of c.args.step.now) c.args.write.now.hash
     c.replace-old.new.self c.head_of-entry.result.item c.requires.can.known.hash
-    (subst (λ (k : List ℕ). IsChanged inside.index c.replace-old.new.self k c.head_of-entry.result.item) key c.replace-old.ensures.changed)
+    (subst (λ (k : List ℕ). ItemIsChanged inside.index c.replace-old.new.self k c.head_of-entry.result.item) key c.replace-old.ensures.changed)
 
 -- a block that is given stands beside no other
 own_block : (draft : Draft) (step : KeyStep) (shelf : ShelfContent) → draft.body ≡ Given → block_of step ≡ block_beside shelf step draft

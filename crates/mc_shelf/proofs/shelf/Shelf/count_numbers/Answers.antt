@@ -1,6 +1,6 @@
 use Rattle.std.proofs.Common.{◌%◌, ◌-◌, ◌^◌, ◌<◌, slice_index, refl, sym, ap, subst, ◌∙◌, arith}
 use Rattle.mc_shelf.specs.States.{ShelfState}
-use Rattle.mc_shelf.specs.Numbers.{AreCounted, HasPlaces}
+use Rattle.mc_shelf.specs.Numbers.{KeysAreCounted, HasPlaces}
 use Rattle.mc_shelf.proofs.NumberLemmas.{all_counted, counts_fit, counts_next, counts_zero, none_counted, raised}
 use Rattle.mc_shelf.proofs.shelf.Shelf.count_numbers.Goals as goal
 
@@ -37,6 +37,6 @@ loop-number-preserved c =
 pub returns : goal.returns
 returns c =
     let inside = c.self.inside in
-    subst (λ (s : ShelfState). AreCounted s.content c.args.counts.now c.loop-number.counts) c.self.view_is
+    subst (λ (s : ShelfState). KeysAreCounted s.content c.args.counts.now c.loop-number.counts) c.self.view_is
     (all_counted inside.greatest inside.cut inside.index c.in_default.ensures.keyed c.is_empty.ensures.once c.loop-number.at c.in_default.ensures.next c.args.counts.now c.loop-number.counts
     c.loop-number.invariant)

@@ -1,5 +1,5 @@
 use Rattle.std.proofs.Common.{ap, subst, ◌∙◌}
-use Rattle.mc_shelf.proofs.Common.{Entry, get, IsChanged, ShelfState}
+use Rattle.mc_shelf.proofs.Common.{Entry, get, ItemIsChanged, ShelfState}
 use Rattle.mc_shelf.proofs.PlaceLemmas.{there_item}
 use Rattle.mc_shelf.proofs.ShelfLemmas.{changed_put}
 use Rattle.mc_shelf.specs.Counts.{KeepsTable, counts_in, counts_of}
@@ -14,7 +14,7 @@ returns-in-Some-clause-put c item found =
     let same = there_item inside.index key c.in-Some.place at item (ap (λ (s : ShelfState). get s.content.items key) c.self.view_is ∙ found) in
     changed_put inside.greatest inside.cut c.args.self.now.content inside.index (ap (λ (s : ShelfState). s.content) c.self.view_is) key c.args.hash c.set_expiry.new.self
     (record item { expiry = c.args.expiry }) c.requires.hash
-    (subst (λ (i : Entry). IsChanged inside.index c.set_expiry.new.self key i) (ap (λ (i : Entry). record i { expiry = c.args.expiry }) same) (c.set_expiry.ensures key at))
+    (subst (λ (i : Entry). ItemIsChanged inside.index c.set_expiry.new.self key i) (ap (λ (i : Entry). record i { expiry = c.args.expiry }) same) (c.set_expiry.ensures key at))
 
 pub returns-in-Some-clause-table : goal.returns-in-Some-clause-table
 returns-in-Some-clause-table c =

@@ -17,7 +17,7 @@ returns-clause-wanted c =
     let need = c.need_for-need.result in
     let need_is = c.need_for-need.ensures.value in
     let back = c.back.ensures.value in
-    IfSome_then c.wanted.result c.wanted.ensures.wanted (λ wanted is.
+    IfSome_then c.wanted_pages.result c.wanted_pages.ensures.wanted (λ wanted is.
     let wants = subst (λ (n : ℕ). WantsPages slab need n) back is.0 in
     let same = is.1 ∙ ap (λ (n : ℕ). record { class = need.class; pages = pages_wanted slab need n }) back in (
       record {

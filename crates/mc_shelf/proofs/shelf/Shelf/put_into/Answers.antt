@@ -1,5 +1,5 @@
 use Rattle.std.proofs.Common.{◌≡◌, List, ℕ, Some, ap, subst, sym, ◌∙◌}
-use Rattle.mc_shelf.proofs.Common.{block_of, EntryState, get, hashes_of, IsChanged, key_of, ShelfState}
+use Rattle.mc_shelf.proofs.Common.{block_of, EntryState, get, hashes_of, ItemIsChanged, key_of, ShelfState}
 use Rattle.mc_shelf.specs.Plans.{block_beside, block_in, drafted, item_in, made_block}
 use Rattle.mc_shelf.proofs.ShelfLemmas.{moved_is}
 use Rattle.mc_shelf.proofs.shelf.Shelf.put_into.Goals as goal
@@ -13,8 +13,8 @@ returns-in-Some-clause-content c =
     let key = key_of step in
     let item = drafted write.draft (block_beside old step write.draft) c.args.unique write.moment in
     let here = c.in-Some.ensures in
-    let beside : block_in (item_in c.found-old.result) ≡ block_in (get old.items key) =
-    ap block_in ((c.found-old.ensures c.key.result.now c.find_again-place.ensures).item
+    let beside : block_in (item_in c.found_entry-old.result) ≡ block_in (get old.items key) =
+    ap block_in ((c.found_entry-old.ensures c.key.result.now c.find_again-place.ensures).item
     ∙ ap (λ (s : ShelfState). get s.content.items c.key.result.now) c.self.view_is
     ∙ ap (λ (k : List ℕ). get old.items k) c.key.ensures) in
     let entry : c.entry_in-entry.result ≡ record { hash = write.hash; key = key; item = item } =
@@ -28,4 +28,4 @@ returns-in-Some-clause-content c =
     sym (ap (λ (s : ShelfState). get s.content.hashes key) c.self.view_is) ∙ ap (λ (k : List ℕ). get (hashes_of inside.index) k) (sym c.key.ensures) ∙ here.hash in
     moved_is inside.greatest inside.cut old inside.index (ap (λ (s : ShelfState). s.content) c.self.view_is) key write.hash c.replace.new.self c.args.chunks item
     (stood ∙ ap Some (c.requires.sought.hash here.entry.hash stood))
-    (subst (λ (e : EntryState). IsChanged inside.index c.replace.new.self e.key e.item) entry c.replace.ensures.changed)
+    (subst (λ (e : EntryState). ItemIsChanged inside.index c.replace.new.self e.key e.item) entry c.replace.ensures.changed)

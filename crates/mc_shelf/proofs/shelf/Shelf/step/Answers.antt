@@ -1,7 +1,7 @@
 use Rattle.std.proofs.Common.{◌≡◌, ℕ, List, Err, Result, rules, sym, subst, ◌∙◌}
 use Rattle.mc_shelf.proofs.Common.{key_of, Reply, ShelfContent, StepFault}
 use Rattle.mc_command.specs.declared.step.StepFault.TheVariants.{NoMemory, NumbersSpent}
-use Rattle.mc_shelf.specs.Plans.{CanWrite, IsSpent, IsTaken, NeedsPages}
+use Rattle.mc_shelf.specs.Plans.{CanWrite, IsSpent, StepTaken, NeedsPages}
 use Rattle.mc_shelf.proofs.TakesLemmas.{is_spent}
 use Rattle.mc_shelf.proofs.RefusalLemmas.{can_wants, needs_can, spent_told, taken_not_spent, wants_not_spent, writes_some}
 use Rattle.mc_shelf.specs.Counts.{counts_of}
@@ -47,7 +47,7 @@ returns-clause-spent c =
           is_spent step c.args.now old desk c.requires.look.on_key some.0 some.1 (sym some.2 ∙ plan.next) both.1),
       (λ spent. spent_told c.apply.result _ c.apply.ensures.took
           (λ reply took. taken_not_spent step c.in_ok-plan.plan.moment c.in_ok-plan.plan.hash old desk reply c.apply.new.self.content c.apply.new.desk c.requires.stands
-          (subst (λ (t : ShelfContent). IsTaken step c.in_ok-plan.plan.moment c.in_ok-plan.plan.hash t desk reply c.apply.new.self.content c.apply.new.desk) c.make_room.ensures.content took)
+          (subst (λ (t : ShelfContent). StepTaken step c.in_ok-plan.plan.moment c.in_ok-plan.plan.hash t desk reply c.apply.new.self.content c.apply.new.desk) c.make_room.ensures.content took)
           (subst (λ (m : ℕ). IsSpent step m old desk) (sym plan.moment) spent))
           (λ e. wants_not_spent step c.args.now old desk c.requires.stands (returns-clause-refused c e) spent)),
     )

@@ -1,5 +1,5 @@
 use Rattle.std.proofs.Common.{None, subst, append-nil}
-use Rattle.mc_guests.specs.Links.{LinkState, Takes}
+use Rattle.mc_guests.specs.Links.{LinkState, IsWrite}
 use Rattle.mc_sockets.proofs.channel.ChannelLink.try_write.Goals as goal
 
 pub returns-clause-takes : goal.returns-clause-takes
@@ -18,4 +18,4 @@ returns-clause-takes c =
       is_ended = c.try_write_both.new.self.is_ended;
       was_read = c.try_write_both.new.self.was_read;
     } in
-    subst (λ bytes. Takes old bytes c.try_write_both.result new) (append-nil c.args.bytes.now) c.try_write_both.ensures.takes
+    subst (λ bytes. IsWrite old bytes c.try_write_both.result new) (append-nil c.args.bytes.now) c.try_write_both.ensures.takes

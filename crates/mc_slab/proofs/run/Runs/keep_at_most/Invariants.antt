@@ -1,6 +1,6 @@
 use Rattle.std.proofs.Common.{◌≡◌}
 use Rattle.mc_slab.specs.Runs.{AreRunsOf, uncut}
-use Rattle.mc_slab.proofs.run.Runs.kept.Given as goal
+use Rattle.mc_slab.proofs.run.Runs.keep_at_most.Given as goal
 
 abbrev pub invariant-loop-count : goal.invariant-loop-count
 invariant-loop-count l = record {

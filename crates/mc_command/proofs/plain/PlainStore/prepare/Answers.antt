@@ -4,7 +4,7 @@ use Rattle.mc_command.specs.declared.step.StepFault.TheVariants.{NoMemory}
 use Rattle.mc_command.specs.Plain.{Answered}
 use Rattle.mc_command.specs.Steps.{placed}
 use Rattle.mc_command.proofs.WriteLemmas.{write-full, write-placed, Prepares-refused, need-by}
-use Rattle.mc_command.proofs.plain.PlainStore.prepared.Goals as goal
+use Rattle.mc_command.proofs.plain.PlainStore.prepare.Goals as goal
 
 pub returns-then-not-has_room : goal.returns-then-not-has_room
 returns-then-not-has_room c = record {
@@ -17,9 +17,9 @@ returns-then-not-has_room c = record {
   refused = λ e. cc;
 }
 
-pub returns-in_err-made-2 : goal.returns-in_err-made-2
-returns-in_err-made-2 c =
-    let fault : c.from_residual-in_err-made-2.result ≡ Err NoMemory = search rules in
+pub returns-in_err-make_block-2 : goal.returns-in_err-make_block-2
+returns-in_err-make_block-2 c =
+    let fault : c.from_residual-in_err-make_block-2.result ≡ Err NoMemory = search rules in
     Prepares-refused _ c.args.reply (placed c.args.write.now c.args.key.now c.args.self.now c.args.now) _ c.args.key.now c.args.self.now c.args.now
     (write-placed c.args.self.now c.args.key.now c.args.now c.args.write.now c.args.reply c.in-Some.need (sym c.in-Some.is ∙ c.need_for.ensures.value) (sym c.is_spent.ensures ∙ c.if-is_spent.false)
     c.args.stays c.if-stays.false (sym c.has_room.ensures ∙ c.if-not-has_room.false))
@@ -35,7 +35,7 @@ returns c = record {
     number = search rules;
   };
   same =
-      ap (λ (w : Written). Answered c.args.reply (placed w c.args.key.now c.args.self.now c.args.now)) c.in_ok-made-2.ensures
+      ap (λ (w : Written). Answered c.args.reply (placed w c.args.key.now c.args.self.now c.args.now)) c.in_ok-make_block-2.ensures
       ∙ sym (write-placed c.args.self.now c.args.key.now c.args.now c.args.write.now c.args.reply c.in-Some.need (sym c.in-Some.is ∙ c.need_for.ensures.value)
       (sym c.is_spent.ensures ∙ c.if-is_spent.false)
       c.args.stays c.if-stays.false (sym c.has_room.ensures ∙ c.if-not-has_room.false));

@@ -1,5 +1,5 @@
 use Rattle.std.proofs.Common.{◌∙◌}
-use Rattle.mc_server.proofs.said.Goals as goal
+use Rattle.mc_server.proofs.tell_end.Goals as goal
 
 pub returns : goal.returns
 returns c = c.from.ensures ∙ c.ending-status.ensures.status

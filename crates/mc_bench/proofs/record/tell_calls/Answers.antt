@@ -4,7 +4,7 @@ use Rattle.mc_shared.proofs.Sent.{Lent, tuple_send, lent, heap_lent, shared_lent
 use Rattle.mc_bench.proofs.Sent.{hasher_sync}
 use Rattle.mc_bench.specs.contracts.record.Script as script
 use Rattle.mc_bench.proofs.record.Script.TheSendSync as scripts
-use Rattle.mc_bench.proofs.record.told.Goals as goal
+use Rattle.mc_bench.proofs.record.tell_calls.Goals as goal
 
 script_lent : Lent script.the_row
 script_lent = lent script.the_row scripts.the_sync
