@@ -52,4 +52,5 @@ put_back {X} old less more new at last y l many swap pushed back len =
 pub put_back_again : {X : Type 0} (old less more new : List X) (at last : ℕ) (x : X) → at < length old → x ≡ get_or old at x → IsSwapped old less at
     → more ≡ less ++ (x ∷ []) → last ≡ length less → SwappedAt more new at last → length new ≡ length old → new ≡ old
 put_back_again old less more new at last x l there swap pushed ends back len =
-    put_back old less more new at last x l (omega (arith, swap.shorter)) swap pushed back (omega (arith, swap.shorter, ap length pushed ∙ length_push less x)) ∙ ap (set old at) there ∙ set-get_or old at x
+    put_back old less more new at last x l (omega (arith, swap.shorter)) swap pushed back (omega (arith, swap.shorter, ap length pushed ∙ length_push less x))
+    ∙ ap (set old at) there ∙ set-get_or old at x

@@ -55,7 +55,8 @@ none_stands e ([], rest, is) = cc is
 none_stands e (x ∷ before, rest, is) = cc is
 
 -- what stands in a list stands before one of its places, at it, or behind it
-pub around : (before : List HistoryEntry) (at : HistoryEntry) (behind : List HistoryEntry) (e : HistoryEntry) → StandsInLog (before ++ at ∷ behind) e → StandsInLog before e ⊎ ((e ≡ at) ⊎ StandsInLog behind e)
+pub around : (before : List HistoryEntry) (at : HistoryEntry) (behind : List HistoryEntry) (e : HistoryEntry) → StandsInLog (before ++ at ∷ behind) e
+    → StandsInLog before e ⊎ ((e ≡ at) ⊎ StandsInLog behind e)
 around [] at behind e s = inr (first_or_behind at e behind s)
 around (x ∷ before) at behind e s = ⊎_elim
     (λ (is : e ≡ x). inl ([], before, ap (λ y. y ∷ before) (sym is)))

@@ -88,7 +88,11 @@ stocked_give began m m' words homes views id b v w x x' xs s at is rests fits ke
           let z : get_or (set words (place b) 0) (place c) 0 ≡ 0 = ap (λ k. get_or (set words (place b) 0) (place k) 0) e ∙ gone in omega (arith, f, low, one, z))
           (λ ne. let none_here = elsewhere b c x ne in let now = get_or-set_other words (place b) (place c) 0 0 (places_apart c b ne) in omega (arith, f, none_here, now));
       home = λ c lc free. dite (ℕ_discrete c b)
-          (λ e. (x', ap (λ k. get_elem? (set homes (place b) (some (Some x'))) (place k)) e ∙ set_here homes (place b) (some (Some x')) lh, subst (λ k. FitsBay began m' k (content_of x')) (sym e) fits))
+          (λ e. (
+            x',
+            ap (λ k. get_elem? (set homes (place b) (some (Some x'))) (place k)) e ∙ set_here homes (place b) (some (Some x')) lh,
+            subst (λ k. FitsBay began m' k (content_of x')) (sym e) fits,
+          ))
           (λ ne. let free' : get_or words (place c) 0 ≡ 0 = sym (get_or-set_other words (place b) (place c) 0 0 (places_apart c b ne)) ∙ free in let was = s.home c lc free' in
           let not_mine : times c v ≡ 0 = (let o = sum_one (times c) views id v at in let t = s.taken c lc in omega (arith, o, t, free')) in
           (was.0, set_else homes (place b) (place c) (some (Some x')) (places_apart c b ne) ∙ was.1, others c (content_of was.0) not_mine was.2));

@@ -181,7 +181,8 @@ module _ (old new : IndexState EntryState) (keyed : EntriesAreKeyed (entries_of 
     gone = record { items = ap items_in is ∙ items-remove _ keyed e held; hashes = ap hashes_in is ∙ hashes-remove _ keyed e held }
 
 -- the entry of a key becomes one of its hash and key
-pub updated : {old shown new : IndexState EntryState} {key : List ℕ} {place : Place} {R : Type 0} {post : EntryState → EntryState × R → Type 0} {answer : R} → old ≡ shown → EntriesAreKeyed (entries_of old)
+pub updated : {old shown new : IndexState EntryState} {key : List ℕ} {place : Place} {R : Type 0} {post : EntryState → EntryState × R → Type 0} {answer : R}
+    → old ≡ shown → EntriesAreKeyed (entries_of old)
     → (at : IsKeyAt shown key place) (is : IsUpdated hash_in key_in post at.entry place old new answer) {one : EntryState} → is.given ≡ one → one.hash ≡ at.entry.hash → one.key ≡ at.entry.key
     → EntriesAreKeyed (entries_of new) × ItemIsChanged shown new key one.item
 updated {old} {shown} {new} {key} view keyed at is {one} becomes same_hash same_key =

@@ -149,7 +149,8 @@ module _ (shelf : ShelfContent) (step : KeyStep) (now : ℕ) where
   row_does s same (Writes draft) speaks = writes_does s same draft speaks
 
   -- what the plain machine does, by what comes next
-  pub next_does : (desk : DeskState) (s : Plain) → IsOnKey step → StandsAt key shelf desk s → (outcome : Outcome) → outcome ≡ changed (row_at shelf step now) step stands (found_in shelf step now s) now
+  pub next_does : (desk : DeskState) (s : Plain) → IsOnKey step → StandsAt key shelf desk s → (outcome : Outcome)
+      → outcome ≡ changed (row_at shelf step now) step stands (found_in shelf step now s) now
       → (next : Next) → next ≡ next_of shelf step now → Does s outcome next
   next_does desk s on at outcome outcome_is next next_is =
       subst (λ (o : Outcome). Does s o next) (sym outcome_is)

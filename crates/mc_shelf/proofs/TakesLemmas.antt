@@ -79,7 +79,8 @@ module _ (step : KeyStep) (now : ℕ) (shelf : ShelfContent) (desk : DeskState) 
   takes_answer reply is s at = let d = does_at (Answer reply) is s at in (found_in shelf step now s, d.0, at_under s at d.1)
 
   pub takes_expire : (expiry : Expiry) (reply : Reply) (own : ℕ) (new : ShelfContent)
-      → ((item : Entry) → found ≡ Some item → IsPut key own shelf new (record item { expiry = expiry })) → Expire expiry reply ≡ next_of shelf step now → TakesStepAtKey step now shelf desk reply new desk
+      → ((item : Entry) → found ≡ Some item → IsPut key own shelf new (record item { expiry = expiry })) → Expire expiry reply ≡ next_of shelf step now
+      → TakesStepAtKey step now shelf desk reply new desk
   takes_expire expiry reply own new puts is s at =
       let d = does_at (Expire expiry reply) is s at in
       let item = d.0 in

@@ -4,7 +4,8 @@ use Rattle.mc_world.proofs.Words.{Unread, same_spelling, same_units, some_units,
 use Rattle.mc_world.proofs.Words.{false, not, List, [], ◌∷◌, ◌++◌, length, drop, Option, Some, None, refl, sym, ap, ◌∙◌, subst, arith, length-append, length-drop, append_assoc, if◌then◌else◌}
 use Rattle.mc_world.proofs.Words.{slice_get, MatchBool, ◌-◌, slice_set, eqb-true, eqb-false, drop-append-le, append-nil, append_cancel_left, slice_get_past, Relations, ProtocolUnit, Request, Fault}
 use Rattle.mc_world.proofs.Words.{LongLine, Spells, AreUnits, is_last, passed_after, settled, pushed, SessionState, to_read, HasUnits, turn_count, turns_from, turns, closed, fed, TakesTurn, NoTurnDue}
-use Rattle.mc_world.proofs.Words.{StandAll, WorldStandsAs, PlainWorld, WorldState, numbered, if_open, put, changed, open_connection, open_session, Connection, IsNextTurn, HasNoNext, Follows, IsAmong, at_start}
+use Rattle.mc_world.proofs.Words.{StandAll, WorldStandsAs, PlainWorld, WorldState, numbered, if_open, put, changed}
+use Rattle.mc_world.proofs.Words.{open_connection, open_session, Connection, IsNextTurn, HasNoNext, Follows, IsAmong, at_start}
 use Rattle.mc_world.proofs.Words.{inside, IsRest, shut, Stands, with_piece, after_turn, ended}
 
 -- the grammar's laws, of which those of a world follow

@@ -2,8 +2,10 @@
 -- taken out or cut, or change places. First, how one element of a list is changed, by its number.
 use Rattle.mc_world.proofs.Words.{◌≡◌, ℕ, zero, suc, ◌-◌, ◌≤◌, ◌==◌, Bool, true, false, List, [], ◌∷◌, ◌++◌, length, Option, Some, None, slice_get, slice_set, option_map, refl, sym, ap, ◌∙◌, subst}
 use Rattle.mc_world.proofs.Words.{arith, if◌then◌else◌, eqb-true, eqb-false, length-set, numbered, if_open, put, changed, ◌⊎◌, inl, inr, append_assoc, MatchOption, nat_lt, length-append, Plain}
-use Rattle.mc_world.proofs.Words.{ProtocolUnit, Request, Answers, Connection, IsNextTurn, HasNoNext, fresh, with_piece, after_turn, ended, PlainWorld, in_plain, open_connection, at_connection, NextTurn}
-use Rattle.mc_world.proofs.Words.{Turns, Happens, named, Runs, with_end, EventDecides, TakesMemory, GivesUp, in_front, with_front, Event, Open, Piece, Turn, Clock, Grow, Purge, Close, IfSome, ◌↔◌, KeyStep}
+use Rattle.mc_world.proofs.Words.{ProtocolUnit, Request, Answers, Connection, IsNextTurn, HasNoNext, fresh}
+use Rattle.mc_world.proofs.Words.{with_piece, after_turn, ended, PlainWorld, in_plain, open_connection, at_connection, NextTurn}
+use Rattle.mc_world.proofs.Words.{Turns, Happens, named, Runs, with_end, EventDecides, TakesMemory, GivesUp, in_front, with_front}
+use Rattle.mc_world.proofs.Words.{Event, Open, Piece, Turn, Clock, Grow, Purge, Close, IfSome, ◌↔◌, KeyStep}
 use Rattle.mc_world.proofs.Words.{Fault, LongLine, plain_text, AnswersStep, step_of, NextHasNoStep, DecidesNoStep, IsApart}
 use Rattle.mc_world.proofs.ChainLemmas as chain
 
@@ -166,7 +168,8 @@ KeepsFront f = (bytes : List ℕ) (c : Connection) → f (in_front bytes c) ≡ 
 
 -- a connection has the turns of one that is alike
 pub next_alike : (c d : Connection) (unit : ProtocolUnit) (at : ℕ) → silent c ≡ silent d → IsNextTurn c unit at → IsNextTurn d unit at
-next_alike c d unit at alike next = let there : IsNextTurn (silent d) unit at = subst (λ (e : Connection). IsNextTurn e unit at) alike (record { units = next.units; are = next.are; next = next.next }) in
+next_alike c d unit at alike next =
+    let there : IsNextTurn (silent d) unit at = subst (λ (e : Connection). IsNextTurn e unit at) alike (record { units = next.units; are = next.are; next = next.next }) in
     record { units = there.units; are = there.are; next = there.next }
 
 no_next_alike : (c d : Connection) → silent c ≡ silent d → HasNoNext c → HasNoNext d

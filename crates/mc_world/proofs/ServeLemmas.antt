@@ -2,7 +2,8 @@
 -- session, in front of its output and of its connection's.
 use Rattle.mc_world.proofs.Words.{◌≡◌, ℕ, zero, suc, ◌≤◌, Bool, true, false, List, [], ◌∷◌, ◌++◌, length, take, Option, Some, None, refl, sym, ap, ◌∙◌, subst, arith, append_assoc, if◌then◌else◌}
 use Rattle.mc_world.proofs.Words.{option_map, take-append-drop, SessionState, sent, Writes, nothing, front, Connection, PlainWorld, WorldState, numbered, output_of, open_session, IsIdle, IsClosed}
-use Rattle.mc_world.proofs.Words.{StandAll, WorldStandsAs, RunsIn, Told, with_written, in_front, with_front, in_world, with_sent, Event, Seat, ◌+◌, ◌<◌, length-append, ◌⊎◌, inl, inr, ◌^◌, Result, Ok, Err}
+use Rattle.mc_world.proofs.Words.{StandAll, WorldStandsAs, RunsIn, Told, with_written, in_front, with_front, in_world, with_sent, Event}
+use Rattle.mc_world.proofs.Words.{Seat, ◌+◌, ◌<◌, length-append, ◌⊎◌, inl, inr, ◌^◌, Result, Ok, Err}
 use Rattle.mc_world.proofs.Words.{OnOk, mod-eq_of_lt, lt-ltb, IsAtEnd, Appends-nil, Appends-trans, Consumes-trans, Settings, Exchange, Wrote, Exchanges, HasEnded, Refusal, no_turn, no_piece}
 use Rattle.mc_world.proofs.Words.{FallsShort, ServeFault, fresh, ended, Runs, at_connection, Happens, RunsUntil, named, with_end, GivesUp, next_session, waiting, most_waiting, most_turns, shelf_of}
 use Rattle.mc_world.proofs.Words.{turn_events, IsService, starts, turn, piece, write, scene, IsRefusal, refused_turn, refused_piece, UntilRefused, Served, ServedAll, seat, one_more, Begins, HasServed}

@@ -39,7 +39,8 @@ pub use Rattle.mc_world.specs.Rounds.{in_world, with_sent, seat, one_more, Begin
 pub use Rattle.mc_world.specs.Serving.{in_front, with_front, turn_events, with_written, next_session, waiting, most_waiting, most_turns, shelf_of, IsService, starts, turn, piece, write, scene}
 pub use Rattle.mc_world.specs.Serving.{IsRefusal, refused_turn, refused_piece, UntilRefused, Served, ServedAll, Came}
 pub use Rattle.mc_world.specs.Sessions.{at_session, TurnBy, Done, sessions_ended, DecidedIn, EventTakesMemory, Undone, TurnOf, DecidedOf, SessionIsDue, IsOpenAt, TurnGiven, state_of}
-pub use Rattle.mc_world.specs.Worlds.{StandAll, WorldStandsAs, PlainWorld, WorldState, numbered, if_open, put, changed, open_connection, open_session, in_plain, at_connection, NextTurn, Turns, Happens}
+pub use Rattle.mc_world.specs.Worlds.{StandAll, WorldStandsAs, PlainWorld, WorldState, numbered, if_open, put}
+pub use Rattle.mc_world.specs.Worlds.{changed, open_connection, open_session, in_plain, at_connection, NextTurn, Turns, Happens}
 pub use Rattle.mc_world.specs.Worlds.{named, Runs, with_end, EventDecides, TakesMemory, GivesUp, RunsIn, Told, Refuses, RunsUntil, ToldRefused, ToldUntil, CanStand, output_of, IsIdle, IsClosed}
 pub use Rattle.mc_world.specs.declared.event.Event.{Event}
 pub use Rattle.mc_world.specs.declared.event.Event.TheVariants.{Open, Piece, Turn, Clock, Grow, Purge, Close}

@@ -1,8 +1,10 @@
 -- What is told of some events and then of others, and of one that is refused behind some; and that what one event makes
 -- of the sessions is what it makes of the connections.
 use Rattle.mc_world.proofs.Words.{◌≡◌, ℕ, zero, suc, ◌+◌, ◌<◌, Bool, List, [], ◌∷◌, ◌++◌, length, take, get_or, slice_get, Some, None, refl, sym, ap, ◌∙◌, subst, Result, Ok, Err, is_err, OnOk, IfErr}
-use Rattle.mc_world.proofs.Words.{true, false, arith, if◌then◌else◌, take_more, Settings, TurnFault, Plain, PlainWorld, WorldState, Happens, Runs, WorldStandsAs, RunsIn, Told, named, Refuses, RunsUntil}
-use Rattle.mc_world.proofs.Words.{ToldRefused, ToldUntil, CanStand, with_end, EventDecides, GivesUp, Event, Turn, Open, Close, Refused, turn_events, EventOutcome, was_done, was_refused, refusals, Goes}
+use Rattle.mc_world.proofs.Words.{true, false, arith, if◌then◌else◌, take_more, Settings, TurnFault, Plain, PlainWorld}
+use Rattle.mc_world.proofs.Words.{WorldState, Happens, Runs, WorldStandsAs, RunsIn, Told, named, Refuses, RunsUntil}
+use Rattle.mc_world.proofs.Words.{ToldRefused, ToldUntil, CanStand, with_end, EventDecides, GivesUp, Event, Turn}
+use Rattle.mc_world.proofs.Words.{Open, Close, Refused, turn_events, EventOutcome, was_done, was_refused, refusals, Goes}
 use Rattle.mc_world.proofs.Words.{RunsThrough, ToldThrough, inl, inr, drop, Option, MatchOption, nat_lt, slice_get_within, steps, Request, SessionState, opened, fed, closed, sent, Connection, IsRest}
 use Rattle.mc_world.proofs.Words.{Stands, at_start, fresh, with_piece, after_turn, ended, in_plain, put, changed, numbered, open_connection, open_session, Turns, StandAll, TakesMemory, at_session}
 use Rattle.mc_world.proofs.Words.{TurnBy, Done, sessions_ended, DecidedIn, EventTakesMemory, Undone, Piece}
@@ -134,7 +136,8 @@ module _ {K : Type 0} {hash_of : K → List ℕ → ℕ} where
 
 -- A single event that is refused memory.
 -- where no step is decided nothing is done
-nothing_done : (decided : Bool) (first last : PlainWorld) (event : Event) → ((state : Plain) → EventDecides first event state → ⊥) → GivesUp decided first event last → last ≡ with_end (named event) first
+nothing_done : (decided : Bool) (first last : PlainWorld) (event : Event) → ((state : Plain) → EventDecides first event state → ⊥)
+    → GivesUp decided first event last → last ≡ with_end (named event) first
 nothing_done true first last event none (state, decides, is) = absurd (none state decides)
 nothing_done false first last event none is = is
 
