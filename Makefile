@@ -143,9 +143,9 @@ else
 	rm -f $(USER_UNITS)/mcserver.service
 endif
 
-# Less on the disk: what speeds a check after an edit goes, but of the program, and what a build and crates above stand on stays.
+# Half of the disk: what a build and the crates above stand on stays; a crate that is changed is proved from nothing then.
 thin:
-	@rm -rf $(filter-out $(dir $(PROGRAM))incremental,$(wildcard crates/*/out/incremental))
+	@rm -rf crates/*/out/incremental
 
 # A package of Debian: out/mcserver_VERSION_amd64.deb
 deb: is-built
