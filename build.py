@@ -20,9 +20,9 @@ import time
 ROOT = os.path.dirname(os.path.realpath(__file__))
 # Of a processor, in seconds, for the order and the guess alone. Another crate counts as the usual one.
 SECONDS = {
-    "mc_slab": 200, "mc_item": 90, "mc_hop": 70, "mc_command": 110, "mc_rows": 50, "mc_grow": 260, "mc_parse": 110, "mc_session": 110,
-    "mc_guests": 250, "mc_shelf": 560, "mc_world": 200, "mc_shared": 560, "mc_workers": 170, "mc_metrics": 60, "mc_options": 90,
-    "mc_host": 60, "mc_sockets": 250, "mc_server": 300, "mc_laws": 100, "mc_bench": 300,
+    "mc_slab": 250, "mc_item": 90, "mc_hop": 90, "mc_command": 130, "mc_rows": 50, "mc_grow": 190, "mc_reply": 70, "mc_parse": 250,
+    "mc_session": 170, "mc_guests": 360, "mc_shelf": 640, "mc_world": 200, "mc_shared": 830, "mc_workers": 160, "mc_metrics": 110,
+    "mc_options": 390, "mc_host": 100, "mc_sockets": 320, "mc_server": 350, "mc_laws": 100, "mc_bench": 350,
 }
 USUAL = 30
 PARTS = ("src", "specs", "proofs")
